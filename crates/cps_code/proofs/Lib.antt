@@ -1,0 +1,12 @@
+pub mod BitLemmas
+pub mod FillingLemmas
+pub mod DepositLemmas
+pub mod PackedLemmas
+pub mod LeastLemmas
+pub mod NumberLemmas
+pub mod NumberReading
+pub mod ValueReading
+pub mod SumReading
+pub mod HoleLemmas
+pub mod WorkedRows
+pub mod SetLemmas

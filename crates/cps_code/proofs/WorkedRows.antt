@@ -1,0 +1,50 @@
+-- The table and the rules for values, computed on worked examples.
+use Rattle.std.specs.Prelude.{◌≡◌, ℕ, Bool, true, false, List, map, codes, pos, Option, None, Some, option_map, unwrap_or, refl}
+use Rattle.cps_code.specs.declared.filled.Filled.{Filled}
+use Rattle.cps_code.specs.declared.radix.Radix.TheVariants.{Decimal}
+use Rattle.cps_code.specs.Value.{value_of}
+use Rattle.cps_code.specs.Form.{filled}
+use Rattle.cps_code.specs.Table.{form_of}
+
+-- the code of a statement with the values of its expressions
+abbrev code : List ℕ → List ℕ → Option Filled
+code name tail = option_map (λ form. filled form (map (λ hole. unwrap_or (value_of hole.expression) (pos 0)) form.holes)) (form_of name tail Decimal)
+
+abbrev is : ℕ → Bool → Option Filled
+is digits truncated = Some (record { digits = digits; is_truncated = truncated; is_out_of_range = false })
+
+sum_with_register : code (codes "SA1") (codes "B1+3") ≡ is 0o5111000003 false
+sum_with_register = refl
+
+turned_round : code (codes "SA1") (codes "3+B1") ≡ is 0o5111000003 false
+turned_round = refl
+
+register_alone : code (codes "SX6") (codes "X1") ≡ is 0o73610 false
+register_alone = refl
+
+address_register : code (codes "SA6") (codes "A1   STORE") ≡ is 0o54610 false
+address_register = refl
+
+less_register : code (codes "SX6") (codes "-B1") ≡ is 0o77601 false
+less_register = refl
+
+two_registers : code (codes "SX2") (codes "-B3+A1") ≡ is 0o75213 false
+two_registers = refl
+
+jump : code (codes "EQ") (codes "100B") ≡ is 0o0400000100 false
+jump = refl
+
+negative : code (codes "SX1") (codes "-377777B") ≡ is 0o7110400000 false
+negative = refl
+
+cut_negative : code (codes "SX1") (codes "-400000B") ≡ is 0o7110377777 true
+cut_negative = refl
+
+cut : code (codes "SA1") (codes "1000000B") ≡ is 0o5110000000 true
+cut = refl
+
+subtracted : code (codes "SA1") (codes "A1-1") ≡ is 0o5011777776 false
+subtracted = refl
+
+no_such_row : code (codes "SA1") (codes "-X1") ≡ None
+no_such_row = refl

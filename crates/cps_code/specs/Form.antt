@@ -1,0 +1,62 @@
+-- A form: the code of a statement, with holes for the values that are known later, and how values fill them.
+-- From the machine's reference manual (the formats of 15 and 30 bits) and the manual's rule for values; what doesn't fit is our profile's.
+use Rattle.std.specs.Prelude.{◌≡◌, ◌⊎◌, ℕ, ◌+◌, ◌-◌, ◌*◌, ◌%◌, ◌^◌, ◌<◌, ◌≤◌, Bool, false, ◌||◌, not, nat_lt, List, [], ◌∷◌, length, All, ℤ, pos, negsuc, if◌then◌else◌}
+use Rattle.cps_code.specs.declared.hole.Hole.{Hole}
+use Rattle.cps_code.specs.declared.filled.Filled.{Filled}
+
+pub record Form : Type 0 where
+  pub bits : ℕ
+  pub code : ℕ
+  pub holes : List Hole
+  pub forces_after : Bool
+
+-- ---- values in holes
+
+-- whether a value fits a width: from -(2 ^ (width - 1) - 1) to 2 ^ width - 1
+abbrev pub fits_width : ℕ → ℤ → Bool
+fits_width width (pos n) = nat_lt n (2 ^ width)
+fits_width width (negsuc n) = nat_lt (n + 1) (2 ^ (width - 1))
+
+-- a value in ones' complement; `negsuc n` is -(n + 1)
+abbrev pub complemented : ℕ → ℤ → ℕ
+complemented width (pos n) = n
+complemented width (negsuc n) = 2 ^ width - 1 - (n + 1)
+
+-- what is put: the value in ones' complement, and of one that doesn't fit the low bits of that in 60 bits
+abbrev pub put_value : ℕ → ℤ → ℕ
+put_value width value = if fits_width width value then complemented width value else complemented 60 value % 2 ^ width
+
+-- what values add to a code of so many bits, each in its hole
+abbrev pub put_values : ℕ → List Hole → List ℤ → ℕ
+put_values bits [] values = 0
+put_values bits (hole ∷ holes) [] = 0
+put_values bits (hole ∷ holes) (value ∷ values) =
+    put_value hole.width value * 2 ^ (bits - hole.first - hole.width) + put_values bits holes values
+
+-- whether some value doesn't fit its hole
+abbrev pub is_cut : List Hole → List ℤ → Bool
+is_cut [] values = false
+is_cut (hole ∷ holes) [] = false
+is_cut (hole ∷ holes) (value ∷ values) = not (fits_width hole.width value) || is_cut holes values
+
+-- a form with values in its holes
+abbrev pub filled : Form → List ℤ → Filled
+filled form values = record { digits = form.code + put_values form.bits form.holes values; is_truncated = is_cut form.holes values; is_out_of_range = false }
+
+-- ---- what each form keeps
+
+-- the most that values can add
+abbrev pub room_of : ℕ → List Hole → ℕ
+room_of bits [] = 0
+room_of bits (hole ∷ holes) = (2 ^ hole.width - 1) * 2 ^ (bits - hole.first - hole.width) + room_of bits holes
+
+pub record IsHole (bits : ℕ) (hole : Hole) : Type 0 where
+  pub some : 0 < hole.width
+  pub inside : hole.first + hole.width ≤ bits
+
+pub record IsForm (form : Form) : Type 0 where
+  pub kind : (form.bits ≡ 15) ⊎ (form.bits ≡ 30)
+  pub short : form.bits ≤ 30
+  pub few : length form.holes ≤ 1
+  pub holes : All (IsHole form.bits) form.holes
+  pub room : form.code + room_of form.bits form.holes < 2 ^ form.bits

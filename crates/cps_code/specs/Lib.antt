@@ -1,0 +1,13 @@
+pub mod Bits
+pub mod Least
+pub mod Place
+pub mod Image
+pub mod Slots
+pub mod Text
+pub mod Number
+pub mod Value
+pub mod Sum
+pub mod Terms
+pub mod Form
+pub mod Table
+pub mod Sets

@@ -1,0 +1,38 @@
+-- Numbers of the language: digits, and behind them perhaps a letter that names their base.
+-- From the manual's section on numeric constants; the greatest magnitude is our profile's.
+use Rattle.std.specs.Prelude.{ℕ, ◌+◌, ◌-◌, ◌*◌, ◌^◌, Bool, ◌&&◌, nat_le, nat_lt, List, length, take, slice_index, fold, codes, Option, None, Some, if◌then◌else◌}
+use Rattle.std.specs.List.{list_all}
+use Rattle.cps_code.specs.declared.radix.Radix.{Radix}
+use Rattle.cps_code.specs.declared.radix.Radix.TheVariants.{Octal, Decimal}
+use Rattle.cps_code.specs.Text.{among}
+
+abbrev pub base_of : Radix → ℕ
+base_of Octal = 8
+base_of Decimal = 10
+
+-- the base that a letter behind the digits names
+abbrev pub base_named : ℕ → Option ℕ
+base_named letter = if among (codes "BO") letter then Some 8 else (if among (codes "D") letter then Some 10 else None)
+
+abbrev pub last : List ℕ → ℕ
+last text = slice_index text (length text - 1)
+
+abbrev pub is_digit : ℕ → ℕ → Bool
+is_digit base character = nat_le 48 character && nat_lt character (48 + base)
+
+-- the number that digits make
+abbrev pub digits_number : ℕ → List ℕ → ℕ
+digits_number base digits = fold (λ number digit. number * base + (digit - 48)) 0 digits
+
+-- a number has one or more digits, each below the base, and at most 2 ^ 59 - 1
+abbrev pub number_in : ℕ → List ℕ → Option ℕ
+number_in base digits =
+    if nat_lt 0 (length digits) && (list_all (is_digit base) digits && nat_lt (digits_number base digits) (2 ^ 59)) then Some (digits_number base digits) else None
+
+abbrev pub number_with : Option ℕ → Radix → List ℕ → Option ℕ
+number_with None radix text = number_in (base_of radix) text
+number_with (Some base) radix text = number_in base (take (length text - 1) text)
+
+-- the number that a text writes
+abbrev pub number_of : Radix → List ℕ → Option ℕ
+number_of radix text = number_with (base_named (last text)) radix text

@@ -1,0 +1,48 @@
+-- Sums of the code, as sums.
+use Rattle.std.specs.Prelude.{◌≡◌, ℕ, ◌<◌, Bool, List, [], ◌∷◌, ◌++◌, All, IfSome, if◌then◌else◌}
+use Rattle.cps_code.specs.declared.register.RegisterTerm.{RegisterTerm}
+use Rattle.cps_code.specs.declared.sum.Term.{Term as TermOfCode}
+use Rattle.cps_code.specs.declared.sum.Term.TheVariants as code
+use Rattle.cps_code.specs.declared.sum.Registers.{Registers}
+use Rattle.cps_code.specs.declared.sum.Registers.TheVariants.{Absent, One, Two}
+use Rattle.cps_code.specs.declared.sum.Sum.{Sum as SumOfCode}
+use Rattle.cps_code.specs.Sum.{Term, register, number, Sum}
+use Rattle.cps_code.specs.Value.{IsInRange}
+use Rattle.cps_code.specs.Table.{is_some_list}
+
+abbrev pub term_value : TermOfCode → Term
+term_value (code.Register r) = register r
+term_value (code.Number n) = number n
+
+abbrev pub sign_of : Bool → ℕ
+sign_of minus = if minus then 45 else 43
+
+-- a term at the end
+abbrev pub pushed : Sum → Term → Sum
+pushed sum (register r) = record { registers = sum.registers ++ r ∷ []; constant = sum.constant }
+pushed sum (number n) = record { registers = sum.registers; constant = sum.constant ++ n ∷ [] }
+
+abbrev pub IsRegister : RegisterTerm → Type 0
+IsRegister r = r.digit < 8
+
+abbrev pub IsTerm : TermOfCode → Type 0
+IsTerm (code.Register r) = IsRegister r
+IsTerm (code.Number n) = IsInRange n
+
+abbrev pub register_list : Registers → List RegisterTerm
+register_list Absent = []
+register_list (One first) = first ∷ []
+register_list (Two first second) = first ∷ second ∷ []
+
+abbrev pub AreRegisters : Registers → Type 0
+AreRegisters Absent = Unit {0}
+AreRegisters (One first) = IsRegister first
+AreRegisters (Two first second) = IsRegister first × IsRegister second
+
+-- what the code keeps of a sum: its registers, of which there are two at most, and its constant unless memory was refused
+pub record IsKept (kept : SumOfCode) (sum : Sum) : Type 0 where
+  pub registers : register_list kept.registers ≡ sum.registers
+  pub has_constant : kept.has_constant ≡ is_some_list sum.constant
+  pub constant : IfSome kept.constant (λ constant. constant.items ≡ sum.constant)
+  pub digits : All IsRegister sum.registers
+  pub range : All IsInRange sum.constant

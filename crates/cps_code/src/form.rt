@@ -1,0 +1,104 @@
+ghost use Rattle.std.specs.Prelude.{◌≡◌, ◌<◌, ◌^◌, ◌≤◌, IfOk, length, All};
+ghost use Rattle.cps_code.specs.Value.{IsInRange};
+ghost use Rattle.cps_code.specs.Form.{IsForm, filled};
+ghost use Rattle.cps_code.specs.Sets.{short_form, long_form};
+
+use super::expr::Expr;
+use super::filled::Filled;
+use super::filling_holes::fill_holes;
+use super::hole::{Hole, HoleKind};
+use std::alloc::{AllocError, Global};
+use std::marker::Model;
+
+/// The form of a statement of the central processor: a code of 15 or 30 bits with holes.
+#[derive(Drop)]
+pub struct CpForm {
+    bits: u8,
+    code: u64,
+    holes: Vec<Hole>,
+    forces_after: bool,
+}
+
+impl Model for CpForm {
+    ghost use Rattle.cps_code.specs.Form.{Form, IsForm};
+
+    ghost Value = { Form };
+
+    ghost view = { λ form. record { bits = form.bits; code = form.code; holes = form.holes.items; forces_after = form.forces_after } };
+
+    ghost invariant = { λ form. IsForm (record { bits = form.bits; code = form.code; holes = form.holes.items; forces_after = form.forces_after }) };
+}
+
+impl CpForm {
+    /// A form of 15 bits.
+    pub(crate) fn short(alloc: Global, code: u16) -> CpForm
+        requires { code < 2 ^ 15 }
+        ensures { result ≡ short_form code }
+    {
+        CpForm {
+            bits: 15,
+            code: u64::from(code),
+            holes: Vec::new(alloc),
+            forces_after: false,
+        }
+    }
+
+    /// A form of 30 bits: four digits and a constant of 18 bits.
+    pub(crate) fn long(
+        alloc: Global,
+        front: u16,
+        constant: Vec<i64>,
+        forces_after: bool,
+    ) -> Result<CpForm, AllocError>
+        requires front { front < 2 ^ 12 }
+        requires range { All IsInRange constant.items }
+        ensures { IfOk result (λ form. form ≡ long_form front constant.items forces_after) }
+    {
+        let mut holes = Vec::new(alloc);
+        holes.push(Hole {
+            first: 12,
+            width: 18,
+            kind: HoleKind::Value,
+            expression: Expr::from_terms(constant),
+        })?;
+        Ok(CpForm {
+            bits: 30,
+            code: u64::from(front) << 18,
+            holes,
+            forces_after,
+        })
+    }
+
+    /// How long the code is: 15 or 30 bits.
+    pub fn bits(&self) -> u8
+        ensures bits { result ≡ self.now.bits }
+        ensures form { IsForm self.now }
+    {
+        self.bits
+    }
+
+    /// The holes, from the left; one at most.
+    pub fn holes(&self) -> &[Hole]
+        ensures holes { result.now ≡ self.now.holes }
+        ensures few { length self.now.holes ≤ 1 }
+    {
+        self.holes.as_slice()
+    }
+
+    /// Whether a forcing is pending behind the statement, so that the next instruction begins a word.
+    pub fn forces_after(&self) -> bool
+        ensures { result ≡ self.now.forces_after }
+    {
+        self.forces_after
+    }
+
+    /// The code with these numbers in its holes, one for each hole.
+    pub fn fill(&self, numbers: &[i64]) -> Filled
+        requires one_each { length numbers.now ≡ length self.now.holes }
+        requires range { All IsInRange numbers.now }
+        ensures filled { result ≡ filled self.now numbers.now }
+        ensures fits { result.digits < 2 ^ self.now.bits }
+    {
+        fill_holes(self.bits, self.code, &self.holes, numbers)
+    }
+}

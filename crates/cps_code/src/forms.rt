@@ -1,0 +1,172 @@
+ghost use Rattle.std.specs.Prelude.{◌≡◌, ◌<◌, ◌^◌, [], ◌∷◌, ◌↔◌, ℕ, pos, Option, Some, None, false, length, All, IfOk, IfSome, IsErrOf, IsSome, IsSomeAnd, IsTrue};
+ghost use Rattle.std.specs.List.{before_first, position};
+ghost use Rattle.cps_code.specs.Value.{IsInRange};
+ghost use Rattle.cps_code.specs.Sum.{Sum as ASum};
+ghost use Rattle.cps_code.specs.Terms.{AreRegisters, IsKept, register_list};
+ghost use Rattle.cps_code.specs.Table.{is_blank, is_operation, form_of};
+ghost use Rattle.cps_code.specs.Sets.{set_form, set_form_of, jump_form_of, long_form};
+
+use super::form::CpForm;
+use super::number::read_number;
+use super::radix::Radix;
+use super::set::{code_with_constant, code_without_constant};
+use super::sum::{Registers, Sum, read_sum};
+use std::alloc::Global;
+use thiserror::Error;
+
+/// Why a statement has no form.
+#[derive(Clone, Copy, Debug, PartialEq, Eq, Error)]
+pub enum FormFault {
+    /// The operation isn't in the table of the central processor.
+    #[error("no such operation")]
+    NoOperation,
+    /// No row of the operation fits the operand.
+    #[error("unreadable operand")]
+    Unreadable,
+    /// Memory was refused; nothing else is wrong.
+    #[error("no memory")]
+    Memory,
+}
+
+/// The form of a statement of the central processor: that of the row of the table that fits its operation and its
+/// tail, which is the text from the variable field's first column on. Numbers with no letter go by the radix.
+pub fn cp_form(
+    alloc: Global,
+    operation: &[u8],
+    tail: &[u8],
+    radix: Radix,
+) -> Result<CpForm, FormFault>
+    ensures form { IfOk result (λ form. form_of operation.now tail.now radix ≡ Some form) }
+    ensures no_operation { IsErrOf result FormFault.NoOperation ↔ (is_operation operation.now ≡ false) }
+    ensures unreadable { IsErrOf result FormFault.Unreadable
+        ↔ (IsTrue (is_operation operation.now) × (form_of operation.now tail.now radix ≡ None)) }
+    ensures memory { IsErrOf result FormFault.Memory → IsSome (form_of operation.now tail.now radix) }
+{
+    match operation {
+        b"NO" => Ok(CpForm::short(alloc, 0o46000)),
+        b"EQ" => jump_form(alloc, operand(tail), radix),
+        [b'S', b'A', i @ b'0'..=b'7'] => set_form(alloc, 5, *i - b'0', operand(tail), radix),
+        [b'S', b'B', i @ b'0'..=b'7'] => set_form(alloc, 6, *i - b'0', operand(tail), radix),
+        [b'S', b'X', i @ b'0'..=b'7'] => set_form(alloc, 7, *i - b'0', operand(tail), radix),
+        _ => Err(FormFault::NoOperation),
+    }
+}
+
+/// The operand: what stands before the tail's first blank.
+fn operand(tail: &[u8]) -> &[u8]
+    ensures { result.now ≡ before_first is_blank tail.now }
+{
+    match blank_at(tail) {
+        None => tail,
+        Some(at) => {
+            let (operand, _) = tail.split_at(at);
+            operand
+        }
+    }
+}
+
+/// Where the first blank stands.
+fn blank_at(text: &[u8]) -> Option<usize>
+    ensures place { result ≡ position is_blank text.now }
+    ensures within { IfSome result (λ at. at < length text.now) }
+{
+    text.iter().position(|byte| *byte == b' ')
+}
+
+fn jump_form(alloc: Global, operand: &[u8], radix: Radix) -> Result<CpForm, FormFault>
+    ensures form { IfOk result (λ form. jump_form_of radix operand.now ≡ Some form) }
+    ensures no_operation { IsErrOf result FormFault.NoOperation → ⊥ }
+    ensures unreadable { IsErrOf result FormFault.Unreadable → jump_form_of radix operand.now ≡ None }
+    ensures memory { IsErrOf result FormFault.Memory → IsSome (jump_form_of radix operand.now) }
+{
+    match read_number(operand, radix) {
+        None => Err(FormFault::Unreadable),
+        Some(number) => match long_form(alloc, 0o0400, one_term(alloc, number), true) {
+            Some(form) => Ok(form),
+            None => Err(FormFault::Memory),
+        },
+    }
+}
+
+/// The constant that is one number. None: memory was refused.
+fn one_term(alloc: Global, number: u64) -> Option<Vec<i64>>
+    requires { number < 2 ^ 59 }
+    ensures { IfSome result (λ constant. constant.items ≡ pos number ∷ []) }
+{
+    let mut constant = Vec::new(alloc);
+    match constant.push(number as i64) {
+        Ok(()) => Some(constant),
+        Err(_) => None,
+    }
+}
+
+/// A form with a constant. None: memory was refused, now or for the constant.
+fn long_form(
+    alloc: Global,
+    front: u16,
+    constant: Option<Vec<i64>>,
+    forces_after: bool,
+) -> Option<CpForm>
+    requires front { front < 2 ^ 12 }
+    requires range { IfSome constant (λ constant. All IsInRange constant.items) }
+    ensures { IfSome result (λ form. IsSomeAnd constant (λ constant. form ≡ long_form front constant.items forces_after)) }
+{
+    match CpForm::long(alloc, front, constant?, forces_after) {
+        Ok(form) => Some(form),
+        Err(_) => None,
+    }
+}
+
+/// The form of a set instruction: `f` is the first digit of its codes, `i` that of the register set.
+fn set_form(alloc: Global, f: u8, i: u8, operand: &[u8], radix: Radix) -> Result<CpForm, FormFault>
+    requires f { f < 8 }
+    requires i { i < 8 }
+    ensures form { IfOk result (λ form. set_form_of f i radix operand.now ≡ Some form) }
+    ensures no_operation { IsErrOf result FormFault.NoOperation → ⊥ }
+    ensures unreadable { IsErrOf result FormFault.Unreadable → set_form_of f i radix operand.now ≡ None }
+    ensures memory { IsErrOf result FormFault.Memory → IsSome (set_form_of f i radix operand.now) }
+{
+    match read_sum(alloc, operand, radix) {
+        None => Err(FormFault::Unreadable),
+        Some(sum) => form_of_sum(alloc, f, i, sum),
+    }
+}
+
+fn form_of_sum(alloc: Global, f: u8, i: u8, kept: Sum) -> Result<CpForm, FormFault>
+    requires f { f < 8 }
+    requires i { i < 8 }
+    requires registers { AreRegisters kept.registers }
+    requires range { IfSome kept.constant (λ constant. All IsInRange constant.items) }
+    ensures form { IfOk result (λ form. (n : Option ℕ) (sum : ASum) → IsKept kept sum → set_form f i n sum.registers sum.constant ≡ Some form) }
+    ensures no_operation { IsErrOf result FormFault.NoOperation → ⊥ }
+    ensures unreadable { IsErrOf result FormFault.Unreadable → (n : Option ℕ) (sum : ASum) → IsKept kept sum → set_form f i n sum.registers sum.constant ≡ None }
+    ensures memory { IsErrOf result FormFault.Memory → (n : Option ℕ) (sum : ASum) → IsKept kept sum → IsSome (set_form f i n sum.registers sum.constant) }
+{
+    if kept.has_constant {
+        match code_with_constant(f, i, kept.registers) {
+            None => Err(FormFault::Unreadable),
+            Some(code) => match long_form(alloc, code, kept.constant, false) {
+                None => Err(FormFault::Memory),
+                Some(form) => Ok(form),
+            },
+        }
+    } else {
+        match short_form(alloc, f, i, kept.registers) {
+            None => Err(FormFault::Unreadable),
+            Some(form) => Ok(form),
+        }
+    }
+}
+
+/// The form of registers without a constant.
+fn short_form(alloc: Global, f: u8, i: u8, registers: Registers) -> Option<CpForm>
+    requires f { f < 8 }
+    requires i { i < 8 }
+    requires digits { AreRegisters registers }
+    ensures { (n : Option ℕ) → set_form f i n (register_list registers) [] ≡ result }
+{
+    match code_without_constant(f, i, registers) {
+        None => None,
+        Some(code) => Some(CpForm::short(alloc, code)),
+    }
+}

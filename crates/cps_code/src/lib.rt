@@ -1,0 +1,30 @@
+//! Instruction forms of the central processor, the places where instructions begin, and the words that they make.
+#![tactic(auto)]
+
+mod expr;
+mod filled;
+mod filling_holes;
+mod form;
+mod forms;
+mod hole;
+mod number;
+mod piece;
+mod place;
+mod placing;
+mod radix;
+mod register;
+mod set;
+mod sum;
+mod words;
+
+pub use expr::Expr;
+pub use filled::Filled;
+pub use form::CpForm;
+pub use forms::{FormFault, cp_form};
+pub use hole::{Hole, HoleKind};
+pub use number::read_number;
+pub use piece::Piece;
+pub use place::{Filling, Force, Place, Placed};
+pub use placing::place_next;
+pub use radix::Radix;
+pub use words::Words;

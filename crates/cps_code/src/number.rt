@@ -1,0 +1,93 @@
+ghost use Rattle.std.specs.Prelude.{◌≡◌, ◌+◌, ◌-◌, ◌*◌, ◌^◌, ◌<◌, ◌≤◌, true, false, IfSome, MatchOption, length, take, ◌⊎◌};
+ghost use Rattle.cps_code.specs.Number.{base_of, base_named, last, number_of, number_in, is_digit};
+
+use super::radix::Radix;
+
+/// The greatest magnitude of a number.
+pub const GREATEST: u64 = (1 << 59) - 1;
+
+/// The number that a text writes: digits, and behind them perhaps B or O for octal, D for decimal.
+pub fn read_number(text: &[u8], radix: Radix) -> Option<u64>
+    ensures value { result ≡ number_of radix text.now }
+    ensures small { IfSome result (λ number. number < 2 ^ 59) }
+{
+    match named_base(last_byte(text)) {
+        None => number_in_base(text, default_base(radix)),
+        Some(base) => number_in_base(all_but_last(text), base),
+    }
+}
+
+fn default_base(radix: Radix) -> u8
+    ensures base { result ≡ base_of radix }
+    ensures cases { (result ≡ 8) ⊎ (result ≡ 10) }
+{
+    match radix {
+        Radix::Octal => 8,
+        Radix::Decimal => 10,
+    }
+}
+
+fn named_base(letter: u8) -> Option<u8>
+    ensures base { result ≡ base_named letter }
+    ensures cases { IfSome result (λ base. (base ≡ 8) ⊎ (base ≡ 10)) }
+{
+    match letter {
+        b'B' => Some(8),
+        b'O' => Some(8),
+        b'D' => Some(10),
+        _ => None,
+    }
+}
+
+/// The last byte, 0 where there is none.
+fn last_byte(text: &[u8]) -> u8
+    ensures { result ≡ last text.now }
+{
+    if text.is_empty() {
+        return 0;
+    }
+    text[text.len() - 1]
+}
+
+fn all_but_last(text: &[u8]) -> &[u8]
+    ensures { result.now ≡ take (length text.now - 1) text.now }
+{
+    if text.is_empty() {
+        return text;
+    }
+    let (front, _) = text.split_at(text.len() - 1);
+    front
+}
+
+fn number_in_base(digits: &[u8], base: u8) -> Option<u64>
+    requires { (base ≡ 8) ⊎ (base ≡ 10) }
+    ensures value { result ≡ number_in base digits.now }
+    ensures small { IfSome result (λ number. number < 2 ^ 59) }
+{
+    if digits.is_empty() {
+        return None;
+    }
+    let mut number = 0;
+    for digit in digits {
+        match with_digit(number, *digit, base) {
+            None => return None,
+            Some(next) => number = next,
+        }
+    }
+    Some(number)
+}
+
+/// A number with one digit more.
+fn with_digit(number: u64, digit: u8, base: u8) -> Option<u64>
+    requires base { (base ≡ 8) ⊎ (base ≡ 10) }
+    requires small { number < 2 ^ 59 }
+    ensures { MatchOption result
+        ((is_digit base digit ≡ false) ⊎ (2 ^ 59 ≤ number * base + (digit - 48)))
+        (λ next. (is_digit base digit ≡ true) × (next ≡ number * base + (digit - 48)) × (next < 2 ^ 59)) }
+{
+    if digit < b'0' || digit >= b'0' + base {
+        return None;
+    }
+    let next = number * u64::from(base) + u64::from(digit - b'0');
+    if next <= GREATEST { Some(next) } else { None }
+}

@@ -1,0 +1,126 @@
+ghost use Rattle.std.specs.Prelude.{◌≡◌, ℕ, false, IfSome, ◌⊎◌, ◌+◌, ◌*◌, ◌^◌, ◌<◌, ◌≤◌, ◌/◌, ◌-◌, ◌%◌};
+ghost use Rattle.cps_code.specs.Least.{IsLeast};
+ghost use Rattle.cps_code.specs.Place.{position, is_forced, MayBegin, start_of, IsFilling, skipped, passes};
+
+use super::place::{Filling, Force, Place, Placed};
+
+const WORD: u8 = 60;
+
+const PARCEL: u8 = 15;
+
+/// Where the next `bits` bits begin: 15 or 30 of an instruction, or 0 where the place is only forced.
+///
+/// They begin at the least place, not before the present one, at a parcel's border (an instruction) and with room
+/// in the word, and where forced at a word's beginning. The bits skipped are 0 up to a parcel's border and then
+/// pass instructions (46000). Nothing is pending behind them.
+pub fn place_next(place: Place, bits: u8, force: Force) -> Placed
+    requires kind { (bits ≡ 0) ⊎ (bits ≡ 15) ⊎ (bits ≡ 30) }
+    requires low { place.word < 2 ^ 31 }
+    ensures start { IsLeast (MayBegin (position place) bits (is_forced place.is_pending force)) (position result.start) }
+    ensures first { position result.start ≡ start_of (position place) bits (is_forced place.is_pending force) }
+    ensures after { position result.after ≡ position result.start + bits }
+    ensures start_settled { result.start.is_pending ≡ false }
+    ensures after_settled { result.after.is_pending ≡ false }
+    ensures filling { IsFilling (position place) (position result.start) result.filling }
+    ensures skipped { result.filling ≡ skipped (position place) (position result.start) }
+    ensures inside { IfSome result.filling (λ filling. (filling.first ≡ place.used) × (0 < filling.width) × (filling.first + filling.width ≤ 60) × (filling.number < 2 ^ filling.width)) }
+{
+    let forced = must_begin_word(place, force);
+    let used = used_at_start(place.used, bits, forced);
+    let start = place_at(place.word, used);
+    let after = place_at(start.word, start.used + bits);
+    Placed {
+        start,
+        after,
+        filling: filling_between(place.used, used),
+    }
+}
+
+fn must_begin_word(place: Place, force: Force) -> bool
+    ensures { result ≡ is_forced place.is_pending force }
+{
+    match force {
+        Force::Free => place.is_pending,
+        Force::NewWord => true,
+        Force::Cancel => false,
+    }
+}
+
+/// The bits of the present word that are used or skipped where the next bits begin.
+fn used_at_start(used: u8, bits: u8, forced: bool) -> u8
+    requires in_word { used < 60 }
+    requires kind { (bits ≡ 0) ⊎ (bits ≡ 15) ⊎ (bits ≡ 30) }
+    ensures least { (word : ℕ) → IsLeast (MayBegin (60 * word + used) bits forced) (60 * word + result) }
+    ensures within { result ≤ 60 }
+    ensures forwards { used ≤ result }
+    ensures room { result % 60 + bits ≤ 60 }
+    ensures border { (result ≡ used) ⊎ ((0 < used) × (result % 15 ≡ 0)) }
+{
+    if used == 0 {
+        return 0;
+    }
+    let border = if bits == 0 {
+        used
+    } else {
+        used.div_ceil(PARCEL) * PARCEL
+    };
+    if !forced && border + bits <= WORD {
+        border
+    } else {
+        WORD
+    }
+}
+
+fn place_at(word: u32, used: u8) -> Place
+    requires low { word < 2 ^ 32 - 1 }
+    requires within { used ≤ 60 }
+    ensures position { position result ≡ 60 * word + used }
+    ensures settled { result.is_pending ≡ false }
+    ensures near { result.word ≤ word + 1 }
+    ensures used { result.used ≡ used % 60 }
+{
+    if used == WORD {
+        Place {
+            word: word + 1,
+            used: 0,
+            is_pending: false,
+        }
+    } else {
+        Place {
+            word,
+            used,
+            is_pending: false,
+        }
+    }
+}
+
+fn filling_between(from: u8, to: u8) -> Option<Filling>
+    requires forwards { from ≤ to }
+    requires within { to ≤ 60 }
+    requires border { (to ≡ from) ⊎ ((0 < from) × (to % 15 ≡ 0)) }
+    ensures filling { (word : ℕ) → IsFilling (60 * word + from) (60 * word + to) result }
+    ensures inside { IfSome result (λ filling. (filling.first ≡ from) × (0 < filling.width) × (filling.first + filling.width ≤ 60) × (filling.number < 2 ^ filling.width)) }
+{
+    if from == to {
+        return None;
+    }
+    let width = to - from;
+    Some(Filling {
+        first: from,
+        width,
+        number: passes_in(width / PARCEL),
+    })
+}
+
+/// Pass instructions, one behind the other.
+fn passes_in(parcels: u8) -> u64
+    requires { parcels ≤ 3 }
+    ensures { result ≡ passes parcels }
+{
+    match parcels {
+        0 => 0,
+        1 => 0o46000,
+        2 => 0o46000_46000,
+        _ => 0o46000_46000_46000,
+    }
+}

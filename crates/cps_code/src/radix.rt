@@ -1,0 +1,6 @@
+/// The base of numbers that no letter marks: the BASE statement sets it.
+#[derive(Clone, Copy, Debug, PartialEq, Eq)]
+pub enum Radix {
+    Octal,
+    Decimal,
+}

@@ -1,0 +1,15 @@
+/// The letters of the three kinds of registers.
+#[derive(Clone, Copy, Debug, PartialEq, Eq)]
+pub enum Letter {
+    A,
+    B,
+    X,
+}
+
+/// A register that is a term of a sum, with its sign. The digit is 0 to 7.
+#[derive(Clone, Copy, Debug, PartialEq, Eq)]
+pub struct RegisterTerm {
+    pub is_minus: bool,
+    pub letter: Letter,
+    pub digit: u8,
+}

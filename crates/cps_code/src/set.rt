@@ -1,0 +1,123 @@
+ghost use Rattle.std.specs.Prelude.{◌≡◌, ◌<◌, ◌+◌, ◌*◌, [], ◌∷◌, false, List, ℕ, ℤ, Option, IfSome, option_map};
+ghost use Rattle.cps_code.specs.Terms.{IsRegister, AreRegisters, register_list};
+ghost use Rattle.cps_code.specs.Sets.{set_form, set_form_as_it_stands, long_form, short_form};
+
+use super::register::{Letter, RegisterTerm};
+use super::sum::Registers;
+
+/// The four digits of a set instruction before its constant. `f` is the first digit, `i` that of the register set.
+pub fn code_with_constant(f: u8, i: u8, registers: Registers) -> Option<u16>
+    requires f { f < 8 }
+    requires i { i < 8 }
+    requires digits { AreRegisters registers }
+    ensures form { (n : Option ℕ) (first : ℤ) (constant : List ℤ)
+        → set_form f i n (register_list registers) (first ∷ constant) ≡ option_map (λ code. long_form code (first ∷ constant) false) result }
+    ensures small { IfSome result (λ code. code < 4096) }
+{
+    match registers {
+        Registers::Absent => Some(digits(f, 1, i, 0)),
+        Registers::One(
+            RegisterTerm {
+                is_minus: false,
+                letter: Letter::A,
+                digit,
+            },
+        ) => Some(digits(f, 0, i, digit)),
+        Registers::One(
+            RegisterTerm {
+                is_minus: false,
+                letter: Letter::B,
+                digit,
+            },
+        ) => Some(digits(f, 1, i, digit)),
+        Registers::One(
+            RegisterTerm {
+                is_minus: false,
+                letter: Letter::X,
+                digit,
+            },
+        ) => Some(digits(f, 2, i, digit)),
+        _ => None,
+    }
+}
+
+/// The five digits of a set instruction without a constant.
+pub fn code_without_constant(f: u8, i: u8, registers: Registers) -> Option<u16>
+    requires f { f < 8 }
+    requires i { i < 8 }
+    requires digits { AreRegisters registers }
+    ensures form { (n : Option ℕ) → set_form f i n (register_list registers) [] ≡ option_map short_form result }
+    ensures small { IfSome result (λ code. code < 32768) }
+{
+    match registers {
+        Registers::Absent => None,
+        Registers::One(register) => code_alone(f, i, register),
+        Registers::Two(first, second) => match code_of_pair(f, i, first, second) {
+            Some(code) => Some(code),
+            None => code_of_pair(f, i, second, first),
+        },
+    }
+}
+
+fn code_alone(f: u8, i: u8, register: RegisterTerm) -> Option<u16>
+    requires f { f < 8 }
+    requires i { i < 8 }
+    requires digit { IsRegister register }
+    ensures form { (n : Option ℕ) → set_form f i n (register ∷ []) [] ≡ option_map short_form result }
+    ensures small { IfSome result (λ code. code < 32768) }
+{
+    match register {
+        RegisterTerm {
+            is_minus: false,
+            letter: Letter::X,
+            digit,
+        } => Some(digits(f, 3, i, digit) * 8),
+        RegisterTerm {
+            is_minus: false,
+            letter: Letter::A,
+            digit,
+        } => Some(digits(f, 4, i, digit) * 8),
+        RegisterTerm {
+            is_minus: false,
+            letter: Letter::B,
+            digit,
+        } => Some(digits(f, 6, i, digit) * 8),
+        RegisterTerm {
+            is_minus: true,
+            letter: Letter::B,
+            digit,
+        } => Some(digits(f, 7, i, 0) * 8 + u16::from(digit)),
+        _ => None,
+    }
+}
+
+/// The digits for two registers in the order of a row: the first is j, the second k.
+fn code_of_pair(f: u8, i: u8, j: RegisterTerm, k: RegisterTerm) -> Option<u16>
+    requires f { f < 8 }
+    requires i { i < 8 }
+    requires digits { IsRegister j × IsRegister k }
+    ensures form { (n : Option ℕ) → set_form_as_it_stands f i n (j ∷ k ∷ []) [] ≡ option_map short_form result }
+    ensures small { IfSome result (λ code. code < 32768) }
+{
+    let second = match (j.letter, j.is_minus, k.letter, k.is_minus) {
+        (Letter::X, false, Letter::B, false) => 3,
+        (Letter::A, false, Letter::B, false) => 4,
+        (Letter::A, false, Letter::B, true) => 5,
+        (Letter::B, false, Letter::B, false) => 6,
+        (Letter::B, false, Letter::B, true) => 7,
+        _ => return None,
+    };
+    Some(digits(f, second, i, j.digit) * 8 + u16::from(k.digit))
+}
+
+/// Four octal digits, one behind the other.
+fn digits(a: u8, b: u8, c: u8, d: u8) -> u16
+    requires a { a < 8 }
+    requires b { b < 8 }
+    requires c { c < 8 }
+    requires d { d < 8 }
+    ensures value { result ≡ ((a * 8 + b) * 8 + c) * 8 + d }
+    ensures small { result < 4096 }
+{
+    ((u16::from(a) * 8 + u16::from(b)) * 8 + u16::from(c)) * 8 + u16::from(d)
+}
