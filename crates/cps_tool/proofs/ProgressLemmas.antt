@@ -1,0 +1,405 @@
+-- How far a script has come, byte by byte and line by line.
+use Rattle.std.proofs.Common.{◌≡◌, ℕ, Bool, true, false, not, ◌&&◌, eqb, List, [], ◌∷◌, ◌++◌, map, flat_map, Option, Result, Ok, Err, refl, sym, ap, subst, ◌∙◌, arith, append_assoc, append-nil}
+use Rattle.std.specs.List.{list_all}
+use Rattle.std.specs.Io.KnownBytes.{Appends, Consumes, IsAtEnd}
+use Rattle.std.specs.Prelude.{IfSome, OnOk, IsErrOf, None, Some}
+use Rattle.cps_tool.specs.declared.writing.RunFault.TheVariants.{WriteFault}
+use Rattle.std.proofs.KnownBytes.{Appends-nil, Appends-trans}
+use Rattle.std.proofs.lemmas.List.Folds.{list_all-append}
+use Rattle.std.proofs.lemmas.List.{map-append}
+use Rattle.std.proofs.lemmas.Grind.{flat_map-append}
+use Rattle.std.proofs.lemmas.Bool.Decides.{nat_tests}
+use Rattle.cps_tool.specs.declared.script_line.ScriptLine.{ScriptLine}
+use Rattle.cps_tool.specs.declared.writing.RunFault.{RunFault}
+use Rattle.cps_tool.specs.declared.script.Flow.{Flow}
+use Rattle.cps_tool.specs.declared.script.Flow.TheVariants.{GoesOn, Ends}
+use Rattle.cps_tool.specs.ScriptLine.{IsBegun}
+use Rattle.cps_tool.specs.Command.{is_quit}
+use Rattle.cps_tool.specs.Lines.{Splits, without_return, last_line, has_no_newline, newline}
+use Rattle.cps_tool.specs.Reply.{Response, reply_text}
+use Rattle.cps_tool.specs.Script.{Run, Script, FrontOfScript, LinesOfScript, Answers, goes_on, command_lines, before_quit}
+use Rattle.cps_tool.specs.Progress.{MatchFlow, Progress, Takes, Finishes}
+
+-- ---- cutting at newlines
+
+abbrev ended : List ℕ → List ℕ
+ended line = line ++ newline ∷ []
+
+both : (a b : Bool) → a ≡ true → b ≡ true → (a && b) ≡ true
+both a b p q = rw (p, q) refl
+
+left_true : (a b : Bool) → (a && b) ≡ true → a ≡ true
+left_true true b h = refl
+left_true false b h = cc
+
+right_true : (a b : Bool) → (a && b) ≡ true → b ≡ true
+right_true true b h = h
+right_true false b h = cc
+
+pub splits-none : Splits [] [] []
+splits-none = record { whole = refl; each = refl; last = refl }
+
+-- a newline ends the line that has begun
+pub splits-line : (taken more : List ℕ) (lines later : List (List ℕ)) (rest last : List ℕ) → Splits taken lines rest → Splits more later last
+    → Splits (taken ++ newline ∷ more) (lines ++ rest ∷ later) last
+splits-line taken more lines later rest last front back = record {
+  whole =
+      let f = front.whole in let b = back.whole in
+      let joined : flat_map ended (lines ++ rest ∷ later) ≡ flat_map ended lines ++ flat_map ended (rest ∷ later) = flat_map-append ended lines (rest ∷ later) in
+      rw (joined, f, b) (simp append_assoc);
+  each = list_all-append has_no_newline lines (rest ∷ later) ∙ both (list_all has_no_newline lines) (list_all has_no_newline (rest ∷ later)) front.each
+      (both (has_no_newline rest) (list_all has_no_newline later) front.last back.each);
+  last = back.last;
+}
+
+pub splits-byte : (taken : List ℕ) (lines : List (List ℕ)) (rest : List ℕ) (byte : ℕ) → Splits taken lines rest → eqb byte newline ≡ false
+    → Splits (taken ++ byte ∷ []) lines (rest ++ byte ∷ [])
+splits-byte taken lines rest byte so_far other = record {
+  whole = ap (λ b. b ++ byte ∷ []) so_far.whole ∙ append_assoc (flat_map ended lines) rest (byte ∷ []);
+  each = so_far.each;
+  last = list_all-append (λ b. not (eqb b newline)) rest (byte ∷ []) ∙ both (has_no_newline rest) (not (eqb byte newline) && true) so_far.last (rw other refl);
+}
+
+pub record Split (bytes : List ℕ) : Type 0 where
+  pub lines : List (List ℕ)
+  pub rest : List ℕ
+  pub splits : Splits bytes lines rest
+
+split_onto : (byte : ℕ) (bytes : List ℕ) (lines : List (List ℕ)) (rest : List ℕ) → eqb byte newline ≡ false → Splits bytes lines rest → Split (byte ∷ bytes)
+split_onto byte bytes [] rest other splits = record {
+  lines = [];
+  rest = byte ∷ rest;
+  splits = record {
+    whole = ap (λ b. byte ∷ b) splits.whole;
+    each = refl;
+    last = both (not (eqb byte newline)) (has_no_newline rest) (rw other refl) splits.last;
+  };
+}
+split_onto byte bytes (line ∷ lines) rest other splits = record {
+  lines = (byte ∷ line) ∷ lines;
+  rest = rest;
+  splits = record {
+    whole = ap (λ b. byte ∷ b) splits.whole;
+    each = both (has_no_newline (byte ∷ line)) (list_all has_no_newline lines)
+        (both (not (eqb byte newline)) (has_no_newline line) (rw other refl) (left_true (has_no_newline line) (list_all has_no_newline lines) splits.each))
+        (right_true (has_no_newline line) (list_all has_no_newline lines) splits.each);
+    last = splits.last;
+  };
+}
+
+split_front : (byte : ℕ) (bytes : List ℕ) (test : Bool) → eqb byte newline ≡ test → Split bytes → Split (byte ∷ bytes)
+split_front byte bytes true is split =
+    let same : byte ≡ newline = grind (arith, nat_tests) in
+    record {
+      lines = [] ∷ split.lines;
+      rest = split.rest;
+      splits = record {
+        whole = let w = split.splits.whole in rw (same, ← w) refl;
+        each = split.splits.each;
+        last = split.splits.last;
+      };
+    }
+split_front byte bytes false is split = split_onto byte bytes split.lines split.rest is split.splits
+
+-- each text can be cut
+pub split_of : (bytes : List ℕ) → Split bytes
+split_of [] = record { lines = []; rest = []; splits = splits-none }
+split_of (byte ∷ bytes) = split_front byte bytes (eqb byte newline) refl (split_of bytes)
+
+-- ---- running lines
+
+pub run-more : (lines : List (List ℕ)) (start mid new : List (List ℕ)) (text line : List ℕ) (response : Response) → Run start lines text mid → Answers mid line response new
+    → Run start (lines ++ line ∷ []) (text ++ reply_text response) new
+run-more [] start mid new text line response run answer =
+    let none = run.0 in let same = run.1 in
+    (response, new, [], rw (← same) answer, (refl, refl), rw none (sym (append-nil (reply_text response))))
+run-more (first ∷ lines) start mid new text line response run answer =
+    let later = run-more lines run.1 mid new run.2 line response run.4 answer in
+    (run.0, run.1, run.2 ++ reply_text response, run.3, later, ap (λ t. t ++ reply_text response) run.5 ∙ append_assoc (reply_text run.0) run.2 (reply_text response))
+
+not_quit : (test : Bool) → not test ≡ true → test ≡ false
+not_quit true h = cc
+not_quit false h = refl
+
+pub before_quit-going : (lines later : List (List ℕ)) → list_all goes_on lines ≡ true → before_quit (lines ++ later) ≡ lines ++ before_quit later
+before_quit-going [] later going = refl
+before_quit-going (line ∷ lines) later going =
+    let here = not_quit (is_quit line) (left_true (goes_on line) (list_all goes_on lines) going) in
+    let there = before_quit-going lines later (right_true (goes_on line) (list_all goes_on lines) going) in
+    rw here (ap (λ ls. line ∷ ls) there)
+
+pub going-last : (lines : List (List ℕ)) (rest : List ℕ) → list_all goes_on (map without_return lines) ≡ true → is_quit (without_return rest) ≡ false
+    → list_all goes_on (map without_return lines ++ without_return rest ∷ []) ≡ true
+going-last lines rest going here = rw (list_all-append goes_on (map without_return lines) (without_return rest ∷ []), going, here) refl
+
+pub going-more : (lines : List (List ℕ)) (rest : List ℕ) → list_all goes_on (map without_return lines) ≡ true → is_quit (without_return rest) ≡ false
+    → list_all goes_on (map without_return (lines ++ rest ∷ [])) ≡ true
+going-more lines rest going here =
+    rw (map-append without_return lines (rest ∷ []), list_all-append goes_on (map without_return lines) (without_return rest ∷ []), going, here) refl
+
+-- with no line that ends the script, all are its command lines
+whole_run : (lines : List (List ℕ)) → list_all goes_on (map without_return lines) ≡ true → before_quit (map without_return lines) ≡ map without_return lines
+whole_run lines going = ap before_quit (sym (append-nil (map without_return lines))) ∙ before_quit-going (map without_return lines) [] going ∙ append-nil (map without_return lines)
+
+-- ---- taking bytes
+
+pub takes-none : (line : ScriptLine) (now : List (List ℕ)) (before : Option (List ℕ)) → Takes (Ok GoesOn) line line now now before before []
+takes-none line now before = λ start taken text so_far. ([], Appends-nil before, rw (append-nil, append-nil) so_far)
+
+pub takes-byte : (line new : ScriptLine) (now : List (List ℕ)) (before : Option (List ℕ)) (byte : ℕ) → eqb byte newline ≡ false
+    → ((begun : List ℕ) → IsBegun line begun → IsBegun new (begun ++ byte ∷ [])) → Takes (Ok GoesOn) line new now now before before (byte ∷ [])
+takes-byte line new now before byte other push = λ start taken text so_far. (
+  [],
+  Appends-nil before,
+  rw append-nil (record {
+    lines = so_far.lines;
+    rest = so_far.rest ++ byte ∷ [];
+    splits = splits-byte taken so_far.lines so_far.rest byte so_far.splits other;
+    begun = push so_far.rest so_far.begun;
+    going = so_far.going;
+    run = so_far.run;
+  }),
+)
+
+pub takes-line : (line fresh : ScriptLine) (old new : List (List ℕ)) (before after : Option (List ℕ)) → IsBegun fresh []
+    → ((begun : List ℕ) → IsBegun line begun → (is_quit (without_return begun) ≡ false) × (response : Response) × Answers old (without_return begun) response new × Appends before after (reply_text response))
+    → Takes (Ok GoesOn) line fresh old new before after (newline ∷ [])
+takes-line line fresh old new before after empty answer = λ start taken text so_far.
+    let a = answer so_far.rest so_far.begun in (
+      reply_text a.1,
+      a.3,
+      record {
+        lines = so_far.lines ++ so_far.rest ∷ [];
+        rest = [];
+        splits = splits-line taken [] so_far.lines [] so_far.rest [] so_far.splits splits-none;
+        begun = empty;
+        going = going-more so_far.lines so_far.rest so_far.going a.0;
+        run = rw (map-append without_return so_far.lines (so_far.rest ∷ [])) (run-more (map without_return so_far.lines) start old new text (without_return so_far.rest) a.1 so_far.run a.2);
+      },
+    )
+
+quit_cuts : (lines later : List (List ℕ)) (rest last : List ℕ) → list_all goes_on (map without_return lines) ≡ true → is_quit (without_return rest) ≡ true
+    → command_lines (lines ++ rest ∷ later) last ≡ map without_return lines
+quit_cuts lines later rest last going here =
+    rw (
+      map-append without_return lines (rest ∷ later),
+      append_assoc (map without_return lines) (map without_return (rest ∷ later)) (last_line last),
+      before_quit-going (map without_return lines) (map without_return (rest ∷ later) ++ last_line last) going,
+      here,
+    )
+    (append-nil (map without_return lines))
+
+pub takes-quit : (line fresh : ScriptLine) (old new : List (List ℕ)) (before after : Option (List ℕ))
+    → ((begun : List ℕ) → IsBegun line begun → (is_quit (without_return begun) ≡ true) × (new ≡ old) × Appends before after [])
+    → Takes (Ok Ends) line fresh old new before after (newline ∷ [])
+takes-quit line fresh old new before after answer = λ start taken text so_far.
+    let a = answer so_far.rest so_far.begun in
+    let same = a.1 in (
+      [],
+      a.2,
+      λ more. let split = split_of more in record {
+        lines = so_far.lines ++ so_far.rest ∷ split.lines;
+        rest = split.rest;
+        splits = rw append_assoc (splits-line taken more so_far.lines split.lines so_far.rest split.rest so_far.splits split.splits);
+        run = rw (quit_cuts so_far.lines split.lines so_far.rest split.rest so_far.going a.0, append-nil, same) so_far.run;
+      },
+    )
+
+pub takes-answered : (flow : Flow) (line fresh : ScriptLine) (old new : List (List ℕ)) (before after : Option (List ℕ)) → IsBegun fresh []
+    → ((begun : List ℕ) → IsBegun line begun → MatchFlow flow
+    ((is_quit (without_return begun) ≡ false) × (response : Response) × Answers old (without_return begun) response new × Appends before after (reply_text response))
+    ((is_quit (without_return begun) ≡ true) × (new ≡ old) × Appends before after []))
+    → Takes (Ok flow) line fresh old new before after (newline ∷ [])
+takes-answered GoesOn line fresh old new before after empty answer = takes-line line fresh old new before after empty answer
+takes-answered Ends line fresh old new before after empty answer = takes-quit line fresh old new before after answer
+
+pub takes-fault : (fault : RunFault) (line fresh : ScriptLine) (old new : List (List ℕ)) (before after : Option (List ℕ))
+    → ((begun : List ℕ) → IsBegun line begun → (is_quit (without_return begun) ≡ false) × (response : Response) × Answers old (without_return begun) response new
+    × (front back : List ℕ) × (reply_text response ≡ front ++ back) × Appends before after front)
+    → Takes (Err fault) line fresh old new before after (newline ∷ [])
+takes-fault fault line fresh old new before after answer = λ start taken text so_far.
+    let a = answer so_far.rest so_far.begun in
+    let cut = a.5 in (
+      a.3,
+      a.4,
+      a.6,
+      λ more. let split = split_of more in record {
+        lines = so_far.lines ++ so_far.rest ∷ split.lines;
+        rest = split.rest;
+        earlier = map without_return so_far.lines;
+        last = without_return so_far.rest;
+        later = map without_return split.lines ++ last_line split.rest;
+        splits = rw append_assoc (splits-line taken more so_far.lines split.lines so_far.rest split.rest so_far.splits split.splits);
+        commands = rw (map-append without_return so_far.lines (so_far.rest ∷ split.lines)) (simp append_assoc);
+        going = going-last so_far.lines so_far.rest so_far.going a.0;
+        replies = text;
+        mid = old;
+        run = so_far.run;
+        response = a.1;
+        answers = a.2;
+        front = a.3;
+        written = refl;
+        cut = cut;
+      },
+    )
+
+-- ---- the end of the bytes
+
+last_line-some : (rest : List ℕ) → (rest ≡ [] → ⊥) → last_line rest ≡ without_return rest ∷ []
+last_line-some [] some = absurd (some refl)
+last_line-some (b ∷ bytes) some = refl
+
+pub finishes-empty : (line : ScriptLine) (now : List (List ℕ)) (before : Option (List ℕ)) → ((begun : List ℕ) → IsBegun line begun → begun ≡ []) → Finishes (Ok tt) line now now before before
+finishes-empty line now before empty = λ start taken text so_far.
+    let none : last_line so_far.rest ≡ [] = ap last_line (empty so_far.rest so_far.begun) in
+    let whole : command_lines so_far.lines so_far.rest ≡ map without_return so_far.lines
+    = rw (none, append-nil) (whole_run so_far.lines so_far.going) in (
+      [],
+      Appends-nil before,
+      record {
+        lines = so_far.lines;
+        rest = so_far.rest;
+        splits = so_far.splits;
+        run = rw (whole, append-nil) so_far.run;
+      },
+    )
+
+pub finishes-line : (flow : Flow) (line : ScriptLine) (old new : List (List ℕ)) (before after : Option (List ℕ)) → ((begun : List ℕ) → IsBegun line begun → begun ≡ [] → ⊥)
+    → ((begun : List ℕ) → IsBegun line begun → MatchFlow flow
+    ((is_quit (without_return begun) ≡ false) × (response : Response) × Answers old (without_return begun) response new × Appends before after (reply_text response))
+    ((is_quit (without_return begun) ≡ true) × (new ≡ old) × Appends before after []))
+    → Finishes (Ok tt) line old new before after
+finishes-line GoesOn line old new before after some answer = λ start taken text so_far.
+    let a = answer so_far.rest so_far.begun in
+    let here = a.0 in
+    let one = last_line-some so_far.rest (some so_far.rest so_far.begun) in
+    let whole : command_lines so_far.lines so_far.rest ≡ map without_return so_far.lines ++ without_return so_far.rest ∷ []
+    = rw (one, before_quit-going (map without_return so_far.lines) (without_return so_far.rest ∷ []) so_far.going, here) refl in (
+      reply_text a.1,
+      a.3,
+      record {
+        lines = so_far.lines;
+        rest = so_far.rest;
+        splits = so_far.splits;
+        run = rw whole (run-more (map without_return so_far.lines) start old new text (without_return so_far.rest) a.1 so_far.run a.2);
+      },
+    )
+finishes-line Ends line old new before after some answer = λ start taken text so_far.
+    let a = answer so_far.rest so_far.begun in
+    let here = a.0 in
+    let same = a.1 in
+    let one = last_line-some so_far.rest (some so_far.rest so_far.begun) in
+    let whole : command_lines so_far.lines so_far.rest ≡ map without_return so_far.lines
+    = rw (one, before_quit-going (map without_return so_far.lines) (without_return so_far.rest ∷ []) so_far.going, here) (append-nil (map without_return so_far.lines)) in (
+      [],
+      a.2,
+      record {
+        lines = so_far.lines;
+        rest = so_far.rest;
+        splits = so_far.splits;
+        run = rw (whole, append-nil, same) so_far.run;
+      },
+    )
+
+pub finishes-fault : (fault : RunFault) (line : ScriptLine) (old new : List (List ℕ)) (before after : Option (List ℕ)) → ((begun : List ℕ) → IsBegun line begun → begun ≡ [] → ⊥)
+    → ((begun : List ℕ) → IsBegun line begun → (is_quit (without_return begun) ≡ false) × (response : Response) × Answers old (without_return begun) response new
+    × (front back : List ℕ) × (reply_text response ≡ front ++ back) × Appends before after front)
+    → Finishes (Err fault) line old new before after
+finishes-fault fault line old new before after some answer = λ start taken text so_far.
+    let a = answer so_far.rest so_far.begun in
+    let cut = a.5 in (
+      a.3,
+      a.4,
+      a.6,
+      record {
+        lines = so_far.lines;
+        rest = so_far.rest;
+        earlier = map without_return so_far.lines;
+        last = without_return so_far.rest;
+        later = [];
+        splits = so_far.splits;
+        commands = rw (last_line-some so_far.rest (some so_far.rest so_far.begun)) refl;
+        going = going-last so_far.lines so_far.rest so_far.going a.0;
+        replies = text;
+        mid = old;
+        run = so_far.run;
+        response = a.1;
+        answers = a.2;
+        front = a.3;
+        written = refl;
+        cut = cut;
+      },
+    )
+
+-- ---- from the first byte to the last
+
+pub progress-none : (line : ScriptLine) (start : List (List ℕ)) → IsBegun line [] → Progress start [] line [] start
+progress-none line start empty = record { lines = []; rest = []; splits = splits-none; begun = empty; going = refl; run = (refl, refl) }
+
+pub progress-lines : (start : List (List ℕ)) (taken : List ℕ) (line : ScriptLine) (text : List ℕ) (now : List (List ℕ)) → Progress start taken line text now → LinesOfScript start taken text now
+progress-lines start taken line text now so_far = record { lines = so_far.lines; rest = so_far.rest; splits = so_far.splits; going = so_far.going; run = so_far.run }
+
+-- what a whole run of a script says
+abbrev pub RunSays : List (List ℕ) → List (List ℕ) → Option (List ℕ) → Option (List ℕ) → Option (List ℕ) → Type 0
+RunSays start new input before after = IfSome input (λ bytes. (text : List ℕ) × Script start bytes text new × Appends before after text)
+
+pub finished-ok : (result : Result (Unit {0}) RunFault) (line : ScriptLine) (start old new : List (List ℕ)) (input left before between after : Option (List ℕ)) (taken text : List ℕ)
+    → Progress start taken line text old → Consumes input left taken → IsAtEnd left → Appends before between text
+    → Finishes result line old new between after → OnOk result (RunSays start new input before after)
+finished-ok (Err fault) line start old new input left before between after taken text so_far consumed end appends finishes = tt
+finished-ok (Ok u) line start old new None left before between after taken text so_far consumed end appends finishes = tt
+finished-ok (Ok u) line start old new (Some xs) None before between after taken text so_far consumed end appends finishes = absurd consumed
+finished-ok (Ok u) line start old new (Some xs) (Some ys) before between after taken text so_far consumed end appends finishes =
+    let f = finishes start taken text so_far in
+    (text ++ f.0, rw (consumed, end, append-nil) f.2, Appends-trans before between after text f.0 appends f.1)
+
+pub ended-ok : (start new : List (List ℕ)) (input left before after : Option (List ℕ)) (taken text : List ℕ) → Consumes input left taken → Appends before after text
+    → ((more : List ℕ) → Script start (taken ++ more) text new) → RunSays start new input before after
+ended-ok start new None left before after taken text consumed appends script = tt
+ended-ok start new (Some xs) None before after taken text consumed appends script = absurd consumed
+ended-ok start new (Some xs) (Some ys) before after taken text consumed appends script = (text, rw consumed (script ys), appends)
+
+-- what a run says that a failed write ended
+abbrev pub FaultSays : List (List ℕ) → List (List ℕ) → Option (List ℕ) → Option (List ℕ) → Option (List ℕ) → Option (List ℕ) → Type 0
+FaultSays start new input left before after =
+    (taken text unsaid : List ℕ) × Consumes input left taken × FrontOfScript start taken text unsaid new × Appends before after text
+
+pub finished-fault : (result : Result (Unit {0}) RunFault) (line : ScriptLine) (start old new : List (List ℕ)) (input left before between after : Option (List ℕ)) (taken text : List ℕ)
+    → Progress start taken line text old → Consumes input left taken → Appends before between text
+    → Finishes result line old new between after → IsErrOf result WriteFault → FaultSays start new input left before after
+finished-fault (Ok u) line start old new input left before between after taken text so_far consumed appends finishes is = cc
+finished-fault (Err fault) line start old new input left before between after taken text so_far consumed appends finishes is =
+    let f = finishes start taken text so_far in
+    (taken, text ++ f.0, f.1, consumed, f.3, Appends-trans before between after text f.0 appends f.2)
+
+-- ---- taking further bytes
+
+-- where a flow is one of the two
+pub takes-as : (flow same : Flow) (a b : ScriptLine) (old new : List (List ℕ)) (before after : Option (List ℕ)) (bytes : List ℕ) → flow ≡ same
+    → Takes (Ok flow) a b old new before after bytes → Takes (Ok same) a b old new before after bytes
+takes-as flow same a b old new before after bytes is takes = let P : Flow → Type 0 = λ f. Takes (Ok f) a b old new before after bytes in subst P is takes
+
+pub takes-then : (result : Result Flow RunFault) (a b c : ScriptLine) (old mid new : List (List ℕ)) (before between after : Option (List ℕ)) (front back : List ℕ)
+    → Takes (Ok GoesOn) a b old mid before between front → Takes result b c mid new between after back → Takes result a c old new before after (front ++ back)
+takes-then (Ok GoesOn) a b c old mid new before between after front back first second = λ start taken text so_far.
+    let f = first start taken text so_far in
+    let s = second start (taken ++ front) (text ++ f.0) f.2 in
+    (f.0 ++ s.0, Appends-trans before between after f.0 s.0 f.1 s.1, rw (← append_assoc taken front back, ← append_assoc text f.0 s.0) s.2)
+takes-then (Ok Ends) a b c old mid new before between after front back first second = λ start taken text so_far.
+    let f = first start taken text so_far in
+    let s = second start (taken ++ front) (text ++ f.0) f.2 in
+    (f.0 ++ s.0, Appends-trans before between after f.0 s.0 f.1 s.1, λ more. rw (← append_assoc taken front back, ← append_assoc text f.0 s.0) (s.2 more))
+takes-then (Err fault) a b c old mid new before between after front back first second = λ start taken text so_far.
+    let f = first start taken text so_far in
+    let s = second start (taken ++ front) (text ++ f.0) f.2 in
+    (f.0 ++ s.0, s.1, Appends-trans before between after f.0 s.0 f.1 s.2, λ more. rw (← append_assoc taken front back, ← append_assoc text f.0 s.0) (s.3 more))
+
+pub takes-ended : (a b : ScriptLine) (old new : List (List ℕ)) (before after : Option (List ℕ)) (front back : List ℕ) → Takes (Ok Ends) a b old new before after front → Takes (Ok Ends) a b old new before after (front ++ back)
+takes-ended a b old new before after front back first = λ start taken text so_far.
+    let f = first start taken text so_far in
+    (f.0, f.1, λ more. rw (← append_assoc taken front back, append_assoc (taken ++ front) back more) (f.2 (back ++ more)))
+
+pub takes-failed : (fault : RunFault) (a b : ScriptLine) (old new : List (List ℕ)) (before after : Option (List ℕ)) (front back : List ℕ) → Takes (Err fault) a b old new before after front → Takes (Err fault) a b old new before after (front ++ back)
+takes-failed fault a b old new before after front back first = λ start taken text so_far.
+    let f = first start taken text so_far in
+    (f.0, f.1, f.2, λ more. rw (← append_assoc taken front back, append_assoc (taken ++ front) back more) (f.3 (back ++ more)))

@@ -1,0 +1,23 @@
+-- The binary text: the program's name, and each word in octal behind its address.
+use Rattle.std.specs.Prelude.{ℕ, List, [], ◌++◌, codes, flat_map, Option, None, Some}
+use Rattle.std.specs.List.{range_with_len}
+use Rattle.cps_code.specs.Image.{Piece, packed_word}
+use Rattle.cps_tool.specs.Octal.{octal}
+use Rattle.cps_tool.specs.Assembly.{limit, pass_one, pass_two}
+
+abbrev pub first_row : Option (List ℕ) → List ℕ
+first_row None = codes "IDENT\n"
+first_row (Some name) = codes "IDENT " ++ name ++ codes "\n"
+
+-- the row of a word; no row where there is none
+abbrev pub word_row : ℕ → Option ℕ → List ℕ
+word_row address None = []
+word_row address (Some word) = octal 6 address ++ codes " " ++ octal 20 word ++ codes "\n"
+
+-- the rows of the words that pieces make, by rising addresses below one
+unfoldable pub rows_below : ℕ → List Piece → List ℕ
+rows_below count pieces = flat_map (λ address. word_row address (packed_word pieces address)) (range_with_len 0 count)
+
+-- the binary text of a source
+unfoldable pub binary_text : List (List ℕ) → List ℕ
+binary_text source = first_row (pass_one source).state.program ++ rows_below limit (pass_two (pass_one source).items)

@@ -1,0 +1,62 @@
+-- The commands of a script.
+use Rattle.std.specs.Prelude.{◌≡◌, ℕ, ◌<◌, ◌≤◌, Bool, true, false, ◌==◌, IsTrue, List, [], ◌∷◌, ◌++◌, length, codes, ◌⊎◌, bytes_eq}
+use Rattle.std.specs.Str.Parse.{AllDigits, digits_value}
+use Rattle.cps_tool.specs.declared.command.Command.{Command}
+use Rattle.cps_tool.specs.declared.command.Command.TheVariants.{Append, Insert, Binary, Quit}
+
+-- what a command asks: a text at the end of the source or behind a line, the binary text, or the script's end
+pub data Order : Type 0 where
+  append : List ℕ → Order
+  insert : ℕ → List ℕ → Order
+  binary : Order
+  quit : Order
+
+-- what a command of the code asks
+abbrev pub order_of : Command → Order
+order_of (Append text) = append text.now
+order_of (Insert after text) = insert after text.now
+order_of Binary = binary
+order_of Quit = quit
+
+-- the byte between the parts of a command
+abbrev pub blank : ℕ
+blank = 32
+
+-- a byte is that one
+abbrev pub is_blank : ℕ → Bool
+is_blank byte = byte == blank
+
+-- the most bytes that a command has
+abbrev pub longest_command : ℕ
+longest_command = 200
+
+-- a line's number as 1 to 5 decimal digits
+pub record IsNumber (digits : List ℕ) (number : ℕ) : Type 0 where
+  pub some : 0 < length digits
+  pub few : length digits ≤ 5
+  pub decimal : AllDigits 10 digits
+  pub value : number ≡ digits_value 10 digits
+
+-- the digits of a line's number, and behind a blank a text, which may be absent
+abbrev pub IsNumbered : List ℕ → ℕ → List ℕ → Type 0
+IsNumbered bytes number text =
+    (digits : List ℕ) × IsNumber digits number × (((bytes ≡ digits) × (text ≡ [])) ⊎ (bytes ≡ digits ++ blank ∷ text))
+
+-- a line is the command that ends a script
+abbrev pub is_quit : List ℕ → Bool
+is_quit line = bytes_eq line (codes "quit")
+
+-- an order is the one that ends a script
+abbrev pub is_quit_order : Order → Bool
+is_quit_order (append text) = false
+is_quit_order (insert after text) = false
+is_quit_order binary = false
+is_quit_order quit = true
+
+-- the bytes of a command that gives an order
+abbrev pub Spells : List ℕ → Order → Type 0
+Spells line (append text) = (length line ≤ longest_command) × (((line ≡ codes "a") × (text ≡ [])) ⊎ (line ≡ codes "a " ++ text))
+Spells line (insert after text) =
+    (length line ≤ longest_command) × (bytes : List ℕ) × (line ≡ codes "i " ++ bytes) × IsNumbered bytes after text
+Spells line binary = (length line ≤ longest_command) × (line ≡ codes "binary")
+Spells line quit = (length line ≤ longest_command) × IsTrue (is_quit line)

@@ -1,0 +1,7 @@
+-- What making some items adds to the words.
+use Rattle.std.specs.Prelude.{List, ◌++◌, Option, ℕ}
+use Rattle.cps_code.specs.Image.{Piece, ArePacked}
+
+-- these pieces were added to the words, whatever made the words before
+abbrev pub Adds : List Piece → List (Option ℕ) → List (Option ℕ) → Type 0
+Adds added old new = (pieces : List Piece) → ArePacked pieces old → ArePacked (pieces ++ added) new

@@ -1,0 +1,7 @@
+-- Numbers in octal.
+use Rattle.std.specs.Prelude.{ℕ, zero, suc, ◌+◌, ◌/◌, ◌%◌, List, [], ◌∷◌, ◌++◌}
+
+-- the low octal digits of a number, so many
+unfoldable pub octal : ℕ → ℕ → List ℕ
+octal zero number = []
+octal (suc digits) number = octal digits (number / 8) ++ (48 + number % 8) ∷ []

@@ -1,0 +1,83 @@
+-- What a script writes, and the source after it.
+use Rattle.std.specs.Prelude.{◌≡◌, ℕ, Bool, true, not, List, [], ◌∷◌, ◌++◌, map, length, ◌⊎◌, if◌then◌else◌}
+use Rattle.std.specs.List.{list_all}
+use Rattle.cps_tool.specs.declared.reply.Refusal.TheVariants as refusals
+use Rattle.cps_tool.specs.Binary.{binary_text}
+use Rattle.cps_tool.specs.Command.{Order, append, insert, binary, quit, Spells, is_quit}
+use Rattle.cps_tool.specs.Edits.{Inserted}
+use Rattle.cps_tool.specs.Lines.{Splits, without_return, last_line}
+use Rattle.cps_tool.specs.Reply.{Response, accepted, refused, shown, reply_text}
+
+-- a query was answered: its text is shown whole, or memory was refused; the source stays the same
+abbrev pub Queried : List (List ℕ) → List ℕ → Response → List (List ℕ) → Type 0
+Queried old text (accepted count) new = ⊥
+Queried old text (refused refusal) new = (refusal ≡ refusals.NoMemory) × (new ≡ old)
+Queried old text (shown bytes) new = (bytes ≡ text) × (new ≡ old)
+
+-- an order was answered; the end of a script is not
+abbrev pub Obeys : List (List ℕ) → Order → Response → List (List ℕ) → Type 0
+Obeys old (append text) response new = Inserted old (length old) text response new
+Obeys old (insert after text) response new = Inserted old after text response new
+Obeys old binary response new = Queried old (binary_text old) response new
+Obeys old quit response new = ⊥
+
+-- a command line was answered; one that spells no order is refused
+abbrev pub Answers : List (List ℕ) → List ℕ → Response → List (List ℕ) → Type 0
+Answers old line response new =
+    ((order : Order) × Spells line order × Obeys old order response new)
+    ⊎ (((order : Order) → Spells line order → ⊥) × (response ≡ refused refusals.BadCommand) × (new ≡ old))
+
+-- what command lines may write, one after another, and the source after them
+abbrev pub Run : List (List ℕ) → List (List ℕ) → List ℕ → List (List ℕ) → Type 0
+Run old [] text new = (text ≡ []) × (new ≡ old)
+Run old (line ∷ lines) text new =
+    (response : Response) × (mid : List (List ℕ)) × (later : List ℕ)
+    × Answers old line response mid × Run mid lines later new × (text ≡ reply_text response ++ later)
+
+-- a command line does not end the script
+abbrev pub goes_on : List ℕ → Bool
+goes_on line = not (is_quit line)
+
+-- the lines before the one that ends a script
+abbrev pub before_quit : List (List ℕ) → List (List ℕ)
+before_quit [] = []
+before_quit (line ∷ lines) = if is_quit line then [] else line ∷ before_quit lines
+
+-- the command lines of a script that was cut into lines, up to the one that ends it
+abbrev pub command_lines : List (List ℕ) → List ℕ → List (List ℕ)
+command_lines lines rest = before_quit (map without_return lines ++ last_line rest)
+
+-- what a script's bytes may write, and the source after it
+pub record Script (old : List (List ℕ)) (bytes text : List ℕ) (new : List (List ℕ)) : Type 0 where
+  pub lines : List (List ℕ)
+  pub rest : List ℕ
+  pub splits : Splits bytes lines rest
+  pub run : Run old (command_lines lines rest) text new
+
+-- The first command lines of a script were answered, none of which ends it. The replies to the earlier lines stand in `text`, and
+-- behind them a front of the reply to the last; `unsaid` is the rest of it.
+pub record FrontOfScript (old : List (List ℕ)) (bytes text unsaid : List ℕ) (new : List (List ℕ)) : Type 0 where
+  pub lines : List (List ℕ)
+  pub rest : List ℕ
+  pub splits : Splits bytes lines rest
+  pub earlier : List (List ℕ)
+  pub last : List ℕ
+  pub later : List (List ℕ)
+  pub commands : map without_return lines ++ last_line rest ≡ earlier ++ last ∷ later
+  pub going : list_all goes_on (earlier ++ last ∷ []) ≡ true
+  pub replies : List ℕ
+  pub mid : List (List ℕ)
+  pub run : Run old earlier replies mid
+  pub response : Response
+  pub answers : Answers mid last response new
+  pub front : List ℕ
+  pub written : text ≡ replies ++ front
+  pub cut : reply_text response ≡ front ++ unsaid
+
+-- what the lines that a newline ends may write, none of which ends the script, and the source after them
+pub record LinesOfScript (old : List (List ℕ)) (bytes text : List ℕ) (new : List (List ℕ)) : Type 0 where
+  pub lines : List (List ℕ)
+  pub rest : List ℕ
+  pub splits : Splits bytes lines rest
+  pub going : list_all goes_on (map without_return lines) ≡ true
+  pub run : Run old (map without_return lines) text new

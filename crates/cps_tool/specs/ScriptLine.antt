@@ -1,0 +1,24 @@
+-- A line of a script of which some bytes have come.
+use Rattle.std.specs.Prelude.{◌≡◌, ℕ, List, [], ◌∷◌, take, drop, if◌then◌else◌, ◌==◌}
+use Rattle.cps_tool.specs.declared.script_line.ScriptLine.{ScriptLine}
+use Rattle.cps_tool.specs.declared.script_line.Past.{Past}
+use Rattle.cps_tool.specs.declared.script_line.Past.TheVariants.{Nothing, Return, More}
+use Rattle.cps_tool.specs.Command.{longest_command}
+use Rattle.cps_tool.specs.Lines.{carriage_return}
+
+-- what stands past the room of a command
+abbrev pub past_of : List ℕ → Past
+past_of [] = Nothing
+past_of (b ∷ []) = if b == carriage_return then Return else More
+past_of (b ∷ c ∷ bytes) = More
+
+-- what stands past the room, and one byte more
+abbrev pub more_past : Past → ℕ → Past
+more_past Nothing byte = if byte == carriage_return then Return else More
+more_past Return byte = More
+more_past More byte = More
+
+-- these bytes have come
+pub record IsBegun (line : ScriptLine) (begun : List ℕ) : Type 0 where
+  pub kept : line.bytes.items ≡ take longest_command begun
+  pub past : line.past ≡ past_of (drop longest_command begun)

@@ -1,0 +1,134 @@
+//! The commands of a script.
+ghost use Rattle.std.specs.Prelude.{◌≡◌, ℕ, ◌<◌, ◌≤◌, List, false, length, IfOk, IfSome, IfNone, MatchResult, MatchOption};
+ghost use Rattle.std.specs.List.{before_first, after_first, position_from};
+ghost use Rattle.cps_tool.specs.Command.{Order, append, insert, binary, Spells, IsNumber, IsNumbered, is_quit, is_quit_order, order_of, is_blank};
+
+use thiserror::Error;
+
+/// The most bytes that a command has.
+pub const LONGEST_COMMAND: usize = 200;
+
+const MOST_DIGITS: usize = 5;
+
+/// Why a line of a script is refused.
+#[derive(Clone, Copy, Debug, PartialEq, Eq, Error)]
+pub enum ScriptFault {
+    /// It is no command.
+    #[error("bad command")]
+    BadCommand,
+}
+
+/// What a line of a script asks.
+#[derive(Clone, Copy, Debug, PartialEq, Eq)]
+pub enum Command<'a> {
+    /// To insert a text behind the last line.
+    Append(&'a [u8]),
+    /// To insert a text behind the line of that number, 0 for the front.
+    Insert(u32, &'a [u8]),
+    /// To write the binary text.
+    Binary,
+    /// To end the script.
+    Quit,
+}
+
+impl<'a> Command<'a> {
+    /// The command that a line spells. Takes no memory.
+    pub fn read(line: &'a [u8]) -> Result<Command<'a>, ScriptFault>
+        ensures order { MatchResult result (λ command. Spells line.now (order_of command)) (λ _. (order : Order) → Spells line.now order → ⊥) }
+        ensures only { IfOk result (λ command. (order : Order) → Spells line.now order → order ≡ order_of command) }
+        ensures quit { MatchResult result (λ command. is_quit line.now ≡ is_quit_order (order_of command)) (λ _. is_quit line.now ≡ false) }
+    {
+        if line.len() > LONGEST_COMMAND {
+            return Err(ScriptFault::BadCommand);
+        }
+        if let Some(command) = read_insert(line) {
+            return Ok(command);
+        }
+        match read_plain(line) {
+            Some(command) => Ok(command),
+            None => Err(ScriptFault::BadCommand),
+        }
+    }
+}
+
+/// The command of a line that has no number, None where the line spells another or none.
+fn read_plain(line: &[u8]) -> Option<Command<'_>>
+    requires { length line.now ≤ LONGEST_COMMAND }
+    ensures order { IfSome result (λ command. Spells line.now (order_of command)) }
+    ensures quit { IfSome result (λ command. is_quit line.now ≡ is_quit_order (order_of command)) }
+    ensures no_append { IfNone result ((text : List ℕ) → Spells line.now (append text) → ⊥) }
+    ensures no_binary { IfNone result (Spells line.now binary → ⊥) }
+    ensures no_quit { IfNone result (is_quit line.now ≡ false) }
+{
+    match line {
+        b"binary" => Some(Command::Binary),
+        b"quit" => Some(Command::Quit),
+        b"a" => Some(Command::Append(&[])),
+        [b'a', b' ', text @ ..] => Some(Command::Append(text)),
+        _ => None,
+    }
+}
+
+/// The command to insert a text behind a line, None where the line spells another or none.
+fn read_insert(line: &[u8]) -> Option<Command<'_>>
+    requires { length line.now ≤ LONGEST_COMMAND }
+    ensures order { MatchOption result
+        ((after : ℕ) (text : List ℕ) → Spells line.now (insert after text) → ⊥)
+        (λ command. Spells line.now (order_of command)) }
+    ensures quit { IfSome result (λ command. is_quit line.now ≡ is_quit_order (order_of command)) }
+{
+    match line {
+        [b'i', b' ', bytes @ ..] => {
+            let (after, text) = read_numbered(bytes)?;
+            Some(Command::Insert(after, text))
+        }
+        _ => None,
+    }
+}
+
+/// A number of 1 to 5 digits, and the text behind the blank that follows it.
+fn read_numbered(bytes: &[u8]) -> Option<(u32, &[u8])>
+    ensures { MatchOption result
+        ((number : ℕ) (text : List ℕ) → IsNumbered bytes.now number text → ⊥)
+        (λ numbered. IsNumbered bytes.now numbered.0 numbered.1.now) }
+{
+    let (digits, text) = split_at_blank(bytes);
+    let number = read_number(digits)?;
+    Some((number, text))
+}
+
+/// The bytes before and behind the first blank, or all of them and none.
+fn split_at_blank(bytes: &[u8]) -> (&[u8], &[u8])
+    ensures front { result.0.now ≡ before_first is_blank bytes.now }
+    ensures back { result.1.now ≡ after_first is_blank bytes.now }
+{
+    match first_blank(bytes) {
+        Some(at) => (&bytes[..at], &bytes[at + 1..]),
+        None => (bytes, &[]),
+    }
+}
+
+fn first_blank(bytes: &[u8]) -> Option<usize>
+    ensures place { result ≡ position_from is_blank 0 bytes.now }
+    ensures bound { IfSome result (λ at. at < length bytes.now) }
+{
+    bytes.iter().position(|byte| *byte == b' ')
+}
+
+fn read_number(digits: &[u8]) -> Option<u32>
+    ensures { MatchOption result
+        ((number : ℕ) → IsNumber digits.now number → ⊥)
+        (λ number. IsNumber digits.now number) }
+{
+    if digits.is_empty() || digits.len() > MOST_DIGITS {
+        return None;
+    }
+    let mut number = 0;
+    for digit in digits {
+        if !digit.is_ascii_digit() {
+            return None;
+        }
+        number = number * 10 + (*digit - b'0') as u32;
+    }
+    Some(number)
+}

@@ -1,0 +1,98 @@
+//! Obeying the commands of a script, and writing the replies.
+ghost use Rattle.std.specs.Prelude.{◌≡◌, ℕ, List, ◌++◌, false, true, MatchOption, OnOk, OnErr, IsErrOf, codes, decimal};
+ghost use Rattle.std.specs.Io.KnownBytes.{Appends};
+ghost use Rattle.cps_tool.specs.Command.{is_quit};
+ghost use Rattle.cps_tool.specs.Counted.{inner_of, failures_of, raised};
+ghost use Rattle.cps_tool.specs.Edits.{Inserted};
+ghost use Rattle.cps_tool.specs.Reply.{meaning_of, reply_text, refusal_text};
+ghost use Rattle.cps_tool.specs.Script.{Answers};
+
+use super::command::Command;
+use super::counted::Counted;
+use super::line::{Line, LineFault};
+use super::reply::{Refusal, Reply};
+use super::session::{EditFault, Session};
+use super::writing::{RunFault, write_text};
+use arrayvec::ArrayString;
+use itoa::Buffer;
+use std::alloc::Global;
+use std::io::Write;
+
+/// The reply to a line of a script, None to the one that ends it.
+pub fn obey(alloc: Global, line: &[u8], session: &mut Session) -> Option<Reply>
+    ensures { MatchOption result
+        ((is_quit line.now ≡ true) × (session.new ≡ session.old))
+        (λ reply. (is_quit line.now ≡ false) × Answers session.old line.now (meaning_of reply) session.new) }
+{
+    match Command::read(line) {
+        Err(_) => Some(Reply::Refused(Refusal::BadCommand)),
+        Ok(Command::Append(text)) => Some(insert_text(alloc, session.count(), text, session)),
+        Ok(Command::Insert(after, text)) => Some(insert_text(alloc, after, text, session)),
+        Ok(Command::Binary) => Some(match session.binary(alloc) {
+            Ok(text) => Reply::Shown(text),
+            Err(_) => Reply::Refused(Refusal::NoMemory),
+        }),
+        Ok(Command::Quit) => None,
+    }
+}
+
+/// Inserts a text behind line `after`, 0 for the front.
+fn insert_text(alloc: Global, after: u32, text: &[u8], session: &mut Session) -> Reply
+    ensures { Inserted session.old after text.now (meaning_of result) session.new }
+{
+    if after > session.count() {
+        return Reply::Refused(Refusal::NoSuchLine);
+    }
+    let line = match Line::new(alloc, text) {
+        Ok(line) => line,
+        Err(LineFault::LineTooLong) => return Reply::Refused(Refusal::LineTooLong),
+        Err(LineFault::BadCharacter) => return Reply::Refused(Refusal::BadCharacter),
+        Err(LineFault::Memory) if session.is_full() => return Reply::Refused(Refusal::TooManyLines),
+        Err(LineFault::Memory) => return Reply::Refused(Refusal::NoMemory),
+    };
+    match session.insert(after, line) {
+        Ok(()) => Reply::Accepted(session.count()),
+        Err(EditFault::NoSuchLine) => Reply::Refused(Refusal::NoSuchLine),
+        Err(EditFault::TooManyLines) => Reply::Refused(Refusal::TooManyLines),
+        Err(EditFault::Memory) => Reply::Refused(Refusal::NoMemory),
+    }
+}
+
+/// Writes a reply, or a front of it where a write fails.
+pub fn write_reply<W: Write>(writer: &mut Counted<W>, reply: &Reply) -> Result<(), RunFault>
+    ensures ok { OnOk result (Appends (W.contents (inner_of writer.old)) (W.contents (inner_of writer.new)) (reply_text (meaning_of reply.now))) }
+    ensures err { OnErr result ((front back : List ℕ) × (reply_text (meaning_of reply.now) ≡ front ++ back)
+        × Appends (W.contents (inner_of writer.old)) (W.contents (inner_of writer.new)) front) }
+    ensures fault { IsErrOf result RunFault.ReadFault → ⊥ }
+    ensures failed { OnErr result (failures_of writer.new ≡ raised (failures_of writer.old)) }
+    ensures failures { OnOk result (failures_of writer.new ≡ failures_of writer.old) }
+{
+    match reply {
+        Reply::Accepted(count) => write_text(writer, accepted_text(*count).as_bytes()),
+        Reply::Refused(refusal) => write_text(writer, text_of_refusal(*refusal)),
+        Reply::Shown(text) => write_text(writer, text),
+    }
+}
+
+fn accepted_text(count: u32) -> ArrayString<40>
+    ensures { result.bytes ≡ codes "ok " ++ decimal count ++ codes " lines\n" }
+{
+    let mut text = ArrayString::new();
+    text.push_str("ok ");
+    text.push_str(Buffer::new().format(count));
+    text.push_str(" lines\n");
+    text
+}
+
+fn text_of_refusal(refusal: Refusal) -> &'static [u8]
+    ensures { result.now ≡ refusal_text refusal }
+{
+    match refusal {
+        Refusal::NoSuchLine => b"refused 1 no such line\n",
+        Refusal::LineTooLong => b"refused 2 line too long\n",
+        Refusal::BadCharacter => b"refused 3 bad character\n",
+        Refusal::TooManyLines => b"refused 4 too many lines\n",
+        Refusal::BadCommand => b"refused 5 bad command\n",
+        Refusal::NoMemory => b"refused 6 no memory\n",
+    }
+}

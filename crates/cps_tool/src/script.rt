@@ -1,0 +1,186 @@
+//! Running a script.
+ghost use Rattle.std.specs.Prelude.{◌≡◌, ℕ, List, [], ◌++◌, ◌∷◌, false, true, OnOk, OnErr, IfSome, IsErrOf, MatchResult, MatchOption, ◌≤◌, ◌+◌, ◌-◌, ◌^◌, ◌⊎◌};
+ghost use Rattle.std.specs.Io.KnownBytes.{Appends, Consumes};
+ghost use Rattle.cps_tool.specs.Command.{is_quit};
+ghost use Rattle.cps_tool.specs.Counted.{inner_of, calls_of, failures_of, raised};
+ghost use Rattle.cps_tool.specs.Lines.{without_return};
+ghost use Rattle.cps_tool.specs.Progress.{MatchFlow, Takes, Finishes};
+ghost use Rattle.cps_tool.specs.Reply.{Response, meaning_of, reply_text};
+ghost use Rattle.cps_tool.specs.Script.{Script, FrontOfScript, LinesOfScript, Answers};
+ghost use Rattle.cps_tool.specs.ScriptLine.{IsBegun};
+
+use super::counted::Counted;
+use super::reply::{Refusal, Reply};
+use super::replying::{obey, write_reply};
+use super::script_line::ScriptLine;
+use super::session::Session;
+use super::writing::RunFault;
+use std::alloc::Global;
+use std::io::{Read, Write};
+
+/// Whether a script goes on.
+#[derive(Clone, Copy, Debug, PartialEq, Eq)]
+pub enum Flow {
+    GoesOn,
+    Ends,
+}
+
+/// How often a run of a script reads at most.
+pub const MOST_READS: u64 = 16_777_216;
+
+const CHUNK: usize = 512;
+
+/// Reads a script to its `quit` or its end, obeys its commands, and writes the replies.
+///
+/// After a fault the session holds the edits that were made, also the one whose reply failed.
+pub fn run_script<R: Read, W: Write>(
+    alloc: Global,
+    reader: &mut Counted<R>,
+    writer: &mut Counted<W>,
+    session: &mut Session,
+) -> Result<(), RunFault>
+    // What is written is a text that the script may write, and the session is the source after it.
+    ensures ok { OnOk result (IfSome (R.remaining (inner_of reader.old)) (λ input. (text : List ℕ)
+        × Script session.old input text session.new
+        × Appends (W.contents (inner_of writer.old)) (W.contents (inner_of writer.new)) text)) }
+    // After a failed read it is a text of the lines that a newline ended before it.
+    ensures read_fault { IsErrOf result RunFault.ReadFault → (taken text : List ℕ)
+        × Consumes (R.remaining (inner_of reader.old)) (R.remaining (inner_of reader.new)) taken
+        × LinesOfScript session.old taken text session.new
+        × Appends (W.contents (inner_of writer.old)) (W.contents (inner_of writer.new)) text }
+    // After a failed write the replies to some first lines are written, the last one in part, and the session is the source after them.
+    ensures write_fault { IsErrOf result RunFault.WriteFault → (taken text unsaid : List ℕ)
+        × Consumes (R.remaining (inner_of reader.old)) (R.remaining (inner_of reader.new)) taken
+        × FrontOfScript session.old taken text unsaid session.new
+        × Appends (W.contents (inner_of writer.old)) (W.contents (inner_of writer.new)) text }
+    // Each fault has its cause.
+    ensures read_cause { IsErrOf result RunFault.ReadFault → (failures_of reader.new ≡ raised (failures_of reader.old))
+        ⊎ ((calls_of reader.old + MOST_READS ≤ calls_of reader.new) ⊎ (calls_of reader.new ≡ 2 ^ 64 - 1)) }
+    ensures write_cause { IsErrOf result RunFault.WriteFault → failures_of writer.new ≡ raised (failures_of writer.old) }
+    ensures reads { calls_of reader.new ≤ calls_of reader.old + MOST_READS }
+{
+    let mut line = ScriptLine::new();
+    let mut chunk = [0; CHUNK];
+    for _ in 0..MOST_READS {
+        let Some(count) = reader.read(&mut chunk) else {
+            return Err(RunFault::ReadFault);
+        };
+        if count == 0 {
+            return finish(alloc, &line, writer, session);
+        }
+        match take_bytes(alloc, &chunk[..count], &mut line, writer, session) {
+            Ok(Flow::GoesOn) => {}
+            Ok(Flow::Ends) => return Ok(()),
+            Err(fault) => return Err(fault),
+        }
+    }
+    Err(RunFault::ReadFault)
+}
+
+/// Answers the last line, where it has no newline.
+fn finish<W: Write>(
+    alloc: Global,
+    line: &ScriptLine,
+    writer: &mut Counted<W>,
+    session: &mut Session,
+) -> Result<(), RunFault>
+    ensures finishes { Finishes result line.now session.old session.new
+        (W.contents (inner_of writer.old)) (W.contents (inner_of writer.new)) }
+    ensures fault { IsErrOf result RunFault.ReadFault → ⊥ }
+    ensures failed { OnErr result (failures_of writer.new ≡ raised (failures_of writer.old)) }
+    ensures failures { OnOk result (failures_of writer.new ≡ failures_of writer.old) }
+{
+    if line.is_empty() {
+        return Ok(());
+    }
+    match answer_line(alloc, line, writer, session) {
+        Ok(_) => Ok(()),
+        Err(fault) => Err(fault),
+    }
+}
+
+/// Obeys a command line that has come, and writes the reply.
+pub fn answer_line<W: Write>(
+    alloc: Global,
+    line: &ScriptLine,
+    writer: &mut Counted<W>,
+    session: &mut Session,
+) -> Result<Flow, RunFault>
+    ensures answer { (begun : List ℕ) → IsBegun line.now begun → MatchResult result
+        (λ flow. MatchFlow flow
+        ((is_quit (without_return begun) ≡ false) × (response : Response) × Answers session.old (without_return begun) response session.new
+        × Appends (W.contents (inner_of writer.old)) (W.contents (inner_of writer.new)) (reply_text response))
+        ((is_quit (without_return begun) ≡ true) × (session.new ≡ session.old)
+        × Appends (W.contents (inner_of writer.old)) (W.contents (inner_of writer.new)) []))
+        (λ _. (is_quit (without_return begun) ≡ false) × (response : Response) × Answers session.old (without_return begun) response session.new
+        × (front back : List ℕ) × (reply_text response ≡ front ++ back)
+        × Appends (W.contents (inner_of writer.old)) (W.contents (inner_of writer.new)) front) }
+    ensures fault { IsErrOf result RunFault.ReadFault → ⊥ }
+    ensures failed { OnErr result (failures_of writer.new ≡ raised (failures_of writer.old)) }
+    ensures failures { OnOk result (failures_of writer.new ≡ failures_of writer.old) }
+{
+    let Some(reply) = reply_to(alloc, line, session) else {
+        return Ok(Flow::Ends);
+    };
+    write_reply(writer, &reply)?;
+    Ok(Flow::GoesOn)
+}
+
+/// Takes bytes of a script, and answers each line that ends in them.
+fn take_bytes<W: Write>(
+    alloc: Global,
+    bytes: &[u8],
+    line: &mut ScriptLine,
+    writer: &mut Counted<W>,
+    session: &mut Session,
+) -> Result<Flow, RunFault>
+    ensures takes { Takes result line.old line.new session.old session.new
+        (W.contents (inner_of writer.old)) (W.contents (inner_of writer.new)) bytes.now }
+    ensures fault { IsErrOf result RunFault.ReadFault → ⊥ }
+    ensures failed { OnErr result (failures_of writer.new ≡ raised (failures_of writer.old)) }
+    ensures failures { OnOk result (failures_of writer.new ≡ failures_of writer.old) }
+{
+    for byte in bytes {
+        match take_byte(alloc, *byte, line, writer, session) {
+            Ok(Flow::GoesOn) => {}
+            Ok(Flow::Ends) => return Ok(Flow::Ends),
+            Err(fault) => return Err(fault),
+        }
+    }
+    Ok(Flow::GoesOn)
+}
+
+/// Takes a byte of a script, and answers the line that ends in it.
+fn take_byte<W: Write>(
+    alloc: Global,
+    byte: u8,
+    line: &mut ScriptLine,
+    writer: &mut Counted<W>,
+    session: &mut Session,
+) -> Result<Flow, RunFault>
+    ensures takes { Takes result line.old line.new session.old session.new
+        (W.contents (inner_of writer.old)) (W.contents (inner_of writer.new)) (byte ∷ []) }
+    ensures fault { IsErrOf result RunFault.ReadFault → ⊥ }
+    ensures failed { OnErr result (failures_of writer.new ≡ raised (failures_of writer.old)) }
+    ensures failures { OnOk result (failures_of writer.new ≡ failures_of writer.old) }
+{
+    if byte != b'\n' {
+        line.push(byte);
+        return Ok(Flow::GoesOn);
+    }
+    let flow = answer_line(alloc, line, writer, session)?;
+    *line = ScriptLine::new();
+    Ok(flow)
+}
+
+/// The reply to a command line that has come, None to the one that ends the script.
+fn reply_to(alloc: Global, line: &ScriptLine, session: &mut Session) -> Option<Reply>
+    ensures { (begun : List ℕ) → IsBegun line.now begun → MatchOption result
+        ((is_quit (without_return begun) ≡ true) × (session.new ≡ session.old))
+        (λ reply. (is_quit (without_return begun) ≡ false) × Answers session.old (without_return begun) (meaning_of reply) session.new) }
+{
+    match line.text() {
+        None => Some(Reply::Refused(Refusal::BadCommand)),
+        Some(text) => obey(alloc, text, session),
+    }
+}
