@@ -1,0 +1,173 @@
+//! The codes of statements, and the words that they make.
+use cps_code::{
+    CpForm, Filled, Force, FormFault, Piece, Place, Placed, Radix, Words, cp_form, place_next,
+};
+use std::process::Abort;
+use std::test::Fail;
+
+/// The code of a form with the values of its expressions.
+fn filled(form: &CpForm) -> Result<Filled, Fail> {
+    match form.holes() {
+        [] => Ok(form.fill(&[])),
+        [hole] => {
+            let number = hole.expression.value().ok_or("a value out of range")?;
+            Ok(form.fill(&[number]))
+        }
+        _ => Err(Fail::from("more than one hole")),
+    }
+}
+
+#[test]
+fn codes_statements(rt: HostRuntime) -> Result<(), Fail> {
+    let rows: [(&[u8], &[u8], u64, bool); 11] = [
+        (b"SA1", b"B1+3", 0o5111000003, false),
+        (b"SX6", b"X1", 0o73610, false),
+        (b"SA6", b"A1", 0o54610, false),
+        (b"EQ", b"100B", 0o0400000100, false),
+        (b"SA1", b"B0+1", 0o5110000001, false),
+        (b"SX6", b"-B1", 0o77601, false),
+        (b"SX1", b"-377777B", 0o7110400000, false),
+        (b"SX1", b"-400000B", 0o7110377777, true),
+        (b"SA1", b"1000000B", 0o5110000000, true),
+        (b"SA1", b"A1-1", 0o5011777776, false),
+        (b"NO", b"", 0o46000, false),
+    ];
+    for (at, (operation, tail, digits, is_truncated)) in rows.iter().enumerate() {
+        let form = cp_form(rt.alloc(), operation, tail, Radix::Decimal)?;
+        let want = Filled {
+            digits: *digits,
+            is_truncated: *is_truncated,
+            is_out_of_range: false,
+        };
+        assert_eq!(rt; filled(&form)?, want, "row {at}");
+    }
+    Ok(())
+}
+
+#[test]
+fn refuses_statements(rt: HostRuntime) -> Result<(), Fail> {
+    let rows: [(&[u8], &[u8], Radix, FormFault); 3] = [
+        (b"XX", b"1", Radix::Decimal, FormFault::NoOperation),
+        (b"SA1", b"-X1", Radix::Decimal, FormFault::Unreadable),
+        (b"SA1", b"18", Radix::Octal, FormFault::Unreadable),
+    ];
+    for (at, (operation, tail, radix, fault)) in rows.iter().enumerate() {
+        let form = cp_form(rt.alloc(), operation, tail, *radix);
+        assert_eq!(rt; form.err(), Some(*fault), "row {at}");
+    }
+    Ok(())
+}
+
+#[test]
+fn reads_octal_numbers(rt: HostRuntime) -> Result<(), Fail> {
+    let form = cp_form(rt.alloc(), b"SA1", b"17", Radix::Octal)?;
+    assert_eq!(rt; filled(&form)?.digits, 0o5110000017);
+    Ok(())
+}
+
+#[test]
+fn forces_behind_a_jump(rt: HostRuntime) -> Result<(), Fail> {
+    let jump = cp_form(rt.alloc(), b"EQ", b"0", Radix::Decimal)?;
+    let pass = cp_form(rt.alloc(), b"NO", b"", Radix::Decimal)?;
+    assert!(rt; jump.forces_after());
+    assert!(rt; !pass.forces_after());
+    Ok(())
+}
+
+/// Puts bits of a number over a word's.
+fn deposit(
+    rt: &impl Abort,
+    words: &mut Words,
+    address: u32,
+    first: u8,
+    width: u8,
+    number: u64,
+) -> Result<(), Fail> {
+    assert!(rt; address < 1000 && first < 60 && 0 < width && width <= 60 - first);
+    assert!(rt; number < 1 << width);
+    let piece = Piece {
+        address,
+        first,
+        width,
+        number,
+        times: 1,
+    };
+    assert_eq!(rt; words.deposit(piece), Ok(()));
+    Ok(())
+}
+
+/// Where the next bits begin. What fills the bits before them is put into the words.
+fn advance(
+    rt: &impl Abort,
+    words: &mut Words,
+    place: Place,
+    bits: u8,
+    force: Force,
+) -> Result<Placed, Fail> {
+    assert!(rt; place.word < 100 && (bits == 0 || bits == 15 || bits == 30));
+    let placed = place_next(place, bits, force);
+    if let Some(filling) = placed.filling {
+        deposit(
+            rt,
+            words,
+            place.word,
+            filling.first,
+            filling.width,
+            filling.number,
+        )?;
+    }
+    Ok(placed)
+}
+
+fn beginning() -> Place {
+    Place {
+        word: 0,
+        used: 0,
+        is_pending: false,
+    }
+}
+
+/// Puts a statement's code into the words. Gives where it begins, and the place behind it.
+fn put(
+    rt: &impl Abort,
+    words: &mut Words,
+    place: Place,
+    form: &CpForm,
+) -> Result<(Place, Place), Fail> {
+    let code = filled(form)?;
+    let placed = advance(rt, words, place, form.bits(), Force::Free)?;
+    let start = placed.start;
+    deposit(rt, words, start.word, start.used, form.bits(), code.digits)?;
+    let after = Place {
+        word: placed.after.word,
+        used: placed.after.used,
+        is_pending: form.forces_after(),
+    };
+    Ok((start, after))
+}
+
+#[test]
+fn packs_words(rt: HostRuntime) -> Result<(), Fail> {
+    let last = cp_form(rt.alloc(), b"SA1", b"B0+1", Radix::Decimal)?;
+    // A statement, how often it stands in front, and the first word.
+    let rows: [(&[u8], &[u8], u8, u64); 2] = [
+        (b"NO", b"", 3, 0o46000_46000_46000_46000),
+        (b"EQ", b"0", 1, 0o04000_00000_46000_46000),
+    ];
+    for (operation, tail, times, first_word) in rows {
+        let form = cp_form(rt.alloc(), operation, tail, Radix::Decimal)?;
+        let mut words = Words::new(rt.alloc());
+        let mut place = beginning();
+        for _ in 0..times {
+            let (_, after) = put(&rt, &mut words, place, &form)?;
+            place = after;
+        }
+        let (start, after) = put(&rt, &mut words, place, &last)?;
+        advance(&rt, &mut words, after, 0, Force::NewWord)?;
+        assert_eq!(rt; (start.word, start.used), (1, 0));
+        assert_eq!(rt; words.get(0), Some(first_word));
+        assert_eq!(rt; words.get(1), Some(0o51100_00001_46000_46000));
+        assert_eq!(rt; words.get(2), None);
+    }
+    Ok(())
+}

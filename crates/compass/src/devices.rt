@@ -1,0 +1,179 @@
+//! Readers and writers that are slow or fail, and what a script's run does with them.
+use cps_tool::{Counted, RunFault, Session, run_script};
+use std::cell::Cell;
+use std::io;
+use std::io::{ErrorKind, Read, Write};
+use std::test::Fail;
+
+/// A reader that gives one byte a call, and behind the last one fails or ends.
+#[derive(Drop)]
+pub struct SlowReader<'a> {
+    pub rest: &'a [u8],
+    pub fails: bool,
+}
+
+impl Read for SlowReader<'_> {
+    fn read(&mut self, buf: &mut [u8]) -> io::Result<usize> {
+        match self.rest {
+            [first, rest @ ..] if !buf.is_empty() => {
+                buf[0] = *first;
+                self.rest = rest;
+                Ok(1)
+            }
+            [] if self.fails => Err(io::Error::from(ErrorKind::BrokenPipe)),
+            _ => Ok(0),
+        }
+    }
+}
+
+/// A writer that takes one byte a call, and fails where its room is used up.
+#[derive(Drop)]
+pub struct SlowWriter {
+    pub taken: Vec<u8>,
+    pub room: usize,
+}
+
+impl Write for SlowWriter {
+    fn write(&mut self, buf: &[u8]) -> io::Result<usize> {
+        if self.room == 0 {
+            return Err(io::Error::from(ErrorKind::BrokenPipe));
+        }
+        if buf.is_empty() {
+            return Ok(0);
+        }
+        self.room -= 1;
+        self.taken.push(buf[0])?;
+        Ok(1)
+    }
+
+    fn flush(&mut self) -> io::Result<()> {
+        Ok(())
+    }
+}
+
+#[test]
+fn stops_at_a_failed_write(rt: HostRuntime) -> Result<(), Fail> {
+    let whole = b"ok 1 lines\nIDENT\n".as_slice();
+    for room in 0..15 {
+        let mut reader = Counted::new(b"a X\nbinary\na\n".as_slice());
+        let mut writer = Counted::new(SlowWriter {
+            taken: Vec::new(rt.alloc()),
+            room,
+        });
+        let mut session = Session::new(rt.alloc());
+        let end = run_script(rt.alloc(), &mut reader, &mut writer, &mut session);
+        assert_eq!(rt; end, Err(RunFault::WriteFault));
+        assert_eq!(rt; session.count(), 1);
+        assert_eq!(rt;
+            session.line(1).map(|line| line.bytes()),
+            Some(b"X".as_slice())
+        );
+        assert_eq!(rt; writer.failures(), 1);
+        assert_eq!(rt; writer.into_inner().taken.as_slice(), &whole[..room]);
+    }
+    Ok(())
+}
+
+#[test]
+fn stops_at_a_failed_read(rt: HostRuntime) -> Result<(), Fail> {
+    let rows: [(&[u8], u32, Option<&[u8]>, &[u8]); 2] = [
+        (b"a X", 0, None, b""),
+        (b"a X\n", 1, Some(b"X"), b"ok 1 lines\n"),
+    ];
+    for (rest, count, first, replies) in rows {
+        let mut reader = Counted::new(SlowReader { rest, fails: true });
+        let mut writer = Counted::new(Vec::new(rt.alloc()));
+        let mut session = Session::new(rt.alloc());
+        let end = run_script(rt.alloc(), &mut reader, &mut writer, &mut session);
+        assert_eq!(rt; end, Err(RunFault::ReadFault));
+        assert_eq!(rt; session.count(), count);
+        assert_eq!(rt; session.line(1).map(|line| line.bytes()), first);
+        assert_eq!(rt; reader.failures(), 1);
+        assert_eq!(rt; writer.into_inner().as_slice(), replies);
+    }
+    Ok(())
+}
+
+/// A writer that takes nothing.
+#[derive(Drop)]
+struct Idle;
+
+impl Write for Idle {
+    fn write(&mut self, _buf: &[u8]) -> io::Result<usize> {
+        Ok(0)
+    }
+
+    fn flush(&mut self) -> io::Result<()> {
+        Ok(())
+    }
+}
+
+#[test]
+fn counts_a_write_that_takes_nothing(rt: HostRuntime) -> Result<(), Fail> {
+    let mut writer = Counted::new(Idle);
+    assert_eq!(rt; writer.write(&[]), Some(0));
+    assert_eq!(rt; writer.failures(), 0);
+    assert_eq!(rt; writer.write(b"X"), None);
+    assert_eq!(rt; writer.failures(), 1);
+    assert_eq!(rt; writer.calls(), 2);
+    Ok(())
+}
+
+/// A reader that gives one line a call, and notes how many bytes were written before each call.
+#[derive(Drop)]
+struct Noting<'a> {
+    lines: &'a [&'a [u8]],
+    written: &'a Cell<usize>,
+    seen: Vec<usize>,
+}
+
+impl Read for Noting<'_> {
+    fn read(&mut self, buf: &mut [u8]) -> io::Result<usize> {
+        self.seen.push(self.written.get())?;
+        let [line, rest @ ..] = self.lines else {
+            return Ok(0);
+        };
+        if line.len() > buf.len() {
+            return Err(io::Error::from(ErrorKind::InvalidInput));
+        }
+        self.lines = rest;
+        buf[..line.len()].copy_from_slice(line);
+        Ok(line.len())
+    }
+}
+
+/// A writer that tells how many bytes it took.
+#[derive(Drop)]
+struct Telling<'a> {
+    written: &'a Cell<usize>,
+}
+
+impl Write for Telling<'_> {
+    fn write(&mut self, buf: &[u8]) -> io::Result<usize> {
+        self.written
+            .set(self.written.get().saturating_add(buf.len()));
+        Ok(buf.len())
+    }
+
+    fn flush(&mut self) -> io::Result<()> {
+        Ok(())
+    }
+}
+
+#[test]
+fn replies_before_it_reads_on(rt: HostRuntime) -> Result<(), Fail> {
+    let written = Cell::new(0);
+    let mut reader = Counted::new(Noting {
+        lines: &[b"a\n", b"list \n", b"a\n"],
+        written: &written,
+        seen: Vec::new(rt.alloc()),
+    });
+    let mut writer = Counted::new(Telling { written: &written });
+    let mut session = Session::new(rt.alloc());
+    run_script(rt.alloc(), &mut reader, &mut writer, &mut session)?;
+    assert_eq!(rt;
+        reader.into_inner().seen.as_slice(),
+        [0, 11, 33, 44].as_slice()
+    );
+    Ok(())
+}

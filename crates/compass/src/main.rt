@@ -1,0 +1,29 @@
+//! Reads a script of edits and queries on a source for COMPASS, and writes the replies.
+//!
+//! The script comes on standard input, and the replies go to standard output.
+//! The status is 0, or 2 where a read or a write failed, which is then said on standard error.
+#![tactic(auto)]
+
+#[cfg(test)]
+mod code_rows;
+#[cfg(test)]
+mod devices;
+#[cfg(test)]
+mod script_rows;
+
+use cps_tool::{Counted, Session, run_script};
+use std::io;
+use std::process::ExitCode;
+
+fn main(rt: HostRuntime) -> ExitCode {
+    let mut reader = Counted::new(rt.reader());
+    let mut writer = Counted::new(io::writer(&rt));
+    let mut session = Session::new(rt.alloc());
+    match run_script(rt.alloc(), &mut reader, &mut writer, &mut session) {
+        Ok(()) => ExitCode::SUCCESS,
+        Err(fault) => {
+            let _ = rt.eprintln(fault);
+            ExitCode::from(2)
+        }
+    }
+}
