@@ -1,6 +1,7 @@
 //! The codes of statements, and the words that they make.
 use cps_code::{
-    CpForm, Filled, Force, FormFault, Piece, Place, Placed, Radix, Words, cp_form, place_next,
+    CpForm, Filled, Force, FormFault, Name, NoNames, Piece, Place, Placed, Radix, Words, cp_form,
+    place_next,
 };
 use std::process::Abort;
 use std::test::Fail;
@@ -10,7 +11,11 @@ fn filled(form: &CpForm) -> Result<Filled, Fail> {
     match form.holes() {
         [] => Ok(form.fill(&[])),
         [hole] => {
-            let number = hole.expression.value().ok_or("a value out of range")?;
+            let number = hole
+                .expression
+                .value(&NoNames)
+                .value
+                .ok_or("a value out of range")?;
             Ok(form.fill(&[number]))
         }
         _ => Err(Fail::from("more than one hole")),
@@ -71,6 +76,50 @@ fn forces_behind_a_jump(rt: HostRuntime) -> Result<(), Fail> {
     let pass = cp_form(rt.alloc(), b"NO", b"", Radix::Decimal)?;
     assert!(rt; jump.forces_after());
     assert!(rt; !pass.forces_after());
+    Ok(())
+}
+
+#[test]
+fn reads_names(rt: HostRuntime) -> Result<(), Fail> {
+    let rows: [(&[u8], Option<&[u8]>); 11] = [
+        (b"START", Some(b"START")),
+        (b"loop", Some(b"LOOP")),
+        (b"ABCDEFGH", Some(b"ABCDEFGH")),
+        (b"ABCDEFGHI", None),
+        (b"", None),
+        (b"X1", None),
+        (b"x1", None),
+        (b"X8", Some(b"X8")),
+        (b".A=9", Some(b".A=9")),
+        (b"=A", None),
+        (b"9A", None),
+    ];
+    for (at, (text, want)) in rows.iter().enumerate() {
+        let name = Name::read(text);
+        assert_eq!(rt; name.as_ref().map(|name| name.text()), *want, "row {at}");
+    }
+    Ok(())
+}
+
+#[test]
+fn values_names(rt: HostRuntime) -> Result<(), Fail> {
+    let form = cp_form(
+        rt.alloc(),
+        b"SA1",
+        b"B1+first-7-first+second",
+        Radix::Decimal,
+    )?;
+    let [hole] = form.holes() else {
+        return Err(Fail::from("not one hole"));
+    };
+    let mut names = Vec::new(rt.alloc());
+    for name in hole.expression.names() {
+        names.push(name.text())?;
+    }
+    let want: [&[u8]; 3] = [b"FIRST", b"FIRST", b"SECOND"];
+    assert_eq!(rt; names.as_slice(), want.as_slice());
+    let valued = hole.expression.value(&NoNames);
+    assert_eq!(rt; (valued.value, valued.is_undefined), (Some(-7), true));
     Ok(())
 }
 

@@ -1,6 +1,6 @@
 //! Scripts and the replies to them.
 use super::devices::{SlowReader, SlowWriter};
-use cps_tool::{Counted, Line, Session, run_script};
+use cps_tool::{Counted, EditFault, Line, Session, run_script};
 use std::alloc::Global;
 use std::process::Abort;
 use std::test::Fail;
@@ -46,7 +46,7 @@ fn assert_replies(
 
 #[test]
 fn answers_commands(rt: HostRuntime) -> Result<(), Fail> {
-    let rows: [(&str, &str); 11] = [
+    let rows: [(&str, &str); 18] = [
         ("", ""),
         ("a", "ok 1 lines\n"),
         ("a\r\nquit\r\na\r\n", "ok 1 lines\n"),
@@ -57,6 +57,13 @@ fn answers_commands(rt: HostRuntime) -> Result<(), Fail> {
         ("i  5\n", "refused 5 bad command\n"),
         ("list \n", "refused 5 bad command\n"),
         ("i 5\n", "refused 1 no such line\n"),
+        ("r 1\n", "refused 1 no such line\n"),
+        ("d\n", "refused 5 bad command\n"),
+        ("d  1\n", "refused 5 bad command\n"),
+        ("d 1 \n", "refused 5 bad command\n"),
+        ("d 1 1 1\n", "refused 5 bad command\n"),
+        ("d 100000\n", "refused 5 bad command\n"),
+        ("d 0\n", "refused 1 no such line\n"),
         ("a\nquit\na\nx 1\nbinary\n", "ok 1 lines\n"),
     ];
     for (at, (script, want)) in rows.iter().enumerate() {
@@ -67,11 +74,12 @@ fn answers_commands(rt: HostRuntime) -> Result<(), Fail> {
 
 #[test]
 fn measures_lines(rt: HostRuntime) -> Result<(), Fail> {
-    let rows: [(&str, u32, &str); 6] = [
+    let rows: [(&str, u32, &str); 7] = [
         ("a ", 90, "ok 1 lines\n"),
         ("a ", 91, "refused 2 line too long\n"),
         ("a \t", 90, "refused 2 line too long\n"),
         ("i 5 ", 91, "refused 1 no such line\n"),
+        ("r 1 ", 91, "refused 1 no such line\n"),
         ("a ", 198, "refused 2 line too long\n"),
         ("a ", 199, "refused 5 bad command\n"),
     ];
@@ -103,6 +111,16 @@ fn holds_lines(rt: HostRuntime) -> Result<(), Fail> {
         full.as_slice(),
         b"IDENT\n000000 46000000000000000000\n".as_slice()
     );
+    let other = Line::new(rt.alloc(), b"* none")?;
+    assert_eq!(rt; session.replace(1, other), Ok(()));
+    assert_eq!(rt;
+        session.line(1).map(|line| line.bytes()),
+        Some(b"* none".as_slice())
+    );
+    assert_eq!(rt; session.delete(1, 2), Err(EditFault::NoSuchLine));
+    assert_eq!(rt; session.count(), 1);
+    assert_eq!(rt; session.delete(1, 1), Ok(()));
+    assert_eq!(rt; session.count(), 0);
     Ok(())
 }
 
@@ -185,11 +203,51 @@ fn makes_nothing(rt: HostRuntime) -> Result<(), Fail> {
             "         XX      1",
             "         SA1     -X1",
             "         EQ      -5",
+            "         SA1     B1+START",
         ],
         &["         ORG     131072", "         NO", "         END"],
     ];
     for (at, source) in rows.iter().enumerate() {
         assert_binary(&rt, rt.alloc(), at, source, "IDENT\n")?;
+    }
+    Ok(())
+}
+
+#[test]
+fn edits_lines(rt: HostRuntime) -> Result<(), Fail> {
+    let rows: [(&str, &str); 6] = [
+        (
+            "binary\nd 1\nbinary\n",
+            "IDENT\nrefused 1 no such line\nIDENT\n",
+        ),
+        (
+            "a   NO\nr 1 \t\nr 2 \t\nr 0 X\nbinary\n",
+            "ok 1 lines\nrefused 3 bad character\nrefused 1 no such line\nrefused 1 no such line\n\
+             IDENT\n000000 46000000000000000000\n",
+        ),
+        (
+            "a   NO\nd 1 2\nd 1 0\nbinary\n",
+            "ok 1 lines\nrefused 1 no such line\nrefused 1 no such line\n\
+             IDENT\n000000 46000000000000000000\n",
+        ),
+        (
+            "a   NO\nr 1\nbinary\nr 1          SX1     X2\nbinary\n",
+            "ok 1 lines\nok 1 lines\nIDENT\nok 1 lines\nIDENT\n000000 73120000000000000000\n",
+        ),
+        (
+            "a          EQ      0\na          SX1     X2\na          END\nr 1          SA1     B1+3\nbinary\n\
+             d 1\nbinary\n",
+            "ok 1 lines\nok 2 lines\nok 3 lines\nok 3 lines\nIDENT\n000000 51110000037312046000\n\
+             ok 2 lines\nIDENT\n000000 73120460004600046000\n",
+        ),
+        (
+            "a * 1\na * 2\na   NO\na * 4\nd 1 2\nbinary\nd 00001 2\nbinary\n",
+            "ok 1 lines\nok 2 lines\nok 3 lines\nok 4 lines\nok 2 lines\n\
+             IDENT\n000000 46000000000000000000\nok 0 lines\nIDENT\n",
+        ),
+    ];
+    for (at, (script, want)) in rows.iter().enumerate() {
+        assert_replies(&rt, rt.alloc(), at, script, want)?;
     }
     Ok(())
 }

@@ -1,9 +1,10 @@
 -- Two registers of a set instruction, in the one order or the other.
-use Rattle.std.proofs.Common.{◌≡◌, ℕ, ◌<◌, Bool, true, false, cond, leb, List, [], ◌∷◌, reverse, length, ℤ, Option, None, Some, refl, sym, ap, subst, ◌∙◌, arith, ◌&&◌}
+use Rattle.std.proofs.Common.{◌≡◌, ℕ, ◌<◌, Bool, true, false, cond, leb, List, [], ◌∷◌, reverse, length, Option, None, Some, refl, sym, ap, subst, ◌∙◌, arith, ◌&&◌}
 use Rattle.std.proofs.lemmas.List.{length-reverse}
 use Rattle.std.proofs.lemmas.Bool.Decides.{nat_tests}
 use Rattle.std.specs.Prelude.{All, IfSome, IsSomeAnd, IfOk, Result, Ok, Err, option_map}
 use Rattle.std.specs.List.{list_all}
+use Rattle.cps_code.specs.declared.expr.Term.{Term}
 use Rattle.cps_code.specs.declared.radix.Radix.{Radix}
 use Rattle.cps_code.specs.declared.sum.Registers.{Registers}
 use Rattle.cps_code.specs.declared.sum.Registers.TheVariants.{Absent, One, Two}
@@ -26,12 +27,12 @@ set_form-none f i n first second is = ap (λ o. or_else o (set_form_as_it_stands
 
 -- ---- what was kept of a sum
 
-no_list : (constant : List ℤ) → is_some_list constant ≡ false → constant ≡ []
+no_list : (constant : List Term) → is_some_list constant ≡ false → constant ≡ []
 no_list [] none = refl
 no_list (c ∷ constant) none = cc
 
-long-list : (first set : ℕ) (n : Option ℕ) (registers : List RegisterTerm) (constant : List ℤ) (code : Option ℕ) → is_some_list constant ≡ true
-    → ((c : ℤ) (more : List ℤ) → set_form first set n registers (c ∷ more) ≡ option_map (λ digits. long_form digits (c ∷ more) false) code)
+long-list : (first set : ℕ) (n : Option ℕ) (registers : List RegisterTerm) (constant : List Term) (code : Option ℕ) → is_some_list constant ≡ true
+    → ((c : Term) (more : List Term) → set_form first set n registers (c ∷ more) ≡ option_map (λ digits. long_form digits (c ∷ more) false) code)
     → set_form first set n registers constant ≡ option_map (λ digits. long_form digits constant false) code
 long-list first set n registers [] code some found = cc
 long-list first set n registers (c ∷ more) code some found = found c more
@@ -44,7 +45,7 @@ short-kept first set n kept sum form is none found =
     ∙ ap (λ constant. set_form first set n (register_list kept.registers) constant) empty ∙ found
 
 pub long-kept : (first set : ℕ) (n : Option ℕ) (kept : SumOfCode) (sum : Sum) (code : Option ℕ) → IsKept kept sum → kept.has_constant ≡ true
-    → ((c : ℤ) (constant : List ℤ) → set_form first set n (register_list kept.registers) (c ∷ constant) ≡ option_map (λ digits. long_form digits (c ∷ constant) false) code)
+    → ((c : Term) (constant : List Term) → set_form first set n (register_list kept.registers) (c ∷ constant) ≡ option_map (λ digits. long_form digits (c ∷ constant) false) code)
     → set_form first set n sum.registers sum.constant ≡ option_map (λ digits. long_form digits sum.constant false) code
 long-kept first set n kept sum code is some found =
     ap (λ registers. set_form first set n registers sum.constant) (sym is.registers)
@@ -61,10 +62,10 @@ registers_kept (Two first second) list is all =
     let each = subst P (sym is) all in
     (each 0 first (omega arith), each 1 second (omega arith))
 
-pub long_form-kept : {T : Type 0} (items : T → List ℤ) (constant : Option T) (list : List ℤ) (digits : ℕ) (form : Form)
-    → IsSomeAnd constant (λ c. form ≡ long_form digits (items c) false) → IfSome constant (λ c. items c ≡ list) → form ≡ long_form digits list false
-long_form-kept items None list digits form is same = absurd is
-long_form-kept items (Some c) list digits form is same = is ∙ ap (λ l. long_form digits l false) same
+pub long_form-kept : (constant : Option (List Term)) (list : List Term) (digits : ℕ) (form : Form)
+    → IsSomeAnd constant (λ c. form ≡ long_form digits c false) → IfSome constant (λ c. c ≡ list) → form ≡ long_form digits list false
+long_form-kept None list digits form is same = absurd is
+long_form-kept (Some c) list digits form is same = is ∙ ap (λ l. long_form digits l false) same
 
 pub if_ok : {E : Type 0} (result : Result Form E) (P Q : Form → Type 0) → ((form : Form) → P form → Q form) → IfOk result P → IfOk result Q
 if_ok (Ok form) P Q weaker is = weaker form is

@@ -4,7 +4,7 @@ use Rattle.std.specs.Prelude.{option_map, option_and_then}
 use Rattle.std.proofs.lemmas.Bool.Decides.{nat_tests}
 use Rattle.cps_code.specs.declared.radix.Radix.{Radix}
 use Rattle.cps_code.specs.declared.register.RegisterTerm.{RegisterTerm}
-use Rattle.cps_code.specs.Sum.{Term, register, number, Sum, no_terms, with_term, is_sign, is_minus, onto_first, cut_at_signs, with_first_sign, term_with, sum_of_texts, sum_of}
+use Rattle.cps_code.specs.Sum.{SumTerm, register, other, Sum, no_terms, with_term, is_sign, is_minus, onto_first, cut_at_signs, with_first_sign, term_with, sum_of_texts, sum_of}
 use Rattle.cps_code.specs.Terms.{sign_of, pushed}
 
 -- a sum and what more of it comes
@@ -65,7 +65,7 @@ rest-none radix minus n rest at none =
     rest-cut radix minus n rest at
     ∙ ap (λ t. option_and_then (λ term. option_map (with_term term) (sum_of_texts radix (later_texts (drop n rest)))) t) (sym none)
 
-pub rest-end : (radix : Radix) (minus : Bool) (n : ℕ) (rest : List ℕ) (term : Term) → IsSignAt rest n → Some term ≡ term_with radix minus (take n rest) → drop n rest ≡ []
+pub rest-end : (radix : Radix) (minus : Bool) (n : ℕ) (rest : List ℕ) (term : SumTerm) → IsSignAt rest n → Some term ≡ term_with radix minus (take n rest) → drop n rest ≡ []
     → rest_sum radix minus rest ≡ Some (with_term term no_terms)
 rest-end radix minus n rest term at is end =
     rest-cut radix minus n rest at
@@ -81,7 +81,7 @@ drop-first zero (c ∷ text) more sign is = (omega arith, cc)
 drop-first (suc n) [] more sign is = cc
 drop-first (suc n) (c ∷ text) more sign is = let later = drop-first n text more sign is in (omega (arith, later.0), later.1)
 
-pub rest-more : (radix : Radix) (minus : Bool) (n sign : ℕ) (rest more : List ℕ) (term : Term) → IsSignAt rest n → Some term ≡ term_with radix minus (take n rest)
+pub rest-more : (radix : Radix) (minus : Bool) (n sign : ℕ) (rest more : List ℕ) (term : SumTerm) → IsSignAt rest n → Some term ≡ term_with radix minus (take n rest)
     → drop n rest ≡ sign ∷ more → rest_sum radix minus rest ≡ option_map (with_term term) (rest_sum radix (is_minus sign) more)
 rest-more radix minus n sign rest more term at is next =
     let first = drop-first n rest more sign next in
@@ -91,15 +91,15 @@ rest-more radix minus n sign rest more term at is next =
     ∙ ap (λ left. option_map (with_term term) (sum_of_texts radix (later_texts left))) next
     ∙ ap (λ s. option_map (with_term term) (sum_of_texts radix (onto_first s (cut_at_signs more)))) (sym (sign_back sign here))
 
-pub joined-one : (sum : Sum) (term : Term) → joined sum (Some (with_term term no_terms)) ≡ Some (pushed sum term)
+pub joined-one : (sum : Sum) (term : SumTerm) → joined sum (Some (with_term term no_terms)) ≡ Some (pushed sum term)
 joined-one sum (register r) = ap (λ ns. Some (record { registers = sum.registers ++ r ∷ []; constant = ns })) (append-nil sum.constant)
-joined-one sum (number n) = ap (λ rs. Some (record { registers = rs; constant = sum.constant ++ n ∷ [] })) (append-nil sum.registers)
+joined-one sum (other n) = ap (λ rs. Some (record { registers = rs; constant = sum.constant ++ n ∷ [] })) (append-nil sum.registers)
 
-pub joined-more : (sum : Sum) (term : Term) (more : Option Sum) → joined sum (option_map (with_term term) more) ≡ joined (pushed sum term) more
+pub joined-more : (sum : Sum) (term : SumTerm) (more : Option Sum) → joined sum (option_map (with_term term) more) ≡ joined (pushed sum term) more
 joined-more sum (register r) None = refl
 joined-more sum (register r) (Some more) = ap (λ rs. Some (record { registers = rs; constant = sum.constant ++ more.constant })) (sym (append_assoc sum.registers (r ∷ []) more.registers))
-joined-more sum (number n) None = refl
-joined-more sum (number n) (Some more) = ap (λ ns. Some (record { registers = sum.registers ++ more.registers; constant = ns })) (sym (append_assoc sum.constant (n ∷ []) more.constant))
+joined-more sum (other n) None = refl
+joined-more sum (other n) (Some more) = ap (λ ns. Some (record { registers = sum.registers ++ more.registers; constant = ns })) (sym (append_assoc sum.constant (n ∷ []) more.constant))
 
 abbrev option_registers : Option Sum → List RegisterTerm
 option_registers None = []
@@ -113,7 +113,7 @@ joined-length sum (Some more) whole is =
     omega (arith, length-append sum.registers more.registers)
 
 -- a register too many stays one
-pub rest-many : (radix : Radix) (minus : Bool) (n : ℕ) (rest : List ℕ) (so_far : Sum) (term : Term) (whole : Sum) → IsSignAt rest n → Some term ≡ term_with radix minus (take n rest)
+pub rest-many : (radix : Radix) (minus : Bool) (n : ℕ) (rest : List ℕ) (so_far : Sum) (term : SumTerm) (whole : Sum) → IsSignAt rest n → Some term ≡ term_with radix minus (take n rest)
     → 2 < length (pushed so_far term).registers → joined so_far (rest_sum radix minus rest) ≡ Some whole → 2 < length whole.registers
 rest-many radix minus n rest so_far term whole at is many all =
     let later = sum_of_texts radix (later_texts (drop n rest)) in

@@ -2,13 +2,13 @@
 use Rattle.std.specs.Prelude.{◌≡◌, ℕ, Bool, true, false, List, map, codes, pos, Option, None, Some, option_map, unwrap_or, refl}
 use Rattle.cps_code.specs.declared.filled.Filled.{Filled}
 use Rattle.cps_code.specs.declared.radix.Radix.TheVariants.{Decimal}
-use Rattle.cps_code.specs.Value.{value_of}
+use Rattle.cps_code.specs.Expression.{value_in}
 use Rattle.cps_code.specs.Form.{filled}
 use Rattle.cps_code.specs.Table.{form_of}
 
 -- the code of a statement with the values of its expressions
 abbrev code : List ℕ → List ℕ → Option Filled
-code name tail = option_map (λ form. filled form (map (λ hole. unwrap_or (value_of hole.expression) (pos 0)) form.holes)) (form_of name tail Decimal)
+code name tail = option_map (λ form. filled form (map (λ hole. unwrap_or (value_in (λ name. None) hole.expression) (pos 0)) form.holes)) (form_of name tail Decimal)
 
 abbrev is : ℕ → Bool → Option Filled
 is digits truncated = Some (record { digits = digits; is_truncated = truncated; is_out_of_range = false })

@@ -11,3 +11,7 @@ pub mod Terms
 pub mod Form
 pub mod Table
 pub mod Sets
+pub mod Symbol
+pub mod Name
+pub mod Register
+pub mod Expression

@@ -1,5 +1,6 @@
 -- The rows of the table at given digits and operands.
-use Rattle.std.specs.Prelude.{ℕ, ◌*◌, ◌^◌, Bool, false, List, [], ◌∷◌, ℤ, Option, Some}
+use Rattle.std.specs.Prelude.{ℕ, ◌*◌, ◌^◌, Bool, false, List, [], ◌∷◌, Option, Some}
+use Rattle.cps_code.specs.declared.expr.Term.{Term}
 use Rattle.cps_code.specs.declared.radix.Radix.{Radix}
 use Rattle.cps_code.specs.declared.hole.HoleKind.TheVariants.{Value}
 use Rattle.cps_code.specs.declared.register.RegisterTerm.{RegisterTerm}
@@ -7,12 +8,12 @@ use Rattle.cps_code.specs.Form.{Form}
 use Rattle.cps_code.specs.Table.{f, i, given, set_rows, jump_rows, operand_in, form_in, form_of_rows}
 
 -- the form for these registers and this constant, in the one order or the other
-abbrev pub set_form : ℕ → ℕ → Option ℕ → List RegisterTerm → List ℤ → Option Form
+abbrev pub set_form : ℕ → ℕ → Option ℕ → List RegisterTerm → List Term → Option Form
 set_form first set n registers constant =
     form_of_rows (given f first ∷ given i set ∷ []) set_rows (record { number = n; sum = Some (record { registers = registers; constant = constant }) })
 
 -- the same in this order alone
-abbrev pub set_form_as_it_stands : ℕ → ℕ → Option ℕ → List RegisterTerm → List ℤ → Option Form
+abbrev pub set_form_as_it_stands : ℕ → ℕ → Option ℕ → List RegisterTerm → List Term → Option Form
 set_form_as_it_stands first set n registers constant =
     form_in (given f first ∷ given i set ∷ []) set_rows (record { number = n; sum = Some (record { registers = registers; constant = constant }) })
 
@@ -25,7 +26,7 @@ abbrev pub jump_form_of : Radix → List ℕ → Option Form
 jump_form_of radix text = form_of_rows [] jump_rows (operand_in radix text)
 
 -- four digits and a constant
-abbrev pub long_form : ℕ → List ℤ → Bool → Form
+abbrev pub long_form : ℕ → List Term → Bool → Form
 long_form front constant forces = record {
   bits = 30;
   code = front * 2 ^ 18;

@@ -1,12 +1,16 @@
--- The operand of a set instruction: a sum of signed terms, registers and numbers in any order.
+-- The operand of a set instruction: a sum of signed terms, registers, numbers and symbols in any order.
 -- From the manual's section on the set instructions; that all terms may stand in any order is our profile's.
-use Rattle.std.specs.Prelude.{ℕ, ◌-◌, Bool, ◌==◌, List, [], ◌∷◌, drop, codes, ℤ, pos, neg_ℤ, Option, None, Some, option_map, option_and_then, if◌then◌else◌}
+use Rattle.std.specs.Prelude.{ℕ, Bool, ◌==◌, List, [], ◌∷◌, drop, codes, Option, None, Some, option_map, option_and_then, if◌then◌else◌}
 use Rattle.cps_code.specs.declared.radix.Radix.{Radix}
-use Rattle.cps_code.specs.declared.register.Letter.{Letter}
-use Rattle.cps_code.specs.declared.register.Letter.TheVariants.{A, B, X}
 use Rattle.cps_code.specs.declared.register.RegisterTerm.{RegisterTerm}
+use Rattle.cps_code.specs.declared.name.Name.{Name}
+use Rattle.cps_code.specs.declared.expr.Element.{Element}
+use Rattle.cps_code.specs.declared.expr.Element.TheVariants.{Number, Symbol}
+use Rattle.cps_code.specs.declared.expr.Term.{Term}
 use Rattle.cps_code.specs.Text.{among}
-use Rattle.cps_code.specs.Number.{number_of, is_digit}
+use Rattle.cps_code.specs.Number.{number_of}
+use Rattle.cps_code.specs.Name.{name_of}
+use Rattle.cps_code.specs.Register.{register_of}
 
 -- ---- a text cut into its signed terms
 
@@ -35,40 +39,31 @@ signed_texts text = drop 1 (cut_at_signs (with_first_sign text))
 
 -- ---- terms
 
-pub data Term : Type 0 where
-  register : RegisterTerm → Term
-  number : ℤ → Term
+pub data SumTerm : Type 0 where
+  register : RegisterTerm → SumTerm
+  other : Term → SumTerm
 
 -- whether a sign is `-`
 abbrev pub is_minus : ℕ → Bool
 is_minus sign = sign == 45
 
-abbrev pub letter_of : ℕ → Option Letter
-letter_of character =
-    if among (codes "A") character then Some A
-    else (if among (codes "B") character then Some B
-    else (if among (codes "X") character then Some X else None))
+abbrev pub element_with : Option ℕ → Option Name → Option Element
+element_with (Some n) name = Some (Number n)
+element_with None name = option_map Symbol name
 
--- a register: A, B or X and a digit from 0 to 7
-abbrev pub register_of : Bool → List ℕ → Option RegisterTerm
-register_of minus [] = None
-register_of minus (character ∷ []) = None
-register_of minus (character ∷ digit ∷ []) =
-    if is_digit 8 digit then option_map (λ letter. record { is_minus = minus; letter = letter; digit = digit - 48 }) (letter_of character) else None
-register_of minus (character ∷ digit ∷ more ∷ text) = None
+-- an element: a number or a symbol
+abbrev pub element_of : Radix → List ℕ → Option Element
+element_of radix text = element_with (number_of radix text) (name_of text)
 
-abbrev pub signed : Bool → ℕ → ℤ
-signed minus n = if minus then neg_ℤ (pos n) else pos n
+abbrev pub register_or_element : Option RegisterTerm → Bool → Option Element → Option SumTerm
+register_or_element (Some r) minus element = Some (register r)
+register_or_element None minus element = option_map (λ e. other (record { is_minus = minus; element = e })) element
 
-abbrev pub term_or_number : Option RegisterTerm → Bool → Option ℕ → Option Term
-term_or_number (Some r) minus n = Some (register r)
-term_or_number None minus n = option_map (λ m. number (signed minus m)) n
+abbrev pub term_with : Radix → Bool → List ℕ → Option SumTerm
+term_with radix minus text = register_or_element (register_of minus text) minus (element_of radix text)
 
-abbrev pub term_with : Radix → Bool → List ℕ → Option Term
-term_with radix minus text = term_or_number (register_of minus text) minus (number_of radix text)
-
--- a term: a sign, and behind it a register or a number
-abbrev pub term_of : Radix → List ℕ → Option Term
+-- a term: a sign, and behind it a register, a number or a symbol
+abbrev pub term_of : Radix → List ℕ → Option SumTerm
 term_of radix [] = None
 term_of radix (sign ∷ text) = term_with radix (is_minus sign) text
 
@@ -77,14 +72,14 @@ term_of radix (sign ∷ text) = term_with radix (is_minus sign) text
 -- the register terms in their order, and the expression of the other terms in theirs
 pub record Sum : Type 0 where
   pub registers : List RegisterTerm
-  pub constant : List ℤ
+  pub constant : List Term
 
 abbrev pub no_terms : Sum
 no_terms = record { registers = []; constant = [] }
 
-abbrev pub with_term : Term → Sum → Sum
+abbrev pub with_term : SumTerm → Sum → Sum
 with_term (register r) sum = record { registers = r ∷ sum.registers; constant = sum.constant }
-with_term (number n) sum = record { registers = sum.registers; constant = n ∷ sum.constant }
+with_term (other t) sum = record { registers = sum.registers; constant = t ∷ sum.constant }
 
 abbrev pub sum_of_texts : Radix → List (List ℕ) → Option Sum
 sum_of_texts radix [] = Some no_terms

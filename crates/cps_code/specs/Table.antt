@@ -1,9 +1,11 @@
 -- The instructions of the central processor, as the machine's reference manual lists them: the operation, the operand, the code.
 -- In a name and a code the letters i, j and k stand for the digits of registers, and K for a constant of 18 bits;
 -- f is the first digit of a set instruction's code.
-use Rattle.std.specs.Prelude.{ℕ, ◌+◌, ◌-◌, ◌*◌, ◌^◌, Bool, true, false, ◌&&◌, not, ◌==◌, List, [], ◌∷◌, ◌++◌, reverse, codes, fold, sum_by, ℤ, pos, Option, None, Some, option_map, option_and_then, is_some, if◌then◌else◌}
+use Rattle.std.specs.Prelude.{ℕ, ◌+◌, ◌-◌, ◌*◌, ◌^◌, Bool, true, false, ◌&&◌, not, ◌==◌, List, [], ◌∷◌, ◌++◌, reverse, codes, fold, sum_by, Option, None, Some, option_map, option_and_then, is_some, if◌then◌else◌}
 use Rattle.std.specs.List.{before_first}
 use Rattle.cps_code.specs.declared.radix.Radix.{Radix}
+use Rattle.cps_code.specs.declared.expr.Element.TheVariants.{Number}
+use Rattle.cps_code.specs.declared.expr.Term.{Term}
 use Rattle.cps_code.specs.declared.hole.Hole.{Hole}
 use Rattle.cps_code.specs.declared.hole.HoleKind.TheVariants.{Value}
 use Rattle.cps_code.specs.declared.register.Letter.{Letter}
@@ -175,7 +177,7 @@ abbrev pub code_of : List Given → List ℕ → ℕ
 code_of digits code = fold (λ number letter. number * 2 ^ width_of letter + digit_of digits letter) 0 code
 
 -- the holes of a code, from a bit on
-abbrev pub holes_from : ℕ → List ℤ → List ℕ → List Hole
+abbrev pub holes_from : ℕ → List Term → List ℕ → List Hole
 holes_from at constant [] = []
 holes_from at constant (letter ∷ code) =
     if is_constant letter
@@ -185,7 +187,7 @@ holes_from at constant (letter ∷ code) =
 -- what a row finds in an operand
 pub record Found : Type 0 where
   pub digits : List Given
-  pub constant : List ℤ
+  pub constant : List Term
 
 abbrev pub form_of_row : List Given → Row → Found → Form
 form_of_row digits row found = record {
@@ -219,7 +221,7 @@ turned operand = record {
   sum = option_map (λ s. record { registers = reverse s.registers; constant = s.constant }) operand.sum;
 }
 
-abbrev pub is_some_list : List ℤ → Bool
+abbrev pub is_some_list : List Term → Bool
 is_some_list [] = false
 is_some_list (n ∷ constant) = true
 
@@ -232,7 +234,7 @@ found_in_sum terms has_constant sum =
 -- None: the shape doesn't fit the operand
 abbrev pub found_in : Shape → Operand → Option Found
 found_in unread operand = Some (record { digits = []; constant = [] })
-found_in one_number operand = option_map (λ n. record { digits = []; constant = pos n ∷ [] }) operand.number
+found_in one_number operand = option_map (λ n. record { digits = []; constant = record { is_minus = false; element = Number n } ∷ [] }) operand.number
 found_in (terms_and_constant terms has_constant) operand = option_and_then (found_in_sum terms has_constant) operand.sum
 
 abbrev pub or_else : {T : Type 0} → Option T → Option T → Option T

@@ -1,33 +1,34 @@
 -- Sums of the code, as sums.
-use Rattle.std.specs.Prelude.{◌≡◌, ℕ, ◌<◌, Bool, List, [], ◌∷◌, ◌++◌, All, IfSome, if◌then◌else◌}
+use Rattle.std.specs.Prelude.{◌≡◌, IsTrue, ℕ, ◌<◌, Bool, List, [], ◌∷◌, ◌++◌, All, IfSome, if◌then◌else◌}
 use Rattle.cps_code.specs.declared.register.RegisterTerm.{RegisterTerm}
-use Rattle.cps_code.specs.declared.sum.Term.{Term as TermOfCode}
-use Rattle.cps_code.specs.declared.sum.Term.TheVariants as code
+use Rattle.cps_code.specs.declared.expr.Term.{Term}
+use Rattle.cps_code.specs.declared.sum.SumTerm.{SumTerm as TermOfCode}
+use Rattle.cps_code.specs.declared.sum.SumTerm.TheVariants as code
 use Rattle.cps_code.specs.declared.sum.Registers.{Registers}
 use Rattle.cps_code.specs.declared.sum.Registers.TheVariants.{Absent, One, Two}
 use Rattle.cps_code.specs.declared.sum.Sum.{Sum as SumOfCode}
-use Rattle.cps_code.specs.Sum.{Term, register, number, Sum}
-use Rattle.cps_code.specs.Value.{IsInRange}
+use Rattle.cps_code.specs.Sum.{SumTerm, register, other, Sum}
+use Rattle.cps_code.specs.Expression.{is_term}
 use Rattle.cps_code.specs.Table.{is_some_list}
 
-abbrev pub term_value : TermOfCode → Term
+abbrev pub term_value : TermOfCode → SumTerm
 term_value (code.Register r) = register r
-term_value (code.Number n) = number n
+term_value (code.Other t) = other t
 
 abbrev pub sign_of : Bool → ℕ
 sign_of minus = if minus then 45 else 43
 
 -- a term at the end
-abbrev pub pushed : Sum → Term → Sum
+abbrev pub pushed : Sum → SumTerm → Sum
 pushed sum (register r) = record { registers = sum.registers ++ r ∷ []; constant = sum.constant }
-pushed sum (number n) = record { registers = sum.registers; constant = sum.constant ++ n ∷ [] }
+pushed sum (other t) = record { registers = sum.registers; constant = sum.constant ++ t ∷ [] }
 
 abbrev pub IsRegister : RegisterTerm → Type 0
 IsRegister r = r.digit < 8
 
 abbrev pub IsTerm : TermOfCode → Type 0
 IsTerm (code.Register r) = IsRegister r
-IsTerm (code.Number n) = IsInRange n
+IsTerm (code.Other t) = IsTrue (is_term t)
 
 abbrev pub register_list : Registers → List RegisterTerm
 register_list Absent = []
@@ -43,6 +44,5 @@ AreRegisters (Two first second) = IsRegister first × IsRegister second
 pub record IsKept (kept : SumOfCode) (sum : Sum) : Type 0 where
   pub registers : register_list kept.registers ≡ sum.registers
   pub has_constant : kept.has_constant ≡ is_some_list sum.constant
-  pub constant : IfSome kept.constant (λ constant. constant.items ≡ sum.constant)
+  pub constant : IfSome kept.constant (λ constant. constant ≡ sum.constant)
   pub digits : All IsRegister sum.registers
-  pub range : All IsInRange sum.constant

@@ -47,19 +47,18 @@ impl CpForm {
     pub(crate) fn long(
         alloc: Global,
         front: u16,
-        constant: Vec<i64>,
+        constant: Expr,
         forces_after: bool,
     ) -> Result<CpForm, AllocError>
-        requires front { front < 2 ^ 12 }
-        requires range { All IsInRange constant.items }
-        ensures { IfOk result (λ form. form ≡ long_form front constant.items forces_after) }
+        requires { front < 2 ^ 12 }
+        ensures { IfOk result (λ form. form ≡ long_form front constant forces_after) }
     {
         let mut holes = Vec::new(alloc);
         holes.push(Hole {
             first: 12,
             width: 18,
             kind: HoleKind::Value,
-            expression: Expr::from_terms(constant),
+            expression: constant,
         })?;
         Ok(CpForm {
             bits: 30,

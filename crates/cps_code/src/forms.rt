@@ -1,11 +1,11 @@
-ghost use Rattle.std.specs.Prelude.{◌≡◌, ◌<◌, ◌^◌, [], ◌∷◌, ◌↔◌, ℕ, pos, Option, Some, None, false, length, All, IfOk, IfSome, IsErrOf, IsSome, IsSomeAnd, IsTrue};
+ghost use Rattle.std.specs.Prelude.{◌≡◌, ◌<◌, ◌^◌, [], ◌∷◌, ◌↔◌, ℕ, Option, Some, None, false, length, IfOk, IfSome, IsErrOf, IsSome, IsSomeAnd, IsTrue};
 ghost use Rattle.std.specs.List.{before_first, position};
-ghost use Rattle.cps_code.specs.Value.{IsInRange};
 ghost use Rattle.cps_code.specs.Sum.{Sum as ASum};
 ghost use Rattle.cps_code.specs.Terms.{AreRegisters, IsKept, register_list};
 ghost use Rattle.cps_code.specs.Table.{is_blank, is_operation, form_of};
 ghost use Rattle.cps_code.specs.Sets.{set_form, set_form_of, jump_form_of, long_form};
 
+use super::expr::{Element, Expr, Term};
 use super::form::CpForm;
 use super::number::read_number;
 use super::radix::Radix;
@@ -88,13 +88,17 @@ fn jump_form(alloc: Global, operand: &[u8], radix: Radix) -> Result<CpForm, Form
     }
 }
 
-/// The constant that is one number. None: memory was refused.
-fn one_term(alloc: Global, number: u64) -> Option<Vec<i64>>
+/// The expression that is one number. None: memory was refused.
+fn one_term(alloc: Global, number: u64) -> Option<Expr>
     requires { number < 2 ^ 59 }
-    ensures { IfSome result (λ constant. constant.items ≡ pos number ∷ []) }
+    ensures { IfSome result (λ constant. constant ≡ record { is_minus = false; element = Element.Number number } ∷ []) }
 {
-    let mut constant = Vec::new(alloc);
-    match constant.push(number as i64) {
+    let mut constant = Expr::new(alloc);
+    let term = Term {
+        is_minus: false,
+        element: Element::Number(number),
+    };
+    match constant.push(term) {
         Ok(()) => Some(constant),
         Err(_) => None,
     }
@@ -104,12 +108,11 @@ fn one_term(alloc: Global, number: u64) -> Option<Vec<i64>>
 fn long_form(
     alloc: Global,
     front: u16,
-    constant: Option<Vec<i64>>,
+    constant: Option<Expr>,
     forces_after: bool,
 ) -> Option<CpForm>
-    requires front { front < 2 ^ 12 }
-    requires range { IfSome constant (λ constant. All IsInRange constant.items) }
-    ensures { IfSome result (λ form. IsSomeAnd constant (λ constant. form ≡ long_form front constant.items forces_after)) }
+    requires { front < 2 ^ 12 }
+    ensures { IfSome result (λ form. IsSomeAnd constant (λ constant. form ≡ long_form front constant forces_after)) }
 {
     match CpForm::long(alloc, front, constant?, forces_after) {
         Ok(form) => Some(form),
@@ -136,7 +139,6 @@ fn form_of_sum(alloc: Global, f: u8, i: u8, kept: Sum) -> Result<CpForm, FormFau
     requires f { f < 8 }
     requires i { i < 8 }
     requires registers { AreRegisters kept.registers }
-    requires range { IfSome kept.constant (λ constant. All IsInRange constant.items) }
     ensures form { IfOk result (λ form. (n : Option ℕ) (sum : ASum) → IsKept kept sum → set_form f i n sum.registers sum.constant ≡ Some form) }
     ensures no_operation { IsErrOf result FormFault.NoOperation → ⊥ }
     ensures unreadable { IsErrOf result FormFault.Unreadable → (n : Option ℕ) (sum : ASum) → IsKept kept sum → set_form f i n sum.registers sum.constant ≡ None }

@@ -1,4 +1,5 @@
-ghost use Rattle.std.specs.Prelude.{◌≡◌, ◌<◌, ◌+◌, ◌*◌, [], ◌∷◌, false, List, ℕ, ℤ, Option, IfSome, option_map};
+ghost use Rattle.cps_code.specs.declared.expr.Term.{Term};
+ghost use Rattle.std.specs.Prelude.{◌≡◌, ◌<◌, ◌+◌, ◌*◌, [], ◌∷◌, false, List, ℕ, Option, IfSome, option_map};
 ghost use Rattle.cps_code.specs.Terms.{IsRegister, AreRegisters, register_list};
 ghost use Rattle.cps_code.specs.Sets.{set_form, set_form_as_it_stands, long_form, short_form};
 
@@ -10,7 +11,7 @@ pub fn code_with_constant(f: u8, i: u8, registers: Registers) -> Option<u16>
     requires f { f < 8 }
     requires i { i < 8 }
     requires digits { AreRegisters registers }
-    ensures form { (n : Option ℕ) (first : ℤ) (constant : List ℤ)
+    ensures form { (n : Option ℕ) (first : Term) (constant : List Term)
         → set_form f i n (register_list registers) (first ∷ constant) ≡ option_map (λ code. long_form code (first ∷ constant) false) result }
     ensures small { IfSome result (λ code. code < 4096) }
 {

@@ -1,19 +1,22 @@
 ghost use Rattle.std.specs.Prelude.{◌≡◌, ℕ, true, false, slice_index, ◌<◌, ◌≤◌, ◌^◌, [], ◌∷◌, MatchOption, length, All, ◌++◌, IfSome, IsSomeAnd, MatchBool, option_map};
-ghost use Rattle.cps_code.specs.Sum.{is_sign, with_first_sign, register_of, letter_of, signed, term_with, sum_of};
+ghost use Rattle.cps_code.specs.Sum.{is_sign, with_first_sign, element_of, term_with, sum_of};
 ghost use Rattle.cps_code.specs.Sum.{Sum as ASum};
 ghost use Rattle.cps_code.specs.Terms.{term_value, sign_of, pushed, register_list, IsKept, AreRegisters, IsRegister, IsTerm};
-ghost use Rattle.cps_code.specs.Value.{IsInRange};
+ghost use Rattle.cps_code.specs.Register.{register_of, letter_of};
+ghost use Rattle.cps_code.specs.Expression.{is_element, is_term};
 
+use super::expr::{Element, Expr, Term};
+use super::name::Name;
 use super::number::read_number;
 use super::radix::Radix;
 use super::register::{Letter, RegisterTerm};
 use std::alloc::Global;
 
-/// A term of a sum.
+/// A term of a sum: a register, or a number or symbol.
 #[derive(Clone, Copy)]
-pub enum Term {
+pub enum SumTerm {
     Register(RegisterTerm),
-    Number(i64),
+    Other(Term),
 }
 
 /// The register terms of a sum, in their order.
@@ -24,29 +27,28 @@ pub enum Registers {
     Two(RegisterTerm, RegisterTerm),
 }
 
-/// A sum: its register terms, two at most, and its numbers, each in their order.
+/// A sum: its register terms, two at most, and the others, each in their order.
 #[derive(Drop)]
 pub struct Sum {
     pub registers: Registers,
-    /// Whether there is a number.
+    /// Whether there is a term that is no register.
     pub has_constant: bool,
-    /// The numbers; None where memory for them was refused.
-    pub constant: Option<Vec<i64>>,
+    /// The expression of those terms; None where memory for it was refused.
+    pub constant: Option<Expr>,
 }
 
-/// Reads a sum of signed registers and numbers, to its end also where memory is refused.
+/// Reads a sum of signed registers, numbers and symbols, to its end also where memory is refused.
 /// None: the text is no such sum, or has more than two registers.
 pub fn read_sum(alloc: Global, text: &[u8], radix: Radix) -> Option<Sum>
     ensures sum { MatchOption result
         ((sum : ASum) → sum_of radix text.now ≡ Some sum → 2 < length sum.registers)
         (λ kept. (sum : ASum) × (sum_of radix text.now ≡ Some sum) × IsKept kept sum) }
     ensures registers { IfSome result (λ kept. AreRegisters kept.registers) }
-    ensures range { IfSome result (λ kept. IfSome kept.constant (λ constant. All IsInRange constant.items)) }
 {
     let mut sum = Sum {
         registers: Registers::Absent,
         has_constant: false,
-        constant: Some(Vec::new(alloc)),
+        constant: Some(Expr::new(alloc)),
     };
     let (mut is_minus, mut rest) = leading_sign(text);
     'terms: loop {
@@ -109,14 +111,27 @@ fn first_and_rest(text: &[u8]) -> Option<(u8, &[u8])>
     }
 }
 
-fn read_term(text: &[u8], is_minus: bool, radix: Radix) -> Option<Term>
+fn read_term(text: &[u8], is_minus: bool, radix: Radix) -> Option<SumTerm>
     ensures term { option_map term_value result ≡ term_with radix is_minus text.now }
     ensures kind { IfSome result IsTerm }
 {
     match read_register(text, is_minus) {
-        Some(register) => Some(Term::Register(register)),
-        None => match read_number(text, radix) {
-            Some(number) => Some(Term::Number(signed(number, is_minus))),
+        Some(register) => Some(SumTerm::Register(register)),
+        None => match read_element(text, radix) {
+            Some(element) => Some(SumTerm::Other(Term { is_minus, element })),
+            None => None,
+        },
+    }
+}
+
+fn read_element(text: &[u8], radix: Radix) -> Option<Element>
+    ensures element { result ≡ element_of radix text.now }
+    ensures kind { IfSome result (λ element. is_element element ≡ true) }
+{
+    match read_number(text, radix) {
+        Some(number) => Some(Element::Number(number)),
+        None => match Name::read(text) {
+            Some(name) => Some(Element::Symbol(name)),
             None => None,
         },
     }
@@ -150,43 +165,35 @@ fn read_letter(letter: u8) -> Option<Letter>
     }
 }
 
-fn signed(number: u64, is_minus: bool) -> i64
-    requires { number < 2 ^ 59 }
-    ensures value { result ≡ signed is_minus number }
-    ensures range { IsInRange result }
-{
-    let value = number as i64;
-    if is_minus { -value } else { value }
-}
-
 /// Adds a term at the end. False: it is a third register.
-fn add_term(sum: &mut Sum, term: Term) -> bool
+fn add_term(sum: &mut Sum, term: SumTerm) -> bool
     requires { IsTerm term }
     ensures { (so_far : ASum) → IsKept sum.old so_far → MatchBool result
         (IsKept sum.new (pushed so_far (term_value term))) (2 < length (pushed so_far (term_value term)).registers) }
 {
     match term {
-        Term::Register(register) => match with_register(sum.registers, register) {
+        SumTerm::Register(register) => match with_register(sum.registers, register) {
             Some(registers) => {
                 sum.registers = registers;
                 true
             }
             None => false,
         },
-        Term::Number(number) => {
+        SumTerm::Other(other) => {
             sum.has_constant = true;
-            add_number(&mut sum.constant, number);
+            add_other(&mut sum.constant, other);
             true
         }
     }
 }
 
-/// Adds a number at the end, or gives the numbers up where memory is refused.
-fn add_number(constant: &mut Option<Vec<i64>>, number: i64)
-    ensures { IfSome constant.new (λ after. IsSomeAnd constant.old (λ before. after.items ≡ before.items ++ number ∷ [])) }
+/// Adds a term at the end, or gives the expression up where memory is refused.
+fn add_other(constant: &mut Option<Expr>, term: Term)
+    requires { is_term term ≡ true }
+    ensures { IfSome constant.new (λ after. IsSomeAnd constant.old (λ before. after ≡ before ++ term ∷ [])) }
 {
-    if let Some(numbers) = constant {
-        if numbers.push(number).is_ok() {
+    if let Some(expression) = constant {
+        if expression.push(term).is_ok() {
             return;
         }
     }

@@ -5,4 +5,5 @@ pub mod OctalLemmas
 pub mod OrderLemmas
 pub mod Places
 pub mod ProgressLemmas
+pub mod RangeLemmas
 pub mod RowLemmas

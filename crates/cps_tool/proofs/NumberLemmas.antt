@@ -10,7 +10,7 @@ use Rattle.std.proofs.lemmas.List.{take_all, drop_all}
 use Rattle.std.proofs.lemmas.Str.Parse.{digit_from_value}
 use Rattle.std.proofs.lemmas.Bool.Decides.{nat_tests}
 use Rattle.std.proofs.Math.Nat.{pow-le-pow_right}
-use Rattle.cps_tool.specs.Command.{Spells, insert, IsNumber, IsNumbered, blank, is_blank}
+use Rattle.cps_tool.specs.Command.{Spells, insert, replace, IsNumber, IsNumbered, blank, is_blank}
 
 -- ---- the first blank
 
@@ -58,7 +58,7 @@ drop-length (b ∷ front) byte back =
 
 -- ---- what stands before the first blank is the number
 
-front_alone : (digits : List ℕ) → AllDigits 10 digits → before_first is_blank digits ≡ digits
+pub front_alone : (digits : List ℕ) → AllDigits 10 digits → before_first is_blank digits ≡ digits
 front_alone digits all =
     let long : position_or_len is_blank (digits ++ []) ≡ length digits + position_or_len is_blank [] = blank-behind digits [] all in
     let long' = rw append-nil at long in
@@ -103,13 +103,12 @@ text_behind bytes number text numbered =
     (λ (both : bytes ≡ digits ++ blank ∷ text). sym (ap (after_first is_blank) both ∙ behind_blank digits text is.decimal))
     numbered.2
 
--- bytes are numbered in one way
-pub one_number : (bytes : List ℕ) (first second : ℕ) (text other : List ℕ) → IsNumbered bytes first text → IsNumbered bytes second other
-    → (first ≡ second) × (text ≡ other)
-one_number bytes first second text other one two =
-    let a = number_before bytes first text one in
-    let b = number_before bytes second other two in
-    (a.value ∙ sym b.value, text_behind bytes first text one ∙ sym (text_behind bytes second other two))
+-- the number that stands before the first blank
+abbrev pub number_in : List ℕ → ℕ
+number_in bytes = digits_value 10 (before_first is_blank bytes)
+
+pub number_is : (bytes : List ℕ) (number : ℕ) (text : List ℕ) → IsNumbered bytes number text → number ≡ number_in bytes
+number_is bytes number text numbered = let is = number_before bytes number text numbered in is.value
 
 stopped : (byte : ℕ) → not (is_blank byte) ≡ false → byte ≡ blank
 stopped byte is = grind (arith, nat_tests)
@@ -129,7 +128,7 @@ pub numbered_split : (bytes : List ℕ) (number : ℕ) → IsNumber (before_firs
 numbered_split bytes number is =
     (before_first is_blank bytes, is, split_by (ltb (position_or_len is_blank bytes) (length bytes)) bytes number refl is)
 
--- ---- commands that insert behind a line
+-- ---- commands with a line's number and a text
 
 -- where what stands behind two bytes is not numbered, a line inserts nothing
 pub no_insertion : (line : List ℕ) → ((number : ℕ) (text : List ℕ) → IsNumbered (drop 2 line) number text → ⊥)
@@ -137,6 +136,13 @@ pub no_insertion : (line : List ℕ) → ((number : ℕ) (text : List ℕ) → I
 no_insertion line none after text spells =
     let P : List ℕ → Type 0 = λ bytes. IsNumbered bytes after text in
     none after text (subst P (sym (ap (drop 2) spells.2)) spells.3)
+
+-- nor does it replace a line
+pub no_replacement : (line : List ℕ) → ((number : ℕ) (text : List ℕ) → IsNumbered (drop 2 line) number text → ⊥)
+    → (at : ℕ) (text : List ℕ) → Spells line (replace at text) → ⊥
+no_replacement line none at text spells =
+    let P : List ℕ → Type 0 = λ bytes. IsNumbered bytes at text in
+    none at text (subst P (sym (ap (drop 2) spells.2)) spells.3)
 
 -- ---- the digits of a number
 

@@ -1,13 +1,17 @@
 -- A line spells one order at most.
-use Rattle.std.proofs.Common.{◌≡◌, ℕ, ⊎_elim, List, [], ◌++◌, drop, get_or, codes, refl, sym, ap, subst, ◌∙◌, arith}
+use Rattle.std.proofs.Common.{◌≡◌, ℕ, ◌==◌, if◌then◌else◌, ⊎_elim, List, [], ◌++◌, drop, get_or, codes, refl, sym, ap, subst, ◌∙◌}
+use Rattle.std.specs.List.{after_first}
 use Rattle.std.proofs.lemmas.Slice.Eq.{bytes_eq-Decides}
-use Rattle.cps_tool.specs.Command.{Order, append, insert, binary, quit, Spells, IsNumbered}
-use Rattle.cps_tool.proofs.NumberLemmas.{one_number}
+use Rattle.cps_tool.specs.Command.{Order, append, insert, replace, delete, binary, quit, Spells, IsNumbered, IsRange, is_blank}
+use Rattle.cps_tool.proofs.NumberLemmas.{number_in, number_is, text_behind}
+use Rattle.cps_tool.proofs.RangeLemmas.{last_in, first_is, last_is}
 
 -- the first byte of a command
 abbrev letter_of : Order → ℕ
 letter_of (append text) = 97
 letter_of (insert after text) = 105
+letter_of (replace at text) = 114
+letter_of (delete first last) = 100
 letter_of binary = 98
 letter_of quit = 113
 
@@ -20,8 +24,20 @@ begins line (append text) spells = ⊎_elim
     (λ (both : line ≡ codes "a " ++ text). ap first_of both)
     spells.1
 begins line (insert after text) spells = ap first_of spells.2
+begins line (replace at text) spells = ap first_of spells.2
+begins line (delete first last) spells = ap first_of spells.2
 begins line binary spells = ap first_of spells.1
 begins line quit spells = ap first_of ((bytes_eq-Decides line (codes "quit")).0 spells.1)
+
+-- ---- the order that a line can spell, from its letter and what stands behind two bytes
+
+abbrev order_by : ℕ → List ℕ → Order
+order_by letter rest =
+    if letter == 97 then append rest
+    else (if letter == 105 then insert (number_in rest) (after_first is_blank rest)
+    else (if letter == 114 then replace (number_in rest) (after_first is_blank rest)
+    else (if letter == 100 then delete (number_in rest) (last_in (after_first is_blank rest) (number_in rest))
+    else (if letter == 98 then binary else quit))))
 
 -- the text of an `a` is what stands behind its blank
 text_of : (line text : List ℕ) → Spells line (append text) → text ≡ drop 2 line
@@ -30,34 +46,30 @@ text_of line text spells = ⊎_elim
     (λ (both : line ≡ codes "a " ++ text). sym (ap (drop 2) both))
     spells.1
 
-numbered_of : (line : List ℕ) (after : ℕ) (text : List ℕ) → Spells line (insert after text) → IsNumbered (drop 2 line) after text
-numbered_of line after text spells =
-    let P : List ℕ → Type 0 = λ bytes. IsNumbered bytes after text in
-    subst P (sym (ap (drop 2) spells.2)) spells.3
+numbered_at : (line bytes : List ℕ) (number : ℕ) (text : List ℕ) → drop 2 line ≡ bytes → IsNumbered bytes number text → IsNumbered (drop 2 line) number text
+numbered_at line bytes number text is numbered = let P : List ℕ → Type 0 = λ rest. IsNumbered rest number text in subst P (sym is) numbered
 
-apart : (line : List ℕ) (a b : Order) → Spells line a → Spells line b → letter_of a ≡ letter_of b
-apart line a b one two = sym (begins line a one) ∙ begins line b two
+range_at : (line bytes : List ℕ) (first last : ℕ) → drop 2 line ≡ bytes → IsRange bytes first last → IsRange (drop 2 line) first last
+range_at line bytes first last is range = let P : List ℕ → Type 0 = λ rest. IsRange rest first last in subst P (sym is) range
 
-pub one_order : (line : List ℕ) (a b : Order) → Spells line a → Spells line b → a ≡ b
-one_order line (append text) (append other) one two = ap append (text_of line text one ∙ sym (text_of line other two))
-one_order line (append text) (insert after other) one two = let differ = apart line (append text) (insert after other) one two in absurd (omega arith)
-one_order line (append text) binary one two = let differ = apart line (append text) binary one two in absurd (omega arith)
-one_order line (append text) quit one two = let differ = apart line (append text) quit one two in absurd (omega arith)
-one_order line (insert after text) (append other) one two = let differ = apart line (insert after text) (append other) one two in absurd (omega arith)
-one_order line (insert after text) (insert behind other) one two =
-    let same = one_number (drop 2 line) after behind text other (numbered_of line after text one) (numbered_of line behind other two) in
-    ap (λ n. insert n text) same.0 ∙ ap (insert behind) same.1
-one_order line (insert after text) binary one two = let differ = apart line (insert after text) binary one two in absurd (omega arith)
-one_order line (insert after text) quit one two = let differ = apart line (insert after text) quit one two in absurd (omega arith)
-one_order line binary (append other) one two = let differ = apart line binary (append other) one two in absurd (omega arith)
-one_order line binary (insert after other) one two = let differ = apart line binary (insert after other) one two in absurd (omega arith)
-one_order line binary binary one two = refl
-one_order line binary quit one two = let differ = apart line binary quit one two in absurd (omega arith)
-one_order line quit (append other) one two = let differ = apart line quit (append other) one two in absurd (omega arith)
-one_order line quit (insert after other) one two = let differ = apart line quit (insert after other) one two in absurd (omega arith)
-one_order line quit binary one two = let differ = apart line quit binary one two in absurd (omega arith)
-one_order line quit quit one two = refl
+-- an order, by the letter that its line begins with
+by_letter : (line : List ℕ) (order : Order) → Spells line order → order ≡ order_by (letter_of order) (drop 2 line)
+by_letter line (append text) spells = ap append (text_of line text spells)
+by_letter line (insert after text) spells =
+    let numbered = numbered_at line spells.1 after text (ap (drop 2) spells.2) spells.3 in
+    ap (λ n. insert n text) (number_is (drop 2 line) after text numbered) ∙ ap (insert (number_in (drop 2 line))) (text_behind (drop 2 line) after text numbered)
+by_letter line (replace at text) spells =
+    let numbered = numbered_at line spells.1 at text (ap (drop 2) spells.2) spells.3 in
+    ap (λ n. replace n text) (number_is (drop 2 line) at text numbered) ∙ ap (replace (number_in (drop 2 line))) (text_behind (drop 2 line) at text numbered)
+by_letter line (delete first last) spells =
+    let range = range_at line spells.1 first last (ap (drop 2) spells.2) spells.3 in
+    ap (λ n. delete n last) (first_is (drop 2 line) first last range) ∙ ap (delete (number_in (drop 2 line))) (last_is (drop 2 line) first last range)
+by_letter line binary spells = refl
+by_letter line quit spells = refl
+
+order_is : (line : List ℕ) (order : Order) → Spells line order → order ≡ order_by (first_of line) (drop 2 line)
+order_is line order spells = by_letter line order spells ∙ ap (λ letter. order_by letter (drop 2 line)) (sym (begins line order spells))
 
 -- from a line's order on
 pub only_order : (line : List ℕ) (is : Order) → Spells line is → (order : Order) → Spells line order → order ≡ is
-only_order line is spells order other = one_order line order is other spells
+only_order line is spells order other = order_is line order other ∙ sym (order_is line is spells)

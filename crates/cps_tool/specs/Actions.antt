@@ -5,7 +5,7 @@ use Rattle.cps_tool.specs.Action.{Action, nothing, ident, abs, org, end, instruc
 
 abbrev pub action_value : ActionOfCode → Action
 action_value code.Nothing = nothing
-action_value (code.Ident name) = ident name.now
+action_value (code.Ident name) = ident name
 action_value code.Abs = abs
 action_value (code.Org n) = org n
 action_value code.End = end

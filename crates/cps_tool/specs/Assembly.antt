@@ -1,9 +1,10 @@
 -- Two-pass assembly of a source: what each line does to the state (pass one), and the words of what it makes (pass two).
 -- From the manual's sections on the two passes, forcing upper and the origin counter; the limit and what END and ORG force are our profile's.
 use Rattle.std.specs.Prelude.{ℕ, ◌+◌, ◌*◌, ◌/◌, ◌%◌, Bool, true, false, nat_lt, List, [], ◌∷◌, ◌++◌, map, flat_map, fold, ℤ, pos, Option, None, Some, unwrap_or, if◌then◌else◌}
+use Rattle.cps_code.specs.declared.name.Name.{Name}
 use Rattle.cps_code.specs.declared.place.Filling.{Filling}
 use Rattle.cps_code.specs.Place.{start_of, skipped}
-use Rattle.cps_code.specs.Value.{value_of}
+use Rattle.cps_code.specs.Expression.{value_in}
 use Rattle.cps_code.specs.Form.{Form, filled}
 use Rattle.cps_code.specs.Image.{Piece}
 use Rattle.cps_tool.specs.Action.{Action, nothing, ident, abs, org, end, instruction, action_of}
@@ -19,7 +20,7 @@ pub data Phase : Type 0 where
 -- where the program stands is the number of bits before it, through all words
 pub record State : Type 0 where
   pub phase : Phase
-  pub program : Option (List ℕ)
+  pub program : Option Name
   pub position : ℕ
   pub is_pending : Bool
 
@@ -48,7 +49,7 @@ abbrev pub in_body : State → State
 in_body state = record { phase = body; program = state.program; position = state.position; is_pending = state.is_pending }
 
 -- the first name in the head counts
-abbrev pub identified : Phase → State → List ℕ → Option (List ℕ) → Meaning
+abbrev pub identified : Phase → State → Name → Option Name → Meaning
 identified head state name None = unchanged (record { phase = state.phase; program = Some name; position = state.position; is_pending = state.is_pending })
 identified head state name (Some earlier) = unchanged state
 identified body state name program = unchanged state
@@ -107,9 +108,12 @@ pass_one lines = fold with_line (record { state = first_state; items = [] }) lin
 
 -- ---- pass two
 
+abbrev pub no_values : Name → Option ℤ
+no_values name = None
+
 -- the value of each hole's expression; one without a value counts as 0
 abbrev pub values_of : Form → List ℤ
-values_of form = map (λ hole. unwrap_or (value_of hole.expression) (pos 0)) form.holes
+values_of form = map (λ hole. unwrap_or (value_in no_values hole.expression) (pos 0)) form.holes
 
 -- `width` bits of a number at a place
 abbrev pub piece_at : ℕ → ℕ → ℕ → Piece

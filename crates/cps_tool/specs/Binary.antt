@@ -1,13 +1,15 @@
 -- The binary text: the program's name, and each word in octal behind its address.
 use Rattle.std.specs.Prelude.{ℕ, List, [], ◌++◌, codes, flat_map, Option, None, Some}
 use Rattle.std.specs.List.{range_with_len}
+use Rattle.cps_code.specs.declared.name.Name.{Name}
+use Rattle.cps_code.specs.Name.{name_text}
 use Rattle.cps_code.specs.Image.{Piece, packed_word}
 use Rattle.cps_tool.specs.Octal.{octal}
 use Rattle.cps_tool.specs.Assembly.{limit, pass_one, pass_two}
 
-abbrev pub first_row : Option (List ℕ) → List ℕ
+abbrev pub first_row : Option Name → List ℕ
 first_row None = codes "IDENT\n"
-first_row (Some name) = codes "IDENT " ++ name ++ codes "\n"
+first_row (Some name) = codes "IDENT " ++ name_text name ++ codes "\n"
 
 -- the row of a word; no row where there is none
 abbrev pub word_row : ℕ → Option ℕ → List ℕ

@@ -2,12 +2,14 @@
 use Rattle.std.specs.Prelude.{◌≡◌, ℕ, ◌<◌, ◌≤◌, Bool, true, false, ◌==◌, IsTrue, List, [], ◌∷◌, ◌++◌, length, codes, ◌⊎◌, bytes_eq}
 use Rattle.std.specs.Str.Parse.{AllDigits, digits_value}
 use Rattle.cps_tool.specs.declared.command.Command.{Command}
-use Rattle.cps_tool.specs.declared.command.Command.TheVariants.{Append, Insert, Binary, Quit}
+use Rattle.cps_tool.specs.declared.command.Command.TheVariants.{Append, Insert, Replace, Delete, Binary, Quit}
 
--- what a command asks: a text at the end of the source or behind a line, the binary text, or the script's end
+-- what a command asks: a text at the end of the source, behind a line or in place of one, to delete lines, the binary text, or the script's end
 pub data Order : Type 0 where
   append : List ℕ → Order
   insert : ℕ → List ℕ → Order
+  replace : ℕ → List ℕ → Order
+  delete : ℕ → ℕ → Order
   binary : Order
   quit : Order
 
@@ -15,6 +17,8 @@ pub data Order : Type 0 where
 abbrev pub order_of : Command → Order
 order_of (Append text) = append text.now
 order_of (Insert after text) = insert after text.now
+order_of (Replace at text) = replace at text.now
+order_of (Delete first last) = delete first last
 order_of Binary = binary
 order_of Quit = quit
 
@@ -42,6 +46,12 @@ abbrev pub IsNumbered : List ℕ → ℕ → List ℕ → Type 0
 IsNumbered bytes number text =
     (digits : List ℕ) × IsNumber digits number × (((bytes ≡ digits) × (text ≡ [])) ⊎ (bytes ≡ digits ++ blank ∷ text))
 
+-- the numbers of the first and the last of some lines, with a blank between them; one number alone is both
+abbrev pub IsRange : List ℕ → ℕ → ℕ → Type 0
+IsRange bytes first last =
+    (IsNumber bytes first × (last ≡ first))
+    ⊎ ((digits : List ℕ) × (more : List ℕ) × (bytes ≡ digits ++ blank ∷ more) × IsNumber digits first × IsNumber more last)
+
 -- a line is the command that ends a script
 abbrev pub is_quit : List ℕ → Bool
 is_quit line = bytes_eq line (codes "quit")
@@ -50,6 +60,8 @@ is_quit line = bytes_eq line (codes "quit")
 abbrev pub is_quit_order : Order → Bool
 is_quit_order (append text) = false
 is_quit_order (insert after text) = false
+is_quit_order (replace at text) = false
+is_quit_order (delete first last) = false
 is_quit_order binary = false
 is_quit_order quit = true
 
@@ -58,5 +70,9 @@ abbrev pub Spells : List ℕ → Order → Type 0
 Spells line (append text) = (length line ≤ longest_command) × (((line ≡ codes "a") × (text ≡ [])) ⊎ (line ≡ codes "a " ++ text))
 Spells line (insert after text) =
     (length line ≤ longest_command) × (bytes : List ℕ) × (line ≡ codes "i " ++ bytes) × IsNumbered bytes after text
+Spells line (replace at text) =
+    (length line ≤ longest_command) × (bytes : List ℕ) × (line ≡ codes "r " ++ bytes) × IsNumbered bytes at text
+Spells line (delete first last) =
+    (length line ≤ longest_command) × (bytes : List ℕ) × (line ≡ codes "d " ++ bytes) × IsRange bytes first last
 Spells line binary = (length line ≤ longest_command) × (line ≡ codes "binary")
 Spells line quit = (length line ≤ longest_command) × IsTrue (is_quit line)

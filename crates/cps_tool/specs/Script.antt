@@ -3,8 +3,8 @@ use Rattle.std.specs.Prelude.{◌≡◌, ℕ, Bool, true, not, List, [], ◌∷�
 use Rattle.std.specs.List.{list_all}
 use Rattle.cps_tool.specs.declared.reply.Refusal.TheVariants as refusals
 use Rattle.cps_tool.specs.Binary.{binary_text}
-use Rattle.cps_tool.specs.Command.{Order, append, insert, binary, quit, Spells, is_quit}
-use Rattle.cps_tool.specs.Edits.{Inserted}
+use Rattle.cps_tool.specs.Command.{Order, append, insert, replace, delete, binary, quit, Spells, is_quit}
+use Rattle.cps_tool.specs.Edits.{Inserted, Replaced, Deleted}
 use Rattle.cps_tool.specs.Lines.{Splits, without_return, last_line}
 use Rattle.cps_tool.specs.Reply.{Response, accepted, refused, shown, reply_text}
 
@@ -18,6 +18,8 @@ Queried old text (shown bytes) new = (bytes ≡ text) × (new ≡ old)
 abbrev pub Obeys : List (List ℕ) → Order → Response → List (List ℕ) → Type 0
 Obeys old (append text) response new = Inserted old (length old) text response new
 Obeys old (insert after text) response new = Inserted old after text response new
+Obeys old (replace at text) response new = Replaced old at text response new
+Obeys old (delete first last) response new = Deleted old first last response new
 Obeys old binary response new = Queried old (binary_text old) response new
 Obeys old quit response new = ⊥
 

@@ -1,5 +1,4 @@
 -- States of the code, as states.
-use Rattle.std.specs.Prelude.{option_map}
 use Rattle.cps_code.specs.Place.{position}
 use Rattle.cps_tool.specs.declared.state.Phase.{Phase as PhaseOfCode}
 use Rattle.cps_tool.specs.declared.state.Phase.TheVariants as code
@@ -14,7 +13,7 @@ phase_value code.AfterEnd = after_end
 abbrev pub state_value : StateOfCode → State
 state_value state = record {
   phase = phase_value state.phase;
-  program = option_map (λ name. name.now) state.program;
+  program = state.program;
   position = position state.place;
   is_pending = state.place.is_pending;
 }

@@ -1,25 +1,25 @@
 //! What a line asks.
 ghost use Rattle.std.specs.Prelude.{◌≡◌, ◌<◌, IfOk, IfSome, bytes_eq, length};
 ghost use Rattle.std.specs.List.{before_first, position};
-ghost use Rattle.cps_tool.specs.Action.{has_lower, ends_operand, first_operand, is_read, action_named, ident_action, org_action, instruction_action, statement_action, action_of};
+ghost use Rattle.cps_tool.specs.Action.{has_lower, ends_operand, first_operand, is_read, action_named, ident_action, has_names, org_action, instruction_action, statement_action, action_of};
 ghost use Rattle.cps_tool.specs.CardFields.{statement_value};
 ghost use Rattle.cps_tool.specs.Actions.{action_value};
 ghost use Rattle.cps_code.specs.declared.radix.Radix.TheVariants.{Decimal};
+ghost use Rattle.cps_code.specs.Name.{name_of};
 ghost use Rattle.cps_code.specs.Number.{number_of};
 ghost use Rattle.cps_code.specs.Table.{form_of};
 
 use super::card::{Statement, before_blank, fields};
-use super::symbol::is_symbol;
-use cps_code::{CpForm, FormFault, Radix, cp_form, read_number};
+use cps_code::{CpForm, FormFault, Name, Radix, cp_form, read_number};
 use std::alloc::{AllocError, Global};
 
 /// What a line asks, as far as the language goes yet.
 #[derive(Drop)]
-pub enum Action<'a> {
+pub enum Action {
     /// A comment, and a statement that the language doesn't have yet.
     Nothing,
     /// The program's name.
-    Ident(&'a [u8]),
+    Ident(Name),
     /// A program of the central processor.
     Abs,
     /// The address of the next word.
@@ -29,7 +29,7 @@ pub enum Action<'a> {
 }
 
 /// The action of a line.
-pub fn read_action(alloc: Global, line: &[u8]) -> Result<Action<'_>, AllocError>
+pub fn read_action(alloc: Global, line: &[u8]) -> Result<Action, AllocError>
     ensures { IfOk result (λ action. action_value action ≡ action_of line.now) }
 {
     match fields(line) {
@@ -38,7 +38,7 @@ pub fn read_action(alloc: Global, line: &[u8]) -> Result<Action<'_>, AllocError>
     }
 }
 
-fn statement_action(alloc: Global, statement: Statement<'_>) -> Result<Action<'_>, AllocError>
+fn statement_action(alloc: Global, statement: Statement<'_>) -> Result<Action, AllocError>
     ensures { IfOk result (λ action. action_value action ≡ statement_action (statement_value statement.entry)) }
 {
     if is_read(statement) {
@@ -63,11 +63,7 @@ fn has_lower(text: &[u8]) -> bool
     text.iter().any(|byte| byte.is_ascii_lowercase())
 }
 
-fn action_named<'a>(
-    alloc: Global,
-    operation: &[u8],
-    tail: &'a [u8],
-) -> Result<Action<'a>, AllocError>
+fn action_named(alloc: Global, operation: &[u8], tail: &[u8]) -> Result<Action, AllocError>
     ensures { IfOk result (λ action. action_value action ≡ action_named operation.now tail.now) }
 {
     if is_named(operation, b"IDENT") {
@@ -92,17 +88,16 @@ fn is_named(operation: &[u8], name: &[u8]) -> bool
 }
 
 /// The name of a program is the first operand, which is a symbol.
-fn ident_action(name: &[u8]) -> Action<'_>
-    ensures { action_value result ≡ ident_action name.now }
+fn ident_action(operand: &[u8]) -> Action
+    ensures { action_value result ≡ ident_action (name_of operand.now) }
 {
-    if is_symbol(name) {
-        Action::Ident(name)
-    } else {
-        Action::Nothing
+    match Name::read(operand) {
+        Some(name) => Action::Ident(name),
+        None => Action::Nothing,
     }
 }
 
-fn org_action(operand: &[u8]) -> Action<'_>
+fn org_action(operand: &[u8]) -> Action
     ensures { action_value result ≡ org_action (number_of Decimal operand.now) }
 {
     match read_number(operand, Radix::Decimal) {
@@ -111,19 +106,25 @@ fn org_action(operand: &[u8]) -> Action<'_>
     }
 }
 
-fn instruction_action<'a>(
-    alloc: Global,
-    operation: &[u8],
-    tail: &'a [u8],
-) -> Result<Action<'a>, AllocError>
+fn instruction_action(alloc: Global, operation: &[u8], tail: &[u8]) -> Result<Action, AllocError>
     ensures { IfOk result (λ action. action_value action ≡ instruction_action (form_of operation.now tail.now Decimal)) }
 {
     match cp_form(alloc, operation, tail, Radix::Decimal) {
+        Ok(form) if has_names(&form) => Ok(Action::Nothing),
         Ok(form) => Ok(Action::Instruction(form)),
         Err(FormFault::NoOperation) => Ok(Action::Nothing),
         Err(FormFault::Unreadable) => Ok(Action::Nothing),
         Err(FormFault::Memory) => Err(AllocError),
     }
+}
+
+/// Names have no values yet.
+fn has_names(form: &CpForm) -> bool
+    ensures { result ≡ has_names form.now }
+{
+    form.holes()
+        .iter()
+        .any(|hole| !hole.expression.names().is_empty())
 }
 
 /// What stands before the first blank or comma.

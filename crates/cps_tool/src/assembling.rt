@@ -8,18 +8,18 @@ use super::action::read_action;
 use super::line::Line;
 use super::meaning::obey;
 use super::state::{Phase, State};
-use cps_code::{Place, Words};
+use cps_code::{Name, Place, Words};
 use std::alloc::{AllocError, Global};
 
 /// A program's name and words.
 #[derive(Drop)]
-pub struct Assembled<'a> {
-    pub program: Option<&'a [u8]>,
+pub struct Assembled {
+    pub program: Option<Name>,
     pub words: Words,
 }
 
 /// Assembles lines. Both passes are made in one, since nothing is known later yet.
-pub fn assemble(alloc: Global, lines: &[Line]) -> Result<Assembled<'_>, AllocError>
+pub fn assemble(alloc: Global, lines: &[Line]) -> Result<Assembled, AllocError>
     ensures { IfOk result (λ assembled. IsAssembled assembled lines.now) }
 {
     let mut state = first_state();
@@ -34,7 +34,7 @@ pub fn assemble(alloc: Global, lines: &[Line]) -> Result<Assembled<'_>, AllocErr
     })
 }
 
-fn first_state() -> State<'static>
+fn first_state() -> State
     ensures { state_value result ≡ first_state }
 {
     State {

@@ -1,5 +1,5 @@
 //! The binary text.
-ghost use Rattle.std.specs.Prelude.{◌≡◌, ◌++◌, IfOk, OnOk, List, Option, option_map};
+ghost use Rattle.std.specs.Prelude.{◌≡◌, ◌++◌, IfOk, OnOk, List, Option};
 ghost use Rattle.cps_code.specs.Image.{Piece, ArePacked};
 ghost use Rattle.cps_tool.specs.Assembly.{limit};
 ghost use Rattle.cps_tool.specs.Binary as texts;
@@ -8,7 +8,7 @@ use super::assembling::assemble;
 use super::line::Line;
 use super::octal::push_octal;
 use super::state::LIMIT;
-use cps_code::Words;
+use cps_code::{Name, Words};
 use std::alloc::{AllocError, Global};
 
 /// The octal digits of an address and of a word.
@@ -27,13 +27,13 @@ pub fn binary_text(alloc: Global, lines: &[Line]) -> Result<Vec<u8>, AllocError>
     Ok(text)
 }
 
-fn push_first_row(text: &mut Vec<u8>, program: Option<&[u8]>) -> Result<(), AllocError>
-    ensures { OnOk result (text.new.items ≡ text.old.items ++ texts.first_row (option_map (λ name. name.now) program.entry)) }
+fn push_first_row(text: &mut Vec<u8>, program: Option<Name>) -> Result<(), AllocError>
+    ensures { OnOk result (text.new.items ≡ text.old.items ++ texts.first_row program) }
 {
     text.extend_from_slice(b"IDENT")?;
     if let Some(name) = program {
         text.push(b' ')?;
-        text.extend_from_slice(name)?;
+        text.extend_from_slice(name.text())?;
     }
     text.push(b'\n')?;
     Ok(())

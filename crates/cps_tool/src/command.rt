@@ -1,7 +1,7 @@
 //! The commands of a script.
 ghost use Rattle.std.specs.Prelude.{◌≡◌, ℕ, ◌<◌, ◌≤◌, List, false, length, IfOk, IfSome, IfNone, MatchResult, MatchOption};
 ghost use Rattle.std.specs.List.{before_first, after_first, position_from};
-ghost use Rattle.cps_tool.specs.Command.{Order, append, insert, binary, Spells, IsNumber, IsNumbered, is_quit, is_quit_order, order_of, is_blank};
+ghost use Rattle.cps_tool.specs.Command.{Order, append, insert, replace, delete, binary, Spells, IsNumber, IsNumbered, IsRange, is_quit, is_quit_order, order_of, is_blank};
 
 use thiserror::Error;
 
@@ -25,6 +25,10 @@ pub enum Command<'a> {
     Append(&'a [u8]),
     /// To insert a text behind the line of that number, 0 for the front.
     Insert(u32, &'a [u8]),
+    /// To put a text in place of the line of that number.
+    Replace(u32, &'a [u8]),
+    /// To delete the lines from one number to another.
+    Delete(u32, u32),
     /// To write the binary text.
     Binary,
     /// To end the script.
@@ -42,6 +46,12 @@ impl<'a> Command<'a> {
             return Err(ScriptFault::BadCommand);
         }
         if let Some(command) = read_insert(line) {
+            return Ok(command);
+        }
+        if let Some(command) = read_replace(line) {
+            return Ok(command);
+        }
+        if let Some(command) = read_delete(line) {
             return Ok(command);
         }
         match read_plain(line) {
@@ -86,6 +96,40 @@ fn read_insert(line: &[u8]) -> Option<Command<'_>>
     }
 }
 
+/// The command to put a text in place of a line, None where the line spells another or none.
+fn read_replace(line: &[u8]) -> Option<Command<'_>>
+    requires { length line.now ≤ LONGEST_COMMAND }
+    ensures order { MatchOption result
+        ((at : ℕ) (text : List ℕ) → Spells line.now (replace at text) → ⊥)
+        (λ command. Spells line.now (order_of command)) }
+    ensures quit { IfSome result (λ command. is_quit line.now ≡ is_quit_order (order_of command)) }
+{
+    match line {
+        [b'r', b' ', bytes @ ..] => {
+            let (at, text) = read_numbered(bytes)?;
+            Some(Command::Replace(at, text))
+        }
+        _ => None,
+    }
+}
+
+/// The command to delete lines, None where the line spells another or none.
+fn read_delete(line: &[u8]) -> Option<Command<'_>>
+    requires { length line.now ≤ LONGEST_COMMAND }
+    ensures order { MatchOption result
+        ((first last : ℕ) → Spells line.now (delete first last) → ⊥)
+        (λ command. Spells line.now (order_of command)) }
+    ensures quit { IfSome result (λ command. is_quit line.now ≡ is_quit_order (order_of command)) }
+{
+    match line {
+        [b'd', b' ', bytes @ ..] => {
+            let (first, last) = read_range(bytes)?;
+            Some(Command::Delete(first, last))
+        }
+        _ => None,
+    }
+}
+
 /// A number of 1 to 5 digits, and the text behind the blank that follows it.
 fn read_numbered(bytes: &[u8]) -> Option<(u32, &[u8])>
     ensures { MatchOption result
@@ -95,6 +139,25 @@ fn read_numbered(bytes: &[u8]) -> Option<(u32, &[u8])>
     let (digits, text) = split_at_blank(bytes);
     let number = read_number(digits)?;
     Some((number, text))
+}
+
+/// The numbers of the first and the last of some lines, with a blank between them. One number alone is both.
+fn read_range(bytes: &[u8]) -> Option<(u32, u32)>
+    ensures { MatchOption result
+        ((first last : ℕ) → IsRange bytes.now first last → ⊥)
+        (λ range. IsRange bytes.now range.0 range.1) }
+{
+    match first_blank(bytes) {
+        Some(at) => {
+            let first = read_number(&bytes[..at])?;
+            let last = read_number(&bytes[at + 1..])?;
+            Some((first, last))
+        }
+        None => {
+            let only = read_number(bytes)?;
+            Some((only, only))
+        }
+    }
 }
 
 /// The bytes before and behind the first blank, or all of them and none.

@@ -16,7 +16,6 @@ pub mod script;
 pub mod script_line;
 pub mod session;
 pub mod state;
-pub mod symbol;
 pub mod writing;
 
 pub use command::{Command, ScriptFault};

@@ -10,17 +10,17 @@ ghost use Rattle.cps_tool.specs.Making.{Adds};
 
 use super::action::Action;
 use super::state::{LIMIT, Phase, State};
-use cps_code::{CpForm, Filling, Force, Piece, Place, Words, place_next};
+use cps_code::{CpForm, Filling, Force, Name, NoNames, Piece, Place, Words, place_next};
 use std::alloc::AllocError;
 
 /// Does what a line asks.
-pub fn obey<'a>(
-    state: State<'a>,
+pub fn obey(
+    state: State,
     words: &mut Words,
-    action: Action<'a>,
-) -> Result<State<'a>, AllocError>
-    ensures next { IfOk result (λ next. state_value next ≡ (done_in (phase_value state.entry.phase) (action_value action.entry) (state_value state.entry)).next) }
-    ensures words { OnOk result (Adds (pass_two (done_in (phase_value state.entry.phase) (action_value action.entry) (state_value state.entry)).items) words.old words.new) }
+    action: Action,
+) -> Result<State, AllocError>
+    ensures next { IfOk result (λ next. state_value next ≡ (done_in (phase_value state.phase) (action_value action) (state_value state)).next) }
+    ensures words { OnOk result (Adds (pass_two (done_in (phase_value state.phase) (action_value action) (state_value state)).items) words.old words.new) }
 {
     match state.phase {
         Phase::AfterEnd => Ok(state),
@@ -29,9 +29,9 @@ pub fn obey<'a>(
     }
 }
 
-fn act<'a>(state: State<'a>, words: &mut Words, action: Action<'a>) -> Result<State<'a>, AllocError>
-    ensures next { IfOk result (λ next. state_value next ≡ (done (action_value action.entry) (state_value state.entry)).next) }
-    ensures words { OnOk result (Adds (pass_two (done (action_value action.entry) (state_value state.entry)).items) words.old words.new) }
+fn act(state: State, words: &mut Words, action: Action) -> Result<State, AllocError>
+    ensures next { IfOk result (λ next. state_value next ≡ (done (action_value action) (state_value state)).next) }
+    ensures words { OnOk result (Adds (pass_two (done (action_value action) (state_value state)).items) words.old words.new) }
 {
     match action {
         Action::Nothing => Ok(state),
@@ -44,8 +44,8 @@ fn act<'a>(state: State<'a>, words: &mut Words, action: Action<'a>) -> Result<St
 }
 
 /// Names the program, where it is the first name in the head.
-fn identify<'a>(state: State<'a>, name: &'a [u8]) -> State<'a>
-    ensures { unchanged (state_value result) ≡ identified (phase_value state.entry.phase) (state_value state.entry) name.entry.now (option_map (λ earlier. earlier.now) state.entry.program) }
+fn identify(state: State, name: Name) -> State
+    ensures { unchanged (state_value result) ≡ identified (phase_value state.phase) (state_value state) name state.program }
 {
     match (state.phase, state.program) {
         (Phase::Head, None) => State {
@@ -57,8 +57,8 @@ fn identify<'a>(state: State<'a>, name: &'a [u8]) -> State<'a>
     }
 }
 
-fn into_body(state: State<'_>) -> State<'_>
-    ensures { state_value result ≡ in_body (state_value state.entry) }
+fn into_body(state: State) -> State
+    ensures { state_value result ≡ in_body (state_value state) }
 {
     State {
         phase: Phase::Body,
@@ -68,9 +68,9 @@ fn into_body(state: State<'_>) -> State<'_>
 }
 
 /// ORG: leaves the word that was begun, and goes on at an address.
-fn move_to<'a>(state: State<'a>, words: &mut Words, address: u64) -> Result<State<'a>, AllocError>
-    ensures next { IfOk result (λ next. state_value next ≡ (done (action.org address) (state_value state.entry)).next) }
-    ensures words { OnOk result (Adds (pass_two (done (action.org address) (state_value state.entry)).items) words.old words.new) }
+fn move_to(state: State, words: &mut Words, address: u64) -> Result<State, AllocError>
+    ensures next { IfOk result (λ next. state_value next ≡ (done (action.org address) (state_value state)).next) }
+    ensures words { OnOk result (Adds (pass_two (done (action.org address) (state_value state)).items) words.old words.new) }
 {
     if address > u64::from(LIMIT) {
         return Ok(into_body(state));
@@ -88,9 +88,9 @@ fn move_to<'a>(state: State<'a>, words: &mut Words, address: u64) -> Result<Stat
 }
 
 /// END: leaves the word that was begun.
-fn finish<'a>(state: State<'a>, words: &mut Words) -> Result<State<'a>, AllocError>
-    ensures next { IfOk result (λ next. state_value next ≡ (done action.end (state_value state.entry)).next) }
-    ensures words { OnOk result (Adds (pass_two (done action.end (state_value state.entry)).items) words.old words.new) }
+fn finish(state: State, words: &mut Words) -> Result<State, AllocError>
+    ensures next { IfOk result (λ next. state_value next ≡ (done action.end (state_value state)).next) }
+    ensures words { OnOk result (Adds (pass_two (done action.end (state_value state)).items) words.old words.new) }
 {
     let place = force(state.place, words)?;
     Ok(State {
@@ -143,9 +143,9 @@ fn put_bits(place: Place, width: u8, number: u64, words: &mut Words) -> Result<(
 }
 
 /// An instruction: puts it at the least place where it may begin, unless that passes the machine's words.
-fn put_form<'a>(state: State<'a>, words: &mut Words, form: &CpForm) -> Result<State<'a>, AllocError>
-    ensures next { IfOk result (λ next. state_value next ≡ (done (action.instruction form.now) (state_value state.entry)).next) }
-    ensures words { OnOk result (Adds (pass_two (done (action.instruction form.now) (state_value state.entry)).items) words.old words.new) }
+fn put_form(state: State, words: &mut Words, form: &CpForm) -> Result<State, AllocError>
+    ensures next { IfOk result (λ next. state_value next ≡ (done (action.instruction form.now) (state_value state)).next) }
+    ensures words { OnOk result (Adds (pass_two (done (action.instruction form.now) (state_value state)).items) words.old words.new) }
 {
     let bits = form.bits();
     let placed = place_next(state.place, bits, Force::Free);
@@ -178,7 +178,7 @@ fn digits(form: &CpForm) -> u64
     ensures fits { result < 2 ^ form.now.bits }
 {
     match form.holes() {
-        [hole] => form.fill(&[hole.expression.value().unwrap_or(0)]).digits,
+        [hole] => form.fill(&[hole.expression.value(&NoNames).value.unwrap_or(0)]).digits,
         [] => form.fill(&[]).digits,
         _ => unreachable!(),
     }

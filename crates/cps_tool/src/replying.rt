@@ -3,7 +3,7 @@ ghost use Rattle.std.specs.Prelude.{◌≡◌, ℕ, List, ◌++◌, false, true,
 ghost use Rattle.std.specs.Io.KnownBytes.{Appends};
 ghost use Rattle.cps_tool.specs.Command.{is_quit};
 ghost use Rattle.cps_tool.specs.Counted.{inner_of, failures_of, raised};
-ghost use Rattle.cps_tool.specs.Edits.{Inserted};
+ghost use Rattle.cps_tool.specs.Edits.{Inserted, Replaced, Deleted};
 ghost use Rattle.cps_tool.specs.Reply.{meaning_of, reply_text, refusal_text};
 ghost use Rattle.cps_tool.specs.Script.{Answers};
 
@@ -28,6 +28,8 @@ pub fn obey(alloc: Global, line: &[u8], session: &mut Session) -> Option<Reply>
         Err(_) => Some(Reply::Refused(Refusal::BadCommand)),
         Ok(Command::Append(text)) => Some(insert_text(alloc, session.count(), text, session)),
         Ok(Command::Insert(after, text)) => Some(insert_text(alloc, after, text, session)),
+        Ok(Command::Replace(at, text)) => Some(replace_text(alloc, at, text, session)),
+        Ok(Command::Delete(first, last)) => Some(delete_lines(first, last, session)),
         Ok(Command::Binary) => Some(match session.binary(alloc) {
             Ok(text) => Reply::Shown(text),
             Err(_) => Reply::Refused(Refusal::NoMemory),
@@ -51,6 +53,39 @@ fn insert_text(alloc: Global, after: u32, text: &[u8], session: &mut Session) ->
         Err(LineFault::Memory) => return Reply::Refused(Refusal::NoMemory),
     };
     match session.insert(after, line) {
+        Ok(()) => Reply::Accepted(session.count()),
+        Err(EditFault::NoSuchLine) => Reply::Refused(Refusal::NoSuchLine),
+        Err(EditFault::TooManyLines) => Reply::Refused(Refusal::TooManyLines),
+        Err(EditFault::Memory) => Reply::Refused(Refusal::NoMemory),
+    }
+}
+
+/// Puts a text in place of line `at`, where lines count from 1.
+fn replace_text(alloc: Global, at: u32, text: &[u8], session: &mut Session) -> Reply
+    ensures { Replaced session.old at text.now (meaning_of result) session.new }
+{
+    if at == 0 || at > session.count() {
+        return Reply::Refused(Refusal::NoSuchLine);
+    }
+    let line = match Line::new(alloc, text) {
+        Ok(line) => line,
+        Err(LineFault::LineTooLong) => return Reply::Refused(Refusal::LineTooLong),
+        Err(LineFault::BadCharacter) => return Reply::Refused(Refusal::BadCharacter),
+        Err(LineFault::Memory) => return Reply::Refused(Refusal::NoMemory),
+    };
+    match session.replace(at, line) {
+        Ok(()) => Reply::Accepted(session.count()),
+        Err(EditFault::NoSuchLine) => Reply::Refused(Refusal::NoSuchLine),
+        Err(EditFault::TooManyLines) => Reply::Refused(Refusal::TooManyLines),
+        Err(EditFault::Memory) => Reply::Refused(Refusal::NoMemory),
+    }
+}
+
+/// Deletes the lines from `first` to `last`, where lines count from 1.
+fn delete_lines(first: u32, last: u32, session: &mut Session) -> Reply
+    ensures { Deleted session.old first last (meaning_of result) session.new }
+{
+    match session.delete(first, last) {
         Ok(()) => Reply::Accepted(session.count()),
         Err(EditFault::NoSuchLine) => Reply::Refused(Refusal::NoSuchLine),
         Err(EditFault::TooManyLines) => Reply::Refused(Refusal::TooManyLines),

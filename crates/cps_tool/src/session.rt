@@ -1,6 +1,7 @@
 //! A source that is edited line by line.
-ghost use Rattle.std.specs.Prelude.{◌≡◌, ◌-◌, ◌<◌, ◌≤◌, ◌↔◌, [], length, insert, slice_get, Some, IsTrue, IsSome, IfSome, OnOk, OnErr, IfOk, IsErrOf};
+ghost use Rattle.std.specs.Prelude.{◌≡◌, ◌-◌, ◌<◌, ◌≤◌, ◌↔◌, [], length, insert, slice_get, slice_set, Some, IsTrue, IsOk, IsSome, IfSome, OnOk, OnErr, IfOk, IsErrOf};
 ghost use Rattle.cps_tool.specs.Binary as texts;
+ghost use Rattle.cps_tool.specs.Edits.{HasLine, LacksLine, HasLines, LacksLines, without_lines};
 
 use super::binary;
 use super::line::Line;
@@ -98,6 +99,38 @@ impl Session {
             Ok(()) => Ok(()),
             Err(_) => Err(EditFault::Memory),
         }
+    }
+
+    /// Puts a line in place of line `at`, where lines count from 1. A line that is refused is dropped. Takes no memory.
+    pub fn replace(&mut self, at: u32, line: Line) -> Result<(), EditFault>
+        ensures ok { OnOk result (self.new ≡ slice_set self.old (at - 1) line) }
+        ensures allowed { IsOk result ↔ HasLine self.old at }
+        ensures err { OnErr result (self.new ≡ self.old) }
+        ensures no_line { IsErrOf result EditFault.NoSuchLine ↔ LacksLine self.old at }
+        ensures too_many { IsErrOf result EditFault.TooManyLines → ⊥ }
+        ensures memory { IsErrOf result EditFault.Memory → ⊥ }
+    {
+        if at == 0 || at as usize > self.lines.len() {
+            return Err(EditFault::NoSuchLine);
+        }
+        self.lines[at as usize - 1] = line;
+        Ok(())
+    }
+
+    /// Deletes the lines from `first` to `last`, where lines count from 1. Takes no memory.
+    pub fn delete(&mut self, first: u32, last: u32) -> Result<(), EditFault>
+        ensures ok { OnOk result (self.new ≡ without_lines self.old first last) }
+        ensures allowed { IsOk result ↔ HasLines self.old first last }
+        ensures err { OnErr result (self.new ≡ self.old) }
+        ensures no_line { IsErrOf result EditFault.NoSuchLine ↔ LacksLines self.old first last }
+        ensures too_many { IsErrOf result EditFault.TooManyLines → ⊥ }
+        ensures memory { IsErrOf result EditFault.Memory → ⊥ }
+    {
+        if first == 0 || last < first || last as usize > self.lines.len() {
+            return Err(EditFault::NoSuchLine);
+        }
+        self.lines.drain(first as usize - 1..last as usize);
+        Ok(())
     }
 
     /// The binary text of the source.

@@ -1,7 +1,7 @@
 //! Where the assembly of a program stands.
 ghost use Rattle.std.specs.Prelude.{◌*◌, ◌+◌, ◌≤◌};
 
-use cps_code::Place;
+use cps_code::{Name, Place};
 
 /// The words that the machine has.
 pub const LIMIT: u32 = 131_072;
@@ -18,9 +18,9 @@ pub enum Phase {
 
 /// Where the assembly of a program stands: its part, its name, and the place of what comes next.
 #[derive(Clone, Copy)]
-pub struct State<'a> {
+pub struct State {
     pub phase: Phase,
-    pub program: Option<&'a [u8]>,
+    pub program: Option<Name>,
     pub place: Place,
     ghost within: { 60 * place.word + place.used ≤ 60 * 131072 },
 }

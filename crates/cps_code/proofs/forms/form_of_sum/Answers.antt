@@ -13,7 +13,7 @@ returns-in-None-long_form-clause-memory c = λ is n sum kept.
 pub returns-then-kept-clause-form : goal.returns-then-kept-clause-form
 returns-then-kept-clause-form c = λ n sum kept.
     let found = long-kept c.args.f c.args.i n c.args.kept sum (Some c.in-Some.code) kept c.if-kept.true (c.in-Some.ensures.form n) in
-    let same = long_form-kept (λ constant. constant.items) c.args.kept.constant sum.constant c.in-Some.code c.in-Some-long_form.form c.in-Some-long_form.ensures kept.constant in
+    let same = long_form-kept c.args.kept.constant sum.constant c.in-Some.code c.in-Some-long_form.form c.in-Some-long_form.ensures kept.constant in
     found ∙ ap Some (sym same)
 
 pub returns-in-None-short_form-clause-unreadable : goal.returns-in-None-short_form-clause-unreadable

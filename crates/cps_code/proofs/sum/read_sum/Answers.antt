@@ -8,7 +8,7 @@ use Rattle.cps_code.proofs.sum.read_sum.Goals as goal
 pub terms-init : goal.terms-init
 terms-init c = (
   no_terms,
-  record { registers = refl; has_constant = refl; constant = c.new.ensures.items; digits = λ k d h. absurd (omega arith); range = λ k d h. absurd (omega arith) },
+  record { registers = refl; has_constant = refl; constant = c.new.ensures; digits = λ k d h. absurd (omega arith) },
   joined-none (rest_sum c.args.radix c.leading_sign-is_minus.result.0 c.leading_sign-is_minus.result.1.now)
       ∙ sum-start c.args.radix c.leading_sign-is_minus.result.0 c.args.text.now c.leading_sign-is_minus.result.1.now c.leading_sign-is_minus.ensures,
 )

@@ -1,0 +1,7 @@
+use Rattle.std.proofs.Common.{◌∙◌, ap, set}
+use Rattle.cps_code.proofs.NameLemmas.{padded-more}
+use Rattle.cps_code.proofs.name.padded.Goals as goal
+
+pub loop-i-preserved : goal.loop-i-preserved
+loop-i-preserved c =
+    rw (c.loop-i.invariant, c.capital.ensures) (padded-more c.args.text.now c.loop-i.i c.loop-i-test.true c.requires)
