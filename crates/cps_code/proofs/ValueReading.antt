@@ -114,10 +114,10 @@ summed-none f terms i sum within so_far bad =
     let at = values-at f terms i within in
     sym (⊎_elim
     (λ (term : is_in_range (term_value f (get_or terms i none_term)) ≡ false).
-        chosen_second (list_all is_in_range values) (value_of values) None (fails-at is_in_range values i there (rw (← at) term)))
+    chosen_second (list_all is_in_range values) (value_of values) None (fails-at is_in_range values i there (rw (← at) term)))
     (λ (large : is_in_range (sum +ℤ term_value f (get_or terms i none_term)) ≡ false).
-        let next = total-more values i sum (term_value f (get_or terms i none_term)) there so_far.sum at in
-        either_none (list_all is_in_range values) (value_of values) (value_of-none values (i + 1) (omega arith) (rw (← next) large)))
+    let next = total-more values i sum (term_value f (get_or terms i none_term)) there so_far.sum at in
+    either_none (list_all is_in_range values) (value_of values) (value_of-none values (i + 1) (omega arith) (rw (← next) large)))
     bad)
 
 pub summed-all : (f : Name → Option ℤ) (terms : List Term) (i : ℕ) (sum : ℤ) → length terms ≤ i → IsSummed (map (term_value f) terms) i sum → Some sum ≡ value_in f terms

@@ -19,4 +19,3 @@ register_of minus (character ∷ []) = None
 register_of minus (character ∷ digit ∷ []) =
     if is_digit 8 digit then option_map (λ letter. record { is_minus = minus; letter = letter; digit = digit - 48 }) (letter_of character) else None
 register_of minus (character ∷ digit ∷ more ∷ text) = None
-

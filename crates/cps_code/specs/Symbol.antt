@@ -1,5 +1,5 @@
 -- Symbols. From the manual's section on symbols; that other characters aren't allowed in them, and that registers are none, is our profile's.
-use Rattle.std.specs.Prelude.{ℕ, ◌-◌, ◌≤◌, Bool, false, ◌&&◌, ◌||◌, not, ◌==◌, nat_le, nat_lt, List, [], ◌∷◌, ◌++◌, map, length, slice_index, replicate, codes, is_some, if◌then◌else◌}
+use Rattle.std.specs.Prelude.{ℕ, ◌-◌, Bool, false, ◌&&◌, ◌||◌, not, ◌==◌, nat_le, nat_lt, List, [], ◌∷◌, ◌++◌, map, length, slice_index, replicate, codes, is_some, if◌then◌else◌}
 use Rattle.std.specs.List.{list_all}
 use Rattle.cps_code.specs.Text.{among}
 use Rattle.cps_code.specs.Number.{is_digit}

@@ -1,7 +1,6 @@
 -- Sums of the code, as sums.
 use Rattle.std.specs.Prelude.{◌≡◌, IsTrue, ℕ, ◌<◌, Bool, List, [], ◌∷◌, ◌++◌, All, IfSome, if◌then◌else◌}
 use Rattle.cps_code.specs.declared.register.RegisterTerm.{RegisterTerm}
-use Rattle.cps_code.specs.declared.expr.Term.{Term}
 use Rattle.cps_code.specs.declared.sum.SumTerm.{SumTerm as TermOfCode}
 use Rattle.cps_code.specs.declared.sum.SumTerm.TheVariants as code
 use Rattle.cps_code.specs.declared.sum.Registers.{Registers}

@@ -115,9 +115,7 @@ fn push_name(names: &mut Vec<Name>, element: Element) -> Result<(), AllocError>
 fn has_undefined<N: Names>(terms: &[Term], names: &N) -> bool
     ensures { result ≡ has_undefined (N.value names.now) terms.now }
 {
-    terms
-        .iter()
-        .any(|term| is_undefined(term.element, names))
+    terms.iter().any(|term| is_undefined(term.element, names))
 }
 
 fn is_undefined<N: Names>(element: Element, names: &N) -> bool

@@ -14,11 +14,7 @@ use cps_code::{CpForm, Filling, Force, Name, NoNames, Piece, Place, Words, place
 use std::alloc::AllocError;
 
 /// Does what a line asks.
-pub fn obey(
-    state: State,
-    words: &mut Words,
-    action: Action,
-) -> Result<State, AllocError>
+pub fn obey(state: State, words: &mut Words, action: Action) -> Result<State, AllocError>
     ensures next { IfOk result (λ next. state_value next ≡ (done_in (phase_value state.phase) (action_value action) (state_value state)).next) }
     ensures words { OnOk result (Adds (pass_two (done_in (phase_value state.phase) (action_value action) (state_value state)).items) words.old words.new) }
 {
@@ -178,7 +174,9 @@ fn digits(form: &CpForm) -> u64
     ensures fits { result < 2 ^ form.now.bits }
 {
     match form.holes() {
-        [hole] => form.fill(&[hole.expression.value(&NoNames).value.unwrap_or(0)]).digits,
+        [hole] => form
+            .fill(&[hole.expression.value(&NoNames).value.unwrap_or(0)])
+            .digits,
         [] => form.fill(&[]).digits,
         _ => unreachable!(),
     }

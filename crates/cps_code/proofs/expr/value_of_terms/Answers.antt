@@ -1,4 +1,4 @@
-use Rattle.std.proofs.Common.{◌≡◌, ℤ, pos, sym, ap, ◌∙◌, refl, arith, to_z, of_z, w64}
+use Rattle.std.proofs.Common.{to_z, w64}
 use Rattle.std.proofs.lemmas.Int.{to_z-of_z}
 use Rattle.cps_code.proofs.ValueReading.{summed-more, summed-none, summed-all, fits-in_range}
 use Rattle.cps_code.proofs.expr.value_of_terms.Goals as goal

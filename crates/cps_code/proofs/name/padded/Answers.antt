@@ -1,4 +1,3 @@
-use Rattle.std.proofs.Common.{◌∙◌, ap, set}
 use Rattle.cps_code.proofs.NameLemmas.{padded-more}
 use Rattle.cps_code.proofs.name.padded.Goals as goal
 
