@@ -1,7 +1,7 @@
 //! The codes of statements, and the words that they make.
 use cps_code::{
-    CpForm, Filled, Force, FormFault, Name, NoNames, Piece, Place, Placed, Radix, Words, cp_form,
-    place_next,
+    CpForm, Expr, ExprFault, Filled, Force, FormFault, Name, NoNames, Piece, Place, Placed, Radix,
+    Words, cp_form, place_next,
 };
 use std::process::Abort;
 use std::test::Fail;
@@ -119,7 +119,38 @@ fn values_names(rt: HostRuntime) -> Result<(), Fail> {
     let want: [&[u8]; 3] = [b"FIRST", b"FIRST", b"SECOND"];
     assert_eq!(rt; names.as_slice(), want.as_slice());
     let valued = hole.expression.value(&NoNames);
-    assert_eq!(rt; (valued.value, valued.is_undefined), (Some(-7), true));
+    assert_eq!(rt; (valued.value, valued.undefined), (Some(-7), true));
+    Ok(())
+}
+
+#[test]
+fn reads_expressions(rt: HostRuntime) -> Result<(), Fail> {
+    let greatest = 576_460_752_303_423_487;
+    let rows: [(&[u8], Result<(Option<i64>, bool), ExprFault>); 13] = [
+        (b"1+2", Ok((Some(3), false))),
+        (b"-5", Ok((Some(-5), false))),
+        (b"+10B-8D", Ok((Some(0), false))),
+        (b"start-1", Ok((Some(-1), true))),
+        (b"576460752303423487", Ok((Some(greatest), false))),
+        (b"576460752303423487+1", Ok((None, false))),
+        (b"576460752303423487+1-1", Ok((None, false))),
+        (b"576460752303423488", Err(ExprFault::Unreadable)),
+        (b"", Err(ExprFault::Unreadable)),
+        (b"1+", Err(ExprFault::Unreadable)),
+        (b"1--1", Err(ExprFault::Unreadable)),
+        (b"1+B1", Err(ExprFault::Unreadable)),
+        (b"A1+B1+X1", Err(ExprFault::Unreadable)),
+    ];
+    for (at, (text, want)) in rows.iter().enumerate() {
+        let got = match Expr::read(rt.alloc(), text, Radix::Decimal) {
+            Ok(expression) => {
+                let valued = expression.value(&NoNames);
+                Ok((valued.value, valued.undefined))
+            }
+            Err(fault) => Err(fault),
+        };
+        assert_eq!(rt; got, *want, "row {at}");
+    }
     Ok(())
 }
 

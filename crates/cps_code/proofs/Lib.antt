@@ -12,3 +12,4 @@ pub mod WorkedRows
 pub mod SetLemmas
 pub mod NameLemmas
 pub mod NamesLemmas
+pub mod ExpressionReading

@@ -88,3 +88,13 @@ sum_of_texts radix (text ∷ texts) = option_and_then (λ term. option_map (with
 -- the sum that a text writes
 abbrev pub sum_of : Radix → List ℕ → Option Sum
 sum_of radix text = sum_of_texts radix (signed_texts text)
+
+-- ---- expressions alone
+
+abbrev pub terms_alone : List RegisterTerm → List Term → Option (List Term)
+terms_alone [] terms = Some terms
+terms_alone (r ∷ registers) terms = None
+
+-- the expression that a text writes: a sum without registers
+abbrev pub expression_of : Radix → List ℕ → Option (List Term)
+expression_of radix text = option_and_then (λ sum. terms_alone sum.registers sum.constant) (sum_of radix text)

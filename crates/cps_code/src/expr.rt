@@ -32,7 +32,7 @@ pub struct Valued {
     /// the way, passes `2^59 - 1` in magnitude.
     pub value: Option<i64>,
     /// Whether some name has no value.
-    pub is_undefined: bool,
+    pub undefined: bool,
 }
 
 /// An expression: a sum of signed numbers and symbols.
@@ -88,12 +88,12 @@ impl Expr {
     /// What it gives under some names. Takes no memory.
     pub fn value<N: Names>(&self, names: &N) -> Valued
         ensures value { result.value ≡ value_in (N.value names.now) self.now }
-        ensures undefined { result.is_undefined ≡ has_undefined (N.value names.now) self.now }
+        ensures undefined { result.undefined ≡ has_undefined (N.value names.now) self.now }
         ensures range { IfSome result.value IsInRange }
     {
         Valued {
             value: value_of_terms(&self.terms, names),
-            is_undefined: has_undefined(&self.terms, names),
+            undefined: has_undefined(&self.terms, names),
         }
     }
 }
