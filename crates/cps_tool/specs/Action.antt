@@ -1,4 +1,4 @@
--- What a line asks, as far as the language goes yet. From the manual's sections on symbols, IDENT, ABS, ORG and END.
+-- What a line asks, as far as the language goes yet. From the manual's sections on IDENT, ABS, ORG and END.
 use Rattle.std.specs.Prelude.{ℕ, Bool, ◌&&◌, not, nat_lt, List, [], length, codes, bytes_eq, Option, None, Some, if◌then◌else◌}
 use Rattle.std.specs.List.{list_any, before_first}
 use Rattle.std.specs.Option.{option_map_or}

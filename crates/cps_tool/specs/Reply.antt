@@ -1,5 +1,7 @@
 -- Replies, and their text.
 use Rattle.std.specs.Prelude.{ℕ, List, ◌++◌, codes, decimal}
+use Rattle.cps_tool.specs.declared.session.EditFault.{EditFault}
+use Rattle.cps_tool.specs.declared.session.EditFault.TheVariants as faults
 use Rattle.cps_tool.specs.declared.reply.Refusal.{Refusal}
 use Rattle.cps_tool.specs.declared.reply.Refusal.TheVariants as refusals
 use Rattle.cps_tool.specs.declared.reply.Reply.{Reply}
@@ -16,6 +18,12 @@ abbrev pub meaning_of : Reply → Response
 meaning_of (Accepted count) = accepted count
 meaning_of (Refused refusal) = refused refusal
 meaning_of (Shown text) = shown text.items
+
+-- the refusal of an edit with this fault
+abbrev pub refusal_of : EditFault → Refusal
+refusal_of faults.NoSuchLine = refusals.NoSuchLine
+refusal_of faults.TooManyLines = refusals.TooManyLines
+refusal_of faults.Memory = refusals.NoMemory
 
 -- the text of a refusal
 abbrev pub refusal_text : Refusal → List ℕ

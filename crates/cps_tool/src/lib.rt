@@ -1,22 +1,22 @@
 //! The assembly of a source, and a session on one: a script of edits and queries comes in, and the replies go out.
 #![tactic(auto)]
 
-pub mod action;
-pub mod assembling;
-pub mod binary;
-pub mod card;
-pub mod command;
-pub mod counted;
-pub mod line;
-pub mod meaning;
-pub mod octal;
-pub mod reply;
-pub mod replying;
-pub mod script;
-pub mod script_line;
-pub mod session;
-pub mod state;
-pub mod writing;
+mod action;
+mod assembling;
+mod binary;
+mod card;
+mod command;
+mod counted;
+mod line;
+mod meaning;
+mod octal;
+mod reply;
+mod replying;
+mod script;
+mod script_line;
+mod session;
+mod state;
+mod writing;
 
 pub use command::{Command, ScriptFault};
 pub use counted::Counted;

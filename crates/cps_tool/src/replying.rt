@@ -4,7 +4,7 @@ ghost use Rattle.std.specs.Io.KnownBytes.{Appends};
 ghost use Rattle.cps_tool.specs.Command.{is_quit};
 ghost use Rattle.cps_tool.specs.Counted.{inner_of, failures_of, raised};
 ghost use Rattle.cps_tool.specs.Edits.{Inserted, Replaced, Deleted};
-ghost use Rattle.cps_tool.specs.Reply.{meaning_of, reply_text, refusal_text};
+ghost use Rattle.cps_tool.specs.Reply.{meaning_of, refusal_of, reply_text, refusal_text};
 ghost use Rattle.cps_tool.specs.Script.{Answers};
 
 use super::command::Command;
@@ -54,9 +54,7 @@ fn insert_text(alloc: Global, after: u32, text: &[u8], session: &mut Session) ->
     };
     match session.insert(after, line) {
         Ok(()) => Reply::Accepted(session.count()),
-        Err(EditFault::NoSuchLine) => Reply::Refused(Refusal::NoSuchLine),
-        Err(EditFault::TooManyLines) => Reply::Refused(Refusal::TooManyLines),
-        Err(EditFault::Memory) => Reply::Refused(Refusal::NoMemory),
+        Err(fault) => Reply::Refused(refusal_of_edit(fault)),
     }
 }
 
@@ -75,9 +73,7 @@ fn replace_text(alloc: Global, at: u32, text: &[u8], session: &mut Session) -> R
     };
     match session.replace(at, line) {
         Ok(()) => Reply::Accepted(session.count()),
-        Err(EditFault::NoSuchLine) => Reply::Refused(Refusal::NoSuchLine),
-        Err(EditFault::TooManyLines) => Reply::Refused(Refusal::TooManyLines),
-        Err(EditFault::Memory) => Reply::Refused(Refusal::NoMemory),
+        Err(fault) => Reply::Refused(refusal_of_edit(fault)),
     }
 }
 
@@ -87,9 +83,17 @@ fn delete_lines(first: u32, last: u32, session: &mut Session) -> Reply
 {
     match session.delete(first, last) {
         Ok(()) => Reply::Accepted(session.count()),
-        Err(EditFault::NoSuchLine) => Reply::Refused(Refusal::NoSuchLine),
-        Err(EditFault::TooManyLines) => Reply::Refused(Refusal::TooManyLines),
-        Err(EditFault::Memory) => Reply::Refused(Refusal::NoMemory),
+        Err(fault) => Reply::Refused(refusal_of_edit(fault)),
+    }
+}
+
+fn refusal_of_edit(fault: EditFault) -> Refusal
+    ensures { result ≡ refusal_of fault }
+{
+    match fault {
+        EditFault::NoSuchLine => Refusal::NoSuchLine,
+        EditFault::TooManyLines => Refusal::TooManyLines,
+        EditFault::Memory => Refusal::NoMemory,
     }
 }
 
