@@ -24,11 +24,12 @@ fn filled(form: &CpForm) -> Result<Filled, Fail> {
 
 #[test]
 fn codes_statements(rt: HostRuntime) -> Result<(), Fail> {
-    let rows: [(&[u8], &[u8], u64, bool); 11] = [
+    let rows: [(&[u8], &[u8], u64, bool); 12] = [
         (b"SA1", b"B1+3", 0o5111000003, false),
         (b"SX6", b"X1", 0o73610, false),
         (b"SA6", b"A1", 0o54610, false),
         (b"EQ", b"100B", 0o0400000100, false),
+        (b"EQ", b"-1+101B", 0o0400000100, false),
         (b"SA1", b"B0+1", 0o5110000001, false),
         (b"SX6", b"-B1", 0o77601, false),
         (b"SX1", b"-377777B", 0o7110400000, false),
@@ -51,9 +52,11 @@ fn codes_statements(rt: HostRuntime) -> Result<(), Fail> {
 
 #[test]
 fn refuses_statements(rt: HostRuntime) -> Result<(), Fail> {
-    let rows: [(&[u8], &[u8], Radix, FormFault); 3] = [
+    let rows: [(&[u8], &[u8], Radix, FormFault); 5] = [
         (b"XX", b"1", Radix::Decimal, FormFault::NoOperation),
         (b"SA1", b"-X1", Radix::Decimal, FormFault::Unreadable),
+        (b"EQ", b"X1", Radix::Decimal, FormFault::Unreadable),
+        (b"EQ", b"B1,B2,5", Radix::Decimal, FormFault::Unreadable),
         (b"SA1", b"18", Radix::Octal, FormFault::Unreadable),
     ];
     for (at, (operation, tail, radix, fault)) in rows.iter().enumerate() {

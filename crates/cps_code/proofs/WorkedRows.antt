@@ -34,6 +34,9 @@ two_registers = refl
 jump : code (codes "EQ") (codes "100B") ≡ is 0o0400000100 false
 jump = refl
 
+jump_to_sum : code (codes "EQ") (codes "START+1") ≡ is 0o0400000001 false
+jump_to_sum = refl
+
 negative : code (codes "SX1") (codes "-377777B") ≡ is 0o7110400000 false
 negative = refl
 
@@ -48,3 +51,9 @@ subtracted = refl
 
 no_such_row : code (codes "SA1") (codes "-X1") ≡ None
 no_such_row = refl
+
+jump_to_register : code (codes "EQ") (codes "X1") ≡ None
+jump_to_register = refl
+
+jump_on_registers : code (codes "EQ") (codes "B1,B2,5") ≡ None
+jump_on_registers = refl

@@ -1,4 +1,4 @@
--- The operand of a set instruction: a sum of signed terms, registers, numbers and symbols in any order.
+-- An operand: a sum of signed terms, registers, numbers and symbols in any order.
 -- From the manual's section on the set instructions; that all terms may stand in any order is our profile's.
 use Rattle.std.specs.Prelude.{ℕ, Bool, ◌==◌, List, [], ◌∷◌, drop, codes, Option, None, Some, option_map, option_and_then, if◌then◌else◌}
 use Rattle.cps_code.specs.declared.radix.Radix.{Radix}

@@ -4,7 +4,6 @@
 use Rattle.std.specs.Prelude.{ℕ, ◌+◌, ◌-◌, ◌*◌, ◌^◌, Bool, true, false, ◌&&◌, not, ◌==◌, List, [], ◌∷◌, ◌++◌, reverse, codes, fold, sum_by, Option, None, Some, option_map, option_and_then, is_some, if◌then◌else◌}
 use Rattle.std.specs.List.{before_first}
 use Rattle.cps_code.specs.declared.radix.Radix.{Radix}
-use Rattle.cps_code.specs.declared.expr.Element.TheVariants.{Number}
 use Rattle.cps_code.specs.declared.expr.Term.{Term}
 use Rattle.cps_code.specs.declared.hole.Hole.{Hole}
 use Rattle.cps_code.specs.declared.hole.HoleKind.TheVariants.{Value}
@@ -12,7 +11,7 @@ use Rattle.cps_code.specs.declared.register.Letter.{Letter}
 use Rattle.cps_code.specs.declared.register.Letter.TheVariants.{A, B, X}
 use Rattle.cps_code.specs.declared.register.RegisterTerm.{RegisterTerm}
 use Rattle.cps_code.specs.Text.{among}
-use Rattle.cps_code.specs.Number.{number_of, is_digit}
+use Rattle.cps_code.specs.Number.{is_digit}
 use Rattle.cps_code.specs.Sum.{Sum, sum_of}
 use Rattle.cps_code.specs.Form.{Form}
 
@@ -28,8 +27,6 @@ pub record RowTerm : Type 0 where
 pub data Shape : Type 0 where
   -- nothing: the variable field isn't read
   unread : Shape
-  -- one number, K
-  one_number : Shape
   -- a sum of these register terms, and of a K beside them or of none
   terms_and_constant : List RowTerm → Bool → Shape
 
@@ -105,7 +102,7 @@ set_operation name digit = record { name = name; digits = given f digit ∷ []; 
 
 -- the row of EQ with a K alone
 abbrev pub jump_rows : List Row
-jump_rows = forcing_row one_number (codes "0400K") ∷ []
+jump_rows = forcing_row (terms_and_constant [] true) (codes "0400K") ∷ []
 
 abbrev pub cp_table : List Operation
 cp_table =
@@ -199,27 +196,16 @@ form_of_row digits row found = record {
 
 -- ---- the row that fits
 
--- an operand in the ways in which a row may read it
-pub record Operand : Type 0 where
-  pub number : Option ℕ
-  pub sum : Option Sum
-
 abbrev pub is_blank : ℕ → Bool
 is_blank = among (codes " ")
 
-abbrev pub operand_in : Radix → List ℕ → Operand
-operand_in radix text = record { number = number_of radix text; sum = sum_of radix text }
+-- the operand of a tail: the sum before its first blank; None where what stands there is no sum
+abbrev pub operand_of : Radix → List ℕ → Option Sum
+operand_of radix tail = sum_of radix (before_first is_blank tail)
 
--- the operand of a tail: what stands before its first blank
-abbrev pub operand_of : Radix → List ℕ → Operand
-operand_of radix tail = operand_in radix (before_first is_blank tail)
-
--- the operand with the register terms of its sum turned round
-abbrev pub turned : Operand → Operand
-turned operand = record {
-  number = operand.number;
-  sum = option_map (λ s. record { registers = reverse s.registers; constant = s.constant }) operand.sum;
-}
+-- the operand with its register terms turned round
+abbrev pub turned : Option Sum → Option Sum
+turned = option_map (λ s. record { registers = reverse s.registers; constant = s.constant })
 
 abbrev pub is_some_list : List Term → Bool
 is_some_list [] = false
@@ -232,22 +218,21 @@ found_in_sum terms has_constant sum =
     else None
 
 -- None: the shape doesn't fit the operand
-abbrev pub found_in : Shape → Operand → Option Found
+abbrev pub found_in : Shape → Option Sum → Option Found
 found_in unread operand = Some (record { digits = []; constant = [] })
-found_in one_number operand = option_map (λ n. record { digits = []; constant = record { is_minus = false; element = Number n } ∷ [] }) operand.number
-found_in (terms_and_constant terms has_constant) operand = option_and_then (found_in_sum terms has_constant) operand.sum
+found_in (terms_and_constant terms has_constant) operand = option_and_then (found_in_sum terms has_constant) operand
 
 abbrev pub or_else : {T : Type 0} → Option T → Option T → Option T
 or_else None other = other
 or_else (Some value) other = Some value
 
 -- the form of the first row that fits
-abbrev pub form_in : List Given → List Row → Operand → Option Form
+abbrev pub form_in : List Given → List Row → Option Sum → Option Form
 form_in digits [] operand = None
 form_in digits (row ∷ rows) operand = or_else (option_map (form_of_row digits row) (found_in row.shape operand)) (form_in digits rows operand)
 
 -- the register terms are tried as they stand, and then turned round
-abbrev pub form_of_rows : List Given → List Row → Operand → Option Form
+abbrev pub form_of_rows : List Given → List Row → Option Sum → Option Form
 form_of_rows digits rows operand = or_else (form_in digits rows operand) (form_in digits rows (turned operand))
 
 -- an operation of the table with the digits of its name

@@ -1,13 +1,12 @@
-ghost use Rattle.std.specs.Prelude.{◌≡◌, ◌<◌, ◌^◌, [], ◌∷◌, ◌↔◌, ℕ, Option, Some, None, false, length, IfOk, IfSome, IsErrOf, IsSome, IsSomeAnd, IsTrue};
+ghost use Rattle.std.specs.Prelude.{◌≡◌, ◌<◌, ◌^◌, [], ◌↔◌, Some, None, false, length, IfOk, IfSome, IsErrOf, IsSome, IsSomeAnd, IsTrue};
 ghost use Rattle.std.specs.List.{before_first, position};
 ghost use Rattle.cps_code.specs.Sum.{Sum as ASum};
 ghost use Rattle.cps_code.specs.Terms.{AreRegisters, IsKept, register_list};
 ghost use Rattle.cps_code.specs.Table.{is_blank, is_operation, form_of};
-ghost use Rattle.cps_code.specs.Sets.{set_form, set_form_of, jump_form_of, long_form};
+ghost use Rattle.cps_code.specs.Sets.{set_form, set_form_of, jump_form, jump_form_of, long_form};
 
-use super::expr::{Element, Expr, Term};
+use super::expr::Expr;
 use super::form::CpForm;
-use super::number::read_number;
 use super::radix::Radix;
 use super::set::{code_with_constant, code_without_constant};
 use super::sum::{Registers, Sum, read_sum};
@@ -79,28 +78,24 @@ fn jump_form(alloc: Global, operand: &[u8], radix: Radix) -> Result<CpForm, Form
     ensures unreadable { IsErrOf result FormFault.Unreadable → jump_form_of radix operand.now ≡ None }
     ensures memory { IsErrOf result FormFault.Memory → IsSome (jump_form_of radix operand.now) }
 {
-    match read_number(operand, radix) {
+    match read_sum(alloc, operand, radix) {
         None => Err(FormFault::Unreadable),
-        Some(number) => match long_form(alloc, 0o0400, one_term(alloc, number), true) {
-            Some(form) => Ok(form),
-            None => Err(FormFault::Memory),
-        },
+        Some(sum) => jump_form_of_sum(alloc, sum),
     }
 }
 
-/// The expression that is one number. None: memory was refused.
-fn one_term(alloc: Global, number: u64) -> Option<Expr>
-    requires { number < 2 ^ 59 }
-    ensures { IfSome result (λ constant. constant ≡ record { is_minus = false; element = Element.Number number } ∷ []) }
+fn jump_form_of_sum(alloc: Global, kept: Sum) -> Result<CpForm, FormFault>
+    ensures form { IfOk result (λ form. (sum : ASum) → IsKept kept sum → jump_form sum.registers sum.constant ≡ Some form) }
+    ensures no_operation { IsErrOf result FormFault.NoOperation → ⊥ }
+    ensures unreadable { IsErrOf result FormFault.Unreadable → (sum : ASum) → IsKept kept sum → jump_form sum.registers sum.constant ≡ None }
+    ensures memory { IsErrOf result FormFault.Memory → (sum : ASum) → IsKept kept sum → IsSome (jump_form sum.registers sum.constant) }
 {
-    let mut constant = Expr::new(alloc);
-    let term = Term {
-        is_minus: false,
-        element: Element::Number(number),
-    };
-    match constant.push(term) {
-        Ok(()) => Some(constant),
-        Err(_) => None,
+    match (kept.has_constant, kept.registers) {
+        (true, Registers::Absent) => match long_form(alloc, 0o0400, kept.constant, true) {
+            None => Err(FormFault::Memory),
+            Some(form) => Ok(form),
+        },
+        _ => Err(FormFault::Unreadable),
     }
 }
 
@@ -139,10 +134,10 @@ fn form_of_sum(alloc: Global, f: u8, i: u8, kept: Sum) -> Result<CpForm, FormFau
     requires f { f < 8 }
     requires i { i < 8 }
     requires registers { AreRegisters kept.registers }
-    ensures form { IfOk result (λ form. (n : Option ℕ) (sum : ASum) → IsKept kept sum → set_form f i n sum.registers sum.constant ≡ Some form) }
+    ensures form { IfOk result (λ form. (sum : ASum) → IsKept kept sum → set_form f i sum.registers sum.constant ≡ Some form) }
     ensures no_operation { IsErrOf result FormFault.NoOperation → ⊥ }
-    ensures unreadable { IsErrOf result FormFault.Unreadable → (n : Option ℕ) (sum : ASum) → IsKept kept sum → set_form f i n sum.registers sum.constant ≡ None }
-    ensures memory { IsErrOf result FormFault.Memory → (n : Option ℕ) (sum : ASum) → IsKept kept sum → IsSome (set_form f i n sum.registers sum.constant) }
+    ensures unreadable { IsErrOf result FormFault.Unreadable → (sum : ASum) → IsKept kept sum → set_form f i sum.registers sum.constant ≡ None }
+    ensures memory { IsErrOf result FormFault.Memory → (sum : ASum) → IsKept kept sum → IsSome (set_form f i sum.registers sum.constant) }
 {
     if kept.has_constant {
         match code_with_constant(f, i, kept.registers) {
@@ -165,7 +160,7 @@ fn short_form(alloc: Global, f: u8, i: u8, registers: Registers) -> Option<CpFor
     requires f { f < 8 }
     requires i { i < 8 }
     requires digits { AreRegisters registers }
-    ensures { (n : Option ℕ) → set_form f i n (register_list registers) [] ≡ result }
+    ensures { set_form f i (register_list registers) [] ≡ result }
 {
     match code_without_constant(f, i, registers) {
         None => None,

@@ -1,5 +1,5 @@
 ghost use Rattle.cps_code.specs.declared.expr.Term.{Term};
-ghost use Rattle.std.specs.Prelude.{◌≡◌, ◌<◌, ◌+◌, ◌*◌, [], ◌∷◌, false, List, ℕ, Option, IfSome, option_map};
+ghost use Rattle.std.specs.Prelude.{◌≡◌, ◌<◌, ◌+◌, ◌*◌, [], ◌∷◌, false, List, IfSome, option_map};
 ghost use Rattle.cps_code.specs.Terms.{IsRegister, AreRegisters, register_list};
 ghost use Rattle.cps_code.specs.Sets.{set_form, set_form_as_it_stands, long_form, short_form};
 
@@ -11,8 +11,8 @@ pub fn code_with_constant(f: u8, i: u8, registers: Registers) -> Option<u16>
     requires f { f < 8 }
     requires i { i < 8 }
     requires digits { AreRegisters registers }
-    ensures form { (n : Option ℕ) (first : Term) (constant : List Term)
-        → set_form f i n (register_list registers) (first ∷ constant) ≡ option_map (λ code. long_form code (first ∷ constant) false) result }
+    ensures form { (first : Term) (constant : List Term)
+        → set_form f i (register_list registers) (first ∷ constant) ≡ option_map (λ code. long_form code (first ∷ constant) false) result }
     ensures small { IfSome result (λ code. code < 4096) }
 {
     match registers {
@@ -47,7 +47,7 @@ pub fn code_without_constant(f: u8, i: u8, registers: Registers) -> Option<u16>
     requires f { f < 8 }
     requires i { i < 8 }
     requires digits { AreRegisters registers }
-    ensures form { (n : Option ℕ) → set_form f i n (register_list registers) [] ≡ option_map short_form result }
+    ensures form { set_form f i (register_list registers) [] ≡ option_map short_form result }
     ensures small { IfSome result (λ code. code < 32768) }
 {
     match registers {
@@ -64,7 +64,7 @@ fn code_alone(f: u8, i: u8, register: RegisterTerm) -> Option<u16>
     requires f { f < 8 }
     requires i { i < 8 }
     requires digit { IsRegister register }
-    ensures form { (n : Option ℕ) → set_form f i n (register ∷ []) [] ≡ option_map short_form result }
+    ensures form { set_form f i (register ∷ []) [] ≡ option_map short_form result }
     ensures small { IfSome result (λ code. code < 32768) }
 {
     match register {
@@ -97,7 +97,7 @@ fn code_of_pair(f: u8, i: u8, j: RegisterTerm, k: RegisterTerm) -> Option<u16>
     requires f { f < 8 }
     requires i { i < 8 }
     requires digits { IsRegister j × IsRegister k }
-    ensures form { (n : Option ℕ) → set_form_as_it_stands f i n (j ∷ k ∷ []) [] ≡ option_map short_form result }
+    ensures form { set_form_as_it_stands f i (j ∷ k ∷ []) [] ≡ option_map short_form result }
     ensures small { IfSome result (λ code. code < 32768) }
 {
     let second = match (j.letter, j.is_minus, k.letter, k.is_minus) {
