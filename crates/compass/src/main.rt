@@ -1,7 +1,8 @@
 //! Reads a script of edits and queries on a source for COMPASS, and writes the replies.
 //!
 //! The script comes on standard input, and the replies go to standard output.
-//! The status is 0, or 2 where a read or a write failed, which is then said on standard error.
+//! The status is 0, or 1 where a line of the source has a flag at the end, or 2 where a read or a write failed, which is
+//! then said on standard error.
 #![tactic(auto)]
 
 #[cfg(test)]
@@ -9,7 +10,11 @@ mod code_rows;
 #[cfg(test)]
 mod devices;
 #[cfg(test)]
+mod replies;
+#[cfg(test)]
 mod script_rows;
+#[cfg(test)]
+mod source_rows;
 
 use cps_tool::{Counted, Session, run_script};
 use std::io;
@@ -20,7 +25,8 @@ fn main(rt: HostRuntime) -> ExitCode {
     let mut writer = Counted::new(io::writer(&rt));
     let mut session = Session::new(rt.alloc());
     match run_script(rt.alloc(), &mut reader, &mut writer, &mut session) {
-        Ok(()) => ExitCode::SUCCESS,
+        Ok(0) => ExitCode::SUCCESS,
+        Ok(_) => ExitCode::FAILURE,
         Err(fault) => {
             let _ = rt.eprintln(fault);
             ExitCode::from(2)

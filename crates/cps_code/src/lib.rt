@@ -27,7 +27,6 @@ pub use forms::{FormFault, cp_form};
 pub use hole::{Hole, HoleKind};
 pub use name::Name;
 pub use names::{Names, NoNames};
-pub use number::read_number;
 pub use piece::Piece;
 pub use place::{Filling, Force, Place, Placed};
 pub use placing::place_next;

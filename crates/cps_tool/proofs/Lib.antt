@@ -1,5 +1,8 @@
+pub mod AskLemmas
+pub mod AssemblyLemmas
 pub mod BegunLemmas
 pub mod CommandLemmas
+pub mod CourseLemmas
 pub mod NumberLemmas
 pub mod OctalLemmas
 pub mod OrderLemmas
@@ -7,3 +10,5 @@ pub mod Places
 pub mod ProgressLemmas
 pub mod RangeLemmas
 pub mod RowLemmas
+pub mod SessionLemmas
+pub mod TextLemmas

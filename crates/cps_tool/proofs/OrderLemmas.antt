@@ -2,7 +2,7 @@
 use Rattle.std.proofs.Common.{◌≡◌, ℕ, ◌==◌, if◌then◌else◌, ⊎_elim, List, [], ◌++◌, drop, get_or, codes, refl, sym, ap, subst, ◌∙◌}
 use Rattle.std.specs.List.{after_first}
 use Rattle.std.proofs.lemmas.Slice.Eq.{bytes_eq-Decides}
-use Rattle.cps_tool.specs.Command.{Order, append, insert, replace, delete, binary, quit, Spells, IsNumbered, IsRange, is_blank}
+use Rattle.cps_tool.specs.Command.{Order, append, insert, replace, delete, list, binary, flags, quit, Spells, IsNumbered, IsRange, is_blank}
 use Rattle.cps_tool.proofs.NumberLemmas.{number_in, number_is, text_behind}
 use Rattle.cps_tool.proofs.RangeLemmas.{last_in, first_is, last_is}
 
@@ -12,7 +12,9 @@ letter_of (append text) = 97
 letter_of (insert after text) = 105
 letter_of (replace at text) = 114
 letter_of (delete first last) = 100
+letter_of list = 108
 letter_of binary = 98
+letter_of flags = 102
 letter_of quit = 113
 
 abbrev first_of : List ℕ → ℕ
@@ -26,7 +28,9 @@ begins line (append text) spells = ⊎_elim
 begins line (insert after text) spells = ap first_of spells.2
 begins line (replace at text) spells = ap first_of spells.2
 begins line (delete first last) spells = ap first_of spells.2
+begins line list spells = ap first_of spells.1
 begins line binary spells = ap first_of spells.1
+begins line flags spells = ap first_of spells.1
 begins line quit spells = ap first_of ((bytes_eq-Decides line (codes "quit")).0 spells.1)
 
 -- ---- the order that a line can spell, from its letter and what stands behind two bytes
@@ -37,7 +41,9 @@ order_by letter rest =
     else (if letter == 105 then insert (number_in rest) (after_first is_blank rest)
     else (if letter == 114 then replace (number_in rest) (after_first is_blank rest)
     else (if letter == 100 then delete (number_in rest) (last_in (after_first is_blank rest) (number_in rest))
-    else (if letter == 98 then binary else quit))))
+    else (if letter == 108 then list
+    else (if letter == 98 then binary
+    else (if letter == 102 then flags else quit))))))
 
 -- the text of an `a` is what stands behind its blank
 text_of : (line text : List ℕ) → Spells line (append text) → text ≡ drop 2 line
@@ -64,7 +70,9 @@ by_letter line (replace at text) spells =
 by_letter line (delete first last) spells =
     let range = range_at line spells.1 first last (ap (drop 2) spells.2) spells.3 in
     ap (λ n. delete n last) (first_is (drop 2 line) first last range) ∙ ap (delete (number_in (drop 2 line))) (last_is (drop 2 line) first last range)
+by_letter line list spells = refl
 by_letter line binary spells = refl
+by_letter line flags spells = refl
 by_letter line quit spells = refl
 
 order_is : (line : List ℕ) (order : Order) → Spells line order → order ≡ order_by (first_of line) (drop 2 line)

@@ -2,8 +2,7 @@
 use Rattle.std.proofs.Common.{◌≡◌, ℕ, Bool, true, false, not, ◌&&◌, eqb, List, [], ◌∷◌, ◌++◌, map, flat_map, Option, Result, Ok, Err, refl, sym, ap, subst, ◌∙◌, arith, append_assoc, append-nil}
 use Rattle.std.specs.List.{list_all}
 use Rattle.std.specs.Io.KnownBytes.{Appends, Consumes, IsAtEnd}
-use Rattle.std.specs.Prelude.{IfSome, OnOk, IsErrOf, None, Some}
-use Rattle.cps_tool.specs.declared.writing.RunFault.TheVariants.{WriteFault}
+use Rattle.std.specs.Prelude.{IfSome, OnOk, None, Some}
 use Rattle.std.proofs.KnownBytes.{Appends-nil, Appends-trans}
 use Rattle.std.proofs.lemmas.List.Folds.{list_all-append}
 use Rattle.std.proofs.lemmas.List.{map-append}
@@ -17,7 +16,7 @@ use Rattle.cps_tool.specs.ScriptLine.{IsBegun}
 use Rattle.cps_tool.specs.Command.{is_quit}
 use Rattle.cps_tool.specs.Lines.{Splits, without_return, last_line, has_no_newline, newline}
 use Rattle.cps_tool.specs.Reply.{Response, reply_text}
-use Rattle.cps_tool.specs.Script.{Run, Script, FrontOfScript, LinesOfScript, Answers, goes_on, command_lines, before_quit}
+use Rattle.cps_tool.specs.Script.{Run, Script, FrontOfScript, LinesOfScript, IsAnswered, goes_on, command_lines, before_quit}
 use Rattle.cps_tool.specs.Progress.{MatchFlow, Progress, Takes, Finishes}
 
 -- ---- cutting at newlines
@@ -108,7 +107,7 @@ split_of (byte ∷ bytes) = split_front byte bytes (eqb byte newline) refl (spli
 
 -- ---- running lines
 
-pub run-more : (lines : List (List ℕ)) (start mid new : List (List ℕ)) (text line : List ℕ) (response : Response) → Run start lines text mid → Answers mid line response new
+pub run-more : (lines : List (List ℕ)) (start mid new : List (List ℕ)) (text line : List ℕ) (response : Response) → Run start lines text mid → IsAnswered mid line response new
     → Run start (lines ++ line ∷ []) (text ++ reply_text response) new
 run-more [] start mid new text line response run answer =
     let none = run.0 in let same = run.1 in
@@ -162,7 +161,7 @@ takes-byte line new now before byte other push = λ start taken text so_far. (
 )
 
 pub takes-line : (line fresh : ScriptLine) (old new : List (List ℕ)) (before after : Option (List ℕ)) → IsBegun fresh []
-    → ((begun : List ℕ) → IsBegun line begun → (is_quit (without_return begun) ≡ false) × (response : Response) × Answers old (without_return begun) response new × Appends before after (reply_text response))
+    → ((begun : List ℕ) → IsBegun line begun → (is_quit (without_return begun) ≡ false) × (response : Response) × IsAnswered old (without_return begun) response new × Appends before after (reply_text response))
     → Takes (Ok GoesOn) line fresh old new before after (newline ∷ [])
 takes-line line fresh old new before after empty answer = λ start taken text so_far.
     let a = answer so_far.rest so_far.begun in (
@@ -207,14 +206,14 @@ takes-quit line fresh old new before after answer = λ start taken text so_far.
 
 pub takes-answered : (flow : Flow) (line fresh : ScriptLine) (old new : List (List ℕ)) (before after : Option (List ℕ)) → IsBegun fresh []
     → ((begun : List ℕ) → IsBegun line begun → MatchFlow flow
-    ((is_quit (without_return begun) ≡ false) × (response : Response) × Answers old (without_return begun) response new × Appends before after (reply_text response))
+    ((is_quit (without_return begun) ≡ false) × (response : Response) × IsAnswered old (without_return begun) response new × Appends before after (reply_text response))
     ((is_quit (without_return begun) ≡ true) × (new ≡ old) × Appends before after []))
     → Takes (Ok flow) line fresh old new before after (newline ∷ [])
 takes-answered GoesOn line fresh old new before after empty answer = takes-line line fresh old new before after empty answer
 takes-answered Ends line fresh old new before after empty answer = takes-quit line fresh old new before after answer
 
 pub takes-fault : (fault : RunFault) (line fresh : ScriptLine) (old new : List (List ℕ)) (before after : Option (List ℕ))
-    → ((begun : List ℕ) → IsBegun line begun → (is_quit (without_return begun) ≡ false) × (response : Response) × Answers old (without_return begun) response new
+    → ((begun : List ℕ) → IsBegun line begun → (is_quit (without_return begun) ≡ false) × (response : Response) × IsAnswered old (without_return begun) response new
     × (front back : List ℕ) × (reply_text response ≡ front ++ back) × Appends before after front)
     → Takes (Err fault) line fresh old new before after (newline ∷ [])
 takes-fault fault line fresh old new before after answer = λ start taken text so_far.
@@ -266,7 +265,7 @@ finishes-empty line now before empty = λ start taken text so_far.
 
 pub finishes-line : (flow : Flow) (line : ScriptLine) (old new : List (List ℕ)) (before after : Option (List ℕ)) → ((begun : List ℕ) → IsBegun line begun → begun ≡ [] → ⊥)
     → ((begun : List ℕ) → IsBegun line begun → MatchFlow flow
-    ((is_quit (without_return begun) ≡ false) × (response : Response) × Answers old (without_return begun) response new × Appends before after (reply_text response))
+    ((is_quit (without_return begun) ≡ false) × (response : Response) × IsAnswered old (without_return begun) response new × Appends before after (reply_text response))
     ((is_quit (without_return begun) ≡ true) × (new ≡ old) × Appends before after []))
     → Finishes (Ok tt) line old new before after
 finishes-line GoesOn line old new before after some answer = λ start taken text so_far.
@@ -302,7 +301,7 @@ finishes-line Ends line old new before after some answer = λ start taken text s
     )
 
 pub finishes-fault : (fault : RunFault) (line : ScriptLine) (old new : List (List ℕ)) (before after : Option (List ℕ)) → ((begun : List ℕ) → IsBegun line begun → begun ≡ [] → ⊥)
-    → ((begun : List ℕ) → IsBegun line begun → (is_quit (without_return begun) ≡ false) × (response : Response) × Answers old (without_return begun) response new
+    → ((begun : List ℕ) → IsBegun line begun → (is_quit (without_return begun) ≡ false) × (response : Response) × IsAnswered old (without_return begun) response new
     × (front back : List ℕ) × (reply_text response ≡ front ++ back) × Appends before after front)
     → Finishes (Err fault) line old new before after
 finishes-fault fault line old new before after some answer = λ start taken text so_far.
@@ -364,11 +363,10 @@ abbrev pub FaultSays : List (List ℕ) → List (List ℕ) → Option (List ℕ)
 FaultSays start new input left before after =
     (taken text unsaid : List ℕ) × Consumes input left taken × FrontOfScript start taken text unsaid new × Appends before after text
 
-pub finished-fault : (result : Result (Unit {0}) RunFault) (line : ScriptLine) (start old new : List (List ℕ)) (input left before between after : Option (List ℕ)) (taken text : List ℕ)
+pub finished-fault : (fault : RunFault) (line : ScriptLine) (start old new : List (List ℕ)) (input left before between after : Option (List ℕ)) (taken text : List ℕ)
     → Progress start taken line text old → Consumes input left taken → Appends before between text
-    → Finishes result line old new between after → IsErrOf result WriteFault → FaultSays start new input left before after
-finished-fault (Ok u) line start old new input left before between after taken text so_far consumed appends finishes is = cc
-finished-fault (Err fault) line start old new input left before between after taken text so_far consumed appends finishes is =
+    → Finishes (Err fault) line old new between after → FaultSays start new input left before after
+finished-fault fault line start old new input left before between after taken text so_far consumed appends finishes =
     let f = finishes start taken text so_far in
     (taken, text ++ f.0, f.1, consumed, f.3, Appends-trans before between after text f.0 appends f.2)
 

@@ -1,10 +1,10 @@
 -- What an assembly of the code is.
 use Rattle.std.specs.Prelude.{◌≡◌, ℕ, List}
-use Rattle.cps_code.specs.Image.{ArePacked}
-use Rattle.cps_tool.specs.declared.assembling.Assembled.{Assembled}
-use Rattle.cps_tool.specs.Assembly.{pass_one, pass_two}
+use Rattle.cps_tool.specs.Keys.{State, first_state}
+use Rattle.cps_tool.specs.Course.{Trace}
+use Rattle.cps_tool.specs.Assembly.{traces_of, state_after}
 
--- the program's name and the words of these lines
-pub record IsAssembled (assembled : Assembled) (lines : List (List ℕ)) : Type 0 where
-  pub program : assembled.program ≡ (pass_one lines).state.program
-  pub words : ArePacked (pass_two (pass_one lines).items) assembled.words
+-- what these lines do in pass one, and the state behind them
+pub record IsAssembled (done : List Trace) (now : State) (lines : List (List ℕ)) : Type 0 where
+  pub traces : done ≡ traces_of lines
+  pub state : now ≡ state_after first_state lines

@@ -1,11 +1,12 @@
--- The binary text: the program's name, and each word in octal behind its address.
+-- The binary text: the program's name, and each word in octal behind its address. The layout is our profile's.
 use Rattle.std.specs.Prelude.{ℕ, List, [], ◌++◌, codes, flat_map, Option, None, Some}
 use Rattle.std.specs.List.{range_with_len}
 use Rattle.cps_code.specs.declared.name.Name.{Name}
 use Rattle.cps_code.specs.Name.{name_text}
 use Rattle.cps_code.specs.Image.{Piece, packed_word}
+use Rattle.cps_tool.specs.Keys.{limit}
 use Rattle.cps_tool.specs.Octal.{octal}
-use Rattle.cps_tool.specs.Assembly.{limit, pass_one, pass_two}
+use Rattle.cps_tool.specs.Assembly.{traces_of, final_labels, program_of, pieces_in}
 
 abbrev pub first_row : Option Name → List ℕ
 first_row None = codes "IDENT\n"
@@ -21,5 +22,5 @@ unfoldable pub rows_below : ℕ → List Piece → List ℕ
 rows_below count pieces = flat_map (λ address. word_row address (packed_word pieces address)) (range_with_len 0 count)
 
 -- the binary text of a source
-unfoldable pub binary_text : List (List ℕ) → List ℕ
-binary_text source = first_row (pass_one source).state.program ++ rows_below limit (pass_two (pass_one source).items)
+abbrev pub binary_text : List (List ℕ) → List ℕ
+binary_text lines = first_row (program_of (traces_of lines)) ++ rows_below limit (pieces_in (final_labels lines) (traces_of lines))

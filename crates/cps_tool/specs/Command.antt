@@ -1,16 +1,19 @@
--- The commands of a script.
+-- The commands of a script. Our own.
 use Rattle.std.specs.Prelude.{◌≡◌, ℕ, ◌<◌, ◌≤◌, Bool, true, false, ◌==◌, IsTrue, List, [], ◌∷◌, ◌++◌, length, codes, ◌⊎◌, bytes_eq}
 use Rattle.std.specs.Str.Parse.{AllDigits, digits_value}
 use Rattle.cps_tool.specs.declared.command.Command.{Command}
-use Rattle.cps_tool.specs.declared.command.Command.TheVariants.{Append, Insert, Replace, Delete, Binary, Quit}
+use Rattle.cps_tool.specs.declared.command.Command.TheVariants.{Append, Insert, Replace, Delete, Listing, Binary, Flags, Quit}
 
--- what a command asks: a text at the end of the source, behind a line or in place of one, to delete lines, the binary text, or the script's end
+-- what a command asks: a text at the end of the source, behind a line or in place of one, to delete lines, one of the texts,
+-- or the script's end
 pub data Order : Type 0 where
   append : List ℕ → Order
   insert : ℕ → List ℕ → Order
   replace : ℕ → List ℕ → Order
   delete : ℕ → ℕ → Order
+  list : Order
   binary : Order
+  flags : Order
   quit : Order
 
 -- what a command of the code asks
@@ -19,7 +22,9 @@ order_of (Append text) = append text.now
 order_of (Insert after text) = insert after text.now
 order_of (Replace at text) = replace at text.now
 order_of (Delete first last) = delete first last
+order_of Listing = list
 order_of Binary = binary
+order_of Flags = flags
 order_of Quit = quit
 
 -- the byte between the parts of a command
@@ -62,7 +67,9 @@ is_quit_order (append text) = false
 is_quit_order (insert after text) = false
 is_quit_order (replace at text) = false
 is_quit_order (delete first last) = false
+is_quit_order list = false
 is_quit_order binary = false
+is_quit_order flags = false
 is_quit_order quit = true
 
 -- the bytes of a command that gives an order
@@ -74,5 +81,7 @@ Spells line (replace at text) =
     (length line ≤ longest_command) × (bytes : List ℕ) × (line ≡ codes "r " ++ bytes) × IsNumbered bytes at text
 Spells line (delete first last) =
     (length line ≤ longest_command) × (bytes : List ℕ) × (line ≡ codes "d " ++ bytes) × IsRange bytes first last
+Spells line list = (length line ≤ longest_command) × (line ≡ codes "list")
 Spells line binary = (length line ≤ longest_command) × (line ≡ codes "binary")
+Spells line flags = (length line ≤ longest_command) × (line ≡ codes "flags")
 Spells line quit = (length line ≤ longest_command) × IsTrue (is_quit line)

@@ -1,4 +1,4 @@
--- A source as a list of lines, and what an edit makes of it.
+-- A source as a list of lines, and what an edit makes of it. Our own.
 use Rattle.std.specs.Prelude.{◌≡◌, ℕ, ◌-◌, ◌<◌, ◌≤◌, ◌⊎◌, List, ◌++◌, length, insert, slice_set, take, drop}
 use Rattle.cps_tool.specs.declared.reply.Refusal.{Refusal}
 use Rattle.cps_tool.specs.declared.reply.Refusal.TheVariants as refusals
@@ -60,14 +60,14 @@ Replaced old at text (accepted count) new = HasLine old at × IsLine text × (ne
 Replaced old at text (refused refusal) new = IsNotReplaced old at text refusal × (new ≡ old)
 Replaced old at text (shown bytes) new = ⊥
 
--- Why lines are not deleted. A deletion never wants memory.
+-- Why lines are not deleted.
 abbrev pub IsNotDeleted : List (List ℕ) → ℕ → ℕ → Refusal → Type 0
 IsNotDeleted source first last refusals.NoSuchLine = LacksLines source first last
 IsNotDeleted source first last refusals.LineTooLong = ⊥
 IsNotDeleted source first last refusals.BadCharacter = ⊥
 IsNotDeleted source first last refusals.TooManyLines = ⊥
 IsNotDeleted source first last refusals.BadCommand = ⊥
-IsNotDeleted source first last refusals.NoMemory = ⊥
+IsNotDeleted source first last refusals.NoMemory = HasLines source first last
 
 -- a deletion was answered: it was made and the lines counted, or refused and nothing changed
 abbrev pub Deleted : List (List ℕ) → ℕ → ℕ → Response → List (List ℕ) → Type 0

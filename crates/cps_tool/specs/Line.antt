@@ -1,4 +1,4 @@
--- Lines of a source.
+-- Lines of a source. Their characters and their length are our profile's.
 use Rattle.std.specs.Prelude.{◌≡◌, ℕ, ◌≤◌, Bool, false, ◌&&◌, ◌||◌, not, ◌==◌, nat_le, IsTrue, List, length}
 use Rattle.std.specs.List.{list_all}
 

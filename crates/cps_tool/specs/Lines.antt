@@ -1,4 +1,4 @@
--- Bytes cut into lines.
+-- Bytes cut into lines. Our own.
 use Rattle.std.specs.Prelude.{◌≡◌, ℕ, Bool, true, not, ◌==◌, List, [], ◌∷◌, ◌++◌, flat_map, length, if◌then◌else◌, nat_lt, ◌&&◌, ◌-◌, slice_index, take}
 use Rattle.std.specs.List.{list_all}
 

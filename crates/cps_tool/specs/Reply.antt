@@ -1,4 +1,4 @@
--- Replies, and their text.
+-- Replies, and their text. Our own.
 use Rattle.std.specs.Prelude.{ℕ, List, ◌++◌, codes, decimal}
 use Rattle.cps_tool.specs.declared.session.EditFault.{EditFault}
 use Rattle.cps_tool.specs.declared.session.EditFault.TheVariants as faults

@@ -1,9 +1,11 @@
--- What a script writes, and the source after it.
+-- What a script writes, and the source after it. Our own.
 use Rattle.std.specs.Prelude.{◌≡◌, ℕ, Bool, true, not, List, [], ◌∷◌, ◌++◌, map, length, ◌⊎◌, if◌then◌else◌}
 use Rattle.std.specs.List.{list_all}
 use Rattle.cps_tool.specs.declared.reply.Refusal.TheVariants as refusals
 use Rattle.cps_tool.specs.Binary.{binary_text}
-use Rattle.cps_tool.specs.Command.{Order, append, insert, replace, delete, binary, quit, Spells, is_quit}
+use Rattle.cps_tool.specs.Listing.{listing_text}
+use Rattle.cps_tool.specs.Flagged.{flags_text}
+use Rattle.cps_tool.specs.Command.{Order, append, insert, replace, delete, list, binary, flags, quit, Spells, is_quit}
 use Rattle.cps_tool.specs.Edits.{Inserted, Replaced, Deleted}
 use Rattle.cps_tool.specs.Lines.{Splits, without_return, last_line}
 use Rattle.cps_tool.specs.Reply.{Response, accepted, refused, shown, reply_text}
@@ -20,12 +22,14 @@ Obeys old (append text) response new = Inserted old (length old) text response n
 Obeys old (insert after text) response new = Inserted old after text response new
 Obeys old (replace at text) response new = Replaced old at text response new
 Obeys old (delete first last) response new = Deleted old first last response new
+Obeys old list response new = Queried old (listing_text old) response new
 Obeys old binary response new = Queried old (binary_text old) response new
+Obeys old flags response new = Queried old (flags_text old) response new
 Obeys old quit response new = ⊥
 
 -- a command line was answered; one that spells no order is refused
-abbrev pub Answers : List (List ℕ) → List ℕ → Response → List (List ℕ) → Type 0
-Answers old line response new =
+abbrev pub IsAnswered : List (List ℕ) → List ℕ → Response → List (List ℕ) → Type 0
+IsAnswered old line response new =
     ((order : Order) × Spells line order × Obeys old order response new)
     ⊎ (((order : Order) → Spells line order → ⊥) × (response ≡ refused refusals.BadCommand) × (new ≡ old))
 
@@ -34,7 +38,7 @@ abbrev pub Run : List (List ℕ) → List (List ℕ) → List ℕ → List (List
 Run old [] text new = (text ≡ []) × (new ≡ old)
 Run old (line ∷ lines) text new =
     (response : Response) × (mid : List (List ℕ)) × (later : List ℕ)
-    × Answers old line response mid × Run mid lines later new × (text ≡ reply_text response ++ later)
+    × IsAnswered old line response mid × Run mid lines later new × (text ≡ reply_text response ++ later)
 
 -- a command line does not end the script
 abbrev pub goes_on : List ℕ → Bool
@@ -71,7 +75,7 @@ pub record FrontOfScript (old : List (List ℕ)) (bytes text unsaid : List ℕ) 
   pub mid : List (List ℕ)
   pub run : Run old earlier replies mid
   pub response : Response
-  pub answers : Answers mid last response new
+  pub answers : IsAnswered mid last response new
   pub front : List ℕ
   pub written : text ≡ replies ++ front
   pub cut : reply_text response ≡ front ++ unsaid

@@ -1,49 +1,72 @@
-//! The assembly of a source.
-ghost use Rattle.std.specs.Prelude.{◌≡◌, IfOk};
-ghost use Rattle.cps_tool.specs.Assembly.{first_state};
-ghost use Rattle.cps_tool.specs.States.{state_value};
+//! Pass one of a source.
+ghost use Rattle.std.specs.Prelude.{◌≡◌, ℕ, [], ◌∷◌, ◌++◌, List, IfOk, OnOk, OnErr};
 ghost use Rattle.cps_tool.specs.Assembled.{IsAssembled};
 
-use super::action::read_action;
 use super::line::Line;
-use super::meaning::obey;
-use super::state::{Phase, State};
-use cps_code::{Name, Place, Words};
+use super::lookup::Lookup;
+use super::state::State;
+use super::step::step_one;
+use super::trace::Trace;
 use std::alloc::{AllocError, Global};
 
-/// A program's name and words.
+/// What the lines of a source do in pass one, and the state behind the last of them.
 #[derive(Drop)]
 pub struct Assembled {
-    pub program: Option<Name>,
-    pub words: Words,
+    pub traces: Vec<Trace>,
+    pub state: State,
 }
 
-/// Assembles lines. Both passes are made in one, since nothing is known later yet.
-pub fn assemble(alloc: Global, lines: &[Line]) -> Result<Assembled, AllocError>
-    ensures { IfOk result (λ assembled. IsAssembled assembled lines.now) }
-{
-    let mut state = first_state();
-    let mut words = Words::new(alloc);
-    for line in lines {
-        let action = read_action(alloc, line.bytes())?;
-        state = obey(state, &mut words, action)?;
+impl Assembled {
+    /// Of a source without a line. Takes no memory yet.
+    pub fn new(alloc: Global) -> Assembled
+        ensures { IsAssembled result.traces.items (⟦<State as Lookup>⟧.answer result.state) [] }
+    {
+        Assembled {
+            traces: Vec::new(alloc),
+            state: State::first(alloc),
+        }
     }
-    Ok(Assembled {
-        program: state.program,
-        words,
-    })
+
+    /// Takes the next line; after a refusal nothing is changed.
+    pub fn take_line(&mut self, alloc: Global, line: &Line) -> Result<(), AllocError>
+        ensures ok { OnOk result ((lines : List (List ℕ)) → IsAssembled self.old.traces.items (⟦<State as Lookup>⟧.answer self.old.state) lines
+            → IsAssembled self.new.traces.items (⟦<State as Lookup>⟧.answer self.new.state) (lines ++ line.now ∷ [])) }
+        ensures err_traces { OnErr result (self.new.traces.items ≡ self.old.traces.items) }
+        ensures err_state { OnErr result (⟦<State as Lookup>⟧.answer self.new.state ≡ ⟦<State as Lookup>⟧.answer self.old.state) }
+    {
+        let trace = step_one(alloc, line, &self.state)?;
+        self.traces.reserve(1)?;
+        self.state.apply(trace.puts())?;
+        let Ok(_) = self.traces.push(trace) else {
+            unreachable!();
+        };
+        Ok(())
+    }
+
+    /// Takes the next lines.
+    fn take_lines(&mut self, alloc: Global, lines: &[Line]) -> Result<(), AllocError>
+        ensures { OnOk result ((before : List (List ℕ)) → IsAssembled self.old.traces.items (⟦<State as Lookup>⟧.answer self.old.state) before
+            → IsAssembled self.new.traces.items (⟦<State as Lookup>⟧.answer self.new.state) (before ++ lines.now)) }
+    {
+        for line in lines {
+            self.take_line(alloc, line)?;
+        }
+        Ok(())
+    }
 }
 
-fn first_state() -> State
-    ensures { state_value result ≡ first_state }
+/// Assembles a source from three parts.
+pub fn assemble(
+    alloc: Global,
+    front: &[Line],
+    middle: &[Line],
+    back: &[Line],
+) -> Result<Assembled, AllocError>
+    ensures { IfOk result (λ assembled. IsAssembled assembled.traces.items (⟦<State as Lookup>⟧.answer assembled.state) ((front.now ++ middle.now) ++ back.now)) }
 {
-    State {
-        phase: Phase::Head,
-        program: None,
-        place: Place {
-            word: 0,
-            used: 0,
-            is_pending: false,
-        },
-    }
+    let mut assembled = Assembled::new(alloc);
+    assembled.take_lines(alloc, front)?;
+    assembled.take_lines(alloc, middle)?;
+    assembled.take_lines(alloc, back)?;
+    Ok(assembled)
 }

@@ -1,14 +1,21 @@
 //! The binary text.
-ghost use Rattle.std.specs.Prelude.{◌≡◌, ◌++◌, IfOk, OnOk, List, Option};
+ghost use Rattle.std.specs.Prelude.{◌≡◌, ◌++◌, ℕ, IfOk, OnOk, List, Option};
 ghost use Rattle.cps_code.specs.Image.{Piece, ArePacked};
-ghost use Rattle.cps_tool.specs.Assembly.{limit};
+ghost use Rattle.cps_tool.specs.Keys.{limit};
+ghost use Rattle.cps_tool.specs.Assembly.{first_program, program_of, pieces_of_trace, pieces_in};
+ghost use Rattle.cps_tool.specs.Assembled.{IsAssembled};
+ghost use Rattle.cps_tool.specs.Making.{Adds};
 ghost use Rattle.cps_tool.specs.Binary as texts;
 
-use super::assembling::assemble;
-use super::line::Line;
+use super::answers::LIMIT;
+use super::assembling::Assembled;
+use super::item::Item;
+use super::lookup::Lookup;
 use super::octal::push_octal;
-use super::state::LIMIT;
-use cps_code::{Name, Words};
+use super::outcome::put_bits;
+use super::state::State;
+use super::trace::Trace;
+use cps_code::{Name, Names, Words};
 use std::alloc::{AllocError, Global};
 
 /// The octal digits of an address and of a word.
@@ -16,15 +23,59 @@ const ADDRESS_DIGITS: u8 = 6;
 
 const WORD_DIGITS: u8 = 20;
 
-/// The binary text of a source's lines.
-pub fn binary_text(alloc: Global, lines: &[Line]) -> Result<Vec<u8>, AllocError>
-    ensures { IfOk result (λ text. text.items ≡ texts.binary_text lines.now) }
+/// The binary text of a source.
+pub fn binary_text(alloc: Global, assembled: &Assembled) -> Result<Vec<u8>, AllocError>
+    ensures { IfOk result (λ text. (lines : List (List ℕ)) → IsAssembled assembled.now.traces.items (⟦<State as Lookup>⟧.answer assembled.now.state) lines
+        → text.items ≡ texts.binary_text lines) }
 {
-    let assembled = assemble(alloc, lines)?;
+    let words = make_words(alloc, &assembled.traces, &assembled.state)?;
     let mut text = Vec::new(alloc);
-    push_first_row(&mut text, assembled.program)?;
-    push_rows(&mut text, &assembled.words)?;
+    push_first_row(&mut text, program_of(&assembled.traces))?;
+    push_rows(&mut text, &words)?;
     Ok(text)
+}
+
+/// The program's name: the first that a statement gives.
+fn program_of(traces: &[Trace]) -> Option<Name>
+    ensures { result ≡ program_of traces.now }
+{
+    for trace in traces {
+        if let Some(name) = first_program(trace.items()) {
+            return Some(name);
+        }
+    }
+    None
+}
+
+fn first_program(items: &[Item]) -> Option<Name>
+    ensures { result ≡ first_program items.now }
+{
+    for item in items {
+        if let Some(name) = item.program() {
+            return Some(name);
+        }
+    }
+    None
+}
+
+/// The words of a source, where the labels have their final values.
+fn make_words<N: Names>(alloc: Global, traces: &[Trace], labels: &N) -> Result<Words, AllocError>
+    ensures { IfOk result (λ words. ArePacked (pieces_in (N.value labels.now) traces.now) words) }
+{
+    let mut words = Words::new(alloc);
+    for trace in traces {
+        put_trace(&mut words, trace, labels)?;
+    }
+    Ok(words)
+}
+
+fn put_trace<N: Names>(words: &mut Words, trace: &Trace, labels: &N) -> Result<(), AllocError>
+    ensures { OnOk result (Adds (pieces_of_trace (N.value labels.now) trace.now) words.old words.new) }
+{
+    for item in trace.items() {
+        put_bits(words, item, labels)?;
+    }
+    Ok(())
 }
 
 fn push_first_row(text: &mut Vec<u8>, program: Option<Name>) -> Result<(), AllocError>

@@ -1,7 +1,7 @@
 //! The commands of a script.
 ghost use Rattle.std.specs.Prelude.{◌≡◌, ℕ, ◌<◌, ◌≤◌, List, false, length, IfOk, IfSome, IfNone, MatchResult, MatchOption};
 ghost use Rattle.std.specs.List.{before_first, after_first, position_from};
-ghost use Rattle.cps_tool.specs.Command.{Order, append, insert, replace, delete, binary, Spells, IsNumber, IsNumbered, IsRange, is_quit, is_quit_order, order_of, is_blank};
+ghost use Rattle.cps_tool.specs.Command.{Order, append, insert, replace, delete, list, binary, flags, Spells, IsNumber, IsNumbered, IsRange, is_quit, is_quit_order, order_of, is_blank};
 
 use thiserror::Error;
 
@@ -29,8 +29,12 @@ pub enum Command<'a> {
     Replace(u32, &'a [u8]),
     /// To delete the lines from one number to another.
     Delete(u32, u32),
+    /// To write the listing.
+    Listing,
     /// To write the binary text.
     Binary,
+    /// To write the flagged lines.
+    Flags,
     /// To end the script.
     Quit,
 }
@@ -67,11 +71,15 @@ fn read_plain(line: &[u8]) -> Option<Command<'_>>
     ensures order { IfSome result (λ command. Spells line.now (order_of command)) }
     ensures quit { IfSome result (λ command. is_quit line.now ≡ is_quit_order (order_of command)) }
     ensures no_append { IfNone result ((text : List ℕ) → Spells line.now (append text) → ⊥) }
+    ensures no_list { IfNone result (Spells line.now list → ⊥) }
     ensures no_binary { IfNone result (Spells line.now binary → ⊥) }
+    ensures no_flags { IfNone result (Spells line.now flags → ⊥) }
     ensures no_quit { IfNone result (is_quit line.now ≡ false) }
 {
     match line {
+        b"list" => Some(Command::Listing),
         b"binary" => Some(Command::Binary),
+        b"flags" => Some(Command::Flags),
         b"quit" => Some(Command::Quit),
         b"a" => Some(Command::Append(&[])),
         [b'a', b' ', text @ ..] => Some(Command::Append(text)),

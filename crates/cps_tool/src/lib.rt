@@ -1,21 +1,35 @@
 //! The assembly of a source, and a session on one: a script of edits and queries comes in, and the replies go out.
 #![tactic(auto)]
 
-mod action;
+mod answers;
 mod assembling;
 mod binary;
 mod card;
 mod command;
 mod counted;
+mod flagged;
+mod flags;
+mod forcing;
+mod instruction;
+mod item;
+mod key;
 mod line;
-mod meaning;
+mod listing;
+mod lookup;
 mod octal;
+mod outcome;
+mod reading;
+mod recorder;
 mod reply;
 mod replying;
 mod script;
 mod script_line;
 mod session;
 mod state;
+mod statements;
+mod step;
+mod trace;
+mod value_now;
 mod writing;
 
 pub use command::{Command, ScriptFault};

@@ -1,11 +1,12 @@
 //! Obeying the commands of a script, and writing the replies.
-ghost use Rattle.std.specs.Prelude.{◌≡◌, ℕ, List, ◌++◌, false, true, MatchOption, OnOk, OnErr, IsErrOf, codes, decimal};
+ghost use Rattle.std.specs.Prelude.{◌≡◌, ℕ, List, ◌++◌, false, true, MatchOption, MatchResult, OnOk, OnErr, IsErrOf, codes, decimal};
 ghost use Rattle.std.specs.Io.KnownBytes.{Appends};
 ghost use Rattle.cps_tool.specs.Command.{is_quit};
 ghost use Rattle.cps_tool.specs.Counted.{inner_of, failures_of, raised};
 ghost use Rattle.cps_tool.specs.Edits.{Inserted, Replaced, Deleted};
-ghost use Rattle.cps_tool.specs.Reply.{meaning_of, refusal_of, reply_text, refusal_text};
-ghost use Rattle.cps_tool.specs.Script.{Answers};
+ghost use Rattle.cps_tool.specs.Reply.{meaning_of, shown, refused, refusal_of, reply_text, refusal_text};
+ghost use Rattle.cps_tool.specs.declared.reply.Refusal.TheVariants.{NoMemory};
+ghost use Rattle.cps_tool.specs.Script.{IsAnswered};
 
 use super::command::Command;
 use super::counted::Counted;
@@ -15,14 +16,14 @@ use super::session::{EditFault, Session};
 use super::writing::{RunFault, write_text};
 use arrayvec::ArrayString;
 use itoa::Buffer;
-use std::alloc::Global;
+use std::alloc::{AllocError, Global};
 use std::io::Write;
 
 /// The reply to a line of a script, None to the one that ends it.
 pub fn obey(alloc: Global, line: &[u8], session: &mut Session) -> Option<Reply>
     ensures { MatchOption result
         ((is_quit line.now ≡ true) × (session.new ≡ session.old))
-        (λ reply. (is_quit line.now ≡ false) × Answers session.old line.now (meaning_of reply) session.new) }
+        (λ reply. (is_quit line.now ≡ false) × IsAnswered session.old line.now (meaning_of reply) session.new) }
 {
     match Command::read(line) {
         Err(_) => Some(Reply::Refused(Refusal::BadCommand)),
@@ -30,11 +31,20 @@ pub fn obey(alloc: Global, line: &[u8], session: &mut Session) -> Option<Reply>
         Ok(Command::Insert(after, text)) => Some(insert_text(alloc, after, text, session)),
         Ok(Command::Replace(at, text)) => Some(replace_text(alloc, at, text, session)),
         Ok(Command::Delete(first, last)) => Some(delete_lines(first, last, session)),
-        Ok(Command::Binary) => Some(match session.binary(alloc) {
-            Ok(text) => Reply::Shown(text),
-            Err(_) => Reply::Refused(Refusal::NoMemory),
-        }),
+        Ok(Command::Listing) => Some(show(session.listing(alloc))),
+        Ok(Command::Binary) => Some(show(session.binary(alloc))),
+        Ok(Command::Flags) => Some(show(session.flags(alloc))),
         Ok(Command::Quit) => None,
+    }
+}
+
+/// The reply to a query, by its text.
+fn show(text: Result<Vec<u8>, AllocError>) -> Reply
+    ensures { MatchResult text (λ text. meaning_of result ≡ shown text.items) (λ _. meaning_of result ≡ refused NoMemory) }
+{
+    match text {
+        Ok(text) => Reply::Shown(text),
+        Err(_) => Reply::Refused(Refusal::NoMemory),
     }
 }
 

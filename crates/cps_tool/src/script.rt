@@ -1,12 +1,13 @@
 //! Running a script.
-ghost use Rattle.std.specs.Prelude.{◌≡◌, ℕ, List, [], ◌++◌, ◌∷◌, false, true, OnOk, OnErr, IfSome, IsErrOf, MatchResult, MatchOption, ◌≤◌, ◌+◌, ◌-◌, ◌^◌, ◌⊎◌};
+ghost use Rattle.std.specs.Prelude.{◌≡◌, ℕ, List, [], ◌++◌, ◌∷◌, false, true, OnOk, OnErr, IfOk, IfSome, IsErrOf, MatchResult, MatchOption, ◌≤◌, ◌+◌, ◌-◌, ◌^◌, ◌⊎◌};
 ghost use Rattle.std.specs.Io.KnownBytes.{Appends, Consumes};
 ghost use Rattle.cps_tool.specs.Command.{is_quit};
 ghost use Rattle.cps_tool.specs.Counted.{inner_of, calls_of, failures_of, raised};
+ghost use Rattle.cps_tool.specs.Flagged.{flagged_lines};
 ghost use Rattle.cps_tool.specs.Lines.{without_return};
 ghost use Rattle.cps_tool.specs.Progress.{MatchFlow, Takes, Finishes};
 ghost use Rattle.cps_tool.specs.Reply.{Response, meaning_of, reply_text};
-ghost use Rattle.cps_tool.specs.Script.{Script, FrontOfScript, LinesOfScript, Answers};
+ghost use Rattle.cps_tool.specs.Script.{Script, FrontOfScript, LinesOfScript, IsAnswered};
 ghost use Rattle.cps_tool.specs.ScriptLine.{IsBegun};
 
 use super::counted::Counted;
@@ -30,7 +31,8 @@ pub const MOST_READS: u64 = 16_777_216;
 
 const CHUNK: usize = 512;
 
-/// Reads a script to its `quit` or its end, obeys its commands, and writes the replies.
+/// Reads a script to its `quit` or its end, obeys its commands, and writes the replies. It gives the number of lines
+/// of the source at the end that have a flag.
 ///
 /// After a fault the session holds the edits that were made, also the one whose reply failed.
 pub fn run_script<R: Read, W: Write>(
@@ -38,11 +40,12 @@ pub fn run_script<R: Read, W: Write>(
     reader: &mut Counted<R>,
     writer: &mut Counted<W>,
     session: &mut Session,
-) -> Result<(), RunFault>
+) -> Result<u32, RunFault>
     // What is written is a text that the script may write, and the session is the source after it.
     ensures ok { OnOk result (IfSome (R.remaining (inner_of reader.old)) (λ input. (text : List ℕ)
         × Script session.old input text session.new
         × Appends (W.contents (inner_of writer.old)) (W.contents (inner_of writer.new)) text)) }
+    ensures flagged { IfOk result (λ count. count ≡ flagged_lines session.new) }
     // After a failed read it is a text of the lines that a newline ended before it.
     ensures read_fault { IsErrOf result RunFault.ReadFault → (taken text : List ℕ)
         × Consumes (R.remaining (inner_of reader.old)) (R.remaining (inner_of reader.new)) taken
@@ -66,18 +69,21 @@ pub fn run_script<R: Read, W: Write>(
             return Err(RunFault::ReadFault);
         };
         if count == 0 {
-            return finish(alloc, &line, writer, session);
+            return match finish(alloc, &line, writer, session) {
+                Ok(()) => Ok(session.flagged()),
+                Err(fault) => Err(fault),
+            };
         }
         match take_bytes(alloc, &chunk[..count], &mut line, writer, session) {
             Ok(Flow::GoesOn) => {}
-            Ok(Flow::Ends) => return Ok(()),
+            Ok(Flow::Ends) => return Ok(session.flagged()),
             Err(fault) => return Err(fault),
         }
     }
     Err(RunFault::ReadFault)
 }
 
-/// Answers the last line, where it has no newline.
+/// IsAnswered the last line, where it has no newline.
 fn finish<W: Write>(
     alloc: Global,
     line: &ScriptLine,
@@ -108,11 +114,11 @@ pub fn answer_line<W: Write>(
 ) -> Result<Flow, RunFault>
     ensures answer { (begun : List ℕ) → IsBegun line.now begun → MatchResult result
         (λ flow. MatchFlow flow
-        ((is_quit (without_return begun) ≡ false) × (response : Response) × Answers session.old (without_return begun) response session.new
+        ((is_quit (without_return begun) ≡ false) × (response : Response) × IsAnswered session.old (without_return begun) response session.new
         × Appends (W.contents (inner_of writer.old)) (W.contents (inner_of writer.new)) (reply_text response))
         ((is_quit (without_return begun) ≡ true) × (session.new ≡ session.old)
         × Appends (W.contents (inner_of writer.old)) (W.contents (inner_of writer.new)) []))
-        (λ _. (is_quit (without_return begun) ≡ false) × (response : Response) × Answers session.old (without_return begun) response session.new
+        (λ _. (is_quit (without_return begun) ≡ false) × (response : Response) × IsAnswered session.old (without_return begun) response session.new
         × (front back : List ℕ) × (reply_text response ≡ front ++ back)
         × Appends (W.contents (inner_of writer.old)) (W.contents (inner_of writer.new)) front) }
     ensures fault { IsErrOf result RunFault.ReadFault → ⊥ }
@@ -177,7 +183,7 @@ fn take_byte<W: Write>(
 fn reply_to(alloc: Global, line: &ScriptLine, session: &mut Session) -> Option<Reply>
     ensures { (begun : List ℕ) → IsBegun line.now begun → MatchOption result
         ((is_quit (without_return begun) ≡ true) × (session.new ≡ session.old))
-        (λ reply. (is_quit (without_return begun) ≡ false) × Answers session.old (without_return begun) (meaning_of reply) session.new) }
+        (λ reply. (is_quit (without_return begun) ≡ false) × IsAnswered session.old (without_return begun) (meaning_of reply) session.new) }
 {
     match line.text() {
         None => Some(Reply::Refused(Refusal::BadCommand)),

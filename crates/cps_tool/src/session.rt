@@ -1,12 +1,20 @@
 //! A source that is edited line by line.
-ghost use Rattle.std.specs.Prelude.{◌≡◌, ◌-◌, ◌<◌, ◌≤◌, ◌↔◌, [], length, insert, slice_get, slice_set, Some, IsTrue, IsOk, IsSome, IfSome, OnOk, OnErr, IfOk, IsErrOf};
-ghost use Rattle.cps_tool.specs.Binary as texts;
+ghost use Rattle.std.specs.Prelude.{◌≡◌, ◌-◌, ◌<◌, ◌≤◌, ◌↔◌, [], ◌++◌, length, insert, take, drop, slice_get, slice_set, Some, IsTrue, IsOk, IsSome, IfSome, OnOk, OnErr, IfOk, IsErrOf};
+ghost use Rattle.cps_tool.specs.Binary.{binary_text};
+ghost use Rattle.cps_tool.specs.Listing.{listing_text};
+ghost use Rattle.cps_tool.specs.Flagged.{flags_text, flagged_lines};
 ghost use Rattle.cps_tool.specs.Edits.{HasLine, LacksLine, HasLines, LacksLines, without_lines};
 
-use super::binary;
+use super::assembling::{Assembled, assemble};
+use super::binary::binary_text;
+use super::flagged::{flagged_lines, flags_text};
 use super::line::Line;
+use super::listing::listing_text;
+use super::lookup::Lookup;
+use super::state::State;
 use std::alloc::{AllocError, Global};
 use std::marker::Model;
+use std::slice::from_ref;
 use thiserror::Error;
 
 /// The most lines that a source has.
@@ -27,20 +35,27 @@ pub enum EditFault {
 }
 
 /// A source that is edited line by line. It has at most 9,999 lines.
+///
+/// What its lines do in pass one is kept. An edit makes that anew before it is accepted; a line behind the last one
+/// is only added to it.
 #[derive(Drop)]
 pub struct Session {
+    alloc: Global,
     lines: Vec<Line>,
+    assembled: Assembled,
 }
 
 impl Model for Session {
     ghost use Rattle.std.specs.Prelude.{List, ℕ, ◌≤◌, length};
     ghost use Rattle.cps_tool.specs.Edits.{most_lines};
+    ghost use Rattle.cps_tool.specs.Assembled.{IsAssembled};
 
     ghost Value = { List (List ℕ) };
 
     ghost view = { λ session. session.lines.items };
 
-    ghost invariant = { λ session. length session.lines.items ≤ most_lines };
+    ghost invariant = { λ session. (length session.lines.items ≤ most_lines)
+        × IsAssembled session.assembled.traces.items (⟦<State as Lookup>⟧.answer session.assembled.state) session.lines.items };
 }
 
 impl Session {
@@ -49,7 +64,9 @@ impl Session {
         ensures { result ≡ [] }
     {
         Session {
+            alloc,
             lines: Vec::new(alloc),
+            assembled: Assembled::new(alloc),
         }
     }
 
@@ -95,48 +112,143 @@ impl Session {
         if self.lines.len() == MOST_LINES {
             return Err(EditFault::TooManyLines);
         }
-        match self.lines.insert(after as usize, line) {
-            Ok(()) => Ok(()),
-            Err(_) => Err(EditFault::Memory),
+        if after as usize == self.lines.len() {
+            self.append(line)
+        } else {
+            self.insert_before_end(after as usize, line)
         }
     }
 
-    /// Puts a line in place of line `at`, where lines count from 1. A line that is refused is dropped. Takes no memory.
+    fn append(&mut self, line: Line) -> Result<(), EditFault>
+        requires { length self.old < MOST_LINES }
+        ensures ok { OnOk result (self.new ≡ insert self.old (length self.old) line) }
+        ensures err { OnErr result (self.new ≡ self.old) }
+        ensures no_line { IsErrOf result EditFault.NoSuchLine → ⊥ }
+        ensures too_many { IsErrOf result EditFault.TooManyLines → ⊥ }
+    {
+        let Ok(_) = self.lines.reserve(1) else {
+            return Err(EditFault::Memory);
+        };
+        let Ok(_) = self.assembled.take_line(self.alloc, &line) else {
+            return Err(EditFault::Memory);
+        };
+        let Ok(_) = self.lines.push(line) else {
+            unreachable!();
+        };
+        Ok(())
+    }
+
+    fn insert_before_end(&mut self, after: usize, line: Line) -> Result<(), EditFault>
+        requires few { length self.old < MOST_LINES }
+        requires within { after ≤ length self.old }
+        ensures ok { OnOk result (self.new ≡ insert self.old after line) }
+        ensures err { OnErr result (self.new ≡ self.old) }
+        ensures no_line { IsErrOf result EditFault.NoSuchLine → ⊥ }
+        ensures too_many { IsErrOf result EditFault.TooManyLines → ⊥ }
+    {
+        let (front, back) = self.lines.split_at(after);
+        let Ok(assembled) = assemble(self.alloc, front, from_ref(&line), back) else {
+            return Err(EditFault::Memory);
+        };
+        if self.lines.insert(after, line).is_err() {
+            return Err(EditFault::Memory);
+        }
+        self.assembled = assembled;
+        Ok(())
+    }
+
+    /// Puts a line in place of line `at`, where lines count from 1. A line that is refused is dropped.
     pub fn replace(&mut self, at: u32, line: Line) -> Result<(), EditFault>
         ensures ok { OnOk result (self.new ≡ slice_set self.old (at - 1) line) }
-        ensures allowed { IsOk result ↔ HasLine self.old at }
+        ensures allowed { OnOk result (HasLine self.old at) }
         ensures err { OnErr result (self.new ≡ self.old) }
         ensures no_line { IsErrOf result EditFault.NoSuchLine ↔ LacksLine self.old at }
         ensures too_many { IsErrOf result EditFault.TooManyLines → ⊥ }
-        ensures memory { IsErrOf result EditFault.Memory → ⊥ }
+        ensures memory { IsErrOf result EditFault.Memory → HasLine self.old at }
     {
         if at == 0 || at as usize > self.lines.len() {
             return Err(EditFault::NoSuchLine);
         }
-        self.lines[at as usize - 1] = line;
+        self.put_at(at as usize - 1, line)
+    }
+
+    /// Puts a line in place of the one behind the first `before`.
+    fn put_at(&mut self, before: usize, line: Line) -> Result<(), EditFault>
+        requires { before < length self.old }
+        ensures ok { OnOk result (self.new ≡ slice_set self.old before line) }
+        ensures err { OnErr result (self.new ≡ self.old) }
+        ensures no_line { IsErrOf result EditFault.NoSuchLine → ⊥ }
+        ensures too_many { IsErrOf result EditFault.TooManyLines → ⊥ }
+    {
+        let (front, rest) = self.lines.split_at(before);
+        let (_, back) = rest.split_at(1);
+        let Ok(assembled) = assemble(self.alloc, front, from_ref(&line), back) else {
+            return Err(EditFault::Memory);
+        };
+        self.lines[before] = line;
+        self.assembled = assembled;
         Ok(())
     }
 
-    /// Deletes the lines from `first` to `last`, where lines count from 1. Takes no memory.
+    /// Deletes the lines from `first` to `last`, where lines count from 1.
     pub fn delete(&mut self, first: u32, last: u32) -> Result<(), EditFault>
         ensures ok { OnOk result (self.new ≡ without_lines self.old first last) }
-        ensures allowed { IsOk result ↔ HasLines self.old first last }
+        ensures allowed { OnOk result (HasLines self.old first last) }
         ensures err { OnErr result (self.new ≡ self.old) }
         ensures no_line { IsErrOf result EditFault.NoSuchLine ↔ LacksLines self.old first last }
         ensures too_many { IsErrOf result EditFault.TooManyLines → ⊥ }
-        ensures memory { IsErrOf result EditFault.Memory → ⊥ }
+        ensures memory { IsErrOf result EditFault.Memory → HasLines self.old first last }
     {
         if first == 0 || last < first || last as usize > self.lines.len() {
             return Err(EditFault::NoSuchLine);
         }
-        self.lines.drain(first as usize - 1..last as usize);
+        self.cut(first as usize - 1, last as usize)
+    }
+
+    /// Deletes the lines behind the first `from`, up to the first `to`.
+    fn cut(&mut self, from: usize, to: usize) -> Result<(), EditFault>
+        requires forwards { from ≤ to }
+        requires within { to ≤ length self.old }
+        ensures ok { OnOk result (self.new ≡ take from self.old ++ drop to self.old) }
+        ensures err { OnErr result (self.new ≡ self.old) }
+        ensures no_line { IsErrOf result EditFault.NoSuchLine → ⊥ }
+        ensures too_many { IsErrOf result EditFault.TooManyLines → ⊥ }
+    {
+        let (front, _) = self.lines.split_at(from);
+        let (_, back) = self.lines.split_at(to);
+        let Ok(assembled) = assemble(self.alloc, front, &[], back) else {
+            return Err(EditFault::Memory);
+        };
+        self.lines.drain(from..to);
+        self.assembled = assembled;
         Ok(())
     }
 
     /// The binary text of the source.
     pub fn binary(&self, alloc: Global) -> Result<Vec<u8>, AllocError>
-        ensures { IfOk result (λ text. text.items ≡ texts.binary_text self.now) }
+        ensures { IfOk result (λ text. text.items ≡ binary_text self.now) }
     {
-        binary::binary_text(alloc, &self.lines)
+        binary_text(alloc, &self.assembled)
+    }
+
+    /// The listing of the source.
+    pub fn listing(&self, alloc: Global) -> Result<Vec<u8>, AllocError>
+        ensures { IfOk result (λ text. text.items ≡ listing_text self.now) }
+    {
+        listing_text(alloc, &self.lines, &self.assembled)
+    }
+
+    /// The flags text of the source.
+    pub fn flags(&self, alloc: Global) -> Result<Vec<u8>, AllocError>
+        ensures { IfOk result (λ text. text.items ≡ flags_text self.now) }
+    {
+        flags_text(alloc, &self.assembled)
+    }
+
+    /// How many lines of the source have a flag. Takes no memory.
+    pub fn flagged(&self) -> u32
+        ensures { result ≡ flagged_lines self.now }
+    {
+        flagged_lines(&self.assembled) as u32
     }
 }

@@ -1,26 +1,101 @@
-//! Where the assembly of a program stands.
-ghost use Rattle.std.specs.Prelude.{◌*◌, ◌+◌, ◌≤◌};
+//! The state of an assembly.
+ghost use Rattle.std.specs.Prelude.{◌≡◌, ◌<◌, ◌≤◌, ◌+◌, None, OnOk, OnErr, length};
+ghost use Rattle.std.specs.HashMap as hash;
+ghost use Rattle.cps_tool.specs.Keys.{first_state, with_put, overwritten};
+ghost use Rattle.cps_tool.specs.declared.key.Key.{Key};
 
-use cps_code::{Name, Place};
+use super::answers::{first_counter, first_phase, label_of};
+use super::key::{Answer, Key, Put};
+use super::lookup::Lookup;
+use cps_code::{Name, Names};
+use std::alloc::{AllocError, Global};
+use std::collections::HashMap;
 
-/// The words that the machine has.
-pub const LIMIT: u32 = 131_072;
-
-/// The part of a program.
-#[derive(Clone, Copy, Debug, PartialEq, Eq)]
-pub enum Phase {
-    /// Before the first instruction, ORG or END: here the program may be named.
-    Head,
-    Body,
-    /// Behind END.
-    AfterEnd,
+/// What stands at each key between two lines.
+#[derive(Drop)]
+pub struct State {
+    control: Answer,
+    counter: Answer,
+    labels: HashMap<Name, Answer>,
 }
 
-/// Where the assembly of a program stands: its part, its name, and the place of what comes next.
-#[derive(Clone, Copy)]
-pub struct State {
-    pub phase: Phase,
-    pub program: Option<Name>,
-    pub place: Place,
-    ghost within: { 60 * place.word + place.used ≤ 60 * 131072 },
+impl Lookup for State {
+    ghost use Rattle.std.specs.HashMap as hash;
+    ghost use Rattle.cps_tool.specs.Keys.{answers_in};
+
+    ghost answer = { λ state. answers_in state.control state.counter (hash.get ⟦<Name as PartialEq>⟧.eq state.labels) };
+
+    fn answer_to(&self, key: Key) -> Option<Answer> {
+        match key {
+            Key::Control => Some(self.control),
+            Key::Counter => Some(self.counter),
+            Key::Label(name) => self.labels.get(&name).copied(),
+        }
+    }
+}
+
+/// The labels, by their names.
+impl Names for State {
+    ghost use Rattle.cps_tool.specs.Keys.{labels_of};
+
+    ghost value = { λ state. labels_of (⟦<State as Lookup>⟧.answer state) };
+
+    fn value_of(&self, name: Name) -> Option<i64> {
+        label_of(self.answer_to(Key::Label(name)))
+    }
+}
+
+impl State {
+    /// The state before the first line. Takes no memory yet.
+    pub fn first(alloc: Global) -> State
+        ensures { ⟦<State as Lookup>⟧.answer result ≡ first_state }
+    {
+        State {
+            control: Answer::Control(first_phase()),
+            counter: Answer::Counter(first_counter()),
+            labels: HashMap::new(alloc),
+        }
+    }
+
+    /// Puts the answers of a line, in their order.
+    pub fn apply(&mut self, puts: &[Put]) -> Result<(), AllocError>
+        ensures ok { OnOk result (⟦<State as Lookup>⟧.answer self.new ≡ overwritten (⟦<State as Lookup>⟧.answer self.old) puts.now) }
+        ensures err { OnErr result (⟦<State as Lookup>⟧.answer self.new ≡ ⟦<State as Lookup>⟧.answer self.old) }
+    {
+        self.labels.reserve(puts.len())?;
+        self.put_all(puts);
+        Ok(())
+    }
+
+    /// The same where there is room.
+    fn put_all(&mut self, puts: &[Put])
+        requires { length puts.now ≤ hash.spare self.old.labels }
+        ensures { ⟦<State as Lookup>⟧.answer self.new ≡ overwritten (⟦<State as Lookup>⟧.answer self.old) puts.now }
+    {
+        for put in puts {
+            self.put(put);
+        }
+    }
+
+    fn put(&mut self, put: &Put)
+        requires { 0 < hash.spare self.old.labels }
+        ensures answer { ⟦<State as Lookup>⟧.answer self.new ≡ with_put (⟦<State as Lookup>⟧.answer self.old) put.now }
+        ensures room { hash.spare self.old.labels ≤ hash.spare self.new.labels + 1 }
+    {
+        match put.key {
+            Key::Control => self.control = put.answer,
+            Key::Counter => self.counter = put.answer,
+            Key::Label(name) => self.put_label(name, put.answer),
+        }
+    }
+
+    fn put_label(&mut self, name: Name, answer: Answer)
+        requires { 0 < hash.spare self.old.labels }
+        ensures answer { (key : Key) → ⟦<State as Lookup>⟧.answer self.new key ≡ with_put (⟦<State as Lookup>⟧.answer self.old) (record { key = Key.Label name; answer = answer }) key }
+        ensures room { hash.spare self.old.labels ≤ hash.spare self.new.labels + 1 }
+    {
+        let Ok(_) = self.labels.insert(name, answer) else {
+            unreachable!();
+        };
+    }
 }

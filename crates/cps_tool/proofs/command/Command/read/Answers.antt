@@ -18,4 +18,4 @@ returns-in-Some-read_delete-clause-only c = only_order c.args.line.now (order_of
 pub returns-in-None-clause-order : goal.returns-in-None-clause-order
 returns-in-None-clause-order c = no_order c.args.line.now c.in-None.ensures.no_append
     c.in_default.ensures.order c.in_default-read_replace.ensures.order c.in_default-read_delete.ensures.order
-    c.in-None.ensures.no_binary c.in-None.ensures.no_quit
+    c.in-None.ensures.no_list c.in-None.ensures.no_binary c.in-None.ensures.no_flags c.in-None.ensures.no_quit

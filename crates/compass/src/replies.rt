@@ -1,0 +1,65 @@
+//! Running scripts on an empty source.
+use super::devices::{SlowReader, SlowWriter};
+use cps_tool::{Counted, Session, run_script};
+use std::alloc::Global;
+use std::process::Abort;
+use std::test::Fail;
+
+/// The replies to a script that is read and written at once.
+fn replies(alloc: Global, script: &[u8]) -> Result<Vec<u8>, Fail> {
+    let mut reader = Counted::new(script);
+    let mut writer = Counted::new(Vec::new(alloc));
+    let mut session = Session::new(alloc);
+    run_script(alloc, &mut reader, &mut writer, &mut session)?;
+    Ok(writer.into_inner())
+}
+
+/// The replies to a script that is read and written a byte a call.
+fn replies_byte_by_byte(alloc: Global, script: &[u8]) -> Result<Vec<u8>, Fail> {
+    let mut reader = Counted::new(SlowReader {
+        rest: script,
+        fails: false,
+    });
+    let mut writer = Counted::new(SlowWriter {
+        taken: Vec::new(alloc),
+        room: usize::MAX,
+    });
+    let mut session = Session::new(alloc);
+    run_script(alloc, &mut reader, &mut writer, &mut session)?;
+    Ok(writer.into_inner().taken)
+}
+
+/// Asserts what is replied to a script, however it is read and written.
+pub fn assert_replies(
+    rt: &impl Abort,
+    alloc: Global,
+    at: usize,
+    script: &str,
+    want: &str,
+) -> Result<(), Fail> {
+    let whole = replies(alloc, script.as_bytes())?;
+    assert_eq!(rt; str::from_utf8(&whole)?, want, "row {at}");
+    let pieces = replies_byte_by_byte(alloc, script.as_bytes())?;
+    assert_eq!(rt; str::from_utf8(&pieces)?, want, "row {at}, byte by byte");
+    Ok(())
+}
+
+/// Asserts what a query writes of a source whose lines are appended one by one.
+pub fn assert_text(
+    rt: &impl Abort,
+    alloc: Global,
+    at: usize,
+    source: &[&str],
+    query: &str,
+    want: &str,
+) -> Result<(), Fail> {
+    let mut script = String::new(alloc);
+    let mut replies = String::new(alloc);
+    for (before, line) in source.iter().enumerate() {
+        writeln!(script, "a {line}")?;
+        writeln!(replies, "ok {} lines", before + 1)?;
+    }
+    writeln!(script, "{query}")?;
+    replies.push_str(want)?;
+    assert_replies(rt, alloc, at, &script, &replies)
+}

@@ -1,0 +1,51 @@
+-- One line more in pass one.
+use Rattle.std.proofs.Common.{◌≡◌, ℕ, ◌+◌, ◌<◌, ◌≤◌, refl, sym, ap, subst, ◌∙◌, List, [], ◌∷◌, ◌++◌, append_assoc, length, get_or, take, drop}
+use Rattle.std.proofs.lemmas.List.{drop_more, drop_all, take_more, take_all}
+use Rattle.cps_tool.specs.declared.key.Put.{Put}
+use Rattle.cps_tool.specs.Keys.{State, first_state, with_put, overwritten}
+use Rattle.cps_tool.specs.Course.{Trace}
+use Rattle.cps_tool.specs.Meaning.{trace_of}
+use Rattle.cps_tool.specs.Assembly.{after, state_after, traces_from, traces_of}
+use Rattle.cps_tool.specs.Assembled.{IsAssembled}
+
+-- one put of the list is made
+pub overwritten-next : (f g e : State) (puts : List Put) (i : ℕ) (d : Put) → i < length puts → f ≡ with_put g (get_or puts i d)
+    → overwritten g (drop i puts) ≡ e → overwritten f (drop (i + 1) puts) ≡ e
+overwritten-next f g e puts i d lt made before =
+    ap (λ (h : State). overwritten h (drop (i + 1) puts)) made ∙ sym (ap (overwritten g) (drop_more puts i d lt)) ∙ before
+
+pub overwritten-all : (f e : State) (puts : List Put) (i : ℕ) → length puts ≤ i → overwritten f (drop i puts) ≡ e → f ≡ e
+overwritten-all f e puts i past before = sym (ap (overwritten f) (drop_all i puts past)) ∙ before
+
+state_after-more : (f : State) (lines : List (List ℕ)) (line : List ℕ) → state_after f (lines ++ line ∷ []) ≡ after (state_after f lines) line
+state_after-more f [] line = refl
+state_after-more f (l ∷ lines) line = state_after-more (after f l) lines line
+
+traces_from-more : (f : State) (lines : List (List ℕ)) (line : List ℕ)
+    → traces_from f (lines ++ line ∷ []) ≡ traces_from f lines ++ trace_of line (state_after f lines) ∷ []
+traces_from-more f [] line = refl
+traces_from-more f (l ∷ lines) line = ap (λ traces. trace_of l f ∷ traces) (traces_from-more (after f l) lines line)
+
+pub assembled-line : (done more : List Trace) (now next : State) (lines : List (List ℕ)) (line : List ℕ) (trace : Trace)
+    → IsAssembled done now lines → trace ≡ trace_of line now → more ≡ done ++ trace ∷ [] → next ≡ overwritten now trace.puts
+    → IsAssembled more next (lines ++ line ∷ [])
+assembled-line done more now next lines line trace is stepped pushed put_ = record {
+  traces =
+      pushed ∙ ap (λ t. done ++ t ∷ []) stepped ∙ ap (λ ts. ts ++ trace_of line now ∷ []) is.traces
+      ∙ ap (λ (s : State). traces_of lines ++ trace_of line s ∷ []) is.state ∙ sym (traces_from-more first_state lines line);
+  state =
+      put_ ∙ ap (λ (t : Trace). overwritten now t.puts) stepped ∙ ap (λ (s : State). after s line) is.state ∙ sym (state_after-more first_state lines line);
+}
+
+lines-next : (before lines : List (List ℕ)) (i : ℕ) (line : List ℕ) → i < length lines → line ≡ get_or lines i line
+    → (before ++ take i lines) ++ line ∷ [] ≡ before ++ take (i + 1) lines
+lines-next before lines i line lt is =
+    append_assoc before (take i lines) (line ∷ []) ∙ ap (λ l. before ++ (take i lines ++ l ∷ [])) is ∙ ap (λ front. before ++ front) (sym (take_more lines i line lt))
+
+pub assembled-next : (done : List Trace) (now : State) (before lines : List (List ℕ)) (i : ℕ) (line : List ℕ) → i < length lines → line ≡ get_or lines i line
+    → IsAssembled done now ((before ++ take i lines) ++ line ∷ []) → IsAssembled done now (before ++ take (i + 1) lines)
+assembled-next done now before lines i line lt is assembled = subst (λ ls. IsAssembled done now ls) (lines-next before lines i line lt is) assembled
+
+pub assembled-all : (done : List Trace) (now : State) (before lines : List (List ℕ)) (i : ℕ) → length lines ≤ i
+    → IsAssembled done now (before ++ take i lines) → IsAssembled done now (before ++ lines)
+assembled-all done now before lines i past assembled = subst (λ ls. IsAssembled done now (before ++ ls)) (take_all i lines past) assembled

@@ -1,0 +1,59 @@
+-- The listing: a row for each statement, with its flags, its address, its code and the line as it was given.
+-- The columns are our profile's. They are counted from 1: flags in 1 to 8, the address in 10 to 15, the code in 17 to 36,
+-- the line's number in 38 to 43, the line from 45 on; columns between are blank, and blanks at the end are cut.
+use Rattle.std.specs.Prelude.{ℕ, ◌+◌, ◌-◌, List, [], ◌∷◌, ◌++◌, length, replicate, codes, decimal, flat_map, Option, None, Some, if◌then◌else◌}
+use Rattle.std.specs.List.{list_all}
+use Rattle.cps_code.specs.Table.{is_blank}
+use Rattle.cps_tool.specs.declared.outcome.Row.{Row}
+use Rattle.cps_tool.specs.declared.outcome.Digits.{Digits}
+use Rattle.cps_tool.specs.Octal.{octal}
+use Rattle.cps_tool.specs.Flags.{letters}
+use Rattle.cps_tool.specs.Course.{Trace}
+use Rattle.cps_tool.specs.Keys.{Labels}
+use Rattle.cps_tool.specs.Outcome.{row_of}
+use Rattle.cps_tool.specs.Assembly.{traces_of, final_labels}
+
+abbrev pub blanks : ℕ → List ℕ
+blanks count = replicate count 32
+
+-- a text at the left, and at the right, of so many columns
+abbrev pub at_left : ℕ → List ℕ → List ℕ
+at_left width text = text ++ blanks (width - length text)
+
+abbrev pub at_right : ℕ → List ℕ → List ℕ
+at_right width text = blanks (width - length text) ++ text
+
+abbrev pub address_text : Option ℕ → List ℕ
+address_text None = []
+address_text (Some address) = octal 6 address
+
+abbrev pub code_text : Option Digits → List ℕ
+code_text None = []
+code_text (Some digits) = octal digits.count digits.number
+
+-- a text without the blanks at its end
+abbrev pub trimmed : List ℕ → List ℕ
+trimmed [] = []
+trimmed (c ∷ text) = if list_all is_blank (c ∷ text) then [] else c ∷ trimmed text
+
+-- the columns of the flags, the address and the code, each with a blank behind it
+abbrev pub row_columns : Row → List ℕ
+row_columns row =
+    at_left 8 (letters row.flags) ++ codes " " ++ at_left 6 (address_text row.location) ++ codes " " ++ at_left 20 (code_text row.code) ++ codes " "
+
+abbrev pub listing_row : ℕ → List ℕ → Row → List ℕ
+listing_row number line row = trimmed (row_columns row ++ at_right 6 (decimal number) ++ codes " " ++ line) ++ codes "\n"
+
+-- the rows of a line
+abbrev pub line_rows : Labels → ℕ → List ℕ → Trace → List ℕ
+line_rows labels number line trace = flat_map (λ item. listing_row number line (row_of labels item)) trace.items
+
+-- the rows of lines that have numbers from one on
+abbrev pub listing_from : Labels → ℕ → List (List ℕ) → List Trace → List ℕ
+listing_from labels number [] traces = []
+listing_from labels number (line ∷ lines) [] = []
+listing_from labels number (line ∷ lines) (trace ∷ traces) = line_rows labels number line trace ++ listing_from labels (number + 1) lines traces
+
+-- the listing of a source
+abbrev pub listing_text : List (List ℕ) → List ℕ
+listing_text lines = listing_from (final_labels lines) 1 lines (traces_of lines)

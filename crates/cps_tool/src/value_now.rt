@@ -1,0 +1,110 @@
+//! Values in pass one, in which a name counts if it was defined before.
+ghost use Rattle.std.specs.Prelude.{◌≡◌, IfOk};
+ghost use Rattle.cps_tool.specs.Keys.{Labels};
+ghost use Rattle.cps_tool.specs.Course.{Course, run};
+ghost use Rattle.cps_tool.specs.Meaning.{names_now, value_now, now};
+ghost use Rattle.cps_tool.specs.NamesNow.{values_in, name_now};
+
+use super::answers::label_of;
+use super::key::{Key, is_same_name};
+use super::lookup::Lookup;
+use super::recorder::Recorder;
+use cps_code::{Expr, Name, Names};
+use std::alloc::{AllocError, Global};
+
+/// A name and its value, None where it wasn't defined before.
+#[derive(Clone, Copy, Debug, PartialEq, Eq)]
+pub struct NameNow {
+    pub name: Name,
+    pub value: Option<i64>,
+}
+
+/// A value in pass one.
+#[derive(Clone, Copy, Debug, PartialEq, Eq)]
+pub enum ValueNow {
+    /// A name wasn't defined before.
+    Undefined,
+    /// It passes the range of values.
+    NoValue,
+    Known(i64),
+}
+
+/// The names of an expression with their values.
+#[derive(Drop)]
+struct NamesNow {
+    names: Vec<NameNow>,
+}
+
+impl Names for NamesNow {
+    ghost use Rattle.cps_tool.specs.NamesNow.{values_in};
+
+    ghost value = { λ now. values_in now.names.items };
+
+    fn value_of(&self, name: Name) -> Option<i64> {
+        value_among(&self.names, name)
+    }
+}
+
+fn value_among(names: &[NameNow], name: Name) -> Option<i64>
+    ensures { result ≡ values_in names.now name }
+{
+    for now in names {
+        if is_same_name(now.name, name) {
+            return now.value;
+        }
+    }
+    None
+}
+
+/// The value of an expression.
+pub fn value_now<L: Lookup>(
+    alloc: Global,
+    recorder: &mut Recorder,
+    state: &L,
+    expression: &Expr,
+) -> Result<ValueNow, AllocError>
+    ensures run { IfOk result (λ value. (rest : ValueNow → Course) → run (now expression.now rest) (L.answer state.now) recorder.old ≡ run (rest value) (L.answer state.now) recorder.new) }
+{
+    let names = names_now(alloc, recorder, state, expression.names())?;
+    Ok(value_under(&NamesNow { names }, expression))
+}
+
+fn value_under(names: &NamesNow, expression: &Expr) -> ValueNow
+    ensures { result ≡ value_now (values_in names.now.names.items) expression.now }
+{
+    let valued = expression.value(names);
+    if valued.undefined {
+        return ValueNow::Undefined;
+    }
+    match valued.value {
+        None => ValueNow::NoValue,
+        Some(value) => ValueNow::Known(value),
+    }
+}
+
+/// The values of names, in their order.
+fn names_now<L: Lookup>(
+    alloc: Global,
+    recorder: &mut Recorder,
+    state: &L,
+    names: &[Name],
+) -> Result<Vec<NameNow>, AllocError>
+    ensures { IfOk result (λ now. (rest : Labels → Course) → run (names_now names.now rest) (L.answer state.now) recorder.old ≡ run (rest (values_in now.items)) (L.answer state.now) recorder.new) }
+{
+    let mut now = Vec::new(alloc);
+    for name in names {
+        now.push(name_now(recorder, state, name)?)?;
+    }
+    Ok(now)
+}
+
+fn name_now<L: Lookup>(
+    recorder: &mut Recorder,
+    state: &L,
+    name: &Name,
+) -> Result<NameNow, AllocError>
+    ensures { IfOk result (λ now. (rest : NameNow → Course) → run (name_now name.now rest) (L.answer state.now) recorder.old ≡ run (rest now) (L.answer state.now) recorder.new) }
+{
+    let value = label_of(recorder.ask(state, Key::Label(*name))?);
+    Ok(NameNow { name: *name, value })
+}
