@@ -1,8 +1,9 @@
 //! The codes of statements, and the words that they make.
 use cps_code::{
-    CpForm, Expr, ExprFault, Filled, Force, FormFault, Name, NoNames, Piece, Place, Placed, Radix,
-    Words, cp_form, place_next,
+    CpForm, Expr, ExprFault, Filled, Force, FormFault, NoNames, Piece, Place, Placed, Radix, Words,
+    cp_form, place_next,
 };
+use cps_text::Name;
 use std::process::Abort;
 use std::test::Fail;
 

@@ -1,5 +1,6 @@
 //! Readers and writers that are slow or fail, and what a script's run does with them.
-use cps_tool::{Counted, RunFault, Session, run_script};
+use cps_text::Counted;
+use cps_tool::{RunFault, Session, run_script};
 use std::cell::Cell;
 use std::io;
 use std::io::{ErrorKind, Read, Write};

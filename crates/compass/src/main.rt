@@ -15,8 +15,11 @@ mod replies;
 mod script_rows;
 #[cfg(test)]
 mod source_rows;
+#[cfg(test)]
+mod text_rows;
 
-use cps_tool::{Counted, Session, run_script};
+use cps_text::Counted;
+use cps_tool::{Session, run_script};
 use std::io;
 use std::process::ExitCode;
 

@@ -1,16 +1,23 @@
 //! Scripts and the replies to them.
 use super::replies::assert_replies;
-use cps_tool::{EditFault, Line, Session};
+use cps_text::Line;
+use cps_tool::{EditFault, Session};
 use std::test::Fail;
 
 #[test]
 fn answers_commands(rt: HostRuntime) -> Result<(), Fail> {
-    let rows: [(&str, &str); 20] = [
+    let rows: [(&str, &str); 26] = [
         ("", ""),
         ("a", "ok 1 lines\n"),
         ("a\r\nquit\r\na\r\n", "ok 1 lines\n"),
         ("binary\r\n", "IDENT\n"),
         ("a \t\n", "refused 3 bad character\n"),
+        ("a X`\n", "refused 3 bad character\n"),
+        ("a {\n", "refused 3 bad character\n"),
+        ("a |\n", "refused 3 bad character\n"),
+        ("a }\n", "refused 3 bad character\n"),
+        ("a ~\n", "refused 3 bad character\n"),
+        ("a \x7f\n", "refused 3 bad character\n"),
         ("x 1\n", "refused 5 bad command\n"),
         ("\n", "refused 5 bad command\n"),
         ("i  5\n", "refused 5 bad command\n"),

@@ -1,6 +1,7 @@
 //! Sources, and the texts that are written of them.
 use super::replies::{assert_replies, assert_text};
-use cps_tool::{Counted, Session, run_script};
+use cps_text::Counted;
+use cps_tool::{Session, run_script};
 use std::test::Fail;
 
 /// A whole program.
@@ -160,7 +161,7 @@ E                                        10          NO
 /// Blanks at the end are cut, and the columns that aren't read are listed.
 #[test]
 fn lists_lines_as_given(rt: HostRuntime) -> Result<(), Fail> {
-    let rows: [(&[&str], &str); 3] = [
+    let rows: [(&[&str], &str); 5] = [
         (
             &["", "   ", "A  "],
             "                                          1\n                                          2\n\
@@ -172,7 +173,27 @@ fn lists_lines_as_given(rt: HostRuntime) -> Result<(), Fail> {
         ),
         (
             &["         NO           COMMENT ", ",cont"],
-            "         000000 46000                     1          NO           COMMENT\n                                          2 ,cont\n",
+            "         000000 46000                     1          NO           COMMENT\nE                                         2 ,cont\n",
+        ),
+        (
+            &[
+                "         sa1     b1+3",
+                "b        equ     2b",
+                "         Sx1     B-10o",
+            ],
+            "         000000 5111000003                1          sa1     b1+3
+                00000000000000000002      2 b        equ     2b
+         000000 7110777771                3          Sx1     B-10o
+",
+        ),
+        (
+            &[
+                "         SX1                X2",
+                "         SX1                 X2",
+            ],
+            "         000000 73120                     1          SX1                X2
+A                                         2          SX1                 X2
+",
         ),
     ];
     for (at, (source, want)) in rows.iter().enumerate() {
@@ -183,7 +204,7 @@ fn lists_lines_as_given(rt: HostRuntime) -> Result<(), Fail> {
 
 #[test]
 fn tells_flags(rt: HostRuntime) -> Result<(), Fail> {
-    let rows: [(&[&str], &str); 6] = [
+    let rows: [(&[&str], &str); 7] = [
         (&[], "0 flagged lines\n"),
         (&PROGRAM, "0 flagged lines\n"),
         (
@@ -200,6 +221,20 @@ fn tells_flags(rt: HostRuntime) -> Result<(), Fail> {
             "2 U\n3 A\n4 A\n5 A\n6 L\n8 D\n9 TU\n7 flagged lines\n",
         ),
         (&LIMIT, "2 E\n3 EU\n4 A\n7 L\n10 E\n5 flagged lines\n"),
+        (
+            &[
+                "         TITLE   ANY, TEXT",
+                "         SPACE   2",
+                "         EJECT",
+                ", CONTINUED",
+                "A        LIST    X",
+                "         IDENT   T1",
+                "         END",
+                "         TITLE",
+                ",",
+            ],
+            "4 E\n5 L\n8 E\n9 E\n4 flagged lines\n",
+        ),
     ];
     for (at, (source, want)) in rows.iter().enumerate() {
         assert_text(&rt, rt.alloc(), at, source, "flags", want)?;
@@ -251,12 +286,10 @@ fn assembles_sources(rt: HostRuntime) -> Result<(), Fail> {
         ),
         (
             &[
-                "         no",
-                "         NO      x",
-                "         SA1     b1+3",
                 "         XX      1",
                 "         SA1     -X1",
                 "         EQ      X1",
+                ",        NO",
             ],
             "IDENT\n",
         ),

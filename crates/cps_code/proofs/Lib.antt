@@ -10,6 +10,5 @@ pub mod SumReading
 pub mod HoleLemmas
 pub mod WorkedRows
 pub mod SetLemmas
-pub mod NameLemmas
 pub mod NamesLemmas
 pub mod ExpressionReading

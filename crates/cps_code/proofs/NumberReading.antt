@@ -4,7 +4,8 @@ use Rattle.std.specs.Prelude.{fold}
 use Rattle.std.specs.List.{list_all}
 use Rattle.std.proofs.lemmas.Bool.Decides.{nat_tests}
 use Rattle.std.proofs.lemmas.List.Sums.{fold_more}
-use Rattle.cps_code.specs.Number.{is_digit, digits_number, number_in}
+use Rattle.cps_text.specs.Text.{is_digit}
+use Rattle.cps_code.specs.Number.{digits_number, number_in}
 
 abbrev with_digit : ℕ → ℕ → ℕ → ℕ
 with_digit base number digit = number * base + (digit - 48)

@@ -2,7 +2,7 @@
 use Rattle.std.proofs.Common.{◌≡◌, ℕ, zero, suc, ◌+◌, ◌<◌, ◌≤◌, Bool, true, false, ◌&&◌, List, [], ◌∷◌, length, get_or, take, Option, None, Some, ◌⊎◌, cond, ℤ, pos, negsuc, ◌+ℤ◌, w64, refl, sym, ap, ◌∙◌, arith, ⊎_elim}
 use Rattle.std.specs.Prelude.{map}
 use Rattle.std.specs.List.{list_all, range_with_len}
-use Rattle.cps_code.specs.declared.name.Name.{Name}
+use Rattle.cps_text.specs.declared.name.Name.{Name}
 use Rattle.cps_code.specs.declared.expr.Element.TheVariants.{Number}
 use Rattle.cps_code.specs.declared.expr.Term.{Term}
 use Rattle.cps_code.specs.Expression.{term_value, value_in}

@@ -1,7 +1,7 @@
 -- Expressions: sums of signed numbers and symbols. From the manual's section on expressions.
 use Rattle.std.specs.Prelude.{◌^◌, Bool, true, false, nat_lt, List, map, ℤ, pos, neg_ℤ, Option, None, Some, unwrap_or, is_none, if◌then◌else◌}
 use Rattle.std.specs.List.{list_all, list_any, filter_map}
-use Rattle.cps_code.specs.declared.name.Name.{Name}
+use Rattle.cps_text.specs.declared.name.Name.{Name}
 use Rattle.cps_code.specs.declared.expr.Element.{Element}
 use Rattle.cps_code.specs.declared.expr.Element.TheVariants.{Number, Symbol}
 use Rattle.cps_code.specs.declared.expr.Term.{Term}

@@ -3,7 +3,6 @@ pub mod Least
 pub mod Place
 pub mod Image
 pub mod Slots
-pub mod Text
 pub mod Number
 pub mod Value
 pub mod Sum
@@ -11,7 +10,5 @@ pub mod Terms
 pub mod Form
 pub mod Table
 pub mod Sets
-pub mod Symbol
-pub mod Name
 pub mod Register
 pub mod Expression

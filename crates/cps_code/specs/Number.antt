@@ -1,10 +1,10 @@
 -- Numbers of the language: digits, and behind them perhaps a letter that names their base.
 -- From the manual's section on numeric constants; the greatest magnitude is our profile's.
-use Rattle.std.specs.Prelude.{ℕ, ◌+◌, ◌-◌, ◌*◌, ◌^◌, Bool, ◌&&◌, nat_le, nat_lt, List, length, take, slice_index, fold, codes, Option, None, Some, if◌then◌else◌}
+use Rattle.std.specs.Prelude.{ℕ, ◌+◌, ◌-◌, ◌*◌, ◌^◌, ◌&&◌, nat_lt, List, length, take, slice_index, fold, codes, Option, None, Some, if◌then◌else◌}
 use Rattle.std.specs.List.{list_all}
 use Rattle.cps_code.specs.declared.radix.Radix.{Radix}
 use Rattle.cps_code.specs.declared.radix.Radix.TheVariants.{Octal, Decimal}
-use Rattle.cps_code.specs.Text.{among}
+use Rattle.cps_text.specs.Text.{among, is_digit}
 
 abbrev pub base_of : Radix → ℕ
 base_of Octal = 8
@@ -16,9 +16,6 @@ base_named letter = if among (codes "BO") letter then Some 8 else (if among (cod
 
 abbrev pub last : List ℕ → ℕ
 last text = slice_index text (length text - 1)
-
-abbrev pub is_digit : ℕ → ℕ → Bool
-is_digit base character = nat_le 48 character && nat_lt character (48 + base)
 
 -- the number that digits make
 abbrev pub digits_number : ℕ → List ℕ → ℕ

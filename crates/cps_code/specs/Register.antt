@@ -3,8 +3,7 @@ use Rattle.std.specs.Prelude.{ℕ, ◌-◌, Bool, List, [], ◌∷◌, codes, Op
 use Rattle.cps_code.specs.declared.register.Letter.{Letter}
 use Rattle.cps_code.specs.declared.register.Letter.TheVariants.{A, B, X}
 use Rattle.cps_code.specs.declared.register.RegisterTerm.{RegisterTerm}
-use Rattle.cps_code.specs.Text.{among}
-use Rattle.cps_code.specs.Number.{is_digit}
+use Rattle.cps_text.specs.Text.{among, is_digit}
 
 abbrev pub letter_of : ℕ → Option Letter
 letter_of character =

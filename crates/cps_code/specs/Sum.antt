@@ -3,13 +3,13 @@
 use Rattle.std.specs.Prelude.{ℕ, Bool, ◌==◌, List, [], ◌∷◌, drop, codes, Option, None, Some, option_map, option_and_then, if◌then◌else◌}
 use Rattle.cps_code.specs.declared.radix.Radix.{Radix}
 use Rattle.cps_code.specs.declared.register.RegisterTerm.{RegisterTerm}
-use Rattle.cps_code.specs.declared.name.Name.{Name}
+use Rattle.cps_text.specs.declared.name.Name.{Name}
 use Rattle.cps_code.specs.declared.expr.Element.{Element}
 use Rattle.cps_code.specs.declared.expr.Element.TheVariants.{Number, Symbol}
 use Rattle.cps_code.specs.declared.expr.Term.{Term}
-use Rattle.cps_code.specs.Text.{among}
+use Rattle.cps_text.specs.Text.{among}
 use Rattle.cps_code.specs.Number.{number_of}
-use Rattle.cps_code.specs.Name.{name_of}
+use Rattle.cps_text.specs.Name.{name_of}
 use Rattle.cps_code.specs.Register.{register_of}
 
 -- ---- a text cut into its signed terms

@@ -10,8 +10,7 @@ use Rattle.cps_code.specs.declared.hole.HoleKind.TheVariants.{Value}
 use Rattle.cps_code.specs.declared.register.Letter.{Letter}
 use Rattle.cps_code.specs.declared.register.Letter.TheVariants.{A, B, X}
 use Rattle.cps_code.specs.declared.register.RegisterTerm.{RegisterTerm}
-use Rattle.cps_code.specs.Text.{among}
-use Rattle.cps_code.specs.Number.{is_digit}
+use Rattle.cps_text.specs.Text.{among, is_digit, is_blank}
 use Rattle.cps_code.specs.Sum.{Sum, sum_of}
 use Rattle.cps_code.specs.Form.{Form}
 
@@ -195,9 +194,6 @@ form_of_row digits row found = record {
 }
 
 -- ---- the row that fits
-
-abbrev pub is_blank : ℕ → Bool
-is_blank = among (codes " ")
 
 -- the operand of a tail: the sum before its first blank; None where what stands there is no sum
 abbrev pub operand_of : Radix → List ℕ → Option Sum

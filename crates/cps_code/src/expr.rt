@@ -3,8 +3,8 @@ ghost use Rattle.std.specs.List.{list_all};
 ghost use Rattle.cps_code.specs.Value.{is_in_range, IsInRange};
 ghost use Rattle.cps_code.specs.Expression.{is_element, is_term, name_in, names_of, value_in, element_value, term_value, is_undefined, has_undefined};
 
-use super::name::Name;
 use super::names::Names;
+use cps_text::Name;
 use std::alloc::{AllocError, Global};
 use std::marker::Model;
 

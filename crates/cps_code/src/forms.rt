@@ -2,7 +2,8 @@ ghost use Rattle.std.specs.Prelude.{◌≡◌, ◌<◌, ◌^◌, [], ◌↔◌, 
 ghost use Rattle.std.specs.List.{before_first, position};
 ghost use Rattle.cps_code.specs.Sum.{Sum as ASum};
 ghost use Rattle.cps_code.specs.Terms.{AreRegisters, IsKept, register_list};
-ghost use Rattle.cps_code.specs.Table.{is_blank, is_operation, form_of};
+ghost use Rattle.cps_code.specs.Table.{is_operation, form_of};
+ghost use Rattle.cps_text.specs.Text.{is_blank};
 ghost use Rattle.cps_code.specs.Sets.{set_form, set_form_of, jump_form, jump_form_of, long_form};
 
 use super::expr::Expr;

@@ -1,11 +1,11 @@
 ghost use Rattle.std.specs.Prelude.{◌≡◌};
 
-use super::name::Name;
+use cps_text::Name;
 
 /// What names stand for, when an expression is valued.
 pub trait Names {
     ghost use Rattle.std.specs.Prelude.{◌≡◌, Option, ℤ};
-    ghost use Rattle.cps_code.specs.declared.name.Name.{Name};
+    ghost use Rattle.cps_text.specs.declared.name.Name.{Name};
 
     ghost value: { Self → Name → Option ℤ };
 

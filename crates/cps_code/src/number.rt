@@ -1,5 +1,6 @@
 ghost use Rattle.std.specs.Prelude.{◌≡◌, ◌+◌, ◌-◌, ◌*◌, ◌^◌, ◌<◌, ◌≤◌, true, false, IfSome, MatchOption, length, take, ◌⊎◌};
-ghost use Rattle.cps_code.specs.Number.{base_of, base_named, last, number_of, number_in, is_digit};
+ghost use Rattle.cps_code.specs.Number.{base_of, base_named, last, number_of, number_in};
+ghost use Rattle.cps_text.specs.Text.{is_digit};
 
 use super::radix::Radix;
 

@@ -6,10 +6,10 @@ ghost use Rattle.cps_code.specs.Register.{register_of, letter_of};
 ghost use Rattle.cps_code.specs.Expression.{is_element, is_term};
 
 use super::expr::{Element, Expr, Term};
-use super::name::Name;
 use super::number::read_number;
 use super::radix::Radix;
 use super::register::{Letter, RegisterTerm};
+use cps_text::Name;
 use std::alloc::Global;
 
 /// A term of a sum: a register, or a number or symbol.

@@ -1,7 +1,7 @@
 -- One name more in a course, and one element more of a fold.
 use Rattle.std.proofs.Common.{◌≡◌, ℕ, ◌+◌, ◌<◌, refl, sym, ap, ◌∙◌, List, [], ◌∷◌, ◌++◌, length, get_or, drop, fold}
 use Rattle.std.proofs.lemmas.List.{drop_more}
-use Rattle.cps_code.specs.declared.name.Name.{Name}
+use Rattle.cps_text.specs.declared.name.Name.{Name}
 use Rattle.cps_tool.specs.declared.value_now.NameNow.{NameNow}
 use Rattle.cps_tool.specs.Keys.{State, Labels}
 use Rattle.cps_tool.specs.Course.{Course, Trace, run}

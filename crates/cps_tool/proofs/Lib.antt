@@ -1,12 +1,11 @@
 pub mod AskLemmas
 pub mod AssemblyLemmas
 pub mod BegunLemmas
+pub mod CardLemmas
 pub mod CommandLemmas
 pub mod CourseLemmas
 pub mod NumberLemmas
-pub mod OctalLemmas
 pub mod OrderLemmas
-pub mod Places
 pub mod ProgressLemmas
 pub mod RangeLemmas
 pub mod RowLemmas

@@ -6,7 +6,7 @@ use Rattle.std.proofs.lemmas.Bool.Decides.{nat_tests}
 use Rattle.std.proofs.Common.{◌≡◌, ℕ, ◌+◌, ◌^◌, ◌<◌, Bool, true, false, ◌&&◌, cond, refl, sym, ap, ◌∙◌, arith, List, [], ◌∷◌, ◌++◌, append_assoc, length, get_or, take, codes, decimal}
 use Rattle.std.proofs.lemmas.List.{take_more}
 use Rattle.std.specs.List.{list_all}
-use Rattle.cps_code.specs.Table.{is_blank}
+use Rattle.cps_text.specs.Text.{is_blank}
 use Rattle.cps_tool.specs.Listing.{trimmed}
 
 -- ---- blanks at the end

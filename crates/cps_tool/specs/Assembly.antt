@@ -2,7 +2,7 @@
 -- makes there. Pass two gives the rows and the bits, where the labels have the values that they have behind the last line.
 -- From the manual's sections on the two passes.
 use Rattle.std.specs.Prelude.{ℕ, List, [], ◌∷◌, flat_map, Option, None}
-use Rattle.cps_code.specs.declared.name.Name.{Name}
+use Rattle.cps_text.specs.declared.name.Name.{Name}
 use Rattle.cps_code.specs.Image.{Piece}
 use Rattle.cps_code.specs.Table.{or_else}
 use Rattle.cps_tool.specs.Keys.{State, Labels, first_state, overwritten, labels_of}

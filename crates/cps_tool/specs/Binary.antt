@@ -1,11 +1,11 @@
 -- The binary text: the program's name, and each word in octal behind its address. The layout is our profile's.
 use Rattle.std.specs.Prelude.{ℕ, List, [], ◌++◌, codes, flat_map, Option, None, Some}
 use Rattle.std.specs.List.{range_with_len}
-use Rattle.cps_code.specs.declared.name.Name.{Name}
-use Rattle.cps_code.specs.Name.{name_text}
+use Rattle.cps_text.specs.declared.name.Name.{Name}
+use Rattle.cps_text.specs.Name.{name_text}
 use Rattle.cps_code.specs.Image.{Piece, packed_word}
 use Rattle.cps_tool.specs.Keys.{limit}
-use Rattle.cps_tool.specs.Octal.{octal}
+use Rattle.cps_text.specs.Octal.{octal}
 use Rattle.cps_tool.specs.Assembly.{traces_of, final_labels, program_of, pieces_in}
 
 abbrev pub first_row : Option Name → List ℕ

@@ -2,7 +2,7 @@
 use Rattle.std.specs.Prelude.{◌≡◌, ℕ, ◌-◌, ◌<◌, ◌≤◌, ◌⊎◌, List, ◌++◌, length, insert, slice_set, take, drop}
 use Rattle.cps_tool.specs.declared.reply.Refusal.{Refusal}
 use Rattle.cps_tool.specs.declared.reply.Refusal.TheVariants as refusals
-use Rattle.cps_tool.specs.Line.{longest_line, IsLine, HasBadCharacter}
+use Rattle.cps_text.specs.Line.{longest_line, IsLine, HasBadCharacter}
 use Rattle.cps_tool.specs.Reply.{Response, accepted, refused, shown}
 
 -- the most lines that a source has

@@ -1,6 +1,6 @@
 -- What pass one makes of a statement, for pass two. Our own.
 use Rattle.std.specs.Prelude.{◌+◌, ◌*◌, ◌%◌, ◌<◌, ◌≤◌, List, [], Option, None, IfSome}
-use Rattle.cps_code.specs.declared.name.Name.{Name}
+use Rattle.cps_text.specs.declared.name.Name.{Name}
 use Rattle.cps_code.specs.Image.{Piece}
 use Rattle.cps_tool.specs.declared.flags.Flags.{Flags}
 use Rattle.cps_tool.specs.declared.item.Made.{Made}

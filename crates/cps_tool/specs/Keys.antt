@@ -1,7 +1,7 @@
 -- The state of an assembly: what each key answers. The two counters and the symbols are the manual's; the keys are our own.
 use Rattle.std.specs.Prelude.{ℕ, ◌*◌, Bool, true, false, ◌==◌, nat_lt, List, [], ◌∷◌, ℤ, Option, None, Some, if◌then◌else◌}
 use Rattle.std.specs.Cmp.Lexicographic.{pointwise}
-use Rattle.cps_code.specs.declared.name.Name.{Name}
+use Rattle.cps_text.specs.declared.name.Name.{Name}
 use Rattle.cps_code.specs.Value.{is_in_range}
 use Rattle.cps_tool.specs.declared.key.Key.{Key}
 use Rattle.cps_tool.specs.declared.key.Key.TheVariants as key

@@ -1,9 +1,5 @@
-pub mod Counted
-pub mod Line
 pub mod Edits
 pub mod Lines
-pub mod Card
-pub mod CardFields
 pub mod Reading
 pub mod Keys
 pub mod Flags
@@ -15,7 +11,6 @@ pub mod Outcome
 pub mod Assembly
 pub mod Assembled
 pub mod Making
-pub mod Octal
 pub mod Binary
 pub mod Listing
 pub mod Flagged

@@ -3,10 +3,10 @@
 -- the line's number in 38 to 43, the line from 45 on; columns between are blank, and blanks at the end are cut.
 use Rattle.std.specs.Prelude.{ℕ, ◌+◌, ◌-◌, List, [], ◌∷◌, ◌++◌, length, replicate, codes, decimal, flat_map, Option, None, Some, if◌then◌else◌}
 use Rattle.std.specs.List.{list_all}
-use Rattle.cps_code.specs.Table.{is_blank}
+use Rattle.cps_text.specs.Text.{is_blank}
 use Rattle.cps_tool.specs.declared.outcome.Row.{Row}
 use Rattle.cps_tool.specs.declared.outcome.Digits.{Digits}
-use Rattle.cps_tool.specs.Octal.{octal}
+use Rattle.cps_text.specs.Octal.{octal}
 use Rattle.cps_tool.specs.Flags.{letters}
 use Rattle.cps_tool.specs.Course.{Trace}
 use Rattle.cps_tool.specs.Keys.{Labels}

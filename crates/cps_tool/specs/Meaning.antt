@@ -2,7 +2,7 @@
 -- From the manual's descriptions of IDENT, ABS, EQU, ORG, END and of forcing upper; what END and ORG force, what stays pending,
 -- and the limit are our profile's.
 use Rattle.std.specs.Prelude.{ℕ, ◌+◌, ◌*◌, ◌/◌, ◌%◌, Bool, true, false, nat_lt, List, [], ◌∷◌, ℤ, pos, negsuc, Option, None, Some, is_some, is_none, if◌then◌else◌}
-use Rattle.cps_code.specs.declared.name.Name.{Name}
+use Rattle.cps_text.specs.declared.name.Name.{Name}
 use Rattle.cps_code.specs.declared.expr.Term.{Term}
 use Rattle.cps_code.specs.declared.place.Filling.{Filling}
 use Rattle.cps_code.specs.declared.place.Force.{Force}
@@ -22,9 +22,9 @@ use Rattle.cps_tool.specs.declared.key.Put.{Put}
 use Rattle.cps_tool.specs.declared.reading.Location.{Location}
 use Rattle.cps_tool.specs.declared.reading.Location.TheVariants.{Absent, Plus, Minus, Symbol, NoSymbol}
 use Rattle.cps_tool.specs.declared.reading.Operation.{Operation}
-use Rattle.cps_tool.specs.declared.reading.Operation.TheVariants.{Missing, Unknown, Ident, Abs, Equate, Org, End, Instruction}
+use Rattle.cps_tool.specs.declared.reading.Operation.TheVariants.{Missing, Unknown, Listed, Ident, Abs, Equate, Org, End, Instruction}
 use Rattle.cps_tool.specs.declared.reading.Reading.{Reading}
-use Rattle.cps_tool.specs.declared.reading.Reading.TheVariants.{Comment, Unread, Stated}
+use Rattle.cps_tool.specs.declared.reading.Reading.TheVariants.{Comment, Continued, Stated}
 use Rattle.cps_tool.specs.declared.value_now.ValueNow.{ValueNow}
 use Rattle.cps_tool.specs.declared.value_now.ValueNow.TheVariants.{Undefined, NoValue, Known}
 use Rattle.cps_tool.specs.Keys.{State, Labels, same_name, phase_of, counter_of, label_of, limit}
@@ -278,7 +278,8 @@ instruction location form rest = ask key.Counter (λ a. asking_taken (symbol_in 
 
 -- ---- lines
 
--- Leaving the head, where the program is in it. The head lasts until the first statement other than IDENT, ABS, EQU and `=`.
+-- Leaving the head, where the program is in it. The head lasts until the first statement other than IDENT, ABS, EQU, `=`, TITLE,
+-- SPACE, EJECT and LIST.
 abbrev pub leaving_head : Phase → Course → Course
 leaving_head (Head head) rest = put (put_phase Body) rest
 leaving_head Body rest = rest
@@ -291,6 +292,7 @@ unknown rest = flagged (record no_flags { operation = true }) rest
 abbrev pub stated : Phase → Location → Operation → Course → Course
 stated phase location Missing rest = unknown rest
 stated phase location Unknown rest = leaving_head phase (unknown rest)
+stated phase location Listed rest = flagged (present_flags location) rest
 stated phase location (Ident name) rest = ident phase location name rest
 stated phase location Abs rest = abs phase location rest
 stated phase location (Equate terms) rest = equate location terms rest
@@ -298,16 +300,21 @@ stated phase location (Org terms) rest = leaving_head phase (org location terms 
 stated phase location End rest = end location rest
 stated phase location (Instruction form) rest = leaving_head phase (instruction location form rest)
 
+-- a line that may not stand where it stands
+abbrev pub misplaced : Course → Course
+misplaced rest = flagged (record no_flags { structure = true }) rest
+
+-- a line that continues the one before is not read
 abbrev pub before_end : Phase → Reading → Course → Course
 before_end phase Comment rest = listed rest
-before_end phase Unread rest = listed rest
+before_end phase Continued rest = misplaced rest
 before_end phase (Stated location operation) rest = stated phase location operation rest
 
 -- a line behind END that is no comment has E alone
 abbrev pub behind_end : Reading → Course → Course
 behind_end Comment rest = listed rest
-behind_end Unread rest = flagged (record no_flags { structure = true }) rest
-behind_end (Stated location operation) rest = flagged (record no_flags { structure = true }) rest
+behind_end Continued rest = misplaced rest
+behind_end (Stated location operation) rest = misplaced rest
 
 abbrev pub in_phase : Phase → Reading → Course → Course
 in_phase (Head head) reading rest = before_end (Head head) reading rest

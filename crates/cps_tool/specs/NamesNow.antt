@@ -1,6 +1,6 @@
 -- Values of names in pass one, as the code keeps them.
 use Rattle.std.specs.Prelude.{List, [], ◌∷◌}
-use Rattle.cps_code.specs.declared.name.Name.{Name}
+use Rattle.cps_text.specs.declared.name.Name.{Name}
 use Rattle.cps_tool.specs.declared.key.Key.TheVariants as key
 use Rattle.cps_tool.specs.declared.value_now.NameNow.{NameNow}
 use Rattle.cps_tool.specs.Keys.{Labels, label_of}

@@ -1,22 +1,20 @@
 -- What a line says: the fields of a statement, read. From the manual's sections on the statement format and on each operation.
-use Rattle.std.specs.Prelude.{ℕ, Bool, ◌||◌, ◌==◌, List, [], slice_index, codes, bytes_eq, Option, None, Some, if◌then◌else◌}
-use Rattle.std.specs.List.{list_any, before_first}
-use Rattle.std.specs.Option.{option_map_or}
-use Rattle.cps_code.specs.declared.name.Name.{Name}
+use Rattle.std.specs.Prelude.{ℕ, Bool, ◌||◌, List, [], ◌∷◌, codes, bytes_eq, Option, None, Some, if◌then◌else◌}
+use Rattle.cps_text.specs.declared.name.Name.{Name}
 use Rattle.cps_code.specs.declared.expr.Term.{Term}
 use Rattle.cps_code.specs.declared.radix.Radix.TheVariants.{Decimal}
-use Rattle.cps_code.specs.Text.{among}
-use Rattle.cps_code.specs.Name.{name_of}
-use Rattle.cps_code.specs.Symbol.{is_lower}
+use Rattle.cps_text.specs.Text.{capitals}
+use Rattle.cps_text.specs.Name.{name_of}
+use Rattle.cps_text.specs.Operands.{operands_of}
 use Rattle.cps_code.specs.Sum.{expression_of}
-use Rattle.cps_code.specs.Table.{is_blank, is_operation, form_of}
+use Rattle.cps_code.specs.Table.{is_operation, form_of}
 use Rattle.cps_tool.specs.declared.reading.Location.{Location}
 use Rattle.cps_tool.specs.declared.reading.Location.TheVariants.{Absent, Plus, Minus, Symbol, NoSymbol}
 use Rattle.cps_tool.specs.declared.reading.Operation.{Operation}
-use Rattle.cps_tool.specs.declared.reading.Operation.TheVariants.{Missing, Unknown, Ident, Abs, Equate, Org, End, Instruction}
+use Rattle.cps_tool.specs.declared.reading.Operation.TheVariants.{Missing, Unknown, Listed, Ident, Abs, Equate, Org, End, Instruction}
 use Rattle.cps_tool.specs.declared.reading.Reading.{Reading}
-use Rattle.cps_tool.specs.declared.reading.Reading.TheVariants.{Comment, Unread, Stated}
-use Rattle.cps_tool.specs.Card.{Statement, fields_of}
+use Rattle.cps_tool.specs.declared.reading.Reading.TheVariants.{Comment, Continued, Stated}
+use Rattle.cps_text.specs.Card.{LineFields, CommentLine, ContinuedLine, StatementLine, fields_of}
 
 -- ---- the location field
 
@@ -35,43 +33,43 @@ location_in field =
 
 -- ---- the operation and its operands
 
-abbrev pub ends_operand : ℕ → Bool
-ends_operand = among (codes " ,")
+-- the first operand as a symbol
+abbrev pub first_symbol : List (List ℕ) → Option Name
+first_symbol [] = None
+first_symbol (operand ∷ operands) = name_of operand
 
-abbrev pub first_operand : List ℕ → List ℕ
-first_operand tail = before_first ends_operand tail
+-- the only operand as an expression; None where it is none, or not the only one
+abbrev pub only_expression : List (List ℕ) → Option (List Term)
+only_expression [] = None
+only_expression (operand ∷ []) = expression_of Decimal operand
+only_expression (operand ∷ second ∷ operands) = None
 
--- the only operand of a tail as an expression; None where it is none, or not the only one
-abbrev pub only_expression : List ℕ → Option (List Term)
-only_expression tail = expression_of Decimal (before_first is_blank tail)
+-- the operations that only the listing of the manual's assembler knows
+abbrev pub is_listing_operation : List ℕ → Bool
+is_listing_operation operation =
+    bytes_eq operation (codes "TITLE") || (bytes_eq operation (codes "SPACE") || (bytes_eq operation (codes "EJECT") || bytes_eq operation (codes "LIST")))
 
 -- the operation, with its operands where they are readable
 abbrev pub operation_in : List ℕ → List ℕ → Operation
 operation_in operation tail =
     if bytes_eq operation [] then Missing
-    else (if bytes_eq operation (codes "IDENT") then Ident (name_of (first_operand tail))
+    else (if bytes_eq operation (codes "IDENT") then Ident (first_symbol (operands_of tail))
     else (if bytes_eq operation (codes "ABS") then Abs
-    else (if bytes_eq operation (codes "EQU") then Equate (only_expression tail)
-    else (if bytes_eq operation (codes "=") then Equate (only_expression tail)
-    else (if bytes_eq operation (codes "ORG") then Org (only_expression tail)
+    else (if bytes_eq operation (codes "EQU") then Equate (only_expression (operands_of tail))
+    else (if bytes_eq operation (codes "=") then Equate (only_expression (operands_of tail))
+    else (if bytes_eq operation (codes "ORG") then Org (only_expression (operands_of tail))
     else (if bytes_eq operation (codes "END") then End
+    else (if is_listing_operation operation then Listed
     else (if is_operation operation then Instruction (form_of operation tail Decimal)
-    else Unknown)))))))
+    else Unknown))))))))
 
 -- ---- the line
 
-abbrev pub has_lower : List ℕ → Bool
-has_lower text = list_any is_lower text
+abbrev pub reading_in : LineFields → Reading
+reading_in CommentLine = Comment
+reading_in ContinuedLine = Continued
+reading_in (StatementLine statement) = Stated (location_in statement.location) (operation_in statement.operation statement.tail)
 
--- a comma in column 1, and lower case in the operation and variable fields, aren't read yet
-abbrev pub is_unread : List ℕ → Statement → Bool
-is_unread line statement = slice_index line 0 == 44 || (has_lower statement.operation || has_lower statement.variable)
-
-abbrev pub reading_in : List ℕ → Statement → Reading
-reading_in line statement =
-    if is_unread line statement then Unread
-    else Stated (location_in statement.location) (operation_in statement.operation statement.tail)
-
--- what a line says
+-- what a line says; lower case stands for capitals
 abbrev pub reading_of : List ℕ → Reading
-reading_of line = option_map_or (reading_in line) (fields_of line) Comment
+reading_of line = reading_in (fields_of (capitals line))

@@ -2,11 +2,11 @@
 ghost use Rattle.std.specs.Prelude.{◌≡◌, ℕ, [], ◌∷◌, ◌++◌, List, IfOk, OnOk, OnErr};
 ghost use Rattle.cps_tool.specs.Assembled.{IsAssembled};
 
-use super::line::Line;
 use super::lookup::Lookup;
 use super::state::State;
 use super::step::step_one;
 use super::trace::Trace;
+use cps_text::Line;
 use std::alloc::{AllocError, Global};
 
 /// What the lines of a source do in pass one, and the state behind the last of them.

@@ -11,11 +11,11 @@ use super::answers::LIMIT;
 use super::assembling::Assembled;
 use super::item::Item;
 use super::lookup::Lookup;
-use super::octal::push_octal;
 use super::outcome::put_bits;
 use super::state::State;
 use super::trace::Trace;
-use cps_code::{Name, Names, Words};
+use cps_code::{Names, Words};
+use cps_text::{Name, push_octal};
 use std::alloc::{AllocError, Global};
 
 /// The octal digits of an address and of a word.

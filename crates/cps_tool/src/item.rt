@@ -4,7 +4,8 @@ ghost use Rattle.cps_code.specs.Image.{piece_of};
 ghost use Rattle.cps_tool.specs.Item.{blank_item, HasRoom};
 
 use super::flags::Flags;
-use cps_code::{CpForm, Name, Piece};
+use cps_code::{CpForm, Piece};
+use cps_text::Name;
 use std::marker::Model;
 
 /// What a statement made.

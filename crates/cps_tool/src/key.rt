@@ -2,7 +2,7 @@
 ghost use Rattle.std.specs.Prelude.{◌≡◌};
 ghost use Rattle.cps_tool.specs.Keys.{same_name, same_key};
 
-use cps_code::Name;
+use cps_text::Name;
 
 /// A part of the state of an assembly.
 #[derive(Clone, Copy, Debug, PartialEq, Eq, Hash)]

@@ -4,19 +4,15 @@
 mod answers;
 mod assembling;
 mod binary;
-mod card;
 mod command;
-mod counted;
 mod flagged;
 mod flags;
 mod forcing;
 mod instruction;
 mod item;
 mod key;
-mod line;
 mod listing;
 mod lookup;
-mod octal;
 mod outcome;
 mod reading;
 mod recorder;
@@ -33,8 +29,6 @@ mod value_now;
 mod writing;
 
 pub use command::{Command, ScriptFault};
-pub use counted::Counted;
-pub use line::{Line, LineFault};
 pub use script::run_script;
 pub use session::{EditFault, Session};
 pub use writing::RunFault;

@@ -1,19 +1,18 @@
 //! The listing.
 ghost use Rattle.std.specs.Prelude.{◌≡◌, ◌++◌, ◌+◌, ◌≤◌, ◌<◌, ℕ, List, [], ◌∷◌, OnOk, IfOk, codes, decimal, length, take, ◌^◌, if◌then◌else◌};
-ghost use Rattle.cps_code.specs.Table.{is_blank};
+ghost use Rattle.cps_text.specs.Text.{is_blank};
 ghost use Rattle.cps_tool.specs.Flags.{letters};
 ghost use Rattle.cps_tool.specs.Assembled.{IsAssembled};
 ghost use Rattle.cps_tool.specs.Listing as texts;
 
 use super::assembling::Assembled;
 use super::flags::Flags;
-use super::line::Line;
 use super::lookup::Lookup;
-use super::octal::push_octal;
 use super::outcome::{Digits, Row, row_of};
 use super::state::State;
 use super::trace::Trace;
 use cps_code::Names;
+use cps_text::{Line, push_octal};
 use itoa::Buffer;
 use std::alloc::{AllocError, Global};
 

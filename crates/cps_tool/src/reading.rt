@@ -1,15 +1,19 @@
 //! What a line says.
-ghost use Rattle.std.specs.Prelude.{◌≡◌, ◌<◌, IfOk, IfSome, bytes_eq, length, if◌then◌else◌};
-ghost use Rattle.std.specs.List.{position};
+ghost use Rattle.std.specs.Prelude.{◌≡◌, ◌≤◌, IfOk, bytes_eq, length, take, if◌then◌else◌};
 ghost use Rattle.cps_code.specs.Table.{is_operation, form_of};
 ghost use Rattle.cps_code.specs.declared.radix.Radix.TheVariants.{Decimal};
-ghost use Rattle.cps_tool.specs.Reading.{has_lower, ends_operand, first_operand, only_expression, symbol_or_none, location_in, operation_in, is_unread, reading_in, reading_of};
-ghost use Rattle.cps_tool.specs.CardFields.{statement_value};
-ghost use Rattle.cps_code.specs.Name.{name_of};
+ghost use Rattle.cps_text.specs.CardFields.{fields_value};
+ghost use Rattle.cps_text.specs.Name.{name_of};
+ghost use Rattle.cps_text.specs.Operands.{operands_of};
+ghost use Rattle.cps_text.specs.Text.{capital, capitals};
+ghost use Rattle.cps_tool.specs.Reading.{first_symbol, only_expression, is_listing_operation, symbol_or_none, location_in, operation_in, reading_in, reading_of};
 
-use super::card::{Statement, before_blank, fields};
-use cps_code::{CpForm, Expr, ExprFault, FormFault, Name, Radix, cp_form};
+use cps_code::{CpForm, Expr, ExprFault, FormFault, Radix, cp_form};
+use cps_text::{Fields, Line, Name, operands, read_fields};
 use std::alloc::{AllocError, Global};
+
+/// The most bytes that a line has.
+const LONGEST_LINE: usize = 90;
 
 /// A location field.
 #[derive(Clone, Copy, Debug, PartialEq, Eq)]
@@ -31,6 +35,8 @@ pub enum Operation {
     Missing,
     /// The language doesn't have it yet, or not at all.
     Unknown,
+    /// TITLE, SPACE, EJECT and LIST.
+    Listed,
     /// IDENT: the program's name.
     Ident(Option<Name>),
     /// ABS.
@@ -48,47 +54,50 @@ pub enum Operation {
 #[derive(Drop)]
 pub enum Reading {
     Comment,
-    /// A line that isn't read yet: with a comma in column 1, or with lower case in the operation or variable field.
-    Unread,
+    /// A line with a comma in column 1.
+    Continued,
     Stated(Location, Operation),
 }
 
-/// What a line says.
-pub fn read_line(alloc: Global, line: &[u8]) -> Result<Reading, AllocError>
+/// What a line says; lower case stands for capitals.
+pub fn read_line(alloc: Global, line: &Line) -> Result<Reading, AllocError>
     ensures { IfOk result (λ reading. reading ≡ reading_of line.now) }
 {
-    match fields(line) {
-        Some(statement) => read_statement(alloc, line, statement),
-        None => Ok(Reading::Comment),
+    let bytes = line.bytes();
+    let capitals = capitals(bytes);
+    let (card, _) = capitals.split_at(bytes.len());
+    read_card(alloc, read_fields(card))
+}
+
+/// The capitals of a line, and blanks behind them.
+fn capitals(line: &[u8]) -> [u8; LONGEST_LINE]
+    requires { length line.now ≤ LONGEST_LINE }
+    ensures { take (length line.now) result ≡ capitals line.now }
+{
+    let mut capitals = [b' '; LONGEST_LINE];
+    for at in 0..line.len() {
+        capitals[at] = capital(line[at]);
     }
+    capitals
 }
 
-fn read_statement(
-    alloc: Global,
-    line: &[u8],
-    statement: Statement<'_>,
-) -> Result<Reading, AllocError>
-    ensures { IfOk result (λ reading. reading ≡ reading_in line.now (statement_value statement.entry)) }
+fn capital(byte: u8) -> u8
+    ensures { result ≡ capital byte }
 {
-    if is_unread(line, statement) {
-        return Ok(Reading::Unread);
+    byte.to_ascii_uppercase()
+}
+
+fn read_card(alloc: Global, fields: Fields<'_>) -> Result<Reading, AllocError>
+    ensures { IfOk result (λ reading. reading ≡ reading_in (fields_value fields.entry)) }
+{
+    match fields {
+        Fields::Comment => Ok(Reading::Comment),
+        Fields::Continued => Ok(Reading::Continued),
+        Fields::Statement(statement) => {
+            let operation = read_operation(alloc, statement.operation, statement.tail)?;
+            Ok(Reading::Stated(read_location(statement.location), operation))
+        }
     }
-    let operation = read_operation(alloc, statement.operation, statement.tail)?;
-    Ok(Reading::Stated(read_location(statement.location), operation))
-}
-
-fn is_unread(line: &[u8], statement: Statement<'_>) -> bool
-    ensures { result ≡ is_unread line.now (statement_value statement.entry) }
-{
-    (!line.is_empty() && line[0] == b',')
-        || has_lower(statement.operation)
-        || has_lower(statement.variable)
-}
-
-fn has_lower(text: &[u8]) -> bool
-    ensures { result ≡ has_lower text.now }
-{
-    text.iter().any(|byte| byte.is_ascii_lowercase())
 }
 
 fn read_location(field: &[u8]) -> Location
@@ -128,7 +137,7 @@ fn read_operation(alloc: Global, operation: &[u8], tail: &[u8]) -> Result<Operat
         return Ok(Operation::Missing);
     }
     if is_text(operation, b"IDENT") {
-        return Ok(Operation::Ident(Name::read(first_operand(tail))));
+        return Ok(Operation::Ident(first_symbol(tail)));
     }
     if is_text(operation, b"ABS") {
         return Ok(Operation::Abs);
@@ -145,14 +154,44 @@ fn read_operation(alloc: Global, operation: &[u8], tail: &[u8]) -> Result<Operat
     if is_text(operation, b"END") {
         return Ok(Operation::End);
     }
+    if is_listing_operation(operation) {
+        return Ok(Operation::Listed);
+    }
     read_instruction(alloc, operation, tail)
 }
 
-/// The only operand of a tail as an expression; None where it is none, or not the only one.
-fn only_expression(alloc: Global, tail: &[u8]) -> Result<Option<Expr>, AllocError>
-    ensures { IfOk result (λ expression. expression ≡ only_expression tail.now) }
+fn is_listing_operation(operation: &[u8]) -> bool
+    ensures { result ≡ is_listing_operation operation.now }
 {
-    match Expr::read(alloc, before_blank(tail), Radix::Decimal) {
+    is_text(operation, b"TITLE")
+        || is_text(operation, b"SPACE")
+        || is_text(operation, b"EJECT")
+        || is_text(operation, b"LIST")
+}
+
+/// The first operand as a symbol.
+fn first_symbol(tail: &[u8]) -> Option<Name>
+    ensures { result ≡ first_symbol (operands_of tail.now) }
+{
+    let mut operands = operands(tail);
+    match operands.next() {
+        Some(operand) => Name::read(operand),
+        None => None,
+    }
+}
+
+/// The only operand as an expression; None where it is none, or not the only one.
+fn only_expression(alloc: Global, tail: &[u8]) -> Result<Option<Expr>, AllocError>
+    ensures { IfOk result (λ expression. expression ≡ only_expression (operands_of tail.now)) }
+{
+    let mut operands = operands(tail);
+    let Some(operand) = operands.next() else {
+        return Ok(None);
+    };
+    if operands.next().is_some() {
+        return Ok(None);
+    }
+    match Expr::read(alloc, operand, Radix::Decimal) {
         Ok(expression) => Ok(Some(expression)),
         Err(ExprFault::Unreadable) => Ok(None),
         Err(ExprFault::Memory) => Err(AllocError),
@@ -168,24 +207,4 @@ fn read_instruction(alloc: Global, operation: &[u8], tail: &[u8]) -> Result<Oper
         Err(FormFault::Unreadable) => Ok(Operation::Instruction(None)),
         Err(FormFault::Memory) => Err(AllocError),
     }
-}
-
-/// What stands before the first blank or comma.
-fn first_operand(tail: &[u8]) -> &[u8]
-    ensures { result.now ≡ first_operand tail.now }
-{
-    match operand_end(tail) {
-        None => tail,
-        Some(at) => {
-            let (front, _) = tail.split_at(at);
-            front
-        }
-    }
-}
-
-fn operand_end(text: &[u8]) -> Option<usize>
-    ensures place { result ≡ position ends_operand text.now }
-    ensures within { IfSome result (λ at. at < length text.now) }
-{
-    text.iter().position(|byte| *byte == b' ' || *byte == b',')
 }

@@ -2,19 +2,18 @@
 ghost use Rattle.std.specs.Prelude.{◌≡◌, ℕ, List, ◌++◌, false, true, MatchOption, MatchResult, OnOk, OnErr, IsErrOf, codes, decimal};
 ghost use Rattle.std.specs.Io.KnownBytes.{Appends};
 ghost use Rattle.cps_tool.specs.Command.{is_quit};
-ghost use Rattle.cps_tool.specs.Counted.{inner_of, failures_of, raised};
+ghost use Rattle.cps_text.specs.Counted.{inner_of, failures_of, raised};
 ghost use Rattle.cps_tool.specs.Edits.{Inserted, Replaced, Deleted};
 ghost use Rattle.cps_tool.specs.Reply.{meaning_of, shown, refused, refusal_of, reply_text, refusal_text};
 ghost use Rattle.cps_tool.specs.declared.reply.Refusal.TheVariants.{NoMemory};
 ghost use Rattle.cps_tool.specs.Script.{IsAnswered};
 
 use super::command::Command;
-use super::counted::Counted;
-use super::line::{Line, LineFault};
 use super::reply::{Refusal, Reply};
 use super::session::{EditFault, Session};
 use super::writing::{RunFault, write_text};
 use arrayvec::ArrayString;
+use cps_text::{Counted, Line, LineFault};
 use itoa::Buffer;
 use std::alloc::{AllocError, Global};
 use std::io::Write;

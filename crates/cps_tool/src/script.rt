@@ -2,7 +2,7 @@
 ghost use Rattle.std.specs.Prelude.{◌≡◌, ℕ, List, [], ◌++◌, ◌∷◌, false, true, OnOk, OnErr, IfOk, IfSome, IsErrOf, MatchResult, MatchOption, ◌≤◌, ◌+◌, ◌-◌, ◌^◌, ◌⊎◌};
 ghost use Rattle.std.specs.Io.KnownBytes.{Appends, Consumes};
 ghost use Rattle.cps_tool.specs.Command.{is_quit};
-ghost use Rattle.cps_tool.specs.Counted.{inner_of, calls_of, failures_of, raised};
+ghost use Rattle.cps_text.specs.Counted.{inner_of, calls_of, failures_of, raised};
 ghost use Rattle.cps_tool.specs.Flagged.{flagged_lines};
 ghost use Rattle.cps_tool.specs.Lines.{without_return};
 ghost use Rattle.cps_tool.specs.Progress.{MatchFlow, Takes, Finishes};
@@ -10,12 +10,12 @@ ghost use Rattle.cps_tool.specs.Reply.{Response, meaning_of, reply_text};
 ghost use Rattle.cps_tool.specs.Script.{Script, FrontOfScript, LinesOfScript, IsAnswered};
 ghost use Rattle.cps_tool.specs.ScriptLine.{IsBegun};
 
-use super::counted::Counted;
 use super::reply::{Refusal, Reply};
 use super::replying::{obey, write_reply};
 use super::script_line::ScriptLine;
 use super::session::Session;
 use super::writing::RunFault;
+use cps_text::Counted;
 use std::alloc::Global;
 use std::io::{Read, Write};
 

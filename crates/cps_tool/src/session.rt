@@ -8,10 +8,10 @@ ghost use Rattle.cps_tool.specs.Edits.{HasLine, LacksLine, HasLines, LacksLines,
 use super::assembling::{Assembled, assemble};
 use super::binary::binary_text;
 use super::flagged::{flagged_lines, flags_text};
-use super::line::Line;
 use super::listing::listing_text;
 use super::lookup::Lookup;
 use super::state::State;
+use cps_text::Line;
 use std::alloc::{AllocError, Global};
 use std::marker::Model;
 use std::slice::from_ref;

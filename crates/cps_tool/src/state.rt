@@ -7,7 +7,8 @@ ghost use Rattle.cps_tool.specs.declared.key.Key.{Key};
 use super::answers::{first_counter, first_phase, label_of};
 use super::key::{Answer, Key, Put};
 use super::lookup::Lookup;
-use cps_code::{Name, Names};
+use cps_code::Names;
+use cps_text::Name;
 use std::alloc::{AllocError, Global};
 use std::collections::HashMap;
 

@@ -13,7 +13,8 @@ use super::lookup::Lookup;
 use super::reading::Location;
 use super::recorder::Recorder;
 use super::value_now::{ValueNow, value_now};
-use cps_code::{Expr, Name};
+use cps_code::Expr;
+use cps_text::Name;
 use std::alloc::{AllocError, Global};
 
 /// A statement that does nothing but have flags.
@@ -38,7 +39,7 @@ fn is_present(location: Location) -> bool
 }
 
 /// The flags of a location field of a statement that takes none.
-fn present_flags(location: Location) -> Flags
+pub fn present_flags(location: Location) -> Flags
     ensures { result ≡ meaning.present_flags location }
 {
     let mut flags = Flags::none();

@@ -8,12 +8,12 @@ use super::answers::phase_of;
 use super::flags::Flags;
 use super::instruction::instruction;
 use super::key::{Answer, Key, Phase};
-use super::line::Line;
 use super::lookup::Lookup;
 use super::reading::{Location, Operation, Reading, read_line};
 use super::recorder::Recorder;
-use super::statements::{abs, end, equate, flagged, ident, org};
+use super::statements::{abs, end, equate, flagged, ident, org, present_flags};
 use super::trace::Trace;
+use cps_text::Line;
 use std::alloc::{AllocError, Global};
 
 /// What a line asks, puts and makes in a state.
@@ -23,7 +23,7 @@ pub fn step_one<L: Lookup>(alloc: Global, line: &Line, state: &L) -> Result<Trac
     ensures asks_alone { IfOk result (λ trace. (other : keys.State) → Holds trace.asks other → trace ≡ meaning.trace_of line.now other) }
 {
     let mut recorder = Recorder::new(alloc);
-    let reading = read_line(alloc, line.bytes())?;
+    let reading = read_line(alloc, line)?;
     take_reading(alloc, &mut recorder, state, reading)?;
     Ok(recorder.into_trace())
 }
@@ -51,11 +51,18 @@ fn behind_end<L: Lookup>(
 ) -> Result<(), AllocError>
     ensures { OnOk result ((rest : Course) → run (meaning.behind_end reading rest) (L.answer state.now) recorder.old ≡ run rest (L.answer state.now) recorder.new) }
 {
-    let mut flags = Flags::none();
     match reading {
-        Reading::Comment => {}
-        _ => flags.structure = true,
+        Reading::Comment => flagged(recorder, state, Flags::none()),
+        _ => misplaced(recorder, state),
     }
+}
+
+/// A line that may not stand where it stands.
+fn misplaced<L: Lookup>(recorder: &mut Recorder, state: &L) -> Result<(), AllocError>
+    ensures { OnOk result ((rest : Course) → run (meaning.misplaced rest) (L.answer state.now) recorder.old ≡ run rest (L.answer state.now) recorder.new) }
+{
+    let mut flags = Flags::none();
+    flags.structure = true;
     flagged(recorder, state, flags)
 }
 
@@ -70,7 +77,7 @@ fn before_end<L: Lookup>(
 {
     match reading {
         Reading::Comment => flagged(recorder, state, Flags::none()),
-        Reading::Unread => flagged(recorder, state, Flags::none()),
+        Reading::Continued => misplaced(recorder, state),
         Reading::Stated(location, operation) => {
             obey(alloc, recorder, state, phase, location, operation)
         }
@@ -93,6 +100,7 @@ fn obey<L: Lookup>(
             leave_head(recorder, state, phase)?;
             unknown(recorder, state)
         }
+        Operation::Listed => flagged(recorder, state, present_flags(location)),
         Operation::Ident(name) => ident(recorder, state, phase, location, name),
         Operation::Abs => abs(recorder, state, phase, location),
         Operation::Equate(operand) => equate(alloc, recorder, state, location, operand),

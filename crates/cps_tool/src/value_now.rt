@@ -9,7 +9,8 @@ use super::answers::label_of;
 use super::key::{Key, is_same_name};
 use super::lookup::Lookup;
 use super::recorder::Recorder;
-use cps_code::{Expr, Name, Names};
+use cps_code::{Expr, Names};
+use cps_text::Name;
 use std::alloc::{AllocError, Global};
 
 /// A name and its value, None where it wasn't defined before.

@@ -1,9 +1,9 @@
 //! Writing a text.
 ghost use Rattle.std.specs.Prelude.{◌≡◌, ℕ, List, ◌++◌, ◌<◌, OnOk, OnErr, IsErrOf};
 ghost use Rattle.std.specs.Io.KnownBytes.{Appends};
-ghost use Rattle.cps_tool.specs.Counted.{inner_of, failures_of, raised};
+ghost use Rattle.cps_text.specs.Counted.{inner_of, failures_of, raised};
 
-use super::counted::Counted;
+use cps_text::Counted;
 use std::io::Write;
 use thiserror::Error;
 

@@ -1,6 +1,6 @@
 use Rattle.std.proofs.Common.{ℕ, List, ◌++◌, take}
 use Rattle.std.specs.HashMap as hash
-use Rattle.cps_code.specs.contracts.name.NamePartialEq.TheImpl.{eq-value}
+use Rattle.cps_text.specs.contracts.name.NamePartialEq.TheImpl.{eq-value}
 use Rattle.cps_tool.specs.Keys.{answers_in}
 use Rattle.cps_tool.specs.Assembled.{IsAssembled}
 use Rattle.cps_tool.proofs.assembling.Assembled.take_lines.Given as goal

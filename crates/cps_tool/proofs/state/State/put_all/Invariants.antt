@@ -1,6 +1,6 @@
 use Rattle.std.proofs.Common.{◌≡◌, ◌≤◌, drop, length}
 use Rattle.std.specs.HashMap as hash
-use Rattle.cps_code.specs.contracts.name.NamePartialEq.TheImpl.{eq-value}
+use Rattle.cps_text.specs.contracts.name.NamePartialEq.TheImpl.{eq-value}
 use Rattle.cps_tool.specs.Keys.{answers_in, overwritten}
 use Rattle.cps_tool.proofs.state.State.put_all.Given as goal
 

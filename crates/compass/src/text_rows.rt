@@ -1,0 +1,129 @@
+//! Operands, the text of macros, characters and fields.
+use cps_text::{
+    ArgFault, Fields, Line, Name, arguments, display, insert_text, operands, push_octal,
+};
+use std::test::Fail;
+
+#[test]
+fn parts_operands(rt: HostRuntime) -> Result<(), Fail> {
+    let rows: [(&[u8], &[&[u8]]); 12] = [
+        (b"", &[]),
+        (b" A", &[]),
+        (b"A,,B", &[b"A", b"", b"B"]),
+        (b"A,", &[b"A", b""]),
+        (b"A B,C", &[b"A"]),
+        (b"=3HA B,C", &[b"=3HA B", b"C"]),
+        (b"=03LA,B,C", &[b"=03LA,B", b"C"]),
+        (b"=l*A, B*X,C", &[b"=l*A, B*X", b"C"]),
+        (b"A=3HA B", &[b"A=3HA"]),
+        (b"=3HA", &[b"=3HA"]),
+        (b"=11HABCDEFGHIJ,KX,C", &[b"=11HABCDEFGHIJ", b"KX", b"C"]),
+        (b"=L**,C", &[b"=L**", b"C"]),
+    ];
+    for (at, (tail, want)) in rows.iter().enumerate() {
+        let mut left = operands(tail);
+        for operand in *want {
+            assert_eq!(rt; left.next(), Some(*operand), "row {at}");
+        }
+        assert_eq!(rt; left.next(), None, "row {at}");
+    }
+    Ok(())
+}
+
+#[test]
+fn parts_arguments(rt: HostRuntime) -> Result<(), Fail> {
+    let rows: [(&[u8], &[&[u8]]); 12] = [
+        (b"", &[]),
+        (b" A", &[]),
+        (b"A,B", &[b"A", b"B"]),
+        (b"A,,B C", &[b"A", b"", b"B"]),
+        (b"A,", &[b"A", b""]),
+        (b"(A,B),C", &[b"A,B", b"C"]),
+        (b"(A B) C", &[b"A B"]),
+        (b"((A))", &[b"(A)"]),
+        (b"()", &[b""]),
+        (b"(A)(B)", &[b"(A)(B)"]),
+        (b"(A)B", &[b"(A)B"]),
+        (b"),A", &[b")", b"A"]),
+    ];
+    for (at, (tail, want)) in rows.iter().enumerate() {
+        let found = arguments(rt.alloc(), tail)?;
+        assert_eq!(rt; found.as_slice(), *want, "row {at}");
+    }
+    for tail in [b"(A".as_slice(), b"A,(B,(C)".as_slice(), b")(".as_slice()] {
+        assert_eq!(rt; arguments(rt.alloc(), tail).err(), Some(ArgFault::Unclosed));
+    }
+    Ok(())
+}
+
+#[test]
+fn inserts_arguments(rt: HostRuntime) -> Result<(), Fail> {
+    let rows: [(&str, &str); 6] = [
+        ("         SX_R    X_R+K", "         SX5    X5+10B"),
+        ("* R_K", "* R_K"),
+        ("   KR K.R RK_", "   KR K.R RK"),
+        ("   k_r", "   10B5"),
+        ("   LONG=_K_", "   K_R=10B"),
+        ("", ""),
+    ];
+    let pairs = [
+        (Name::read(b"R").ok_or("a symbol")?, b"5".as_slice()),
+        (Name::read(b"K").ok_or("a symbol")?, b"10B".as_slice()),
+        (Name::read(b"K").ok_or("a symbol")?, b"20B".as_slice()),
+        (Name::read(b"LONG").ok_or("a symbol")?, b"K_R".as_slice()),
+    ];
+    for (at, (body, want)) in rows.iter().enumerate() {
+        let text = insert_text(rt.alloc(), body.as_bytes(), &pairs)?;
+        assert_eq!(rt; str::from_utf8(&text)?, *want, "row {at}");
+    }
+    Ok(())
+}
+
+#[test]
+fn codes_characters(rt: HostRuntime) -> Result<(), Fail> {
+    let rows: [(u8, u8); 16] = [
+        (b':', 0o00),
+        (b'A', 0o01),
+        (b'a', 0o01),
+        (b'Z', 0o32),
+        (b'0', 0o33),
+        (b'9', 0o44),
+        (b'+', 0o45),
+        (b'=', 0o54),
+        (b' ', 0o55),
+        (b',', 0o56),
+        (b'.', 0o57),
+        (b'#', 0o60),
+        (b'_', 0o65),
+        (b'&', 0o67),
+        (b'\'', 0o70),
+        (b';', 0o77),
+    ];
+    for (character, code) in rows {
+        assert_eq!(rt; display(character), Some(code));
+    }
+    assert_eq!(rt; display(b'~'), None);
+    let mut text = Vec::new(rt.alloc());
+    push_octal(&mut text, 0o1234567, 4)?;
+    push_octal(&mut text, 7, 3)?;
+    assert_eq!(rt; text.as_slice(), b"4567007".as_slice());
+    Ok(())
+}
+
+#[test]
+fn cuts_fields(rt: HostRuntime) -> Result<(), Fail> {
+    let line = Line::new(rt.alloc(), b" Start   SA1     B1+3,X COMMENT here")?;
+    let Fields::Statement(statement) = line.fields() else {
+        return Err(Fail::from("a statement"));
+    };
+    assert_eq!(rt; statement.location, b"Start".as_slice());
+    assert_eq!(rt; statement.operation, b"SA1".as_slice());
+    assert_eq!(rt; statement.variable, b"B1+3,X".as_slice());
+    assert_eq!(rt; statement.comment, b"COMMENT here".as_slice());
+    assert_eq!(rt; statement.tail, b"B1+3,X COMMENT here".as_slice());
+    let comment = Line::new(rt.alloc(), b"*SA1")?;
+    assert!(rt; matches!(comment.fields(), Fields::Comment));
+    let continued = Line::new(rt.alloc(), b",SA1")?;
+    assert!(rt; matches!(continued.fields(), Fields::Continued));
+    Ok(())
+}

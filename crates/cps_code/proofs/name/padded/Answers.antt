@@ -1,6 +1,0 @@
-use Rattle.cps_code.proofs.NameLemmas.{padded-more}
-use Rattle.cps_code.proofs.name.padded.Goals as goal
-
-pub loop-i-preserved : goal.loop-i-preserved
-loop-i-preserved c =
-    rw (c.loop-i.invariant, c.capital.ensures) (padded-more c.args.text.now c.loop-i.i c.loop-i-test.true c.requires)

@@ -1,0 +1,8 @@
+pub mod ArgumentLemmas
+pub mod DataItemLemmas
+pub mod NameLemmas
+pub mod OctalLemmas
+pub mod PartLemmas
+pub mod PlaceLemmas
+pub mod RunLemmas
+pub mod WorkedRows

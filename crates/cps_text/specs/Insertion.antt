@@ -1,0 +1,43 @@
+-- The text that a line of a macro's body gives. From the manual's sections on macro definitions and on the concatenation mark.
+use Rattle.std.specs.Prelude.{ℕ, Bool, not, ◌||◌, ◌==◌, List, map, filter, codes, Option, option_map, unwrap_or, if◌then◌else◌}
+use Rattle.std.specs.Borrow.{Bor}
+use Rattle.std.specs.List.{find, flat_map}
+use Rattle.std.specs.Str.{bytes_eq}
+use Rattle.cps_text.specs.declared.name.Name.{Name}
+use Rattle.cps_text.specs.Card.{card, is_comment}
+use Rattle.cps_text.specs.Name.{name_text}
+use Rattle.cps_text.specs.Runs.{runs}
+use Rattle.cps_text.specs.Text.{among, capital, capitals, is_digit, is_letter}
+
+-- a parameter stands in a run of letters, digits and points
+abbrev pub is_of_run : ℕ → Bool
+is_of_run character = is_letter (capital character) || (is_digit 10 character || among (codes ".") character)
+
+-- names with their texts
+abbrev pub Pairs : Type 0
+Pairs = List (Name × List ℕ)
+
+abbrev pub pairs_value : List (Name × Bor (List ℕ)) → Pairs
+pairs_value pairs = map (λ pair. (pair.0, pair.1.now)) pairs
+
+-- a run is a pair's name, in capitals or not; the first such pair counts
+abbrev pub is_named : List ℕ → Name → Bool
+is_named run name = bytes_eq (name_text name) (capitals run)
+
+abbrev pub text_for : Pairs → List ℕ → Option (List ℕ)
+text_for pairs run = option_map (λ pair. pair.1) (find (λ pair. is_named run pair.0) pairs)
+
+-- the mark that joins what stands before and behind it
+abbrev pub is_mark : ℕ → Bool
+is_mark character = character == 95
+
+abbrev pub without_marks : List ℕ → List ℕ
+without_marks text = filter (λ c. not (is_mark c)) text
+
+-- the text of a run's pair as it is; other runs without marks
+abbrev pub replaced : Pairs → List ℕ → List ℕ
+replaced pairs run = unwrap_or (text_for pairs run) (without_marks run)
+
+-- a comment stays as it is
+abbrev pub inserted : Pairs → List ℕ → List ℕ
+inserted pairs body = if is_comment (card body) then body else flat_map (replaced pairs) (runs is_of_run body)

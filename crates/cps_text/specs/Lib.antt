@@ -1,0 +1,17 @@
+pub mod Arguments
+pub mod Card
+pub mod CardFields
+pub mod Counted
+pub mod DataItem
+pub mod Display
+pub mod Insertion
+pub mod Line
+pub mod Name
+pub mod Octal
+pub mod Operands
+pub mod OperandsLeft
+pub mod Parts
+pub mod PartsLeft
+pub mod Runs
+pub mod Symbol
+pub mod Text

@@ -1,0 +1,18 @@
+-- The operands of a statement. From the manual's sections on the statement format and on literals.
+use Rattle.std.specs.Prelude.{ℕ, ◌+◌, ◌==◌, List, [], ◌∷◌, drop, if◌then◌else◌}
+use Rattle.std.specs.List.{position_or_len}
+use Rattle.cps_text.specs.DataItem.{item_extent}
+use Rattle.cps_text.specs.Parts.{ends_part, parts_of}
+
+-- commas and blanks of a data item behind the `=` that begins an operand don't count
+abbrev pub literal_len : List ℕ → ℕ
+literal_len [] = 0
+literal_len (character ∷ text) = if character == 61 then item_extent text + 1 else 0
+
+-- an operand ends before the next comma or blank
+abbrev pub operand_len : List ℕ → ℕ
+operand_len text = literal_len text + position_or_len ends_part (drop (literal_len text) text)
+
+-- the operands of a tail
+abbrev pub operands_of : List ℕ → List (List ℕ)
+operands_of tail = parts_of operand_len tail

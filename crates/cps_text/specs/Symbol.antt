@@ -1,0 +1,30 @@
+-- Symbols. From the manual's section on symbols; that other characters aren't allowed in them, and that registers are none, is our profile's.
+use Rattle.std.specs.Prelude.{ℕ, ◌-◌, Bool, false, ◌&&◌, ◌||◌, not, ◌==◌, nat_le, nat_lt, List, [], ◌∷◌, ◌++◌, length, slice_index, replicate, codes}
+use Rattle.std.specs.List.{list_all}
+use Rattle.cps_text.specs.Text.{among, is_digit, is_letter}
+
+abbrev pub begins_symbol : ℕ → Bool
+begins_symbol character = is_letter character || among (codes ".") character
+
+abbrev pub continues_symbol : ℕ → Bool
+continues_symbol character = is_letter character || (is_digit 10 character || among (codes ".=") character)
+
+-- A, B or X and a digit from 0 to 7
+abbrev pub is_register : List ℕ → Bool
+is_register [] = false
+is_register (c ∷ []) = false
+is_register (c ∷ d ∷ []) = among (codes "ABX") c && is_digit 8 d
+is_register (c ∷ d ∷ e ∷ text) = false
+
+-- a symbol in capitals has 1 to 8 characters, first a letter or a point, then letters, digits, points and equal signs; a register is none
+abbrev pub is_symbol : List ℕ → Bool
+is_symbol text =
+    (nat_lt 0 (length text) && nat_le (length text) 8)
+    && (begins_symbol (slice_index text 0) && (list_all continues_symbol text && not (is_register text)))
+
+-- the characters and zeros behind them, eight in all
+abbrev pub padded : List ℕ → List ℕ
+padded text = text ++ replicate (8 - length text) 0
+
+abbrev pub is_padding : ℕ → Bool
+is_padding byte = byte == 0

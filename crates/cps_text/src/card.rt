@@ -1,0 +1,120 @@
+//! The fields of a line.
+ghost use Rattle.std.specs.Prelude.{◌≡◌, ◌^◌, ◌<◌};
+ghost use Rattle.std.specs.List.{list_all};
+ghost use Rattle.cps_text.specs.Text.{is_blank};
+ghost use Rattle.cps_text.specs.Card.{card, is_comment, is_continued, location_of, location_end, fields_of, statement_of};
+ghost use Rattle.cps_text.specs.CardFields.{statement_value, fields_value};
+
+use crate::places::{blank_from, filled_from, from, run_at};
+
+/// The columns of a line that are read.
+const COLUMNS: usize = 72;
+
+/// The variable field begins before this column, counted from 0.
+const LAST_VARIABLE: usize = 29;
+
+/// The fields of a statement.
+#[derive(Clone, Copy)]
+pub struct Statement<'a> {
+    pub location: &'a [u8],
+    pub operation: &'a [u8],
+    pub variable: &'a [u8],
+    /// The text behind the variable field, or behind the operation field where there is no variable field.
+    pub comment: &'a [u8],
+    /// The text from the variable field's first column through column 72.
+    pub tail: &'a [u8],
+}
+
+/// What a line is.
+#[derive(Clone, Copy)]
+pub enum Fields<'a> {
+    /// `*` stands in column 1, or columns 1 to 72 are blank.
+    Comment,
+    /// `,` stands in column 1.
+    Continued,
+    Statement(Statement<'a>),
+}
+
+/// The fields of a line.
+pub fn read_fields(line: &[u8]) -> Fields<'_>
+    ensures { fields_value result ≡ fields_of line.now }
+{
+    let card = read_columns(line);
+    if is_comment(card) {
+        Fields::Comment
+    } else if is_continued(card) {
+        Fields::Continued
+    } else {
+        Fields::Statement(statement_fields(card))
+    }
+}
+
+/// The columns of a line that are read.
+pub fn read_columns(line: &[u8]) -> &[u8]
+    ensures { result.now ≡ card line.now }
+{
+    if line.len() <= COLUMNS {
+        return line;
+    }
+    let (card, _) = line.split_at(COLUMNS);
+    card
+}
+
+/// Whether the columns of a line are a comment.
+pub fn is_comment(card: &[u8]) -> bool
+    ensures { result ≡ is_comment card.now }
+{
+    (!card.is_empty() && card[0] == b'*') || all_blank(card)
+}
+
+fn is_continued(card: &[u8]) -> bool
+    ensures { result ≡ is_continued card.now }
+{
+    !card.is_empty() && card[0] == b','
+}
+
+fn statement_fields(card: &[u8]) -> Statement<'_>
+    ensures { statement_value result ≡ statement_of card.now }
+{
+    let (location, end) = location(card);
+    let operation_at = filled_from(card, end.max(2));
+    let operation = run_at(card, operation_at);
+    let next_at = filled_from(card, blank_from(card, operation_at));
+    if next_at < LAST_VARIABLE {
+        Statement {
+            location,
+            operation,
+            variable: run_at(card, next_at),
+            comment: from(card, filled_from(card, blank_from(card, next_at))),
+            tail: from(card, next_at),
+        }
+    } else {
+        Statement {
+            location,
+            operation,
+            variable: &[],
+            comment: from(card, next_at),
+            tail: &[],
+        }
+    }
+}
+
+fn all_blank(card: &[u8]) -> bool
+    ensures { result ≡ list_all is_blank card.now }
+{
+    card.iter().all(|byte| *byte == b' ')
+}
+
+/// The location field, and where it ends; 0 where there is none.
+fn location(card: &[u8]) -> (&[u8], usize)
+    ensures field { result.0.now ≡ location_of card.now }
+    ensures end { result.1 ≡ location_end card.now }
+    ensures near { result.1 < 2 ^ 63 }
+{
+    let at = filled_from(card, 0);
+    if at < 2 {
+        (run_at(card, at), blank_from(card, at))
+    } else {
+        (&[], 0)
+    }
+}

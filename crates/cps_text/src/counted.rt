@@ -1,0 +1,95 @@
+//! Readers and writers whose calls are counted.
+ghost use Rattle.std.specs.Prelude.{◌≡◌, ◌+◌, ◌<◌, ◌≤◌, IfSome, MatchOption, take, length};
+ghost use Rattle.std.specs.Io.KnownBytes.{Keeps, Appends, Consumes, IsAtEnd};
+ghost use Rattle.cps_text.specs.Counted.{inner_of, failures_of, calls_of, raised, raised_on_none};
+
+use std::io::{Read, Write};
+
+/// A reader or a writer whose calls and failures are counted. A count stays at its greatest value.
+#[derive(Drop)]
+pub struct Counted<T> {
+    inner: T,
+    failures: u64,
+    calls: u64,
+}
+
+impl<T> Counted<T> {
+    /// With both counts at 0.
+    pub fn new(inner: T) -> Counted<T>
+        ensures inner { inner_of result ≡ inner }
+        ensures failures { failures_of result ≡ 0 }
+        ensures calls { calls_of result ≡ 0 }
+    {
+        Counted {
+            inner,
+            failures: 0,
+            calls: 0,
+        }
+    }
+
+    /// How many calls failed.
+    pub fn failures(&self) -> u64
+        ensures { result ≡ failures_of self.now }
+    {
+        self.failures
+    }
+
+    /// How often it was read or written.
+    pub fn calls(&self) -> u64
+        ensures { result ≡ calls_of self.now }
+    {
+        self.calls
+    }
+
+    /// The reader or writer itself.
+    pub fn into_inner(self) -> T
+        ensures { result ≡ inner_of self }
+    {
+        let Counted { inner, .. } = self;
+        inner
+    }
+}
+
+impl<R: Read> Counted<R> {
+    /// Reads once. None where the reader answered an error; 0 bytes for a buffer that has room are the end.
+    pub fn read(&mut self, buf: &mut [u8]) -> Option<usize>
+        ensures bytes { MatchOption result
+            (Keeps (R.remaining (inner_of self.old)) (R.remaining (inner_of self.new)))
+            (λ n. Consumes (R.remaining (inner_of self.old)) (R.remaining (inner_of self.new)) (take n buf.new)) }
+        ensures end { IfSome result (λ n. n ≡ 0 → 0 < length buf.new → IsAtEnd (R.remaining (inner_of self.new))) }
+        ensures bound { IfSome result (λ n. n ≤ length buf.new) }
+        ensures failures { failures_of self.new ≡ raised_on_none result (failures_of self.old) }
+        ensures calls { calls_of self.new ≡ raised (calls_of self.old) }
+    {
+        self.calls = self.calls.saturating_add(1);
+        match self.inner.read(buf) {
+            Ok(count) => Some(count),
+            Err(_) => {
+                self.failures = self.failures.saturating_add(1);
+                None
+            }
+        }
+    }
+}
+
+impl<W: Write> Counted<W> {
+    /// Writes once. None where the writer answered an error, or took none of one or more bytes.
+    pub fn write(&mut self, buf: &[u8]) -> Option<usize>
+        ensures bytes { MatchOption result
+            (Keeps (W.contents (inner_of self.old)) (W.contents (inner_of self.new)))
+            (λ n. Appends (W.contents (inner_of self.old)) (W.contents (inner_of self.new)) (take n buf.now)) }
+        ensures bound { IfSome result (λ n. n ≤ length buf.now) }
+        ensures taken { IfSome result (λ n. 0 < length buf.now → 0 < n) }
+        ensures failures { failures_of self.new ≡ raised_on_none result (failures_of self.old) }
+        ensures calls { calls_of self.new ≡ raised (calls_of self.old) }
+    {
+        self.calls = self.calls.saturating_add(1);
+        match self.inner.write(buf) {
+            Ok(count) if count > 0 || buf.is_empty() => Some(count),
+            _ => {
+                self.failures = self.failures.saturating_add(1);
+                None
+            }
+        }
+    }
+}

@@ -1,0 +1,30 @@
+//! Lines of a source, their fields and operands, symbols, the text of macros, and readers and writers whose calls are counted.
+#![tactic(auto)]
+
+mod argument;
+mod argument_list;
+mod card;
+mod character;
+mod counted;
+mod data_item;
+mod insertion;
+mod line;
+mod name;
+mod octal;
+mod operand;
+mod operand_list;
+mod part;
+mod places;
+mod run;
+mod tail;
+
+pub use argument_list::{ArgFault, arguments};
+pub use card::{Fields, Statement, read_fields};
+pub use character::display;
+pub use counted::Counted;
+pub use insertion::insert_text;
+pub use line::{Line, LineFault};
+pub use name::Name;
+pub use octal::push_octal;
+pub use operand_list::Operands;
+pub use tail::operands;

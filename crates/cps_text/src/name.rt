@@ -1,0 +1,104 @@
+//! Symbols of the language.
+ghost use Rattle.std.specs.Prelude.{◌≡◌, ◌≤◌, ◌<◌, length, IfSome};
+ghost use Rattle.std.specs.List.{list_all, position};
+ghost use Rattle.cps_text.specs.Symbol.{begins_symbol, continues_symbol, is_register, is_symbol, padded, is_padding};
+ghost use Rattle.cps_text.specs.Text.{capitals};
+
+use crate::character::capital;
+
+/// The most characters of a symbol.
+const LONGEST: usize = 8;
+
+/// A symbol in capitals: 1 to 8 characters. Names are ordered by their characters.
+#[derive(Clone, Copy, Debug, PartialEq, Eq, PartialOrd, Ord, Hash)]
+pub struct Name {
+    bytes: [u8; LONGEST],
+}
+
+impl Name {
+    ghost use Rattle.cps_text.specs.Name.{name_of, name_text};
+
+    /// The symbol that a text writes, in capitals or not. None: it writes none.
+    pub fn read(text: &[u8]) -> Option<Name>
+        ensures { result ≡ name_of text.now }
+    {
+        if text.len() > LONGEST {
+            return None;
+        }
+        let bytes = padded(text);
+        if is_symbol(&bytes[..text.len()]) {
+            Some(Name { bytes })
+        } else {
+            None
+        }
+    }
+
+    /// The characters.
+    pub fn text(&self) -> &[u8]
+        ensures { result.now ≡ name_text self.now }
+    {
+        match end_of_text(&self.bytes) {
+            Some(end) => &self.bytes[..end],
+            None => &self.bytes,
+        }
+    }
+}
+
+/// The capitals of a text, and zeros behind them.
+fn padded(text: &[u8]) -> [u8; LONGEST]
+    requires { length text.now ≤ LONGEST }
+    ensures { result ≡ padded (capitals text.now) }
+{
+    let mut bytes = [0; LONGEST];
+    for i in 0..text.len() {
+        bytes[i] = capital(text[i]);
+    }
+    bytes
+}
+
+/// Where the characters of a name end, None where they fill it.
+fn end_of_text(bytes: &[u8]) -> Option<usize>
+    ensures place { result ≡ position is_padding bytes.now }
+    ensures within { IfSome result (λ end. end < length bytes.now) }
+{
+    bytes.iter().position(|byte| *byte == 0)
+}
+
+/// Whether a text in capitals is a symbol.
+fn is_symbol(text: &[u8]) -> bool
+    ensures { result ≡ is_symbol text.now }
+{
+    if text.is_empty() || text.len() > LONGEST {
+        return false;
+    }
+    begins_symbol(text[0]) && all_continue(text) && !is_register(text)
+}
+
+fn all_continue(text: &[u8]) -> bool
+    ensures { result ≡ list_all continues_symbol text.now }
+{
+    text.iter().all(|byte| continues_symbol(*byte))
+}
+
+fn begins_symbol(byte: u8) -> bool
+    ensures { result ≡ begins_symbol byte }
+{
+    byte.is_ascii_uppercase() || byte == b'.'
+}
+
+fn continues_symbol(byte: u8) -> bool
+    ensures { result ≡ continues_symbol byte }
+{
+    matches!(byte, b'A'..=b'Z' | b'0'..=b'9' | b'.' | b'=')
+}
+
+fn is_register(text: &[u8]) -> bool
+    ensures { result ≡ is_register text.now }
+{
+    match text {
+        [letter, digit] => {
+            matches!(*letter, b'A' | b'B' | b'X') && matches!(*digit, b'0'..=b'7')
+        }
+        _ => false,
+    }
+}

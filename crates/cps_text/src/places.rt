@@ -1,0 +1,85 @@
+//! Where blanks and other characters stand in a text.
+ghost use Rattle.std.specs.Prelude.{◌≡◌, ◌+◌, ◌^◌, ◌≤◌, ◌<◌, length, drop, IfSome};
+ghost use Rattle.std.specs.List.{before_first, position, position_or_len};
+ghost use Rattle.cps_text.specs.Card.{filled_from, blank_from, run_at};
+ghost use Rattle.cps_text.specs.Text.{is_blank, is_filled};
+
+/// The first column from one on that isn't blank; the end where there is none.
+pub fn filled_from(text: &[u8], at: usize) -> usize
+    requires { at < 2 ^ 63 }
+    ensures column { result ≡ filled_from text.now at }
+    ensures near { result < 2 ^ 63 }
+{
+    at + first_filled(from(text, at))
+}
+
+/// The first column from one on that is blank; the end where there is none.
+pub fn blank_from(text: &[u8], at: usize) -> usize
+    requires { at < 2 ^ 63 }
+    ensures column { result ≡ blank_from text.now at }
+    ensures near { result < 2 ^ 63 }
+{
+    at + first_blank(from(text, at))
+}
+
+/// The run of characters that aren't blank, from a column on.
+pub fn run_at(text: &[u8], at: usize) -> &[u8]
+    ensures { result.now ≡ run_at text.now at }
+{
+    before_blank(from(text, at))
+}
+
+/// What stands before the first blank.
+pub fn before_blank(text: &[u8]) -> &[u8]
+    ensures { result.now ≡ before_first is_blank text.now }
+{
+    let (front, _) = text.split_at(first_blank(text));
+    front
+}
+
+/// What stands from a column on.
+pub fn from(text: &[u8], at: usize) -> &[u8]
+    ensures { result.now ≡ drop at text.now }
+{
+    if text.len() < at {
+        return &[];
+    }
+    let (_, rest) = text.split_at(at);
+    rest
+}
+
+/// Where the first character stands that isn't blank, or the length.
+fn first_filled(text: &[u8]) -> usize
+    ensures place { result ≡ position_or_len is_filled text.now }
+    ensures within { result ≤ length text.now }
+{
+    match filled_at(text) {
+        Some(at) => at,
+        None => text.len(),
+    }
+}
+
+/// Where the first blank stands, or the length.
+fn first_blank(text: &[u8]) -> usize
+    ensures place { result ≡ position_or_len is_blank text.now }
+    ensures within { result ≤ length text.now }
+{
+    match blank_at(text) {
+        Some(at) => at,
+        None => text.len(),
+    }
+}
+
+fn filled_at(text: &[u8]) -> Option<usize>
+    ensures place { result ≡ position is_filled text.now }
+    ensures within { IfSome result (λ at. at < length text.now) }
+{
+    text.iter().position(|byte| *byte != b' ')
+}
+
+fn blank_at(text: &[u8]) -> Option<usize>
+    ensures place { result ≡ position is_blank text.now }
+    ensures within { IfSome result (λ at. at < length text.now) }
+{
+    text.iter().position(|byte| *byte == b' ')
+}
