@@ -2,56 +2,76 @@
 use cps_text::{
     ArgFault, Fields, Line, Name, arguments, display, insert_text, operands, push_octal,
 };
+use std::alloc::Global;
 use std::test::Fail;
+
+/// The operands of a tail, each with a bar behind it.
+fn joined_operands(alloc: Global, tail: &[u8]) -> Result<Vec<u8>, Fail> {
+    let mut text = Vec::new(alloc);
+    for operand in operands(tail) {
+        text.extend_from_slice(operand)?;
+        text.push(b'|')?;
+    }
+    Ok(text)
+}
 
 #[test]
 fn parts_operands(rt: HostRuntime) -> Result<(), Fail> {
-    let rows: [(&[u8], &[&[u8]]); 12] = [
-        (b"", &[]),
-        (b" A", &[]),
-        (b"A,,B", &[b"A", b"", b"B"]),
-        (b"A,", &[b"A", b""]),
-        (b"A B,C", &[b"A"]),
-        (b"=3HA B,C", &[b"=3HA B", b"C"]),
-        (b"=03LA,B,C", &[b"=03LA,B", b"C"]),
-        (b"=l*A, B*X,C", &[b"=l*A, B*X", b"C"]),
-        (b"A=3HA B", &[b"A=3HA"]),
-        (b"=3HA", &[b"=3HA"]),
-        (b"=11HABCDEFGHIJ,KX,C", &[b"=11HABCDEFGHIJ", b"KX", b"C"]),
-        (b"=L**,C", &[b"=L**", b"C"]),
+    let rows: [(&str, &str); 12] = [
+        ("", ""),
+        (" A", ""),
+        ("A,,B", "A||B|"),
+        ("A,", "A||"),
+        ("A B,C", "A|"),
+        ("=3HA B,C", "=3HA B|C|"),
+        ("=03LA,B,C", "=03LA,B|C|"),
+        ("=l*A, B*X,C", "=l*A, B*X|C|"),
+        ("A=3HA B", "A=3HA|"),
+        ("=3HA", "=3HA|"),
+        ("=11HABCDEFGHIJ,KX,C", "=11HABCDEFGHIJ|KX|C|"),
+        ("=L**,C", "=L**|C|"),
     ];
     for (at, (tail, want)) in rows.iter().enumerate() {
-        let mut left = operands(tail);
-        for operand in *want {
-            assert_eq!(rt; left.next(), Some(*operand), "row {at}");
-        }
-        assert_eq!(rt; left.next(), None, "row {at}");
+        let text = joined_operands(rt.alloc(), tail.as_bytes())?;
+        assert_eq!(rt; str::from_utf8(&text)?, *want, "row {at}");
     }
     Ok(())
 }
 
+/// The arguments of a tail, each with a bar behind it.
+fn joined_arguments(alloc: Global, tail: &[u8]) -> Result<Vec<u8>, Fail> {
+    let found = arguments(alloc, tail)?;
+    let mut text = Vec::new(alloc);
+    for argument in &found {
+        text.extend_from_slice(argument)?;
+        text.push(b'|')?;
+    }
+    Ok(text)
+}
+
 #[test]
 fn parts_arguments(rt: HostRuntime) -> Result<(), Fail> {
-    let rows: [(&[u8], &[&[u8]]); 12] = [
-        (b"", &[]),
-        (b" A", &[]),
-        (b"A,B", &[b"A", b"B"]),
-        (b"A,,B C", &[b"A", b"", b"B"]),
-        (b"A,", &[b"A", b""]),
-        (b"(A,B),C", &[b"A,B", b"C"]),
-        (b"(A B) C", &[b"A B"]),
-        (b"((A))", &[b"(A)"]),
-        (b"()", &[b""]),
-        (b"(A)(B)", &[b"(A)(B)"]),
-        (b"(A)B", &[b"(A)B"]),
-        (b"),A", &[b")", b"A"]),
+    let rows: [(&str, &str); 12] = [
+        ("", ""),
+        (" A", ""),
+        ("A,B", "A|B|"),
+        ("A,,B C", "A||B|"),
+        ("A,", "A||"),
+        ("(A,B),C", "A,B|C|"),
+        ("(A B) C", "A B|"),
+        ("((A))", "(A)|"),
+        ("()", "|"),
+        ("(A)(B)", "(A)(B)|"),
+        ("(A)B", "(A)B|"),
+        ("),A", ")|A|"),
     ];
     for (at, (tail, want)) in rows.iter().enumerate() {
-        let found = arguments(rt.alloc(), tail)?;
-        assert_eq!(rt; found.as_slice(), *want, "row {at}");
+        let text = joined_arguments(rt.alloc(), tail.as_bytes())?;
+        assert_eq!(rt; str::from_utf8(&text)?, *want, "row {at}");
     }
-    for tail in [b"(A".as_slice(), b"A,(B,(C)".as_slice(), b")(".as_slice()] {
-        assert_eq!(rt; arguments(rt.alloc(), tail).err(), Some(ArgFault::Unclosed));
+    for tail in ["(A", "A,(B,(C)", ")("] {
+        let fault = arguments(rt.alloc(), tail.as_bytes()).err();
+        assert_eq!(rt; fault, Some(ArgFault::Unclosed));
     }
     Ok(())
 }
