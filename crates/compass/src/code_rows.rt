@@ -1,22 +1,26 @@
 //! The codes of statements, and the words that they make.
+use super::same_value::UNDEFINED;
 use cps_code::{
-    CpForm, Expr, ExprFault, Filled, Force, FormFault, NoNames, Piece, Place, Placed, Radix, Words,
-    cp_form, place_next,
+    CpForm, Filled, Force, FormFault, Piece, Place, Placed, Words, cp_form, place_next,
 };
+use cps_expr::{Radix, Value};
 use cps_text::Name;
 use std::process::Abort;
 use std::test::Fail;
 
-/// The code of a form with the values of its expressions.
+/// The greatest magnitude of a value.
+const GREATEST: i64 = (1 << 59) - 1;
+
+/// The code of a form with the values of its expressions, where no name is defined and `*` is 3.
 fn filled(form: &CpForm) -> Result<Filled, Fail> {
     match form.holes() {
         [] => Ok(form.fill(&[])),
         [hole] => {
-            let number = hole
-                .expression
-                .value(&NoNames)
-                .value
-                .ok_or("a value out of range")?;
+            let valued = hole.expression.value(&UNDEFINED, Value::plain(3));
+            let number = valued.value.ok_or("a value")?.offset;
+            if number < -GREATEST || number > GREATEST {
+                return Err(Fail::from("a value in range"));
+            }
             Ok(form.fill(&[number]))
         }
         _ => Err(Fail::from("more than one hole")),
@@ -25,7 +29,7 @@ fn filled(form: &CpForm) -> Result<Filled, Fail> {
 
 #[test]
 fn codes_statements(rt: HostRuntime) -> Result<(), Fail> {
-    let rows: [(&[u8], &[u8], u64, bool); 12] = [
+    let rows: [(&[u8], &[u8], u64, bool); 15] = [
         (b"SA1", b"B1+3", 0o5111000003, false),
         (b"SX6", b"X1", 0o73610, false),
         (b"SA6", b"A1", 0o54610, false),
@@ -37,6 +41,9 @@ fn codes_statements(rt: HostRuntime) -> Result<(), Fail> {
         (b"SX1", b"-400000B", 0o7110377777, true),
         (b"SA1", b"1000000B", 0o5110000000, true),
         (b"SA1", b"A1-1", 0o5011777776, false),
+        (b"SA1", b"*+B1", 0o5111000003, false),
+        (b"SX1", b"-7/2+X2", 0o7212777774, false),
+        (b"EQ", b"***", 0o0400000011, false),
         (b"NO", b"", 0o46000, false),
     ];
     for (at, (operation, tail, digits, is_truncated)) in rows.iter().enumerate() {
@@ -53,12 +60,16 @@ fn codes_statements(rt: HostRuntime) -> Result<(), Fail> {
 
 #[test]
 fn refuses_statements(rt: HostRuntime) -> Result<(), Fail> {
-    let rows: [(&[u8], &[u8], Radix, FormFault); 5] = [
+    let rows: [(&[u8], &[u8], Radix, FormFault); 9] = [
         (b"XX", b"1", Radix::Decimal, FormFault::NoOperation),
         (b"SA1", b"-X1", Radix::Decimal, FormFault::Unreadable),
         (b"EQ", b"X1", Radix::Decimal, FormFault::Unreadable),
         (b"EQ", b"B1,B2,5", Radix::Decimal, FormFault::Unreadable),
         (b"SA1", b"18", Radix::Octal, FormFault::Unreadable),
+        (b"SA1", b"B1*2", Radix::Decimal, FormFault::Unreadable),
+        (b"SA1", b"2*B1+1", Radix::Decimal, FormFault::Unreadable),
+        (b"SA1", b"=1", Radix::Decimal, FormFault::Unreadable),
+        (b"SA1", b"B1+B2+2*", Radix::Decimal, FormFault::Unreadable),
     ];
     for (at, (operation, tail, radix, fault)) in rows.iter().enumerate() {
         let form = cp_form(rt.alloc(), operation, tail, *radix);
@@ -106,13 +117,9 @@ fn reads_names(rt: HostRuntime) -> Result<(), Fail> {
 }
 
 #[test]
-fn values_names(rt: HostRuntime) -> Result<(), Fail> {
-    let form = cp_form(
-        rt.alloc(),
-        b"SA1",
-        b"B1+first-7-first+second",
-        Radix::Decimal,
-    )?;
+fn gathers_terms(rt: HostRuntime) -> Result<(), Fail> {
+    let tail = b"first-2*3+B1-first/7";
+    let form = cp_form(rt.alloc(), b"SA1", tail, Radix::Decimal)?;
     let [hole] = form.holes() else {
         return Err(Fail::from("not one hole"));
     };
@@ -120,41 +127,13 @@ fn values_names(rt: HostRuntime) -> Result<(), Fail> {
     for name in hole.expression.names() {
         names.push(name.text())?;
     }
-    let want: [&[u8]; 3] = [b"FIRST", b"FIRST", b"SECOND"];
+    let want: [&[u8]; 2] = [b"FIRST", b"FIRST"];
     assert_eq!(rt; names.as_slice(), want.as_slice());
-    let valued = hole.expression.value(&NoNames);
-    assert_eq!(rt; (valued.value, valued.undefined), (Some(-7), true));
-    Ok(())
-}
-
-#[test]
-fn reads_expressions(rt: HostRuntime) -> Result<(), Fail> {
-    let greatest = 576_460_752_303_423_487;
-    let rows: [(&[u8], Result<(Option<i64>, bool), ExprFault>); 13] = [
-        (b"1+2", Ok((Some(3), false))),
-        (b"-5", Ok((Some(-5), false))),
-        (b"+10B-8D", Ok((Some(0), false))),
-        (b"start-1", Ok((Some(-1), true))),
-        (b"576460752303423487", Ok((Some(greatest), false))),
-        (b"576460752303423487+1", Ok((None, false))),
-        (b"576460752303423487+1-1", Ok((None, false))),
-        (b"576460752303423488", Err(ExprFault::Unreadable)),
-        (b"", Err(ExprFault::Unreadable)),
-        (b"1+", Err(ExprFault::Unreadable)),
-        (b"1--1", Err(ExprFault::Unreadable)),
-        (b"1+B1", Err(ExprFault::Unreadable)),
-        (b"A1+B1+X1", Err(ExprFault::Unreadable)),
-    ];
-    for (at, (text, want)) in rows.iter().enumerate() {
-        let got = match Expr::read(rt.alloc(), text, Radix::Decimal) {
-            Ok(expression) => {
-                let valued = expression.value(&NoNames);
-                Ok((valued.value, valued.undefined))
-            }
-            Err(fault) => Err(fault),
-        };
-        assert_eq!(rt; got, *want, "row {at}");
-    }
+    let valued = hole.expression.value(&UNDEFINED, Value::plain(3));
+    assert_eq!(rt;
+        (valued.value, valued.undefined),
+        (Some(Value::plain(-6)), true)
+    );
     Ok(())
 }
 

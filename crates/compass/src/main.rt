@@ -10,11 +10,17 @@ mod code_rows;
 #[cfg(test)]
 mod devices;
 #[cfg(test)]
+mod expression_rows;
+#[cfg(test)]
 mod replies;
+#[cfg(test)]
+mod same_value;
 #[cfg(test)]
 mod script_rows;
 #[cfg(test)]
 mod source_rows;
+#[cfg(test)]
+mod statement_rows;
 #[cfg(test)]
 mod text_rows;
 

@@ -80,6 +80,35 @@ const LIMIT: [&str; 10] = [
     "         NO",
 ];
 
+/// Products, `*` and the base of numbers.
+const EXPRESSIONS: [&str; 17] = [
+    "         SA1     B1+1",
+    "A        EQU     *",
+    "         NO",
+    "         NO",
+    "B        EQU     *+A",
+    "         EQ      *",
+    "         SX1     **2",
+    "         NO",
+    "         SX1     *",
+    "         ORG     *+2",
+    "         BASE    O",
+    "         SX1     17",
+    "X        BASE    decimal",
+    "         SX1     17",
+    "         BASE    M",
+    "         SX1     7/2*2-*",
+    "         SX1     A*B1",
+];
+
+/// `*` at the end of the machine's words.
+const LAST_WORD: [&str; 4] = [
+    "         ORG     131071",
+    "         SX1     **2",
+    "         SX1     **2-1",
+    "         SX1     **2",
+];
+
 #[test]
 fn lists_sources(rt: HostRuntime) -> Result<(), Fail> {
     let rows: [(&[&str], &str); 6] = [
@@ -413,4 +442,35 @@ fn counts_flagged_lines(rt: HostRuntime) -> Result<(), Fail> {
         assert_eq!(rt; session.flagged(), *want, "row {at}");
     }
     Ok(())
+}
+
+#[test]
+fn assembles_expressions(rt: HostRuntime) -> Result<(), Fail> {
+    let listing = "         000000 5111000001                1          SA1     B1+1
+                00000000000000000000      2 A        EQU     *
+         000000 46000                     3          NO
+         000000 46000                     4          NO
+                00000000000000000001      5 B        EQU     *+A
+         000001 0400000001                6          EQ      *
+         000002 7110000004                7          SX1     **2
+         000002 46000                     8          NO
+         000003 7110000003                9          SX1     *
+         000006                          10          ORG     *+2
+                                         11          BASE    O
+         000006 7110000017               12          SX1     17
+L                                        13 X        BASE    decimal
+         000006 7110000021               14          SX1     17
+A                                        15          BASE    M
+         000007 7110777776               16          SX1     7/2*2-*
+A                                        17          SX1     A*B1
+";
+    assert_text(&rt, rt.alloc(), 0, &EXPRESSIONS, "list", listing)?;
+    let flags = "13 L\n15 A\n17 A\n3 flagged lines\n";
+    assert_text(&rt, rt.alloc(), 1, &EXPRESSIONS, "flags", flags)?;
+    let binary = "IDENT
+377777 71107777767110777775
+";
+    assert_text(&rt, rt.alloc(), 2, &LAST_WORD, "binary", binary)?;
+    let flags = "4 ET\n1 flagged lines\n";
+    assert_text(&rt, rt.alloc(), 3, &LAST_WORD, "flags", flags)
 }

@@ -1,5 +1,6 @@
 -- Values in holes.
-use Rattle.std.proofs.Common.{◌≡◌, ℕ, ◌+◌, ◌-◌, ◌*◌, ◌%◌, ◌^◌, ◌<◌, ◌≤◌, Bool, true, false, cond, ltb, List, [], ◌∷◌, length, get_or, ℤ, pos, negsuc, refl, sym, ap, ◌∙◌, arith}
+use Rattle.std.proofs.Common.{◌≡◌, ℕ, ◌+◌, ◌-◌, ◌*◌, ◌%◌, ◌^◌, ◌<◌, ◌≤◌, Bool, true, false, cond, ltb, List, [], ◌∷◌, length, get_or, ℤ, pos, negsuc, w64, refl, sym, ap, ◌∙◌, arith}
+use mir.Val.{SFits}
 use Rattle.std.proofs.lemmas.Bool.Decides.{nat_tests}
 use Rattle.std.proofs.lemmas.Nat.{pow-add, pow_pos}
 use Rattle.std.proofs.Math.Nat.{mul-add-mod_self_right, mod-eq_of_lt, pow-le-pow_right, mul-le-mul_right}
@@ -55,3 +56,7 @@ within_room bits code value holes hole one is room small =
     let most : value ≤ 2 ^ hole.width - 1 = omega arith in
     let product : value * 2 ^ (bits - hole.first - hole.width) ≤ (2 ^ hole.width - 1) * 2 ^ (bits - hole.first - hole.width) = mul-le-mul_right (2 ^ (bits - hole.first - hole.width)) most in
     omega arith
+
+pub fits-in_range : (value : ℤ) → is_in_range value ≡ true → SFits w64 value
+fits-in_range (pos n) small = record { sfits = grind (arith, nat_tests) }
+fits-in_range (negsuc n) small = record { sfits = grind (arith, nat_tests) }

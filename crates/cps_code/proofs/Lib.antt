@@ -4,11 +4,7 @@ pub mod DepositLemmas
 pub mod PackedLemmas
 pub mod LeastLemmas
 pub mod NumberLemmas
-pub mod NumberReading
-pub mod ValueReading
 pub mod SumReading
 pub mod HoleLemmas
-pub mod WorkedRows
 pub mod SetLemmas
-pub mod NamesLemmas
-pub mod ExpressionReading
+pub mod WorkedRows

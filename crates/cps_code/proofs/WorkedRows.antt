@@ -1,14 +1,20 @@
 -- The table and the rules for values, computed on worked examples.
-use Rattle.std.specs.Prelude.{◌≡◌, ℕ, Bool, true, false, List, map, codes, pos, Option, None, Some, option_map, unwrap_or, refl}
+use Rattle.std.specs.Prelude.{◌≡◌, ℕ, Bool, true, false, List, map, codes, ℤ, pos, Option, None, Some, option_map, refl}
+use Rattle.std.specs.Option.{option_map_or}
 use Rattle.cps_code.specs.declared.filled.Filled.{Filled}
-use Rattle.cps_code.specs.declared.radix.Radix.TheVariants.{Decimal}
-use Rattle.cps_code.specs.Expression.{value_in}
+use Rattle.cps_expr.specs.declared.radix.Radix.TheVariants.{Decimal}
+use Rattle.cps_expr.specs.Expression.{Expression}
+use Rattle.cps_expr.specs.Value.{value_in, plain}
 use Rattle.cps_code.specs.Form.{filled}
 use Rattle.cps_code.specs.Table.{form_of}
 
+-- the number of an expression where no name is defined and `*` is 3
+abbrev number : Expression → ℤ
+number terms = option_map_or (λ value. value.offset) (value_in (λ name. None) (plain (pos 3)) terms) (pos 0)
+
 -- the code of a statement with the values of its expressions
 abbrev code : List ℕ → List ℕ → Option Filled
-code name tail = option_map (λ form. filled form (map (λ hole. unwrap_or (value_in (λ name. None) hole.expression) (pos 0)) form.holes)) (form_of name tail Decimal)
+code name tail = option_map (λ form. filled form (map (λ hole. number hole.expression) form.holes)) (form_of name tail Decimal)
 
 abbrev is : ℕ → Bool → Option Filled
 is digits truncated = Some (record { digits = digits; is_truncated = truncated; is_out_of_range = false })
@@ -57,3 +63,12 @@ jump_to_register = refl
 
 jump_on_registers : code (codes "EQ") (codes "B1,B2,5") ≡ None
 jump_on_registers = refl
+
+products_and_counter : code (codes "SB2") (codes "2**-B1+X1") ≡ None
+products_and_counter = refl
+
+product_with_register : code (codes "SB2") (codes "2**+X1") ≡ is 0o6221000006 false
+product_with_register = refl
+
+register_in_product : code (codes "SB2") (codes "2*X1") ≡ None
+register_in_product = refl

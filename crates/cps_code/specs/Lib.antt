@@ -3,7 +3,6 @@ pub mod Least
 pub mod Place
 pub mod Image
 pub mod Slots
-pub mod Number
 pub mod Value
 pub mod Sum
 pub mod Terms
@@ -11,4 +10,3 @@ pub mod Form
 pub mod Table
 pub mod Sets
 pub mod Register
-pub mod Expression

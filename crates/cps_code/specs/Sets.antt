@@ -1,7 +1,7 @@
 -- The rows of the table at given digits and operands.
 use Rattle.std.specs.Prelude.{ℕ, ◌*◌, ◌^◌, Bool, false, List, [], ◌∷◌, Option, Some}
-use Rattle.cps_code.specs.declared.expr.Term.{Term}
-use Rattle.cps_code.specs.declared.radix.Radix.{Radix}
+use Rattle.cps_expr.specs.Term.{Term}
+use Rattle.cps_expr.specs.declared.radix.Radix.{Radix}
 use Rattle.cps_code.specs.declared.hole.HoleKind.TheVariants.{Value}
 use Rattle.cps_code.specs.declared.register.RegisterTerm.{RegisterTerm}
 use Rattle.cps_code.specs.Form.{Form}

@@ -3,8 +3,8 @@
 -- f is the first digit of a set instruction's code.
 use Rattle.std.specs.Prelude.{ℕ, ◌+◌, ◌-◌, ◌*◌, ◌^◌, Bool, true, false, ◌&&◌, not, ◌==◌, List, [], ◌∷◌, ◌++◌, reverse, codes, fold, sum_by, Option, None, Some, option_map, option_and_then, is_some, if◌then◌else◌}
 use Rattle.std.specs.List.{before_first}
-use Rattle.cps_code.specs.declared.radix.Radix.{Radix}
-use Rattle.cps_code.specs.declared.expr.Term.{Term}
+use Rattle.cps_expr.specs.declared.radix.Radix.{Radix}
+use Rattle.cps_expr.specs.Term.{Term}
 use Rattle.cps_code.specs.declared.hole.Hole.{Hole}
 use Rattle.cps_code.specs.declared.hole.HoleKind.TheVariants.{Value}
 use Rattle.cps_code.specs.declared.register.Letter.{Letter}

@@ -1,21 +1,11 @@
 -- Sums of the code, as sums.
-use Rattle.std.specs.Prelude.{◌≡◌, IsTrue, ℕ, ◌<◌, Bool, List, [], ◌∷◌, ◌++◌, All, IfSome, if◌then◌else◌}
+use Rattle.std.specs.Prelude.{◌≡◌, ◌<◌, List, [], ◌∷◌, ◌++◌, All, IfSome}
 use Rattle.cps_code.specs.declared.register.RegisterTerm.{RegisterTerm}
-use Rattle.cps_code.specs.declared.sum.SumTerm.{SumTerm as TermOfCode}
-use Rattle.cps_code.specs.declared.sum.SumTerm.TheVariants as code
 use Rattle.cps_code.specs.declared.sum.Registers.{Registers}
 use Rattle.cps_code.specs.declared.sum.Registers.TheVariants.{Absent, One, Two}
 use Rattle.cps_code.specs.declared.sum.Sum.{Sum as SumOfCode}
 use Rattle.cps_code.specs.Sum.{SumTerm, register, other, Sum}
-use Rattle.cps_code.specs.Expression.{is_term}
 use Rattle.cps_code.specs.Table.{is_some_list}
-
-abbrev pub term_value : TermOfCode → SumTerm
-term_value (code.Register r) = register r
-term_value (code.Other t) = other t
-
-abbrev pub sign_of : Bool → ℕ
-sign_of minus = if minus then 45 else 43
 
 -- a term at the end
 abbrev pub pushed : Sum → SumTerm → Sum
@@ -24,10 +14,6 @@ pushed sum (other t) = record { registers = sum.registers; constant = sum.consta
 
 abbrev pub IsRegister : RegisterTerm → Type 0
 IsRegister r = r.digit < 8
-
-abbrev pub IsTerm : TermOfCode → Type 0
-IsTerm (code.Register r) = IsRegister r
-IsTerm (code.Other t) = IsTrue (is_term t)
 
 abbrev pub register_list : Registers → List RegisterTerm
 register_list Absent = []

@@ -3,10 +3,10 @@ ghost use Rattle.cps_code.specs.Value.{IsInRange};
 ghost use Rattle.cps_code.specs.Form.{IsForm, filled};
 ghost use Rattle.cps_code.specs.Sets.{short_form, long_form};
 
-use super::expr::Expr;
 use super::filled::Filled;
 use super::filling_holes::fill_holes;
 use super::hole::{Hole, HoleKind};
+use cps_expr::Expr;
 use std::alloc::{AllocError, Global};
 use std::marker::Model;
 

@@ -6,11 +6,10 @@ ghost use Rattle.cps_code.specs.Table.{is_operation, form_of};
 ghost use Rattle.cps_text.specs.Text.{is_blank};
 ghost use Rattle.cps_code.specs.Sets.{set_form, set_form_of, jump_form, jump_form_of, long_form};
 
-use super::expr::Expr;
 use super::form::CpForm;
-use super::radix::Radix;
 use super::set::{code_with_constant, code_without_constant};
 use super::sum::{Registers, Sum, read_sum};
+use cps_expr::{Expr, Radix};
 use std::alloc::Global;
 use thiserror::Error;
 

@@ -1,4 +1,4 @@
-use super::expr::Expr;
+use cps_expr::Expr;
 
 /// What goes into a hole of a code.
 #[derive(Clone, Copy, Debug, PartialEq, Eq)]

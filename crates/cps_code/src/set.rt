@@ -1,4 +1,4 @@
-ghost use Rattle.cps_code.specs.declared.expr.Term.{Term};
+ghost use Rattle.cps_expr.specs.Term.{Term};
 ghost use Rattle.std.specs.Prelude.{◌≡◌, ◌<◌, ◌+◌, ◌*◌, [], ◌∷◌, false, List, IfSome, option_map};
 ghost use Rattle.cps_code.specs.Terms.{IsRegister, AreRegisters, register_list};
 ghost use Rattle.cps_code.specs.Sets.{set_form, set_form_as_it_stands, long_form, short_form};

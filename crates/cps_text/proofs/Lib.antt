@@ -1,5 +1,4 @@
 pub mod ArgumentLemmas
-pub mod DataItemLemmas
 pub mod NameLemmas
 pub mod OctalLemmas
 pub mod PartLemmas

@@ -65,39 +65,47 @@ star = refl
 empty_line : fields_of [] ≡ CommentLine
 empty_line = refl
 
-counted_item : item_extent (codes "3HA B,C") ≡ 5
+counted_item : item_extent 10 (codes "3HA B,C") ≡ 5
 unfolding display_characters
 counted_item = refl
 
-leading_zero : item_extent (codes "03labc,") ≡ 6
+leading_zero : item_extent 10 (codes "03labc,") ≡ 6
 unfolding display_characters
 leading_zero = refl
 
-ended_item : item_extent (codes "10RABC") ≡ 6
+ended_item : item_extent 10 (codes "10RABC") ≡ 6
 unfolding display_characters
 ended_item = refl
 
-too_many : item_extent (codes "11RABC") ≡ 0
+too_many : item_extent 10 (codes "11RABC") ≡ 0
 unfolding display_characters
 too_many = refl
 
-delimited_item : item_extent (codes "L*A, B*+1") ≡ 7
+delimited_item : item_extent 10 (codes "L*A, B*+1") ≡ 7
 unfolding display_characters
 delimited_item = refl
 
-nothing_between : item_extent (codes "L**") ≡ 0
+nothing_between : item_extent 10 (codes "L**") ≡ 0
 unfolding display_characters
 nothing_between = refl
 
-unclosed_item : item_extent (codes "L*AB") ≡ 0
+unclosed_item : item_extent 10 (codes "L*AB") ≡ 0
 unfolding display_characters
 unclosed_item = refl
 
-letter_between : item_extent (codes "LXABX") ≡ 0
+letter_between : item_extent 10 (codes "LXABX") ≡ 0
 unfolding display_characters
 letter_between = refl
 
-no_code : item_extent (codes "2LA~") ≡ 0
+two_characters : item_extent 2 (codes "2LABC") ≡ 4
+unfolding display_characters
+two_characters = refl
+
+three_characters : item_extent 2 (codes "3LABC") ≡ 0
+unfolding display_characters
+three_characters = refl
+
+no_code : item_extent 10 (codes "2LA~") ≡ 0
 unfolding display_characters
 no_code = refl
 

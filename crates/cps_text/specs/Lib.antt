@@ -2,6 +2,7 @@ pub mod Arguments
 pub mod Card
 pub mod CardFields
 pub mod Counted
+pub mod CountedExtent
 pub mod DataItem
 pub mod Display
 pub mod Insertion

@@ -4,10 +4,10 @@ use Rattle.std.specs.List.{position_or_len}
 use Rattle.cps_text.specs.DataItem.{item_extent}
 use Rattle.cps_text.specs.Parts.{ends_part, parts_of}
 
--- commas and blanks of a data item behind the `=` that begins an operand don't count
+-- commas and blanks of a data item behind the `=` that begins an operand don't count; it is one by the central processor's limit in every program
 abbrev pub literal_len : List ℕ → ℕ
 literal_len [] = 0
-literal_len (character ∷ text) = if character == 61 then item_extent text + 1 else 0
+literal_len (character ∷ text) = if character == 61 then item_extent 10 text + 1 else 0
 
 -- an operand ends before the next comma or blank
 abbrev pub operand_len : List ℕ → ℕ

@@ -20,11 +20,13 @@ mod tail;
 
 pub use argument_list::{ArgFault, arguments};
 pub use card::{Fields, Statement, read_fields};
-pub use character::display;
+pub use character::{capital, display};
 pub use counted::Counted;
+pub use data_item::{capped_count, digits_len, item_extent};
 pub use insertion::insert_text;
 pub use line::{Line, LineFault};
 pub use name::Name;
 pub use octal::push_octal;
 pub use operand_list::Operands;
+pub use run::run_end;
 pub use tail::operands;

@@ -4,7 +4,7 @@ ghost use Rattle.std.specs.List.{position, position_or_len};
 ghost use Rattle.cps_text.specs.Operands.{literal_len, operand_len};
 ghost use Rattle.cps_text.specs.Parts.{ends_part};
 
-use crate::data_item::item_extent;
+use crate::data_item::{LONGEST_ITEM, item_extent};
 use crate::places::from;
 
 /// How many characters the first operand has.
@@ -22,7 +22,7 @@ fn literal_len(text: &[u8]) -> usize
     ensures within { result ≤ length text.now }
 {
     match text {
-        [b'=', item @ ..] => item_extent(item) + 1,
+        [b'=', item @ ..] => item_extent(item, LONGEST_ITEM) + 1,
         _ => 0,
     }
 }

@@ -18,7 +18,7 @@ pub fn run_len(text: &[u8]) -> usize
 }
 
 /// Where the first character stands that is of no run, or the length.
-fn run_end(text: &[u8]) -> usize
+pub fn run_end(text: &[u8]) -> usize
     ensures place { result ≡ position_or_len (λ c. not (is_of_run c)) text.now }
     ensures within { result ≤ length text.now }
 {

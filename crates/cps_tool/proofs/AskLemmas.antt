@@ -6,7 +6,6 @@ use Rattle.cps_tool.specs.declared.key.Answer.{Answer}
 use Rattle.cps_tool.specs.declared.key.Asked.{Asked}
 use Rattle.cps_tool.specs.Keys.{State}
 use Rattle.cps_tool.specs.Course.{Course, stop, ask, put, make, Trace, run, known_at, answer_at, with_ask, with_put_made, with_item, nothing, Holds}
-use Rattle.cps_tool.specs.Reading.{reading_of}
 use Rattle.cps_tool.specs.Meaning.{course_of, trace_of}
 
 holds-front : (front back : List Asked) (g : State) → Holds (front ++ back) g → Holds front g
@@ -60,4 +59,4 @@ run-same (make item rest) f g t held = run-same rest f g (with_item t item) held
 pub trace-same : (line : List ℕ) (f g : State) (trace : Trace) → trace ≡ trace_of line f → Holds trace.asks g → trace ≡ trace_of line g
 trace-same line f g trace is held =
     let P : Trace → Type 0 = λ t. Holds t.asks g in
-    is ∙ sym (run-same (course_of (reading_of line) stop) f g nothing (subst P is held))
+    is ∙ sym (run-same (course_of line stop) f g nothing (subst P is held))

@@ -1,12 +1,13 @@
 -- The state of an assembly: what each key answers. The two counters and the symbols are the manual's; the keys are our own.
-use Rattle.std.specs.Prelude.{ℕ, ◌*◌, Bool, true, false, ◌==◌, nat_lt, List, [], ◌∷◌, ℤ, Option, None, Some, if◌then◌else◌}
-use Rattle.std.specs.Cmp.Lexicographic.{pointwise}
+use Rattle.std.specs.Prelude.{ℕ, ◌*◌, Bool, true, false, nat_lt, List, [], ◌∷◌, ℤ, Option, None, Some, option_map, if◌then◌else◌}
 use Rattle.cps_text.specs.declared.name.Name.{Name}
-use Rattle.cps_code.specs.Value.{is_in_range}
+use Rattle.cps_expr.specs.declared.radix.Radix.TheVariants.{Decimal}
+use Rattle.cps_expr.specs.declared.value.Value.{Value}
+use Rattle.cps_expr.specs.Value.{is_in_range, plain, same_name, Values}
 use Rattle.cps_tool.specs.declared.key.Key.{Key}
 use Rattle.cps_tool.specs.declared.key.Key.TheVariants as key
-use Rattle.cps_tool.specs.declared.key.Phase.{Phase}
 use Rattle.cps_tool.specs.declared.key.Phase.TheVariants as phase
+use Rattle.cps_tool.specs.declared.key.Control.{Control}
 use Rattle.cps_tool.specs.declared.key.Counter.{Counter}
 use Rattle.cps_tool.specs.declared.key.Answer.{Answer}
 use Rattle.cps_tool.specs.declared.key.Answer.TheVariants as answer
@@ -15,9 +16,6 @@ use Rattle.cps_tool.specs.declared.key.Put.{Put}
 -- a state answers each key, or has no answer there
 abbrev pub State : Type 0
 State = Key → Option Answer
-
-abbrev pub same_name : Name → Name → Bool
-same_name a b = pointwise ◌==◌ a.bytes b.bytes
 
 abbrev pub same_key : Key → Key → Bool
 same_key key.Control key.Control = true
@@ -30,7 +28,7 @@ same_key (key.Label a) key.Control = false
 same_key (key.Label a) key.Counter = false
 same_key (key.Label a) (key.Label b) = same_name a b
 
--- a state with this part of the program, this counter and these labels
+-- a state with this control, this counter and these labels
 abbrev pub answers_in : Answer → Answer → (Name → Option Answer) → State
 answers_in control counter labels key.Control = Some control
 answers_in control counter labels key.Counter = Some counter
@@ -38,14 +36,15 @@ answers_in control counter labels (key.Label name) = labels name
 
 -- ---- before the first line
 
-abbrev pub first_phase : Phase
-first_phase = phase.Head (record { is_named = false; is_declared = false })
+-- the program is in its head, and numbers are decimal
+abbrev pub first_control : Control
+first_control = record { phase = phase.Head (record { is_named = false; is_declared = false }); radix = Decimal }
 
 abbrev pub first_counter : Counter
 first_counter = record { bits = 0; is_pending = false }
 
 abbrev pub first_state : State
-first_state key.Control = Some (answer.Control first_phase)
+first_state key.Control = Some (answer.Control first_control)
 first_state key.Counter = Some (answer.Counter first_counter)
 first_state (key.Label name) = None
 
@@ -61,11 +60,11 @@ overwritten state (p ∷ puts) = overwritten (with_put state p) puts
 
 -- ---- what an answer says; one of another kind, or none, says what stands before the first line
 
-abbrev pub phase_of : Option Answer → Phase
-phase_of (Some (answer.Control p)) = p
-phase_of (Some (answer.Counter c)) = first_phase
-phase_of (Some (answer.Value v)) = first_phase
-phase_of None = first_phase
+abbrev pub control_of : Option Answer → Control
+control_of (Some (answer.Control c)) = c
+control_of (Some (answer.Counter c)) = first_control
+control_of (Some (answer.Value v)) = first_control
+control_of None = first_control
 
 -- the words that the machine has
 abbrev pub limit : ℕ
@@ -83,7 +82,7 @@ counter_of None = first_counter
 
 -- a value beyond the range of expressions is none
 abbrev pub in_range : ℤ → Option ℤ
-in_range value = if is_in_range value then Some value else None
+in_range value = if is_in_range (plain value) then Some value else None
 
 abbrev pub label_of : Option Answer → Option ℤ
 label_of (Some (answer.Value v)) = in_range v
@@ -91,10 +90,13 @@ label_of (Some (answer.Control p)) = None
 label_of (Some (answer.Counter c)) = None
 label_of None = None
 
--- what names stand for
+-- what names stand for: labels, and all of them are plain
 abbrev pub Labels : Type 0
-Labels = Name → Option ℤ
+Labels = Values
+
+abbrev pub value_of_label : Option Answer → Option Value
+value_of_label a = option_map plain (label_of a)
 
 -- what the labels of a state stand for
 abbrev pub labels_of : State → Labels
-labels_of state name = label_of (state (key.Label name))
+labels_of state name = value_of_label (state (key.Label name))

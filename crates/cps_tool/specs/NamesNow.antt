@@ -3,7 +3,7 @@ use Rattle.std.specs.Prelude.{List, [], ◌∷◌}
 use Rattle.cps_text.specs.declared.name.Name.{Name}
 use Rattle.cps_tool.specs.declared.key.Key.TheVariants as key
 use Rattle.cps_tool.specs.declared.value_now.NameNow.{NameNow}
-use Rattle.cps_tool.specs.Keys.{Labels, label_of}
+use Rattle.cps_tool.specs.Keys.{Labels, value_of_label}
 use Rattle.cps_tool.specs.Course.{Course, ask}
 use Rattle.cps_tool.specs.Meaning.{no_values, with_value}
 
@@ -17,4 +17,4 @@ values_in names = with_values names no_values
 
 -- asking the value of a name
 abbrev pub name_now : Name → (NameNow → Course) → Course
-name_now name rest = ask (key.Label name) (λ a. rest (record { name = name; value = label_of a }))
+name_now name rest = ask (key.Label name) (λ a. rest (record { name = name; value = value_of_label a }))

@@ -1,19 +1,21 @@
--- What a line says: the fields of a statement, read. From the manual's sections on the statement format and on each operation.
-use Rattle.std.specs.Prelude.{ℕ, Bool, ◌||◌, List, [], ◌∷◌, codes, bytes_eq, Option, None, Some, if◌then◌else◌}
+-- What a line says: the fields of a statement, read. From the manual's section on the statement format.
+use Rattle.std.specs.Prelude.{ℕ, List, [], codes, bytes_eq, Option, None, Some, if◌then◌else◌}
 use Rattle.cps_text.specs.declared.name.Name.{Name}
-use Rattle.cps_code.specs.declared.expr.Term.{Term}
-use Rattle.cps_code.specs.declared.radix.Radix.TheVariants.{Decimal}
+use Rattle.cps_expr.specs.declared.machine.Machine.TheVariants.{Cp}
+use Rattle.cps_expr.specs.declared.operation.Operation.{Operation}
+use Rattle.cps_expr.specs.declared.radix.Radix.{Radix}
+use Rattle.cps_expr.specs.declared.row.Row.{Row}
+use Rattle.cps_expr.specs.Operation.{operation_named}
+use Rattle.cps_expr.specs.Statement.{row_of}
 use Rattle.cps_text.specs.Text.{capitals}
 use Rattle.cps_text.specs.Name.{name_of}
-use Rattle.cps_text.specs.Operands.{operands_of}
-use Rattle.cps_code.specs.Sum.{expression_of}
 use Rattle.cps_code.specs.Table.{is_operation, form_of}
 use Rattle.cps_tool.specs.declared.reading.Location.{Location}
 use Rattle.cps_tool.specs.declared.reading.Location.TheVariants.{Absent, Plus, Minus, Symbol, NoSymbol}
-use Rattle.cps_tool.specs.declared.reading.Operation.{Operation}
-use Rattle.cps_tool.specs.declared.reading.Operation.TheVariants.{Missing, Unknown, Listed, Ident, Abs, Equate, Org, End, Instruction}
+use Rattle.cps_tool.specs.declared.reading.Stating.{Stating}
+use Rattle.cps_tool.specs.declared.reading.Stating.TheVariants.{Missing, Unknown, Stated, Unreadable, Instruction}
 use Rattle.cps_tool.specs.declared.reading.Reading.{Reading}
-use Rattle.cps_tool.specs.declared.reading.Reading.TheVariants.{Comment, Continued, Stated}
+use Rattle.cps_tool.specs.declared.reading.Reading.TheVariants.{Comment, Continued, Statement}
 use Rattle.cps_text.specs.Card.{LineFields, CommentLine, ContinuedLine, StatementLine, fields_of}
 
 -- ---- the location field
@@ -33,43 +35,29 @@ location_in field =
 
 -- ---- the operation and its operands
 
--- the first operand as a symbol
-abbrev pub first_symbol : List (List ℕ) → Option Name
-first_symbol [] = None
-first_symbol (operand ∷ operands) = name_of operand
+-- an instruction of the central processor, or an operation that nobody knows
+abbrev pub instruction_in : Radix → List ℕ → List ℕ → Stating
+instruction_in radix operation tail = if is_operation operation then Instruction (form_of operation tail radix) else Unknown
 
--- the only operand as an expression; None where it is none, or not the only one
-abbrev pub only_expression : List (List ℕ) → Option (List Term)
-only_expression [] = None
-only_expression (operand ∷ []) = expression_of Decimal operand
-only_expression (operand ∷ second ∷ operands) = None
+abbrev pub row_or_none : Operation → Option Row → Stating
+row_or_none operation None = Unreadable operation
+row_or_none operation (Some row) = Stated row
 
--- the operations that only the listing of the manual's assembler knows
-abbrev pub is_listing_operation : List ℕ → Bool
-is_listing_operation operation =
-    bytes_eq operation (codes "TITLE") || (bytes_eq operation (codes "SPACE") || (bytes_eq operation (codes "EJECT") || bytes_eq operation (codes "LIST")))
+-- a statement of the statement table, or else an instruction
+abbrev pub stating_with : Option Operation → Radix → List ℕ → List ℕ → Stating
+stating_with None radix operation tail = instruction_in radix operation tail
+stating_with (Some named) radix operation tail = row_or_none named (row_of operation tail Cp radix)
 
--- the operation, with its operands where they are readable
-abbrev pub operation_in : List ℕ → List ℕ → Operation
-operation_in operation tail =
-    if bytes_eq operation [] then Missing
-    else (if bytes_eq operation (codes "IDENT") then Ident (first_symbol (operands_of tail))
-    else (if bytes_eq operation (codes "ABS") then Abs
-    else (if bytes_eq operation (codes "EQU") then Equate (only_expression (operands_of tail))
-    else (if bytes_eq operation (codes "=") then Equate (only_expression (operands_of tail))
-    else (if bytes_eq operation (codes "ORG") then Org (only_expression (operands_of tail))
-    else (if bytes_eq operation (codes "END") then End
-    else (if is_listing_operation operation then Listed
-    else (if is_operation operation then Instruction (form_of operation tail Decimal)
-    else Unknown))))))))
+abbrev pub stating_in : Radix → List ℕ → List ℕ → Stating
+stating_in radix operation tail = if bytes_eq operation [] then Missing else stating_with (operation_named operation) radix operation tail
 
 -- ---- the line
 
-abbrev pub reading_in : LineFields → Reading
-reading_in CommentLine = Comment
-reading_in ContinuedLine = Continued
-reading_in (StatementLine statement) = Stated (location_in statement.location) (operation_in statement.operation statement.tail)
+abbrev pub reading_in : Radix → LineFields → Reading
+reading_in radix CommentLine = Comment
+reading_in radix ContinuedLine = Continued
+reading_in radix (StatementLine statement) = Statement (location_in statement.location) (stating_in radix statement.operation statement.tail)
 
--- what a line says; lower case stands for capitals
-abbrev pub reading_of : List ℕ → Reading
-reading_of line = reading_in (fields_of (capitals line))
+-- what a line says under a base of numbers; lower case stands for capitals
+abbrev pub reading_of : Radix → List ℕ → Reading
+reading_of radix line = reading_in radix (fields_of (capitals line))

@@ -1,8 +1,9 @@
 //! What answers say. One of another kind, or none, says what stands before the first line.
 ghost use Rattle.std.specs.Prelude.{◌≡◌, ◌*◌, ◌≤◌};
-ghost use Rattle.cps_tool.specs.Keys.{first_phase, first_counter, phase_of, counter_of, within_limit, in_range, label_of, limit};
+ghost use Rattle.cps_tool.specs.Keys.{first_control, first_counter, control_of, counter_of, within_limit, in_range, label_of, value_of_label, limit};
 
-use super::key::{Answer, Counter, Head, Phase};
+use super::key::{Answer, Control, Counter, Head, Phase};
+use cps_expr::{Radix, Value};
 
 /// The words that the machine has.
 pub const LIMIT: u32 = 131_072;
@@ -13,14 +14,17 @@ pub const WORD: u32 = 60;
 /// The greatest magnitude of a value.
 const GREATEST: i64 = (1 << 59) - 1;
 
-/// The part of the program before the first line.
-pub fn first_phase() -> Phase
-    ensures { result ≡ first_phase }
+/// The control before the first line: in the head, and decimal.
+pub fn first_control() -> Control
+    ensures { result ≡ first_control }
 {
-    Phase::Head(Head {
-        is_named: false,
-        is_declared: false,
-    })
+    Control {
+        phase: Phase::Head(Head {
+            is_named: false,
+            is_declared: false,
+        }),
+        radix: Radix::Decimal,
+    }
 }
 
 /// The counter before the first line.
@@ -33,12 +37,12 @@ pub fn first_counter() -> Counter
     }
 }
 
-pub fn phase_of(answer: Option<Answer>) -> Phase
-    ensures { result ≡ phase_of answer }
+pub fn control_of(answer: Option<Answer>) -> Control
+    ensures { result ≡ control_of answer }
 {
     match answer {
-        Some(Answer::Control(phase)) => phase,
-        _ => first_phase(),
+        Some(Answer::Control(control)) => control,
+        _ => first_control(),
     }
 }
 
@@ -74,6 +78,16 @@ pub fn label_of(answer: Option<Answer>) -> Option<i64>
     match answer {
         Some(Answer::Value(value)) => in_range(value),
         _ => None,
+    }
+}
+
+/// What a label stands for: a plain value.
+pub fn value_of_label(answer: Option<Answer>) -> Option<Value>
+    ensures { result ≡ value_of_label answer }
+{
+    match label_of(answer) {
+        Some(value) => Some(Value::plain(value)),
+        None => None,
     }
 }
 

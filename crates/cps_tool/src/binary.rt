@@ -14,7 +14,8 @@ use super::lookup::Lookup;
 use super::outcome::put_bits;
 use super::state::State;
 use super::trace::Trace;
-use cps_code::{Names, Words};
+use cps_code::Words;
+use cps_expr::Names;
 use cps_text::{Name, push_octal};
 use std::alloc::{AllocError, Global};
 

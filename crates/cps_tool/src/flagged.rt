@@ -9,7 +9,7 @@ use super::lookup::Lookup;
 use super::outcome::flags_of;
 use super::state::State;
 use super::trace::Trace;
-use cps_code::Names;
+use cps_expr::Names;
 use itoa::Buffer;
 use std::alloc::{AllocError, Global};
 

@@ -104,7 +104,7 @@ fn place<L: Lookup>(
 {
     let begun = begin(counter, form.bits(), force_of(location));
     if begun.bits + u32::from(form.bits()) > WORD * LIMIT {
-        return too_far(recorder, state, location, is_taken, form);
+        return too_far(recorder, state, location, is_taken, form, begun.bits);
     }
     code(recorder, state, location, is_taken, counter, form, begun)
 }
@@ -116,12 +116,13 @@ fn too_far<L: Lookup>(
     location: Location,
     is_taken: bool,
     form: CpForm,
+    start: u32,
 ) -> Result<(), AllocError>
-    ensures { OnOk result ((rest : Course) → run (meaning.too_far location is_taken form rest) (L.answer state.now) recorder.old ≡ run rest (L.answer state.now) recorder.new) }
+    ensures { OnOk result ((rest : Course) → run (meaning.too_far location is_taken form start rest) (L.answer state.now) recorder.old ≡ run rest (L.answer state.now) recorder.new) }
 {
     let mut flags = placing_flags(location, is_taken);
     flags.structure = true;
-    recorder.make(Item::new(flags, None, Made::Code(form, None)))
+    recorder.make(Item::new(flags, None, Made::TooFar(form, start)))
 }
 
 fn code<L: Lookup>(
@@ -144,6 +145,6 @@ fn code<L: Lookup>(
     recorder.make(Item::new(
         placing_flags(location, is_taken),
         begun.filling,
-        Made::Code(form, Some(begun.bits)),
+        Made::Code(form, begun.bits),
     ))
 }

@@ -1,5 +1,5 @@
 //! What pass one makes of a statement.
-ghost use Rattle.std.specs.Prelude.{◌≡◌, ◌+◌, ◌*◌, ◌%◌, ◌<◌, ◌≤◌, IfSome, option_map, option_to_list};
+ghost use Rattle.std.specs.Prelude.{◌≡◌, ◌+◌, ◌*◌, ◌%◌, ◌<◌, ◌≤◌, option_map, option_to_list};
 ghost use Rattle.cps_code.specs.Image.{piece_of};
 ghost use Rattle.cps_tool.specs.Item.{blank_item, HasRoom};
 
@@ -16,8 +16,10 @@ pub enum Made {
     Value(i64),
     /// ORG: the address of the next word.
     Address(u32),
-    /// An instruction, and the bits before it through all words; None where it would pass the machine's words.
-    Code(CpForm, Option<u32>),
+    /// An instruction, and the bits before it through all words.
+    Code(CpForm, u32),
+    /// An instruction that would pass the machine's words, and the bits before the place where it would begin.
+    TooFar(CpForm, u32),
 }
 
 /// What pass one makes of a statement, for pass two.

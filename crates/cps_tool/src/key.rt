@@ -1,13 +1,15 @@
 //! Keys of the state of an assembly, and their answers.
 ghost use Rattle.std.specs.Prelude.{◌≡◌};
-ghost use Rattle.cps_tool.specs.Keys.{same_name, same_key};
+ghost use Rattle.cps_expr.specs.Value.{same_name};
+ghost use Rattle.cps_tool.specs.Keys.{same_key};
 
+use cps_expr::Radix;
 use cps_text::Name;
 
 /// A part of the state of an assembly.
 #[derive(Clone, Copy, Debug, PartialEq, Eq, Hash)]
 pub enum Key {
-    /// The part of the program.
+    /// The part of the program, and the base of numbers.
     Control,
     /// Where the next word or parcel stands.
     Counter,
@@ -27,11 +29,18 @@ pub struct Head {
 /// The part of a program.
 #[derive(Clone, Copy, Debug, PartialEq, Eq)]
 pub enum Phase {
-    /// Before the first statement other than IDENT, ABS, EQU and `=`.
+    /// Before the first statement other than IDENT, ABS, BASE, EQU, `=` and the listing operations.
     Head(Head),
     Body,
     /// Behind END.
     AfterEnd,
+}
+
+/// What holds for the lines to come: the part of the program that they are in, and the base of their numbers.
+#[derive(Clone, Copy, Debug, PartialEq, Eq)]
+pub struct Control {
+    pub phase: Phase,
+    pub radix: Radix,
 }
 
 /// Where the next word or parcel stands: the bits before it, through all words, and whether a forcing is pending.
@@ -44,7 +53,7 @@ pub struct Counter {
 /// What stands at a key.
 #[derive(Clone, Copy, Debug, PartialEq, Eq)]
 pub enum Answer {
-    Control(Phase),
+    Control(Control),
     Counter(Counter),
     Value(i64),
 }

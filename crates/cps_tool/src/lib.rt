@@ -14,6 +14,7 @@ mod key;
 mod listing;
 mod lookup;
 mod outcome;
+mod plain;
 mod reading;
 mod recorder;
 mod reply;

@@ -11,7 +11,7 @@ use super::lookup::Lookup;
 use super::outcome::{Digits, Row, row_of};
 use super::state::State;
 use super::trace::Trace;
-use cps_code::Names;
+use cps_expr::Names;
 use cps_text::{Line, push_octal};
 use itoa::Buffer;
 use std::alloc::{AllocError, Global};

@@ -1,5 +1,5 @@
 //! Pass two of a statement.
-ghost use Rattle.std.specs.Prelude.{◌≡◌, ◌^◌, ◌<◌, ◌%◌, ◌+◌, ◌*◌, ◌≤◌, Some, OnOk, IfSome, option_map};
+ghost use Rattle.std.specs.Prelude.{◌≡◌, ◌^◌, ◌<◌, ◌%◌, ◌+◌, ◌*◌, ◌≤◌, OnOk, option_map};
 ghost use Rattle.std.specs.Option.{option_to_list};
 ghost use Rattle.cps_code.specs.Image.{piece_of};
 ghost use Rattle.cps_code.specs.Form.{complemented};
@@ -12,8 +12,10 @@ ghost use Rattle.cps_tool.specs.Outcome as outcome;
 use super::answers::WORD;
 use super::flags::Flags;
 use super::item::{Item, Made};
+use super::plain::{here_at, plain_offset};
 use super::trace::Trace;
-use cps_code::{CpForm, Filled, Names, Piece, Words};
+use cps_code::{CpForm, Filled, Piece, Words};
+use cps_expr::Names;
 use std::alloc::AllocError;
 
 /// All ones in the bits of a word.
@@ -63,6 +65,11 @@ pub fn row_of<N: Names>(item: &Item, labels: &N) -> Row
             code: None,
         },
         Made::Code(form, start) => row_of_code(labels, flags, form, *start),
+        Made::TooFar(form, start) => Row {
+            flags: flags.joined(value_form(form, labels, *start).flags),
+            location: None,
+            code: None,
+        },
     }
 }
 
@@ -77,25 +84,18 @@ fn complement(value: i64) -> u64
     }
 }
 
-fn row_of_code<N: Names>(labels: &N, flags: Flags, form: &CpForm, start: Option<u32>) -> Row
-    ensures { result ≡ outcome.row_of_code (N.value labels.now) flags form.now start }
+/// The row of an instruction.
+fn row_of_code<N: Names>(labels: &N, flags: Flags, form: &CpForm, start: u32) -> Row
+    ensures { result ≡ outcome.row_of_made (N.value labels.now) flags (Made.Code form.now start) }
 {
-    let valued = value_form(form, labels);
-    let flags = flags.joined(valued.flags);
-    match start {
-        None => Row {
-            flags,
-            location: None,
-            code: None,
-        },
-        Some(start) => Row {
-            flags,
-            location: Some(start / WORD),
-            code: Some(Digits {
-                count: form.bits() / 3,
-                number: valued.number,
-            }),
-        },
+    let valued = value_form(form, labels, start);
+    Row {
+        flags: flags.joined(valued.flags),
+        location: Some(start / WORD),
+        code: Some(Digits {
+            count: form.bits() / 3,
+            number: valued.number,
+        }),
     }
 }
 
@@ -106,17 +106,18 @@ struct ValuedForm {
     flags: Flags,
 }
 
-/// A form with the values of its expressions; one without a value counts as 0.
-fn value_form<N: Names>(form: &CpForm, labels: &N) -> ValuedForm
-    ensures number { result.number ≡ outcome.code_number (N.value labels.now) form.now }
-    ensures flags { result.flags ≡ outcome.value_flags (N.value labels.now) form.now }
+/// A form with the values of its expressions, where the instruction begins behind so many bits; one without a value counts as 0.
+fn value_form<N: Names>(form: &CpForm, labels: &N, start: u32) -> ValuedForm
+    ensures number { result.number ≡ outcome.code_number (N.value labels.now) form.now start }
+    ensures flags { result.flags ≡ outcome.value_flags (N.value labels.now) form.now start }
     ensures fits { result.number < 2 ^ form.now.bits }
 {
     match form.holes() {
         [hole] => {
-            let valued = hole.expression.value(labels);
-            let filled = form.fill(&[valued.value.unwrap_or(0)]);
-            valued_form(filled, valued.value.is_none(), valued.undefined)
+            let valued = hole.expression.value(labels, here_at(start));
+            let offset = plain_offset(valued.value);
+            let filled = form.fill(&[offset.unwrap_or(0)]);
+            valued_form(filled, offset.is_none(), valued.undefined)
         }
         [] => valued_form(form.fill(&[]), false, false),
         _ => unreachable!(),
@@ -167,20 +168,18 @@ fn put_made<N: Names>(words: &mut Words, made: &Made, labels: &N) -> Result<(), 
 fn put_code<N: Names>(
     words: &mut Words,
     form: &CpForm,
-    start: Option<u32>,
+    start: u32,
     labels: &N,
 ) -> Result<(), AllocError>
-    requires { IfSome start (λ at. (at % 60 + form.now.bits ≤ 60) × (at < 60 * limit)) }
+    requires room { start % 60 + form.now.bits ≤ 60 }
+    requires within { start < 60 * limit }
     ensures { OnOk result (Adds (outcome.code_pieces (N.value labels.now) form.now start) words.old words.new) }
 {
-    let Some(start) = start else {
-        return Ok(());
-    };
     words.deposit(Piece {
         address: start / WORD,
         first: (start % WORD) as u8,
         width: form.bits(),
-        number: value_form(form, labels).number,
+        number: value_form(form, labels, start).number,
         times: 1,
     })
 }

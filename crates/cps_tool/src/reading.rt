@@ -1,15 +1,16 @@
 //! What a line says.
-ghost use Rattle.std.specs.Prelude.{◌≡◌, ◌≤◌, IfOk, bytes_eq, length, take, if◌then◌else◌};
-ghost use Rattle.cps_code.specs.Table.{is_operation, form_of};
-ghost use Rattle.cps_code.specs.declared.radix.Radix.TheVariants.{Decimal};
+ghost use Rattle.std.specs.Prelude.{◌≡◌, ◌≤◌, Some, IfOk, bytes_eq, length, take};
+ghost use Rattle.cps_expr.specs.Operation.{operation_named};
+ghost use Rattle.cps_expr.specs.Statement.{row_of};
+ghost use Rattle.cps_expr.specs.declared.machine.Machine.TheVariants.{Cp};
 ghost use Rattle.cps_text.specs.CardFields.{fields_value};
 ghost use Rattle.cps_text.specs.Name.{name_of};
-ghost use Rattle.cps_text.specs.Operands.{operands_of};
-ghost use Rattle.cps_text.specs.Text.{capital, capitals};
-ghost use Rattle.cps_tool.specs.Reading.{first_symbol, only_expression, is_listing_operation, symbol_or_none, location_in, operation_in, reading_in, reading_of};
+ghost use Rattle.cps_text.specs.Text.{capitals};
+ghost use Rattle.cps_tool.specs.Reading.{symbol_or_none, location_in, instruction_in, row_or_none, stating_in, reading_in, reading_of};
 
-use cps_code::{CpForm, Expr, ExprFault, FormFault, Radix, cp_form};
-use cps_text::{Fields, Line, Name, operands, read_fields};
+use cps_code::{CpForm, FormFault, cp_form};
+use cps_expr::{Machine, Operation, Radix, Stmt, StmtFault};
+use cps_text::{Fields, Line, Name, capital, read_fields};
 use std::alloc::{AllocError, Global};
 
 /// The most bytes that a line has.
@@ -28,25 +29,18 @@ pub enum Location {
     NoSymbol,
 }
 
-/// An operation with its operands; None where they are unreadable.
+/// An operation with its operands.
 #[derive(Drop)]
-pub enum Operation {
-    /// The field is empty.
+pub enum Stating {
+    /// The operation field is empty.
     Missing,
-    /// The language doesn't have it yet, or not at all.
+    /// The language doesn't have the operation.
     Unknown,
-    /// TITLE, SPACE, EJECT and LIST.
-    Listed,
-    /// IDENT: the program's name.
-    Ident(Option<Name>),
-    /// ABS.
-    Abs,
-    /// EQU and `=`: the value of the location symbol.
-    Equate(Option<Expr>),
-    /// ORG: the address of the next word.
-    Org(Option<Expr>),
-    /// END.
-    End,
+    /// A statement of the statement table.
+    Stated(Stmt),
+    /// An operation of the statement table with operands that don't fit.
+    Unreadable(Operation),
+    /// An instruction; None where its operand is unreadable.
     Instruction(Option<CpForm>),
 }
 
@@ -56,17 +50,17 @@ pub enum Reading {
     Comment,
     /// A line with a comma in column 1.
     Continued,
-    Stated(Location, Operation),
+    Statement(Location, Stating),
 }
 
-/// What a line says; lower case stands for capitals.
-pub fn read_line(alloc: Global, line: &Line) -> Result<Reading, AllocError>
-    ensures { IfOk result (λ reading. reading ≡ reading_of line.now) }
+/// What a line says under a base of numbers; lower case stands for capitals.
+pub fn read_line(alloc: Global, line: &Line, radix: Radix) -> Result<Reading, AllocError>
+    ensures { IfOk result (λ reading. reading ≡ reading_of radix line.now) }
 {
     let bytes = line.bytes();
     let capitals = capitals(bytes);
     let (card, _) = capitals.split_at(bytes.len());
-    read_card(alloc, read_fields(card))
+    read_card(alloc, read_fields(card), radix)
 }
 
 /// The capitals of a line, and blanks behind them.
@@ -81,21 +75,15 @@ fn capitals(line: &[u8]) -> [u8; LONGEST_LINE]
     capitals
 }
 
-fn capital(byte: u8) -> u8
-    ensures { result ≡ capital byte }
-{
-    byte.to_ascii_uppercase()
-}
-
-fn read_card(alloc: Global, fields: Fields<'_>) -> Result<Reading, AllocError>
-    ensures { IfOk result (λ reading. reading ≡ reading_in (fields_value fields.entry)) }
+fn read_card(alloc: Global, fields: Fields<'_>, radix: Radix) -> Result<Reading, AllocError>
+    ensures { IfOk result (λ reading. reading ≡ reading_in radix (fields_value fields.entry)) }
 {
     match fields {
         Fields::Comment => Ok(Reading::Comment),
         Fields::Continued => Ok(Reading::Continued),
         Fields::Statement(statement) => {
-            let operation = read_operation(alloc, statement.operation, statement.tail)?;
-            Ok(Reading::Stated(read_location(statement.location), operation))
+            let stating = read_stating(alloc, statement.operation, statement.tail, radix)?;
+            Ok(Reading::Statement(read_location(statement.location), stating))
         }
     }
 }
@@ -130,81 +118,53 @@ fn is_text(field: &[u8], text: &[u8]) -> bool
     field == text
 }
 
-fn read_operation(alloc: Global, operation: &[u8], tail: &[u8]) -> Result<Operation, AllocError>
-    ensures { IfOk result (λ read. read ≡ operation_in operation.now tail.now) }
+fn read_stating(
+    alloc: Global,
+    operation: &[u8],
+    tail: &[u8],
+    radix: Radix,
+) -> Result<Stating, AllocError>
+    ensures { IfOk result (λ stating. stating ≡ stating_in radix operation.now tail.now) }
 {
     if is_text(operation, b"") {
-        return Ok(Operation::Missing);
+        return Ok(Stating::Missing);
     }
-    if is_text(operation, b"IDENT") {
-        return Ok(Operation::Ident(first_symbol(tail)));
-    }
-    if is_text(operation, b"ABS") {
-        return Ok(Operation::Abs);
-    }
-    if is_text(operation, b"EQU") {
-        return Ok(Operation::Equate(only_expression(alloc, tail)?));
-    }
-    if is_text(operation, b"=") {
-        return Ok(Operation::Equate(only_expression(alloc, tail)?));
-    }
-    if is_text(operation, b"ORG") {
-        return Ok(Operation::Org(only_expression(alloc, tail)?));
-    }
-    if is_text(operation, b"END") {
-        return Ok(Operation::End);
-    }
-    if is_listing_operation(operation) {
-        return Ok(Operation::Listed);
-    }
-    read_instruction(alloc, operation, tail)
-}
-
-fn is_listing_operation(operation: &[u8]) -> bool
-    ensures { result ≡ is_listing_operation operation.now }
-{
-    is_text(operation, b"TITLE")
-        || is_text(operation, b"SPACE")
-        || is_text(operation, b"EJECT")
-        || is_text(operation, b"LIST")
-}
-
-/// The first operand as a symbol.
-fn first_symbol(tail: &[u8]) -> Option<Name>
-    ensures { result ≡ first_symbol (operands_of tail.now) }
-{
-    let mut operands = operands(tail);
-    match operands.next() {
-        Some(operand) => Name::read(operand),
-        None => None,
+    match Operation::named(operation) {
+        None => read_instruction(alloc, operation, tail, radix),
+        Some(named) => read_statement(alloc, named, operation, tail, radix),
     }
 }
 
-/// The only operand as an expression; None where it is none, or not the only one.
-fn only_expression(alloc: Global, tail: &[u8]) -> Result<Option<Expr>, AllocError>
-    ensures { IfOk result (λ expression. expression ≡ only_expression (operands_of tail.now)) }
+fn read_statement(
+    alloc: Global,
+    named: Operation,
+    operation: &[u8],
+    tail: &[u8],
+    radix: Radix,
+) -> Result<Stating, AllocError>
+    requires { Some named ≡ operation_named operation.now }
+    ensures { IfOk result (λ stating. stating ≡ row_or_none named (row_of operation.now tail.now Cp radix)) }
 {
-    let mut operands = operands(tail);
-    let Some(operand) = operands.next() else {
-        return Ok(None);
-    };
-    if operands.next().is_some() {
-        return Ok(None);
-    }
-    match Expr::read(alloc, operand, Radix::Decimal) {
-        Ok(expression) => Ok(Some(expression)),
-        Err(ExprFault::Unreadable) => Ok(None),
-        Err(ExprFault::Memory) => Err(AllocError),
+    match Stmt::read(alloc, operation, tail, Machine::Cp, radix) {
+        Ok(statement) => Ok(Stating::Stated(statement)),
+        Err(StmtFault::NoOperation) => unreachable!(),
+        Err(StmtFault::Unreadable) => Ok(Stating::Unreadable(named)),
+        Err(StmtFault::Memory) => Err(AllocError),
     }
 }
 
-fn read_instruction(alloc: Global, operation: &[u8], tail: &[u8]) -> Result<Operation, AllocError>
-    ensures { IfOk result (λ read. read ≡ (if is_operation operation.now then Operation.Instruction (form_of operation.now tail.now Decimal) else Operation.Unknown)) }
+fn read_instruction(
+    alloc: Global,
+    operation: &[u8],
+    tail: &[u8],
+    radix: Radix,
+) -> Result<Stating, AllocError>
+    ensures { IfOk result (λ stating. stating ≡ instruction_in radix operation.now tail.now) }
 {
-    match cp_form(alloc, operation, tail, Radix::Decimal) {
-        Ok(form) => Ok(Operation::Instruction(Some(form))),
-        Err(FormFault::NoOperation) => Ok(Operation::Unknown),
-        Err(FormFault::Unreadable) => Ok(Operation::Instruction(None)),
+    match cp_form(alloc, operation, tail, radix) {
+        Ok(form) => Ok(Stating::Instruction(Some(form))),
+        Err(FormFault::NoOperation) => Ok(Stating::Unknown),
+        Err(FormFault::Unreadable) => Ok(Stating::Instruction(None)),
         Err(FormFault::Memory) => Err(AllocError),
     }
 }

@@ -4,10 +4,10 @@ ghost use Rattle.std.specs.HashMap as hash;
 ghost use Rattle.cps_tool.specs.Keys.{first_state, with_put, overwritten};
 ghost use Rattle.cps_tool.specs.declared.key.Key.{Key};
 
-use super::answers::{first_counter, first_phase, label_of};
+use super::answers::{first_control, first_counter, value_of_label};
 use super::key::{Answer, Key, Put};
 use super::lookup::Lookup;
-use cps_code::Names;
+use cps_expr::{Names, Value};
 use cps_text::Name;
 use std::alloc::{AllocError, Global};
 use std::collections::HashMap;
@@ -41,8 +41,8 @@ impl Names for State {
 
     ghost value = { λ state. labels_of (⟦<State as Lookup>⟧.answer state) };
 
-    fn value_of(&self, name: Name) -> Option<i64> {
-        label_of(self.answer_to(Key::Label(name)))
+    fn value_of(&self, name: Name) -> Option<Value> {
+        value_of_label(self.answer_to(Key::Label(name)))
     }
 }
 
@@ -52,7 +52,7 @@ impl State {
         ensures { ⟦<State as Lookup>⟧.answer result ≡ first_state }
     {
         State {
-            control: Answer::Control(first_phase()),
+            control: Answer::Control(first_control()),
             counter: Answer::Counter(first_counter()),
             labels: HashMap::new(alloc),
         }

@@ -8,12 +8,13 @@ use super::answers::{LIMIT, WORD, counter_of, label_of};
 use super::flags::Flags;
 use super::forcing::force;
 use super::item::{Item, Made};
-use super::key::{Answer, Counter, Head, Key, Phase};
+use super::key::{Answer, Control, Counter, Head, Key, Phase};
 use super::lookup::Lookup;
+use super::plain::here_at;
 use super::reading::Location;
 use super::recorder::Recorder;
-use super::value_now::{ValueNow, value_now};
-use cps_code::Expr;
+use super::value_now::{ValueNow, value_here, value_now};
+use cps_expr::{Expr, Radix};
 use cps_text::Name;
 use std::alloc::{AllocError, Global};
 
@@ -47,37 +48,61 @@ pub fn present_flags(location: Location) -> Flags
     flags
 }
 
-/// IDENT: the first name in the head is the program's.
+/// A statement that takes no location field, with unreadable operands.
+pub fn unread<L: Lookup>(
+    recorder: &mut Recorder,
+    state: &L,
+    location: Location,
+) -> Result<(), AllocError>
+    ensures { OnOk result ((rest : Course) → run (meaning.unread location rest) (L.answer state.now) recorder.old ≡ run rest (L.answer state.now) recorder.new) }
+{
+    let mut flags = present_flags(location);
+    flags.operand = true;
+    flagged(recorder, state, flags)
+}
+
+/// IDENT: the first name in the head is the program's; None where the operand is unreadable.
 pub fn ident<L: Lookup>(
     recorder: &mut Recorder,
     state: &L,
-    phase: Phase,
+    control: Control,
     location: Location,
     name: Option<Name>,
 ) -> Result<(), AllocError>
-    ensures { OnOk result ((rest : Course) → run (meaning.ident phase location name rest) (L.answer state.now) recorder.old ≡ run rest (L.answer state.now) recorder.new) }
+    ensures { OnOk result ((rest : Course) → run (meaning.ident control location name rest) (L.answer state.now) recorder.old ≡ run rest (L.answer state.now) recorder.new) }
 {
-    let flags = ident_flags(phase, location, name);
+    let flags = ident_flags(control.phase, location, name);
     match name {
         None => flagged(recorder, state, flags),
-        Some(name) => name_program(recorder, state, phase, flags, name),
+        Some(name) => name_program(recorder, state, control, flags, name),
     }
 }
 
 fn name_program<L: Lookup>(
     recorder: &mut Recorder,
     state: &L,
-    phase: Phase,
+    control: Control,
     flags: Flags,
     name: Name,
 ) -> Result<(), AllocError>
-    ensures { (location : Location) → flags ≡ meaning.ident_flags phase location (Some name) → OnOk result ((rest : Course) → run (meaning.ident phase location (Some name) rest) (L.answer state.now) recorder.old ≡ run rest (L.answer state.now) recorder.new) }
+    ensures { (location : Location) → flags ≡ meaning.ident_flags control.phase location (Some name) → OnOk result ((rest : Course) → run (meaning.ident control location (Some name) rest) (L.answer state.now) recorder.old ≡ run rest (L.answer state.now) recorder.new) }
 {
-    if is_late_name(phase) {
+    if is_late_name(control.phase) {
         return flagged(recorder, state, flags);
     }
-    recorder.put(Key::Control, Answer::Control(with_name(phase)))?;
+    put_phase(recorder, control, with_name(control.phase))?;
     recorder.make(Item::naming(flags, name))
+}
+
+/// The program is in another part; the base of numbers stays.
+pub fn put_phase(recorder: &mut Recorder, control: Control, phase: Phase) -> Result<(), AllocError>
+    ensures { OnOk result (recorder.new ≡ with_put_made recorder.old (meaning.put_phase control phase)) }
+{
+    let control = Control {
+        phase,
+        radix: control.radix,
+    };
+    recorder.put(Key::Control, Answer::Control(control))
 }
 
 fn ident_flags(phase: Phase, location: Location, name: Option<Name>) -> Flags
@@ -115,17 +140,60 @@ fn with_name(phase: Phase) -> Phase
 pub fn abs<L: Lookup>(
     recorder: &mut Recorder,
     state: &L,
-    phase: Phase,
+    control: Control,
     location: Location,
 ) -> Result<(), AllocError>
-    ensures { OnOk result ((rest : Course) → run (meaning.abs phase location rest) (L.answer state.now) recorder.old ≡ run rest (L.answer state.now) recorder.new) }
+    ensures { OnOk result ((rest : Course) → run (meaning.abs control location rest) (L.answer state.now) recorder.old ≡ run rest (L.answer state.now) recorder.new) }
 {
     let mut flags = present_flags(location);
-    flags.structure = is_late_declaration(phase);
+    flags.structure = is_late_declaration(control.phase);
     if !flags.structure {
-        recorder.put(Key::Control, Answer::Control(with_declaration(phase)))?;
+        put_phase(recorder, control, with_declaration(control.phase))?;
     }
     flagged(recorder, state, flags)
+}
+
+/// BASE: the base of the numbers to come.
+pub fn base<L: Lookup>(
+    recorder: &mut Recorder,
+    state: &L,
+    control: Control,
+    location: Location,
+    radix: Radix,
+) -> Result<(), AllocError>
+    ensures { OnOk result ((rest : Course) → run (meaning.base control location radix rest) (L.answer state.now) recorder.old ≡ run rest (L.answer state.now) recorder.new) }
+{
+    put_radix(recorder, state, control, radix)?;
+    flagged(recorder, state, present_flags(location))
+}
+
+/// Puts the base of numbers where it changes.
+fn put_radix<L: Lookup>(
+    recorder: &mut Recorder,
+    state: &L,
+    control: Control,
+    radix: Radix,
+) -> Result<(), AllocError>
+    ensures { OnOk result ((rest : Course) → run (meaning.rebased control radix rest) (L.answer state.now) recorder.old ≡ run rest (L.answer state.now) recorder.new) }
+{
+    if is_same_radix(control.radix, radix) {
+        return Ok(());
+    }
+    let control = Control {
+        phase: control.phase,
+        radix,
+    };
+    recorder.put(Key::Control, Answer::Control(control))
+}
+
+fn is_same_radix(a: Radix, b: Radix) -> bool
+    ensures { result ≡ meaning.same_radix a b }
+{
+    match (a, b) {
+        (Radix::Octal, Radix::Octal) => true,
+        (Radix::Decimal, Radix::Decimal) => true,
+        _ => false,
+    }
 }
 
 /// A declaration comes too late: there is one already, or the head has ended.
@@ -156,22 +224,27 @@ pub fn equate<L: Lookup>(
     recorder: &mut Recorder,
     state: &L,
     location: Location,
-    operand: Option<Expr>,
+    operand: &Expr,
 ) -> Result<(), AllocError>
-    ensures { OnOk result ((rest : Course) → run (meaning.equate location operand rest) (L.answer state.now) recorder.old ≡ run rest (L.answer state.now) recorder.new) }
+    ensures { OnOk result ((rest : Course) → run (meaning.equate location operand.now rest) (L.answer state.now) recorder.old ≡ run rest (L.answer state.now) recorder.new) }
 {
     let is_taken = is_taken(recorder, state, location)?;
-    match operand {
-        None => {
-            let mut flags = equate_flags(location, is_taken);
-            flags.operand = true;
-            flagged(recorder, state, flags)
-        }
-        Some(expression) => {
-            let value = value_now(alloc, recorder, state, &expression)?;
-            equate_to(recorder, state, location, is_taken, value)
-        }
-    }
+    let value = value_here(alloc, recorder, state, operand)?;
+    equate_to(recorder, state, location, is_taken, value)
+}
+
+/// EQU with an unreadable operand.
+pub fn unread_equate<L: Lookup>(
+    recorder: &mut Recorder,
+    state: &L,
+    location: Location,
+) -> Result<(), AllocError>
+    ensures { OnOk result ((rest : Course) → run (meaning.unread_equate location rest) (L.answer state.now) recorder.old ≡ run rest (L.answer state.now) recorder.new) }
+{
+    let is_taken = is_taken(recorder, state, location)?;
+    let mut flags = equate_flags(location, is_taken);
+    flags.operand = true;
+    flagged(recorder, state, flags)
 }
 
 fn equate_flags(location: Location, is_taken: bool) -> Flags
@@ -257,22 +330,26 @@ pub fn org<L: Lookup>(
     recorder: &mut Recorder,
     state: &L,
     location: Location,
-    operand: Option<Expr>,
+    operand: &Expr,
 ) -> Result<(), AllocError>
-    ensures { OnOk result ((rest : Course) → run (meaning.org location operand rest) (L.answer state.now) recorder.old ≡ run rest (L.answer state.now) recorder.new) }
+    ensures { OnOk result ((rest : Course) → run (meaning.org location operand.now rest) (L.answer state.now) recorder.old ≡ run rest (L.answer state.now) recorder.new) }
 {
     let counter = counter_of(recorder.ask(state, Key::Counter)?);
-    match operand {
-        None => {
-            let mut flags = present_flags(location);
-            flags.operand = true;
-            flagged(recorder, state, flags)
-        }
-        Some(expression) => {
-            let value = value_now(alloc, recorder, state, &expression)?;
-            move_to(recorder, state, location, counter, value)
-        }
-    }
+    let here = here_at(force(counter).bits);
+    let value = value_now(alloc, recorder, state, operand, here)?;
+    move_to(recorder, state, location, counter, value)
+}
+
+/// ORG with an unreadable operand.
+pub fn unread_org<L: Lookup>(
+    recorder: &mut Recorder,
+    state: &L,
+    location: Location,
+) -> Result<(), AllocError>
+    ensures { OnOk result ((rest : Course) → run (meaning.unread_org location rest) (L.answer state.now) recorder.old ≡ run rest (L.answer state.now) recorder.new) }
+{
+    recorder.ask(state, Key::Counter)?;
+    unread(recorder, state, location)
 }
 
 fn move_to<L: Lookup>(
@@ -336,13 +413,14 @@ pub fn put_counter(recorder: &mut Recorder, bits: u32, is_pending: bool) -> Resu
 pub fn end<L: Lookup>(
     recorder: &mut Recorder,
     state: &L,
+    control: Control,
     location: Location,
 ) -> Result<(), AllocError>
-    ensures { OnOk result ((rest : Course) → run (meaning.end location rest) (L.answer state.now) recorder.old ≡ run rest (L.answer state.now) recorder.new) }
+    ensures { OnOk result ((rest : Course) → run (meaning.end control location rest) (L.answer state.now) recorder.old ≡ run rest (L.answer state.now) recorder.new) }
 {
     let counter = counter_of(recorder.ask(state, Key::Counter)?);
     let forced = force(counter);
     put_counter(recorder, forced.bits, false)?;
-    recorder.put(Key::Control, Answer::Control(Phase::AfterEnd))?;
+    put_phase(recorder, control, Phase::AfterEnd)?;
     recorder.make(Item::new(present_flags(location), forced.filling, Made::Nothing))
 }

@@ -1,19 +1,24 @@
 //! Pass one of a line.
 ghost use Rattle.std.specs.Prelude.{◌≡◌, OnOk, IfOk};
+ghost use Rattle.cps_text.specs.CardFields.{fields_value};
 ghost use Rattle.cps_tool.specs.Course.{Course, run, Holds};
 ghost use Rattle.cps_tool.specs.Keys as keys;
 ghost use Rattle.cps_tool.specs.Meaning as meaning;
 
-use super::answers::phase_of;
+use super::answers::control_of;
 use super::flags::Flags;
 use super::instruction::instruction;
-use super::key::{Answer, Key, Phase};
+use super::key::{Control, Key, Phase};
 use super::lookup::Lookup;
-use super::reading::{Location, Operation, Reading, read_line};
+use super::reading::{Location, Reading, Stating, read_line};
 use super::recorder::Recorder;
-use super::statements::{abs, end, equate, flagged, ident, org, present_flags};
+use super::statements::{
+    abs, base, end, equate, flagged, ident, org, present_flags, put_phase, unread, unread_equate,
+    unread_org,
+};
 use super::trace::Trace;
-use cps_text::Line;
+use cps_expr::{Operation, Row, Stmt};
+use cps_text::{Fields, Line};
 use std::alloc::{AllocError, Global};
 
 /// What a line asks, puts and makes in a state.
@@ -23,23 +28,25 @@ pub fn step_one<L: Lookup>(alloc: Global, line: &Line, state: &L) -> Result<Trac
     ensures asks_alone { IfOk result (λ trace. (other : keys.State) → Holds trace.asks other → trace ≡ meaning.trace_of line.now other) }
 {
     let mut recorder = Recorder::new(alloc);
-    let reading = read_line(alloc, line)?;
-    take_reading(alloc, &mut recorder, state, reading)?;
+    take_line(alloc, &mut recorder, state, line)?;
     Ok(recorder.into_trace())
 }
 
-fn take_reading<L: Lookup>(
+fn take_line<L: Lookup>(
     alloc: Global,
     recorder: &mut Recorder,
     state: &L,
-    reading: Reading,
+    line: &Line,
 ) -> Result<(), AllocError>
-    ensures { OnOk result ((rest : Course) → run (meaning.course_of reading rest) (L.answer state.now) recorder.old ≡ run rest (L.answer state.now) recorder.new) }
+    ensures { OnOk result ((rest : Course) → run (meaning.course_of line.now rest) (L.answer state.now) recorder.old ≡ run rest (L.answer state.now) recorder.new) }
 {
-    let phase = phase_of(recorder.ask(state, Key::Control)?);
-    match phase {
-        Phase::AfterEnd => behind_end(recorder, state, reading),
-        _ => before_end(alloc, recorder, state, phase, reading),
+    let control = control_of(recorder.ask(state, Key::Control)?);
+    match control.phase {
+        Phase::AfterEnd => behind_end(recorder, state, line.fields()),
+        _ => {
+            let reading = read_line(alloc, line, control.radix)?;
+            before_end(alloc, recorder, state, control, reading)
+        }
     }
 }
 
@@ -47,12 +54,12 @@ fn take_reading<L: Lookup>(
 fn behind_end<L: Lookup>(
     recorder: &mut Recorder,
     state: &L,
-    reading: Reading,
+    fields: Fields<'_>,
 ) -> Result<(), AllocError>
-    ensures { OnOk result ((rest : Course) → run (meaning.behind_end reading rest) (L.answer state.now) recorder.old ≡ run rest (L.answer state.now) recorder.new) }
+    ensures { OnOk result ((rest : Course) → run (meaning.behind_end (fields_value fields.entry) rest) (L.answer state.now) recorder.old ≡ run rest (L.answer state.now) recorder.new) }
 {
-    match reading {
-        Reading::Comment => flagged(recorder, state, Flags::none()),
+    match fields {
+        Fields::Comment => flagged(recorder, state, Flags::none()),
         _ => misplaced(recorder, state),
     }
 }
@@ -70,16 +77,16 @@ fn before_end<L: Lookup>(
     alloc: Global,
     recorder: &mut Recorder,
     state: &L,
-    phase: Phase,
+    control: Control,
     reading: Reading,
 ) -> Result<(), AllocError>
-    ensures { OnOk result ((rest : Course) → run (meaning.before_end phase reading rest) (L.answer state.now) recorder.old ≡ run rest (L.answer state.now) recorder.new) }
+    ensures { OnOk result ((rest : Course) → run (meaning.before_end control reading rest) (L.answer state.now) recorder.old ≡ run rest (L.answer state.now) recorder.new) }
 {
     match reading {
         Reading::Comment => flagged(recorder, state, Flags::none()),
         Reading::Continued => misplaced(recorder, state),
-        Reading::Stated(location, operation) => {
-            obey(alloc, recorder, state, phase, location, operation)
+        Reading::Statement(location, stating) => {
+            obey(alloc, recorder, state, control, location, stating)
         }
     }
 }
@@ -88,31 +95,73 @@ fn obey<L: Lookup>(
     alloc: Global,
     recorder: &mut Recorder,
     state: &L,
-    phase: Phase,
+    control: Control,
+    location: Location,
+    stating: Stating,
+) -> Result<(), AllocError>
+    ensures { OnOk result ((rest : Course) → run (meaning.stated control location stating rest) (L.answer state.now) recorder.old ≡ run rest (L.answer state.now) recorder.new) }
+{
+    match stating {
+        Stating::Missing => unknown(recorder, state),
+        Stating::Unknown => not_there(recorder, state, control),
+        Stating::Stated(statement) => {
+            obey_statement(alloc, recorder, state, control, location, &statement)
+        }
+        Stating::Unreadable(operation) => {
+            flag_unreadable(recorder, state, control, location, operation)
+        }
+        Stating::Instruction(form) => {
+            leave_head(recorder, state, control)?;
+            instruction(recorder, state, location, form)
+        }
+    }
+}
+
+/// A statement with its operands.
+fn obey_statement<L: Lookup>(
+    alloc: Global,
+    recorder: &mut Recorder,
+    state: &L,
+    control: Control,
+    location: Location,
+    statement: &Stmt,
+) -> Result<(), AllocError>
+    ensures { OnOk result ((rest : Course) → run (meaning.obeyed control location statement.now rest) (L.answer state.now) recorder.old ≡ run rest (L.answer state.now) recorder.new) }
+{
+    match statement.row() {
+        Row::Ident(name) => ident(recorder, state, control, location, Some(*name)),
+        Row::Abs => abs(recorder, state, control, location),
+        Row::Base(radix) => base(recorder, state, control, location, *radix),
+        Row::Equate(operand) => equate(alloc, recorder, state, location, operand),
+        Row::Org(operand) => {
+            leave_head(recorder, state, control)?;
+            org(alloc, recorder, state, location, operand)
+        }
+        Row::End => end(recorder, state, control, location),
+        Row::Listing => flagged(recorder, state, present_flags(location)),
+        _ => not_there(recorder, state, control),
+    }
+}
+
+/// A statement with unreadable operands.
+fn flag_unreadable<L: Lookup>(
+    recorder: &mut Recorder,
+    state: &L,
+    control: Control,
     location: Location,
     operation: Operation,
 ) -> Result<(), AllocError>
-    ensures { OnOk result ((rest : Course) → run (meaning.stated phase location operation rest) (L.answer state.now) recorder.old ≡ run rest (L.answer state.now) recorder.new) }
+    ensures { OnOk result ((rest : Course) → run (meaning.unreadable control location operation rest) (L.answer state.now) recorder.old ≡ run rest (L.answer state.now) recorder.new) }
 {
     match operation {
-        Operation::Missing => unknown(recorder, state),
-        Operation::Unknown => {
-            leave_head(recorder, state, phase)?;
-            unknown(recorder, state)
+        Operation::Ident => ident(recorder, state, control, location, None),
+        Operation::Base => unread(recorder, state, location),
+        Operation::Equate => unread_equate(recorder, state, location),
+        Operation::Org => {
+            leave_head(recorder, state, control)?;
+            unread_org(recorder, state, location)
         }
-        Operation::Listed => flagged(recorder, state, present_flags(location)),
-        Operation::Ident(name) => ident(recorder, state, phase, location, name),
-        Operation::Abs => abs(recorder, state, phase, location),
-        Operation::Equate(operand) => equate(alloc, recorder, state, location, operand),
-        Operation::Org(operand) => {
-            leave_head(recorder, state, phase)?;
-            org(alloc, recorder, state, location, operand)
-        }
-        Operation::End => end(recorder, state, location),
-        Operation::Instruction(form) => {
-            leave_head(recorder, state, phase)?;
-            instruction(recorder, state, location, form)
-        }
+        _ => not_there(recorder, state, control),
     }
 }
 
@@ -125,12 +174,28 @@ fn unknown<L: Lookup>(recorder: &mut Recorder, state: &L) -> Result<(), AllocErr
     flagged(recorder, state, flags)
 }
 
-/// The head ends.
-fn leave_head<L: Lookup>(recorder: &mut Recorder, state: &L, phase: Phase) -> Result<(), AllocError>
-    ensures { OnOk result ((rest : Course) → run (meaning.leaving_head phase rest) (L.answer state.now) recorder.old ≡ run rest (L.answer state.now) recorder.new) }
+/// An operation that the language doesn't have, or that isn't there yet.
+fn not_there<L: Lookup>(
+    recorder: &mut Recorder,
+    state: &L,
+    control: Control,
+) -> Result<(), AllocError>
+    ensures { OnOk result ((rest : Course) → run (meaning.not_there control rest) (L.answer state.now) recorder.old ≡ run rest (L.answer state.now) recorder.new) }
 {
-    match phase {
-        Phase::Head(_) => recorder.put(Key::Control, Answer::Control(Phase::Body)),
+    leave_head(recorder, state, control)?;
+    unknown(recorder, state)
+}
+
+/// The head ends.
+fn leave_head<L: Lookup>(
+    recorder: &mut Recorder,
+    state: &L,
+    control: Control,
+) -> Result<(), AllocError>
+    ensures { OnOk result ((rest : Course) → run (meaning.leaving_head control rest) (L.answer state.now) recorder.old ≡ run rest (L.answer state.now) recorder.new) }
+{
+    match control.phase {
+        Phase::Head(_) => put_phase(recorder, control, Phase::Body),
         _ => Ok(()),
     }
 }

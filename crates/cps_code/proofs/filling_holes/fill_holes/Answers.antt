@@ -3,8 +3,7 @@ use Rattle.std.proofs.lemmas.Bool.Decides.{nat_tests}
 use Rattle.std.proofs.lemmas.Int.{to_z-of_z}
 use Rattle.std.proofs.lemmas.Nat.{shl_whole}
 use Rattle.std.proofs.Math.Nat.{pow-le-pow_right}
-use Rattle.cps_code.proofs.HoleLemmas.{put_values-one, first_is_hole, within_room}
-use Rattle.cps_code.proofs.ValueReading.{fits-in_range}
+use Rattle.cps_code.proofs.HoleLemmas.{put_values-one, first_is_hole, within_room, fits-in_range}
 use Rattle.cps_code.proofs.filling_holes.fill_holes.Goals as goal
 
 pub overflow_add-result : goal.overflow_add-result

@@ -1,0 +1,32 @@
+//! Names that all stand for the same.
+ghost use Rattle.std.specs.Prelude.{◌≡◌};
+
+use cps_expr::{Names, Value};
+use cps_text::Name;
+use std::test::Fail;
+
+/// Each name has this value, or is undefined.
+#[derive(Clone, Copy)]
+pub struct SameValue {
+    pub value: Option<Value>,
+}
+
+impl Names for SameValue {
+    ghost value = { λ same name. same.value };
+
+    fn value_of(&self, _name: Name) -> Option<Value> {
+        self.value
+    }
+}
+
+/// No name is defined.
+pub const UNDEFINED: SameValue = SameValue { value: None };
+
+/// An offset in a block.
+pub fn within(block: &[u8], offset: i64) -> Result<Value, Fail> {
+    let block = Name::read(block).ok_or("a symbol")?;
+    Ok(Value {
+        block: Some(block),
+        offset,
+    })
+}

@@ -1,0 +1,323 @@
+//! The rows of statements, with the names that they read.
+use super::same_value::UNDEFINED;
+use cps_expr::{
+    Block, Characters, Comparison, Expr, Machine, Operation, Radix, Relation, Row, Stmt, StmtFault,
+    Value,
+};
+use cps_text::{Name, push_octal};
+use std::alloc::Global;
+use std::test::Fail;
+
+/// Writes a word and a blank before it.
+fn push_word(text: &mut Vec<u8>, word: &[u8]) -> Result<(), Fail> {
+    text.push(b' ')?;
+    text.extend_from_slice(word)?;
+    Ok(())
+}
+
+/// Writes two octal digits of the value of an expression in which no name is defined and `*` is 3.
+fn push_expression(text: &mut Vec<u8>, expression: &Expr) -> Result<(), Fail> {
+    let value = expression.value(&UNDEFINED, Value::plain(3)).value;
+    text.push(b' ')?;
+    push_octal(text, value.ok_or("a value")?.offset.unsigned_abs(), 2)?;
+    Ok(())
+}
+
+fn push_lines(text: &mut Vec<u8>, lines: &Option<Expr>) -> Result<(), Fail> {
+    match lines {
+        Some(lines) => push_expression(text, lines),
+        None => Ok(()),
+    }
+}
+
+fn push_comparison(text: &mut Vec<u8>, test: &Comparison) -> Result<(), Fail> {
+    let relation: &[u8] = match test.relation {
+        Relation::Equal => b"EQ",
+        Relation::NotEqual => b"NE",
+        Relation::Greater => b"GT",
+        Relation::GreaterOrEqual => b"GE",
+        Relation::Less => b"LT",
+        Relation::LessOrEqual => b"LE",
+    };
+    push_word(text, relation)?;
+    push_expression(text, &test.left)?;
+    push_expression(text, &test.right)?;
+    push_lines(text, &test.lines)
+}
+
+fn push_characters(text: &mut Vec<u8>, characters: &Characters) -> Result<(), Fail> {
+    match characters {
+        Characters::Counted(count, characters) => {
+            push_expression(text, count)?;
+            push_word(text, characters.as_slice())
+        }
+        Characters::Delimited(characters) => push_word(text, characters.as_slice()),
+    }
+}
+
+fn push_block(text: &mut Vec<u8>, block: &Block) -> Result<(), Fail> {
+    match block {
+        Block::Nominal => push_word(text, b"0"),
+        Block::Previous => push_word(text, b"*"),
+        Block::Named(name) => push_word(text, name.text()),
+    }
+}
+
+/// Writes the operands of a row, each with a blank before it.
+fn push_operands(text: &mut Vec<u8>, row: &Row) -> Result<(), Fail> {
+    match row {
+        Row::Ident(name) => push_word(text, name.text())?,
+        Row::Base(Radix::Octal) => push_word(text, b"8")?,
+        Row::Base(Radix::Decimal) => push_word(text, b"10")?,
+        Row::Equate(value) => push_expression(text, value)?,
+        Row::Set(value) => push_expression(text, value)?,
+        Row::Org(address) => push_expression(text, address)?,
+        Row::Use(block) => push_block(text, block)?,
+        Row::Bss(words) => push_expression(text, words)?,
+        Row::Bssz(words) => push_expression(text, words)?,
+        Row::Con(values) => {
+            for value in values.as_slice() {
+                push_expression(text, value)?;
+            }
+        }
+        Row::Data(words) => {
+            for word in words.as_slice() {
+                text.push(b' ')?;
+                push_octal(text, *word, 20)?;
+            }
+        }
+        Row::Vfd(fields) => {
+            for field in fields.as_slice() {
+                push_expression(text, &field.width)?;
+                push_expression(text, &field.value)?;
+            }
+        }
+        Row::Dis(characters) => push_characters(text, characters)?,
+        Row::Compare(test) => push_comparison(text, test)?,
+        Row::If(test) => {
+            push_word(text, if test.is_defined { b"DEF" } else { b"-DEF" })?;
+            push_word(text, test.symbol.text())?;
+            push_lines(text, &test.lines)?;
+        }
+        Row::Dup(repetition) => {
+            push_expression(text, &repetition.count)?;
+            push_lines(text, &repetition.lines)?;
+        }
+        Row::Macro(parameters) => {
+            for parameter in parameters.as_slice() {
+                push_word(text, parameter.text())?;
+            }
+        }
+        _ => (),
+    }
+    Ok(())
+}
+
+fn push_names(text: &mut Vec<u8>, mark: u8, names: &[Name]) -> Result<(), Fail> {
+    for name in names {
+        text.push(b' ')?;
+        text.push(mark)?;
+        text.extend_from_slice(name.text())?;
+    }
+    Ok(())
+}
+
+/// The operands of a statement, then the names read now behind `<` and those read later behind `>`.
+fn shown(alloc: Global, statement: &Stmt) -> Result<Vec<u8>, Fail> {
+    let mut text = Vec::new(alloc);
+    push_operands(&mut text, statement.row())?;
+    push_names(&mut text, b'<', statement.now())?;
+    push_names(&mut text, b'>', statement.later())?;
+    Ok(text)
+}
+
+#[test]
+fn reads_statements(rt: HostRuntime) -> Result<(), Fail> {
+    let rows: [(&str, &str, Operation, &str); 48] = [
+        ("IDENT", "t1,(", Operation::Ident, " T1"),
+        ("abs", "X1", Operation::Abs, ""),
+        ("PERIPH", "", Operation::Periph, ""),
+        ("BASE", "OCTAL,X", Operation::Base, " 8"),
+        ("BASE", "d", Operation::Base, " 10"),
+        ("EQU", "A+2*B", Operation::Equate, " 00 <A <B"),
+        ("=", "2** COMMENT", Operation::Equate, " 06"),
+        ("SET", "N+1", Operation::Set, " 01 <N"),
+        ("ORG", "17B", Operation::Org, " 17"),
+        ("USE", "", Operation::Use, " 0"),
+        ("USE", "0", Operation::Use, " 0"),
+        ("USE", "*", Operation::Use, " *"),
+        ("USE", "work", Operation::Use, " WORK"),
+        ("BSS", "2+N", Operation::Bss, " 02 <N"),
+        ("BSSZ", "3", Operation::Bssz, " 03"),
+        ("CON", "1,A,*", Operation::Con, " 01 00 03 >A"),
+        (
+            "DATA",
+            "3LABC,-1 X",
+            Operation::Data,
+            " 01020300000000000000 77777777777777777776",
+        ),
+        (
+            "DATA",
+            "3HA B,7",
+            Operation::Data,
+            " 01550255555555555555 00000000000000000007",
+        ),
+        ("VFD", "12/7,N/1", Operation::Vfd, " 14 07 00 01 <N"),
+        ("VFD", "6/A/2,6/B", Operation::Vfd, " 06 00 06 00 >A >B"),
+        ("DIS", ",*A B*X", Operation::Dis, " A B"),
+        ("DIS", ",**", Operation::Dis, " "),
+        ("DIS", ",dABD", Operation::Dis, " AB"),
+        ("DIS", "N+2,HELLO, X", Operation::Dis, " 02 HELLO, X <N"),
+        (
+            "IFEQ",
+            "N,3",
+            Operation::Compare(Relation::Equal),
+            " EQ 00 03 <N",
+        ),
+        (
+            "IFNE",
+            "1,2",
+            Operation::Compare(Relation::NotEqual),
+            " NE 01 02",
+        ),
+        (
+            "IFGT",
+            "1,2",
+            Operation::Compare(Relation::Greater),
+            " GT 01 02",
+        ),
+        (
+            "IFGE",
+            "1,2",
+            Operation::Compare(Relation::GreaterOrEqual),
+            " GE 01 02",
+        ),
+        (
+            "IFLT",
+            "1,2",
+            Operation::Compare(Relation::Less),
+            " LT 01 02",
+        ),
+        (
+            "IFLE",
+            "A,B,C+5",
+            Operation::Compare(Relation::LessOrEqual),
+            " LE 00 00 05 <A <B <C",
+        ),
+        ("IF", "DEF,A", Operation::If, " DEF A <A"),
+        ("if", "-def,a,N+2", Operation::If, " -DEF A 02 <A <N"),
+        ("ELSE", "1", Operation::Else, ""),
+        ("ENDIF", "", Operation::Endif, ""),
+        ("DUP", "N", Operation::Dup, " 00 <N"),
+        ("DUP", "3,N+1", Operation::Dup, " 03 01 <N"),
+        ("ENDD", "", Operation::Endd, ""),
+        ("MACRO", "", Operation::Macro, ""),
+        ("MACRO", "R,K,.A", Operation::Macro, " R K .A"),
+        ("ENDM", "", Operation::Endm, ""),
+        ("END", "START", Operation::End, ""),
+        ("TITLE", "A,B", Operation::Listing, ""),
+        ("SPACE", "2", Operation::Listing, ""),
+        ("EJECT", "", Operation::Listing, ""),
+        ("list", "X", Operation::Listing, ""),
+        ("IDENT", "A B", Operation::Ident, " A"),
+        ("CON", "A-A", Operation::Con, " 00 >A >A"),
+        ("BSS", "100B/8", Operation::Bss, " 10"),
+    ];
+    for (at, (operation, tail, named, want)) in rows.iter().enumerate() {
+        let statement = Stmt::read(
+            rt.alloc(),
+            operation.as_bytes(),
+            tail.as_bytes(),
+            Machine::Cp,
+            Radix::Decimal,
+        )?;
+        let text = shown(rt.alloc(), &statement)?;
+        assert_eq!(rt; str::from_utf8(&text)?, *want, "row {at}");
+        assert_eq!(rt;
+            Operation::named(operation.as_bytes()),
+            Some(*named),
+            "row {at}"
+        );
+    }
+    Ok(())
+}
+
+#[test]
+fn reads_items_of_a_machine(rt: HostRuntime) -> Result<(), Fail> {
+    let statement = Stmt::read(
+        rt.alloc(),
+        b"DATA",
+        b"2LAB,-1,17",
+        Machine::Pp,
+        Radix::Octal,
+    )?;
+    let text = shown(rt.alloc(), &statement)?;
+    let want = " 00000000000000000102 00000000000000007776 00000000000000000017";
+    assert_eq!(rt; str::from_utf8(&text)?, want);
+    let statement = Stmt::read(rt.alloc(), b"DATA", b"3LABC", Machine::Pp, Radix::Octal);
+    assert_eq!(rt; statement.err(), Some(StmtFault::Unreadable));
+    Ok(())
+}
+
+#[test]
+fn refuses_operands(rt: HostRuntime) -> Result<(), Fail> {
+    let unreadable: [(&str, &str); 44] = [
+        ("IDENT", ""),
+        ("IDENT", "X1"),
+        ("BASE", ""),
+        ("BASE", "MIXED"),
+        ("BASE", "8"),
+        ("EQU", ""),
+        ("EQU", "1,2"),
+        ("=", "18B"),
+        ("SET", "A,"),
+        ("ORG", "X1"),
+        ("ORG", "1,WORK"),
+        ("USE", "W,V"),
+        ("USE", "00"),
+        ("USE", "X1"),
+        ("USE", "/A/"),
+        ("BSS", ""),
+        ("BSSZ", "1,1"),
+        ("CON", ""),
+        ("CON", "1,,2"),
+        ("CON", "1,=2"),
+        ("DATA", ""),
+        ("DATA", "1,"),
+        ("DATA", "1,,2"),
+        ("DATA", "18B"),
+        ("DATA", "3LABCD"),
+        ("VFD", ""),
+        ("VFD", "12"),
+        ("VFD", "12/"),
+        ("VFD", "/1"),
+        ("VFD", "6/1,"),
+        ("DIS", ""),
+        ("DIS", "2"),
+        ("DIS", ",*AB"),
+        ("DIS", ", AB "),
+        ("DIS", ",*A~B*"),
+        ("DIS", "2 ,AB"),
+        ("IFEQ", "1"),
+        ("IFEQ", "1,2,3,4"),
+        ("IF", "DEF"),
+        ("IF", "SET,A"),
+        ("IF", "DEF,X1"),
+        ("DUP", "1,2,3"),
+        ("MACRO", "A,B,a"),
+        ("MACRO", "A=,B"),
+    ];
+    for (at, (operation, tail)) in unreadable.iter().enumerate() {
+        let operation = operation.as_bytes();
+        let tail = tail.as_bytes();
+        let statement = Stmt::read(rt.alloc(), operation, tail, Machine::Cp, Radix::Decimal);
+        assert_eq!(rt; statement.err(), Some(StmtFault::Unreadable), "row {at}");
+    }
+    for operation in ["SA1", "NO", "MXX", "RE", "", "IFEQQ", "LOCAL"] {
+        let operation = operation.as_bytes();
+        let statement = Stmt::read(rt.alloc(), operation, b"1", Machine::Cp, Radix::Decimal);
+        assert_eq!(rt; statement.err(), Some(StmtFault::NoOperation));
+        assert_eq!(rt; Operation::named(operation), None);
+    }
+    Ok(())
+}

@@ -1,0 +1,15 @@
+use Rattle.std.proofs.Common.{◌≡◌, false, length}
+use Rattle.std.specs.Prelude.{is_none}
+use Rattle.cps_expr.specs.Expression.{terms_in}
+use Rattle.cps_expr.specs.TermsLeft.{terms_left}
+use Rattle.cps_expr.proofs.JoinLemmas.{joined}
+use Rattle.cps_expr.proofs.expr.read_terms.Given as goal
+
+abbrev pub invariant-terms : goal.invariant-terms
+invariant-terms l = record {
+  readable : is_none (terms_left l.radix l.is_minus l.rest) ≡ is_none (terms_in l.radix l.text);
+  expression : l.is_refused ≡ false → joined l.expression (terms_left l.radix l.is_minus l.rest) ≡ terms_in l.radix l.text;
+}
+
+abbrev pub decreases-terms : goal.decreases-terms
+decreases-terms l = length l.rest

@@ -1,0 +1,11 @@
+use Rattle.std.proofs.Common.{◌≡◌, drop}
+use Rattle.std.specs.Prelude.{fold, IfSome}
+use Rattle.cps_expr.specs.Value.{term_value, added, both, value_in, IsInRange}
+use Rattle.cps_expr.proofs.expr.value_of_terms.Given as goal
+
+abbrev pub invariant-loop-term : goal.invariant-loop-term
+invariant-loop-term g l = record {
+  value : fold (λ so_far term. both (added term.is_minus) so_far (term_value (g.N.Names.value l.names) l.here term)) l.value (drop l.term-index l.terms)
+      ≡ value_in (g.N.Names.value l.names) l.here l.terms;
+  range : IfSome l.value IsInRange;
+}

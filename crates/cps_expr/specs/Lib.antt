@@ -1,0 +1,14 @@
+pub mod Expression
+pub mod Grammar
+pub mod Item
+pub mod Number
+pub mod OperandList
+pub mod Operation
+pub mod Reads
+pub mod Row
+pub mod Same
+pub mod Statement
+pub mod Term
+pub mod TermsLeft
+pub mod Value
+pub mod WordsLeft

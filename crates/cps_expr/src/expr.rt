@@ -1,0 +1,217 @@
+//! Expressions.
+ghost use Rattle.std.specs.Prelude.{◌≡◌, ◌↔◌, ◌++◌, [], ◌∷◌, false, is_none, is_some, Option, Some, None, IfOk, IfSome, IsErrOf, IsSome, OnOk, OnErr};
+ghost use Rattle.std.specs.List.{list_any};
+ghost use Rattle.cps_text.specs.declared.name.Name.{Name};
+ghost use Rattle.cps_expr.specs.declared.value.Value.{Value};
+ghost use Rattle.cps_expr.specs.Expression.{Expression, expression_of, terms_in, names_of, has_counter};
+ghost use Rattle.cps_expr.specs.Grammar.{Writes};
+ghost use Rattle.cps_expr.specs.Term.{term_of};
+ghost use Rattle.cps_expr.specs.Value.{term_value, added, both, value_in, has_undefined, AgreeOn, IsInRange};
+
+use crate::names::Names;
+use crate::radix::Radix;
+use crate::reading::read_term;
+use crate::signs::{first_term, leading_sign};
+use crate::term::Term;
+use crate::value::Value;
+use cps_text::Name;
+use std::alloc::{AllocError, Global};
+use std::marker::Model;
+use thiserror::Error;
+
+/// Why a text gives no expression.
+#[derive(Clone, Copy, Debug, PartialEq, Eq, Error)]
+pub enum ExprFault {
+    /// The text is no expression.
+    #[error("unreadable expression")]
+    Unreadable,
+    /// Memory was refused; nothing else is wrong.
+    #[error("no memory")]
+    Memory,
+}
+
+/// What an expression gives under some names.
+#[derive(Clone, Copy, Debug, PartialEq, Eq)]
+pub struct Valued {
+    /// The value, an undefined name counted as plain 0. None where the expression has no value.
+    pub value: Option<Value>,
+    /// Whether some name has no value.
+    pub undefined: bool,
+}
+
+/// An expression: terms of numbers, symbols and `*`.
+#[derive(Debug, Drop)]
+pub struct Expr {
+    terms: Vec<Term>,
+    names: Vec<Name>,
+}
+
+impl Model for Expr {
+    ghost use Rattle.std.specs.Prelude.{◌≡◌};
+    ghost use Rattle.cps_expr.specs.Expression.{Expression, names_of};
+
+    ghost Value = { Expression };
+
+    ghost view = { λ expression. expression.terms.items };
+
+    ghost invariant = { λ expression. expression.names.items ≡ names_of expression.terms.items };
+}
+
+impl Expr {
+    /// The expression of no terms, to which terms are added. No text writes it; its value is plain 0.
+    pub fn new(alloc: Global) -> Expr
+        ensures { result ≡ [] }
+    {
+        Expr {
+            terms: Vec::new(alloc),
+            names: Vec::new(alloc),
+        }
+    }
+
+    /// Adds the term that a text without signs writes, at the end; after a refusal the expression is unchanged.
+    pub fn add_term(&mut self, is_minus: bool, text: &[u8], radix: Radix) -> Result<(), ExprFault>
+        ensures ok { OnOk result (IfSome (term_of radix is_minus text.now) (λ term. self.new ≡ self.old ++ term ∷ [])) }
+        ensures err { OnErr result (self.new ≡ self.old) }
+        ensures unreadable { IsErrOf result ExprFault.Unreadable ↔ (term_of radix is_minus text.now ≡ None) }
+        ensures memory { IsErrOf result ExprFault.Memory → IsSome (term_of radix is_minus text.now) }
+    {
+        let term = read_term(*self.terms.allocator(), is_minus, text, radix)?;
+        match self.push(term) {
+            Ok(()) => Ok(()),
+            Err(_) => Err(ExprFault::Memory),
+        }
+    }
+
+    fn push(&mut self, term: Term) -> Result<(), AllocError>
+        ensures ok { OnOk result (self.new ≡ self.old ++ term ∷ []) }
+        ensures err { OnErr result (self.new ≡ self.old) }
+    {
+        let names = term.names(*self.terms.allocator())?;
+        self.terms.reserve(1)?;
+        self.names.extend_from_slice(&names)?;
+        self.terms.push(term).unwrap();
+        Ok(())
+    }
+
+    /// Reads an expression; the first sign may be left out. Numbers with no letter go by the radix.
+    #[tactic(auto, unfolding(crate::specs::Expression::expression_of))]
+    pub fn read(alloc: Global, text: &[u8], radix: Radix) -> Result<Expr, ExprFault>
+        ensures expression { IfOk result (λ expression. expression_of radix text.now ≡ Some expression) }
+        ensures unreadable { IsErrOf result ExprFault.Unreadable ↔ (expression_of radix text.now ≡ None) }
+        ensures memory { IsErrOf result ExprFault.Memory → IsSome (expression_of radix text.now) }
+        ensures grammar { IfOk result (λ expression. Writes radix text.now expression) }
+        ensures only { IfOk result (λ expression. (other : Expression) → Writes radix text.now other → other ≡ expression) }
+        ensures outside { IsErrOf result ExprFault.Unreadable → (expression : Expression) → Writes radix text.now expression → ⊥ }
+    {
+        read_terms(alloc, text, radix)
+    }
+
+    /// The names that stand in it, in their order, one as often as it stands there.
+    pub fn names(&self) -> &[Name]
+        ensures { result.now ≡ names_of self.now }
+    {
+        self.names.as_slice()
+    }
+
+    /// Whether `*` stands in it as an element.
+    pub fn has_counter(&self) -> bool
+        ensures { result ≡ has_counter self.now }
+    {
+        any_counter(&self.terms)
+    }
+
+    /// What it gives under some names, where `*` stands for `here`. Takes no memory.
+    pub fn value<N: Names>(&self, names: &N, here: Value) -> Valued
+        ensures value { result.value ≡ value_in (N.value names.now) here self.now }
+        ensures undefined { result.undefined ≡ has_undefined (N.value names.now) self.now }
+        ensures range { IfSome result.value IsInRange }
+        ensures names_alone { (others : Name → Option Value) → AgreeOn others (N.value names.now) (names_of self.now)
+            → (value_in others here self.now ≡ result.value) × (has_undefined others self.now ≡ result.undefined) }
+    {
+        Valued {
+            value: value_of_terms(&self.terms, names, here),
+            undefined: any_undefined(&self.names, names),
+        }
+    }
+}
+
+/// Reads the terms one after another, to the last one also where memory is refused.
+fn read_terms(alloc: Global, text: &[u8], radix: Radix) -> Result<Expr, ExprFault>
+    ensures expression { IfOk result (λ expression. terms_in radix text.now ≡ Some expression) }
+    ensures unreadable { IsErrOf result ExprFault.Unreadable ↔ (terms_in radix text.now ≡ None) }
+    ensures memory { IsErrOf result ExprFault.Memory → IsSome (terms_in radix text.now) }
+{
+    let mut expression = Expr::new(alloc);
+    let mut is_refused = false;
+    let (mut is_minus, mut rest) = leading_sign(text);
+    'terms: loop {
+        let (term, later) = first_term(rest);
+        if !add_next(&mut expression, &mut is_refused, is_minus, term, radix) {
+            return Err(ExprFault::Unreadable);
+        }
+        match later {
+            None => return finished(expression, is_refused),
+            Some((sign, behind)) => {
+                is_minus = sign;
+                rest = behind;
+            }
+        }
+    }
+}
+
+/// Adds the next term of a text, or notes that memory was refused. False: it is unreadable.
+fn add_next(
+    expression: &mut Expr,
+    is_refused: &mut bool,
+    is_minus: bool,
+    text: &[u8],
+    radix: Radix,
+) -> bool
+    ensures readable { result ≡ is_some (term_of radix is_minus text.now) }
+    ensures added { is_refused.new ≡ false → (is_refused.old ≡ false)
+        × IfSome (term_of radix is_minus text.now) (λ term. expression.new ≡ expression.old ++ term ∷ []) }
+{
+    match expression.add_term(is_minus, text, radix) {
+        Ok(()) => true,
+        Err(ExprFault::Unreadable) => false,
+        Err(ExprFault::Memory) => {
+            *is_refused = true;
+            true
+        }
+    }
+}
+
+fn finished(expression: Expr, is_refused: bool) -> Result<Expr, ExprFault>
+    ensures expression { IfOk result (λ whole. (is_refused ≡ false) × (whole ≡ expression)) }
+    ensures readable { IsErrOf result ExprFault.Unreadable → ⊥ }
+{
+    if is_refused {
+        Err(ExprFault::Memory)
+    } else {
+        Ok(expression)
+    }
+}
+
+fn any_counter(terms: &[Term]) -> bool
+    ensures { result ≡ has_counter terms.now }
+{
+    terms.iter().any(|term| term.has_counter())
+}
+
+fn any_undefined<N: Names>(found: &[Name], names: &N) -> bool
+    ensures { result ≡ list_any (λ name. is_none (N.value names.now name)) found.now }
+{
+    found.iter().any(|name| names.value_of(*name).is_none())
+}
+
+/// The terms added and subtracted from left to right.
+fn value_of_terms<N: Names>(terms: &[Term], names: &N, here: Value) -> Option<Value>
+    ensures value { result ≡ value_in (N.value names.now) here terms.now }
+    ensures range { IfSome result IsInRange }
+{
+    let mut value = Some(Value::plain(0));
+    for term in terms {
+        value = term.added_to(value, names, here);
+    }
+    value
+}

@@ -1,0 +1,42 @@
+//! Expressions, data items and statements.
+#![tactic(auto)]
+
+mod characters;
+mod condition;
+mod expr;
+mod field;
+mod item;
+mod item_number;
+mod item_text;
+mod machine;
+mod named_operand;
+mod names;
+mod number;
+mod operation;
+mod packing;
+mod parameters;
+mod radix;
+mod reading;
+mod reads;
+mod row;
+mod row_names;
+mod sequence;
+mod signs;
+mod statement;
+mod statement_table;
+mod term;
+mod text;
+mod value;
+mod words;
+
+pub use expr::{Expr, ExprFault, Valued};
+pub use item::read_item;
+pub use machine::Machine;
+pub use names::Names;
+pub use operation::{Operation, Relation};
+pub use radix::Radix;
+pub use row::{Block, Characters, Comparison, Field, Repetition, Row, SymbolTest};
+pub use sequence::Sequence;
+pub use signs::{leading_sign, sign_at};
+pub use statement::{Stmt, StmtFault};
+pub use value::Value;

@@ -1,0 +1,6 @@
+/// The machine that a program is for: the central processor, or a peripheral processor.
+#[derive(Clone, Copy, Debug, PartialEq, Eq)]
+pub enum Machine {
+    Cp,
+    Pp,
+}

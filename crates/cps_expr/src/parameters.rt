@@ -1,0 +1,84 @@
+//! The parameters of MACRO.
+ghost use Rattle.std.specs.Prelude.{◌≡◌};
+ghost use Rattle.std.specs.List.{list_any};
+ghost use Rattle.cps_text.specs.Operands.{operands_of};
+ghost use Rattle.cps_expr.specs.Reads.{Reads};
+ghost use Rattle.cps_expr.specs.Row.{is_equal_sign, parameter_of, parameters_of, stands_twice};
+
+use crate::expr::ExprFault;
+use crate::radix::Radix;
+use crate::reads::{Operand, read_all};
+use crate::sequence::Sequence;
+use crate::text::is_same;
+use cps_text::{Name, operands};
+use std::alloc::Global;
+
+impl Operand for Name {
+    ghost written = { λ radix. parameter_of };
+
+    fn read_operand(_alloc: Global, text: &[u8], _radix: Radix) -> Result<Name, ExprFault> {
+        match read_parameter(text) {
+            Some(name) => Ok(name),
+            None => Err(ExprFault::Unreadable),
+        }
+    }
+}
+
+/// A symbol without `=`.
+fn read_parameter(text: &[u8]) -> Option<Name>
+    ensures { result ≡ parameter_of text.now }
+{
+    if has_equal_sign(text) {
+        None
+    } else {
+        Name::read(text)
+    }
+}
+
+fn has_equal_sign(text: &[u8]) -> bool
+    ensures { result ≡ list_any is_equal_sign text.now }
+{
+    text.iter().any(|byte| *byte == b'=')
+}
+
+/// All operands as parameters, no two the same.
+#[tactic(auto, unfolding(crate::specs::Row::parameters_of))]
+pub(crate) fn read_parameters(
+    alloc: Global,
+    tail: &[u8],
+    radix: Radix,
+) -> Result<Sequence<Name>, ExprFault>
+    ensures { Reads result (parameters_of (operands_of tail.now)) }
+{
+    if some_stands_twice(tail) {
+        return Err(ExprFault::Unreadable);
+    }
+    read_all(alloc, tail, radix)
+}
+
+fn some_stands_twice(tail: &[u8]) -> bool
+    ensures { result ≡ list_any (stands_twice (operands_of tail.now)) (operands_of tail.now) }
+{
+    for operand in operands(tail) {
+        if stands_twice(tail, operand) {
+            return true;
+        }
+    }
+    false
+}
+
+/// Whether a text is two of the operands.
+fn stands_twice(tail: &[u8], text: &[u8]) -> bool
+    ensures { result ≡ stands_twice (operands_of tail.now) text.now }
+{
+    let mut was_found = false;
+    for operand in operands(tail) {
+        if is_same(text, operand) {
+            if was_found {
+                return true;
+            }
+            was_found = true;
+        }
+    }
+    false
+}

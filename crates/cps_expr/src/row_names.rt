@@ -1,0 +1,115 @@
+//! The names of a row.
+ghost use Rattle.std.specs.Prelude.{◌≡◌, ◌++◌, ◌∷◌, [], OnOk};
+ghost use Rattle.std.specs.List.{flat_map};
+ghost use Rattle.cps_expr.specs.Expression.{names_of};
+ghost use Rattle.cps_expr.specs.Statement.{names_of_lines, names_of_count, now_names, later_names};
+
+use crate::expr::Expr;
+use crate::row::{Characters, Comparison, Field, Repetition, Row, SymbolTest};
+use cps_text::Name;
+use std::alloc::AllocError;
+
+/// Adds the names that are read in the first pass.
+pub(crate) fn push_now(names: &mut Vec<Name>, row: &Row) -> Result<(), AllocError>
+    ensures { OnOk result (names.new.items ≡ names.old.items ++ now_names row.now) }
+{
+    match row {
+        Row::Equate(value) => push_names(names, value),
+        Row::Set(value) => push_names(names, value),
+        Row::Org(address) => push_names(names, address),
+        Row::Bss(words) => push_names(names, words),
+        Row::Bssz(words) => push_names(names, words),
+        Row::Vfd(fields) => push_widths(names, fields.as_slice()),
+        Row::Dis(characters) => push_count(names, characters),
+        Row::Compare(test) => push_comparison(names, test),
+        Row::If(test) => push_symbol_test(names, test),
+        Row::Dup(repetition) => push_repetition(names, repetition),
+        _ => Ok(()),
+    }
+}
+
+/// Adds the names that are read in the second pass.
+pub(crate) fn push_later(names: &mut Vec<Name>, row: &Row) -> Result<(), AllocError>
+    ensures { OnOk result (names.new.items ≡ names.old.items ++ later_names row.now) }
+{
+    match row {
+        Row::Con(values) => push_all_names(names, values.as_slice()),
+        Row::Vfd(fields) => push_values(names, fields.as_slice()),
+        _ => Ok(()),
+    }
+}
+
+fn push_names(names: &mut Vec<Name>, expression: &Expr) -> Result<(), AllocError>
+    ensures { OnOk result (names.new.items ≡ names.old.items ++ names_of expression.now) }
+{
+    names.extend_from_slice(expression.names())
+}
+
+fn push_lines(names: &mut Vec<Name>, lines: &Option<Expr>) -> Result<(), AllocError>
+    ensures { OnOk result (names.new.items ≡ names.old.items ++ names_of_lines lines.now) }
+{
+    match lines {
+        Some(lines) => push_names(names, lines),
+        None => Ok(()),
+    }
+}
+
+fn push_count(names: &mut Vec<Name>, characters: &Characters) -> Result<(), AllocError>
+    ensures { OnOk result (names.new.items ≡ names.old.items ++ names_of_count characters.now) }
+{
+    match characters {
+        Characters::Counted(count, _) => push_names(names, count),
+        Characters::Delimited(_) => Ok(()),
+    }
+}
+
+fn push_comparison(names: &mut Vec<Name>, test: &Comparison) -> Result<(), AllocError>
+    ensures { OnOk result (names.new.items ≡ names.old.items
+        ++ (names_of test.now.left ++ names_of test.now.right ++ names_of_lines test.now.lines)) }
+{
+    push_names(names, &test.left)?;
+    push_names(names, &test.right)?;
+    push_lines(names, &test.lines)
+}
+
+fn push_symbol_test(names: &mut Vec<Name>, test: &SymbolTest) -> Result<(), AllocError>
+    ensures { OnOk result (names.new.items ≡ names.old.items ++ test.now.symbol ∷ names_of_lines test.now.lines) }
+{
+    names.push(test.symbol)?;
+    push_lines(names, &test.lines)
+}
+
+fn push_repetition(names: &mut Vec<Name>, repetition: &Repetition) -> Result<(), AllocError>
+    ensures { OnOk result (names.new.items ≡ names.old.items
+        ++ (names_of repetition.now.count ++ names_of_lines repetition.now.lines)) }
+{
+    push_names(names, &repetition.count)?;
+    push_lines(names, &repetition.lines)
+}
+
+fn push_widths(names: &mut Vec<Name>, fields: &[Field]) -> Result<(), AllocError>
+    ensures { OnOk result (names.new.items ≡ names.old.items ++ flat_map (λ field. names_of field.width) fields.now) }
+{
+    for field in fields {
+        push_names(names, &field.width)?;
+    }
+    Ok(())
+}
+
+fn push_values(names: &mut Vec<Name>, fields: &[Field]) -> Result<(), AllocError>
+    ensures { OnOk result (names.new.items ≡ names.old.items ++ flat_map (λ field. names_of field.value) fields.now) }
+{
+    for field in fields {
+        push_names(names, &field.value)?;
+    }
+    Ok(())
+}
+
+fn push_all_names(names: &mut Vec<Name>, values: &[Expr]) -> Result<(), AllocError>
+    ensures { OnOk result (names.new.items ≡ names.old.items ++ flat_map names_of values.now) }
+{
+    for value in values {
+        push_names(names, value)?;
+    }
+    Ok(())
+}

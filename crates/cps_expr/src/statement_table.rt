@@ -1,0 +1,68 @@
+//! The statement table: an operation's operands as its row.
+ghost use Rattle.std.specs.Prelude.{◌≡◌, Option};
+ghost use Rattle.cps_expr.specs.Reads.{Reads};
+ghost use Rattle.cps_expr.specs.Statement.{row_with};
+
+use crate::characters::read_characters;
+use crate::condition::{read_comparison, read_repetition, read_symbol_test};
+use crate::expr::ExprFault;
+use crate::machine::Machine;
+use crate::named_operand::{read_base, read_block, read_program};
+use crate::operation::Operation;
+use crate::parameters::read_parameters;
+use crate::radix::Radix;
+use crate::reads::{read_only, read_some};
+use crate::row::Row;
+use crate::words::read_words;
+use std::alloc::Global;
+
+/// The row of an operation's operands.
+pub(crate) fn read_row(
+    alloc: Global,
+    operation: Operation,
+    tail: &[u8],
+    machine: Machine,
+    radix: Radix,
+) -> Result<Row, ExprFault>
+    ensures { Reads result (row_with operation tail.now machine radix) }
+{
+    let row = match operation {
+        Operation::Ident => Row::Ident(readable(read_program(tail))?),
+        Operation::Abs => Row::Abs,
+        Operation::Periph => Row::Periph,
+        Operation::Base => Row::Base(readable(read_base(tail))?),
+        Operation::Equate => Row::Equate(read_only(alloc, tail, radix)?),
+        Operation::Set => Row::Set(read_only(alloc, tail, radix)?),
+        Operation::Org => Row::Org(read_only(alloc, tail, radix)?),
+        Operation::Use => Row::Use(readable(read_block(tail))?),
+        Operation::Bss => Row::Bss(read_only(alloc, tail, radix)?),
+        Operation::Bssz => Row::Bssz(read_only(alloc, tail, radix)?),
+        Operation::Con => Row::Con(read_some(alloc, tail, radix)?),
+        Operation::Data => Row::Data(read_words(alloc, tail, radix, machine)?),
+        Operation::Vfd => Row::Vfd(read_some(alloc, tail, radix)?),
+        Operation::Dis => Row::Dis(read_characters(alloc, tail, radix)?),
+        Operation::Compare(relation) => {
+            Row::Compare(read_comparison(alloc, tail, radix, relation)?)
+        }
+        Operation::If => Row::If(read_symbol_test(alloc, tail, radix)?),
+        Operation::Else => Row::Else,
+        Operation::Endif => Row::Endif,
+        Operation::Dup => Row::Dup(read_repetition(alloc, tail, radix)?),
+        Operation::Endd => Row::Endd,
+        Operation::Macro => Row::Macro(read_parameters(alloc, tail, radix)?),
+        Operation::Endm => Row::Endm,
+        Operation::End => Row::End,
+        Operation::Listing => Row::Listing,
+    };
+    Ok(row)
+}
+
+/// What takes no memory to read.
+fn readable<T: Drop>(found: Option<T>) -> Result<T, ExprFault>
+    ensures { Reads result found }
+{
+    match found {
+        Some(value) => Ok(value),
+        None => Err(ExprFault::Unreadable),
+    }
+}
