@@ -1,4 +1,5 @@
 pub mod ArgumentLemmas
+pub mod CardLemmas
 pub mod NameLemmas
 pub mod OctalLemmas
 pub mod PartLemmas

@@ -1,5 +1,5 @@
 -- The definitions, computed on small examples.
-use Rattle.std.specs.Prelude.{◌≡◌, ℕ, true, false, List, [], ◌∷◌, codes, None, Some, option_map, refl}
+use Rattle.std.specs.Prelude.{◌≡◌, ℕ, true, false, List, [], ◌∷◌, ◌++◌, drop, codes, None, Some, option_map, refl}
 use Rattle.cps_text.specs.Arguments.{has_unclosed, arguments_of}
 use Rattle.cps_text.specs.Card.{CommentLine, ContinuedLine, StatementLine, fields_of}
 use Rattle.cps_text.specs.DataItem.{item_extent}
@@ -52,6 +52,19 @@ late_variable = refl
 
 last_variable : fields_of (codes "         SX1                X2 Y ") ≡ StatementLine (record { location = []; operation = codes "SX1"; variable = codes "X2"; comment = codes "Y "; tail = codes "X2 Y " })
 last_variable = refl
+
+long_location : fields_of (codes "START1  SA1 B1") ≡ StatementLine (record { location = codes "START1"; operation = codes "SA1"; variable = codes "B1"; comment = []; tail = codes "B1" })
+long_location = refl
+
+close_fields : fields_of (codes "L NO X Y") ≡ StatementLine (record { location = codes "L"; operation = codes "NO"; variable = codes "X"; comment = codes "Y"; tail = codes "X Y" })
+close_fields = refl
+
+-- a line whose comment ends in column 73
+abbrev full_card : List ℕ
+full_card = codes "         CON     1                                            SECOND WOR"
+
+column_72 : fields_of (full_card ++ codes "D") ≡ StatementLine (record { location = []; operation = codes "CON"; variable = codes "1"; comment = codes "SECOND WOR"; tail = drop 17 full_card })
+column_72 = refl
 
 third_column : fields_of (codes "  NO") ≡ StatementLine (record { location = []; operation = codes "NO"; variable = []; comment = []; tail = [] })
 third_column = refl

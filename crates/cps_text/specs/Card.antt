@@ -1,44 +1,54 @@
--- The fields of a line. From the manual's section on the statement format; a line is a card of which columns 1 to 72 are read.
--- Columns are counted from 0 here, so the manual's column 3 is 2 and column 30 is 29.
-use Rattle.std.specs.Prelude.{ℕ, ◌+◌, max, Bool, ◌||◌, ◌==◌, nat_lt, List, [], take, drop, slice_index, if◌then◌else◌}
+-- The fields of a line, computed: `Columns.antt` has the rule. A card has 80 columns, of which 1 to 72 are read; a line stands for one.
+-- From the manual's section on the statement format. Places are counted from 0 here: column 3 is place 2.
+use Rattle.std.specs.Prelude.{ℕ, ◌+◌, max, Bool, ◌||◌, nat_lt, List, [], take, drop, codes, if◌then◌else◌}
 use Rattle.std.specs.List.{list_all, position_or_len, before_first}
-use Rattle.cps_text.specs.Text.{is_blank, is_filled}
+use Rattle.cps_text.specs.Text.{begins_with, is_blank, is_filled}
+
+-- the last column that is read, and the last ones in which the location field and the variable field begin, from 1
+abbrev pub last_column : ℕ
+last_column = 72
+
+abbrev pub last_location_column : ℕ
+last_location_column = 2
+
+abbrev pub last_variable_column : ℕ
+last_variable_column = 29
 
 -- the columns of a line that are read
 abbrev pub card : List ℕ → List ℕ
-card text = take 72 text
+card text = take last_column text
 
--- the first column from one on that isn't blank, and the first one that is; the end where there is none
+-- the first place from one on that isn't blank, and the first one that is; the end where there is none
 abbrev pub filled_from : List ℕ → ℕ → ℕ
 filled_from text at = at + position_or_len is_filled (drop at text)
 
 abbrev pub blank_from : List ℕ → ℕ → ℕ
 blank_from text at = at + position_or_len is_blank (drop at text)
 
--- the run of characters that aren't blank, from a column on
-abbrev pub run_at : List ℕ → ℕ → List ℕ
-run_at text at = before_first is_blank (drop at text)
+-- the characters from a place on, up to a blank
+abbrev pub field_at : List ℕ → ℕ → List ℕ
+field_at text at = before_first is_blank (drop at text)
 
 -- the location field begins in column 1 or 2, at the first of them that isn't blank
 abbrev pub has_location : List ℕ → Bool
-has_location text = nat_lt (filled_from text 0) 2
+has_location text = nat_lt (filled_from text 0) last_location_column
 
 abbrev pub location_of : List ℕ → List ℕ
-location_of text = if has_location text then run_at text (filled_from text 0) else []
+location_of text = if has_location text then field_at text (filled_from text 0) else []
 
 abbrev pub location_end : List ℕ → ℕ
 location_end text = if has_location text then blank_from text (filled_from text 0) else 0
 
--- the operation field is the next run, from column 3 at the earliest
+-- the operation field is the next one, in column 3 at the earliest
 abbrev pub operation_at : List ℕ → ℕ
-operation_at text = filled_from text (max 2 (location_end text))
+operation_at text = filled_from text (max last_location_column (location_end text))
 
--- the run behind the operation field is the variable field, if it begins before column 30
+-- the variable field is the one behind it, if it begins before column 30
 abbrev pub behind_operation : List ℕ → ℕ
 behind_operation text = filled_from text (blank_from text (operation_at text))
 
 abbrev pub has_variable : List ℕ → Bool
-has_variable text = nat_lt (behind_operation text) 29
+has_variable text = nat_lt (behind_operation text) last_variable_column
 
 -- what stands behind the variable field; behind the operation field where there is no variable field
 abbrev pub comment_at : List ℕ → ℕ
@@ -55,19 +65,19 @@ pub record StatementFields : Type 0 where
 abbrev pub statement_of : List ℕ → StatementFields
 statement_of text = record {
   location = location_of text;
-  operation = run_at text (operation_at text);
-  variable = if has_variable text then run_at text (behind_operation text) else [];
+  operation = field_at text (operation_at text);
+  variable = if has_variable text then field_at text (behind_operation text) else [];
   comment = drop (comment_at text) text;
   tail = if has_variable text then drop (behind_operation text) text else [];
 }
 
 -- a comment has `*` in column 1, or nothing but blanks
 abbrev pub is_comment : List ℕ → Bool
-is_comment text = (slice_index text 0 == 42) || list_all is_blank text
+is_comment text = begins_with (codes "*") text || list_all is_blank text
 
 -- a line that continues the one before has `,` in column 1
 abbrev pub is_continued : List ℕ → Bool
-is_continued text = slice_index text 0 == 44
+is_continued text = begins_with (codes ",") text
 
 -- what a line is
 pub data LineFields : Type 0 where

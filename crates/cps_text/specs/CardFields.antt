@@ -1,10 +1,10 @@
 -- The fields of a line in the code, as fields of a card.
-use Rattle.cps_text.specs.declared.card.Statement.{Statement as StatementOfCode}
+use Rattle.cps_text.specs.declared.card.StatementFields.{StatementFields as FieldsOfCode}
 use Rattle.cps_text.specs.declared.card.Fields.{Fields}
 use Rattle.cps_text.specs.declared.card.Fields.TheVariants.{Comment, Continued, Statement}
 use Rattle.cps_text.specs.Card.{StatementFields, LineFields, CommentLine, ContinuedLine, StatementLine}
 
-abbrev pub statement_value : StatementOfCode → StatementFields
+abbrev pub statement_value : FieldsOfCode → StatementFields
 statement_value statement = record {
   location = statement.location.now;
   operation = statement.operation.now;

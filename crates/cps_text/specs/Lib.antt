@@ -1,6 +1,7 @@
 pub mod Arguments
 pub mod Card
 pub mod CardFields
+pub mod Columns
 pub mod Counted
 pub mod CountedExtent
 pub mod DataItem

@@ -1,30 +1,16 @@
--- Lines of a source.
-use Rattle.std.specs.Prelude.{◌≡◌, ℕ, ◌≤◌, Bool, false, ◌&&◌, ◌||◌, not, ◌==◌, nat_le, IsTrue, List, length}
+-- Lines of a source. Our own: the characters of the display code, and lower-case letters.
+use Prim.Native.Char.{code}
+use Rattle.std.specs.Prelude.{◌≡◌, ℕ, ◌≤◌, Bool, false, ◌&&◌, not, nat_le, IsTrue, List, length, codes}
 use Rattle.std.specs.List.{list_all}
+use Rattle.cps_text.specs.Text.{among}
 
 -- the five characters from blank to tilde that no line has
-abbrev pub backquote : ℕ
-backquote = 96
-
-abbrev pub opening_brace : ℕ
-opening_brace = 123
-
-abbrev pub vertical_bar : ℕ
-vertical_bar = 124
-
-abbrev pub closing_brace : ℕ
-closing_brace = 125
-
-abbrev pub tilde : ℕ
-tilde = 126
-
--- a character is one of those five
 abbrev pub is_left_out : ℕ → Bool
-is_left_out byte = byte == backquote || (byte == opening_brace || (byte == vertical_bar || (byte == closing_brace || byte == tilde)))
+is_left_out = among (codes "`{|}~")
 
 -- a character is one that a line may have: from blank to tilde, and none of those five
 abbrev pub is_accepted_byte : ℕ → Bool
-is_accepted_byte byte = nat_le 32 byte && (nat_le byte 126 && not (is_left_out byte))
+is_accepted_byte byte = nat_le (code " ") byte && (nat_le byte (code "~") && not (is_left_out byte))
 
 -- each character is one that a line may have
 abbrev pub all_accepted : List ℕ → Bool

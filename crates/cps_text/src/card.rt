@@ -4,18 +4,22 @@ ghost use Rattle.std.specs.List.{list_all};
 ghost use Rattle.cps_text.specs.Text.{is_blank};
 ghost use Rattle.cps_text.specs.Card.{card, is_comment, is_continued, location_of, location_end, fields_of, statement_of};
 ghost use Rattle.cps_text.specs.CardFields.{statement_value, fields_value};
+ghost use Rattle.cps_text.specs.Columns.{IsCard};
 
-use crate::places::{blank_from, filled_from, from, run_at};
+use crate::places::{blank_from, field_at, filled_from, from};
 
-/// The columns of a line that are read.
-const COLUMNS: usize = 72;
+/// The last column, from 1, that is read.
+const LAST_COLUMN: usize = 72;
 
-/// The variable field begins before this column, counted from 0.
-const LAST_VARIABLE: usize = 29;
+/// The last column, from 1, in which the location field begins.
+const LAST_LOCATION_COLUMN: usize = 2;
+
+/// The last column, from 1, in which the variable field begins.
+const LAST_VARIABLE_COLUMN: usize = 29;
 
 /// The fields of a statement.
 #[derive(Clone, Copy)]
-pub struct Statement<'a> {
+pub struct StatementFields<'a> {
     pub location: &'a [u8],
     pub operation: &'a [u8],
     pub variable: &'a [u8],
@@ -32,12 +36,13 @@ pub enum Fields<'a> {
     Comment,
     /// `,` stands in column 1.
     Continued,
-    Statement(Statement<'a>),
+    Statement(StatementFields<'a>),
 }
 
 /// The fields of a line.
 pub fn read_fields(line: &[u8]) -> Fields<'_>
-    ensures { fields_value result ≡ fields_of line.now }
+    ensures fields { fields_value result ≡ fields_of line.now }
+    ensures rule { IsCard line.now (fields_value result) }
 {
     let card = read_columns(line);
     if is_comment(card) {
@@ -53,10 +58,10 @@ pub fn read_fields(line: &[u8]) -> Fields<'_>
 pub fn read_columns(line: &[u8]) -> &[u8]
     ensures { result.now ≡ card line.now }
 {
-    if line.len() <= COLUMNS {
+    if line.len() <= LAST_COLUMN {
         return line;
     }
-    let (card, _) = line.split_at(COLUMNS);
+    let (card, _) = line.split_at(LAST_COLUMN);
     card
 }
 
@@ -73,23 +78,23 @@ fn is_continued(card: &[u8]) -> bool
     !card.is_empty() && card[0] == b','
 }
 
-fn statement_fields(card: &[u8]) -> Statement<'_>
+fn statement_fields(card: &[u8]) -> StatementFields<'_>
     ensures { statement_value result ≡ statement_of card.now }
 {
     let (location, end) = location(card);
-    let operation_at = filled_from(card, end.max(2));
-    let operation = run_at(card, operation_at);
+    let operation_at = filled_from(card, end.max(LAST_LOCATION_COLUMN));
+    let operation = field_at(card, operation_at);
     let next_at = filled_from(card, blank_from(card, operation_at));
-    if next_at < LAST_VARIABLE {
-        Statement {
+    if next_at < LAST_VARIABLE_COLUMN {
+        StatementFields {
             location,
             operation,
-            variable: run_at(card, next_at),
+            variable: field_at(card, next_at),
             comment: from(card, filled_from(card, blank_from(card, next_at))),
             tail: from(card, next_at),
         }
     } else {
-        Statement {
+        StatementFields {
             location,
             operation,
             variable: &[],
@@ -112,8 +117,8 @@ fn location(card: &[u8]) -> (&[u8], usize)
     ensures near { result.1 < 2 ^ 63 }
 {
     let at = filled_from(card, 0);
-    if at < 2 {
-        (run_at(card, at), blank_from(card, at))
+    if at < LAST_LOCATION_COLUMN {
+        (field_at(card, at), blank_from(card, at))
     } else {
         (&[], 0)
     }

@@ -19,7 +19,7 @@ mod run;
 mod tail;
 
 pub use argument_list::{ArgFault, arguments};
-pub use card::{Fields, Statement, read_fields};
+pub use card::{Fields, StatementFields, read_fields};
 pub use character::{capital, display};
 pub use counted::Counted;
 pub use data_item::{capped_count, digits_len, item_extent};

@@ -2,6 +2,7 @@
 ghost use Rattle.std.specs.Prelude.{◌≡◌, ◌↔◌, ◌<◌, IsOk, IfOk, IsErrOf, length};
 ghost use Rattle.cps_text.specs.Card.{fields_of};
 ghost use Rattle.cps_text.specs.CardFields.{fields_value};
+ghost use Rattle.cps_text.specs.Columns.{IsCard};
 ghost use Rattle.cps_text.specs.Line.{IsLine, HasBadCharacter, all_accepted, is_accepted_byte};
 
 use crate::card::{Fields, read_fields};
@@ -85,7 +86,8 @@ impl Line {
 
     /// What the line is, and its fields.
     pub fn fields(&self) -> Fields<'_>
-        ensures { fields_value result ≡ fields_of self.now }
+        ensures fields { fields_value result ≡ fields_of self.now }
+        ensures rule { IsCard self.now (fields_value result) }
     {
         read_fields(self.bytes())
     }

@@ -1,18 +1,34 @@
 //! Symbols of the language.
 ghost use Rattle.std.specs.Prelude.{◌≡◌, ◌≤◌, ◌<◌, length, IfSome};
 ghost use Rattle.std.specs.List.{list_all, position};
+ghost use Rattle.std.specs.Int.{w64, from_le_bytes};
+ghost use Rattle.std.specs.Hash as fed;
+ghost use Rattle.std.specs.Cmp.Rules.{hashing};
+ghost use Rattle.std.proofs.Common.{rules};
 ghost use Rattle.cps_text.specs.Symbol.{begins_symbol, continues_symbol, is_register, is_symbol, padded, is_padding};
 ghost use Rattle.cps_text.specs.Text.{capitals};
 
 use crate::character::capital;
+use std::hash::{Hash, Hasher};
 
 /// The most characters of a symbol.
 const LONGEST: usize = 8;
 
 /// A symbol in capitals: 1 to 8 characters. Names are ordered by their characters.
-#[derive(Clone, Copy, Debug, PartialEq, Eq, PartialOrd, Ord, Hash)]
+#[derive(Clone, Copy, Debug, PartialEq, Eq, PartialOrd, Ord)]
 pub struct Name {
     bytes: [u8; LONGEST],
+}
+
+/// A name hashes as one number.
+impl Hash for Name {
+    ghost hash_input = { λ name. fed.u64 (from_le_bytes w64 name.bytes) };
+
+    ghost respects_eq = { Prim.search (hashing, rules) };
+
+    fn hash<H: Hasher>(&self, state: &mut H) {
+        state.write_u64(u64::from_le_bytes(self.bytes));
+    }
 }
 
 impl Name {

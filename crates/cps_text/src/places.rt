@@ -1,10 +1,10 @@
 //! Where blanks and other characters stand in a text.
 ghost use Rattle.std.specs.Prelude.{◌≡◌, ◌+◌, ◌^◌, ◌≤◌, ◌<◌, length, drop, IfSome};
 ghost use Rattle.std.specs.List.{before_first, position, position_or_len};
-ghost use Rattle.cps_text.specs.Card.{filled_from, blank_from, run_at};
+ghost use Rattle.cps_text.specs.Card.{filled_from, blank_from, field_at};
 ghost use Rattle.cps_text.specs.Text.{is_blank, is_filled};
 
-/// The first column from one on that isn't blank; the end where there is none.
+/// The first place, from 0, from one on that isn't blank; the end where there is none.
 pub fn filled_from(text: &[u8], at: usize) -> usize
     requires { at < 2 ^ 63 }
     ensures column { result ≡ filled_from text.now at }
@@ -13,7 +13,7 @@ pub fn filled_from(text: &[u8], at: usize) -> usize
     at + first_filled(from(text, at))
 }
 
-/// The first column from one on that is blank; the end where there is none.
+/// The first place from one on that is blank; the end where there is none.
 pub fn blank_from(text: &[u8], at: usize) -> usize
     requires { at < 2 ^ 63 }
     ensures column { result ≡ blank_from text.now at }
@@ -22,9 +22,9 @@ pub fn blank_from(text: &[u8], at: usize) -> usize
     at + first_blank(from(text, at))
 }
 
-/// The run of characters that aren't blank, from a column on.
-pub fn run_at(text: &[u8], at: usize) -> &[u8]
-    ensures { result.now ≡ run_at text.now at }
+/// The characters from a place on, up to a blank.
+pub fn field_at(text: &[u8], at: usize) -> &[u8]
+    ensures { result.now ≡ field_at text.now at }
 {
     before_blank(from(text, at))
 }
@@ -37,7 +37,7 @@ pub fn before_blank(text: &[u8]) -> &[u8]
     front
 }
 
-/// What stands from a column on.
+/// What stands from a place on.
 pub fn from(text: &[u8], at: usize) -> &[u8]
     ensures { result.now ≡ drop at text.now }
 {
