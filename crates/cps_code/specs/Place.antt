@@ -1,6 +1,8 @@
 -- Where an instruction of the central processor begins, and what fills the bits that it skips.
 -- From the manual's rules for forcing upper and for instructions of 15 and 30 bits in a word of four parcels; what is pending is our profile's.
-use Rattle.std.specs.Prelude.{◌≡◌, ℕ, zero, suc, ◌+◌, ◌-◌, ◌*◌, ◌%◌, ◌^◌, ◌<◌, ◌≤◌, Bool, true, false, ◌&&◌, ◌||◌, not, ◌==◌, IsTrue, Option, None, Some, if◌then◌else◌, nat_le}
+use Rattle.std.specs.Prelude.{◌≡◌, ℕ, zero, suc, ◌+◌, ◌-◌, ◌*◌, ◌/◌, ◌%◌, ◌^◌, ◌<◌, ◌≤◌, Bool, true, false, ◌&&◌, ◌||◌, not, ◌==◌, IsTrue, Option, None, Some, if◌then◌else◌, nat_le}
+use Rattle.std.proofs.Math.Nat.{mod-lt}
+use Rattle.std.proofs.Math.Dec.{lit<}
 use Rattle.cps_code.specs.declared.place.Place.{Place}
 use Rattle.cps_code.specs.declared.place.Filling.{Filling}
 use Rattle.cps_code.specs.declared.place.Force.{Force}
@@ -11,6 +13,10 @@ use Rattle.cps_code.specs.Least.{first_from}
 -- a place as the number of bits before it, through all words
 abbrev pub position : Place → ℕ
 position place = 60 * place.word + place.used
+
+-- the place behind so many bits, through all words
+abbrev pub place_at : ℕ → Bool → Place
+place_at at is_pending = record { word = at / 60; used = at % 60; is_pending = is_pending; in_word = mod-lt at (lit< tt) }
 
 -- whether what comes next has to begin a word
 abbrev pub is_forced : Bool → Force → Bool

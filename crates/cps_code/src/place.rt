@@ -1,4 +1,4 @@
-ghost use Rattle.std.specs.Prelude.{◌<◌};
+ghost use Rattle.std.specs.Prelude.{◌≡◌, ◌<◌};
 
 /// Where a program stands: a word, the bits that are used in it (0 to 59), and whether a forcing is pending,
 /// so that what comes next begins a word.
@@ -8,6 +8,21 @@ pub struct Place {
     pub used: u8,
     pub is_pending: bool,
     ghost in_word: { used < 60 },
+}
+
+impl Place {
+    ghost use Rattle.cps_code.specs.Place.{place_at};
+
+    /// The place behind so many bits, through all words.
+    pub fn behind(bits: u32, is_pending: bool) -> Place
+        ensures { result ≡ place_at bits is_pending }
+    {
+        Place {
+            word: bits / 60,
+            used: (bits % 60) as u8,
+            is_pending,
+        }
+    }
 }
 
 /// What a location field asks of the place: nothing, a new word (a symbol or `+`), or that a pending forcing

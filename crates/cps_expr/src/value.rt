@@ -30,6 +30,14 @@ impl Value {
             offset,
         }
     }
+
+    /// The value, if it is in the range of expressions.
+    pub fn limited(self) -> Option<Value>
+        ensures value { result ≡ limited self }
+        ensures range { IfSome result IsInRange }
+    {
+        limited(self)
+    }
 }
 
 /// The value, if it is in range.

@@ -1,0 +1,3 @@
+pub mod CardLemmas
+pub mod CourseLemmas
+pub mod StepLemmas

@@ -1,0 +1,80 @@
+-- ORG and END: both leave the word that was begun. From the manual's descriptions of these statements; that they force is our profile's.
+use Rattle.std.specs.Prelude.{ℕ, ◌*◌, Bool, true, false, nat_lt, pos, negsuc, ℤ, Option, None, Some, if◌then◌else◌}
+use Rattle.cps_text.specs.declared.name.Name.{Name}
+use Rattle.cps_expr.specs.declared.value.Value.{Value as AValue}
+use Rattle.cps_expr.specs.Expression.{Expression}
+use Rattle.cps_code.specs.declared.place.Place.{Place}
+use Rattle.cps_code.specs.Place.{position}
+use Rattle.cps_state.specs.declared.key.Key.TheVariants as key
+use Rattle.cps_state.specs.declared.key.Control.{Control}
+use Rattle.cps_state.specs.declared.key.Phase.TheVariants.{AfterEnd}
+use Rattle.cps_state.specs.declared.made.Shown.TheVariants as shown
+use Rattle.cps_state.specs.Course.{Part, nothing, ◌before◌, asking, fill}
+use Rattle.cps_state.specs.Keys.{same_block, place_of, limit}
+use Rattle.cps_state.specs.Made.{Made, flagged}
+use Rattle.cps_pass.specs.declared.reading.Location.{Location}
+use Rattle.cps_pass.specs.declared.value_now.ValueNow.{ValueNow}
+use Rattle.cps_pass.specs.declared.value_now.ValueNow.TheVariants.{Undefined, NoValue, Known}
+use Rattle.cps_pass.specs.Head.{putting_control, entering}
+use Rattle.cps_pass.specs.Located.{present_flags}
+use Rattle.cps_pass.specs.Places.{filling_between, place_left, here_at, going_on}
+use Rattle.cps_pass.specs.ValueNow.{now}
+
+-- the word of a block is left; what fills it belongs to the statement
+abbrev pub left : Option Name → Location → Place → Made
+left block location place = record (flagged (present_flags location)) { block = block; filling = filling_between (position place) (place_left place) }
+
+-- a statement that takes no location field, with unreadable operands
+abbrev pub unread_made : Location → Made
+unread_made location = flagged (record (present_flags location) { operand = true })
+
+abbrev pub unread : Location → Part
+unread location = fill (unread_made location)
+
+-- ---- ORG: goes on at an address, in the block of its value
+
+-- another block is in use
+abbrev pub using : Control → Option Name → Part
+using control block = if same_block control.block block then nothing else putting_control (record control { block = block })
+
+-- E above the machine's words
+abbrev pub moving_to : Control → Location → Place → Option Name → ℕ → Part
+moving_to control location place block address =
+    if nat_lt limit address then fill (flagged (record (present_flags location) { structure = true }))
+    else going_on control.block (place_left place) false before going_on block (60 * address) false before using control block
+    before fill (record (left control.block location place) { shown = shown.Address (record { block = block; offset = pos address }) })
+
+-- an address is no number below 0
+abbrev pub address_in : ℤ → Option ℕ
+address_in (pos address) = Some address
+address_in (negsuc n) = None
+
+-- A where there is none
+abbrev pub moving_by : Control → Location → Place → Option Name → Option ℕ → Part
+moving_by control location place block None = unread location
+moving_by control location place block (Some address) = moving_to control location place block address
+
+abbrev pub moving : Control → Location → Place → ValueNow → Part
+moving control location place Undefined = fill (flagged (record (present_flags location) { undefined = true }))
+moving control location place NoValue = unread location
+moving control location place (Known value) = moving_by control location place value.block (address_in value.offset)
+
+-- `*` is the address behind the word that is left
+abbrev pub org_from : Control → Location → Place → Expression → Part
+org_from control location place terms = now terms (here_at control.block (place_left place)) (λ value. moving control location place value)
+
+abbrev pub org : Control → Location → Expression → Part
+org control location terms = asking (key.Counter control.block) (λ a. org_from control location (place_of a) terms)
+
+-- ORG with an unreadable operand
+abbrev pub unread_org : Control → Location → Part
+unread_org control location = asking (key.Counter control.block) (λ a. unread location)
+
+-- ---- END
+
+abbrev pub ending : Control → Location → Place → Part
+ending control location place =
+    going_on control.block (place_left place) false before entering control AfterEnd before fill (left control.block location place)
+
+abbrev pub end : Control → Location → Part
+end control location = asking (key.Counter control.block) (λ a. ending control location (place_of a))

@@ -1,0 +1,10 @@
+pub mod Blocks
+pub mod Head
+pub mod Instruction
+pub mod Located
+pub mod Meaning
+pub mod NamesNow
+pub mod Places
+pub mod Reading
+pub mod Symbols
+pub mod ValueNow

@@ -1,0 +1,98 @@
+-- What a line does in pass one: by what it says, and by the part of the program in which it stands. From the manual's chapter on pseudo instructions.
+use Rattle.std.specs.Prelude.{ℕ, true, List, Option, None, Some}
+use Rattle.cps_text.specs.Card.{LineFields, CommentLine, ContinuedLine, StatementLine, fields_of}
+use Rattle.cps_expr.specs.declared.operation.Operation.{Operation}
+use Rattle.cps_expr.specs.declared.operation.Operation.TheVariants as operation
+use Rattle.cps_expr.specs.declared.row.Row.{Row}
+use Rattle.cps_expr.specs.declared.row.Row.TheVariants as row
+use Rattle.cps_state.specs.declared.key.Key.TheVariants as key
+use Rattle.cps_state.specs.declared.key.Control.{Control}
+use Rattle.cps_state.specs.declared.key.Phase.{Phase}
+use Rattle.cps_state.specs.declared.key.Phase.TheVariants.{Head, Body, AfterEnd}
+use Rattle.cps_state.specs.Course.{Part, ◌before◌, asking, stop, begin, fill, Trace, run, not_begun, traced}
+use Rattle.cps_state.specs.Keys.{State, control_of}
+use Rattle.cps_state.specs.Made.{flagged, no_flags}
+use Rattle.cps_pass.specs.declared.reading.Location.{Location}
+use Rattle.cps_pass.specs.declared.reading.Stating.{Stating}
+use Rattle.cps_pass.specs.declared.reading.Stating.TheVariants.{Missing, Unknown, Stated, Unreadable, Instruction}
+use Rattle.cps_pass.specs.declared.reading.Reading.{Reading}
+use Rattle.cps_pass.specs.declared.reading.Reading.TheVariants.{Comment, Continued, Statement}
+use Rattle.cps_pass.specs.Blocks.{org, unread, unread_org, end}
+use Rattle.cps_pass.specs.Head.{in_body, leaving_head, ident, abs, base}
+use Rattle.cps_pass.specs.Instruction.{instruction}
+use Rattle.cps_pass.specs.Located.{present_flags}
+use Rattle.cps_pass.specs.Reading.{reading_of}
+use Rattle.cps_pass.specs.Symbols.{equate, unread_equate}
+
+-- a line that does nothing
+abbrev pub listed : Part
+listed = fill (flagged no_flags)
+
+-- a line without an operation, or with one that isn't there
+abbrev pub unknown : Part
+unknown = fill (flagged (record no_flags { operation = true }))
+
+-- an operation that the language doesn't have, or that isn't there yet
+abbrev pub not_there : Control → Part
+not_there control = leaving_head control before unknown
+
+-- a statement with its operands
+abbrev pub obeyed : Control → Location → Row → Part
+obeyed control location (row.Ident name) = ident control location (Some name)
+obeyed control location row.Abs = abs control location
+obeyed control location (row.Base radix) = base control location radix
+obeyed control location (row.Equate terms) = equate control.block location terms
+obeyed control location (row.Org terms) = leaving_head control before org (in_body control) location terms
+obeyed control location row.End = end control location
+obeyed control location row.Listing = fill (flagged (present_flags location))
+-- what isn't there yet: PERIPH, SET, USE, BSS, BSSZ, CON, DATA, VFD, DIS, the IFs, ELSE, ENDIF, DUP, ENDD, MACRO and ENDM
+obeyed control location _ = not_there control
+
+-- a statement with unreadable operands
+abbrev pub unreadable : Control → Location → Operation → Part
+unreadable control location operation.Ident = ident control location None
+unreadable control location operation.Base = unread location
+unreadable control location operation.Equate = unread_equate location
+unreadable control location operation.Org = leaving_head control before unread_org (in_body control) location
+-- what isn't there yet, and what reads no operands
+unreadable control location _ = not_there control
+
+abbrev pub stated : Control → Location → Stating → Part
+stated control location Missing = unknown
+stated control location Unknown = not_there control
+stated control location (Stated row) = obeyed control location row
+stated control location (Unreadable operation) = unreadable control location operation
+stated control location (Instruction form) = leaving_head control before instruction control.block location form
+
+-- a line that may not stand where it stands
+abbrev pub misplaced : Part
+misplaced = fill (flagged (record no_flags { structure = true }))
+
+-- a line that continues the one before is not read
+abbrev pub before_end : Control → Reading → Part
+before_end control Comment = listed
+before_end control Continued = misplaced
+before_end control (Statement location stating) = stated control location stating
+
+-- a line behind END that is no comment has E alone
+abbrev pub behind_end : LineFields → Part
+behind_end CommentLine = listed
+behind_end ContinuedLine = misplaced
+behind_end (StatementLine statement) = misplaced
+
+-- the base of numbers decides how a line is read
+abbrev pub in_phase : Control → Phase → List ℕ → Part
+in_phase control (Head head) line = before_end control (reading_of control.radix line)
+in_phase control Body line = before_end control (reading_of control.radix line)
+in_phase control AfterEnd line = behind_end (fields_of line)
+
+abbrev pub under : Control → List ℕ → Part
+under control line = in_phase control control.phase line
+
+-- a source line stands at depth 0
+abbrev pub line_part : List ℕ → Part
+line_part line = begin 0 before asking key.Control (λ a. under (control_of a) line)
+
+-- what a line asks, puts and makes in a state
+abbrev pub trace_of : List ℕ → State → Trace
+trace_of line state = traced (run (line_part line stop) state not_begun)

@@ -1,0 +1,63 @@
+-- What a line says: the fields of a statement, read. From the manual's section on the statement format.
+use Rattle.std.specs.Prelude.{ℕ, List, [], codes, bytes_eq, Option, None, Some, if◌then◌else◌}
+use Rattle.cps_text.specs.declared.name.Name.{Name}
+use Rattle.cps_expr.specs.declared.machine.Machine.TheVariants.{Cp}
+use Rattle.cps_expr.specs.declared.operation.Operation.{Operation}
+use Rattle.cps_expr.specs.declared.radix.Radix.{Radix}
+use Rattle.cps_expr.specs.declared.row.Row.{Row}
+use Rattle.cps_expr.specs.Operation.{operation_named}
+use Rattle.cps_expr.specs.Statement.{row_of}
+use Rattle.cps_text.specs.Text.{capitals}
+use Rattle.cps_text.specs.Name.{name_of}
+use Rattle.cps_code.specs.Table.{is_operation, form_of}
+use Rattle.cps_pass.specs.declared.reading.Location.{Location}
+use Rattle.cps_pass.specs.declared.reading.Location.TheVariants.{Absent, Plus, Minus, Symbol, NoSymbol}
+use Rattle.cps_pass.specs.declared.reading.Stating.{Stating}
+use Rattle.cps_pass.specs.declared.reading.Stating.TheVariants.{Missing, Unknown, Stated, Unreadable, Instruction}
+use Rattle.cps_pass.specs.declared.reading.Reading.{Reading}
+use Rattle.cps_pass.specs.declared.reading.Reading.TheVariants.{Comment, Continued, Statement}
+use Rattle.cps_text.specs.Card.{LineFields, CommentLine, ContinuedLine, StatementLine, fields_of}
+
+-- ---- the location field
+
+-- a symbol, or what is none
+abbrev pub symbol_or_none : Option Name → Location
+symbol_or_none None = NoSymbol
+symbol_or_none (Some name) = Symbol name
+
+-- a location field is empty, `+`, `-`, a symbol, or none of these
+abbrev pub location_in : List ℕ → Location
+location_in field =
+    if bytes_eq field [] then Absent
+    else (if bytes_eq field (codes "+") then Plus
+    else (if bytes_eq field (codes "-") then Minus
+    else symbol_or_none (name_of field)))
+
+-- ---- the operation and its operands
+
+-- an instruction of the central processor, or an operation that nobody knows
+abbrev pub instruction_in : Radix → List ℕ → List ℕ → Stating
+instruction_in radix operation tail = if is_operation operation then Instruction (form_of operation tail radix) else Unknown
+
+abbrev pub row_or_none : Operation → Option Row → Stating
+row_or_none operation None = Unreadable operation
+row_or_none operation (Some row) = Stated row
+
+-- a statement of the statement table, or else an instruction
+abbrev pub stating_with : Option Operation → Radix → List ℕ → List ℕ → Stating
+stating_with None radix operation tail = instruction_in radix operation tail
+stating_with (Some named) radix operation tail = row_or_none named (row_of operation tail Cp radix)
+
+abbrev pub stating_in : Radix → List ℕ → List ℕ → Stating
+stating_in radix operation tail = if bytes_eq operation [] then Missing else stating_with (operation_named operation) radix operation tail
+
+-- ---- the line
+
+abbrev pub reading_in : Radix → LineFields → Reading
+reading_in radix CommentLine = Comment
+reading_in radix ContinuedLine = Continued
+reading_in radix (StatementLine statement) = Statement (location_in statement.location) (stating_in radix statement.operation statement.tail)
+
+-- what a line says under a base of numbers; lower case stands for capitals
+abbrev pub reading_of : Radix → List ℕ → Reading
+reading_of radix line = reading_in radix (fields_of (capitals line))

@@ -1,0 +1,46 @@
+-- Values in pass one: a name counts if it was defined before. From the manual's sections on symbols and on the two passes.
+use Rattle.std.specs.Prelude.{List, [], ◌∷◌, pos, Option, None, Some, if◌then◌else◌}
+use Rattle.cps_text.specs.declared.name.Name.{Name}
+use Rattle.cps_expr.specs.declared.value.Value.{Value as AValue}
+use Rattle.cps_expr.specs.Expression.{Expression, names_of, has_counter}
+use Rattle.cps_expr.specs.Value.{Values, plain, same_name, value_in, has_undefined}
+use Rattle.cps_code.specs.Place.{position}
+use Rattle.cps_state.specs.declared.key.Key.TheVariants as key
+use Rattle.cps_state.specs.Course.{Part, asking}
+use Rattle.cps_state.specs.Keys.{place_of, value_of}
+use Rattle.cps_pass.specs.declared.value_now.ValueNow.{ValueNow}
+use Rattle.cps_pass.specs.declared.value_now.ValueNow.TheVariants.{Undefined, NoValue, Known}
+use Rattle.cps_pass.specs.Places.{here_at}
+
+abbrev pub known_or_none : Option AValue → ValueNow
+known_or_none None = NoValue
+known_or_none (Some value) = Known value
+
+abbrev pub no_values : Values
+no_values name = None
+
+-- values of names, with that of one name
+abbrev pub with_value : Name → Option AValue → Values → Values
+with_value name value values other = if same_name name other then value else values other
+
+-- asking the values of names
+abbrev pub names_now : List Name → (Values → Part) → Part
+names_now [] next = next no_values
+names_now (name ∷ names) next = asking (key.Label name) (λ a. names_now names (λ values. next (with_value name (value_of a) values)))
+
+-- the value of an expression; a name without a value leaves it undefined
+abbrev pub value_now : Values → AValue → Expression → ValueNow
+value_now values here terms = if has_undefined values terms then Undefined else known_or_none (value_in values here terms)
+
+-- asking the value of an expression, where `*` has this value
+abbrev pub now : Expression → AValue → (ValueNow → Part) → Part
+now terms here next = names_now (names_of terms) (λ values. next (value_now values here terms))
+
+-- asking what `*` is, if it stands in an expression: the present word of the block in use, begun or not
+abbrev pub asking_here : Option Name → Expression → (AValue → Part) → Part
+asking_here block terms next =
+    if has_counter terms then asking (key.Counter block) (λ a. next (here_at block (position (place_of a)))) else next (plain (pos 0))
+
+-- asking the value of an expression in which `*` is the present word
+abbrev pub now_here : Option Name → Expression → (ValueNow → Part) → Part
+now_here block terms next = asking_here block terms (λ here. now terms here next)

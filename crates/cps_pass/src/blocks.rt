@@ -1,0 +1,181 @@
+//! ORG and END: both leave the word that was begun.
+ghost use Rattle.std.specs.Prelude.{◌≡◌, ◌*◌, ◌≤◌, OnOk};
+ghost use Rattle.cps_code.specs.Place.{position};
+ghost use Rattle.cps_state.specs.Course.{Does};
+ghost use Rattle.cps_state.specs.Keys.{limit};
+ghost use Rattle.cps_pass.specs.Blocks as blocks;
+
+use crate::head::{enter, put_control};
+use crate::located::present_flags;
+use crate::making::{flag, unread};
+use crate::places::{go_on, here_at, leave_word};
+use crate::reading::Location;
+use crate::value_now::{ValueNow, value_now};
+use cps_code::Place;
+use cps_expr::{Expr, Value};
+use cps_state::{
+    Control, Key, LIMIT, Lookup, Made, Phase, Recorder, Shown, WORD, is_same_block, place_of,
+};
+use cps_text::Name;
+use std::alloc::{AllocError, Global};
+
+/// ORG: leaves the word that was begun, and goes on at an address.
+pub fn org<L: Lookup>(
+    alloc: Global,
+    recorder: &mut Recorder,
+    state: &L,
+    control: Control,
+    location: Location,
+    operand: &Expr,
+) -> Result<(), AllocError>
+    ensures { OnOk result (Does (blocks.org control location operand.now) (L.answer state.now) recorder.old recorder.new) }
+{
+    let answer = recorder.ask(state, Key::Counter(control.block))?;
+    let place = place_of(answer.as_ref());
+    let here = here_at(control.block, leave_word(place).start);
+    let value = value_now(alloc, recorder, state, operand, here)?;
+    move_by(alloc, recorder, state, control, location, place, value)
+}
+
+/// ORG with an unreadable operand.
+pub fn unread_org<L: Lookup>(
+    alloc: Global,
+    recorder: &mut Recorder,
+    state: &L,
+    control: Control,
+    location: Location,
+) -> Result<(), AllocError>
+    ensures { OnOk result (Does (blocks.unread_org control location) (L.answer state.now) recorder.old recorder.new) }
+{
+    recorder.ask(state, Key::Counter(control.block))?;
+    unread(alloc, recorder, location);
+    Ok(())
+}
+
+fn move_by<L: Lookup>(
+    alloc: Global,
+    recorder: &mut Recorder,
+    state: &L,
+    control: Control,
+    location: Location,
+    place: Place,
+    value: ValueNow,
+) -> Result<(), AllocError>
+    requires { position place ≤ 60 * limit }
+    ensures { OnOk result (Does (blocks.moving control location place value) (L.answer state.now) recorder.old recorder.new) }
+{
+    match value {
+        ValueNow::Undefined => {
+            let mut flags = present_flags(location);
+            flags.undefined = true;
+            flag(alloc, recorder, flags);
+            Ok(())
+        }
+        ValueNow::NoValue => {
+            unread(alloc, recorder, location);
+            Ok(())
+        }
+        ValueNow::Known(value) => match address_in(value.offset) {
+            None => {
+                unread(alloc, recorder, location);
+                Ok(())
+            }
+            Some(address) => move_to(
+                alloc,
+                recorder,
+                state,
+                control,
+                location,
+                place,
+                value.block,
+                address,
+            ),
+        },
+    }
+}
+
+/// An address is no number below 0.
+fn address_in(offset: i64) -> Option<u64>
+    ensures { result ≡ blocks.address_in offset }
+{
+    if offset < 0 {
+        None
+    } else {
+        Some(offset.unsigned_abs())
+    }
+}
+
+fn move_to<L: Lookup>(
+    alloc: Global,
+    recorder: &mut Recorder,
+    state: &L,
+    control: Control,
+    location: Location,
+    place: Place,
+    block: Option<Name>,
+    address: u64,
+) -> Result<(), AllocError>
+    requires { position place ≤ 60 * limit }
+    ensures { OnOk result (Does (blocks.moving_to control location place block address) (L.answer state.now) recorder.old recorder.new) }
+{
+    let mut flags = present_flags(location);
+    if address > u64::from(LIMIT) {
+        flags.structure = true;
+        flag(alloc, recorder, flags);
+        return Ok(());
+    }
+    let left = leave_word(place);
+    go_on(recorder, control.block, left.start, false)?;
+    go_on(recorder, block, WORD * address as u32, false)?;
+    use_block(recorder, state, control, block)?;
+    let shown = Shown::Address(Value {
+        block,
+        offset: address as i64,
+    });
+    recorder.fill(Made::leaving(alloc, flags, control.block, left.filling, shown));
+    Ok(())
+}
+
+/// Another block is in use.
+fn use_block<L: Lookup>(
+    recorder: &mut Recorder,
+    state: &L,
+    control: Control,
+    block: Option<Name>,
+) -> Result<(), AllocError>
+    ensures { OnOk result (Does (blocks.using control block) (L.answer state.now) recorder.old recorder.new) }
+{
+    if is_same_block(control.block, block) {
+        return Ok(());
+    }
+    let control = Control {
+        phase: control.phase,
+        radix: control.radix,
+        block,
+    };
+    put_control(recorder, control)
+}
+
+/// END: leaves the word that was begun.
+pub fn end<L: Lookup>(
+    alloc: Global,
+    recorder: &mut Recorder,
+    state: &L,
+    control: Control,
+    location: Location,
+) -> Result<(), AllocError>
+    ensures { OnOk result (Does (blocks.end control location) (L.answer state.now) recorder.old recorder.new) }
+{
+    let answer = recorder.ask(state, Key::Counter(control.block))?;
+    let left = leave_word(place_of(answer.as_ref()));
+    go_on(recorder, control.block, left.start, false)?;
+    enter(recorder, control, Phase::AfterEnd)?;
+    recorder.fill(Made::leaving(
+        alloc,
+        present_flags(location),
+        control.block,
+        left.filling,
+        Shown::Nothing,
+    ));
+    Ok(())
+}

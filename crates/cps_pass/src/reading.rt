@@ -1,0 +1,170 @@
+//! What a line says.
+ghost use Rattle.std.specs.Prelude.{◌≡◌, ◌≤◌, Some, IfOk, bytes_eq, length, take};
+ghost use Rattle.cps_expr.specs.Operation.{operation_named};
+ghost use Rattle.cps_expr.specs.Statement.{row_of};
+ghost use Rattle.cps_expr.specs.declared.machine.Machine.TheVariants.{Cp};
+ghost use Rattle.cps_text.specs.CardFields.{fields_value};
+ghost use Rattle.cps_text.specs.Name.{name_of};
+ghost use Rattle.cps_text.specs.Text.{capitals};
+ghost use Rattle.cps_pass.specs.Reading.{symbol_or_none, location_in, instruction_in, row_or_none, stating_in, reading_in, reading_of};
+
+use cps_code::{CpForm, FormFault, cp_form};
+use cps_expr::{Machine, Operation, Radix, Stmt, StmtFault};
+use cps_text::{Fields, Line, Name, capital, read_fields};
+use std::alloc::{AllocError, Global};
+
+/// The most bytes that a line has.
+const LONGEST_LINE: usize = 90;
+
+/// A location field.
+#[derive(Clone, Copy, Debug, PartialEq, Eq)]
+pub enum Location {
+    Absent,
+    /// `+`
+    Plus,
+    /// `-`
+    Minus,
+    Symbol(Name),
+    /// None of these.
+    NoSymbol,
+}
+
+/// An operation with its operands.
+#[derive(Drop)]
+pub enum Stating {
+    /// The operation field is empty.
+    Missing,
+    /// The language doesn't have the operation.
+    Unknown,
+    /// A statement of the statement table.
+    Stated(Stmt),
+    /// An operation of the statement table with operands that don't fit.
+    Unreadable(Operation),
+    /// An instruction; None where its operand is unreadable.
+    Instruction(Option<CpForm>),
+}
+
+/// What a line says.
+#[derive(Drop)]
+pub enum Reading {
+    Comment,
+    /// A line with a comma in column 1.
+    Continued,
+    Statement(Location, Stating),
+}
+
+/// What a line says under a base of numbers; lower case stands for capitals.
+pub fn read_line(alloc: Global, line: &Line, radix: Radix) -> Result<Reading, AllocError>
+    ensures { IfOk result (λ reading. reading ≡ reading_of radix line.now) }
+{
+    let bytes = line.bytes();
+    let capitals = capitals(bytes);
+    let (card, _) = capitals.split_at(bytes.len());
+    read_card(alloc, read_fields(card), radix)
+}
+
+/// The capitals of a line, and blanks behind them.
+fn capitals(line: &[u8]) -> [u8; LONGEST_LINE]
+    requires { length line.now ≤ LONGEST_LINE }
+    ensures { take (length line.now) result ≡ capitals line.now }
+{
+    let mut capitals = [b' '; LONGEST_LINE];
+    for at in 0..line.len() {
+        capitals[at] = capital(line[at]);
+    }
+    capitals
+}
+
+fn read_card(alloc: Global, fields: Fields<'_>, radix: Radix) -> Result<Reading, AllocError>
+    ensures { IfOk result (λ reading. reading ≡ reading_in radix (fields_value fields.entry)) }
+{
+    match fields {
+        Fields::Comment => Ok(Reading::Comment),
+        Fields::Continued => Ok(Reading::Continued),
+        Fields::Statement(statement) => {
+            let stating = read_stating(alloc, statement.operation, statement.tail, radix)?;
+            Ok(Reading::Statement(read_location(statement.location), stating))
+        }
+    }
+}
+
+fn read_location(field: &[u8]) -> Location
+    ensures { result ≡ location_in field.now }
+{
+    if is_text(field, b"") {
+        return Location::Absent;
+    }
+    if is_text(field, b"+") {
+        return Location::Plus;
+    }
+    if is_text(field, b"-") {
+        return Location::Minus;
+    }
+    symbol_or_none(field)
+}
+
+fn symbol_or_none(field: &[u8]) -> Location
+    ensures { result ≡ symbol_or_none (name_of field.now) }
+{
+    match Name::read(field) {
+        Some(name) => Location::Symbol(name),
+        None => Location::NoSymbol,
+    }
+}
+
+fn is_text(field: &[u8], text: &[u8]) -> bool
+    ensures { result ≡ bytes_eq field.now text.now }
+{
+    field == text
+}
+
+fn read_stating(
+    alloc: Global,
+    operation: &[u8],
+    tail: &[u8],
+    radix: Radix,
+) -> Result<Stating, AllocError>
+    ensures { IfOk result (λ stating. stating ≡ stating_in radix operation.now tail.now) }
+{
+    if is_text(operation, b"") {
+        return Ok(Stating::Missing);
+    }
+    match Operation::named(operation) {
+        None => read_instruction(alloc, operation, tail, radix),
+        Some(named) => read_statement(alloc, named, operation, tail, radix),
+    }
+}
+
+fn read_statement(
+    alloc: Global,
+    named: Operation,
+    operation: &[u8],
+    tail: &[u8],
+    radix: Radix,
+) -> Result<Stating, AllocError>
+    requires { Some named ≡ operation_named operation.now }
+    ensures { IfOk result (λ stating. stating ≡ row_or_none named (row_of operation.now tail.now Cp radix)) }
+{
+    match Stmt::read(alloc, operation, tail, Machine::Cp, radix) {
+        Ok(statement) => Ok(Stating::Stated(statement)),
+        Err(StmtFault::NoOperation) => unreachable!(),
+        Err(StmtFault::Unreadable) => Ok(Stating::Unreadable(named)),
+        Err(StmtFault::Memory) => Err(AllocError),
+    }
+}
+
+fn read_instruction(
+    alloc: Global,
+    operation: &[u8],
+    tail: &[u8],
+    radix: Radix,
+) -> Result<Stating, AllocError>
+    ensures { IfOk result (λ stating. stating ≡ instruction_in radix operation.now tail.now) }
+{
+    match cp_form(alloc, operation, tail, radix) {
+        Ok(form) => Ok(Stating::Instruction(Some(form))),
+        Err(FormFault::NoOperation) => Ok(Stating::Unknown),
+        Err(FormFault::Unreadable) => Ok(Stating::Instruction(None)),
+        Err(FormFault::Memory) => Err(AllocError),
+    }
+}

@@ -1,0 +1,109 @@
+-- The state of an assembly: what each key answers. The counters and the symbols are the manual's; the keys are our own.
+use Rattle.std.specs.Prelude.{ℕ, ◌*◌, Bool, true, false, nat_lt, List, [], ◌∷◌, Option, None, Some, if◌then◌else◌}
+use Rattle.cps_text.specs.declared.name.Name.{Name}
+use Rattle.cps_expr.specs.declared.radix.Radix.TheVariants.{Decimal}
+use Rattle.cps_expr.specs.declared.value.Value.{Value}
+use Rattle.cps_expr.specs.Value.{limited, same_name, Values}
+use Rattle.cps_code.specs.declared.place.Place.{Place}
+use Rattle.cps_code.specs.Place.{position, place_at}
+use Rattle.cps_state.specs.declared.key.Key.{Key}
+use Rattle.cps_state.specs.declared.key.Key.TheVariants as key
+use Rattle.cps_state.specs.declared.key.Phase.TheVariants as phase
+use Rattle.cps_state.specs.declared.key.Control.{Control}
+use Rattle.cps_state.specs.declared.key.Answer.{Answer}
+use Rattle.cps_state.specs.declared.key.Answer.TheVariants as answer
+use Rattle.cps_state.specs.declared.key.Put.{Put}
+
+-- a state answers each key, or has no answer there
+abbrev pub State : Type 0
+State = Key → Option Answer
+
+abbrev pub same_block : Option Name → Option Name → Bool
+same_block None None = true
+same_block None (Some b) = false
+same_block (Some a) None = false
+same_block (Some a) (Some b) = same_name a b
+
+abbrev pub same_key : Key → Key → Bool
+same_key key.Control key.Control = true
+same_key key.Control (key.Counter b) = false
+same_key key.Control (key.Label b) = false
+same_key (key.Counter a) key.Control = false
+same_key (key.Counter a) (key.Counter b) = same_block a b
+same_key (key.Counter a) (key.Label b) = false
+same_key (key.Label a) key.Control = false
+same_key (key.Label a) (key.Counter b) = false
+same_key (key.Label a) (key.Label b) = same_name a b
+
+-- what doesn't always stand
+abbrev pub is_other : Key → Bool
+is_other key.Control = false
+is_other (key.Counter None) = false
+is_other (key.Counter (Some block)) = true
+is_other (key.Label name) = true
+
+-- a state with this control, this place of the nominal block, and these other answers
+abbrev pub answers_in : Answer → Answer → State → State
+answers_in control nominal others key.Control = Some control
+answers_in control nominal others (key.Counter None) = Some nominal
+answers_in control nominal others (key.Counter (Some block)) = others (key.Counter (Some block))
+answers_in control nominal others (key.Label name) = others (key.Label name)
+
+-- ---- before the first line
+
+-- the program is in its head, numbers are decimal, and the nominal block is in use
+abbrev pub first_control : Control
+first_control = record { phase = phase.Head (record { is_named = false; is_declared = false }); radix = Decimal; block = None }
+
+-- a block begins at word 0
+abbrev pub first_place : Place
+first_place = place_at 0 false
+
+abbrev pub first_state : State
+first_state key.Control = Some (answer.Control first_control)
+first_state (key.Counter None) = Some (answer.Counter first_place)
+first_state (key.Counter (Some block)) = None
+first_state (key.Label name) = None
+
+-- ---- puts
+
+abbrev pub with_put : State → Put → State
+with_put state p k = if same_key p.key k then Some p.answer else state k
+
+-- a state with the puts of a line, in their order
+abbrev pub overwritten : State → List Put → State
+overwritten state [] = state
+overwritten state (p ∷ puts) = overwritten (with_put state p) puts
+
+-- ---- what an answer says; one of another kind, or none, says what stands before the first line
+
+abbrev pub control_of : Option Answer → Control
+control_of (Some (answer.Control c)) = c
+control_of (Some (answer.Counter c)) = first_control
+control_of (Some (answer.Value v)) = first_control
+control_of None = first_control
+
+-- the words that the machine has
+abbrev pub limit : ℕ
+limit = 131072
+
+-- a place past the machine's words counts as the first bit behind them; what is pending stays
+abbrev pub within_limit : Place → Place
+within_limit place = if nat_lt (60 * limit) (position place) then place_at (60 * limit) place.is_pending else place
+
+abbrev pub place_of : Option Answer → Place
+place_of (Some (answer.Counter place)) = within_limit place
+place_of (Some (answer.Control c)) = first_place
+place_of (Some (answer.Value v)) = first_place
+place_of None = first_place
+
+-- a value beyond the range of expressions is none
+abbrev pub value_of : Option Answer → Option Value
+value_of (Some (answer.Value v)) = limited v
+value_of (Some (answer.Control c)) = None
+value_of (Some (answer.Counter c)) = None
+value_of None = None
+
+-- what the labels of a state stand for
+abbrev pub labels_of : State → Values
+labels_of state name = value_of (state (key.Label name))

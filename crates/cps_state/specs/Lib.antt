@@ -1,0 +1,6 @@
+pub mod Course
+pub mod Flags
+pub mod Item
+pub mod Keys
+pub mod Made
+pub mod Work

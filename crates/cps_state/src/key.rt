@@ -1,0 +1,122 @@
+//! Keys of the state of an assembly, and their answers.
+ghost use Rattle.std.specs.Prelude.{◌≡◌};
+ghost use Rattle.std.specs.Option.{option_copied};
+ghost use Rattle.cps_expr.specs.Value.{same_name};
+ghost use Rattle.cps_state.specs.Keys.{same_block, same_key};
+
+use cps_code::Place;
+use cps_expr::{Radix, Value};
+use cps_text::Name;
+
+/// A part of the state of an assembly.
+#[derive(Clone, Copy, Debug, PartialEq, Eq, Hash)]
+pub enum Key {
+    /// The part of the program, the base of numbers and the block in use.
+    Control,
+    /// Where the next word or parcel of a block stands; None is the nominal block.
+    Counter(Option<Name>),
+    /// The value of a symbol.
+    Label(Name),
+}
+
+/// What came in the head of a program.
+#[derive(Clone, Copy, Debug, PartialEq, Eq)]
+pub struct Head {
+    /// A name, by IDENT.
+    pub is_named: bool,
+    /// The machine, by ABS.
+    pub is_declared: bool,
+}
+
+/// The part of a program.
+#[derive(Clone, Copy, Debug, PartialEq, Eq)]
+pub enum Phase {
+    /// Before the first statement other than IDENT, ABS, BASE, EQU, `=` and the listing operations.
+    Head(Head),
+    Body,
+    /// Behind END.
+    AfterEnd,
+}
+
+/// What holds for the lines to come: the part of the program that they are in, the base of their numbers, and the block in use.
+#[derive(Clone, Copy, Debug, PartialEq, Eq)]
+pub struct Control {
+    pub phase: Phase,
+    pub radix: Radix,
+    /// None: the nominal block.
+    pub block: Option<Name>,
+}
+
+/// What stands at a key.
+#[derive(Debug, PartialEq, Eq, Drop)]
+pub enum Answer {
+    Control(Control),
+    Counter(Place),
+    Value(Value),
+}
+
+impl Answer {
+    /// The same answer once more. Takes no memory.
+    pub fn share(&self) -> Answer
+        ensures { result ≡ self.now }
+    {
+        match self {
+            Answer::Control(control) => Answer::Control(*control),
+            Answer::Counter(place) => Answer::Counter(*place),
+            Answer::Value(value) => Answer::Value(*value),
+        }
+    }
+}
+
+/// The same answer once more, if there is one.
+pub fn share_answer(answer: Option<&Answer>) -> Option<Answer>
+    ensures { result ≡ option_copied answer.entry }
+{
+    match answer {
+        Some(answer) => Some(answer.share()),
+        None => None,
+    }
+}
+
+/// A key and what stood there, None where nothing stood.
+#[derive(Debug, PartialEq, Eq, Drop)]
+pub struct Asked {
+    pub key: Key,
+    pub answer: Option<Answer>,
+}
+
+/// A key and what stands there from now on.
+#[derive(Debug, PartialEq, Eq, Drop)]
+pub struct Put {
+    pub key: Key,
+    pub answer: Answer,
+}
+
+/// Whether two keys are one.
+pub fn is_same_key(a: Key, b: Key) -> bool
+    ensures { result ≡ same_key a b }
+{
+    match (a, b) {
+        (Key::Control, Key::Control) => true,
+        (Key::Counter(a), Key::Counter(b)) => is_same_block(a, b),
+        (Key::Label(a), Key::Label(b)) => is_same_name(a, b),
+        _ => false,
+    }
+}
+
+/// Whether two blocks are one.
+pub fn is_same_block(a: Option<Name>, b: Option<Name>) -> bool
+    ensures { result ≡ same_block a b }
+{
+    match (a, b) {
+        (None, None) => true,
+        (Some(a), Some(b)) => is_same_name(a, b),
+        _ => false,
+    }
+}
+
+fn is_same_name(a: Name, b: Name) -> bool
+    ensures { result ≡ same_name a b }
+{
+    a == b
+}

@@ -1,0 +1,24 @@
+//! The state of an assembly, what a line asks of it and puts there, and what pass one hands to pass two.
+#![tactic(auto)]
+
+mod answers;
+mod flags;
+mod item;
+mod key;
+mod lookup;
+mod made;
+mod recorder;
+mod state;
+mod trace;
+mod work;
+
+pub use answers::{LIMIT, WORD, control_of, first_control, place_of, value_of};
+pub use flags::Flags;
+pub use item::Item;
+pub use key::{Answer, Asked, Control, Head, Key, Phase, Put, is_same_block};
+pub use lookup::Lookup;
+pub use made::{Content, Field, Made, Shown};
+pub use recorder::Recorder;
+pub use state::State;
+pub use trace::Trace;
+pub use work::{Tally, Work};

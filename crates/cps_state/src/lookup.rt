@@ -1,0 +1,18 @@
+//! What answers the keys that a line asks.
+ghost use Rattle.std.specs.Prelude.{◌≡◌};
+
+use crate::key::{Answer, Key};
+
+/// What answers the keys that a line asks.
+pub trait Lookup {
+    ghost use Rattle.std.specs.Prelude.{◌≡◌, Option};
+    ghost use Rattle.std.specs.Option.{option_copied};
+    ghost use Rattle.cps_state.specs.declared.key.Key.{Key};
+    ghost use Rattle.cps_state.specs.declared.key.Answer.{Answer};
+
+    ghost answer: { Self → Key → Option Answer };
+
+    /// What stands at a key, None where nothing does.
+    fn ask(&self, key: &Key) -> Option<&Answer>
+        ensures { option_copied result ≡ answer self.now key.now };
+}

@@ -1,0 +1,109 @@
+//! The state of an assembly.
+ghost use Rattle.std.specs.Prelude.{◌≡◌, ◌<◌, ◌≤◌, ◌+◌, true, OnOk, OnErr, length};
+ghost use Rattle.std.specs.HashMap as hash;
+ghost use Rattle.cps_state.specs.Keys.{first_state, with_put, overwritten, is_other};
+ghost use Rattle.cps_state.specs.declared.key.Key.{Key};
+
+use crate::answers::{first_control, first_place, value_of};
+use crate::key::{Answer, Key, Put};
+use crate::lookup::Lookup;
+use crate::trace::Trace;
+use cps_expr::{Names, Value};
+use cps_text::Name;
+use std::alloc::{AllocError, Global};
+use std::collections::HashMap;
+
+/// What stands at each key between two lines. What always stands is kept apart from the rest.
+#[derive(Drop)]
+pub struct State {
+    control: Answer,
+    nominal: Answer,
+    others: HashMap<Key, Answer>,
+}
+
+impl Lookup for State {
+    ghost use Rattle.std.specs.HashMap as hash;
+    ghost use Rattle.cps_state.specs.Keys.{answers_in};
+
+    ghost answer = { λ state. answers_in state.control state.nominal (hash.get ⟦<Key as PartialEq>⟧.eq state.others) };
+
+    fn ask(&self, key: &Key) -> Option<&Answer> {
+        match key {
+            Key::Control => Some(&self.control),
+            Key::Counter(None) => Some(&self.nominal),
+            _ => self.others.get(key),
+        }
+    }
+}
+
+/// The labels, by their names.
+impl Names for State {
+    ghost use Rattle.cps_state.specs.Keys.{labels_of};
+
+    ghost value = { λ state. labels_of (⟦<State as Lookup>⟧.answer state) };
+
+    fn value_of(&self, name: Name) -> Option<Value> {
+        value_of(self.ask(&Key::Label(name)))
+    }
+}
+
+impl State {
+    /// The state before the first line. Takes no memory yet.
+    pub fn first(alloc: Global) -> State
+        ensures { ⟦<State as Lookup>⟧.answer result ≡ first_state }
+    {
+        State {
+            control: Answer::Control(first_control()),
+            nominal: Answer::Counter(first_place()),
+            others: HashMap::new(alloc),
+        }
+    }
+
+    /// Puts the answers of a line, in their order.
+    pub fn apply(&mut self, trace: &Trace) -> Result<(), AllocError>
+        ensures ok { OnOk result (⟦<State as Lookup>⟧.answer self.new ≡ overwritten (⟦<State as Lookup>⟧.answer self.old) trace.now.puts) }
+        ensures err { OnErr result (⟦<State as Lookup>⟧.answer self.new ≡ ⟦<State as Lookup>⟧.answer self.old) }
+    {
+        let puts = trace.puts();
+        self.others.reserve(puts.len())?;
+        self.put_all(puts);
+        Ok(())
+    }
+
+    /// The same where there is room.
+    fn put_all(&mut self, puts: &[Put])
+        requires { length puts.now ≤ hash.spare self.old.others }
+        ensures { ⟦<State as Lookup>⟧.answer self.new ≡ overwritten (⟦<State as Lookup>⟧.answer self.old) puts.now }
+    {
+        for put in puts {
+            self.put(put);
+        }
+    }
+
+    fn put(&mut self, put: &Put)
+        requires { 0 < hash.spare self.old.others }
+        ensures answer { ⟦<State as Lookup>⟧.answer self.new ≡ with_put (⟦<State as Lookup>⟧.answer self.old) put.now }
+        ensures room { hash.spare self.old.others ≤ hash.spare self.new.others + 1 }
+    {
+        match put.key {
+            Key::Control => self.control = put.answer.share(),
+            Key::Counter(None) => self.nominal = put.answer.share(),
+            Key::Counter(Some(block)) => self.put_other(
+                Key::Counter(Some(block)),
+                put.answer.share(),
+            ),
+            Key::Label(name) => self.put_other(Key::Label(name), put.answer.share()),
+        }
+    }
+
+    fn put_other(&mut self, key: Key, answer: Answer)
+        requires room { 0 < hash.spare self.old.others }
+        requires other { is_other key ≡ true }
+        ensures answer { (k : Key) → ⟦<State as Lookup>⟧.answer self.new k ≡ with_put (⟦<State as Lookup>⟧.answer self.old) (record { key = key; answer = answer }) k }
+        ensures room { hash.spare self.old.others ≤ hash.spare self.new.others + 1 }
+    {
+        let Ok(_) = self.others.insert(key, answer) else {
+            unreachable!();
+        };
+    }
+}
