@@ -16,7 +16,7 @@ use Rattle.cps_tool.specs.ScriptLine.{IsBegun}
 use Rattle.cps_tool.specs.Command.{is_quit}
 use Rattle.cps_tool.specs.Lines.{Splits, without_return, last_line, has_no_newline, newline}
 use Rattle.cps_tool.specs.Reply.{Response, reply_text}
-use Rattle.cps_tool.specs.Script.{Run, Script, FrontOfScript, LinesOfScript, IsAnswered, HasQuit, LacksQuit, IsInputEnd, IsReadToEnd, AreAnswered, goes_on, command_lines, before_quit}
+use Rattle.cps_tool.specs.Script.{Run, Script, FrontOfScript, LinesOfScript, IsAnswered, HasQuit, LacksQuit, IsReadToEnd, AreAnswered, goes_on, command_lines, before_quit}
 use Rattle.cps_tool.specs.Progress.{MatchFlow, Progress, Takes, Finishes}
 
 -- ---- cutting at newlines
