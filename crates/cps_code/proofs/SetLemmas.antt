@@ -54,11 +54,11 @@ found-many (terms_and_constant terms has_constant) sum short many =
     ap (λ found. cond (same_bool (is_some_list sum.constant) has_constant) (option_map (λ digits. record { digits = digits; constant = sum.constant }) found) None) (given-many terms sum.registers fewer)
     ∙ no_choice (same_bool (is_some_list sum.constant) has_constant)
 
-left_true : (a b : Bool) → (a && b) ≡ true → a ≡ true
+pub left_true : (a b : Bool) → (a && b) ≡ true → a ≡ true
 left_true true b h = refl
 left_true false b h = cc
 
-right_true : (a b : Bool) → (a && b) ≡ true → b ≡ true
+pub right_true : (a b : Bool) → (a && b) ≡ true → b ≡ true
 right_true true b h = h
 right_true false b h = cc
 

@@ -2,15 +2,16 @@
 -- In a name and a code the letters i, j and k stand for the digits of registers, and K for a constant of 18 bits;
 -- f is the first digit of a set instruction's code.
 use Rattle.std.specs.Prelude.{ℕ, ◌+◌, ◌-◌, ◌*◌, ◌^◌, Bool, true, false, ◌&&◌, not, ◌==◌, List, [], ◌∷◌, ◌++◌, reverse, codes, fold, sum_by, Option, None, Some, option_map, option_and_then, is_some, if◌then◌else◌}
-use Rattle.std.specs.List.{before_first}
 use Rattle.cps_expr.specs.declared.radix.Radix.{Radix}
+use Rattle.cps_expr.specs.OperandList.{only_one}
 use Rattle.cps_expr.specs.Term.{Term}
 use Rattle.cps_code.specs.declared.hole.Hole.{Hole}
 use Rattle.cps_code.specs.declared.hole.HoleKind.TheVariants.{Value}
 use Rattle.cps_code.specs.declared.register.Letter.{Letter}
 use Rattle.cps_code.specs.declared.register.Letter.TheVariants.{A, B, X}
 use Rattle.cps_code.specs.declared.register.RegisterTerm.{RegisterTerm}
-use Rattle.cps_text.specs.Text.{among, is_digit, is_blank}
+use Rattle.cps_text.specs.Operands.{operands_of}
+use Rattle.cps_text.specs.Text.{among, capitals, is_digit}
 use Rattle.cps_code.specs.Sum.{Sum, sum_of}
 use Rattle.cps_code.specs.Form.{Form}
 
@@ -195,9 +196,9 @@ form_of_row digits row found = record {
 
 -- ---- the row that fits
 
--- the operand of a tail: the sum before its first blank; None where what stands there is no sum
+-- the sum that the only operand of a tail writes; None where it writes none, or where there is another number of operands
 abbrev pub operand_of : Radix → List ℕ → Option Sum
-operand_of radix tail = sum_of radix (before_first is_blank tail)
+operand_of radix tail = only_one (sum_of radix) (operands_of tail)
 
 -- the operand with its register terms turned round
 abbrev pub turned : Option Sum → Option Sum
@@ -240,9 +241,13 @@ abbrev pub named : List Operation → List ℕ → Option Named
 named [] name = None
 named (o ∷ operations) name = or_else (option_map (λ digits. record { digits = o.digits ++ digits; rows = o.rows }) (given_by_name o.name name)) (named operations name)
 
+-- the operation of the table that a name stands for; lower-case letters stand for capitals
+abbrev pub instruction_named : List ℕ → Option Named
+instruction_named name = named cp_table (capitals name)
+
 abbrev pub is_operation : List ℕ → Bool
-is_operation name = is_some (named cp_table name)
+is_operation name = is_some (instruction_named name)
 
 -- the form of a statement
 abbrev pub form_of : List ℕ → List ℕ → Radix → Option Form
-form_of name tail radix = option_and_then (λ n. form_of_rows n.digits n.rows (operand_of radix tail)) (named cp_table name)
+form_of name tail radix = option_and_then (λ n. form_of_rows n.digits n.rows (operand_of radix tail)) (instruction_named name)

@@ -7,6 +7,7 @@ ghost use Rattle.cps_expr.specs.Term.{Term, term_of};
 
 use super::register::{Letter, RegisterTerm};
 use cps_expr::{Expr, ExprFault, Radix, leading_sign, sign_at};
+use cps_text::capital;
 use std::alloc::Global;
 
 /// The register terms of a sum, in their order.
@@ -85,7 +86,7 @@ fn read_register(text: &[u8], is_minus: bool) -> Option<RegisterTerm>
 fn read_letter(letter: u8) -> Option<Letter>
     ensures { result ≡ letter_of letter }
 {
-    match letter {
+    match capital(letter) {
         b'A' => Some(Letter::A),
         b'B' => Some(Letter::B),
         b'X' => Some(Letter::X),
