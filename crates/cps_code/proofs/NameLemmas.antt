@@ -2,10 +2,11 @@
 use Rattle.std.proofs.Common.{◌≡◌, ℕ, ◌-◌, Bool, true, false, cond, eqb, List, [], ◌∷◌, ◌++◌, length, Option, None, refl, sym, ap, ◌∙◌, arith}
 use Rattle.std.proofs.lemmas.Bool.Decides.{nat_tests}
 use Rattle.std.proofs.lemmas.List.{length-map}
+use Rattle.std.specs.Option.{option_or}
 use Rattle.std.specs.Prelude.{option_map, is_some, not}
 use Rattle.std.specs.List.{list_all}
 use Rattle.cps_text.specs.Text.{capital, capitals, is_digit}
-use Rattle.cps_code.specs.Table.{Operation, given, is_digit_letter, given_by_name, or_else, Named, named, cp_table, instruction_named, is_operation}
+use Rattle.cps_code.specs.Table.{Operation, given, is_digit_letter, given_by_name, Named, named, cp_table, instruction_named, is_operation}
 use Rattle.cps_code.proofs.SetLemmas.{left_true, right_true}
 
 no_choices : {X : Type 0} (a b c : Bool) → cond {A = Option X} a (cond b None None) (cond c None None) ≡ None
@@ -32,7 +33,7 @@ differs a b other same = grind (arith, nat_tests)
 named-other_length : (table : List Operation) (text : List ℕ) → list_all (has_other_length (length text)) table ≡ true → named table text ≡ None
 named-other_length [] text other = refl
 named-other_length (o ∷ operations) text other =
-    ap (λ found. or_else (option_map (λ digits. record { digits = o.digits ++ digits; rows = o.rows }) found) (named operations text))
+    ap (λ found. option_or (option_map (λ digits. record { digits = o.digits ++ digits; rows = o.rows }) found) (named operations text))
     (given-other_length o.name text (differs (length o.name) (length text) (left_true (has_other_length (length text) o) (list_all (has_other_length (length text)) operations) other)))
     ∙ named-other_length operations text (right_true (has_other_length (length text) o) (list_all (has_other_length (length text)) operations) other)
 

@@ -1,9 +1,10 @@
--- The rows of the table at given digits and operands.
+-- For the branches on the registers of an instruction, not part of what a reader believes: the rows of the table at given digits and operands.
 use Rattle.std.specs.Prelude.{ℕ, ◌*◌, ◌^◌, Bool, false, List, [], ◌∷◌, Option, Some}
 use Rattle.cps_expr.specs.Term.{Term}
 use Rattle.cps_expr.specs.declared.radix.Radix.{Radix}
 use Rattle.cps_code.specs.declared.hole.HoleKind.TheVariants.{Value}
 use Rattle.cps_code.specs.declared.register.RegisterTerm.{RegisterTerm}
+use Rattle.cps_code.specs.Bits.{constant_bits}
 use Rattle.cps_code.specs.Form.{Form}
 use Rattle.cps_code.specs.Table.{f, i, given, set_rows, jump_rows, operand_of, form_in, form_of_rows}
 
@@ -33,8 +34,8 @@ jump_form_of radix tail = form_of_rows [] jump_rows (operand_of radix tail)
 abbrev pub long_form : ℕ → List Term → Bool → Form
 long_form front constant forces = record {
   bits = 30;
-  code = front * 2 ^ 18;
-  holes = record { first = 12; width = 18; kind = Value; expression = constant } ∷ [];
+  code = front * 2 ^ constant_bits;
+  holes = record { first = 12; width = constant_bits; kind = Value; expression = constant } ∷ [];
   forces_after = forces;
 }
 

@@ -1,5 +1,5 @@
 ghost use Rattle.std.specs.Prelude.{◌≡◌, ◌<◌, ◌^◌, [], ◌↔◌, Some, None, false, length, IfOk, IfSome, IsErrOf, IsSome, IsSomeAnd, IsTrue, MatchOption};
-ghost use Rattle.cps_code.specs.Sum.{Sum as ASum};
+ghost use Rattle.cps_code.specs.Sum.{Sum};
 ghost use Rattle.cps_code.specs.Terms.{AreRegisters, IsKept, register_list};
 ghost use Rattle.cps_code.specs.Table.{is_operation, form_of, operand_of};
 ghost use Rattle.cps_text.specs.Operands.{operands_of};
@@ -7,7 +7,7 @@ ghost use Rattle.cps_code.specs.Sets.{set_form, set_form_of, jump_form, jump_for
 
 use super::form::CpForm;
 use super::set::{code_with_constant, code_without_constant};
-use super::sum::{Registers, Sum, read_sum};
+use super::sum::{KeptSum, Registers, read_sum};
 use cps_expr::{Expr, Radix};
 use cps_text::{capital, operands};
 use std::alloc::Global;
@@ -61,10 +61,10 @@ pub fn cp_form(
 
 /// Reads the sum that the only operand of a tail writes. None: it writes none, or has more than two registers, or
 /// there is another number of operands.
-fn read_operand(alloc: Global, tail: &[u8], radix: Radix) -> Option<Sum>
+fn read_operand(alloc: Global, tail: &[u8], radix: Radix) -> Option<KeptSum>
     ensures sum { MatchOption result
-        ((sum : ASum) → operand_of radix tail.now ≡ Some sum → 2 < length sum.registers)
-        (λ kept. (sum : ASum) × (operand_of radix tail.now ≡ Some sum) × IsKept kept sum) }
+        ((sum : Sum) → operand_of radix tail.now ≡ Some sum → 2 < length sum.registers)
+        (λ kept. (sum : Sum) × (operand_of radix tail.now ≡ Some sum) × IsKept kept sum) }
     ensures registers { IfSome result (λ kept. AreRegisters kept.registers) }
 {
     let mut operands = operands(tail);
@@ -83,15 +83,15 @@ fn jump_form(alloc: Global, tail: &[u8], radix: Radix) -> Result<CpForm, FormFau
 {
     match read_operand(alloc, tail, radix) {
         None => Err(FormFault::Unreadable),
-        Some(sum) => jump_form_of_sum(alloc, sum),
+        Some(kept) => jump_form_of_sum(alloc, kept),
     }
 }
 
-fn jump_form_of_sum(alloc: Global, kept: Sum) -> Result<CpForm, FormFault>
-    ensures form { IfOk result (λ form. (sum : ASum) → IsKept kept sum → jump_form sum.registers sum.constant ≡ Some form) }
+fn jump_form_of_sum(alloc: Global, kept: KeptSum) -> Result<CpForm, FormFault>
+    ensures form { IfOk result (λ form. (sum : Sum) → IsKept kept sum → jump_form sum.registers sum.constant ≡ Some form) }
     ensures no_operation { IsErrOf result FormFault.NoOperation → ⊥ }
-    ensures unreadable { IsErrOf result FormFault.Unreadable → (sum : ASum) → IsKept kept sum → jump_form sum.registers sum.constant ≡ None }
-    ensures memory { IsErrOf result FormFault.Memory → (sum : ASum) → IsKept kept sum → IsSome (jump_form sum.registers sum.constant) }
+    ensures unreadable { IsErrOf result FormFault.Unreadable → (sum : Sum) → IsKept kept sum → jump_form sum.registers sum.constant ≡ None }
+    ensures memory { IsErrOf result FormFault.Memory → (sum : Sum) → IsKept kept sum → IsSome (jump_form sum.registers sum.constant) }
 {
     match (kept.has_constant, kept.registers) {
         (true, Registers::Absent) => match long_form(alloc, 0o0400, kept.constant, true) {
@@ -129,18 +129,18 @@ fn set_form(alloc: Global, f: u8, i: u8, tail: &[u8], radix: Radix) -> Result<Cp
 {
     match read_operand(alloc, tail, radix) {
         None => Err(FormFault::Unreadable),
-        Some(sum) => form_of_sum(alloc, f, i, sum),
+        Some(kept) => form_of_sum(alloc, f, i, kept),
     }
 }
 
-fn form_of_sum(alloc: Global, f: u8, i: u8, kept: Sum) -> Result<CpForm, FormFault>
+fn form_of_sum(alloc: Global, f: u8, i: u8, kept: KeptSum) -> Result<CpForm, FormFault>
     requires f { f < 8 }
     requires i { i < 8 }
     requires registers { AreRegisters kept.registers }
-    ensures form { IfOk result (λ form. (sum : ASum) → IsKept kept sum → set_form f i sum.registers sum.constant ≡ Some form) }
+    ensures form { IfOk result (λ form. (sum : Sum) → IsKept kept sum → set_form f i sum.registers sum.constant ≡ Some form) }
     ensures no_operation { IsErrOf result FormFault.NoOperation → ⊥ }
-    ensures unreadable { IsErrOf result FormFault.Unreadable → (sum : ASum) → IsKept kept sum → set_form f i sum.registers sum.constant ≡ None }
-    ensures memory { IsErrOf result FormFault.Memory → (sum : ASum) → IsKept kept sum → IsSome (set_form f i sum.registers sum.constant) }
+    ensures unreadable { IsErrOf result FormFault.Unreadable → (sum : Sum) → IsKept kept sum → set_form f i sum.registers sum.constant ≡ None }
+    ensures memory { IsErrOf result FormFault.Memory → (sum : Sum) → IsKept kept sum → IsSome (set_form f i sum.registers sum.constant) }
 {
     if kept.has_constant {
         match code_with_constant(f, i, kept.registers) {
