@@ -2,7 +2,6 @@ ghost use Rattle.std.specs.Prelude.{◌≡◌, ◌<◌, ◌^◌, [], ◌↔◌, 
 ghost use Rattle.cps_code.specs.Sum.{Sum};
 ghost use Rattle.cps_code.specs.Terms.{AreRegisters, IsKept, register_list};
 ghost use Rattle.cps_code.specs.Table.{is_operation, form_of, operand_of};
-ghost use Rattle.cps_text.specs.Operands.{operands_of};
 ghost use Rattle.cps_code.specs.Sets.{set_form, set_form_of, jump_form, jump_form_of, long_form};
 
 use super::form::CpForm;
