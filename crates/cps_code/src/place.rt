@@ -1,4 +1,5 @@
 ghost use Rattle.std.specs.Prelude.{◌<◌};
+ghost use Rattle.cps_code.specs.Bits.{word_bits};
 
 /// Where a program stands: a word, the bits that are used in it (0 to 59), and whether a forcing is pending,
 /// so that what comes next begins a word.
@@ -7,7 +8,7 @@ pub struct Place {
     pub word: u32,
     pub used: u8,
     pub is_pending: bool,
-    ghost in_word: { used < 60 },
+    ghost in_word: { used < word_bits },
 }
 
 /// What a location field asks of the place: nothing, a new word (a symbol or `+`), or that a pending forcing

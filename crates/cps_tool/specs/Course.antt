@@ -1,7 +1,7 @@
 -- The course of a line in pass one (our own): it asks keys of the state, puts answers there, and makes items. The next key follows from the
 -- answers so far. What the line itself put or asked before is not asked again.
 use Rattle.std.specs.Prelude.{◌≡◌, List, [], ◌∷◌, ◌++◌, Option, None, Some, option_map, is_some, unwrap_or, if◌then◌else◌}
-use Rattle.cps_code.specs.Table.{or_else}
+use Rattle.std.specs.Option.{option_or}
 use Rattle.cps_tool.specs.declared.key.Key.{Key}
 use Rattle.cps_tool.specs.declared.key.Answer.{Answer}
 use Rattle.cps_tool.specs.declared.key.Asked.{Asked}
@@ -27,16 +27,16 @@ nothing = record { asks = []; puts = []; items = [] }
 -- the newest put at a key
 abbrev pub last_put : List Put → Key → Option Answer
 last_put [] k = None
-last_put (p ∷ puts) k = or_else (last_put puts k) (if same_key p.key k then Some p.answer else None)
+last_put (p ∷ puts) k = option_or (last_put puts k) (if same_key p.key k then Some p.answer else None)
 
 -- the newest ask at a key
 abbrev pub last_ask : List Asked → Key → Option (Option Answer)
 last_ask [] k = None
-last_ask (a ∷ asks) k = or_else (last_ask asks k) (if same_key a.key k then Some a.answer else None)
+last_ask (a ∷ asks) k = option_or (last_ask asks k) (if same_key a.key k then Some a.answer else None)
 
 -- what is known of a key: what was put there, else what was asked there
 abbrev pub known_at : Trace → Key → Option (Option Answer)
-known_at trace k = or_else (option_map Some (last_put trace.puts k)) (last_ask trace.asks k)
+known_at trace k = option_or (option_map Some (last_put trace.puts k)) (last_ask trace.asks k)
 
 abbrev pub answer_at : State → Trace → Key → Option Answer
 answer_at state trace k = unwrap_or (known_at trace k) (state k)
