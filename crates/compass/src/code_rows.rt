@@ -29,7 +29,7 @@ fn filled(form: &CpForm) -> Result<Filled, Fail> {
 
 #[test]
 fn codes_statements(rt: HostRuntime) -> Result<(), Fail> {
-    let rows: [(&[u8], &[u8], u64, bool); 15] = [
+    let rows: [(&[u8], &[u8], u64, bool); 22] = [
         (b"SA1", b"B1+3", 0o5111000003, false),
         (b"SX6", b"X1", 0o73610, false),
         (b"SA6", b"A1", 0o54610, false),
@@ -45,6 +45,13 @@ fn codes_statements(rt: HostRuntime) -> Result<(), Fail> {
         (b"SX1", b"-7/2+X2", 0o7212777774, false),
         (b"EQ", b"***", 0o0400000011, false),
         (b"NO", b"", 0o46000, false),
+        (b"sa1", b"b1+3", 0o5111000003, false),
+        (b"eq", b"start", 0o0400000000, false),
+        (b"no", b"", 0o46000, false),
+        (b"sA1", b"b1+B2", 0o56112, false),
+        (b"Sx6", b"-b1", 0o77601, false),
+        (b"eQ", b"17b", 0o0400000017, false),
+        (b"No", b"1,2", 0o46000, false),
     ];
     for (at, (operation, tail, digits, is_truncated)) in rows.iter().enumerate() {
         let form = cp_form(rt.alloc(), operation, tail, Radix::Decimal)?;
@@ -60,7 +67,7 @@ fn codes_statements(rt: HostRuntime) -> Result<(), Fail> {
 
 #[test]
 fn refuses_statements(rt: HostRuntime) -> Result<(), Fail> {
-    let rows: [(&[u8], &[u8], Radix, FormFault); 9] = [
+    let rows: [(&[u8], &[u8], Radix, FormFault); 15] = [
         (b"XX", b"1", Radix::Decimal, FormFault::NoOperation),
         (b"SA1", b"-X1", Radix::Decimal, FormFault::Unreadable),
         (b"EQ", b"X1", Radix::Decimal, FormFault::Unreadable),
@@ -70,6 +77,12 @@ fn refuses_statements(rt: HostRuntime) -> Result<(), Fail> {
         (b"SA1", b"2*B1+1", Radix::Decimal, FormFault::Unreadable),
         (b"SA1", b"=1", Radix::Decimal, FormFault::Unreadable),
         (b"SA1", b"B1+B2+2*", Radix::Decimal, FormFault::Unreadable),
+        (b"xx", b"1", Radix::Decimal, FormFault::NoOperation),
+        (b"sa8", b"1", Radix::Decimal, FormFault::NoOperation),
+        (b"sa1", b"-x1", Radix::Decimal, FormFault::Unreadable),
+        (b"EQ", b"1,2", Radix::Decimal, FormFault::Unreadable),
+        (b"EQ", b" 1", Radix::Decimal, FormFault::Unreadable),
+        (b"EQ", b"=3HA B", Radix::Decimal, FormFault::Unreadable),
     ];
     for (at, (operation, tail, radix, fault)) in rows.iter().enumerate() {
         let form = cp_form(rt.alloc(), operation, tail, *radix);

@@ -178,3 +178,80 @@ fn replies_before_it_reads_on(rt: HostRuntime) -> Result<(), Fail> {
     );
     Ok(())
 }
+
+/// A reader or writer that gives or takes one byte a call, fails at one call, and counts its calls and failures itself.
+#[derive(Drop)]
+struct FailsAt<'a> {
+    rest: &'a [u8],
+    failing: u64,
+    calls: u64,
+    failures: u64,
+}
+
+impl FailsAt<'_> {
+    fn new(rest: &[u8], failing: u64) -> FailsAt<'_> {
+        FailsAt {
+            rest,
+            failing,
+            calls: 0,
+            failures: 0,
+        }
+    }
+
+    fn call(&mut self) -> io::Result<()> {
+        self.calls = self.calls.saturating_add(1);
+        if self.calls == self.failing {
+            self.failures = self.failures.saturating_add(1);
+            return Err(io::Error::from(ErrorKind::BrokenPipe));
+        }
+        Ok(())
+    }
+}
+
+impl Read for FailsAt<'_> {
+    fn read(&mut self, buf: &mut [u8]) -> io::Result<usize> {
+        self.call()?;
+        match self.rest {
+            [first, rest @ ..] if !buf.is_empty() => {
+                buf[0] = *first;
+                self.rest = rest;
+                Ok(1)
+            }
+            _ => Ok(0),
+        }
+    }
+}
+
+impl Write for FailsAt<'_> {
+    fn write(&mut self, buf: &[u8]) -> io::Result<usize> {
+        self.call()?;
+        Ok(buf.len().min(1))
+    }
+
+    fn flush(&mut self) -> io::Result<()> {
+        Ok(())
+    }
+}
+
+#[test]
+fn counts_what_the_devices_count(rt: HostRuntime) -> Result<(), Fail> {
+    // The failing read and write, the end, and of the reader and the writer: calls, failures, bytes of the last call.
+    let rows = [
+        (0, 0, Ok(0), (7, 0, 1), (22, 0, 1)),
+        (4, 0, Err(RunFault::ReadFault), (4, 1, 0), (22, 0, 1)),
+        (0, 3, Err(RunFault::WriteFault), (2, 0, 1), (3, 1, 0)),
+    ];
+    for (failing_read, failing_write, want, reads, writes) in rows {
+        let mut reader = Counted::new(FailsAt::new(b"x\nquit\nx\n", failing_read));
+        let mut writer = Counted::new(FailsAt::new(b"", failing_write));
+        let mut session = Session::new(rt.alloc());
+        let end = run_script(rt.alloc(), &mut reader, &mut writer, &mut session);
+        assert_eq!(rt; end, want);
+        assert_eq!(rt; (reader.calls(), reader.failures(), reader.moved()), reads);
+        assert_eq!(rt; (writer.calls(), writer.failures(), writer.moved()), writes);
+        let (reader, writer) = (reader.into_inner(), writer.into_inner());
+        assert_eq!(rt; (reader.calls, reader.failures), (reads.0, reads.1));
+        assert_eq!(rt; (writer.calls, writer.failures), (writes.0, writes.1));
+    }
+    Ok(())
+}

@@ -8,6 +8,8 @@
 #[cfg(test)]
 mod code_rows;
 #[cfg(test)]
+mod column_rows;
+#[cfg(test)]
 mod devices;
 #[cfg(test)]
 mod expression_rows;

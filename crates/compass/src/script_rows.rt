@@ -62,6 +62,23 @@ fn measures_lines(rt: HostRuntime) -> Result<(), Fail> {
     Ok(())
 }
 
+/// A source has at most 9,999 lines: the last of them is taken, the next one refused, and a line may still be replaced.
+#[test]
+fn limits_lines(rt: HostRuntime) -> Result<(), Fail> {
+    let mut script = String::new(rt.alloc());
+    let mut want = String::new(rt.alloc());
+    for count in 1..10_000 {
+        script.push_str("a\n")?;
+        writeln!(want, "ok {count} lines")?;
+    }
+    script.push_str("a\ni 0\nr 9999 A\nflags\nd 9999\na\n")?;
+    want.push_str(
+        "refused 4 too many lines\nrefused 4 too many lines\nok 9999 lines\n9999 O\n1 flagged lines\n\
+         ok 9998 lines\nok 9999 lines\n",
+    )?;
+    assert_replies(&rt, rt.alloc(), 0, &script, &want)
+}
+
 #[test]
 fn holds_lines(rt: HostRuntime) -> Result<(), Fail> {
     let mut session = Session::new(rt.alloc());

@@ -474,3 +474,33 @@ A                                        17          SX1     A*B1
     let flags = "4 ET\n1 flagged lines\n";
     assert_text(&rt, rt.alloc(), 3, &LAST_WORD, "flags", flags)
 }
+
+/// A quotient is truncated toward zero, whichever of the two is negative, and no product is minus zero.
+#[test]
+fn truncates_toward_zero(rt: HostRuntime) -> Result<(), Fail> {
+    let source = [
+        "A        EQU     -7",
+        "B        EQU     -2",
+        "C        EQU     -1",
+        "D        EQU     A/2",
+        "E        EQU     7/B",
+        "F        EQU     A/B",
+        "G        EQU     0*C",
+        "H        EQU     C/2",
+        "I        EQU     1-A/2*2",
+        "J        EQU     A/0",
+    ];
+    let listing = "                77777777777777777770      1 A        EQU     -7
+                77777777777777777775      2 B        EQU     -2
+                77777777777777777776      3 C        EQU     -1
+                77777777777777777774      4 D        EQU     A/2
+                77777777777777777774      5 E        EQU     7/B
+                00000000000000000003      6 F        EQU     A/B
+                00000000000000000000      7 G        EQU     0*C
+                00000000000000000000      8 H        EQU     C/2
+                00000000000000000007      9 I        EQU     1-A/2*2
+                00000000000000000000     10 J        EQU     A/0
+";
+    assert_text(&rt, rt.alloc(), 0, &source, "list", listing)?;
+    assert_text(&rt, rt.alloc(), 1, &source, "flags", "0 flagged lines\n")
+}

@@ -8,3 +8,4 @@ pub mod SumReading
 pub mod HoleLemmas
 pub mod SetLemmas
 pub mod WorkedRows
+pub mod NameLemmas

@@ -2,6 +2,7 @@
 use Rattle.std.proofs.Common.{◌≡◌, ◌<◌, Bool, true, false, cond, leb, List, [], ◌∷◌, reverse, length, Option, None, Some, refl, sym, ap, subst, ◌∙◌, arith, ◌&&◌}
 use Rattle.std.proofs.lemmas.List.{length-reverse}
 use Rattle.std.proofs.lemmas.Bool.Decides.{nat_tests}
+use Rattle.std.specs.Option.{option_or}
 use Rattle.std.specs.Prelude.{All, option_map}
 use Rattle.std.specs.List.{list_all}
 use Rattle.cps_code.specs.declared.sum.Registers.{Registers}
@@ -9,7 +10,7 @@ use Rattle.cps_code.specs.declared.sum.Registers.TheVariants.{Absent, One, Two}
 use Rattle.cps_code.specs.declared.register.RegisterTerm.{RegisterTerm}
 use Rattle.cps_code.specs.Sum.{Sum}
 use Rattle.cps_code.specs.Terms.{IsRegister, AreRegisters, register_list}
-use Rattle.cps_code.specs.Table.{or_else, Shape, unread, terms_and_constant, Row, RowTerm, Given, given, is_some_list, is_of, same_bool, given_by_terms, form_of_row, found_in, form_in, form_of_rows}
+use Rattle.cps_code.specs.Table.{Shape, unread, terms_and_constant, Row, RowTerm, Given, given, is_some_list, is_of, same_bool, given_by_terms, form_of_row, found_in, form_in, form_of_rows}
 
 pub registers_kept : (registers : Registers) (list : List RegisterTerm) → register_list registers ≡ list → All IsRegister list → AreRegisters registers
 registers_kept Absent list is all = tt
@@ -54,11 +55,11 @@ found-many (terms_and_constant terms has_constant) sum short many =
     ap (λ found. cond (same_bool (is_some_list sum.constant) has_constant) (option_map (λ digits. record { digits = digits; constant = sum.constant }) found) None) (given-many terms sum.registers fewer)
     ∙ no_choice (same_bool (is_some_list sum.constant) has_constant)
 
-left_true : (a b : Bool) → (a && b) ≡ true → a ≡ true
+pub left_true : (a b : Bool) → (a && b) ≡ true → a ≡ true
 left_true true b h = refl
 left_true false b h = cc
 
-right_true : (a b : Bool) → (a && b) ≡ true → b ≡ true
+pub right_true : (a b : Bool) → (a && b) ≡ true → b ≡ true
 right_true true b h = h
 right_true false b h = cc
 
@@ -66,18 +67,18 @@ form-none : (digits : List Given) (rows : List Row) (operand : Option Sum) → l
     → ((shape : Shape) → is_short_shape shape ≡ true → found_in shape operand ≡ None) → form_in digits rows operand ≡ None
 form-none digits [] operand short none = refl
 form-none digits (row ∷ rows) operand short none =
-    ap (λ found. or_else (option_map (form_of_row digits row) found) (form_in digits rows operand)) (none row.shape (left_true (is_short row) (list_all is_short rows) short))
+    ap (λ found. option_or (option_map (form_of_row digits row) found) (form_in digits rows operand)) (none row.shape (left_true (is_short row) (list_all is_short rows) short))
     ∙ form-none digits rows operand (right_true (is_short row) (list_all is_short rows) short) none
 
 pub no_form : (digits : List Given) (rows : List Row) (operand : Option Sum) → list_all is_short rows ≡ true
     → ((sum : Sum) → operand ≡ Some sum → 2 < length sum.registers) → form_of_rows digits rows operand ≡ None
 no_form digits rows None short many =
     let none = form-none digits rows None short found-none in
-    ap (λ o. or_else o (form_in digits rows None)) none ∙ none
+    ap (λ o. option_or o (form_in digits rows None)) none ∙ none
 no_form digits rows (Some sum) short many =
     let more = many sum refl in
     let round : Sum = record { registers = reverse sum.registers; constant = sum.constant } in
     let more' : 2 < length round.registers = omega (arith, length-reverse sum.registers) in
     let none = form-none digits rows (Some sum) short (λ shape h. found-many shape sum h more) in
     let none' = form-none digits rows (Some round) short (λ shape h. found-many shape round h more') in
-    ap (λ o. or_else o (form_in digits rows (Some round))) none ∙ none'
+    ap (λ o. option_or o (form_in digits rows (Some round))) none ∙ none'

@@ -1,6 +1,7 @@
 -- A form: the code of a statement, with holes for the values that are known later, and how values fill them.
 -- From the machine's reference manual (the formats of 15 and 30 bits) and the manual's rule for values; what doesn't fit is our profile's.
 use Rattle.std.specs.Prelude.{◌≡◌, ◌⊎◌, ℕ, ◌+◌, ◌-◌, ◌*◌, ◌%◌, ◌^◌, ◌<◌, ◌≤◌, Bool, false, ◌||◌, not, nat_lt, List, [], ◌∷◌, length, All, ℤ, pos, negsuc, if◌then◌else◌}
+use Rattle.cps_code.specs.Bits.{word_bits, parcel_bits}
 use Rattle.cps_code.specs.declared.hole.Hole.{Hole}
 use Rattle.cps_code.specs.declared.filled.Filled.{Filled}
 
@@ -24,7 +25,7 @@ complemented width (negsuc n) = 2 ^ width - 1 - (n + 1)
 
 -- what is put: the value in ones' complement, and of one that doesn't fit the low bits of that in 60 bits
 abbrev pub put_value : ℕ → ℤ → ℕ
-put_value width value = if fits_width width value then complemented width value else complemented 60 value % 2 ^ width
+put_value width value = if fits_width width value then complemented width value else complemented word_bits value % 2 ^ width
 
 -- what values add to a code of so many bits, each in its hole
 abbrev pub put_values : ℕ → List Hole → List ℤ → ℕ
@@ -55,8 +56,8 @@ pub record IsHole (bits : ℕ) (hole : Hole) : Type 0 where
   pub inside : hole.first + hole.width ≤ bits
 
 pub record IsForm (form : Form) : Type 0 where
-  pub kind : (form.bits ≡ 15) ⊎ (form.bits ≡ 30)
-  pub short : form.bits ≤ 30
+  pub kind : (form.bits ≡ parcel_bits) ⊎ (form.bits ≡ 2 * parcel_bits)
+  pub short : form.bits ≤ 2 * parcel_bits
   pub few : length form.holes ≤ 1
   pub holes : All (IsHole form.bits) form.holes
   pub room : form.code + room_of form.bits form.holes < 2 ^ form.bits

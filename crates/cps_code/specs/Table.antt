@@ -1,16 +1,20 @@
 -- The instructions of the central processor, as the machine's reference manual lists them: the operation, the operand, the code.
 -- In a name and a code the letters i, j and k stand for the digits of registers, and K for a constant of 18 bits;
 -- f is the first digit of a set instruction's code.
-use Rattle.std.specs.Prelude.{ℕ, ◌+◌, ◌-◌, ◌*◌, ◌^◌, Bool, true, false, ◌&&◌, not, ◌==◌, List, [], ◌∷◌, ◌++◌, reverse, codes, fold, sum_by, Option, None, Some, option_map, option_and_then, is_some, if◌then◌else◌}
-use Rattle.std.specs.List.{before_first}
+use Rattle.std.specs.Prelude.{ℕ, ◌+◌, ◌*◌, ◌^◌, Bool, true, false, ◌&&◌, not, ◌==◌, List, [], ◌∷◌, ◌++◌, reverse, codes, fold, sum_by, Option, None, Some, option_map, option_and_then, is_some, if◌then◌else◌}
+use Rattle.std.specs.Option.{option_or}
 use Rattle.cps_expr.specs.declared.radix.Radix.{Radix}
+use Rattle.cps_expr.specs.OperandList.{only_one}
 use Rattle.cps_expr.specs.Term.{Term}
 use Rattle.cps_code.specs.declared.hole.Hole.{Hole}
 use Rattle.cps_code.specs.declared.hole.HoleKind.TheVariants.{Value}
 use Rattle.cps_code.specs.declared.register.Letter.{Letter}
 use Rattle.cps_code.specs.declared.register.Letter.TheVariants.{A, B, X}
 use Rattle.cps_code.specs.declared.register.RegisterTerm.{RegisterTerm}
-use Rattle.cps_text.specs.Text.{among, is_digit, is_blank}
+use Rattle.cps_text.specs.Operands.{operands_of}
+use Rattle.cps_text.specs.Text.{among, capitals, is_digit}
+use Rattle.cps_code.specs.Bits.{constant_bits}
+use Rattle.cps_code.specs.Register.{character, digit_value}
 use Rattle.cps_code.specs.Sum.{Sum, sum_of}
 use Rattle.cps_code.specs.Form.{Form}
 
@@ -59,16 +63,16 @@ operation name rows = record { name = name; digits = []; rows = rows }
 
 -- the letters of the digits
 abbrev pub f : ℕ
-f = 102
+f = character (codes "f")
 
 abbrev pub i : ℕ
-i = 105
+i = character (codes "i")
 
 abbrev pub j : ℕ
-j = 106
+j = character (codes "j")
 
 abbrev pub k : ℕ
-k = 107
+k = character (codes "k")
 
 abbrev pub plus : Letter → ℕ → RowTerm
 plus letter digit = record { is_minus = false; letter = letter; digit = digit }
@@ -123,7 +127,7 @@ given_by_name [] [] = Some []
 given_by_name [] (c ∷ text) = None
 given_by_name (n ∷ name) [] = None
 given_by_name (n ∷ name) (c ∷ text) =
-    if is_digit_letter n then (if is_digit 8 c then option_map (λ more. given n (c - 48) ∷ more) (given_by_name name text) else None)
+    if is_digit_letter n then (if is_digit 8 c then option_map (λ more. given n (digit_value c) ∷ more) (given_by_name name text) else None)
     else (if n == c then given_by_name name text else None)
 
 abbrev pub same_bool : Bool → Bool → Bool
@@ -163,11 +167,11 @@ is_constant = among (codes "K")
 
 -- the bits of a code's letter or digit
 abbrev pub width_of : ℕ → ℕ
-width_of letter = if is_constant letter then 18 else 3
+width_of letter = if is_constant letter then constant_bits else 3
 
 -- an octal digit of a code: one that is written, or the one that a letter stands for; a hole is left empty
 abbrev pub digit_of : List Given → ℕ → ℕ
-digit_of digits letter = if is_constant letter then 0 else (if is_digit_letter letter then digit_given digits letter else letter - 48)
+digit_of digits letter = if is_constant letter then 0 else (if is_digit_letter letter then digit_given digits letter else digit_value letter)
 
 abbrev pub code_of : List Given → List ℕ → ℕ
 code_of digits code = fold (λ number letter. number * 2 ^ width_of letter + digit_of digits letter) 0 code
@@ -195,9 +199,9 @@ form_of_row digits row found = record {
 
 -- ---- the row that fits
 
--- the operand of a tail: the sum before its first blank; None where what stands there is no sum
+-- the sum that the only operand of a tail writes; None where it writes none, or where there is another number of operands
 abbrev pub operand_of : Radix → List ℕ → Option Sum
-operand_of radix tail = sum_of radix (before_first is_blank tail)
+operand_of radix tail = only_one (sum_of radix) (operands_of tail)
 
 -- the operand with its register terms turned round
 abbrev pub turned : Option Sum → Option Sum
@@ -218,18 +222,14 @@ abbrev pub found_in : Shape → Option Sum → Option Found
 found_in unread operand = Some (record { digits = []; constant = [] })
 found_in (terms_and_constant terms has_constant) operand = option_and_then (found_in_sum terms has_constant) operand
 
-abbrev pub or_else : {T : Type 0} → Option T → Option T → Option T
-or_else None other = other
-or_else (Some value) other = Some value
-
 -- the form of the first row that fits
 abbrev pub form_in : List Given → List Row → Option Sum → Option Form
 form_in digits [] operand = None
-form_in digits (row ∷ rows) operand = or_else (option_map (form_of_row digits row) (found_in row.shape operand)) (form_in digits rows operand)
+form_in digits (row ∷ rows) operand = option_or (option_map (form_of_row digits row) (found_in row.shape operand)) (form_in digits rows operand)
 
 -- the register terms are tried as they stand, and then turned round
 abbrev pub form_of_rows : List Given → List Row → Option Sum → Option Form
-form_of_rows digits rows operand = or_else (form_in digits rows operand) (form_in digits rows (turned operand))
+form_of_rows digits rows operand = option_or (form_in digits rows operand) (form_in digits rows (turned operand))
 
 -- an operation of the table with the digits of its name
 pub record Named : Type 0 where
@@ -238,11 +238,15 @@ pub record Named : Type 0 where
 
 abbrev pub named : List Operation → List ℕ → Option Named
 named [] name = None
-named (o ∷ operations) name = or_else (option_map (λ digits. record { digits = o.digits ++ digits; rows = o.rows }) (given_by_name o.name name)) (named operations name)
+named (o ∷ operations) name = option_or (option_map (λ digits. record { digits = o.digits ++ digits; rows = o.rows }) (given_by_name o.name name)) (named operations name)
+
+-- the operation of the table that a name stands for; lower-case letters stand for capitals
+abbrev pub instruction_named : List ℕ → Option Named
+instruction_named name = named cp_table (capitals name)
 
 abbrev pub is_operation : List ℕ → Bool
-is_operation name = is_some (named cp_table name)
+is_operation name = is_some (instruction_named name)
 
 -- the form of a statement
 abbrev pub form_of : List ℕ → List ℕ → Radix → Option Form
-form_of name tail radix = option_and_then (λ n. form_of_rows n.digits n.rows (operand_of radix tail)) (named cp_table name)
+form_of name tail radix = option_and_then (λ n. form_of_rows n.digits n.rows (operand_of radix tail)) (instruction_named name)

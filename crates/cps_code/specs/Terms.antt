@@ -1,9 +1,9 @@
--- Sums of the code, as sums.
+-- For the loop over the terms of a sum, not part of what a reader believes: sums of the code, as sums.
 use Rattle.std.specs.Prelude.{◌≡◌, ◌<◌, List, [], ◌∷◌, ◌++◌, All, IfSome}
 use Rattle.cps_code.specs.declared.register.RegisterTerm.{RegisterTerm}
 use Rattle.cps_code.specs.declared.sum.Registers.{Registers}
 use Rattle.cps_code.specs.declared.sum.Registers.TheVariants.{Absent, One, Two}
-use Rattle.cps_code.specs.declared.sum.Sum.{Sum as SumOfCode}
+use Rattle.cps_code.specs.declared.sum.KeptSum.{KeptSum}
 use Rattle.cps_code.specs.Sum.{SumTerm, register, other, Sum}
 use Rattle.cps_code.specs.Table.{is_some_list}
 
@@ -26,7 +26,7 @@ AreRegisters (One first) = IsRegister first
 AreRegisters (Two first second) = IsRegister first × IsRegister second
 
 -- what the code keeps of a sum: its registers, of which there are two at most, and its constant unless memory was refused
-pub record IsKept (kept : SumOfCode) (sum : Sum) : Type 0 where
+pub record IsKept (kept : KeptSum) (sum : Sum) : Type 0 where
   pub registers : register_list kept.registers ≡ sum.registers
   pub has_constant : kept.has_constant ≡ is_some_list sum.constant
   pub constant : IfSome kept.constant (λ constant. constant ≡ sum.constant)

@@ -1,4 +1,5 @@
 ghost use Rattle.std.specs.Prelude.{◌≡◌, ◌<◌, ◌^◌, ◌≤◌, IfOk, length, All};
+ghost use Rattle.cps_code.specs.Bits.{parcel_bits};
 ghost use Rattle.cps_code.specs.Value.{IsInRange};
 ghost use Rattle.cps_code.specs.Form.{IsForm, filled};
 ghost use Rattle.cps_code.specs.Sets.{short_form, long_form};
@@ -6,6 +7,7 @@ ghost use Rattle.cps_code.specs.Sets.{short_form, long_form};
 use super::filled::Filled;
 use super::filling_holes::fill_holes;
 use super::hole::{Hole, HoleKind};
+use super::widths::{CONSTANT, PARCEL};
 use cps_expr::Expr;
 use std::alloc::{AllocError, Global};
 use std::marker::Model;
@@ -32,11 +34,11 @@ impl Model for CpForm {
 impl CpForm {
     /// A form of 15 bits.
     pub(crate) fn short(alloc: Global, code: u16) -> CpForm
-        requires { code < 2 ^ 15 }
+        requires { code < 2 ^ parcel_bits }
         ensures { result ≡ short_form code }
     {
         CpForm {
-            bits: 15,
+            bits: PARCEL,
             code: u64::from(code),
             holes: Vec::new(alloc),
             forces_after: false,
@@ -55,14 +57,14 @@ impl CpForm {
     {
         let mut holes = Vec::new(alloc);
         holes.push(Hole {
-            first: 12,
-            width: 18,
+            first: 2 * PARCEL - CONSTANT,
+            width: CONSTANT,
             kind: HoleKind::Value,
             expression: constant,
         })?;
         Ok(CpForm {
-            bits: 30,
-            code: u64::from(front) << 18,
+            bits: 2 * PARCEL,
+            code: u64::from(front) << CONSTANT,
             holes,
             forces_after,
         })

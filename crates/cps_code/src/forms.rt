@@ -1,15 +1,14 @@
-ghost use Rattle.std.specs.Prelude.{◌≡◌, ◌<◌, ◌^◌, [], ◌↔◌, Some, None, false, length, IfOk, IfSome, IsErrOf, IsSome, IsSomeAnd, IsTrue};
-ghost use Rattle.std.specs.List.{before_first, position};
-ghost use Rattle.cps_code.specs.Sum.{Sum as ASum};
+ghost use Rattle.std.specs.Prelude.{◌≡◌, ◌<◌, ◌^◌, [], ◌↔◌, Some, None, false, length, IfOk, IfSome, IsErrOf, IsSome, IsSomeAnd, IsTrue, MatchOption};
+ghost use Rattle.cps_code.specs.Sum.{Sum};
 ghost use Rattle.cps_code.specs.Terms.{AreRegisters, IsKept, register_list};
-ghost use Rattle.cps_code.specs.Table.{is_operation, form_of};
-ghost use Rattle.cps_text.specs.Text.{is_blank};
+ghost use Rattle.cps_code.specs.Table.{is_operation, form_of, operand_of};
 ghost use Rattle.cps_code.specs.Sets.{set_form, set_form_of, jump_form, jump_form_of, long_form};
 
 use super::form::CpForm;
 use super::set::{code_with_constant, code_without_constant};
-use super::sum::{Registers, Sum, read_sum};
+use super::sum::{KeptSum, Registers, read_sum};
 use cps_expr::{Expr, Radix};
+use cps_text::{capital, operands};
 use std::alloc::Global;
 use thiserror::Error;
 
@@ -28,7 +27,9 @@ pub enum FormFault {
 }
 
 /// The form of a statement of the central processor: that of the row of the table that fits its operation and its
-/// tail, which is the text from the variable field's first column on. Numbers with no letter go by the radix.
+/// tail, which is the text from the variable field's first column on. Numbers with no letter go by the radix; lower-case
+/// letters stand for capitals.
+#[tactic(auto, using(crate::proofs::NameLemmas::no_instruction))]
 pub fn cp_form(
     alloc: Global,
     operation: &[u8],
@@ -42,53 +43,54 @@ pub fn cp_form(
     ensures memory { IsErrOf result FormFault.Memory → IsSome (form_of operation.now tail.now radix) }
 {
     match operation {
-        b"NO" => Ok(CpForm::short(alloc, 0o46000)),
-        b"EQ" => jump_form(alloc, operand(tail), radix),
-        [b'S', b'A', i @ b'0'..=b'7'] => set_form(alloc, 5, *i - b'0', operand(tail), radix),
-        [b'S', b'B', i @ b'0'..=b'7'] => set_form(alloc, 6, *i - b'0', operand(tail), radix),
-        [b'S', b'X', i @ b'0'..=b'7'] => set_form(alloc, 7, *i - b'0', operand(tail), radix),
+        [first, second] => match (capital(*first), capital(*second)) {
+            (b'N', b'O') => Ok(CpForm::short(alloc, 0o46000)),
+            (b'E', b'Q') => jump_form(alloc, tail, radix),
+            _ => Err(FormFault::NoOperation),
+        },
+        [first, second, i] => match (capital(*first), capital(*second), capital(*i)) {
+            (b'S', b'A', i @ b'0'..=b'7') => set_form(alloc, 5, i - b'0', tail, radix),
+            (b'S', b'B', i @ b'0'..=b'7') => set_form(alloc, 6, i - b'0', tail, radix),
+            (b'S', b'X', i @ b'0'..=b'7') => set_form(alloc, 7, i - b'0', tail, radix),
+            _ => Err(FormFault::NoOperation),
+        },
         _ => Err(FormFault::NoOperation),
     }
 }
 
-/// The operand: what stands before the tail's first blank.
-fn operand(tail: &[u8]) -> &[u8]
-    ensures { result.now ≡ before_first is_blank tail.now }
+/// Reads the sum that the only operand of a tail writes. None: it writes none, or has more than two registers, or
+/// there is another number of operands.
+fn read_operand(alloc: Global, tail: &[u8], radix: Radix) -> Option<KeptSum>
+    ensures sum { MatchOption result
+        ((sum : Sum) → operand_of radix tail.now ≡ Some sum → 2 < length sum.registers)
+        (λ kept. (sum : Sum) × (operand_of radix tail.now ≡ Some sum) × IsKept kept sum) }
+    ensures registers { IfSome result (λ kept. AreRegisters kept.registers) }
 {
-    match blank_at(tail) {
-        None => tail,
-        Some(at) => {
-            let (operand, _) = tail.split_at(at);
-            operand
-        }
+    let mut operands = operands(tail);
+    let operand = operands.next()?;
+    if operands.next().is_some() {
+        return None;
     }
+    read_sum(alloc, operand, radix)
 }
 
-/// Where the first blank stands.
-fn blank_at(text: &[u8]) -> Option<usize>
-    ensures place { result ≡ position is_blank text.now }
-    ensures within { IfSome result (λ at. at < length text.now) }
-{
-    text.iter().position(|byte| *byte == b' ')
-}
-
-fn jump_form(alloc: Global, operand: &[u8], radix: Radix) -> Result<CpForm, FormFault>
-    ensures form { IfOk result (λ form. jump_form_of radix operand.now ≡ Some form) }
+fn jump_form(alloc: Global, tail: &[u8], radix: Radix) -> Result<CpForm, FormFault>
+    ensures form { IfOk result (λ form. jump_form_of radix tail.now ≡ Some form) }
     ensures no_operation { IsErrOf result FormFault.NoOperation → ⊥ }
-    ensures unreadable { IsErrOf result FormFault.Unreadable → jump_form_of radix operand.now ≡ None }
-    ensures memory { IsErrOf result FormFault.Memory → IsSome (jump_form_of radix operand.now) }
+    ensures unreadable { IsErrOf result FormFault.Unreadable → jump_form_of radix tail.now ≡ None }
+    ensures memory { IsErrOf result FormFault.Memory → IsSome (jump_form_of radix tail.now) }
 {
-    match read_sum(alloc, operand, radix) {
+    match read_operand(alloc, tail, radix) {
         None => Err(FormFault::Unreadable),
-        Some(sum) => jump_form_of_sum(alloc, sum),
+        Some(kept) => jump_form_of_sum(alloc, kept),
     }
 }
 
-fn jump_form_of_sum(alloc: Global, kept: Sum) -> Result<CpForm, FormFault>
-    ensures form { IfOk result (λ form. (sum : ASum) → IsKept kept sum → jump_form sum.registers sum.constant ≡ Some form) }
+fn jump_form_of_sum(alloc: Global, kept: KeptSum) -> Result<CpForm, FormFault>
+    ensures form { IfOk result (λ form. (sum : Sum) → IsKept kept sum → jump_form sum.registers sum.constant ≡ Some form) }
     ensures no_operation { IsErrOf result FormFault.NoOperation → ⊥ }
-    ensures unreadable { IsErrOf result FormFault.Unreadable → (sum : ASum) → IsKept kept sum → jump_form sum.registers sum.constant ≡ None }
-    ensures memory { IsErrOf result FormFault.Memory → (sum : ASum) → IsKept kept sum → IsSome (jump_form sum.registers sum.constant) }
+    ensures unreadable { IsErrOf result FormFault.Unreadable → (sum : Sum) → IsKept kept sum → jump_form sum.registers sum.constant ≡ None }
+    ensures memory { IsErrOf result FormFault.Memory → (sum : Sum) → IsKept kept sum → IsSome (jump_form sum.registers sum.constant) }
 {
     match (kept.has_constant, kept.registers) {
         (true, Registers::Absent) => match long_form(alloc, 0o0400, kept.constant, true) {
@@ -116,28 +118,28 @@ fn long_form(
 }
 
 /// The form of a set instruction: `f` is the first digit of its codes, `i` that of the register set.
-fn set_form(alloc: Global, f: u8, i: u8, operand: &[u8], radix: Radix) -> Result<CpForm, FormFault>
+fn set_form(alloc: Global, f: u8, i: u8, tail: &[u8], radix: Radix) -> Result<CpForm, FormFault>
     requires f { f < 8 }
     requires i { i < 8 }
-    ensures form { IfOk result (λ form. set_form_of f i radix operand.now ≡ Some form) }
+    ensures form { IfOk result (λ form. set_form_of f i radix tail.now ≡ Some form) }
     ensures no_operation { IsErrOf result FormFault.NoOperation → ⊥ }
-    ensures unreadable { IsErrOf result FormFault.Unreadable → set_form_of f i radix operand.now ≡ None }
-    ensures memory { IsErrOf result FormFault.Memory → IsSome (set_form_of f i radix operand.now) }
+    ensures unreadable { IsErrOf result FormFault.Unreadable → set_form_of f i radix tail.now ≡ None }
+    ensures memory { IsErrOf result FormFault.Memory → IsSome (set_form_of f i radix tail.now) }
 {
-    match read_sum(alloc, operand, radix) {
+    match read_operand(alloc, tail, radix) {
         None => Err(FormFault::Unreadable),
-        Some(sum) => form_of_sum(alloc, f, i, sum),
+        Some(kept) => form_of_sum(alloc, f, i, kept),
     }
 }
 
-fn form_of_sum(alloc: Global, f: u8, i: u8, kept: Sum) -> Result<CpForm, FormFault>
+fn form_of_sum(alloc: Global, f: u8, i: u8, kept: KeptSum) -> Result<CpForm, FormFault>
     requires f { f < 8 }
     requires i { i < 8 }
     requires registers { AreRegisters kept.registers }
-    ensures form { IfOk result (λ form. (sum : ASum) → IsKept kept sum → set_form f i sum.registers sum.constant ≡ Some form) }
+    ensures form { IfOk result (λ form. (sum : Sum) → IsKept kept sum → set_form f i sum.registers sum.constant ≡ Some form) }
     ensures no_operation { IsErrOf result FormFault.NoOperation → ⊥ }
-    ensures unreadable { IsErrOf result FormFault.Unreadable → (sum : ASum) → IsKept kept sum → set_form f i sum.registers sum.constant ≡ None }
-    ensures memory { IsErrOf result FormFault.Memory → (sum : ASum) → IsKept kept sum → IsSome (set_form f i sum.registers sum.constant) }
+    ensures unreadable { IsErrOf result FormFault.Unreadable → (sum : Sum) → IsKept kept sum → set_form f i sum.registers sum.constant ≡ None }
+    ensures memory { IsErrOf result FormFault.Memory → (sum : Sum) → IsKept kept sum → IsSome (set_form f i sum.registers sum.constant) }
 {
     if kept.has_constant {
         match code_with_constant(f, i, kept.registers) {

@@ -12,6 +12,7 @@ mod placing;
 mod register;
 mod set;
 mod sum;
+mod widths;
 mod words;
 
 pub use filled::Filled;

@@ -1,4 +1,7 @@
 ghost use Rattle.std.specs.Prelude.{◌≡◌, ◌<◌};
+ghost use Rattle.cps_code.specs.Bits.{word_bits};
+
+use super::widths::WORD;
 
 /// Where a program stands: a word, the bits that are used in it (0 to 59), and whether a forcing is pending,
 /// so that what comes next begins a word.
@@ -7,7 +10,7 @@ pub struct Place {
     pub word: u32,
     pub used: u8,
     pub is_pending: bool,
-    ghost in_word: { used < 60 },
+    ghost in_word: { used < word_bits },
 }
 
 impl Place {
@@ -18,8 +21,8 @@ impl Place {
         ensures { result ≡ place_at bits is_pending }
     {
         Place {
-            word: bits / 60,
-            used: (bits % 60) as u8,
+            word: bits / u32::from(WORD),
+            used: (bits % u32::from(WORD)) as u8,
             is_pending,
         }
     }

@@ -1,12 +1,10 @@
 ghost use Rattle.std.specs.Prelude.{◌≡◌, ℕ, false, IfSome, ◌⊎◌, ◌+◌, ◌*◌, ◌^◌, ◌<◌, ◌≤◌, ◌/◌, ◌-◌, ◌%◌};
+ghost use Rattle.cps_code.specs.Bits.{word_bits, parcel_bits};
 ghost use Rattle.cps_code.specs.Least.{IsLeast};
 ghost use Rattle.cps_code.specs.Place.{position, is_forced, MayBegin, start_of, IsFilling, skipped, passes};
 
 use super::place::{Filling, Force, Place, Placed};
-
-const WORD: u8 = 60;
-
-const PARCEL: u8 = 15;
+use super::widths::{PARCEL, WORD};
 
 /// Where the next `bits` bits begin: 15 or 30 of an instruction, or 0 where the place is only forced.
 ///
@@ -14,7 +12,7 @@ const PARCEL: u8 = 15;
 /// in the word, and where forced at a word's beginning. The bits skipped are 0 up to a parcel's border and then
 /// pass instructions (46000). Nothing is pending behind them.
 pub fn place_next(place: Place, bits: u8, force: Force) -> Placed
-    requires kind { (bits ≡ 0) ⊎ (bits ≡ 15) ⊎ (bits ≡ 30) }
+    requires kind { (bits ≡ 0) ⊎ (bits ≡ parcel_bits) ⊎ (bits ≡ 2 * parcel_bits) }
     requires low { place.word < 2 ^ 31 }
     ensures start { IsLeast (MayBegin (position place) bits (is_forced place.is_pending force)) (position result.start) }
     ensures first { position result.start ≡ start_of (position place) bits (is_forced place.is_pending force) }
@@ -23,7 +21,7 @@ pub fn place_next(place: Place, bits: u8, force: Force) -> Placed
     ensures after_settled { result.after.is_pending ≡ false }
     ensures filling { IsFilling (position place) (position result.start) result.filling }
     ensures skipped { result.filling ≡ skipped (position place) (position result.start) }
-    ensures inside { IfSome result.filling (λ filling. (filling.first ≡ place.used) × (0 < filling.width) × (filling.first + filling.width ≤ 60) × (filling.number < 2 ^ filling.width)) }
+    ensures inside { IfSome result.filling (λ filling. (filling.first ≡ place.used) × (0 < filling.width) × (filling.first + filling.width ≤ word_bits) × (filling.number < 2 ^ filling.width)) }
 {
     let forced = must_begin_word(place, force);
     let used = used_at_start(place.used, bits, forced);
@@ -48,13 +46,13 @@ fn must_begin_word(place: Place, force: Force) -> bool
 
 /// The bits of the present word that are used or skipped where the next bits begin.
 fn used_at_start(used: u8, bits: u8, forced: bool) -> u8
-    requires in_word { used < 60 }
-    requires kind { (bits ≡ 0) ⊎ (bits ≡ 15) ⊎ (bits ≡ 30) }
-    ensures least { (word : ℕ) → IsLeast (MayBegin (60 * word + used) bits forced) (60 * word + result) }
-    ensures within { result ≤ 60 }
+    requires in_word { used < word_bits }
+    requires kind { (bits ≡ 0) ⊎ (bits ≡ parcel_bits) ⊎ (bits ≡ 2 * parcel_bits) }
+    ensures least { (word : ℕ) → IsLeast (MayBegin (word_bits * word + used) bits forced) (word_bits * word + result) }
+    ensures within { result ≤ word_bits }
     ensures forwards { used ≤ result }
-    ensures room { result % 60 + bits ≤ 60 }
-    ensures border { (result ≡ used) ⊎ ((0 < used) × (result % 15 ≡ 0)) }
+    ensures room { result % word_bits + bits ≤ word_bits }
+    ensures border { (result ≡ used) ⊎ ((0 < used) × (result % parcel_bits ≡ 0)) }
 {
     if used == 0 {
         return 0;
@@ -73,11 +71,11 @@ fn used_at_start(used: u8, bits: u8, forced: bool) -> u8
 
 fn place_at(word: u32, used: u8) -> Place
     requires low { word < 2 ^ 32 - 1 }
-    requires within { used ≤ 60 }
-    ensures position { position result ≡ 60 * word + used }
+    requires within { used ≤ word_bits }
+    ensures position { position result ≡ word_bits * word + used }
     ensures settled { result.is_pending ≡ false }
     ensures near { result.word ≤ word + 1 }
-    ensures used { result.used ≡ used % 60 }
+    ensures used { result.used ≡ used % word_bits }
 {
     if used == WORD {
         Place {
@@ -96,10 +94,10 @@ fn place_at(word: u32, used: u8) -> Place
 
 fn filling_between(from: u8, to: u8) -> Option<Filling>
     requires forwards { from ≤ to }
-    requires within { to ≤ 60 }
-    requires border { (to ≡ from) ⊎ ((0 < from) × (to % 15 ≡ 0)) }
-    ensures filling { (word : ℕ) → IsFilling (60 * word + from) (60 * word + to) result }
-    ensures inside { IfSome result (λ filling. (filling.first ≡ from) × (0 < filling.width) × (filling.first + filling.width ≤ 60) × (filling.number < 2 ^ filling.width)) }
+    requires within { to ≤ word_bits }
+    requires border { (to ≡ from) ⊎ ((0 < from) × (to % parcel_bits ≡ 0)) }
+    ensures filling { (word : ℕ) → IsFilling (word_bits * word + from) (word_bits * word + to) result }
+    ensures inside { IfSome result (λ filling. (filling.first ≡ from) × (0 < filling.width) × (filling.first + filling.width ≤ word_bits) × (filling.number < 2 ^ filling.width)) }
 {
     if from == to {
         return None;

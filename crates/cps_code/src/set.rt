@@ -16,28 +16,28 @@ pub fn code_with_constant(f: u8, i: u8, registers: Registers) -> Option<u16>
     ensures small { IfSome result (λ code. code < 4096) }
 {
     match registers {
-        Registers::Absent => Some(digits(f, 1, i, 0)),
+        Registers::Absent => Some(four_digits(f, 1, i, 0)),
         Registers::One(
             RegisterTerm {
                 is_minus: false,
                 letter: Letter::A,
                 digit,
             },
-        ) => Some(digits(f, 0, i, digit)),
+        ) => Some(four_digits(f, 0, i, digit)),
         Registers::One(
             RegisterTerm {
                 is_minus: false,
                 letter: Letter::B,
                 digit,
             },
-        ) => Some(digits(f, 1, i, digit)),
+        ) => Some(four_digits(f, 1, i, digit)),
         Registers::One(
             RegisterTerm {
                 is_minus: false,
                 letter: Letter::X,
                 digit,
             },
-        ) => Some(digits(f, 2, i, digit)),
+        ) => Some(four_digits(f, 2, i, digit)),
         _ => None,
     }
 }
@@ -72,22 +72,22 @@ fn code_alone(f: u8, i: u8, register: RegisterTerm) -> Option<u16>
             is_minus: false,
             letter: Letter::X,
             digit,
-        } => Some(digits(f, 3, i, digit) * 8),
+        } => Some(four_digits(f, 3, i, digit) * 8),
         RegisterTerm {
             is_minus: false,
             letter: Letter::A,
             digit,
-        } => Some(digits(f, 4, i, digit) * 8),
+        } => Some(four_digits(f, 4, i, digit) * 8),
         RegisterTerm {
             is_minus: false,
             letter: Letter::B,
             digit,
-        } => Some(digits(f, 6, i, digit) * 8),
+        } => Some(four_digits(f, 6, i, digit) * 8),
         RegisterTerm {
             is_minus: true,
             letter: Letter::B,
             digit,
-        } => Some(digits(f, 7, i, 0) * 8 + u16::from(digit)),
+        } => Some(four_digits(f, 7, i, 0) * 8 + u16::from(digit)),
         _ => None,
     }
 }
@@ -108,11 +108,11 @@ fn code_of_pair(f: u8, i: u8, j: RegisterTerm, k: RegisterTerm) -> Option<u16>
         (Letter::B, false, Letter::B, true) => 7,
         _ => return None,
     };
-    Some(digits(f, second, i, j.digit) * 8 + u16::from(k.digit))
+    Some(four_digits(f, second, i, j.digit) * 8 + u16::from(k.digit))
 }
 
 /// Four octal digits, one behind the other.
-fn digits(a: u8, b: u8, c: u8, d: u8) -> u16
+fn four_digits(a: u8, b: u8, c: u8, d: u8) -> u16
     requires a { a < 8 }
     requires b { b < 8 }
     requires c { c < 8 }

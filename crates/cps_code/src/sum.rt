@@ -1,12 +1,12 @@
 ghost use Rattle.std.specs.Prelude.{◌≡◌, ℕ, true, false, slice_index, ◌<◌, ◌≤◌, ◌^◌, [], ◌∷◌, MatchOption, length, All, ◌++◌, IfSome, IsSomeAnd, MatchBool, is_some, Some};
-ghost use Rattle.cps_code.specs.Sum.{SumTerm, register, term_with, sum_of};
-ghost use Rattle.cps_code.specs.Sum.{Sum as ASum};
+ghost use Rattle.cps_code.specs.Sum.{Sum, SumTerm, register, term_with, sum_of};
 ghost use Rattle.cps_code.specs.Terms.{pushed, register_list, IsKept, AreRegisters, IsRegister};
 ghost use Rattle.cps_code.specs.Register.{register_of, letter_of};
 ghost use Rattle.cps_expr.specs.Term.{Term, term_of};
 
 use super::register::{Letter, RegisterTerm};
 use cps_expr::{Expr, ExprFault, Radix, leading_sign, sign_at};
+use cps_text::capital;
 use std::alloc::Global;
 
 /// The register terms of a sum, in their order.
@@ -17,9 +17,9 @@ pub enum Registers {
     Two(RegisterTerm, RegisterTerm),
 }
 
-/// A sum: its register terms, two at most, and the others, each in their order.
+/// What is kept of a sum: its register terms, two at most, and the others, each in their order.
 #[derive(Drop)]
-pub struct Sum {
+pub struct KeptSum {
     pub registers: Registers,
     /// Whether there is a term that is no register.
     pub has_constant: bool,
@@ -29,13 +29,13 @@ pub struct Sum {
 
 /// Reads a sum of signed registers and terms of an expression, to its end also where memory is refused.
 /// None: the text is no such sum, or has more than two registers.
-pub fn read_sum(alloc: Global, text: &[u8], radix: Radix) -> Option<Sum>
+pub fn read_sum(alloc: Global, text: &[u8], radix: Radix) -> Option<KeptSum>
     ensures sum { MatchOption result
-        ((sum : ASum) → sum_of radix text.now ≡ Some sum → 2 < length sum.registers)
-        (λ kept. (sum : ASum) × (sum_of radix text.now ≡ Some sum) × IsKept kept sum) }
+        ((sum : Sum) → sum_of radix text.now ≡ Some sum → 2 < length sum.registers)
+        (λ kept. (sum : Sum) × (sum_of radix text.now ≡ Some sum) × IsKept kept sum) }
     ensures registers { IfSome result (λ kept. AreRegisters kept.registers) }
 {
-    let mut sum = Sum {
+    let mut kept = KeptSum {
         registers: Registers::Absent,
         has_constant: false,
         constant: Some(Expr::new(alloc)),
@@ -43,11 +43,11 @@ pub fn read_sum(alloc: Global, text: &[u8], radix: Radix) -> Option<Sum>
     let (mut is_minus, mut rest) = leading_sign(text);
     'terms: loop {
         let (term, later) = rest.split_at(sign_at(rest));
-        if !add_term(alloc, &mut sum, term, is_minus, radix) {
+        if !add_term(alloc, &mut kept, term, is_minus, radix) {
             return None;
         }
         match first_and_rest(later) {
-            None => return Some(sum),
+            None => return Some(kept),
             Some((sign, more)) => {
                 is_minus = sign == b'-';
                 rest = more;
@@ -85,7 +85,7 @@ fn read_register(text: &[u8], is_minus: bool) -> Option<RegisterTerm>
 fn read_letter(letter: u8) -> Option<Letter>
     ensures { result ≡ letter_of letter }
 {
-    match letter {
+    match capital(letter) {
         b'A' => Some(Letter::A),
         b'B' => Some(Letter::B),
         b'X' => Some(Letter::X),
@@ -94,29 +94,29 @@ fn read_letter(letter: u8) -> Option<Letter>
 }
 
 /// Adds the term that a text writes, at the end. False: it writes none, or a third register.
-fn add_term(alloc: Global, sum: &mut Sum, text: &[u8], is_minus: bool, radix: Radix) -> bool
-    ensures { (so_far : ASum) → IsKept sum.old so_far → MatchBool result
-        ((term : SumTerm) × (term_with radix is_minus text.now ≡ Some term) × IsKept sum.new (pushed so_far term))
+fn add_term(alloc: Global, kept: &mut KeptSum, text: &[u8], is_minus: bool, radix: Radix) -> bool
+    ensures { (so_far : Sum) → IsKept kept.old so_far → MatchBool result
+        ((term : SumTerm) × (term_with radix is_minus text.now ≡ Some term) × IsKept kept.new (pushed so_far term))
         ((term : SumTerm) → term_with radix is_minus text.now ≡ Some term → 2 < length (pushed so_far term).registers) }
 {
     match read_register(text, is_minus) {
-        Some(register) => add_register(sum, register),
+        Some(register) => add_register(kept, register),
         None => {
-            sum.has_constant = true;
-            add_other(alloc, &mut sum.constant, text, is_minus, radix)
+            kept.has_constant = true;
+            add_other(alloc, &mut kept.constant, text, is_minus, radix)
         }
     }
 }
 
 /// Adds a register at the end. False: it is a third one.
-fn add_register(sum: &mut Sum, term: RegisterTerm) -> bool
+fn add_register(kept: &mut KeptSum, term: RegisterTerm) -> bool
     requires { IsRegister term }
-    ensures { (so_far : ASum) → IsKept sum.old so_far → MatchBool result
-        (IsKept sum.new (pushed so_far (register term))) (2 < length (pushed so_far (register term)).registers) }
+    ensures { (so_far : Sum) → IsKept kept.old so_far → MatchBool result
+        (IsKept kept.new (pushed so_far (register term))) (2 < length (pushed so_far (register term)).registers) }
 {
-    match with_register(sum.registers, term) {
+    match with_register(kept.registers, term) {
         Some(registers) => {
-            sum.registers = registers;
+            kept.registers = registers;
             true
         }
         None => false,

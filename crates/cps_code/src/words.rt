@@ -1,9 +1,11 @@
 ghost use Rattle.std.specs.Prelude.{◌≡◌, ◌+◌, ◌-◌, ◌*◌, ◌/◌, ◌%◌, ◌^◌, ◌<◌, ◌≤◌, [], ◌∷◌, ◌++◌, List, Option, ℕ, OnOk, OnErr, length, if◌then◌else◌, ◌&&◌, nat_le, nat_lt, vec_len};
-ghost use Rattle.cps_code.specs.Image.{Piece as Patch, piece_of, word_at, packed_word, Deposits, ArePacked};
+ghost use Rattle.cps_code.specs.Image.{piece_of, word_at, packed_word, Deposits, ArePacked};
+ghost use Rattle.cps_code.specs.Image as image;
 ghost use Rattle.cps_code.specs.Slots.{AreWords};
-ghost use Rattle.cps_code.specs.Bits.{bit_from_left};
+ghost use Rattle.cps_code.specs.Bits.{word_bits, bit_from_left};
 
 use super::piece::Piece;
+use super::widths::WORD;
 use std::alloc::{AllocError, Global};
 use std::marker::Model;
 
@@ -37,7 +39,7 @@ impl Words {
     /// The word at an address, if there is one.
     pub fn get(&self, address: u32) -> Option<u64>
         ensures value { result ≡ word_at self.now address }
-        ensures packed { (pieces : List Patch) → ArePacked pieces self.now → result ≡ packed_word pieces address }
+        ensures packed { (pieces : List image.Piece) → ArePacked pieces self.now → result ≡ packed_word pieces address }
     {
         slot_at(&self.slots, address)
     }
@@ -45,7 +47,7 @@ impl Words {
     /// Puts a piece over what stands.
     pub fn deposit(&mut self, piece: Piece) -> Result<(), AllocError>
         ensures ok { OnOk result (Deposits self.old (piece_of piece) self.new) }
-        ensures packed { (pieces : List Patch) → ArePacked pieces self.old → OnOk result (ArePacked (pieces ++ piece_of piece ∷ []) self.new) }
+        ensures packed { (pieces : List image.Piece) → ArePacked pieces self.old → OnOk result (ArePacked (pieces ++ piece_of piece ∷ []) self.new) }
         ensures err { OnErr result (self.new ≡ self.old) }
     {
         make_room(
@@ -92,13 +94,13 @@ fn put_over(slots: &mut [Option<u64>], piece: Piece)
 
 /// A word with the piece's bits over its own.
 fn merged(word: u64, piece: Piece) -> u64
-    requires { word < 2 ^ 60 }
-    ensures bits { (at : ℕ) → at < 60 → bit_from_left 60 result at
+    requires { word < 2 ^ word_bits }
+    ensures bits { (at : ℕ) → at < word_bits → bit_from_left word_bits result at
         ≡ (if nat_le piece.first at && nat_lt at (piece.first + piece.width)
-        then bit_from_left piece.width piece.number (at - piece.first) else bit_from_left 60 word at) }
-    ensures below { result < 2 ^ 60 }
+        then bit_from_left piece.width piece.number (at - piece.first) else bit_from_left word_bits word at) }
+    ensures below { result < 2 ^ word_bits }
 {
-    let below = 60 - piece.first - piece.width;
+    let below = WORD - piece.first - piece.width;
     let high = word >> (below + piece.width);
     let low = word & ((1 << below) - 1);
     (((high << piece.width) | piece.number) << below) | low

@@ -1,8 +1,9 @@
 //! Readers and writers whose calls are counted.
-ghost use Rattle.std.specs.Prelude.{◌≡◌, ◌+◌, ◌<◌, ◌≤◌, IfSome, MatchOption, take, length};
+ghost use Rattle.std.specs.Prelude.{◌≡◌, ◌+◌, ◌<◌, ◌≤◌, ◌⊎◌, ◌↔◌, IsNone, IfSome, IsErr, MatchOption, MatchResult, unwrap_or, take, length};
 ghost use Rattle.std.specs.Io.KnownBytes.{Keeps, Appends, Consumes, IsAtEnd};
-ghost use Rattle.cps_text.specs.Counted.{inner_of, failures_of, calls_of, raised, raised_on_none};
+ghost use Rattle.cps_text.specs.Counted.{inner_of, failures_of, calls_of, moved_of, raised, raised_on_none};
 
+use std::io;
 use std::io::{Read, Write};
 
 /// A reader or a writer whose calls and failures are counted. A count stays at its greatest value.
@@ -11,19 +12,22 @@ pub struct Counted<T> {
     inner: T,
     failures: u64,
     calls: u64,
+    moved: usize,
 }
 
 impl<T> Counted<T> {
-    /// With both counts at 0.
+    /// With each count at 0.
     pub fn new(inner: T) -> Counted<T>
         ensures inner { inner_of result ≡ inner }
         ensures failures { failures_of result ≡ 0 }
         ensures calls { calls_of result ≡ 0 }
+        ensures moved { moved_of result ≡ 0 }
     {
         Counted {
             inner,
             failures: 0,
             calls: 0,
+            moved: 0,
         }
     }
 
@@ -41,12 +45,36 @@ impl<T> Counted<T> {
         self.calls
     }
 
+    /// How many bytes the last call gave or took: 0 where it failed, and before the first call.
+    pub fn moved(&self) -> usize
+        ensures { result ≡ moved_of self.now }
+    {
+        self.moved
+    }
+
     /// The reader or writer itself.
     pub fn into_inner(self) -> T
         ensures { result ≡ inner_of self }
     {
         let Counted { inner, .. } = self;
         inner
+    }
+
+    /// Counts a call that gave or took some bytes, or failed.
+    fn count_call(&mut self, moved: Option<usize>)
+        ensures inner { inner_of self.new ≡ inner_of self.old }
+        ensures failures { failures_of self.new ≡ raised_on_none moved (failures_of self.old) }
+        ensures calls { calls_of self.new ≡ raised (calls_of self.old) }
+        ensures moved { moved_of self.new ≡ unwrap_or moved 0 }
+    {
+        self.calls = self.calls.saturating_add(1);
+        match moved {
+            Some(count) => self.moved = count,
+            None => {
+                self.failures = self.failures.saturating_add(1);
+                self.moved = 0;
+            }
+        }
     }
 }
 
@@ -60,15 +88,11 @@ impl<R: Read> Counted<R> {
         ensures bound { IfSome result (λ n. n ≤ length buf.new) }
         ensures failures { failures_of self.new ≡ raised_on_none result (failures_of self.old) }
         ensures calls { calls_of self.new ≡ raised (calls_of self.old) }
+        ensures moved { moved_of self.new ≡ unwrap_or result 0 }
     {
-        self.calls = self.calls.saturating_add(1);
-        match self.inner.read(buf) {
-            Ok(count) => Some(count),
-            Err(_) => {
-                self.failures = self.failures.saturating_add(1);
-                None
-            }
-        }
+        let given = count_given(self.inner.read(buf));
+        self.count_call(given);
+        given
     }
 }
 
@@ -82,14 +106,31 @@ impl<W: Write> Counted<W> {
         ensures taken { IfSome result (λ n. 0 < length buf.now → 0 < n) }
         ensures failures { failures_of self.new ≡ raised_on_none result (failures_of self.old) }
         ensures calls { calls_of self.new ≡ raised (calls_of self.old) }
+        ensures moved { moved_of self.new ≡ unwrap_or result 0 }
     {
-        self.calls = self.calls.saturating_add(1);
-        match self.inner.write(buf) {
-            Ok(count) if count > 0 || buf.is_empty() => Some(count),
-            _ => {
-                self.failures = self.failures.saturating_add(1);
-                None
-            }
-        }
+        let taken = count_taken(self.inner.write(buf), buf.len());
+        self.count_call(taken);
+        taken
+    }
+}
+
+/// How many bytes a read gave, None exactly at an error.
+fn count_given(answer: io::Result<usize>) -> Option<usize>
+    ensures { MatchResult answer (λ count. result ≡ Some count) (λ _. result ≡ None) }
+{
+    match answer {
+        Ok(count) => Some(count),
+        Err(_) => None,
+    }
+}
+
+/// How many bytes a write of `offered` bytes took, None exactly at an error or where it took none of one or more.
+fn count_taken(answer: io::Result<usize>, offered: usize) -> Option<usize>
+    ensures some { IfSome result (λ count. answer ≡ Ok count) }
+    ensures none { IsNone result ↔ (IsErr answer ⊎ ((answer ≡ Ok 0) × (0 < offered))) }
+{
+    match answer {
+        Ok(count) if count > 0 || offered == 0 => Some(count),
+        _ => None,
     }
 }

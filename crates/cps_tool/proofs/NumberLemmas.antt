@@ -10,9 +10,13 @@ use Rattle.std.proofs.lemmas.List.{take_all, drop_all}
 use Rattle.std.proofs.lemmas.Str.Parse.{digit_from_value}
 use Rattle.std.proofs.lemmas.Bool.Decides.{nat_tests}
 use Rattle.std.proofs.Math.Nat.{pow-le-pow_right}
-use Rattle.cps_tool.specs.Command.{Spells, insert, replace, IsNumber, IsNumbered, blank, is_blank}
+use Rattle.cps_tool.specs.Command.{Spells, insert, replace, IsNumber, IsNumbered}
+use Rattle.cps_text.specs.Text.{is_blank}
 
 -- ---- the first blank
+
+abbrev pub blank : ℕ
+blank = 32
 
 found : (test : Bool) (place at : ℕ) → cond test (Some place) None ≡ Some at → (test ≡ true) × (place ≡ at)
 found true place at is = (refl, cc)

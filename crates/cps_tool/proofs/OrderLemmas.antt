@@ -2,7 +2,8 @@
 use Rattle.std.proofs.Common.{◌≡◌, ℕ, ◌==◌, if◌then◌else◌, ⊎_elim, List, [], ◌++◌, drop, get_or, codes, refl, sym, ap, subst, ◌∙◌}
 use Rattle.std.specs.List.{after_first}
 use Rattle.std.proofs.lemmas.Slice.Eq.{bytes_eq-Decides}
-use Rattle.cps_tool.specs.Command.{Order, append, insert, replace, delete, list, binary, flags, quit, Spells, IsNumbered, IsRange, is_blank}
+use Rattle.cps_tool.specs.Command.{Order, append, insert, replace, delete, list, binary, flags, quit, Spells, IsNumbered, IsRange}
+use Rattle.cps_text.specs.Text.{is_blank}
 use Rattle.cps_tool.proofs.NumberLemmas.{number_in, number_is, text_behind}
 use Rattle.cps_tool.proofs.RangeLemmas.{last_in, first_is, last_is}
 

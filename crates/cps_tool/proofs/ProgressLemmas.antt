@@ -1,8 +1,8 @@
 -- How far a script has come, byte by byte and line by line.
-use Rattle.std.proofs.Common.{◌≡◌, ℕ, Bool, true, false, not, ◌&&◌, eqb, List, [], ◌∷◌, ◌++◌, map, flat_map, Option, Result, Ok, Err, refl, sym, ap, subst, ◌∙◌, arith, append_assoc, append-nil}
+use Rattle.std.proofs.Common.{◌≡◌, ℕ, Bool, true, false, not, ◌&&◌, eqb, List, [], ◌∷◌, ◌++◌, map, flat_map, Option, Result, Ok, Err, refl, sym, ap, subst, ◌∙◌, arith, append_assoc, append-nil, inl, inr}
 use Rattle.std.specs.List.{list_all}
 use Rattle.std.specs.Io.KnownBytes.{Appends, Consumes, IsAtEnd}
-use Rattle.std.specs.Prelude.{IfSome, OnOk, None, Some}
+use Rattle.std.specs.Prelude.{IfSome, None, Some}
 use Rattle.std.proofs.KnownBytes.{Appends-nil, Appends-trans}
 use Rattle.std.proofs.lemmas.List.Folds.{list_all-append}
 use Rattle.std.proofs.lemmas.List.{map-append}
@@ -16,7 +16,7 @@ use Rattle.cps_tool.specs.ScriptLine.{IsBegun}
 use Rattle.cps_tool.specs.Command.{is_quit}
 use Rattle.cps_tool.specs.Lines.{Splits, without_return, last_line, has_no_newline, newline}
 use Rattle.cps_tool.specs.Reply.{Response, reply_text}
-use Rattle.cps_tool.specs.Script.{Run, Script, FrontOfScript, LinesOfScript, IsAnswered, goes_on, command_lines, before_quit}
+use Rattle.cps_tool.specs.Script.{Run, Script, FrontOfScript, LinesOfScript, IsAnswered, HasQuit, LacksQuit, IsReadToEnd, AreAnswered, goes_on, command_lines, before_quit}
 use Rattle.cps_tool.specs.Progress.{MatchFlow, Progress, Takes, Finishes}
 
 -- ---- cutting at newlines
@@ -30,6 +30,10 @@ both a b p q = rw (p, q) refl
 left_true : (a b : Bool) → (a && b) ≡ true → a ≡ true
 left_true true b h = refl
 left_true false b h = cc
+
+and_false : (a : Bool) → (a && false) ≡ false
+and_false true = refl
+and_false false = refl
 
 right_true : (a b : Bool) → (a && b) ≡ true → b ≡ true
 right_true true b h = h
@@ -188,6 +192,12 @@ quit_cuts lines later rest last going here =
     )
     (append-nil (map without_return lines))
 
+-- a line that ends the script stands among the lines
+quit_ends : (lines later : List (List ℕ)) (rest : List ℕ) → is_quit (without_return rest) ≡ true → list_all goes_on (map without_return (lines ++ rest ∷ later)) ≡ false
+quit_ends lines later rest here =
+    rw (map-append without_return lines (rest ∷ later), list_all-append goes_on (map without_return lines) (map without_return (rest ∷ later)), here)
+    (and_false (list_all goes_on (map without_return lines)))
+
 pub takes-quit : (line fresh : ScriptLine) (old new : List (List ℕ)) (before after : Option (List ℕ))
     → ((begun : List ℕ) → IsBegun line begun → (is_quit (without_return begun) ≡ true) × (new ≡ old) × Appends before after [])
     → Takes (Ok Ends) line fresh old new before after (newline ∷ [])
@@ -196,12 +206,17 @@ takes-quit line fresh old new before after answer = λ start taken text so_far.
     let same = a.1 in (
       [],
       a.2,
-      λ more. let split = split_of more in record {
-        lines = so_far.lines ++ so_far.rest ∷ split.lines;
-        rest = split.rest;
-        splits = rw append_assoc (splits-line taken more so_far.lines split.lines so_far.rest split.rest so_far.splits split.splits);
-        run = rw (quit_cuts so_far.lines split.lines so_far.rest split.rest so_far.going a.0, append-nil, same) so_far.run;
-      },
+      λ more. let split = split_of more in
+          let splits : Splits (taken ++ (newline ∷ []) ++ more) (so_far.lines ++ so_far.rest ∷ split.lines) split.rest
+          = rw append_assoc (splits-line taken more so_far.lines split.lines so_far.rest split.rest so_far.splits split.splits) in (
+            record {
+              lines = so_far.lines ++ so_far.rest ∷ split.lines;
+              rest = split.rest;
+              splits = splits;
+              run = rw (quit_cuts so_far.lines split.lines so_far.rest split.rest so_far.going a.0, append-nil, same) so_far.run;
+            },
+            (so_far.lines ++ so_far.rest ∷ split.lines, split.rest, splits, quit_ends so_far.lines split.lines so_far.rest a.0),
+          ),
     )
 
 pub takes-answered : (flow : Flow) (line fresh : ScriptLine) (old new : List (List ℕ)) (before after : Option (List ℕ)) → IsBegun fresh []
@@ -222,14 +237,14 @@ takes-fault fault line fresh old new before after answer = λ start taken text s
       a.3,
       a.4,
       a.6,
-      λ more. let split = split_of more in record {
+      λ more last left. let split = split_of more in record {
         lines = so_far.lines ++ so_far.rest ∷ split.lines;
         rest = split.rest;
         earlier = map without_return so_far.lines;
-        last = without_return so_far.rest;
-        later = map without_return split.lines ++ last_line split.rest;
+        final = without_return so_far.rest;
+        later = map without_return split.lines;
         splits = rw append_assoc (splits-line taken more so_far.lines split.lines so_far.rest split.rest so_far.splits split.splits);
-        commands = rw (map-append without_return so_far.lines (so_far.rest ∷ split.lines)) (simp append_assoc);
+        commands = inl (sym (map-append without_return so_far.lines (so_far.rest ∷ split.lines)));
         going = going-last so_far.lines so_far.rest so_far.going a.0;
         replies = text;
         mid = old;
@@ -310,14 +325,14 @@ finishes-fault fault line old new before after some answer = λ start taken text
       a.3,
       a.4,
       a.6,
-      record {
+      λ last left end. record {
         lines = so_far.lines;
         rest = so_far.rest;
         earlier = map without_return so_far.lines;
-        last = without_return so_far.rest;
+        final = without_return so_far.rest;
         later = [];
         splits = so_far.splits;
-        commands = rw (last_line-some so_far.rest (some so_far.rest so_far.begun)) refl;
+        commands = inr (end, ap (λ l. map without_return so_far.lines ++ l) (sym (last_line-some so_far.rest (some so_far.rest so_far.begun))));
         going = going-last so_far.lines so_far.rest so_far.going a.0;
         replies = text;
         mid = old;
@@ -338,37 +353,100 @@ progress-none line start empty = record { lines = []; rest = []; splits = splits
 pub progress-lines : (start : List (List ℕ)) (taken : List ℕ) (line : ScriptLine) (text : List ℕ) (now : List (List ℕ)) → Progress start taken line text now → LinesOfScript start taken text now
 progress-lines start taken line text now so_far = record { lines = so_far.lines; rest = so_far.rest; splits = so_far.splits; going = so_far.going; run = so_far.run }
 
--- what a whole run of a script says
-abbrev pub RunSays : List (List ℕ) → List (List ℕ) → Option (List ℕ) → Option (List ℕ) → Option (List ℕ) → Type 0
-RunSays start new input before after = IfSome input (λ bytes. (text : List ℕ) × Script start bytes text new × Appends before after text)
+pub progress-lacks : (start : List (List ℕ)) (taken : List ℕ) (line : ScriptLine) (text : List ℕ) (now : List (List ℕ)) → Progress start taken line text now → LacksQuit taken
+progress-lacks start taken line text now so_far = (so_far.lines, so_far.rest, so_far.splits, so_far.going)
 
-pub finished-ok : (result : Result (Unit {0}) RunFault) (line : ScriptLine) (start old new : List (List ℕ)) (input left before between after : Option (List ℕ)) (taken text : List ℕ)
+-- what a run says of what it took, and of its reads
+abbrev pub RunSays : (List ℕ → List ℕ → Type 0) → List (List ℕ) → List (List ℕ) → Option (List ℕ) → Option (List ℕ) → Option (List ℕ) → Option (List ℕ) → Type 0
+RunSays Reads start new input left output after =
+    (before last text : List ℕ) × Consumes input left (before ++ last) × Script start (before ++ last) text new × Appends output after text
+    × Reads before last × IsReadToEnd before last left
+
+-- what a run says of the whole input
+abbrev pub WholeSays : List (List ℕ) → List (List ℕ) → Option (List ℕ) → Option (List ℕ) → Option (List ℕ) → Type 0
+WholeSays start new input before after = IfSome input (λ bytes. (text : List ℕ) × Script start bytes text new × Appends before after text)
+
+pub finished-ok : (Reads : List ℕ → List ℕ → Type 0) (line : ScriptLine) (start old new : List (List ℕ)) (input left before between after : Option (List ℕ)) (taken text : List ℕ)
+    → Progress start taken line text old → Consumes input left taken → IsAtEnd left → Appends before between text → Reads taken []
+    → Finishes (Ok tt) line old new between after → RunSays Reads start new input left before after
+finished-ok Reads line start old new input left before between after taken text so_far consumed end appends reads finishes =
+    let f = finishes start taken text so_far in (
+      taken,
+      [],
+      text ++ f.0,
+      rw append-nil consumed,
+      rw append-nil f.2,
+      Appends-trans before between after text f.0 appends f.1,
+      reads,
+      (progress-lacks start taken line text old so_far, inl (refl, end)),
+    )
+
+pub finished-whole : (line : ScriptLine) (start old new : List (List ℕ)) (input left before between after : Option (List ℕ)) (taken text : List ℕ)
     → Progress start taken line text old → Consumes input left taken → IsAtEnd left → Appends before between text
-    → Finishes result line old new between after → OnOk result (RunSays start new input before after)
-finished-ok (Err fault) line start old new input left before between after taken text so_far consumed end appends finishes = tt
-finished-ok (Ok u) line start old new None left before between after taken text so_far consumed end appends finishes = tt
-finished-ok (Ok u) line start old new (Some xs) None before between after taken text so_far consumed end appends finishes = absurd consumed
-finished-ok (Ok u) line start old new (Some xs) (Some ys) before between after taken text so_far consumed end appends finishes =
+    → Finishes (Ok tt) line old new between after → WholeSays start new input before after
+finished-whole line start old new None left before between after taken text so_far consumed end appends finishes = tt
+finished-whole line start old new (Some xs) None before between after taken text so_far consumed end appends finishes = absurd consumed
+finished-whole line start old new (Some xs) (Some ys) before between after taken text so_far consumed end appends finishes =
     let f = finishes start taken text so_far in
     (text ++ f.0, rw (consumed, end, append-nil) f.2, Appends-trans before between after text f.0 appends f.1)
 
-pub ended-ok : (start new : List (List ℕ)) (input left before after : Option (List ℕ)) (taken text : List ℕ) → Consumes input left taken → Appends before after text
-    → ((more : List ℕ) → Script start (taken ++ more) text new) → RunSays start new input before after
-ended-ok start new None left before after taken text consumed appends script = tt
-ended-ok start new (Some xs) None before after taken text consumed appends script = absurd consumed
-ended-ok start new (Some xs) (Some ys) before after taken text consumed appends script = (text, rw consumed (script ys), appends)
+pub ended-ok : (Reads : List ℕ → List ℕ → Type 0) (start new : List (List ℕ)) (input left before after : Option (List ℕ)) (taken bytes text : List ℕ) → Consumes input left (taken ++ bytes)
+    → Appends before after text → LacksQuit taken → Reads taken bytes
+    → ((more : List ℕ) → Script start (taken ++ bytes ++ more) text new × HasQuit (taken ++ bytes ++ more)) → RunSays Reads start new input left before after
+ended-ok Reads start new input left before after taken bytes text consumed appends lacks reads ends =
+    let e = rw append-nil at (ends []) in
+    (taken, bytes, text, consumed, e.0, appends, reads, (lacks, inr e.1))
+
+pub ended-whole : (start new : List (List ℕ)) (input left before after : Option (List ℕ)) (taken bytes text : List ℕ) → Consumes input left (taken ++ bytes)
+    → Appends before after text
+    → ((more : List ℕ) → Script start (taken ++ bytes ++ more) text new × HasQuit (taken ++ bytes ++ more)) → WholeSays start new input before after
+ended-whole start new None left before after taken bytes text consumed appends ends = tt
+ended-whole start new (Some xs) None before after taken bytes text consumed appends ends = absurd consumed
+ended-whole start new (Some xs) (Some ys) before after taken bytes text consumed appends ends =
+    let e = ends ys in (text, rw consumed e.0, appends)
 
 -- what a run says that a failed write ended
-abbrev pub FaultSays : List (List ℕ) → List (List ℕ) → Option (List ℕ) → Option (List ℕ) → Option (List ℕ) → Option (List ℕ) → Type 0
-FaultSays start new input left before after =
-    (taken text unsaid : List ℕ) × Consumes input left taken × FrontOfScript start taken text unsaid new × Appends before after text
+abbrev pub FaultSays : (List ℕ → List ℕ → Type 0) → List (List ℕ) → List (List ℕ) → Option (List ℕ) → Option (List ℕ) → Option (List ℕ) → Option (List ℕ) → Type 0
+FaultSays Reads start new input left output after =
+    (before last text unsaid : List ℕ) × Consumes input left (before ++ last) × FrontOfScript start (before ++ last) last left text unsaid new
+    × Appends output after text × Reads before last × AreAnswered start before text
 
-pub finished-fault : (fault : RunFault) (line : ScriptLine) (start old new : List (List ℕ)) (input left before between after : Option (List ℕ)) (taken text : List ℕ)
-    → Progress start taken line text old → Consumes input left taken → Appends before between text
-    → Finishes (Err fault) line old new between after → FaultSays start new input left before after
-finished-fault fault line start old new input left before between after taken text so_far consumed appends finishes =
-    let f = finishes start taken text so_far in
-    (taken, text ++ f.0, f.1, consumed, f.3, Appends-trans before between after text f.0 appends f.2)
+-- the replies so far stand before what is added to them
+answered-before : (start : List (List ℕ)) (taken : List ℕ) (line : ScriptLine) (text added : List ℕ) (now : List (List ℕ))
+    → Progress start taken line text now → AreAnswered start taken (text ++ added)
+answered-before start taken line text added now so_far = (text, added, now, progress-lines start taken line text now so_far, refl)
+
+pub finished-fault : (Reads : List ℕ → List ℕ → Type 0) (fault : RunFault) (line : ScriptLine) (start old new : List (List ℕ)) (input left before between after : Option (List ℕ)) (taken text : List ℕ)
+    → Progress start taken line text old → Consumes input left taken → IsAtEnd left → Appends before between text → Reads taken []
+    → Finishes (Err fault) line old new between after → FaultSays Reads start new input left before after
+finished-fault Reads fault line start old new input left before between after taken text so_far consumed end appends reads finishes =
+    let f = finishes start taken text so_far in (
+      taken,
+      [],
+      text ++ f.0,
+      f.1,
+      rw append-nil consumed,
+      rw append-nil (f.3 [] left (refl, end)),
+      Appends-trans before between after text f.0 appends f.2,
+      reads,
+      answered-before start taken line text f.0 old so_far,
+    )
+
+pub failed-fault : (Reads : List ℕ → List ℕ → Type 0) (fault : RunFault) (line next : ScriptLine) (start old new : List (List ℕ)) (input left before between after : Option (List ℕ)) (taken bytes text : List ℕ)
+    → Progress start taken line text old → Consumes input left (taken ++ bytes) → Appends before between text → Reads taken bytes
+    → Takes (Err fault) line next old new between after bytes → FaultSays Reads start new input left before after
+failed-fault Reads fault line next start old new input left before between after taken bytes text so_far consumed appends reads takes =
+    let t = takes start taken text so_far in (
+      taken,
+      bytes,
+      text ++ t.0,
+      t.1,
+      consumed,
+      rw append-nil at (t.3 [] bytes left),
+      Appends-trans before between after text t.0 appends t.2,
+      reads,
+      answered-before start taken line text t.0 old so_far,
+    )
 
 -- ---- taking further bytes
 
@@ -390,7 +468,7 @@ takes-then (Ok Ends) a b c old mid new before between after front back first sec
 takes-then (Err fault) a b c old mid new before between after front back first second = λ start taken text so_far.
     let f = first start taken text so_far in
     let s = second start (taken ++ front) (text ++ f.0) f.2 in
-    (f.0 ++ s.0, s.1, Appends-trans before between after f.0 s.0 f.1 s.2, λ more. rw (← append_assoc taken front back, ← append_assoc text f.0 s.0) (s.3 more))
+    (f.0 ++ s.0, s.1, Appends-trans before between after f.0 s.0 f.1 s.2, λ more last left. rw (← append_assoc taken front back, ← append_assoc text f.0 s.0) (s.3 more last left))
 
 pub takes-ended : (a b : ScriptLine) (old new : List (List ℕ)) (before after : Option (List ℕ)) (front back : List ℕ) → Takes (Ok Ends) a b old new before after front → Takes (Ok Ends) a b old new before after (front ++ back)
 takes-ended a b old new before after front back first = λ start taken text so_far.
@@ -400,4 +478,4 @@ takes-ended a b old new before after front back first = λ start taken text so_f
 pub takes-failed : (fault : RunFault) (a b : ScriptLine) (old new : List (List ℕ)) (before after : Option (List ℕ)) (front back : List ℕ) → Takes (Err fault) a b old new before after front → Takes (Err fault) a b old new before after (front ++ back)
 takes-failed fault a b old new before after front back first = λ start taken text so_far.
     let f = first start taken text so_far in
-    (f.0, f.1, f.2, λ more. rw (← append_assoc taken front back, append_assoc (taken ++ front) back more) (f.3 (back ++ more)))
+    (f.0, f.1, f.2, λ more last left. rw (← append_assoc taken front back, append_assoc (taken ++ front) back more) (f.3 (back ++ more) last left))

@@ -3,8 +3,9 @@ use Rattle.std.proofs.Common.{◌≡◌, ℕ, ◌<◌, ◌⊎◌, None, List, []
 use Rattle.std.specs.List.{position_or_len, position_from, before_first, after_first}
 use Rattle.std.specs.Str.Parse.{digits_value}
 use Rattle.std.proofs.lemmas.List.{take_all}
-use Rattle.cps_tool.specs.Command.{Spells, delete, IsNumber, IsNumbered, IsRange, blank, is_blank}
-use Rattle.cps_tool.proofs.NumberLemmas.{blank_none, front_alone, number_before, text_behind, number_in, number_is, numbered_split}
+use Rattle.cps_tool.specs.Command.{Spells, delete, IsNumber, IsNumbered, IsRange}
+use Rattle.cps_text.specs.Text.{is_blank}
+use Rattle.cps_tool.proofs.NumberLemmas.{blank, blank_none, front_alone, number_before, text_behind, number_in, number_is, numbered_split}
 
 -- a range is a number, and behind it nothing or another
 parts : (bytes : List ℕ) (first last : ℕ) → IsRange bytes first last

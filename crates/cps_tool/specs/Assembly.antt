@@ -4,7 +4,7 @@
 use Rattle.std.specs.Prelude.{ℕ, List, [], ◌∷◌, flat_map, Option, None}
 use Rattle.cps_text.specs.declared.name.Name.{Name}
 use Rattle.cps_code.specs.Image.{Piece}
-use Rattle.cps_code.specs.Table.{or_else}
+use Rattle.std.specs.Option.{option_or}
 use Rattle.cps_tool.specs.Keys.{State, Labels, first_state, overwritten, labels_of}
 use Rattle.cps_tool.specs.Item.{Item}
 use Rattle.cps_tool.specs.Course.{Trace}
@@ -38,11 +38,11 @@ final_labels lines = labels_of (state_after first_state lines)
 -- the program's name is the first that a statement gives
 abbrev pub first_program : List Item → Option Name
 first_program [] = None
-first_program (item ∷ items) = or_else item.program (first_program items)
+first_program (item ∷ items) = option_or item.program (first_program items)
 
 abbrev pub program_of : List Trace → Option Name
 program_of [] = None
-program_of (trace ∷ traces) = or_else (first_program trace.items) (program_of traces)
+program_of (trace ∷ traces) = option_or (first_program trace.items) (program_of traces)
 
 -- ---- pass two
 

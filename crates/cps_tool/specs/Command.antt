@@ -1,5 +1,5 @@
 -- The commands of a script. Our own.
-use Rattle.std.specs.Prelude.{◌≡◌, ℕ, ◌<◌, ◌≤◌, Bool, true, false, ◌==◌, IsTrue, List, [], ◌∷◌, ◌++◌, length, codes, ◌⊎◌, bytes_eq}
+use Rattle.std.specs.Prelude.{◌≡◌, ℕ, ◌<◌, ◌≤◌, Bool, true, false, IsTrue, List, [], ◌++◌, length, codes, ◌⊎◌, bytes_eq}
 use Rattle.std.specs.Str.Parse.{AllDigits, digits_value}
 use Rattle.cps_tool.specs.declared.command.Command.{Command}
 use Rattle.cps_tool.specs.declared.command.Command.TheVariants.{Append, Insert, Replace, Delete, Listing, Binary, Flags, Quit}
@@ -27,14 +27,6 @@ order_of Binary = binary
 order_of Flags = flags
 order_of Quit = quit
 
--- the byte between the parts of a command
-abbrev pub blank : ℕ
-blank = 32
-
--- a byte is that one
-abbrev pub is_blank : ℕ → Bool
-is_blank byte = byte == blank
-
 -- the most bytes that a command has
 abbrev pub longest_command : ℕ
 longest_command = 200
@@ -49,13 +41,13 @@ pub record IsNumber (digits : List ℕ) (number : ℕ) : Type 0 where
 -- the digits of a line's number, and behind a blank a text, which may be absent
 abbrev pub IsNumbered : List ℕ → ℕ → List ℕ → Type 0
 IsNumbered bytes number text =
-    (digits : List ℕ) × IsNumber digits number × (((bytes ≡ digits) × (text ≡ [])) ⊎ (bytes ≡ digits ++ blank ∷ text))
+    (digits : List ℕ) × IsNumber digits number × (((bytes ≡ digits) × (text ≡ [])) ⊎ (bytes ≡ digits ++ (codes " " ++ text)))
 
 -- the numbers of the first and the last of some lines, with a blank between them; one number alone is both
 abbrev pub IsRange : List ℕ → ℕ → ℕ → Type 0
 IsRange bytes first last =
     (IsNumber bytes first × (last ≡ first))
-    ⊎ ((digits : List ℕ) × (more : List ℕ) × (bytes ≡ digits ++ blank ∷ more) × IsNumber digits first × IsNumber more last)
+    ⊎ ((digits : List ℕ) × (more : List ℕ) × (bytes ≡ digits ++ (codes " " ++ more)) × IsNumber digits first × IsNumber more last)
 
 -- a line is the command that ends a script
 abbrev pub is_quit : List ℕ → Bool

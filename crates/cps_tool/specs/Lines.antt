@@ -1,14 +1,14 @@
 -- Bytes cut into lines. Our own.
-use Rattle.std.specs.Prelude.{◌≡◌, ℕ, Bool, true, not, ◌==◌, List, [], ◌∷◌, ◌++◌, flat_map, length, if◌then◌else◌, nat_lt, ◌&&◌, ◌-◌, slice_index, take}
+use Rattle.std.specs.Prelude.{◌≡◌, ℕ, Bool, true, not, ◌==◌, List, [], ◌∷◌, ◌++◌, codes, flat_map, length, if◌then◌else◌, nat_lt, ◌&&◌, ◌-◌, slice_index, take}
 use Rattle.std.specs.List.{list_all}
 
 -- the byte that ends a line
 abbrev pub newline : ℕ
-newline = 10
+newline = slice_index (codes "\n") 0
 
 -- the byte that may stand before a newline, and is dropped there
 abbrev pub carriage_return : ℕ
-carriage_return = 13
+carriage_return = slice_index (codes "\r") 0
 
 -- no byte is a newline
 abbrev pub has_no_newline : List ℕ → Bool

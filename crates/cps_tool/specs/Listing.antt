@@ -1,7 +1,7 @@
 -- The listing: a row for each statement, with its flags, its address, its code and the line as it was given.
 -- The columns are our profile's. They are counted from 1: flags in 1 to 8, the address in 10 to 15, the code in 17 to 36,
 -- the line's number in 38 to 43, the line from 45 on; columns between are blank, and blanks at the end are cut.
-use Rattle.std.specs.Prelude.{ℕ, ◌+◌, ◌-◌, List, [], ◌∷◌, ◌++◌, length, replicate, codes, decimal, flat_map, Option, None, Some, if◌then◌else◌}
+use Rattle.std.specs.Prelude.{ℕ, ◌+◌, ◌-◌, List, [], ◌∷◌, ◌++◌, length, replicate, slice_index, codes, decimal, flat_map, Option, None, Some, if◌then◌else◌}
 use Rattle.std.specs.List.{list_all}
 use Rattle.cps_text.specs.Text.{is_blank}
 use Rattle.cps_tool.specs.declared.outcome.Row.{Row}
@@ -14,7 +14,7 @@ use Rattle.cps_tool.specs.Outcome.{row_of}
 use Rattle.cps_tool.specs.Assembly.{traces_of, final_labels}
 
 abbrev pub blanks : ℕ → List ℕ
-blanks count = replicate count 32
+blanks count = replicate count (slice_index (codes " ") 0)
 
 -- a text at the left, and at the right, of so many columns
 abbrev pub at_left : ℕ → List ℕ → List ℕ

@@ -1,4 +1,4 @@
--- How far a script has come.
+-- For the loop over a script's bytes, not part of what a reader believes: how far a script has come.
 use Rattle.std.specs.Prelude.{◌≡◌, ℕ, true, List, ◌++◌, map, Option, Result, MatchResult}
 use Rattle.std.specs.List.{list_all}
 use Rattle.std.specs.Io.KnownBytes.{Appends}
@@ -7,7 +7,7 @@ use Rattle.cps_tool.specs.declared.script.Flow.TheVariants.{GoesOn, Ends}
 use Rattle.cps_tool.specs.declared.writing.RunFault.{RunFault}
 use Rattle.cps_tool.specs.declared.script_line.ScriptLine.{ScriptLine}
 use Rattle.cps_tool.specs.Lines.{Splits, without_return}
-use Rattle.cps_tool.specs.Script.{Run, Script, FrontOfScript, goes_on}
+use Rattle.cps_tool.specs.Script.{Run, Script, FrontOfScript, IsInputEnd, HasQuit, goes_on}
 use Rattle.cps_tool.specs.ScriptLine.{IsBegun}
 
 -- one fact where a script goes on, and another where it ends
@@ -31,13 +31,14 @@ Takes result old_line new_line old new before after bytes =
     (start : List (List ℕ)) (taken text : List ℕ) → Progress start taken old_line text old → MatchResult result
     (λ flow. (added : List ℕ) × Appends before after added × MatchFlow flow
     (Progress start (taken ++ bytes) new_line (text ++ added) new)
-    ((more : List ℕ) → Script start (taken ++ bytes ++ more) (text ++ added) new))
+    ((more : List ℕ) → Script start (taken ++ bytes ++ more) (text ++ added) new × HasQuit (taken ++ bytes ++ more)))
     (λ _. (added unsaid : List ℕ) × Appends before after added
-    × ((more : List ℕ) → FrontOfScript start (taken ++ bytes ++ more) (text ++ added) unsaid new))
+    × ((more last : List ℕ) (left : Option (List ℕ)) → FrontOfScript start (taken ++ bytes ++ more) last left (text ++ added) unsaid new))
 
 -- What the end of the bytes comes to: the line that has begun is answered as well.
 abbrev pub Finishes : Result (Unit {0}) RunFault → ScriptLine → List (List ℕ) → List (List ℕ) → Option (List ℕ) → Option (List ℕ) → Type 0
 Finishes result line old new before after =
     (start : List (List ℕ)) (taken text : List ℕ) → Progress start taken line text old → MatchResult result
     (λ _. (added : List ℕ) × Appends before after added × Script start taken (text ++ added) new)
-    (λ _. (added unsaid : List ℕ) × Appends before after added × FrontOfScript start taken (text ++ added) unsaid new)
+    (λ _. (added unsaid : List ℕ) × Appends before after added
+    × ((last : List ℕ) (left : Option (List ℕ)) → IsInputEnd last left → FrontOfScript start taken last left (text ++ added) unsaid new))

@@ -1,6 +1,7 @@
 -- What a script writes, and the source after it. Our own.
-use Rattle.std.specs.Prelude.{◌≡◌, ℕ, Bool, true, not, List, [], ◌∷◌, ◌++◌, map, length, ◌⊎◌, if◌then◌else◌}
+use Rattle.std.specs.Prelude.{◌≡◌, ℕ, Bool, true, false, not, List, [], ◌∷◌, ◌++◌, map, length, ◌⊎◌, Option, if◌then◌else◌}
 use Rattle.std.specs.List.{list_all}
+use Rattle.std.specs.Io.KnownBytes.{IsAtEnd}
 use Rattle.cps_tool.specs.declared.reply.Refusal.TheVariants as refusals
 use Rattle.cps_tool.specs.Binary.{binary_text}
 use Rattle.cps_tool.specs.Listing.{listing_text}
@@ -60,26 +61,6 @@ pub record Script (old : List (List ℕ)) (bytes text : List ℕ) (new : List (L
   pub splits : Splits bytes lines rest
   pub run : Run old (command_lines lines rest) text new
 
--- The first command lines of a script were answered, none of which ends it. The replies to the earlier lines stand in `text`, and
--- behind them a front of the reply to the last; `unsaid` is the rest of it.
-pub record FrontOfScript (old : List (List ℕ)) (bytes text unsaid : List ℕ) (new : List (List ℕ)) : Type 0 where
-  pub lines : List (List ℕ)
-  pub rest : List ℕ
-  pub splits : Splits bytes lines rest
-  pub earlier : List (List ℕ)
-  pub last : List ℕ
-  pub later : List (List ℕ)
-  pub commands : map without_return lines ++ last_line rest ≡ earlier ++ last ∷ later
-  pub going : list_all goes_on (earlier ++ last ∷ []) ≡ true
-  pub replies : List ℕ
-  pub mid : List (List ℕ)
-  pub run : Run old earlier replies mid
-  pub response : Response
-  pub answers : IsAnswered mid last response new
-  pub front : List ℕ
-  pub written : text ≡ replies ++ front
-  pub cut : reply_text response ≡ front ++ unsaid
-
 -- what the lines that a newline ends may write, none of which ends the script, and the source after them
 pub record LinesOfScript (old : List (List ℕ)) (bytes text : List ℕ) (new : List (List ℕ)) : Type 0 where
   pub lines : List (List ℕ)
@@ -87,3 +68,55 @@ pub record LinesOfScript (old : List (List ℕ)) (bytes text : List ℕ) (new : 
   pub splits : Splits bytes lines rest
   pub going : list_all goes_on (map without_return lines) ≡ true
   pub run : Run old (map without_return lines) text new
+
+-- ---- where reading stops
+
+-- a newline ended a line in these bytes that ends the script
+abbrev pub HasQuit : List ℕ → Type 0
+HasQuit bytes = (lines : List (List ℕ)) × (rest : List ℕ) × Splits bytes lines rest × (list_all goes_on (map without_return lines) ≡ false)
+
+-- no newline ended such a line
+abbrev pub LacksQuit : List ℕ → Type 0
+LacksQuit bytes = (lines : List (List ℕ)) × (rest : List ℕ) × Splits bytes lines rest × (list_all goes_on (map without_return lines) ≡ true)
+
+-- the input is at its end: the last read gave no byte, and no known byte is left
+abbrev pub IsInputEnd : List ℕ → Option (List ℕ) → Type 0
+IsInputEnd last left = (last ≡ []) × IsAtEnd left
+
+-- A script was read to its end and no further: no newline in the bytes before the last read ended a line that ends the script, and the last
+-- read found the end of the input or gave the newline of such a line.
+abbrev pub IsReadToEnd : List ℕ → List ℕ → Option (List ℕ) → Type 0
+IsReadToEnd before last left = LacksQuit before × (IsInputEnd last left ⊎ HasQuit (before ++ last))
+
+-- ---- where a write fails
+
+-- the command lines that have come: those that a newline ended, and at the end of the input the last one too
+abbrev pub HaveCome : List (List ℕ) → List ℕ → List ℕ → Option (List ℕ) → List (List ℕ) → Type 0
+HaveCome lines rest last left commands =
+    (commands ≡ map without_return lines)
+    ⊎ (IsInputEnd last left × (commands ≡ map without_return lines ++ last_line rest))
+
+-- The first command lines that have come were answered, none of which ends the script; `last` are the bytes of the last read, and `left` are
+-- those to come. The replies to the earlier lines stand in `text`, and behind them a front of the reply to the final one; `unsaid` is the
+-- rest of it.
+pub record FrontOfScript (old : List (List ℕ)) (bytes last : List ℕ) (left : Option (List ℕ)) (text unsaid : List ℕ) (new : List (List ℕ)) : Type 0 where
+  pub lines : List (List ℕ)
+  pub rest : List ℕ
+  pub splits : Splits bytes lines rest
+  pub earlier : List (List ℕ)
+  pub final : List ℕ
+  pub later : List (List ℕ)
+  pub commands : HaveCome lines rest last left (earlier ++ final ∷ later)
+  pub going : list_all goes_on (earlier ++ final ∷ []) ≡ true
+  pub replies : List ℕ
+  pub mid : List (List ℕ)
+  pub run : Run old earlier replies mid
+  pub response : Response
+  pub answers : IsAnswered mid final response new
+  pub front : List ℕ
+  pub written : text ≡ replies ++ front
+  pub cut : reply_text response ≡ front ++ unsaid
+
+-- the replies to the lines that newlines ended in these bytes stand whole in a text
+abbrev pub AreAnswered : List (List ℕ) → List ℕ → List ℕ → Type 0
+AreAnswered old bytes text = (said more : List ℕ) × (mid : List (List ℕ)) × LinesOfScript old bytes said mid × (text ≡ said ++ more)

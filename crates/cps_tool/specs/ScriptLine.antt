@@ -1,4 +1,4 @@
--- A line of a script of which some bytes have come.
+-- For the loop over a script's bytes, not part of what a reader believes: a line of which some bytes have come.
 use Rattle.std.specs.Prelude.{◌≡◌, ℕ, List, [], ◌∷◌, take, drop, if◌then◌else◌, ◌==◌}
 use Rattle.cps_tool.specs.declared.script_line.ScriptLine.{ScriptLine}
 use Rattle.cps_tool.specs.declared.script_line.Past.{Past}

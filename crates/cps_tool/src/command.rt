@@ -1,7 +1,8 @@
 //! The commands of a script.
 ghost use Rattle.std.specs.Prelude.{◌≡◌, ℕ, ◌<◌, ◌≤◌, List, false, length, IfOk, IfSome, IfNone, MatchResult, MatchOption};
 ghost use Rattle.std.specs.List.{before_first, after_first, position_from};
-ghost use Rattle.cps_tool.specs.Command.{Order, append, insert, replace, delete, list, binary, flags, Spells, IsNumber, IsNumbered, IsRange, is_quit, is_quit_order, order_of, is_blank};
+ghost use Rattle.cps_tool.specs.Command.{Order, append, insert, replace, delete, list, binary, flags, Spells, IsNumber, IsNumbered, IsRange, is_quit, is_quit_order, order_of};
+ghost use Rattle.cps_text.specs.Text.{is_blank};
 
 use thiserror::Error;
 

@@ -2,7 +2,7 @@
 ghost use Rattle.std.specs.Prelude.{◌≡◌, ℕ, List, ◌++◌, false, true, MatchOption, MatchResult, OnOk, OnErr, IsErrOf, codes, decimal};
 ghost use Rattle.std.specs.Io.KnownBytes.{Appends};
 ghost use Rattle.cps_tool.specs.Command.{is_quit};
-ghost use Rattle.cps_text.specs.Counted.{inner_of, failures_of, raised};
+ghost use Rattle.cps_text.specs.Counted.{inner_of, failures_of, FailsOnce};
 ghost use Rattle.cps_tool.specs.Edits.{Inserted, Replaced, Deleted};
 ghost use Rattle.cps_tool.specs.Reply.{meaning_of, shown, refused, refusal_of, reply_text, refusal_text};
 ghost use Rattle.cps_tool.specs.declared.reply.Refusal.TheVariants.{NoMemory};
@@ -112,7 +112,7 @@ pub fn write_reply<W: Write>(writer: &mut Counted<W>, reply: &Reply) -> Result<(
     ensures err { OnErr result ((front back : List ℕ) × (reply_text (meaning_of reply.now) ≡ front ++ back)
         × Appends (W.contents (inner_of writer.old)) (W.contents (inner_of writer.new)) front) }
     ensures fault { IsErrOf result RunFault.ReadFault → ⊥ }
-    ensures failed { OnErr result (failures_of writer.new ≡ raised (failures_of writer.old)) }
+    ensures failed { OnErr result (FailsOnce writer.old writer.new) }
     ensures failures { OnOk result (failures_of writer.new ≡ failures_of writer.old) }
 {
     match reply {

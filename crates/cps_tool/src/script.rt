@@ -1,13 +1,13 @@
 //! Running a script.
-ghost use Rattle.std.specs.Prelude.{◌≡◌, ℕ, List, [], ◌++◌, ◌∷◌, false, true, OnOk, OnErr, IfOk, IfSome, IsErrOf, MatchResult, MatchOption, ◌≤◌, ◌+◌, ◌-◌, ◌^◌, ◌⊎◌};
+ghost use Rattle.std.specs.Prelude.{◌≡◌, ℕ, List, [], ◌++◌, ◌∷◌, false, true, OnOk, OnErr, IfOk, IfSome, IsErrOf, MatchResult, MatchOption, length, ◌≤◌, ◌+◌, ◌⊎◌};
 ghost use Rattle.std.specs.Io.KnownBytes.{Appends, Consumes};
 ghost use Rattle.cps_tool.specs.Command.{is_quit};
-ghost use Rattle.cps_text.specs.Counted.{inner_of, calls_of, failures_of, raised};
+ghost use Rattle.cps_text.specs.Counted.{inner_of, calls_of, failures_of, raised_by, FailsOnce, LastReadGave};
 ghost use Rattle.cps_tool.specs.Flagged.{flagged_lines};
 ghost use Rattle.cps_tool.specs.Lines.{without_return};
 ghost use Rattle.cps_tool.specs.Progress.{MatchFlow, Takes, Finishes};
 ghost use Rattle.cps_tool.specs.Reply.{Response, meaning_of, reply_text};
-ghost use Rattle.cps_tool.specs.Script.{Script, FrontOfScript, LinesOfScript, IsAnswered};
+ghost use Rattle.cps_tool.specs.Script.{Script, IsReadToEnd, FrontOfScript, AreAnswered, LinesOfScript, IsAnswered};
 ghost use Rattle.cps_tool.specs.ScriptLine.{IsBegun};
 
 use super::reply::{Refusal, Reply};
@@ -42,24 +42,40 @@ pub fn run_script<R: Read, W: Write>(
     session: &mut Session,
 ) -> Result<u32, RunFault>
     // What is written is a text that the script may write, and the session is the source after it.
-    ensures ok { OnOk result (IfSome (R.remaining (inner_of reader.old)) (λ input. (text : List ℕ)
+    ensures ok { OnOk result ((before last text : List ℕ)
+        × Consumes (R.remaining (inner_of reader.old)) (R.remaining (inner_of reader.new)) (before ++ last)
+        × Script session.old (before ++ last) text session.new
+        × Appends (W.contents (inner_of writer.old)) (W.contents (inner_of writer.new)) text
+        × LastReadGave reader.old reader.new before last
+        × IsReadToEnd before last (R.remaining (inner_of reader.new))) }
+    ensures whole_input { OnOk result (IfSome (R.remaining (inner_of reader.old)) (λ input. (text : List ℕ)
         × Script session.old input text session.new
         × Appends (W.contents (inner_of writer.old)) (W.contents (inner_of writer.new)) text)) }
     ensures flagged { IfOk result (λ count. count ≡ flagged_lines session.new) }
-    // After a failed read it is a text of the lines that a newline ended before it.
+
+    // After a read fault it is a text of the lines that a newline ended before it. The last read failed, or none did and
+    // each of the most reads gave a byte.
     ensures read_fault { IsErrOf result RunFault.ReadFault → (taken text : List ℕ)
         × Consumes (R.remaining (inner_of reader.old)) (R.remaining (inner_of reader.new)) taken
         × LinesOfScript session.old taken text session.new
-        × Appends (W.contents (inner_of writer.old)) (W.contents (inner_of writer.new)) text }
+        × Appends (W.contents (inner_of writer.old)) (W.contents (inner_of writer.new)) text
+        × ((FailsOnce reader.old reader.new × LastReadGave reader.old reader.new taken [])
+        ⊎ ((failures_of reader.new ≡ failures_of reader.old) × (MOST_READS ≤ length taken)
+        × (calls_of reader.new ≡ raised_by MOST_READS (calls_of reader.old)))) }
+
     // After a failed write the replies to some first lines are written, the last one in part, and the session is the source after them.
-    ensures write_fault { IsErrOf result RunFault.WriteFault → (taken text unsaid : List ℕ)
-        × Consumes (R.remaining (inner_of reader.old)) (R.remaining (inner_of reader.new)) taken
-        × FrontOfScript session.old taken text unsaid session.new
-        × Appends (W.contents (inner_of writer.old)) (W.contents (inner_of writer.new)) text }
-    // Each fault has its cause.
-    ensures read_cause { IsErrOf result RunFault.ReadFault → (failures_of reader.new ≡ raised (failures_of reader.old))
-        ⊎ ((calls_of reader.old + MOST_READS ≤ calls_of reader.new) ⊎ (calls_of reader.new ≡ 2 ^ 64 - 1)) }
-    ensures write_cause { IsErrOf result RunFault.WriteFault → failures_of writer.new ≡ raised (failures_of writer.old) }
+    ensures write_fault { IsErrOf result RunFault.WriteFault → (before last text unsaid : List ℕ)
+        × Consumes (R.remaining (inner_of reader.old)) (R.remaining (inner_of reader.new)) (before ++ last)
+        × FrontOfScript session.old (before ++ last) last (R.remaining (inner_of reader.new)) text unsaid session.new
+        × Appends (W.contents (inner_of writer.old)) (W.contents (inner_of writer.new)) text
+        × LastReadGave reader.old reader.new before last
+        × AreAnswered session.old before text }
+    ensures write_cause { IsErrOf result RunFault.WriteFault → FailsOnce writer.old writer.new }
+
+    // Nothing is tried again after a failure, and there are at most so many reads.
+    ensures no_failure { OnOk result ((failures_of reader.new ≡ failures_of reader.old) × (failures_of writer.new ≡ failures_of writer.old)) }
+    ensures no_write_failure { IsErrOf result RunFault.ReadFault → failures_of writer.new ≡ failures_of writer.old }
+    ensures no_read_failure { IsErrOf result RunFault.WriteFault → failures_of reader.new ≡ failures_of reader.old }
     ensures reads { calls_of reader.new ≤ calls_of reader.old + MOST_READS }
 {
     let mut line = ScriptLine::new();
@@ -83,7 +99,7 @@ pub fn run_script<R: Read, W: Write>(
     Err(RunFault::ReadFault)
 }
 
-/// IsAnswered the last line, where it has no newline.
+/// Answers the last line, where it has no newline.
 fn finish<W: Write>(
     alloc: Global,
     line: &ScriptLine,
@@ -93,7 +109,7 @@ fn finish<W: Write>(
     ensures finishes { Finishes result line.now session.old session.new
         (W.contents (inner_of writer.old)) (W.contents (inner_of writer.new)) }
     ensures fault { IsErrOf result RunFault.ReadFault → ⊥ }
-    ensures failed { OnErr result (failures_of writer.new ≡ raised (failures_of writer.old)) }
+    ensures failed { OnErr result (FailsOnce writer.old writer.new) }
     ensures failures { OnOk result (failures_of writer.new ≡ failures_of writer.old) }
 {
     if line.is_empty() {
@@ -122,7 +138,7 @@ pub fn answer_line<W: Write>(
         × (front back : List ℕ) × (reply_text response ≡ front ++ back)
         × Appends (W.contents (inner_of writer.old)) (W.contents (inner_of writer.new)) front) }
     ensures fault { IsErrOf result RunFault.ReadFault → ⊥ }
-    ensures failed { OnErr result (failures_of writer.new ≡ raised (failures_of writer.old)) }
+    ensures failed { OnErr result (FailsOnce writer.old writer.new) }
     ensures failures { OnOk result (failures_of writer.new ≡ failures_of writer.old) }
 {
     let Some(reply) = reply_to(alloc, line, session) else {
@@ -143,7 +159,7 @@ fn take_bytes<W: Write>(
     ensures takes { Takes result line.old line.new session.old session.new
         (W.contents (inner_of writer.old)) (W.contents (inner_of writer.new)) bytes.now }
     ensures fault { IsErrOf result RunFault.ReadFault → ⊥ }
-    ensures failed { OnErr result (failures_of writer.new ≡ raised (failures_of writer.old)) }
+    ensures failed { OnErr result (FailsOnce writer.old writer.new) }
     ensures failures { OnOk result (failures_of writer.new ≡ failures_of writer.old) }
 {
     for byte in bytes {
@@ -167,7 +183,7 @@ fn take_byte<W: Write>(
     ensures takes { Takes result line.old line.new session.old session.new
         (W.contents (inner_of writer.old)) (W.contents (inner_of writer.new)) (byte ∷ []) }
     ensures fault { IsErrOf result RunFault.ReadFault → ⊥ }
-    ensures failed { OnErr result (failures_of writer.new ≡ raised (failures_of writer.old)) }
+    ensures failed { OnErr result (FailsOnce writer.old writer.new) }
     ensures failures { OnOk result (failures_of writer.new ≡ failures_of writer.old) }
 {
     if byte != b'\n' {

@@ -3,6 +3,7 @@ ghost use Rattle.std.specs.Prelude.{◌≡◌, ℕ, List, [], ◌∷◌, ◌++�
 ghost use Rattle.cps_tool.specs.Lines.{without_return};
 ghost use Rattle.cps_tool.specs.ScriptLine.{IsBegun, more_past};
 
+use super::command::LONGEST_COMMAND;
 use arrayvec::ArrayVec;
 
 /// What came past the room of a line.
@@ -19,7 +20,7 @@ pub enum Past {
 /// A line of a script of which some bytes have come.
 #[derive(Drop)]
 pub struct ScriptLine {
-    pub bytes: ArrayVec<u8, 200>,
+    pub bytes: ArrayVec<u8, LONGEST_COMMAND>,
     pub past: Past,
 }
 
@@ -55,7 +56,7 @@ impl ScriptLine {
     /// The line without the carriage return at its end, None where it has more than 200 bytes.
     pub fn text(&self) -> Option<&[u8]>
         ensures { (begun : List ℕ) → IsBegun self.now begun
-            → MatchOption result (200 < length (without_return begun)) (λ text. text.now ≡ without_return begun) }
+            → MatchOption result (LONGEST_COMMAND < length (without_return begun)) (λ text. text.now ≡ without_return begun) }
     {
         match self.past {
             Past::More => None,

@@ -1,7 +1,7 @@
 //! Writing a text.
 ghost use Rattle.std.specs.Prelude.{◌≡◌, ℕ, List, ◌++◌, ◌<◌, OnOk, OnErr, IsErrOf};
 ghost use Rattle.std.specs.Io.KnownBytes.{Appends};
-ghost use Rattle.cps_text.specs.Counted.{inner_of, failures_of, raised};
+ghost use Rattle.cps_text.specs.Counted.{inner_of, failures_of, FailsOnce};
 
 use cps_text::Counted;
 use std::io::Write;
@@ -24,7 +24,7 @@ pub fn write_text<W: Write>(writer: &mut Counted<W>, text: &[u8]) -> Result<(), 
     ensures err { OnErr result ((front back : List ℕ) × (text.now ≡ front ++ back)
         × Appends (W.contents (inner_of writer.old)) (W.contents (inner_of writer.new)) front) }
     ensures fault { IsErrOf result RunFault.ReadFault → ⊥ }
-    ensures failed { OnErr result (failures_of writer.new ≡ raised (failures_of writer.old)) }
+    ensures failed { OnErr result (FailsOnce writer.old writer.new) }
     ensures failures { OnOk result (failures_of writer.new ≡ failures_of writer.old) }
 {
     let mut done = 0;

@@ -50,4 +50,4 @@ terms-preserved c =
 pub returns-in-None-clause-registers : goal.returns-in-None-clause-registers
 returns-in-None-clause-registers c =
     let added = c.if-not-add_term.ensures c.terms.invariant.0 c.terms.invariant.1 in
-    registers_kept c.add_term.new.sum.registers (pushed c.terms.invariant.0 added.0).registers added.2.registers added.2.digits
+    registers_kept c.add_term.new.kept.registers (pushed c.terms.invariant.0 added.0).registers added.2.registers added.2.digits
