@@ -13,7 +13,7 @@ mod symbols;
 mod value_now;
 
 pub use cps_state::{
-    Answer, Asked, Content, Control, Field, Flags, Head, Item, Key, Lookup, Made, Phase, Put,
+    Answer, Asked, Content, Control, Field, Flags, Head, Item, Key, LIMIT, Lookup, Made, Phase, Put,
     Shown, State, Tally, Trace, Work,
 };
 pub use places::here_at;

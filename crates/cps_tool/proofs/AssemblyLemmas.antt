@@ -1,21 +1,11 @@
 -- One line more in pass one.
 use Rattle.std.proofs.Common.{◌≡◌, ℕ, ◌+◌, ◌<◌, ◌≤◌, refl, sym, ap, subst, ◌∙◌, List, [], ◌∷◌, ◌++◌, append_assoc, length, get_or, take, drop}
 use Rattle.std.proofs.lemmas.List.{drop_more, drop_all, take_more, take_all}
-use Rattle.cps_tool.specs.declared.key.Put.{Put}
-use Rattle.cps_tool.specs.Keys.{State, first_state, with_put, overwritten}
-use Rattle.cps_tool.specs.Course.{Trace}
-use Rattle.cps_tool.specs.Meaning.{trace_of}
+use Rattle.cps_state.specs.Keys.{State, first_state, with_put, overwritten}
+use Rattle.cps_state.specs.Course.{Trace}
+use Rattle.cps_pass.specs.Meaning.{trace_of}
 use Rattle.cps_tool.specs.Assembly.{after, state_after, traces_from, traces_of}
 use Rattle.cps_tool.specs.Assembled.{IsAssembled}
-
--- one put of the list is made
-pub overwritten-next : (f g e : State) (puts : List Put) (i : ℕ) (d : Put) → i < length puts → f ≡ with_put g (get_or puts i d)
-    → overwritten g (drop i puts) ≡ e → overwritten f (drop (i + 1) puts) ≡ e
-overwritten-next f g e puts i d lt made before =
-    ap (λ (h : State). overwritten h (drop (i + 1) puts)) made ∙ sym (ap (overwritten g) (drop_more puts i d lt)) ∙ before
-
-pub overwritten-all : (f e : State) (puts : List Put) (i : ℕ) → length puts ≤ i → overwritten f (drop i puts) ≡ e → f ≡ e
-overwritten-all f e puts i past before = sym (ap (overwritten f) (drop_all i puts past)) ∙ before
 
 state_after-more : (f : State) (lines : List (List ℕ)) (line : List ℕ) → state_after f (lines ++ line ∷ []) ≡ after (state_after f lines) line
 state_after-more f [] line = refl

@@ -1,9 +1,7 @@
-pub mod AskLemmas
 pub mod AssemblyLemmas
 pub mod BegunLemmas
-pub mod CardLemmas
 pub mod CommandLemmas
-pub mod CourseLemmas
+pub mod FoldLemmas
 pub mod NumberLemmas
 pub mod OrderLemmas
 pub mod ProgressLemmas

@@ -1,8 +1,8 @@
 -- What a session keeps of its source.
 use Rattle.std.proofs.Common.{◌≡◌, ℕ, suc, ◌+◌, ◌<◌, refl, sym, ap, subst, ◌∙◌, List, [], ◌∷◌, ◌++◌, append_assoc, length, take, drop, set, arith}
 use Rattle.std.proofs.lemmas.List.{drop_more, set_split}
-use Rattle.cps_tool.specs.Keys.{State, first_state}
-use Rattle.cps_tool.specs.Course.{Trace}
+use Rattle.cps_state.specs.Keys.{State, first_state}
+use Rattle.cps_state.specs.Course.{Trace}
 use Rattle.cps_tool.specs.Assembly.{after, traces_from}
 use Rattle.cps_tool.specs.Assembled.{IsAssembled}
 

@@ -1,7 +1,7 @@
 -- What an assembly of the code is.
 use Rattle.std.specs.Prelude.{◌≡◌, ℕ, List}
-use Rattle.cps_tool.specs.Keys.{State, first_state}
-use Rattle.cps_tool.specs.Course.{Trace}
+use Rattle.cps_state.specs.Keys.{State, first_state}
+use Rattle.cps_state.specs.Course.{Trace}
 use Rattle.cps_tool.specs.Assembly.{traces_of, state_after}
 
 -- what these lines do in pass one, and the state behind them

@@ -5,10 +5,11 @@ use Rattle.std.specs.Prelude.{ℕ, List, [], ◌∷◌, flat_map, Option, None}
 use Rattle.cps_text.specs.declared.name.Name.{Name}
 use Rattle.cps_code.specs.Image.{Piece}
 use Rattle.std.specs.Option.{option_or}
-use Rattle.cps_tool.specs.Keys.{State, Labels, first_state, overwritten, labels_of}
-use Rattle.cps_tool.specs.Item.{Item}
-use Rattle.cps_tool.specs.Course.{Trace}
-use Rattle.cps_tool.specs.Meaning.{trace_of}
+use Rattle.cps_expr.specs.Value.{Values}
+use Rattle.cps_state.specs.Keys.{State, first_state, overwritten, labels_of}
+use Rattle.cps_state.specs.declared.item.Item.{Item}
+use Rattle.cps_state.specs.Course.{Trace}
+use Rattle.cps_pass.specs.Meaning.{trace_of}
 use Rattle.cps_tool.specs.Outcome.{pieces_of}
 
 -- ---- pass one
@@ -32,13 +33,13 @@ traces_of lines = traces_from first_state lines
 
 -- ---- final values
 
-abbrev pub final_labels : List (List ℕ) → Labels
+abbrev pub final_labels : List (List ℕ) → Values
 final_labels lines = labels_of (state_after first_state lines)
 
 -- the program's name is the first that a statement gives
 abbrev pub first_program : List Item → Option Name
 first_program [] = None
-first_program (item ∷ items) = option_or item.program (first_program items)
+first_program (item ∷ items) = option_or item.made.program (first_program items)
 
 abbrev pub program_of : List Trace → Option Name
 program_of [] = None
@@ -46,9 +47,9 @@ program_of (trace ∷ traces) = option_or (first_program trace.items) (program_o
 
 -- ---- pass two
 
-abbrev pub pieces_of_trace : Labels → Trace → List Piece
+abbrev pub pieces_of_trace : Values → Trace → List Piece
 pieces_of_trace labels trace = flat_map (pieces_of labels) trace.items
 
 -- all bits of a source, in order
-abbrev pub pieces_in : Labels → List Trace → List Piece
+abbrev pub pieces_in : Values → List Trace → List Piece
 pieces_in labels traces = flat_map (pieces_of_trace labels) traces

@@ -4,7 +4,7 @@ use Rattle.std.specs.List.{range_with_len}
 use Rattle.cps_text.specs.declared.name.Name.{Name}
 use Rattle.cps_text.specs.Name.{name_text}
 use Rattle.cps_code.specs.Image.{Piece, packed_word}
-use Rattle.cps_tool.specs.Keys.{limit}
+use Rattle.cps_state.specs.Keys.{limit}
 use Rattle.cps_text.specs.Octal.{octal}
 use Rattle.cps_tool.specs.Assembly.{traces_of, final_labels, program_of, pieces_in}
 

@@ -1,12 +1,5 @@
 pub mod Edits
 pub mod Lines
-pub mod Reading
-pub mod Keys
-pub mod Flags
-pub mod Item
-pub mod Course
-pub mod Meaning
-pub mod NamesNow
 pub mod Outcome
 pub mod Assembly
 pub mod Assembled

@@ -7,9 +7,9 @@ use Rattle.cps_text.specs.Text.{is_blank}
 use Rattle.cps_tool.specs.declared.outcome.Row.{Row}
 use Rattle.cps_tool.specs.declared.outcome.Digits.{Digits}
 use Rattle.cps_text.specs.Octal.{octal}
-use Rattle.cps_tool.specs.Flags.{letters}
-use Rattle.cps_tool.specs.Course.{Trace}
-use Rattle.cps_tool.specs.Keys.{Labels}
+use Rattle.cps_state.specs.Flags.{letters}
+use Rattle.cps_state.specs.Course.{Trace}
+use Rattle.cps_expr.specs.Value.{Values}
 use Rattle.cps_tool.specs.Outcome.{row_of}
 use Rattle.cps_tool.specs.Assembly.{traces_of, final_labels}
 
@@ -45,11 +45,11 @@ abbrev pub listing_row : ℕ → List ℕ → Row → List ℕ
 listing_row number line row = trimmed (row_columns row ++ at_right 6 (decimal number) ++ codes " " ++ line) ++ codes "\n"
 
 -- the rows of a line
-abbrev pub line_rows : Labels → ℕ → List ℕ → Trace → List ℕ
+abbrev pub line_rows : Values → ℕ → List ℕ → Trace → List ℕ
 line_rows labels number line trace = flat_map (λ item. listing_row number line (row_of labels item)) trace.items
 
 -- the rows of lines that have numbers from one on
-abbrev pub listing_from : Labels → ℕ → List (List ℕ) → List Trace → List ℕ
+abbrev pub listing_from : Values → ℕ → List (List ℕ) → List Trace → List ℕ
 listing_from labels number [] traces = []
 listing_from labels number (line ∷ lines) [] = []
 listing_from labels number (line ∷ lines) (trace ∷ traces) = line_rows labels number line trace ++ listing_from labels (number + 1) lines traces

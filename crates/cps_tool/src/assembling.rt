@@ -2,10 +2,7 @@
 ghost use Rattle.std.specs.Prelude.{◌≡◌, ℕ, [], ◌∷◌, ◌++◌, List, IfOk, OnOk, OnErr};
 ghost use Rattle.cps_tool.specs.Assembled.{IsAssembled};
 
-use super::lookup::Lookup;
-use super::state::State;
-use super::step::step_one;
-use super::trace::Trace;
+use cps_pass::{Lookup, State, Trace, Work, step_one};
 use cps_text::Line;
 use std::alloc::{AllocError, Global};
 
@@ -34,9 +31,9 @@ impl Assembled {
         ensures err_traces { OnErr result (self.new.traces.items ≡ self.old.traces.items) }
         ensures err_state { OnErr result (⟦<State as Lookup>⟧.answer self.new.state ≡ ⟦<State as Lookup>⟧.answer self.old.state) }
     {
-        let trace = step_one(alloc, line, &self.state)?;
+        let trace = step_one(alloc, &mut Work::new(), line, &self.state)?;
         self.traces.reserve(1)?;
-        self.state.apply(trace.puts())?;
+        self.state.apply(&trace)?;
         let Ok(_) = self.traces.push(trace) else {
             unreachable!();
         };

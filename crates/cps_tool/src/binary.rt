@@ -1,21 +1,17 @@
 //! The binary text.
 ghost use Rattle.std.specs.Prelude.{◌≡◌, ◌++◌, ℕ, IfOk, OnOk, List, Option};
 ghost use Rattle.cps_code.specs.Image.{Piece, ArePacked};
-ghost use Rattle.cps_tool.specs.Keys.{limit};
+ghost use Rattle.cps_state.specs.Keys.{limit};
 ghost use Rattle.cps_tool.specs.Assembly.{first_program, program_of, pieces_of_trace, pieces_in};
 ghost use Rattle.cps_tool.specs.Assembled.{IsAssembled};
 ghost use Rattle.cps_tool.specs.Making.{Adds};
 ghost use Rattle.cps_tool.specs.Binary as texts;
 
-use super::answers::LIMIT;
 use super::assembling::Assembled;
-use super::item::Item;
-use super::lookup::Lookup;
 use super::outcome::put_bits;
-use super::state::State;
-use super::trace::Trace;
 use cps_code::Words;
 use cps_expr::Names;
+use cps_pass::{Item, LIMIT, Lookup, State, Trace};
 use cps_text::{Name, push_octal};
 use std::alloc::{AllocError, Global};
 
@@ -52,7 +48,7 @@ fn first_program(items: &[Item]) -> Option<Name>
     ensures { result ≡ first_program items.now }
 {
     for item in items {
-        if let Some(name) = item.program() {
+        if let Some(name) = item.made.program() {
             return Some(name);
         }
     }

@@ -4,12 +4,9 @@ ghost use Rattle.cps_tool.specs.Assembled.{IsAssembled};
 ghost use Rattle.cps_tool.specs.Flagged as texts;
 
 use super::assembling::Assembled;
-use super::flags::Flags;
-use super::lookup::Lookup;
 use super::outcome::flags_of;
-use super::state::State;
-use super::trace::Trace;
 use cps_expr::Names;
+use cps_pass::{Flags, Lookup, State, Trace};
 use itoa::Buffer;
 use std::alloc::{AllocError, Global};
 

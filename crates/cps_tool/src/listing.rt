@@ -1,17 +1,14 @@
 //! The listing.
 ghost use Rattle.std.specs.Prelude.{◌≡◌, ◌++◌, ◌+◌, ◌≤◌, ◌<◌, ℕ, List, [], ◌∷◌, OnOk, IfOk, codes, decimal, length, take, ◌^◌, if◌then◌else◌};
 ghost use Rattle.cps_text.specs.Text.{is_blank};
-ghost use Rattle.cps_tool.specs.Flags.{letters};
+ghost use Rattle.cps_state.specs.Flags.{letters};
 ghost use Rattle.cps_tool.specs.Assembled.{IsAssembled};
 ghost use Rattle.cps_tool.specs.Listing as texts;
 
 use super::assembling::Assembled;
-use super::flags::Flags;
-use super::lookup::Lookup;
 use super::outcome::{Digits, Row, row_of};
-use super::state::State;
-use super::trace::Trace;
 use cps_expr::Names;
+use cps_pass::{Flags, Lookup, State, Trace};
 use cps_text::{Line, push_octal};
 use itoa::Buffer;
 use std::alloc::{AllocError, Global};
@@ -105,12 +102,12 @@ fn push_flags(text: &mut Vec<u8>, flags: Flags) -> Result<(), AllocError>
     fill_columns(text, before, FLAG_COLUMNS)
 }
 
-fn push_address(text: &mut Vec<u8>, location: Option<u32>) -> Result<(), AllocError>
+fn push_address(text: &mut Vec<u8>, location: Option<u64>) -> Result<(), AllocError>
     ensures { OnOk result (text.new.items ≡ text.old.items ++ texts.at_left ADDRESS_COLUMNS (texts.address_text location)) }
 {
     let before = text.len();
     if let Some(address) = location {
-        push_octal(text, u64::from(address), ADDRESS_DIGITS)?;
+        push_octal(text, address, ADDRESS_DIGITS)?;
     }
     fill_columns(text, before, ADDRESS_COLUMNS)
 }

@@ -1,7 +1,7 @@
 use Rattle.std.proofs.Common.{rules, ◌∙◌}
-use Rattle.cps_tool.specs.Flags.{joined}
+use Rattle.cps_state.specs.Flags.{joined}
 use Rattle.cps_tool.specs.Outcome.{row_of}
-use Rattle.cps_tool.proofs.CourseLemmas.{fold-next}
+use Rattle.cps_tool.proofs.FoldLemmas.{fold-next}
 use Rattle.cps_tool.proofs.outcome.flags_of.Goals as goal
 
 pub loop-item-preserved : goal.loop-item-preserved

@@ -1,5 +1,6 @@
 use Rattle.std.proofs.Common.{◌≡◌, drop, fold}
-use Rattle.cps_tool.specs.Flags.{no_flags, joined}
+use Rattle.cps_state.specs.Flags.{joined}
+use Rattle.cps_state.specs.Made.{no_flags}
 use Rattle.cps_tool.specs.Outcome.{row_of}
 use Rattle.cps_tool.proofs.outcome.flags_of.Given as goal
 
