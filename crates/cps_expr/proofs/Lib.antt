@@ -4,7 +4,6 @@ pub mod FactorReading
 pub mod FoldLemmas
 pub mod GrammarComplete
 pub mod GrammarSound
-pub mod ItemLemmas
 pub mod ItemRows
 pub mod JoinLemmas
 pub mod NumberReading

@@ -34,6 +34,7 @@ pub use item::read_item;
 pub use machine::Machine;
 pub use names::Names;
 pub use operation::{Operation, Relation};
+pub use packing::pack_characters;
 pub use radix::Radix;
 pub use row::{Block, Characters, Comparison, Field, Repetition, Row, SymbolTest};
 pub use sequence::Sequence;

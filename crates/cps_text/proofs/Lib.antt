@@ -1,4 +1,6 @@
 pub mod ArgumentLemmas
+pub mod DigitsLemmas
+pub mod ItemReading
 pub mod NameLemmas
 pub mod OctalLemmas
 pub mod PartLemmas

@@ -2,10 +2,12 @@ pub mod Arguments
 pub mod Card
 pub mod CardFields
 pub mod Counted
-pub mod CountedExtent
 pub mod DataItem
+pub mod Digits
 pub mod Display
 pub mod Insertion
+pub mod ItemInFront
+pub mod ItemValue
 pub mod Line
 pub mod Name
 pub mod Octal
