@@ -1,3 +1,4 @@
+pub mod Bounds
 pub mod Expression
 pub mod Grammar
 pub mod Item

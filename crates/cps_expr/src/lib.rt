@@ -19,6 +19,7 @@ mod radix;
 mod reading;
 mod reads;
 mod row;
+mod row_counter;
 mod row_names;
 mod sequence;
 mod signs;
