@@ -16,7 +16,7 @@ use Rattle.cps_text.proofs.ItemReading.{begins, few}
 use Rattle.cps_expr.specs.declared.machine.Machine.{Machine}
 use Rattle.cps_expr.specs.declared.machine.Machine.TheVariants.{Cp, Pp}
 use Rattle.cps_expr.specs.declared.radix.Radix.{Radix}
-use Rattle.cps_expr.specs.Item.{bits_of, characters_in_word, run_of, signed_word, begins as begins_with, number_item, codes_of, with_code, packed, blank_code, filled, sided, text_word, text_item, item_of}
+use Rattle.cps_expr.specs.Item.{bits_of, characters_in_word, numeral_of, signed_word, begins as begins_with, number_item, codes_of, with_code, packed, blank_code, filled, sided, text_word, text_item, item_of}
 use Rattle.cps_expr.specs.Number.{base_of, number_in, number_with, number_of, base_named, last}
 
 -- ---- numbers
@@ -130,8 +130,8 @@ either-fits : (radix : Radix) (machine : Machine) (text : List ℕ) (item : ℕ 
     → option_or number (text_item (characters_in_word machine) text) ≡ Some item → item.0 < 2 ^ bits_of machine
 either-fits radix machine text item None here is = text-fits machine text item (item_in_front (characters_in_word machine) text) refl is
 either-fits radix machine text item (Some number) here is =
-    number-fits machine text item _ (number_of (2 ^ bits_of machine) radix (run_of text))
-    (λ n found. number_with-below (2 ^ bits_of machine) (base_named (last (run_of text))) radix (run_of text) n found) (here ∙ is)
+    number-fits machine text item _ (number_of (2 ^ bits_of machine) radix (numeral_of text))
+    (λ n found. number_with-below (2 ^ bits_of machine) (base_named (last (numeral_of text))) radix (numeral_of text) n found) (here ∙ is)
 
 pub item-fits : (radix : Radix) (machine : Machine) (text : List ℕ) (item : ℕ × ℕ) → item_of radix machine text ≡ Some item → item.0 < 2 ^ bits_of machine
 item-fits radix machine text item is = either-fits radix machine text item (number_item radix machine text) refl is

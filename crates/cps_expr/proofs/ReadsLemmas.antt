@@ -1,7 +1,7 @@
 -- Reading a list of operands one by one.
 use Rattle.std.proofs.Common.{◌≡◌, ℕ, true, false, List, [], ◌∷◌, ◌++◌, Option, None, Some, option_map, refl, sym, ap, ◌∙◌, append_assoc}
 use Rattle.std.specs.Prelude.{is_some}
-use Rattle.cps_expr.specs.OperandList.{paired, all_some}
+use Rattle.cps_expr.specs.OperandList.{with_first, all_some}
 use Rattle.cps_expr.specs.Reads.{Continues, IsAdded}
 
 pub whole_of_left : {T : Type 0} (kept : Option (List T)) (left whole : Option (List T)) → Continues kept left whole → is_some left ≡ is_some whole
@@ -10,18 +10,18 @@ whole_of_left (Some kept) (Some more) whole is = ap is_some is
 whole_of_left None left whole is = is
 
 added-more : {T : Type 0} (kept : List T) (item : T) (left : Option (List T))
-    → option_map (λ more. kept ++ more) (option_map (λ parts. parts.0 ∷ parts.1) (paired (Some item) left)) ≡ option_map (λ more. (kept ++ item ∷ []) ++ more) left
+    → option_map (λ more. kept ++ more) (with_first (Some item) left) ≡ option_map (λ more. (kept ++ item ∷ []) ++ more) left
 added-more kept item None = refl
 added-more kept item (Some more) = ap Some (sym (append_assoc kept (item ∷ []) more))
 
 some_rest : {T : Type 0} (first : Option T) (left : Option (List T)) → is_some first ≡ true
-    → is_some (option_map (λ parts. parts.0 ∷ parts.1) (paired first left)) ≡ is_some left
+    → is_some (with_first first left) ≡ is_some left
 some_rest None left is = cc
 some_rest (Some item) None is = refl
 some_rest (Some item) (Some more) is = refl
 
 none_rest : {T : Type 0} (first : Option T) (left : Option (List T)) → is_some first ≡ false
-    → is_some (option_map (λ parts. parts.0 ∷ parts.1) (paired first left)) ≡ false
+    → is_some (with_first first left) ≡ false
 none_rest None left is = refl
 none_rest (Some item) left is = cc
 
@@ -31,7 +31,7 @@ unfolding all_some
 read_item read text texts (Some kept) (Some after) item whole is added so_far =
     ap (λ front. option_map (λ more. front ++ more) (all_some read texts)) added
     ∙ sym (added-more kept item (all_some read texts))
-    ∙ ap (λ first. option_map (λ more. kept ++ more) (option_map (λ parts. parts.0 ∷ parts.1) (paired first (all_some read texts)))) (sym is)
+    ∙ ap (λ first. option_map (λ more. kept ++ more) (with_first first (all_some read texts))) (sym is)
     ∙ so_far
 read_item read text texts (Some kept) None item whole is added so_far =
     sym (some_rest (read text) (all_some read texts) (ap is_some is))

@@ -35,7 +35,9 @@ chained next (Some x) made P holds is = holds x refl is
 some-more : {T : Type 0} (read : List ℕ → Option T) (texts : List (List ℕ)) (found : List T) → one_or_more read texts ≡ Some found → 0 < length found
 unfolding all_some
 some-more read [] found is = absurd (cc)
-some-more read (text ∷ texts) found is = mapped (λ parts. parts.0 ∷ parts.1) (paired (read text) (all_some read texts)) found (λ list. 0 < length list) (λ x _. omega arith) is
+some-more read (text ∷ texts) found is =
+    chained (λ x. option_map (λ xs. x ∷ xs) (all_some read texts)) (read text) found (λ list. 0 < length list)
+    (λ x _ next. mapped (λ xs. x ∷ xs) (all_some read texts) found (λ list. 0 < length list) (λ xs _. omega arith) next) is
 
 -- ---- words
 

@@ -10,6 +10,7 @@ use Rattle.cps_text.specs.Insertion.{is_of_run}
 use Rattle.cps_text.specs.ItemInFront.{extent_of, item_in_front}
 use Rattle.cps_text.specs.Text.{among}
 use Rattle.cps_expr.specs.Number.{number_of}
+use Rattle.cps_expr.specs.Word.{complement}
 use Rattle.cps_expr.specs.declared.machine.Machine.{Machine}
 use Rattle.cps_expr.specs.declared.machine.Machine.TheVariants.{Cp, Pp}
 use Rattle.cps_expr.specs.declared.radix.Radix.{Radix}
@@ -31,17 +32,17 @@ begins signs text = among signs (slice_index text 0)
 abbrev pub sign_len : List ℕ → ℕ
 sign_len text = if begins (codes "+-") text then 1 else 0
 
-abbrev pub run_of : List ℕ → List ℕ
-run_of text = before_first (λ c. not (is_of_run c)) (drop (sign_len text) text)
+abbrev pub numeral_of : List ℕ → List ℕ
+numeral_of text = before_first (λ c. not (is_of_run c)) (drop (sign_len text) text)
 
 -- a minus sign complements the whole word
 abbrev pub signed_word : Machine → List ℕ → ℕ → ℕ
-signed_word machine text number = if begins (codes "-") text then 2 ^ bits_of machine - 1 - number else number
+signed_word machine text number = if begins (codes "-") text then complement (bits_of machine) number else number
 
 -- a number whose magnitude fits the word
 abbrev pub number_item : Radix → Machine → List ℕ → Option (ℕ × ℕ)
 number_item radix machine text =
-    option_map (λ number. (signed_word machine text number, sign_len text + length (run_of text))) (number_of (2 ^ bits_of machine) radix (run_of text))
+    option_map (λ number. (signed_word machine text number, sign_len text + length (numeral_of text))) (number_of (2 ^ bits_of machine) radix (numeral_of text))
 
 -- display codes, 6 bits each, one behind the other
 abbrev pub codes_of : List ℕ → List ℕ

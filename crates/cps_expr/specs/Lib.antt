@@ -2,6 +2,7 @@ pub mod Bounds
 pub mod Expression
 pub mod Grammar
 pub mod Item
+pub mod Limits
 pub mod Number
 pub mod OperandList
 pub mod Operation
@@ -12,4 +13,5 @@ pub mod Statement
 pub mod Term
 pub mod TermsLeft
 pub mod Value
+pub mod Word
 pub mod WordsLeft

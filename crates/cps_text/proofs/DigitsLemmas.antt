@@ -11,7 +11,7 @@ fold-ge : (base number : ℕ) (digits : List ℕ) → 0 < base → number ≤ fo
 fold-ge base number [] some = omega arith
 fold-ge base number (d ∷ ds) some = omega (arith, grows base number d some, fold-ge base (with_digit base number d) ds some)
 
-fold-take : (base number : ℕ) (digits : List ℕ) (i : ℕ) → 0 < base → fold (with_digit base) number (take i digits) ≤ fold (with_digit base) number digits
+pub fold-take : (base number : ℕ) (digits : List ℕ) (i : ℕ) → 0 < base → fold (with_digit base) number (take i digits) ≤ fold (with_digit base) number digits
 fold-take base number digits zero some = fold-ge base number digits some
 fold-take base number [] (suc i) some = omega arith
 fold-take base number (d ∷ ds) (suc i) some = fold-take base (with_digit base number d) ds i some
