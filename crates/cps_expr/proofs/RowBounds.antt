@@ -9,8 +9,8 @@ use Rattle.cps_expr.specs.declared.machine.Machine.{Machine}
 use Rattle.cps_expr.specs.declared.operation.Operation.{Operation}
 use Rattle.cps_expr.specs.declared.operation.Operation.TheVariants.{Ident, Abs, Periph, Base, Equate, Set, Org, Use, Bss, Bssz, Con, Data, Vfd, Dis, Compare, If, Else, Endif, Dup, Endd, Macro, Endm, End, Listing}
 use Rattle.cps_expr.specs.declared.radix.Radix.{Radix}
-use Rattle.cps_expr.specs.declared.row.Characters.{Characters}
-use Rattle.cps_expr.specs.declared.row.Characters.TheVariants.{Counted, Delimited}
+use Rattle.cps_expr.specs.declared.row.DisText.{DisText}
+use Rattle.cps_expr.specs.declared.row.DisText.TheVariants.{Counted, Delimited}
 use Rattle.cps_expr.specs.declared.row.Row.{Row}
 use Rattle.cps_expr.specs.declared.row.Row.TheVariants as row
 use Rattle.cps_expr.specs.Bounds.{IsBounded, characters_in}
@@ -18,7 +18,7 @@ use Rattle.cps_expr.specs.Expression.{Expression, expression_of}
 use Rattle.cps_expr.specs.Item.{bits_of, item_of}
 use Rattle.cps_expr.specs.OperandList.{paired, all_some, one_or_more}
 use Rattle.cps_expr.specs.Operation.{operation_named}
-use Rattle.cps_expr.specs.Row.{is_comma, displayed, counted_at, counted_of, may_enclose, closes, delimited_at, delimited_of, characters_of, field_of, words_behind, words_up_to, words_of}
+use Rattle.cps_expr.specs.Row.{is_comma, displayed, counted_at, counted_of, may_enclose, closes, delimited_at, delimited_of, dis_text_of, field_of, words_behind, words_up_to, words_of}
 use Rattle.cps_expr.specs.Statement.{row_with, row_of}
 use Rattle.cps_expr.proofs.ItemBounds.{AreBelow, all-below, item-fits}
 
@@ -77,38 +77,38 @@ displayed-all : (test : Bool) (text found : List ℕ) → list_all has_display t
 displayed-all true text found all is = let same : text ≡ found = cc in subst (λ (t : List ℕ). list_all has_display t ≡ true) same all
 displayed-all false text found all is = absurd (cc)
 
-abbrev AreShown : Characters → Type 0
+abbrev AreShown : DisText → Type 0
 AreShown characters = IsTrue (list_all has_display (characters_in characters))
 
-counted-shown : (count : Option Expression) (text : List ℕ) (characters : Characters) → option_map (λ parts. Counted parts.0 parts.1) (paired count (displayed text)) ≡ Some characters → AreShown characters
+counted-shown : (count : Option Expression) (text : List ℕ) (characters : DisText) → option_map (λ parts. Counted parts.0 parts.1) (paired count (displayed text)) ≡ Some characters → AreShown characters
 counted-shown None text characters is = absurd (cc)
 counted-shown (Some count) text characters is =
     mapped (λ parts. Counted parts.0 parts.1) (option_map (λ y. (count, y)) (displayed text)) characters AreShown
     (λ parts found. mapped (λ y. (count, y)) (displayed text) parts (λ p. list_all has_display p.1 ≡ true) (λ y shown. displayed-all (list_all has_display text) text y refl shown) found) is
 
-counted_at-shown : (radix : Radix) (text : List ℕ) (at : Option ℕ) (characters : Characters) → counted_at radix text at ≡ Some characters → AreShown characters
+counted_at-shown : (radix : Radix) (text : List ℕ) (at : Option ℕ) (characters : DisText) → counted_at radix text at ≡ Some characters → AreShown characters
 counted_at-shown radix text None characters is = absurd (cc)
 counted_at-shown radix text (Some at) characters is = counted-shown (expression_of radix (take at text)) (drop (at + 1) text) characters is
 
-delimited_at-shown : (text : List ℕ) (at : Option ℕ) (characters : Characters) → delimited_at text at ≡ Some characters → AreShown characters
+delimited_at-shown : (text : List ℕ) (at : Option ℕ) (characters : DisText) → delimited_at text at ≡ Some characters → AreShown characters
 delimited_at-shown text None characters is = absurd (cc)
 delimited_at-shown text (Some at) characters is =
     mapped Delimited (displayed (take at text)) characters AreShown (λ y shown. displayed-all (list_all has_display (take at text)) (take at text) y refl shown) is
 
-delimited-by : (test : Bool) (text : List ℕ) (at : Option ℕ) (characters : Characters) → cond test (delimited_at text at) None ≡ Some characters → AreShown characters
+delimited-by : (test : Bool) (text : List ℕ) (at : Option ℕ) (characters : DisText) → cond test (delimited_at text at) None ≡ Some characters → AreShown characters
 delimited-by true text at characters is = delimited_at-shown text at characters is
 delimited-by false text at characters is = absurd (cc)
 
-delimited-shown : (text : List ℕ) (characters : Characters) → delimited_of text ≡ Some characters → AreShown characters
+delimited-shown : (text : List ℕ) (characters : DisText) → delimited_of text ≡ Some characters → AreShown characters
 delimited-shown [] characters is = absurd (cc)
 delimited-shown (delimiter ∷ text) characters is = delimited-by (may_enclose delimiter) text (position (closes delimiter) text) characters is
 
-shown-by : (radix : Radix) (test : Bool) (character : ℕ) (text : List ℕ) (characters : Characters) → cond test (delimited_of text) (counted_of radix (character ∷ text)) ≡ Some characters → AreShown characters
+shown-by : (radix : Radix) (test : Bool) (character : ℕ) (text : List ℕ) (characters : DisText) → cond test (delimited_of text) (counted_of radix (character ∷ text)) ≡ Some characters → AreShown characters
 shown-by radix true character text characters is = delimited-shown text characters is
 shown-by radix false character text characters is = counted_at-shown radix (character ∷ text) (position is_comma (character ∷ text)) characters is
 
-shown : (radix : Radix) (text : List ℕ) (characters : Characters) → characters_of radix text ≡ Some characters → AreShown characters
-unfolding characters_of
+shown : (radix : Radix) (text : List ℕ) (characters : DisText) → dis_text_of radix text ≡ Some characters → AreShown characters
+unfolding dis_text_of
 shown radix [] characters is = absurd (cc)
 shown radix (character ∷ text) characters is = shown-by radix (is_comma character) character text characters is
 

@@ -3,14 +3,14 @@ use Rattle.std.specs.Prelude.{ℕ, ◌^◌, ◌<◌, IsTrue, List, length, All}
 use Rattle.std.specs.List.{list_all}
 use Rattle.cps_text.specs.Display.{has_display}
 use Rattle.cps_expr.specs.declared.machine.Machine.{Machine}
-use Rattle.cps_expr.specs.declared.row.Characters.{Characters}
-use Rattle.cps_expr.specs.declared.row.Characters.TheVariants.{Counted, Delimited}
+use Rattle.cps_expr.specs.declared.row.DisText.{DisText}
+use Rattle.cps_expr.specs.declared.row.DisText.TheVariants.{Counted, Delimited}
 use Rattle.cps_expr.specs.declared.row.Row.{Row}
 use Rattle.cps_expr.specs.declared.row.Row.TheVariants as row
 use Rattle.cps_expr.specs.Item.{bits_of}
 
 -- the characters of DIS
-abbrev pub characters_in : Characters → List ℕ
+abbrev pub characters_in : DisText → List ℕ
 characters_in (Counted count text) = text
 characters_in (Delimited text) = text
 

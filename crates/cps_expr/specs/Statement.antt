@@ -9,14 +9,14 @@ use Rattle.cps_expr.specs.declared.machine.Machine.{Machine}
 use Rattle.cps_expr.specs.declared.operation.Operation.{Operation}
 use Rattle.cps_expr.specs.declared.operation.Operation.TheVariants.{Ident, Abs, Periph, Base, Equate, Set, Org, Use, Bss, Bssz, Con, Data, Vfd, Dis, Compare, If, Else, Endif, Dup, Endd, Macro, Endm, End, Listing}
 use Rattle.cps_expr.specs.declared.radix.Radix.{Radix}
-use Rattle.cps_expr.specs.declared.row.Characters.{Characters}
-use Rattle.cps_expr.specs.declared.row.Characters.TheVariants.{Counted, Delimited}
+use Rattle.cps_expr.specs.declared.row.DisText.{DisText}
+use Rattle.cps_expr.specs.declared.row.DisText.TheVariants.{Counted, Delimited}
 use Rattle.cps_expr.specs.declared.row.Row.{Row}
 use Rattle.cps_expr.specs.declared.row.Row.TheVariants as row
 use Rattle.cps_expr.specs.Expression.{Expression, expression_of, has_counter, names_of}
 use Rattle.cps_expr.specs.Operation.{operation_named}
 use Rattle.cps_expr.specs.OperandList.{first_one, only_one, one_or_more}
-use Rattle.cps_expr.specs.Row.{radix_of, block_of, field_of, comparison_of, symbol_test_of, repetition_of, parameters_of, characters_of, words_of}
+use Rattle.cps_expr.specs.Row.{radix_of, block_of, field_of, comparison_of, symbol_test_of, repetition_of, parameters_of, dis_text_of, words_of}
 
 -- ---- the table
 
@@ -38,7 +38,7 @@ row_with Bssz tail machine radix = option_map row.Bssz (only_expression radix ta
 row_with Con tail machine radix = option_map row.Con (one_or_more (expression_of radix) (operands_of tail))
 row_with Data tail machine radix = option_map row.Data (words_of radix machine tail)
 row_with Vfd tail machine radix = option_map row.Vfd (one_or_more (field_of radix) (operands_of tail))
-row_with Dis tail machine radix = option_map row.Dis (characters_of radix tail)
+row_with Dis tail machine radix = option_map row.Dis (dis_text_of radix tail)
 row_with (Compare relation) tail machine radix = option_map row.Compare (comparison_of radix relation (operands_of tail))
 row_with If tail machine radix = option_map row.If (symbol_test_of radix (operands_of tail))
 row_with Else tail machine radix = Some row.Else
@@ -57,7 +57,7 @@ row_of operation tail machine radix = option_and_then (λ named. row_with named 
 -- ---- the expressions of a row, its names, and whether `*` stands in it
 
 -- the number of words of DIS
-abbrev pub count_in : Characters → List Expression
+abbrev pub count_in : DisText → List Expression
 count_in (Counted count text) = count ∷ []
 count_in (Delimited text) = []
 

@@ -10,9 +10,9 @@ ghost use Rattle.cps_expr.specs.Value.{term_value, added, both, value_in, has_un
 
 use crate::names::Names;
 use crate::radix::Radix;
-use crate::reading::read_term;
 use crate::signs::{first_term, leading_sign};
 use crate::term::Term;
+use crate::term_text::read_term;
 use crate::value::Value;
 use cps_text::Name;
 use std::alloc::{AllocError, Global};

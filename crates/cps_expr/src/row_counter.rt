@@ -5,7 +5,7 @@ ghost use Rattle.cps_expr.specs.Expression.{has_counter};
 ghost use Rattle.cps_expr.specs.Statement.{count_in, now_has_counter, later_has_counter};
 
 use crate::expr::Expr;
-use crate::row::{Characters, Comparison, Field, Repetition, Row};
+use crate::row::{Comparison, DisText, Field, Repetition, Row};
 
 /// Whether `*` stands in an expression that is valued in the first pass.
 pub(crate) fn has_counter_now(row: &Row) -> bool
@@ -37,12 +37,12 @@ pub(crate) fn has_counter_later(row: &Row) -> bool
     }
 }
 
-fn stands_in_count(characters: &Characters) -> bool
+fn stands_in_count(characters: &DisText) -> bool
     ensures { result ≡ list_any has_counter (count_in characters.now) }
 {
     match characters {
-        Characters::Counted(count, _) => count.has_counter(),
-        Characters::Delimited(_) => false,
+        DisText::Counted(count, _) => count.has_counter(),
+        DisText::Delimited(_) => false,
     }
 }
 

@@ -5,7 +5,7 @@ ghost use Rattle.cps_expr.specs.Expression.{names_of};
 ghost use Rattle.cps_expr.specs.Statement.{count_in, now_names, later_names};
 
 use crate::expr::Expr;
-use crate::row::{Characters, Comparison, Field, Repetition, Row, SymbolTest};
+use crate::row::{Comparison, DisText, Field, Repetition, Row, SymbolTest};
 use cps_text::Name;
 use std::alloc::AllocError;
 
@@ -54,12 +54,12 @@ fn push_lines(names: &mut Vec<Name>, lines: &Option<Expr>) -> Result<(), AllocEr
     }
 }
 
-fn push_count(names: &mut Vec<Name>, characters: &Characters) -> Result<(), AllocError>
+fn push_count(names: &mut Vec<Name>, characters: &DisText) -> Result<(), AllocError>
     ensures { OnOk result (names.new.items ≡ names.old.items ++ flat_map names_of (count_in characters.now)) }
 {
     match characters {
-        Characters::Counted(count, _) => push_names(names, count),
-        Characters::Delimited(_) => Ok(()),
+        DisText::Counted(count, _) => push_names(names, count),
+        DisText::Delimited(_) => Ok(()),
     }
 }
 
