@@ -1,7 +1,6 @@
 -- A data item fits its word.
-use Rattle.std.proofs.Common.{◌≡◌, ℕ, zero, suc, ◌+◌, ◌-◌, ◌*◌, ◌^◌, ◌<◌, ◌≤◌, Bool, true, false, cond, ◌&&◌, ltb, List, [], ◌∷◌, ◌++◌, length, replicate, take, ◌==◌, Option, None, Some, refl, sym, ap, ◌∙◌, subst, arith}
-use Rattle.std.specs.Prelude.{All, fold, map, unwrap_or, option_map, nat_lt}
-use Rattle.std.specs.List.{list_all, position}
+use Rattle.std.proofs.Common.{◌≡◌, ℕ, zero, suc, ◌+◌, ◌-◌, ◌^◌, ◌<◌, ◌≤◌, Bool, true, false, cond, ◌&&◌, List, [], ◌∷◌, ◌++◌, length, replicate, take, ◌==◌, Option, None, Some, refl, ◌∙◌, subst, arith}
+use Rattle.std.specs.Prelude.{All, fold, unwrap_or, option_map, nat_lt}
 use Rattle.std.specs.Option.{option_or}
 use Rattle.std.proofs.lemmas.Bool.Decides.{nat_tests}
 use Rattle.std.proofs.lemmas.List.{length-append, length-map, length-replicate}
@@ -16,7 +15,7 @@ use Rattle.cps_text.proofs.ItemReading.{begins, few}
 use Rattle.cps_expr.specs.declared.machine.Machine.{Machine}
 use Rattle.cps_expr.specs.declared.machine.Machine.TheVariants.{Cp, Pp}
 use Rattle.cps_expr.specs.declared.radix.Radix.{Radix}
-use Rattle.cps_expr.specs.Item.{bits_of, characters_in_word, numeral_of, signed_word, begins as begins_with, number_item, codes_of, with_code, packed, blank_code, filled, sided, text_word, text_item, item_of}
+use Rattle.cps_expr.specs.Item.{bits_of, characters_in_word, numeral_of, signed_word, number_item, codes_of, with_code, blank_code, filled, sided, text_word, text_item, item_of}
 use Rattle.cps_expr.specs.Number.{base_of, number_in, number_with, number_of, base_named, last}
 
 -- ---- numbers

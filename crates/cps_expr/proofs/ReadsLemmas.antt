@@ -27,7 +27,6 @@ none_rest (Some item) left is = cc
 
 pub read_item : {T : Type 0} (read : List ℕ → Option T) (text : List ℕ) (texts : List (List ℕ)) (kept after : Option (List T)) (item : T) (whole : Option (List T))
     → read text ≡ Some item → IsAdded kept item after → Continues kept (all_some read (text ∷ texts)) whole → Continues after (all_some read texts) whole
-unfolding all_some
 read_item read text texts (Some kept) (Some after) item whole is added so_far =
     ap (λ front. option_map (λ more. front ++ more) (all_some read texts)) added
     ∙ sym (added-more kept item (all_some read texts))
@@ -42,16 +41,13 @@ read_item read text texts None None item whole is added so_far =
 
 pub lost_item : {T : Type 0} (read : List ℕ → Option T) (text : List ℕ) (texts : List (List ℕ)) (kept : Option (List T)) (whole : Option (List T))
     → is_some (read text) ≡ true → Continues kept (all_some read (text ∷ texts)) whole → is_some (all_some read texts) ≡ is_some whole
-unfolding all_some
 lost_item read text texts kept whole is so_far =
     sym (some_rest (read text) (all_some read texts) is) ∙ whole_of_left kept (all_some read (text ∷ texts)) whole so_far
 
 pub no_item : {T : Type 0} (read : List ℕ → Option T) (text : List ℕ) (texts : List (List ℕ)) (kept : Option (List T)) (whole : Option (List T))
     → is_some (read text) ≡ false → Continues kept (all_some read (text ∷ texts)) whole → is_some whole ≡ false
-unfolding all_some
 no_item read text texts kept whole is so_far =
     sym (whole_of_left kept (all_some read (text ∷ texts)) whole so_far) ∙ none_rest (read text) (all_some read texts) is
 
 pub all_read : {T : Type 0} (read : List ℕ → Option T) (kept whole : Option (List T)) → Continues kept (all_some read []) whole → Continues kept (Some []) whole
-unfolding all_some
 all_read read kept whole so_far = so_far

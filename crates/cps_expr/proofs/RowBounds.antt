@@ -1,6 +1,6 @@
 -- Each row that is read is in bounds.
-use Rattle.std.proofs.Common.{◌≡◌, ℕ, zero, suc, ◌+◌, ◌^◌, ◌<◌, Bool, true, false, cond, List, [], ◌∷◌, length, take, drop, Option, None, Some, refl, sym, ap, ◌∙◌, subst, arith}
-use Rattle.std.specs.Prelude.{All, IsTrue, option_map, option_and_then}
+use Rattle.std.proofs.Common.{◌≡◌, ℕ, zero, suc, ◌+◌, ◌^◌, ◌<◌, Bool, true, false, cond, List, [], ◌∷◌, length, take, drop, Option, None, Some, refl, subst, arith}
+use Rattle.std.specs.Prelude.{IsTrue, option_map, option_and_then}
 use Rattle.std.specs.List.{list_all, position}
 use Rattle.cps_text.specs.Display.{has_display}
 use Rattle.cps_text.specs.Operands.{operands_of}
@@ -18,7 +18,7 @@ use Rattle.cps_expr.specs.Expression.{Expression, expression_of}
 use Rattle.cps_expr.specs.Item.{bits_of, item_of}
 use Rattle.cps_expr.specs.OperandList.{paired, all_some, one_or_more}
 use Rattle.cps_expr.specs.Operation.{operation_named}
-use Rattle.cps_expr.specs.Row.{is_comma, displayed, counted_at, counted_of, may_enclose, closes, delimited_at, delimited_of, dis_text_of, field_of, words_behind, words_up_to, words_of}
+use Rattle.cps_expr.specs.Row.{is_comma, displayed, counted_at, counted_of, may_enclose, closes, delimited_at, delimited_of, dis_text_of, field_of, words_behind, words_up_to}
 use Rattle.cps_expr.specs.Statement.{row_with, row_of}
 use Rattle.cps_expr.proofs.ItemBounds.{AreBelow, all-below, item-fits}
 
@@ -33,7 +33,6 @@ chained next (Some x) made P holds is = holds x refl is
 -- ---- one or more
 
 some-more : {T : Type 0} (read : List ℕ → Option T) (texts : List (List ℕ)) (found : List T) → one_or_more read texts ≡ Some found → 0 < length found
-unfolding all_some
 some-more read [] found is = absurd (cc)
 some-more read (text ∷ texts) found is =
     chained (λ x. option_map (λ xs. x ∷ xs) (all_some read texts)) (read text) found (λ list. 0 < length list)

@@ -15,7 +15,6 @@ use Rattle.cps_expr.specs.declared.row.Row.TheVariants as row
 use Rattle.cps_expr.specs.declared.term.Element.{Element}
 use Rattle.cps_expr.specs.declared.term.Element.TheVariants.{Number, Symbol, Counter}
 use Rattle.cps_expr.specs.Expression.{Expression, expression_of}
-use Rattle.cps_expr.specs.OperandList.{all_some}
 use Rattle.cps_expr.specs.Operation.{operations, operation_named}
 use Rattle.cps_expr.specs.Row.{is_defined_of, field_of, comparison_of, symbol_test_of, repetition_of, parameters_of, dis_text_of, words_up_to}
 use Rattle.cps_expr.specs.Statement.{row_of, now_names, later_names, now_has_counter, later_has_counter}
@@ -80,11 +79,11 @@ undefined : is_defined_of (codes "-def") ≡ Some false
 undefined = refl
 
 no_parameter : parameters_of [] ≡ Some []
-unfolding parameters_of all_some
+unfolding parameters_of
 no_parameter = refl
 
 parameters : parameters_of (codes "a" ∷ codes "B.1" ∷ []) ≡ Some (record { bytes = padded (codes "A") } ∷ record { bytes = padded (codes "B.1") } ∷ [])
-unfolding parameters_of all_some
+unfolding parameters_of
 parameters = refl
 
 same_parameter : parameters_of (codes "A" ∷ codes "B" ∷ codes "a" ∷ []) ≡ None
@@ -92,7 +91,7 @@ unfolding parameters_of
 same_parameter = refl
 
 parameter_with_sign : parameters_of (codes "A=" ∷ []) ≡ None
-unfolding parameters_of all_some
+unfolding parameters_of
 parameter_with_sign = refl
 
 delimited : dis_text_of Octal (codes ",/A, B/ C") ≡ Some (Delimited (codes "A, B"))
@@ -134,7 +133,7 @@ unfolding operations parts_from parts_up_to expression_of
 equate = refl
 
 constants : row_of (codes "CON") (codes "1,A") Cp Octal ≡ Some (row.Con (number 1 ∷ symbol (codes "A") ∷ []))
-unfolding operations parts_from parts_up_to expression_of all_some
+unfolding operations parts_from parts_up_to expression_of
 constants = refl
 
 no_constant : row_of (codes "CON") [] Cp Octal ≡ None
@@ -142,7 +141,7 @@ unfolding operations
 no_constant = refl
 
 fields : row_of (codes "VFD") (codes "12/A,48/*") Cp Decimal ≡ Some (row.Vfd (record { width = number 12; value = symbol (codes "A") } ∷ record { width = number 48; value = term_of_element Counter } ∷ []))
-unfolding operations parts_from parts_up_to expression_of all_some field_of
+unfolding operations parts_from parts_up_to expression_of field_of
 fields = refl
 
 words : row_of (codes "DATA") (codes "2LAB,5 X") Cp Octal ≡ Some (row.Data (0o01020000000000000000 ∷ 5 ∷ []))
@@ -172,11 +171,11 @@ counted_text = refl
 -- ---- names, and whether `*` stands in a row
 
 width_name : option_map now_names (row_of (codes "VFD") (codes "A/B") Cp Octal) ≡ Some (name (codes "A") ∷ [])
-unfolding operations parts_from parts_up_to expression_of all_some field_of
+unfolding operations parts_from parts_up_to expression_of field_of
 width_name = refl
 
 value_name : option_map later_names (row_of (codes "VFD") (codes "A/B") Cp Octal) ≡ Some (name (codes "B") ∷ [])
-unfolding operations parts_from parts_up_to expression_of all_some field_of
+unfolding operations parts_from parts_up_to expression_of field_of
 value_name = refl
 
 tested_name : option_map now_names (row_of (codes "IF") (codes "DEF,A,B") Cp Octal) ≡ Some (name (codes "A") ∷ name (codes "B") ∷ [])
@@ -184,7 +183,7 @@ unfolding operations parts_from parts_up_to expression_of symbol_test_of
 tested_name = refl
 
 constant_names : option_map later_names (row_of (codes "CON") (codes "A,B+A") Cp Octal) ≡ Some (name (codes "A") ∷ name (codes "B") ∷ name (codes "A") ∷ [])
-unfolding operations parts_from parts_up_to expression_of all_some
+unfolding operations parts_from parts_up_to expression_of
 constant_names = refl
 
 counter_now : option_map now_has_counter (row_of (codes "ORG") (codes "*+1") Cp Octal) ≡ Some true
@@ -192,9 +191,9 @@ unfolding operations parts_from parts_up_to expression_of
 counter_now = refl
 
 no_counter_now : option_map now_has_counter (row_of (codes "VFD") (codes "12/*") Cp Octal) ≡ Some false
-unfolding operations parts_from parts_up_to expression_of all_some field_of
+unfolding operations parts_from parts_up_to expression_of field_of
 no_counter_now = refl
 
 counter_later : option_map later_has_counter (row_of (codes "VFD") (codes "12/*") Cp Octal) ≡ Some true
-unfolding operations parts_from parts_up_to expression_of all_some field_of
+unfolding operations parts_from parts_up_to expression_of field_of
 counter_later = refl

@@ -10,7 +10,7 @@ use Rattle.cps_expr.proofs.JoinLemmas.{joined, joined-more, readable-more}
 use Rattle.cps_expr.proofs.Choices.{chosen_first, chosen_second}
 
 -- the texts behind the first one
-abbrev later_texts : List ℕ → List (List ℕ)
+abbrev pub later_texts : List ℕ → List (List ℕ)
 later_texts [] = []
 later_texts (sign ∷ text) = onto_first sign (cut_at_signs text)
 
@@ -20,7 +20,7 @@ pub record IsSignAt (text : List ℕ) (n : ℕ) : Type 0 where
   pub before : (k : ℕ) → k < n → is_sign (get_or text k 0) ≡ false
   pub found : n < length text → is_sign (get_or text n 0) ≡ true
 
-cut-at : (n : ℕ) (text : List ℕ) → IsSignAt text n → cut_at_signs text ≡ take n text ∷ later_texts (drop n text)
+pub cut-at : (n : ℕ) (text : List ℕ) → IsSignAt text n → cut_at_signs text ≡ take n text ∷ later_texts (drop n text)
 cut-at zero [] at = refl
 cut-at zero (c ∷ text) at = chosen_first (is_sign c) ([] ∷ onto_first c (cut_at_signs text)) (onto_first c (cut_at_signs text)) (at.found (omega arith))
 cut-at (suc n) [] at = let within = at.within in absurd (omega arith)

@@ -1,11 +1,11 @@
 -- Expressions, and the texts that write them: signed terms, of which the first may have no sign.
 -- The rule is the grammar of `Grammar.antt`; what stands here computes the same. From the manual's section on expressions.
-use Rattle.std.specs.Prelude.{ℕ, Bool, ◌==◌, List, [], ◌∷◌, flat_map, drop, slice_index, codes, Option, None, Some, if◌then◌else◌}
+use Rattle.std.specs.Prelude.{ℕ, Bool, ◌==◌, List, [], ◌∷◌, flat_map, drop, slice_index, codes, Option, None, if◌then◌else◌}
 use Rattle.std.specs.List.{list_any}
 use Rattle.cps_text.specs.declared.name.Name.{Name}
 use Rattle.cps_text.specs.Text.{among}
 use Rattle.cps_expr.specs.declared.radix.Radix.{Radix}
-use Rattle.cps_expr.specs.OperandList.{with_first}
+use Rattle.cps_expr.specs.OperandList.{all_some}
 use Rattle.cps_expr.specs.Term.{Term, term_of, term_names, term_has_counter}
 
 abbrev pub Expression : Type 0
@@ -60,8 +60,7 @@ signed_term radix [] = None
 signed_term radix (sign ∷ text) = term_of radix (is_minus sign) text
 
 abbrev pub terms_of : Radix → List (List ℕ) → Option Expression
-terms_of radix [] = Some []
-terms_of radix (text ∷ texts) = with_first (signed_term radix text) (terms_of radix texts)
+terms_of radix texts = all_some (signed_term radix) texts
 
 -- the terms that a text writes; it doesn't unfold in the proofs of those who only read operands
 unfoldable pub expression_of : Radix → List ℕ → Option Expression

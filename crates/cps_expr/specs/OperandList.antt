@@ -10,7 +10,7 @@ abbrev pub with_first : {T : Type 0} → Option T → Option (List T) → Option
 with_first first rest = option_and_then (λ x. option_map (λ xs. x ∷ xs) rest) first
 
 -- what all texts write, if each can be read
-unfoldable pub all_some : {T : Type 0} → (List ℕ → Option T) → List (List ℕ) → Option (List T)
+abbrev pub all_some : {T : Type 0} → (List ℕ → Option T) → List (List ℕ) → Option (List T)
 all_some read [] = Some []
 all_some read (text ∷ texts) = with_first (read text) (all_some read texts)
 

@@ -41,4 +41,4 @@ pub use row::{Block, Comparison, DisText, Field, Repetition, Row, SymbolTest};
 pub use sequence::Sequence;
 pub use signs::{leading_sign, sign_at};
 pub use statement::{Stmt, StmtFault};
-pub use value::Value;
+pub use value::{Value, is_same_name};

@@ -158,7 +158,8 @@ fn block_of_product(left: Option<Name>, right: Option<Name>) -> Option<Option<Na
     }
 }
 
-fn is_same_name(left: Name, right: Name) -> bool
+/// Whether two names are one.
+pub fn is_same_name(left: Name, right: Name) -> bool
     ensures { result ≡ same_name left right }
 {
     left == right
