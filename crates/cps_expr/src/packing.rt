@@ -16,7 +16,7 @@ struct Packed {
     word: u64,
     count: usize,
     ghost fits: { word < 64 ^ count },
-    ghost short: { count ≤ 10 },
+    ghost short: { count ≤ cp_characters },
 }
 
 impl Packed {
@@ -28,7 +28,7 @@ impl Packed {
     }
 
     fn push(&mut self, code: u8)
-        requires room { self.old.count < 10 }
+        requires room { self.old.count < cp_characters }
         requires code { code < 64 }
         ensures word { self.new.word ≡ with_code self.old.word code }
         ensures count { self.new.count ≡ self.old.count + 1 }
@@ -38,7 +38,7 @@ impl Packed {
     }
 
     fn push_text(&mut self, text: &[u8])
-        requires room { self.old.count + length text.now ≤ 10 }
+        requires room { self.old.count + length text.now ≤ cp_characters }
         ensures word { self.new.word ≡ fold with_code self.old.word (codes_of text.now) }
         ensures count { self.new.count ≡ self.old.count + length text.now }
     {
@@ -49,7 +49,7 @@ impl Packed {
 
     /// Pushes a code once for each that is missing.
     fn fill(&mut self, missing: usize, code: u8)
-        requires room { self.old.count + missing ≤ 10 }
+        requires room { self.old.count + missing ≤ cp_characters }
         requires code { code < 64 }
         ensures word { self.new.word ≡ fold with_code self.old.word (replicate missing code) }
         ensures count { self.new.count ≡ self.old.count + missing }
