@@ -1,5 +1,5 @@
 -- Reading a sum term by term.
-use Rattle.std.proofs.Common.{◌≡◌, ℕ, zero, suc, ◌<◌, ◌≤◌, Bool, true, false, cond, List, [], ◌∷◌, ◌++◌, length, get_or, take, drop, Option, None, Some, refl, sym, ap, subst, ◌∙◌, arith, append_assoc, append-nil, length-append}
+use Rattle.std.proofs.Common.{◌≡◌, ℕ, zero, suc, ◌<◌, ◌≤◌, Bool, true, false, List, [], ◌∷◌, ◌++◌, length, get_or, take, drop, Option, None, Some, refl, sym, ap, subst, ◌∙◌, arith, append_assoc, append-nil, length-append}
 use Rattle.std.specs.Prelude.{option_map, option_and_then, is_some, IfSome, IsSomeAnd, MatchBool}
 use Rattle.std.proofs.lemmas.Bool.Decides.{nat_tests}
 use Rattle.cps_expr.specs.declared.radix.Radix.{Radix}
@@ -11,7 +11,6 @@ use Rattle.cps_code.specs.declared.sum.Registers.{Registers}
 use Rattle.cps_code.specs.Register.{register_of}
 use Rattle.cps_code.specs.Table.{is_some_list}
 use Rattle.cps_expr.specs.TermsLeft.{sign_of}
-use Rattle.cps_expr.proofs.Choices.{chosen_first, chosen_second}
 use Rattle.cps_expr.proofs.TermsReading.{later_texts, IsSignAt, cut-at}
 use Rattle.cps_code.specs.Terms.{pushed, IsKept}
 
