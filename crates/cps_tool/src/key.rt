@@ -1,9 +1,8 @@
 //! Keys of the state of an assembly, and their answers.
 ghost use Rattle.std.specs.Prelude.{◌≡◌};
-ghost use Rattle.cps_expr.specs.Value.{same_name};
 ghost use Rattle.cps_tool.specs.Keys.{same_key};
 
-use cps_expr::Radix;
+use cps_expr::{Radix, is_same_name};
 use cps_text::Name;
 
 /// A part of the state of an assembly.
@@ -82,11 +81,4 @@ pub fn is_same_key(a: Key, b: Key) -> bool
         (Key::Label(a), Key::Label(b)) => is_same_name(a, b),
         _ => false,
     }
-}
-
-/// Whether two names are one.
-pub fn is_same_name(a: Name, b: Name) -> bool
-    ensures { result ≡ same_name a b }
-{
-    a == b
 }

@@ -7,11 +7,11 @@ ghost use Rattle.cps_tool.specs.Meaning.{names_now, value_now, now, now_here, as
 ghost use Rattle.cps_tool.specs.NamesNow.{values_in, name_now};
 
 use super::answers::{counter_of, value_of_label};
-use super::key::{Key, is_same_name};
+use super::key::Key;
 use super::lookup::Lookup;
 use super::plain::{here_at, plain_offset};
 use super::recorder::Recorder;
-use cps_expr::{Expr, Names, Value};
+use cps_expr::{Expr, Names, Value, is_same_name};
 use cps_text::Name;
 use std::alloc::{AllocError, Global};
 
