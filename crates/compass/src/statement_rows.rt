@@ -1,7 +1,7 @@
 //! The rows of statements, with the names that they read.
 use super::same_value::UNDEFINED;
 use cps_expr::{
-    Block, Characters, Comparison, Expr, Machine, Operation, Radix, Relation, Row, Stmt, StmtFault,
+    Block, Comparison, DisText, Expr, Machine, Operation, Radix, Relation, Row, Stmt, StmtFault,
     Value,
 };
 use cps_text::{Name, push_octal};
@@ -45,13 +45,13 @@ fn push_comparison(text: &mut Vec<u8>, test: &Comparison) -> Result<(), Fail> {
     push_lines(text, &test.lines)
 }
 
-fn push_characters(text: &mut Vec<u8>, characters: &Characters) -> Result<(), Fail> {
+fn push_characters(text: &mut Vec<u8>, characters: &DisText) -> Result<(), Fail> {
     match characters {
-        Characters::Counted(count, characters) => {
+        DisText::Counted(count, characters) => {
             push_expression(text, count)?;
             push_word(text, characters.as_slice())
         }
-        Characters::Delimited(characters) => push_word(text, characters.as_slice()),
+        DisText::Delimited(characters) => push_word(text, characters.as_slice()),
     }
 }
 

@@ -1,5 +1,5 @@
 -- Reading a sum term by term.
-use Rattle.std.proofs.Common.{◌≡◌, ℕ, zero, suc, ◌<◌, ◌≤◌, Bool, true, false, cond, List, [], ◌∷◌, ◌++◌, length, get_or, take, drop, Option, None, Some, refl, sym, ap, subst, ◌∙◌, arith, append_assoc, append-nil, length-append}
+use Rattle.std.proofs.Common.{◌≡◌, ℕ, zero, suc, ◌<◌, ◌≤◌, Bool, true, false, List, [], ◌∷◌, ◌++◌, length, get_or, take, drop, Option, None, Some, refl, sym, ap, subst, ◌∙◌, arith, append_assoc, append-nil, length-append}
 use Rattle.std.specs.Prelude.{option_map, option_and_then, is_some, IfSome, IsSomeAnd, MatchBool}
 use Rattle.std.proofs.lemmas.Bool.Decides.{nat_tests}
 use Rattle.cps_expr.specs.declared.radix.Radix.{Radix}
@@ -11,6 +11,7 @@ use Rattle.cps_code.specs.declared.sum.Registers.{Registers}
 use Rattle.cps_code.specs.Register.{register_of}
 use Rattle.cps_code.specs.Table.{is_some_list}
 use Rattle.cps_expr.specs.TermsLeft.{sign_of}
+use Rattle.cps_expr.proofs.TermsReading.{later_texts, IsSignAt, cut-at}
 use Rattle.cps_code.specs.Terms.{pushed, IsKept}
 
 -- a sum and what more of it comes
@@ -21,36 +22,6 @@ joined sum (Some more) = Some (record { registers = sum.registers ++ more.regist
 -- the sum of a text whose first term's sign is known
 abbrev pub rest_sum : Radix → Bool → List ℕ → Option Sum
 rest_sum radix minus rest = sum_of_texts radix (onto_first (sign_of minus) (cut_at_signs rest))
-
--- the texts behind the first one
-abbrev later_texts : List ℕ → List (List ℕ)
-later_texts [] = []
-later_texts (sign ∷ text) = onto_first sign (cut_at_signs text)
-
-chosen_first : {X : Type 0} (b : Bool) (x y : X) → b ≡ true → cond b x y ≡ x
-chosen_first b x y is = rw is refl
-
-chosen_second : {X : Type 0} (b : Bool) (x y : X) → b ≡ false → cond b x y ≡ y
-chosen_second b x y is = rw is refl
-
--- `n` is the place of the first sign
-pub record IsSignAt (text : List ℕ) (n : ℕ) : Type 0 where
-  pub within : n ≤ length text
-  pub before : (k : ℕ) → k < n → is_sign (get_or text k 0) ≡ false
-  pub found : n < length text → is_sign (get_or text n 0) ≡ true
-
-cut-at : (n : ℕ) (text : List ℕ) → IsSignAt text n → cut_at_signs text ≡ take n text ∷ later_texts (drop n text)
-cut-at zero [] at = refl
-cut-at zero (c ∷ text) at = chosen_first (is_sign c) ([] ∷ onto_first c (cut_at_signs text)) (onto_first c (cut_at_signs text)) (at.found (omega arith))
-cut-at (suc n) [] at = let within = at.within in absurd (omega arith)
-cut-at (suc n) (c ∷ text) at =
-    let within = at.within in
-    chosen_second (is_sign c) ([] ∷ onto_first c (cut_at_signs text)) (onto_first c (cut_at_signs text)) (at.before 0 (omega arith))
-    ∙ ap (onto_first c) (cut-at n text (record {
-      within = omega arith;
-      before = λ k low. at.before (suc k) (omega arith);
-      found = λ h. at.found (omega arith);
-    }))
 
 pub sum-start : (radix : Radix) (minus : Bool) (text rest : List ℕ) → with_first_sign text ≡ sign_of minus ∷ rest → rest_sum radix minus rest ≡ sum_of radix text
 sum-start radix true text rest is = rw is refl

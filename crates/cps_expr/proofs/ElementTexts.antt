@@ -11,7 +11,8 @@ use Rattle.cps_expr.specs.declared.radix.Radix.{Radix}
 use Rattle.cps_expr.specs.declared.radix.Radix.TheVariants.{Octal, Decimal}
 use Rattle.cps_expr.specs.declared.term.Element.{Element}
 use Rattle.cps_expr.specs.declared.term.Element.TheVariants.{Number, Symbol, Counter}
-use Rattle.cps_expr.specs.Number.{base_of, base_named, last, digits_number, number_in, number_with, number_of}
+use Rattle.cps_text.specs.Digits.{digits_number}
+use Rattle.cps_expr.specs.Number.{base_of, base_named, last, number_in, number_with, number_of}
 use Rattle.cps_expr.specs.Term.{is_operator, is_star, number_or_symbol, element_of}
 use Rattle.cps_expr.specs.Expression.{is_sign}
 use Rattle.cps_expr.specs.Grammar.{WritesElement}

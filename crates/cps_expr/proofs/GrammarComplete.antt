@@ -6,8 +6,8 @@ use Rattle.cps_expr.specs.declared.term.Element.{Element}
 use Rattle.cps_expr.specs.declared.term.Operator.{Operator}
 use Rattle.cps_expr.specs.declared.term.Operator.TheVariants.{Times, Over}
 use Rattle.cps_expr.specs.declared.term.Factor.{Factor}
-use Rattle.cps_expr.specs.Term.{Term, is_operator, onto_run, tokens_of, element_of, operator_of, factors_of, term_with, term_of_tokens, term_of}
-use Rattle.cps_expr.specs.Expression.{Expression, is_sign, is_minus, onto_first, cut_at_signs, with_first_sign, terms_of, terms_in}
+use Rattle.cps_expr.specs.Term.{Term, is_operator, onto_token, tokens_of, element_of, operator_of, factors_of, term_with, term_of_tokens, term_of}
+use Rattle.cps_expr.specs.Expression.{Expression, is_sign, is_minus, onto_first, cut_at_signs, with_first_sign, terms_of, signed_texts}
 use Rattle.cps_expr.specs.TermsLeft.{sign_of}
 use Rattle.cps_expr.specs.Grammar.{operator_text, WriteFactors, WritesTerm, sign_text, WriteTerms, Writes}
 use Rattle.cps_expr.proofs.ElementTexts.{Plain, ElementText, element-complete}
@@ -22,14 +22,14 @@ OperatorFirst (c ∷ text) = is_operator c ≡ true
 run-tokens : (c : ℕ) (run rest : List ℕ) → Plain (c ∷ run) → OperatorFirst rest → tokens_of (c ∷ (run ++ rest)) ≡ (c ∷ run) ∷ tokens_of rest
 run-tokens c [] [] plain first = chosen_second (is_operator c) ((c ∷ []) ∷ []) ((c ∷ []) ∷ []) plain.0.0
 run-tokens c [] (d ∷ rest) plain first =
-    let next : tokens_of (d ∷ rest) ≡ (d ∷ []) ∷ tokens_of rest = chosen_first (is_operator d) ((d ∷ []) ∷ tokens_of rest) (onto_run d (tokens_of rest)) first in
-    chosen_second (is_operator c) ((c ∷ []) ∷ tokens_of (d ∷ rest)) (onto_run c (tokens_of (d ∷ rest))) plain.0.0
-    ∙ ap (onto_run c) next
+    let next : tokens_of (d ∷ rest) ≡ (d ∷ []) ∷ tokens_of rest = chosen_first (is_operator d) ((d ∷ []) ∷ tokens_of rest) (onto_token d (tokens_of rest)) first in
+    chosen_second (is_operator c) ((c ∷ []) ∷ tokens_of (d ∷ rest)) (onto_token c (tokens_of (d ∷ rest))) plain.0.0
+    ∙ ap (onto_token c) next
     ∙ chosen_first (is_operator d) ((c ∷ []) ∷ (d ∷ []) ∷ tokens_of rest) ((c ∷ d ∷ []) ∷ tokens_of rest) first
     ∙ ap (λ tokens. (c ∷ []) ∷ tokens) (sym next)
 run-tokens c (d ∷ run) rest plain first =
-    chosen_second (is_operator c) ((c ∷ []) ∷ tokens_of (d ∷ (run ++ rest))) (onto_run c (tokens_of (d ∷ (run ++ rest)))) plain.0.0
-    ∙ ap (onto_run c) (run-tokens d run rest plain.1 first)
+    chosen_second (is_operator c) ((c ∷ []) ∷ tokens_of (d ∷ (run ++ rest))) (onto_token c (tokens_of (d ∷ (run ++ rest)))) plain.0.0
+    ∙ ap (onto_token c) (run-tokens d run rest plain.1 first)
     ∙ chosen_second (is_operator d) ((c ∷ []) ∷ (d ∷ run) ∷ tokens_of rest) ((c ∷ d ∷ run) ∷ tokens_of rest) plain.1.0.0
 
 plain-tokens : (text rest : List ℕ) → Plain text → 0 < length text → OperatorFirst rest → tokens_of (text ++ rest) ≡ text ∷ tokens_of rest
@@ -195,7 +195,7 @@ behind-sign : (minus : Bool) (rest : List ℕ) → behind (sign_text minus ++ re
 behind-sign true rest = refl
 behind-sign false rest = refl
 
-pub complete : (radix : Radix) (text : List ℕ) (terms : Expression) → Writes radix text terms → terms_in radix text ≡ Some terms
+pub complete : (radix : Radix) (text : List ℕ) (terms : Expression) → Writes radix text terms → terms_of radix (signed_texts text) ≡ Some terms
 complete radix text [] writes = absurd writes
 complete radix text (term ∷ terms) (inl parts) =
     let P : List ℕ → Type 0 = λ t. with_first_sign t ≡ t in
@@ -208,8 +208,8 @@ complete radix text (term ∷ terms) (inr parts) =
     ∙ terms-complete radix (43 ∷ text) (term ∷ terms) parts
 
 -- a text writes one expression at most
-pub only : (radix : Radix) (text : List ℕ) (terms : Expression) → terms_in radix text ≡ Some terms → (other : Expression) → Writes radix text other → other ≡ terms
+pub only : (radix : Radix) (text : List ℕ) (terms : Expression) → terms_of radix (signed_texts text) ≡ Some terms → (other : Expression) → Writes radix text other → other ≡ terms
 only radix text terms is other writes = let read = complete radix text other writes in cc
 
-pub outside : (radix : Radix) (text : List ℕ) → terms_in radix text ≡ None → (terms : Expression) → Writes radix text terms → ⊥
+pub outside : (radix : Radix) (text : List ℕ) → terms_of radix (signed_texts text) ≡ None → (terms : Expression) → Writes radix text terms → ⊥
 outside radix text none terms writes = let read = complete radix text terms writes in cc

@@ -11,8 +11,8 @@ use Rattle.cps_expr.specs.declared.term.Operator.{Operator}
 use Rattle.cps_expr.specs.declared.term.Operator.TheVariants.{Times, Over}
 use Rattle.cps_expr.specs.declared.term.Factor.{Factor}
 use Rattle.cps_expr.specs.Number.{number_of}
-use Rattle.cps_expr.specs.Term.{Term, is_operator, is_star, onto_run, tokens_of, number_or_symbol, element_of, operator_of, factor_of, factors_of, term_with, term_of_tokens, term_of}
-use Rattle.cps_expr.specs.Expression.{Expression, is_sign, is_minus, onto_first, cut_at_signs, signed_texts, terms_of, terms_in}
+use Rattle.cps_expr.specs.Term.{Term, is_operator, is_star, onto_token, tokens_of, number_or_symbol, element_of, operator_of, factor_of, factors_of, term_with, term_of_tokens, term_of}
+use Rattle.cps_expr.specs.Expression.{Expression, is_sign, is_minus, onto_first, cut_at_signs, signed_texts, terms_of}
 use Rattle.cps_expr.specs.Grammar.{WritesElement, operator_text, WriteFactors, WritesTerm, sign_text, WriteTerms, Writes}
 use Rattle.cps_expr.proofs.Choices.{chosen_first, chosen_second}
 
@@ -26,7 +26,7 @@ join-either : (b : Bool) (x y : List (List ℕ)) (text : List ℕ) → join x �
 join-either true x y text first second = first
 join-either false x y text first second = second
 
-join-run : (c : ℕ) (tokens : List (List ℕ)) → join (onto_run c tokens) ≡ c ∷ join tokens
+join-run : (c : ℕ) (tokens : List (List ℕ)) → join (onto_token c tokens) ≡ c ∷ join tokens
 join-run c [] = refl
 join-run c (token ∷ tokens) = join-either _ ((c ∷ []) ∷ token ∷ tokens) ((c ∷ token) ∷ tokens) (c ∷ (token ++ join tokens)) refl refl
 
@@ -34,7 +34,7 @@ join-tokens : (text : List ℕ) → join (tokens_of text) ≡ text
 join-tokens [] = refl
 join-tokens (c ∷ text) =
     let rest = join-tokens text in
-    join-either (is_operator c) ((c ∷ []) ∷ tokens_of text) (onto_run c (tokens_of text)) (c ∷ text) (ap (λ left. c ∷ left) rest) (join-run c (tokens_of text) ∙ ap (λ left. c ∷ left) rest)
+    join-either (is_operator c) ((c ∷ []) ∷ tokens_of text) (onto_token c (tokens_of text)) (c ∷ text) (ap (λ left. c ∷ left) rest) (join-run c (tokens_of text) ∙ ap (λ left. c ∷ left) rest)
 
 join-first : (c : ℕ) (texts : List (List ℕ)) → join (onto_first c texts) ≡ c ∷ join texts
 join-first c [] = refl
@@ -222,7 +222,7 @@ texts-signed c text is =
 texts-plain : (c : ℕ) (text : List ℕ) → is_sign c ≡ false → signed_texts (c ∷ text) ≡ onto_first 43 (cut_at_signs (c ∷ text))
 texts-plain c text is = ap (λ t. drop 1 (cut_at_signs t)) (chosen_second (is_sign c) (c ∷ text) (43 ∷ c ∷ text) is)
 
-sound-by : (radix : Radix) (c : ℕ) (text : List ℕ) (terms : Expression) (signed : Bool) → is_sign c ≡ signed → terms_in radix (c ∷ text) ≡ Some terms → Writes radix (c ∷ text) terms
+sound-by : (radix : Radix) (c : ℕ) (text : List ℕ) (terms : Expression) (signed : Bool) → is_sign c ≡ signed → terms_of radix (signed_texts (c ∷ text)) ≡ Some terms → Writes radix (c ∷ text) terms
 sound-by radix c text [] true found is = some-terms radix c (cut_at_signs text) (sym (ap (terms_of radix) (texts-signed c text found)) ∙ is)
 sound-by radix c text [] false found is = some-terms radix 43 (cut_at_signs (c ∷ text)) (sym (ap (terms_of radix) (texts-plain c text found)) ∙ is)
 sound-by radix c text (term ∷ terms) true found is =
@@ -230,7 +230,7 @@ sound-by radix c text (term ∷ terms) true found is =
 sound-by radix c text (term ∷ terms) false found is =
     inr (signed-sound radix 43 (c ∷ text) (term ∷ terms) refl (sym (ap (terms_of radix) (texts-plain c text found)) ∙ is))
 
-pub sound : (radix : Radix) (text : List ℕ) (terms : Expression) → terms_in radix text ≡ Some terms → Writes radix text terms
+pub sound : (radix : Radix) (text : List ℕ) (terms : Expression) → terms_of radix (signed_texts text) ≡ Some terms → Writes radix text terms
 sound radix [] terms is = absurd cc
 sound radix (c ∷ text) terms is = sound-by radix c text terms (is_sign c) refl is
 

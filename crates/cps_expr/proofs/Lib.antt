@@ -4,12 +4,13 @@ pub mod FactorReading
 pub mod FoldLemmas
 pub mod GrammarComplete
 pub mod GrammarSound
-pub mod ItemLemmas
+pub mod ItemBounds
 pub mod ItemRows
 pub mod JoinLemmas
 pub mod NumberReading
 pub mod PackingLemmas
 pub mod ReadsLemmas
+pub mod RowBounds
 pub mod StatementRows
 pub mod TermsReading
 pub mod TokenLemmas

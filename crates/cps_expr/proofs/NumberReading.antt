@@ -1,26 +1,12 @@
 -- Reading a number digit by digit.
-use Rattle.std.proofs.Common.{◌≡◌, ℕ, zero, suc, ◌+◌, ◌-◌, ◌*◌, ◌<◌, ◌≤◌, Bool, true, false, cond, ◌&&◌, ltb, List, [], ◌∷◌, length, get_or, take, None, Some, refl, ◌⊎◌, inl, inr, ⊎_elim, arith}
-use Rattle.std.specs.Prelude.{fold}
+use Rattle.std.proofs.Common.{◌≡◌, ℕ, zero, suc, ◌+◌, ◌<◌, Bool, true, false, cond, ◌&&◌, ltb, List, [], ◌∷◌, length, get_or, take, None, Some, refl, ◌⊎◌, inl, inr, ⊎_elim, arith}
 use Rattle.std.specs.List.{list_all}
 use Rattle.std.proofs.lemmas.Bool.Decides.{nat_tests}
 use Rattle.std.proofs.lemmas.List.Sums.{fold_more}
 use Rattle.cps_text.specs.Text.{is_digit}
-use Rattle.cps_expr.specs.Number.{digits_number, number_in}
-
-abbrev with_digit : ℕ → ℕ → ℕ → ℕ
-with_digit base number digit = number * base + (digit - 48)
-
-grows : (base number digit : ℕ) → 0 < base → number ≤ with_digit base number digit
-grows base number digit some = grind arith
-
-fold-ge : (base number : ℕ) (digits : List ℕ) → 0 < base → number ≤ fold (with_digit base) number digits
-fold-ge base number [] some = omega arith
-fold-ge base number (d ∷ ds) some = omega (arith, grows base number d some, fold-ge base (with_digit base number d) ds some)
-
-fold-take : (base number : ℕ) (digits : List ℕ) (i : ℕ) → 0 < base → fold (with_digit base) number (take i digits) ≤ fold (with_digit base) number digits
-fold-take base number digits zero some = fold-ge base number digits some
-fold-take base number [] (suc i) some = omega arith
-fold-take base number (d ∷ ds) (suc i) some = fold-take base (with_digit base number d) ds i some
+use Rattle.cps_text.specs.Digits.{with_digit, digits_number}
+use Rattle.cps_text.proofs.DigitsLemmas.{fold-take}
+use Rattle.cps_expr.specs.Number.{number_in}
 
 and_false : (b : Bool) → (b && false) ≡ false
 and_false true = refl

@@ -2,14 +2,15 @@
 use Rattle.std.proofs.Common.{◌≡◌, ℕ, zero, suc, ◌<◌, ◌≤◌, Bool, true, false, List, [], ◌∷◌, ◌++◌, length, get_or, take, drop, Option, None, Some, ◌⊎◌, ⊎_elim, refl, sym, ap, ◌∙◌, arith}
 use Rattle.std.specs.Prelude.{option_map, is_none, is_some, IfSome, MatchOption}
 use Rattle.cps_expr.specs.declared.radix.Radix.{Radix}
+use Rattle.cps_expr.specs.OperandList.{with_first}
 use Rattle.cps_expr.specs.Term.{Term, term_of}
-use Rattle.cps_expr.specs.Expression.{Expression, is_sign, onto_first, cut_at_signs, with_first_sign, terms_of, with_term, terms_in}
+use Rattle.cps_expr.specs.Expression.{Expression, is_sign, onto_first, cut_at_signs, with_first_sign, terms_of, signed_texts}
 use Rattle.cps_expr.specs.TermsLeft.{sign_of, terms_left, terms_behind}
 use Rattle.cps_expr.proofs.JoinLemmas.{joined, joined-more, readable-more}
 use Rattle.cps_expr.proofs.Choices.{chosen_first, chosen_second}
 
 -- the texts behind the first one
-abbrev later_texts : List ℕ → List (List ℕ)
+abbrev pub later_texts : List ℕ → List (List ℕ)
 later_texts [] = []
 later_texts (sign ∷ text) = onto_first sign (cut_at_signs text)
 
@@ -19,7 +20,7 @@ pub record IsSignAt (text : List ℕ) (n : ℕ) : Type 0 where
   pub before : (k : ℕ) → k < n → is_sign (get_or text k 0) ≡ false
   pub found : n < length text → is_sign (get_or text n 0) ≡ true
 
-cut-at : (n : ℕ) (text : List ℕ) → IsSignAt text n → cut_at_signs text ≡ take n text ∷ later_texts (drop n text)
+pub cut-at : (n : ℕ) (text : List ℕ) → IsSignAt text n → cut_at_signs text ≡ take n text ∷ later_texts (drop n text)
 cut-at zero [] at = refl
 cut-at zero (c ∷ text) at = chosen_first (is_sign c) ([] ∷ onto_first c (cut_at_signs text)) (onto_first c (cut_at_signs text)) (at.found (omega arith))
 cut-at (suc n) [] at = let within = at.within in absurd (omega arith)
@@ -34,7 +35,7 @@ cut-at (suc n) (c ∷ text) at =
 
 -- the first term, and the terms behind it
 left-cut : (radix : Radix) (minus : Bool) (n : ℕ) (text : List ℕ) → IsSignAt text n
-    → terms_left radix minus text ≡ with_term (term_of radix minus (take n text)) (terms_of radix (later_texts (drop n text)))
+    → terms_left radix minus text ≡ with_first (term_of radix minus (take n text)) (terms_of radix (later_texts (drop n text)))
 left-cut radix true n text at = rw (cut-at n text at) refl
 left-cut radix false n text at = rw (cut-at n text at) refl
 
@@ -55,17 +56,17 @@ behind radix now left (Some rest) found is = ap (λ texts. terms_of radix (later
 
 pub left-first : {R : Type 0} (radix : Radix) (minus : Bool) (now : R → List ℕ) (n : ℕ) (text : List ℕ) (later : Option (Bool × R)) → IsSignAt text n
     → MatchOption later ((drop n text ≡ []) ⊎ (is_sign (get_or (drop n text) 0 0) ≡ false)) (λ rest. drop n text ≡ sign_of rest.0 ∷ now rest.1)
-    → terms_left radix minus text ≡ with_term (term_of radix minus (take n text)) (terms_behind radix (option_map (λ rest. (rest.0, now rest.1)) later))
+    → terms_left radix minus text ≡ with_first (term_of radix minus (take n text)) (terms_behind radix (option_map (λ rest. (rest.0, now rest.1)) later))
 left-first radix minus now n text later at is =
-    left-cut radix minus n text at ∙ ap (with_term (term_of radix minus (take n text))) (behind radix now (drop n text) later (sign-behind n text at) is)
+    left-cut radix minus n text at ∙ ap (with_first (term_of radix minus (take n text))) (behind radix now (drop n text) later (sign-behind n text at) is)
 
-pub left-start : (radix : Radix) (minus : Bool) (text rest : List ℕ) → with_first_sign text ≡ sign_of minus ∷ rest → terms_left radix minus rest ≡ terms_in radix text
+pub left-start : (radix : Radix) (minus : Bool) (text rest : List ℕ) → with_first_sign text ≡ sign_of minus ∷ rest → terms_left radix minus rest ≡ terms_of radix (signed_texts text)
 left-start radix true text rest is = rw is refl
 left-start radix false text rest is = rw is refl
 
 -- one term more
 pub next-term : (left whole : Option Expression) (found : Option Term) (rest : Option Expression) (so_far next : Expression) (old new : Bool)
-    → left ≡ with_term found rest → is_some found ≡ true → (new ≡ false → (old ≡ false) × IfSome found (λ term. next ≡ so_far ++ term ∷ []))
+    → left ≡ with_first found rest → is_some found ≡ true → (new ≡ false → (old ≡ false) × IfSome found (λ term. next ≡ so_far ++ term ∷ []))
     → is_none left ≡ is_none whole → (old ≡ false → joined so_far left ≡ whole)
     → (is_none rest ≡ is_none whole) × (new ≡ false → joined next rest ≡ whole)
 next-term left whole None rest so_far next old new is some added readable expression = cc

@@ -144,3 +144,19 @@ within_block = refl
 product_beyond : decimal (codes "576460752303423487*2-576460752303423487") ≡ None
 unfolding expression_of
 product_beyond = refl
+
+-- the value of a text where each symbol is a plain number
+abbrev with_symbol : ℤ → List ℕ → Option Value
+with_symbol number text = option_and_then (value_in (λ name. Some (plain number)) (plain (pos 3))) (expression_of Decimal text)
+
+negative_dividend : with_symbol (negsuc 6) (codes "A/2") ≡ is (negsuc 2)
+unfolding expression_of
+negative_dividend = refl
+
+negative_divisor : with_symbol (negsuc 1) (codes "7/A") ≡ is (negsuc 2)
+unfolding expression_of
+negative_divisor = refl
+
+zero_times_negative : with_symbol (negsuc 0) (codes "0*A") ≡ is (pos 0)
+unfolding expression_of
+zero_times_negative = refl

@@ -1,10 +1,11 @@
 -- Expressions, and the texts that write them: signed terms, of which the first may have no sign.
 -- The rule is the grammar of `Grammar.antt`; what stands here computes the same. From the manual's section on expressions.
-use Rattle.std.specs.Prelude.{ℕ, Bool, ◌==◌, List, [], ◌∷◌, flat_map, drop, codes, Option, None, Some, option_map, option_and_then, if◌then◌else◌}
+use Rattle.std.specs.Prelude.{ℕ, Bool, ◌==◌, List, [], ◌∷◌, flat_map, drop, slice_index, codes, Option, None, if◌then◌else◌}
 use Rattle.std.specs.List.{list_any}
 use Rattle.cps_text.specs.declared.name.Name.{Name}
 use Rattle.cps_text.specs.Text.{among}
 use Rattle.cps_expr.specs.declared.radix.Radix.{Radix}
+use Rattle.cps_expr.specs.OperandList.{all_some}
 use Rattle.cps_expr.specs.Term.{Term, term_of, term_names, term_has_counter}
 
 abbrev pub Expression : Type 0
@@ -18,6 +19,12 @@ abbrev pub has_counter : Expression → Bool
 has_counter terms = list_any term_has_counter terms
 
 -- ---- a text cut into its signed terms
+
+abbrev pub plus : ℕ
+plus = slice_index (codes "+") 0
+
+abbrev pub minus : ℕ
+minus = slice_index (codes "-") 0
 
 abbrev pub is_sign : ℕ → Bool
 is_sign = among (codes "+-")
@@ -36,7 +43,7 @@ cut_at_signs (character ∷ text) =
 -- an expression whose first term has no sign is that with `+` before it
 abbrev pub with_first_sign : List ℕ → List ℕ
 with_first_sign [] = codes "+"
-with_first_sign (character ∷ text) = if is_sign character then character ∷ text else 43 ∷ character ∷ text
+with_first_sign (character ∷ text) = if is_sign character then character ∷ text else plus ∷ character ∷ text
 
 -- the terms as they are written, each with its sign
 abbrev pub signed_texts : List ℕ → List (List ℕ)
@@ -46,23 +53,15 @@ signed_texts text = drop 1 (cut_at_signs (with_first_sign text))
 
 -- whether a sign is `-`
 abbrev pub is_minus : ℕ → Bool
-is_minus sign = sign == 45
+is_minus sign = sign == minus
 
 abbrev pub signed_term : Radix → List ℕ → Option Term
 signed_term radix [] = None
 signed_term radix (sign ∷ text) = term_of radix (is_minus sign) text
 
-abbrev pub with_term : Option Term → Option Expression → Option Expression
-with_term first rest = option_and_then (λ term. option_map (λ terms. term ∷ terms) rest) first
-
 abbrev pub terms_of : Radix → List (List ℕ) → Option Expression
-terms_of radix [] = Some []
-terms_of radix (text ∷ texts) = with_term (signed_term radix text) (terms_of radix texts)
+terms_of radix texts = all_some (signed_term radix) texts
 
--- the terms that a text writes
-abbrev pub terms_in : Radix → List ℕ → Option Expression
-terms_in radix text = terms_of radix (signed_texts text)
-
--- the same, closed to the proofs of those who only read operands
+-- the terms that a text writes; it doesn't unfold in the proofs of those who only read operands
 unfoldable pub expression_of : Radix → List ℕ → Option Expression
-expression_of radix text = terms_in radix text
+expression_of radix text = terms_of radix (signed_texts text)

@@ -1,5 +1,5 @@
 -- Which texts write an expression: the rule. `Expression.antt` computes the same. From the manual's section on expressions.
-use Rattle.std.specs.Prelude.{◌≡◌, ◌⊎◌, ℕ, ◌^◌, Bool, true, false, List, [], ◌∷◌, ◌++◌, codes, Some}
+use Rattle.std.specs.Prelude.{◌≡◌, ◌⊎◌, ℕ, ◌+◌, Bool, true, false, List, [], ◌∷◌, ◌++◌, codes, Some}
 use Rattle.cps_text.specs.Name.{name_of}
 use Rattle.cps_expr.specs.declared.radix.Radix.{Radix}
 use Rattle.cps_expr.specs.declared.term.Element.{Element}
@@ -7,13 +7,14 @@ use Rattle.cps_expr.specs.declared.term.Element.TheVariants.{Number, Symbol, Cou
 use Rattle.cps_expr.specs.declared.term.Operator.{Operator}
 use Rattle.cps_expr.specs.declared.term.Operator.TheVariants.{Times, Over}
 use Rattle.cps_expr.specs.declared.term.Factor.{Factor}
+use Rattle.cps_expr.specs.Limits.{greatest_plain}
 use Rattle.cps_expr.specs.Number.{number_of}
 use Rattle.cps_expr.specs.Term.{Term}
 use Rattle.cps_expr.specs.Expression.{Expression}
 
 -- an element is a number, a symbol or `*`
 abbrev pub WritesElement : Radix → List ℕ → Element → Type 0
-WritesElement radix text (Number n) = number_of (2 ^ 59) radix text ≡ Some n
+WritesElement radix text (Number n) = number_of (greatest_plain + 1) radix text ≡ Some n
 WritesElement radix text (Symbol name) = name_of text ≡ Some name
 WritesElement radix text Counter = text ≡ codes "*"
 

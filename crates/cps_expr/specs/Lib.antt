@@ -1,6 +1,8 @@
+pub mod Bounds
 pub mod Expression
 pub mod Grammar
 pub mod Item
+pub mod Limits
 pub mod Number
 pub mod OperandList
 pub mod Operation
@@ -11,4 +13,5 @@ pub mod Statement
 pub mod Term
 pub mod TermsLeft
 pub mod Value
+pub mod Word
 pub mod WordsLeft

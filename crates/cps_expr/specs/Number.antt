@@ -1,9 +1,10 @@
 -- Numbers of the language: digits, and behind them perhaps a letter that names their base, in capitals or not.
 -- From the manual's section on numeric constants; the limits are our profile's.
-use Rattle.std.specs.Prelude.{ℕ, ◌+◌, ◌-◌, ◌*◌, ◌&&◌, nat_lt, List, length, take, slice_index, fold, codes, Option, None, Some, if◌then◌else◌}
+use Rattle.std.specs.Prelude.{ℕ, ◌-◌, ◌&&◌, nat_lt, List, length, take, slice_index, codes, Option, None, Some, if◌then◌else◌}
 use Rattle.std.specs.List.{list_all}
 use Rattle.cps_expr.specs.declared.radix.Radix.{Radix}
 use Rattle.cps_expr.specs.declared.radix.Radix.TheVariants.{Octal, Decimal}
+use Rattle.cps_text.specs.Digits.{digits_number}
 use Rattle.cps_text.specs.Text.{among, capital, is_digit}
 
 abbrev pub base_of : Radix → ℕ
@@ -16,10 +17,6 @@ base_named letter = if among (codes "BO") (capital letter) then Some 8 else (if 
 
 abbrev pub last : List ℕ → ℕ
 last text = slice_index text (length text - 1)
-
--- the number that digits make
-abbrev pub digits_number : ℕ → List ℕ → ℕ
-digits_number base digits = fold (λ number digit. number * base + (digit - 48)) 0 digits
 
 -- a number has one or more digits, each below the base, and is below the limit
 abbrev pub number_in : ℕ → ℕ → List ℕ → Option ℕ

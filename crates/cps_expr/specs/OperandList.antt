@@ -5,10 +5,14 @@ use Rattle.std.specs.Prelude.{ℕ, List, [], ◌∷◌, Option, None, Some, opti
 abbrev pub paired : {T U : Type 0} → Option T → Option U → Option (T × U)
 paired first second = option_and_then (λ x. option_map (λ y. (x, y)) second) first
 
+-- a list with one thing more in front, if both can be read
+abbrev pub with_first : {T : Type 0} → Option T → Option (List T) → Option (List T)
+with_first first rest = option_and_then (λ x. option_map (λ xs. x ∷ xs) rest) first
+
 -- what all texts write, if each can be read
-unfoldable pub all_some : {T : Type 0} → (List ℕ → Option T) → List (List ℕ) → Option (List T)
+abbrev pub all_some : {T : Type 0} → (List ℕ → Option T) → List (List ℕ) → Option (List T)
 all_some read [] = Some []
-all_some read (text ∷ texts) = option_map (λ parts. parts.0 ∷ parts.1) (paired (read text) (all_some read texts))
+all_some read (text ∷ texts) = with_first (read text) (all_some read texts)
 
 abbrev pub one_or_more : {T : Type 0} → (List ℕ → Option T) → List (List ℕ) → Option (List T)
 one_or_more read [] = None

@@ -13,7 +13,7 @@ Table = List (List ℕ × Operation)
 
 -- an operation of a table; lower-case letters stand for capitals
 abbrev pub named_in : Table → List ℕ → Option Operation
-named_in table text = option_map (λ row. row.1) (find (λ row. is_same text row.0) table)
+named_in table text = option_map (λ entry. entry.1) (find (λ entry. is_same text entry.0) table)
 
 unfoldable pub operations : Table
 operations =
@@ -57,4 +57,4 @@ abbrev pub operation_named : List ℕ → Option Operation
 operation_named text = named_in operations text
 
 abbrev pub table_value : List (Bor (List ℕ) × Operation) → Table
-table_value table = map (λ row. (row.0.now, row.1)) table
+table_value table = map (λ entry. (entry.0.now, entry.1)) table

@@ -12,8 +12,8 @@ use Rattle.cps_expr.specs.declared.radix.Radix.{Radix}
 use Rattle.cps_expr.specs.declared.radix.Radix.TheVariants.{Octal, Decimal}
 use Rattle.cps_expr.specs.declared.row.Block.{Block}
 use Rattle.cps_expr.specs.declared.row.Block.TheVariants.{Nominal, Previous, Named}
-use Rattle.cps_expr.specs.declared.row.Characters.{Characters}
-use Rattle.cps_expr.specs.declared.row.Characters.TheVariants.{Counted, Delimited}
+use Rattle.cps_expr.specs.declared.row.DisText.{DisText}
+use Rattle.cps_expr.specs.declared.row.DisText.TheVariants.{Counted, Delimited}
 use Rattle.cps_expr.specs.declared.row.Comparison.{Comparison}
 use Rattle.cps_expr.specs.declared.row.Field.{Field}
 use Rattle.cps_expr.specs.declared.row.Repetition.{Repetition}
@@ -110,12 +110,12 @@ is_comma = among (codes ",")
 abbrev pub displayed : List ℕ → Option (List ℕ)
 displayed text = if list_all has_display text then Some text else None
 
-abbrev pub counted_at : Radix → List ℕ → Option ℕ → Option Characters
+abbrev pub counted_at : Radix → List ℕ → Option ℕ → Option DisText
 counted_at radix text None = None
 counted_at radix text (Some at) =
     option_map (λ parts. Counted parts.0 parts.1) (paired (expression_of radix (take at text)) (displayed (drop (at + 1) text)))
 
-abbrev pub counted_of : Radix → List ℕ → Option Characters
+abbrev pub counted_of : Radix → List ℕ → Option DisText
 counted_of radix text = counted_at radix text (position is_comma text)
 
 -- what may stand before and behind the characters: anything with a display code but a blank
@@ -125,17 +125,17 @@ may_enclose character = has_display character && not (is_blank character)
 abbrev pub closes : ℕ → ℕ → Bool
 closes delimiter character = capital character == capital delimiter
 
-abbrev pub delimited_at : List ℕ → Option ℕ → Option Characters
+abbrev pub delimited_at : List ℕ → Option ℕ → Option DisText
 delimited_at text None = None
 delimited_at text (Some at) = option_map Delimited (displayed (take at text))
 
-abbrev pub delimited_of : List ℕ → Option Characters
+abbrev pub delimited_of : List ℕ → Option DisText
 delimited_of [] = None
 delimited_of (delimiter ∷ text) = if may_enclose delimiter then delimited_at text (position (closes delimiter) text) else None
 
-unfoldable pub characters_of : Radix → List ℕ → Option Characters
-characters_of radix [] = None
-characters_of radix (character ∷ text) = if is_comma character then delimited_of text else counted_of radix (character ∷ text)
+unfoldable pub dis_text_of : Radix → List ℕ → Option DisText
+dis_text_of radix [] = None
+dis_text_of radix (character ∷ text) = if is_comma character then delimited_of text else counted_of radix (character ∷ text)
 
 -- ---- DATA: one or more items, a comma between two, a blank or nothing behind the last
 

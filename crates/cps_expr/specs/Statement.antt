@@ -1,7 +1,7 @@
 -- The statement table: what the operands of each operation give. From the manual's chapter on pseudo instructions;
 -- that the operands of ABS, PERIPH, ELSE, ENDIF, ENDD, ENDM, END and of the listing operations aren't read is our profile's.
-use Rattle.std.specs.Prelude.{ℕ, List, [], ◌∷◌, ◌++◌, Option, None, Some, option_map, option_and_then}
-use Rattle.std.specs.List.{flat_map}
+use Rattle.std.specs.Prelude.{ℕ, Bool, List, [], ◌∷◌, ◌++◌, map, Option, Some, option_map, option_and_then, option_to_list}
+use Rattle.std.specs.List.{flat_map, list_any}
 use Rattle.cps_text.specs.declared.name.Name.{Name}
 use Rattle.cps_text.specs.Name.{name_of}
 use Rattle.cps_text.specs.Operands.{operands_of}
@@ -9,14 +9,14 @@ use Rattle.cps_expr.specs.declared.machine.Machine.{Machine}
 use Rattle.cps_expr.specs.declared.operation.Operation.{Operation}
 use Rattle.cps_expr.specs.declared.operation.Operation.TheVariants.{Ident, Abs, Periph, Base, Equate, Set, Org, Use, Bss, Bssz, Con, Data, Vfd, Dis, Compare, If, Else, Endif, Dup, Endd, Macro, Endm, End, Listing}
 use Rattle.cps_expr.specs.declared.radix.Radix.{Radix}
-use Rattle.cps_expr.specs.declared.row.Characters.{Characters}
-use Rattle.cps_expr.specs.declared.row.Characters.TheVariants.{Counted, Delimited}
+use Rattle.cps_expr.specs.declared.row.DisText.{DisText}
+use Rattle.cps_expr.specs.declared.row.DisText.TheVariants.{Counted, Delimited}
 use Rattle.cps_expr.specs.declared.row.Row.{Row}
 use Rattle.cps_expr.specs.declared.row.Row.TheVariants as row
-use Rattle.cps_expr.specs.Expression.{Expression, expression_of, names_of}
+use Rattle.cps_expr.specs.Expression.{Expression, expression_of, has_counter, names_of}
 use Rattle.cps_expr.specs.Operation.{operation_named}
 use Rattle.cps_expr.specs.OperandList.{first_one, only_one, one_or_more}
-use Rattle.cps_expr.specs.Row.{radix_of, block_of, field_of, comparison_of, symbol_test_of, repetition_of, parameters_of, characters_of, words_of}
+use Rattle.cps_expr.specs.Row.{radix_of, block_of, field_of, comparison_of, symbol_test_of, repetition_of, parameters_of, dis_text_of, words_of}
 
 -- ---- the table
 
@@ -38,7 +38,7 @@ row_with Bssz tail machine radix = option_map row.Bssz (only_expression radix ta
 row_with Con tail machine radix = option_map row.Con (one_or_more (expression_of radix) (operands_of tail))
 row_with Data tail machine radix = option_map row.Data (words_of radix machine tail)
 row_with Vfd tail machine radix = option_map row.Vfd (one_or_more (field_of radix) (operands_of tail))
-row_with Dis tail machine radix = option_map row.Dis (characters_of radix tail)
+row_with Dis tail machine radix = option_map row.Dis (dis_text_of radix tail)
 row_with (Compare relation) tail machine radix = option_map row.Compare (comparison_of radix relation (operands_of tail))
 row_with If tail machine radix = option_map row.If (symbol_test_of radix (operands_of tail))
 row_with Else tail machine radix = Some row.Else
@@ -54,33 +54,48 @@ row_with Listing tail machine radix = Some row.Listing
 abbrev pub row_of : List ℕ → List ℕ → Machine → Radix → Option Row
 row_of operation tail machine radix = option_and_then (λ named. row_with named tail machine radix) (operation_named operation)
 
--- ---- the names of a row
+-- ---- the expressions of a row, its names, and whether `*` stands in it
 
--- the names of an expression that may be left out
-abbrev pub names_of_lines : Option Expression → List Name
-names_of_lines None = []
-names_of_lines (Some lines) = names_of lines
+-- the number of words of DIS
+abbrev pub count_in : DisText → List Expression
+count_in (Counted count text) = count ∷ []
+count_in (Delimited text) = []
 
-abbrev pub names_of_count : Characters → List Name
-names_of_count (Counted count text) = names_of count
-names_of_count (Delimited text) = []
+-- the expressions that are valued in the first pass
+abbrev pub now_expressions : Row → List Expression
+now_expressions (row.Equate value) = value ∷ []
+now_expressions (row.Set value) = value ∷ []
+now_expressions (row.Org address) = address ∷ []
+now_expressions (row.Bss words) = words ∷ []
+now_expressions (row.Bssz words) = words ∷ []
+now_expressions (row.Vfd fields) = map (λ field. field.width) fields
+now_expressions (row.Dis characters) = count_in characters
+now_expressions (row.Compare test) = test.left ∷ test.right ∷ option_to_list test.lines
+now_expressions (row.If test) = option_to_list test.lines
+now_expressions (row.Dup repetition) = repetition.count ∷ option_to_list repetition.lines
+now_expressions _ = []
 
--- the names that are read in the first pass
+-- those that are valued in the second pass
+abbrev pub later_expressions : Row → List Expression
+later_expressions (row.Con values) = values
+later_expressions (row.Vfd fields) = map (λ field. field.value) fields
+later_expressions _ = []
+
+-- the symbol of an IF, which is asked in the first pass
+abbrev pub tested_names : Row → List Name
+tested_names (row.If test) = test.symbol ∷ []
+tested_names _ = []
+
+-- the names that are read in the first pass, and those that are read in the second
 abbrev pub now_names : Row → List Name
-now_names (row.Equate value) = names_of value
-now_names (row.Set value) = names_of value
-now_names (row.Org address) = names_of address
-now_names (row.Bss words) = names_of words
-now_names (row.Bssz words) = names_of words
-now_names (row.Vfd fields) = flat_map (λ field. names_of field.width) fields
-now_names (row.Dis characters) = names_of_count characters
-now_names (row.Compare test) = names_of test.left ++ names_of test.right ++ names_of_lines test.lines
-now_names (row.If test) = test.symbol ∷ names_of_lines test.lines
-now_names (row.Dup repetition) = names_of repetition.count ++ names_of_lines repetition.lines
-now_names _ = []
+now_names r = tested_names r ++ flat_map names_of (now_expressions r)
 
--- the names that are read in the second pass
 abbrev pub later_names : Row → List Name
-later_names (row.Con values) = flat_map names_of values
-later_names (row.Vfd fields) = flat_map (λ field. names_of field.value) fields
-later_names _ = []
+later_names r = flat_map names_of (later_expressions r)
+
+-- whether `*` stands in an expression of the pass
+abbrev pub now_has_counter : Row → Bool
+now_has_counter r = list_any has_counter (now_expressions r)
+
+abbrev pub later_has_counter : Row → Bool
+later_has_counter r = list_any has_counter (later_expressions r)

@@ -1,10 +1,10 @@
--- The terms of an expression that are left to read.
+-- For the loop over terms, not part of what a reader believes: the terms of an expression that are left to read.
 use Rattle.std.specs.Prelude.{ℕ, Bool, List, [], Option, None, Some, if◌then◌else◌}
 use Rattle.cps_expr.specs.declared.radix.Radix.{Radix}
-use Rattle.cps_expr.specs.Expression.{Expression, onto_first, cut_at_signs, terms_of}
+use Rattle.cps_expr.specs.Expression.{Expression, minus, plus, onto_first, cut_at_signs, terms_of}
 
 abbrev pub sign_of : Bool → ℕ
-sign_of is_minus = if is_minus then 45 else 43
+sign_of is_minus = if is_minus then minus else plus
 
 -- the terms of a text whose first term's sign is known
 abbrev pub terms_left : Radix → Bool → List ℕ → Option Expression

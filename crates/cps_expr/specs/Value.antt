@@ -1,6 +1,6 @@
 -- What expressions give where names have values. From the manual's sections on expressions and on blocks;
 -- the ranges, and what has no value, are our profile's.
-use Rattle.std.specs.Prelude.{◌≡◌, ℕ, ◌-◌, ◌^◌, Bool, ◌==◌, nat_le, IsTrue, List, All, fold, ℤ, pos, nat_abs, ◌+ℤ◌, ◌-ℤ◌, ◌*ℤ◌, int_div, Option, None, Some, unwrap_or, option_and_then, is_none, if◌then◌else◌}
+use Rattle.std.specs.Prelude.{◌≡◌, ℕ, Bool, ◌==◌, nat_le, IsTrue, List, All, fold, ℤ, pos, nat_abs, ◌+ℤ◌, ◌-ℤ◌, ◌*ℤ◌, int_div, Option, None, Some, unwrap_or, option_and_then, is_none, if◌then◌else◌}
 use Rattle.std.specs.List.{list_any}
 use Rattle.std.specs.Cmp.Lexicographic.{pointwise}
 use Rattle.cps_text.specs.declared.name.Name.{Name}
@@ -9,6 +9,7 @@ use Rattle.cps_expr.specs.declared.term.Element.{Element}
 use Rattle.cps_expr.specs.declared.term.Element.TheVariants.{Number, Symbol, Counter}
 use Rattle.cps_expr.specs.declared.term.Operator.{Operator}
 use Rattle.cps_expr.specs.declared.term.Operator.TheVariants.{Times, Over}
+use Rattle.cps_expr.specs.Limits.{greatest_plain, greatest_offset}
 use Rattle.cps_expr.specs.Term.{Term}
 use Rattle.cps_expr.specs.Expression.{Expression, names_of}
 
@@ -18,10 +19,10 @@ Values = Name → Option Value
 
 -- ---- ranges
 
--- the greatest magnitude of a plain value, and of an offset in a block
+-- the greatest magnitude in a block, and in none
 abbrev pub greatest : Option Name → ℕ
-greatest None = 2 ^ 59 - 1
-greatest (Some block) = 2 ^ 58
+greatest None = greatest_plain
+greatest (Some block) = greatest_offset
 
 abbrev pub is_in_range : Value → Bool
 is_in_range value = nat_le (nat_abs value.offset) (greatest value.block)

@@ -1,4 +1,4 @@
--- The words that are left to come.
+-- For the loop over words, not part of what a reader believes: the words that are left to come.
 use Rattle.std.specs.Prelude.{ℕ, List, [], Option, None, Some}
 use Rattle.std.specs.Borrow.{Bor}
 

@@ -3,16 +3,16 @@ ghost use Rattle.std.specs.Prelude.{◌≡◌, ◌↔◌, ◌++◌, [], ◌∷�
 ghost use Rattle.std.specs.List.{list_any};
 ghost use Rattle.cps_text.specs.declared.name.Name.{Name};
 ghost use Rattle.cps_expr.specs.declared.value.Value.{Value};
-ghost use Rattle.cps_expr.specs.Expression.{Expression, expression_of, terms_in, names_of, has_counter};
+ghost use Rattle.cps_expr.specs.Expression.{Expression, expression_of, names_of, has_counter, terms_of, signed_texts};
 ghost use Rattle.cps_expr.specs.Grammar.{Writes};
 ghost use Rattle.cps_expr.specs.Term.{term_of};
 ghost use Rattle.cps_expr.specs.Value.{term_value, added, both, value_in, has_undefined, AgreeOn, IsInRange};
 
 use crate::names::Names;
 use crate::radix::Radix;
-use crate::reading::read_term;
 use crate::signs::{first_term, leading_sign};
 use crate::term::Term;
+use crate::term_text::read_term;
 use crate::value::Value;
 use cps_text::Name;
 use std::alloc::{AllocError, Global};
@@ -137,9 +137,9 @@ impl Expr {
 
 /// Reads the terms one after another, to the last one also where memory is refused.
 fn read_terms(alloc: Global, text: &[u8], radix: Radix) -> Result<Expr, ExprFault>
-    ensures expression { IfOk result (λ expression. terms_in radix text.now ≡ Some expression) }
-    ensures unreadable { IsErrOf result ExprFault.Unreadable ↔ (terms_in radix text.now ≡ None) }
-    ensures memory { IsErrOf result ExprFault.Memory → IsSome (terms_in radix text.now) }
+    ensures expression { IfOk result (λ expression. terms_of radix (signed_texts text.now) ≡ Some expression) }
+    ensures unreadable { IsErrOf result ExprFault.Unreadable ↔ (terms_of radix (signed_texts text.now) ≡ None) }
+    ensures memory { IsErrOf result ExprFault.Memory → IsSome (terms_of radix (signed_texts text.now)) }
 {
     let mut expression = Expr::new(alloc);
     let mut is_refused = false;

@@ -1,11 +1,13 @@
 //! Data items.
 ghost use Rattle.std.specs.Prelude.{◌≡◌, ◌^◌, ◌<◌, ◌≤◌, length, IfSome};
+ghost use Rattle.cps_text.specs.DataItem.{cp_characters};
 ghost use Rattle.cps_expr.specs.Item.{bits_of, characters_in_word, item_of};
 
 use crate::item_number::number_item;
 use crate::item_text::text_item;
 use crate::machine::Machine;
 use crate::radix::Radix;
+use cps_text::{CP_CHARACTERS, PP_CHARACTERS};
 
 /// The data item that a text begins with: its word, of 60 bits in the central processor and 12 in a peripheral one,
 /// and how many characters it takes.
@@ -24,11 +26,11 @@ pub fn read_item(text: &[u8], radix: Radix, machine: Machine) -> Option<(u64, us
 /// The most characters that a word has.
 fn characters(machine: Machine) -> usize
     ensures characters { result ≡ characters_in_word machine }
-    ensures few { result ≤ 10 }
+    ensures few { result ≤ cp_characters }
     ensures bits { 64 ^ result ≡ 2 ^ bits_of machine }
 {
     match machine {
-        Machine::Cp => 10,
-        Machine::Pp => 2,
+        Machine::Cp => CP_CHARACTERS,
+        Machine::Pp => PP_CHARACTERS,
     }
 }

@@ -1,7 +1,7 @@
 //! Data items that are numbers.
 ghost use Rattle.std.specs.Prelude.{◌≡◌, ◌+◌, ◌-◌, ◌^◌, ◌<◌, ◌≤◌, true, length, slice_index, codes, IfSome};
 ghost use Rattle.cps_text.specs.Text.{among};
-ghost use Rattle.cps_expr.specs.Item.{begins, bits_of, number_item, run_of, sign_len, signed_word};
+ghost use Rattle.cps_expr.specs.Item.{begins, bits_of, number_item, numeral_of, sign_len, signed_word};
 ghost use Rattle.cps_expr.specs.Number.{number_of};
 
 use crate::machine::Machine;
@@ -17,9 +17,9 @@ pub fn number_item(text: &[u8], radix: Radix, machine: Machine) -> Option<(u64, 
     ensures fits { IfSome result (λ item. item.0 < 2 ^ bits_of machine) }
 {
     let sign = sign_len(text);
-    let run = run_of(text);
-    let number = read_run(run, radix, machine)?;
-    Some((signed_word(machine, text, number), sign + run.len()))
+    let numeral = numeral_of(text);
+    let number = read_numeral(numeral, radix, machine)?;
+    Some((signed_word(machine, text, number), sign + numeral.len()))
 }
 
 fn sign_len(text: &[u8]) -> usize
@@ -33,25 +33,25 @@ fn sign_len(text: &[u8]) -> usize
 }
 
 /// The letters, digits and points behind the sign.
-fn run_of(text: &[u8]) -> &[u8]
-    ensures run { result.now ≡ run_of text.now }
+fn numeral_of(text: &[u8]) -> &[u8]
+    ensures numeral { result.now ≡ numeral_of text.now }
     ensures within { sign_len text.now + length result.now ≤ length text.now }
 {
     let (_, unsigned) = text.split_at(sign_len(text));
-    let (run, _) = unsigned.split_at(run_end(unsigned));
-    run
+    let (numeral, _) = unsigned.split_at(run_end(unsigned));
+    numeral
 }
 
-/// The number that a run writes, if it fits the word.
-fn read_run(run: &[u8], radix: Radix, machine: Machine) -> Option<u64>
-    ensures number { result ≡ number_of (2 ^ bits_of machine) radix run.now }
-    ensures some { IfSome result (λ number. 0 < length run.now) }
+/// The number that a numeral writes, if it fits the word.
+fn read_numeral(numeral: &[u8], radix: Radix, machine: Machine) -> Option<u64>
+    ensures number { result ≡ number_of (2 ^ bits_of machine) radix numeral.now }
+    ensures some { IfSome result (λ number. 0 < length numeral.now) }
     ensures fits { IfSome result (λ number. number < 2 ^ bits_of machine) }
 {
-    if run.is_empty() {
+    if numeral.is_empty() {
         return None;
     }
-    read_number(run, radix, ones(machine))
+    read_number(numeral, radix, ones(machine))
 }
 
 /// A word of ones.

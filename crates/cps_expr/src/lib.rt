@@ -1,8 +1,8 @@
 //! Expressions, data items and statements.
 #![tactic(auto)]
 
-mod characters;
 mod condition;
+mod dis_text;
 mod expr;
 mod field;
 mod item;
@@ -16,15 +16,16 @@ mod operation;
 mod packing;
 mod parameters;
 mod radix;
-mod reading;
 mod reads;
 mod row;
+mod row_counter;
 mod row_names;
 mod sequence;
 mod signs;
 mod statement;
 mod statement_table;
 mod term;
+mod term_text;
 mod text;
 mod value;
 mod words;
@@ -34,9 +35,10 @@ pub use item::read_item;
 pub use machine::Machine;
 pub use names::Names;
 pub use operation::{Operation, Relation};
+pub use packing::pack_characters;
 pub use radix::Radix;
-pub use row::{Block, Characters, Comparison, Field, Repetition, Row, SymbolTest};
+pub use row::{Block, Comparison, DisText, Field, Repetition, Row, SymbolTest};
 pub use sequence::Sequence;
 pub use signs::{leading_sign, sign_at};
 pub use statement::{Stmt, StmtFault};
-pub use value::Value;
+pub use value::{Value, is_same_name};

@@ -1,6 +1,7 @@
 //! Numbers of the language.
-ghost use Rattle.std.specs.Prelude.{◌≡◌, ◌+◌, ◌-◌, ◌*◌, ◌^◌, ◌<◌, ◌≤◌, true, false, IfSome, MatchOption, length, take, ◌⊎◌};
+ghost use Rattle.std.specs.Prelude.{◌≡◌, ◌+◌, ◌-◌, ◌^◌, ◌<◌, ◌≤◌, true, false, IfSome, MatchOption, length, take, ◌⊎◌};
 ghost use Rattle.cps_expr.specs.Number.{base_of, base_named, last, number_of, number_in};
+ghost use Rattle.cps_text.specs.Digits.{with_digit};
 ghost use Rattle.cps_text.specs.Text.{is_digit};
 
 use crate::radix::Radix;
@@ -84,8 +85,8 @@ fn with_digit(number: u64, digit: u8, base: u8, greatest: u64) -> Option<u64>
     requires greatest { greatest < 2 ^ 60 }
     requires small { number ≤ greatest }
     ensures { MatchOption result
-        ((is_digit base digit ≡ false) ⊎ (greatest < number * base + (digit - 48)))
-        (λ next. (is_digit base digit ≡ true) × (next ≡ number * base + (digit - 48)) × (next ≤ greatest)) }
+        ((is_digit base digit ≡ false) ⊎ (greatest < with_digit base number digit))
+        (λ next. (is_digit base digit ≡ true) × (next ≡ with_digit base number digit) × (next ≤ greatest)) }
 {
     if digit < b'0' || digit >= b'0' + base {
         return None;

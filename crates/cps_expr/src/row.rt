@@ -23,7 +23,7 @@ pub struct Field {
 
 /// What DIS writes.
 #[derive(Debug, Drop)]
-pub enum Characters {
+pub enum DisText {
     /// Characters for a number of words.
     Counted(Expr, Sequence<u8>),
     /// The characters between two delimiters.
@@ -75,7 +75,7 @@ pub enum Row {
     /// The words of the data items.
     Data(Sequence<u64>),
     Vfd(Sequence<Field>),
-    Dis(Characters),
+    Dis(DisText),
     Compare(Comparison),
     If(SymbolTest),
     Else,

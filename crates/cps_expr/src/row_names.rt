@@ -1,11 +1,11 @@
 //! The names of a row.
-ghost use Rattle.std.specs.Prelude.{◌≡◌, ◌++◌, ◌∷◌, [], OnOk};
+ghost use Rattle.std.specs.Prelude.{◌≡◌, ◌++◌, ◌∷◌, [], map, option_to_list, OnOk};
 ghost use Rattle.std.specs.List.{flat_map};
 ghost use Rattle.cps_expr.specs.Expression.{names_of};
-ghost use Rattle.cps_expr.specs.Statement.{names_of_lines, names_of_count, now_names, later_names};
+ghost use Rattle.cps_expr.specs.Statement.{count_in, now_names, later_names};
 
 use crate::expr::Expr;
-use crate::row::{Characters, Comparison, Field, Repetition, Row, SymbolTest};
+use crate::row::{Comparison, DisText, Field, Repetition, Row, SymbolTest};
 use cps_text::Name;
 use std::alloc::AllocError;
 
@@ -46,7 +46,7 @@ fn push_names(names: &mut Vec<Name>, expression: &Expr) -> Result<(), AllocError
 }
 
 fn push_lines(names: &mut Vec<Name>, lines: &Option<Expr>) -> Result<(), AllocError>
-    ensures { OnOk result (names.new.items ≡ names.old.items ++ names_of_lines lines.now) }
+    ensures { OnOk result (names.new.items ≡ names.old.items ++ flat_map names_of (option_to_list lines.now)) }
 {
     match lines {
         Some(lines) => push_names(names, lines),
@@ -54,18 +54,18 @@ fn push_lines(names: &mut Vec<Name>, lines: &Option<Expr>) -> Result<(), AllocEr
     }
 }
 
-fn push_count(names: &mut Vec<Name>, characters: &Characters) -> Result<(), AllocError>
-    ensures { OnOk result (names.new.items ≡ names.old.items ++ names_of_count characters.now) }
+fn push_count(names: &mut Vec<Name>, characters: &DisText) -> Result<(), AllocError>
+    ensures { OnOk result (names.new.items ≡ names.old.items ++ flat_map names_of (count_in characters.now)) }
 {
     match characters {
-        Characters::Counted(count, _) => push_names(names, count),
-        Characters::Delimited(_) => Ok(()),
+        DisText::Counted(count, _) => push_names(names, count),
+        DisText::Delimited(_) => Ok(()),
     }
 }
 
 fn push_comparison(names: &mut Vec<Name>, test: &Comparison) -> Result<(), AllocError>
     ensures { OnOk result (names.new.items ≡ names.old.items
-        ++ (names_of test.now.left ++ names_of test.now.right ++ names_of_lines test.now.lines)) }
+        ++ (names_of test.now.left ++ names_of test.now.right ++ flat_map names_of (option_to_list test.now.lines))) }
 {
     push_names(names, &test.left)?;
     push_names(names, &test.right)?;
@@ -73,7 +73,7 @@ fn push_comparison(names: &mut Vec<Name>, test: &Comparison) -> Result<(), Alloc
 }
 
 fn push_symbol_test(names: &mut Vec<Name>, test: &SymbolTest) -> Result<(), AllocError>
-    ensures { OnOk result (names.new.items ≡ names.old.items ++ test.now.symbol ∷ names_of_lines test.now.lines) }
+    ensures { OnOk result (names.new.items ≡ names.old.items ++ test.now.symbol ∷ flat_map names_of (option_to_list test.now.lines)) }
 {
     names.push(test.symbol)?;
     push_lines(names, &test.lines)
@@ -81,14 +81,14 @@ fn push_symbol_test(names: &mut Vec<Name>, test: &SymbolTest) -> Result<(), Allo
 
 fn push_repetition(names: &mut Vec<Name>, repetition: &Repetition) -> Result<(), AllocError>
     ensures { OnOk result (names.new.items ≡ names.old.items
-        ++ (names_of repetition.now.count ++ names_of_lines repetition.now.lines)) }
+        ++ (names_of repetition.now.count ++ flat_map names_of (option_to_list repetition.now.lines))) }
 {
     push_names(names, &repetition.count)?;
     push_lines(names, &repetition.lines)
 }
 
 fn push_widths(names: &mut Vec<Name>, fields: &[Field]) -> Result<(), AllocError>
-    ensures { OnOk result (names.new.items ≡ names.old.items ++ flat_map (λ field. names_of field.width) fields.now) }
+    ensures { OnOk result (names.new.items ≡ names.old.items ++ flat_map names_of (map (λ field. field.width) fields.now)) }
 {
     for field in fields {
         push_names(names, &field.width)?;
@@ -97,7 +97,7 @@ fn push_widths(names: &mut Vec<Name>, fields: &[Field]) -> Result<(), AllocError
 }
 
 fn push_values(names: &mut Vec<Name>, fields: &[Field]) -> Result<(), AllocError>
-    ensures { OnOk result (names.new.items ≡ names.old.items ++ flat_map (λ field. names_of field.value) fields.now) }
+    ensures { OnOk result (names.new.items ≡ names.old.items ++ flat_map names_of (map (λ field. field.value) fields.now)) }
 {
     for field in fields {
         push_names(names, &field.value)?;

@@ -1,7 +1,8 @@
 //! A text cut into its signed terms.
 ghost use Rattle.std.specs.Prelude.{◌≡◌, ℕ, ◌<◌, ◌≤◌, Bool, true, false, List, [], ◌∷◌, length, slice_index, Option, ◌⊎◌, option_map, IfSome, MatchOption};
 ghost use Rattle.cps_expr.specs.declared.radix.Radix.{Radix};
-ghost use Rattle.cps_expr.specs.Expression.{is_sign, with_first_sign, with_term};
+ghost use Rattle.cps_expr.specs.OperandList.{with_first};
+ghost use Rattle.cps_expr.specs.Expression.{is_sign, with_first_sign};
 ghost use Rattle.cps_expr.specs.Term.{term_of};
 ghost use Rattle.cps_expr.specs.TermsLeft.{sign_of, terms_left, terms_behind};
 
@@ -19,7 +20,7 @@ pub fn leading_sign(text: &[u8]) -> (bool, &[u8])
 /// The text of the first term, and the next sign with what follows it.
 pub fn first_term(text: &[u8]) -> (&[u8], Option<(bool, &[u8])>)
     ensures terms { (radix : Radix) (is_minus : Bool) → terms_left radix is_minus text.now
-        ≡ with_term (term_of radix is_minus result.0.now) (terms_behind radix (option_map (λ rest. (rest.0, rest.1.now)) result.1)) }
+        ≡ with_first (term_of radix is_minus result.0.now) (terms_behind radix (option_map (λ rest. (rest.0, rest.1.now)) result.1)) }
     ensures shorter { IfSome result.1 (λ rest. length rest.1.now < length text.now) }
 {
     let (term, later) = text.split_at(sign_at(text));

@@ -1,13 +1,15 @@
 //! Statements.
 ghost use Rattle.std.specs.Prelude.{◌≡◌, ◌↔◌, Some, None, IfOk, IsErrOf, IsSome};
+ghost use Rattle.cps_expr.specs.Bounds.{IsBounded};
 ghost use Rattle.cps_expr.specs.Operation.{operation_named};
-ghost use Rattle.cps_expr.specs.Statement.{row_of, now_names, later_names};
+ghost use Rattle.cps_expr.specs.Statement.{row_of, now_names, later_names, now_has_counter, later_has_counter};
 
 use crate::expr::ExprFault;
 use crate::machine::Machine;
 use crate::operation::Operation;
 use crate::radix::Radix;
 use crate::row::Row;
+use crate::row_counter::{has_counter_later, has_counter_now};
 use crate::row_names::{push_later, push_now};
 use crate::statement_table::read_row;
 use cps_text::Name;
@@ -64,6 +66,7 @@ impl Stmt {
         ensures unreadable { IsErrOf result StmtFault.Unreadable
             ↔ (IsSome (operation_named operation.now) × (row_of operation.now tail.now machine radix ≡ None)) }
         ensures memory { IsErrOf result StmtFault.Memory → IsSome (row_of operation.now tail.now machine radix) }
+        ensures bounded { IfOk result (λ statement. IsBounded machine statement) }
     {
         let Some(operation) = Operation::named(operation) else {
             return Err(StmtFault::NoOperation);
@@ -97,6 +100,20 @@ impl Stmt {
         ensures { result.now ≡ later_names self.now }
     {
         self.second_pass.as_slice()
+    }
+
+    /// Whether `*` stands in an expression that is valued in the first pass.
+    pub fn has_counter_now(&self) -> bool
+        ensures { result ≡ now_has_counter self.now }
+    {
+        has_counter_now(&self.row)
+    }
+
+    /// Whether `*` stands in an expression that is valued in the second pass.
+    pub fn has_counter_later(&self) -> bool
+        ensures { result ≡ later_has_counter self.now }
+    {
+        has_counter_later(&self.row)
     }
 }
 

@@ -3,8 +3,8 @@ ghost use Rattle.std.specs.Prelude.{◌≡◌, Option};
 ghost use Rattle.cps_expr.specs.Reads.{Reads};
 ghost use Rattle.cps_expr.specs.Statement.{row_with};
 
-use crate::characters::read_characters;
 use crate::condition::{read_comparison, read_repetition, read_symbol_test};
+use crate::dis_text::read_dis_text;
 use crate::expr::ExprFault;
 use crate::machine::Machine;
 use crate::named_operand::{read_base, read_block, read_program};
@@ -40,7 +40,7 @@ pub(crate) fn read_row(
         Operation::Con => Row::Con(read_some(alloc, tail, radix)?),
         Operation::Data => Row::Data(read_words(alloc, tail, radix, machine)?),
         Operation::Vfd => Row::Vfd(read_some(alloc, tail, radix)?),
-        Operation::Dis => Row::Dis(read_characters(alloc, tail, radix)?),
+        Operation::Dis => Row::Dis(read_dis_text(alloc, tail, radix)?),
         Operation::Compare(relation) => {
             Row::Compare(read_comparison(alloc, tail, radix, relation)?)
         }

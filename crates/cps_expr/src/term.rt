@@ -1,11 +1,11 @@
 //! Terms of an expression.
-ghost use Rattle.std.specs.Prelude.{◌≡◌, ◌++◌, pos, option_to_list, fold, IfOk, IfSome};
+ghost use Rattle.std.specs.Prelude.{◌≡◌, ◌++◌, map, pos, option_to_list, fold, IfOk, IfSome};
 ghost use Rattle.std.specs.List.{list_any};
 ghost use Rattle.cps_expr.specs.Term.{name_in, is_counter, term_names, term_has_counter};
 ghost use Rattle.cps_expr.specs.Value.{IsInRange, element_value, multiplied, added, both, term_value, limited, plain};
 
 use crate::names::Names;
-use crate::value::{GREATEST, Value, added, limited, multiplied};
+use crate::value::{GREATEST_PLAIN, Value, added, limited, multiplied};
 use cps_text::Name;
 use std::alloc::{AllocError, Global};
 use std::marker::Model;
@@ -123,9 +123,14 @@ fn is_counter(element: Element) -> bool
 }
 
 fn any_counter(factors: &[Factor]) -> bool
-    ensures { result ≡ list_any (λ factor. is_counter factor.element) factors.now }
+    ensures { result ≡ list_any is_counter (map (λ factor. factor.element) factors.now) }
 {
-    factors.iter().any(|factor| is_counter(factor.element))
+    for factor in factors {
+        if is_counter(factor.element) {
+            return true;
+        }
+    }
+    false
 }
 
 /// What an element stands for; an undefined name counts as plain 0.
@@ -142,7 +147,7 @@ fn element_value<N: Names>(element: Element, names: &N, here: Value) -> Option<V
 fn number_value(number: u64) -> Option<Value>
     ensures { result ≡ limited (plain (pos number)) }
 {
-    if number > GREATEST {
+    if number > GREATEST_PLAIN {
         return None;
     }
     limited(Value::plain(number as i64))

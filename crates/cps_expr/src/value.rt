@@ -8,7 +8,7 @@ use crate::term::Operator;
 use cps_text::Name;
 
 /// The greatest magnitude of a plain value.
-pub(crate) const GREATEST: u64 = (1 << 59) - 1;
+pub(crate) const GREATEST_PLAIN: u64 = (1 << 59) - 1;
 
 /// The greatest magnitude of an offset in a block.
 const GREATEST_OFFSET: u64 = 1 << 58;
@@ -62,7 +62,7 @@ fn greatest(block: Option<Name>) -> u64
     ensures { result ≡ greatest block }
 {
     match block {
-        None => GREATEST,
+        None => GREATEST_PLAIN,
         Some(_) => GREATEST_OFFSET,
     }
 }
@@ -166,7 +166,8 @@ fn block_of_product(left: Option<Name>, right: Option<Name>) -> Option<Option<Na
     }
 }
 
-fn is_same_name(left: Name, right: Name) -> bool
+/// Whether two names are one.
+pub fn is_same_name(left: Name, right: Name) -> bool
     ensures { result ≡ same_name left right }
 {
     left == right

@@ -1,12 +1,11 @@
 //! Values in pass one, in which a name counts if it was defined before.
 ghost use Rattle.std.specs.Prelude.{◌≡◌, IfOk};
-ghost use Rattle.cps_expr.specs.Value.{same_name};
 ghost use Rattle.cps_state.specs.Course.{Hands};
 ghost use Rattle.cps_pass.specs.ValueNow as now;
 ghost use Rattle.cps_pass.specs.NamesNow.{values_in, name_now};
 
 use crate::places::here_at;
-use cps_expr::{Expr, Names, Value};
+use cps_expr::{Expr, Names, Value, is_same_name};
 use cps_state::{Key, Lookup, Recorder, WORD, place_of, value_of};
 use cps_text::Name;
 use std::alloc::{AllocError, Global};
@@ -142,11 +141,4 @@ fn name_now<L: Lookup>(
         name: *name,
         value: value_of(answer.as_ref()),
     })
-}
-
-/// Whether two names are one.
-fn is_same_name(a: Name, b: Name) -> bool
-    ensures { result ≡ same_name a b }
-{
-    a == b
 }

@@ -1,11 +1,10 @@
 //! Keys of the state of an assembly, and their answers.
 ghost use Rattle.std.specs.Prelude.{◌≡◌};
 ghost use Rattle.std.specs.Option.{option_copied};
-ghost use Rattle.cps_expr.specs.Value.{same_name};
 ghost use Rattle.cps_state.specs.Keys.{same_block, same_key};
 
 use cps_code::Place;
-use cps_expr::{Radix, Value};
+use cps_expr::{Radix, Value, is_same_name};
 use cps_text::Name;
 
 /// A part of the state of an assembly.
@@ -113,10 +112,4 @@ pub fn is_same_block(a: Option<Name>, b: Option<Name>) -> bool
         (Some(a), Some(b)) => is_same_name(a, b),
         _ => false,
     }
-}
-
-fn is_same_name(a: Name, b: Name) -> bool
-    ensures { result ≡ same_name a b }
-{
-    a == b
 }

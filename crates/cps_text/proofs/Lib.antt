@@ -1,5 +1,7 @@
 pub mod ArgumentLemmas
 pub mod CardLemmas
+pub mod DigitsLemmas
+pub mod ItemReading
 pub mod NameLemmas
 pub mod OctalLemmas
 pub mod PartLemmas

@@ -2,7 +2,7 @@
 use Rattle.std.specs.Prelude.{◌≡◌, ℕ, true, false, List, [], ◌∷◌, ◌++◌, drop, codes, None, Some, option_map, refl}
 use Rattle.cps_text.specs.Arguments.{has_unclosed, arguments_of}
 use Rattle.cps_text.specs.Card.{CommentLine, ContinuedLine, StatementLine, fields_of}
-use Rattle.cps_text.specs.DataItem.{item_extent}
+use Rattle.cps_text.specs.ItemInFront.{item_in_front, item_len}
 use Rattle.cps_text.specs.Display.{display_characters, display_of}
 use Rattle.cps_text.specs.Insertion.{Pairs, inserted}
 use Rattle.cps_text.specs.Name.{name_of, name_text}
@@ -78,48 +78,48 @@ star = refl
 empty_line : fields_of [] ≡ CommentLine
 empty_line = refl
 
-counted_item : item_extent 10 (codes "3HA B,C") ≡ 5
-unfolding display_characters
+counted_item : item_len 10 (codes "3HA B,C") ≡ 5
+unfolding display_characters item_in_front
 counted_item = refl
 
-leading_zero : item_extent 10 (codes "03labc,") ≡ 6
-unfolding display_characters
+leading_zero : item_len 10 (codes "03labc,") ≡ 6
+unfolding display_characters item_in_front
 leading_zero = refl
 
-ended_item : item_extent 10 (codes "10RABC") ≡ 6
-unfolding display_characters
+ended_item : item_len 10 (codes "10RABC") ≡ 6
+unfolding display_characters item_in_front
 ended_item = refl
 
-too_many : item_extent 10 (codes "11RABC") ≡ 0
-unfolding display_characters
+too_many : item_len 10 (codes "11RABC") ≡ 0
+unfolding display_characters item_in_front
 too_many = refl
 
-delimited_item : item_extent 10 (codes "L*A, B*+1") ≡ 7
-unfolding display_characters
+delimited_item : item_len 10 (codes "L*A, B*+1") ≡ 7
+unfolding display_characters item_in_front
 delimited_item = refl
 
-nothing_between : item_extent 10 (codes "L**") ≡ 0
-unfolding display_characters
+nothing_between : item_len 10 (codes "L**") ≡ 0
+unfolding display_characters item_in_front
 nothing_between = refl
 
-unclosed_item : item_extent 10 (codes "L*AB") ≡ 0
-unfolding display_characters
+unclosed_item : item_len 10 (codes "L*AB") ≡ 0
+unfolding display_characters item_in_front
 unclosed_item = refl
 
-letter_between : item_extent 10 (codes "LXABX") ≡ 0
-unfolding display_characters
+letter_between : item_len 10 (codes "LXABX") ≡ 0
+unfolding display_characters item_in_front
 letter_between = refl
 
-two_characters : item_extent 2 (codes "2LABC") ≡ 4
-unfolding display_characters
+two_characters : item_len 2 (codes "2LABC") ≡ 4
+unfolding display_characters item_in_front
 two_characters = refl
 
-three_characters : item_extent 2 (codes "3LABC") ≡ 0
-unfolding display_characters
+three_characters : item_len 2 (codes "3LABC") ≡ 0
+unfolding display_characters item_in_front
 three_characters = refl
 
-no_code : item_extent 10 (codes "2LA~") ≡ 0
-unfolding display_characters
+no_code : item_len 10 (codes "2LA~") ≡ 0
+unfolding display_characters item_in_front
 no_code = refl
 
 three_operands : operands_of (codes "A,,B C,D") ≡ codes "A" ∷ [] ∷ codes "B" ∷ []
@@ -135,7 +135,7 @@ unfolding display_characters parts_from parts_up_to
 no_operands = refl
 
 comma_in_item : operands_of (codes "B1,=3LA, +1,X") ≡ codes "B1" ∷ codes "=3LA, +1" ∷ codes "X" ∷ []
-unfolding display_characters parts_from parts_up_to
+unfolding display_characters item_in_front parts_from parts_up_to
 comma_in_item = refl
 
 item_not_first : operands_of (codes "A=3LB,C") ≡ codes "A=3LB" ∷ codes "C" ∷ []

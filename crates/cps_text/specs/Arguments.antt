@@ -1,11 +1,17 @@
 -- The arguments of a macro's call. From the manual's section on macro calls.
-use Rattle.std.specs.Prelude.{ℕ, ◌+◌, ◌-◌, Bool, ◌&&◌, ◌==◌, nat_lt, List, [], ◌∷◌, length, take, drop, map, fold, if◌then◌else◌}
+use Rattle.std.specs.Prelude.{ℕ, ◌+◌, ◌-◌, Bool, ◌&&◌, ◌==◌, nat_lt, List, [], ◌∷◌, length, take, drop, slice_index, codes, map, fold, if◌then◌else◌}
 use Rattle.std.specs.List.{list_all, list_any, position_or_len, zip}
 use Rattle.cps_text.specs.Parts.{ends_part, parts_of}
 
+abbrev pub opening_parenthesis : ℕ
+opening_parenthesis = slice_index (codes "(") 0
+
+abbrev pub closing_parenthesis : ℕ
+closing_parenthesis = slice_index (codes ")") 0
+
 -- how many parentheses are open behind a character; a `)` without an open `(` is text
 abbrev pub depth_behind : ℕ → ℕ → ℕ
-depth_behind depth character = if character == 40 then depth + 1 else (if character == 41 then depth - 1 else depth)
+depth_behind depth character = if character == opening_parenthesis then depth + 1 else (if character == closing_parenthesis then depth - 1 else depth)
 
 abbrev pub depth_of : List ℕ → ℕ
 depth_of text = fold depth_behind 0 text

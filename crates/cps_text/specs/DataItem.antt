@@ -1,61 +1,61 @@
--- How far a data item of characters reaches. From the manual's section on character data. A word of the central processor has at most 10 characters, one of a peripheral processor at most 2.
--- An item is a count, a letter that names the side, and so many characters; or that letter, a delimiter, as many characters as a word may have, and the delimiter again.
-use Rattle.std.specs.Prelude.{ℕ, ◌+◌, ◌-◌, ◌*◌, min, Bool, not, ◌&&◌, ◌||◌, ◌==◌, nat_le, List, [], ◌∷◌, length, take, drop, slice_index, fold, codes, Option, None, Some, unwrap_or, if◌then◌else◌}
-use Rattle.std.specs.List.{list_all, position, position_or_len, before_first}
+-- Data items of characters: the rule. `ItemInFront.antt` computes the same. From the manual's section on character data; the limits are our profile's.
+use Rattle.std.specs.Prelude.{◌≡◌, ◌⊎◌, ℕ, ◌≤◌, ◌<◌, Bool, IsTrue, not, ◌&&◌, ◌||◌, ◌==◌, List, [], ◌∷◌, ◌++◌, length, codes, Option, None, Some, if◌then◌else◌}
+use Rattle.std.specs.List.{list_all}
+use Rattle.cps_text.specs.declared.data_item.Side.{Side}
+use Rattle.cps_text.specs.declared.data_item.Side.TheVariants.{Left, Right, LeftWithBlanks}
+use Rattle.cps_text.specs.Digits.{digits_number}
 use Rattle.cps_text.specs.Display.{has_display}
 use Rattle.cps_text.specs.Text.{among, capital, is_digit, is_letter}
 
--- the letters that name the side, in capitals or not
-abbrev pub is_side : ℕ → Bool
-is_side character = among (codes "LRH") (capital character)
+-- the most characters of an item for the central processor, and for a peripheral one
+abbrev pub cp_characters : ℕ
+cp_characters = 10
 
--- an item has at least one character, and at most so many
-abbrev pub is_count : ℕ → ℕ → Bool
-is_count most number = nat_le 1 number && nat_le number most
+abbrev pub pp_characters : ℕ
+pp_characters = 2
 
-abbrev pub is_no_digit : ℕ → Bool
-is_no_digit character = not (is_digit 10 character)
+-- an item: the side of the word, how many characters it stands for, those that are there, and the text behind the item
+pub record ItemParts : Type 0 where
+  pub side : Side
+  pub count : ℕ
+  pub characters : List ℕ
+  pub rest : List ℕ
 
--- the number that decimal digits make
-abbrev pub decimal : List ℕ → ℕ
-decimal digits = fold (λ number digit. number * 10 + (digit - 48)) 0 digits
+-- the side that a letter names, in capitals or not
+abbrev pub side_named : ℕ → Option Side
+side_named letter =
+    if among (codes "L") (capital letter) then Some Left
+    else (if among (codes "R") (capital letter) then Some Right
+    else (if among (codes "H") (capital letter) then Some LeftWithBlanks else None))
 
--- the digits in front
-abbrev pub digits_len : List ℕ → ℕ
-digits_len text = position_or_len is_no_digit text
+-- a count, the side's letter, and so many characters, fewer only where the text ends; blanks stand for those past its end
+pub record IsCounted (text : List ℕ) (item : ItemParts) : Type 0 where
+  pub digits : List ℕ
+  pub letter : ℕ
+  pub parts : text ≡ digits ++ letter ∷ (item.characters ++ item.rest)
+  pub decimal : IsTrue (list_all (is_digit 10) digits)
+  pub count : digits_number 10 digits ≡ item.count
+  pub side : side_named letter ≡ Some item.side
+  pub characters : length item.characters ≤ item.count
+  pub fewer : length item.characters < item.count → item.rest ≡ []
 
-abbrev pub count_of : List ℕ → ℕ
-count_of text = decimal (before_first is_no_digit text)
-
--- a count, the letter, and so many characters, fewer where the text ends
-abbrev pub counted_extent : ℕ → List ℕ → Option ℕ
-counted_extent most text =
-    if is_count most (count_of text) && is_side (slice_index (drop (digits_len text) text) 0)
-    then Some (min (digits_len text + 1 + count_of text) (length text)) else None
-
--- no letter, digit, blank or comma
+-- what may stand before and behind the characters: no letter, digit, blank or comma
 abbrev pub is_delimiter : ℕ → Bool
-is_delimiter character = not (is_letter (capital character) || (is_digit 10 character || among (codes " ,") character))
+is_delimiter character = has_display character && not (is_letter (capital character) || (is_digit 10 character || among (codes " ,") character))
 
--- the letter, the delimiter, the characters up to the next one, and that one
-abbrev pub extent_around : ℕ → Option ℕ → Option ℕ
-extent_around most None = None
-extent_around most (Some between) = if is_count most between then Some (between + 3) else None
+-- the side's letter, a delimiter, characters of which none is the delimiter, and the delimiter again
+pub record IsDelimited (text : List ℕ) (item : ItemParts) : Type 0 where
+  pub letter : ℕ
+  pub delimiter : ℕ
+  pub parts : text ≡ letter ∷ delimiter ∷ (item.characters ++ delimiter ∷ item.rest)
+  pub side : side_named letter ≡ Some item.side
+  pub delimits : IsTrue (is_delimiter delimiter)
+  pub between : IsTrue (list_all (λ c. not (c == delimiter)) item.characters)
+  pub count : item.count ≡ length item.characters
 
-abbrev pub extent_between : ℕ → ℕ → List ℕ → Option ℕ
-extent_between most delimiter text = extent_around most (position (λ c. c == delimiter) text)
-
-abbrev pub extent_behind : ℕ → List ℕ → Option ℕ
-extent_behind most [] = None
-extent_behind most (delimiter ∷ text) = if is_delimiter delimiter then extent_between most delimiter text else None
-
-abbrev pub delimited_extent : ℕ → List ℕ → Option ℕ
-delimited_extent most [] = None
-delimited_extent most (side ∷ text) = if is_side side then extent_behind most text else None
-
-abbrev pub written_extent : ℕ → List ℕ → ℕ
-written_extent most text = unwrap_or (counted_extent most text) (unwrap_or (delimited_extent most text) 0)
-
--- how many characters an item in front of a text has, 0 where none stands there; each of them has a display code
-abbrev pub item_extent : ℕ → List ℕ → ℕ
-item_extent most text = if list_all has_display (take (written_extent most text) text) then written_extent most text else 0
+-- a text begins with an item that has one character or more, and at most so many; each has a display code
+pub record BeginsWithItem (most : ℕ) (text : List ℕ) (item : ItemParts) : Type 0 where
+  pub written : IsCounted text item ⊎ IsDelimited text item
+  pub some : 1 ≤ item.count
+  pub few : item.count ≤ most
+  pub displayed : IsTrue (list_all has_display item.characters)

@@ -1,5 +1,5 @@
 -- The text that a line of a macro's body gives. From the manual's sections on macro definitions and on the concatenation mark.
-use Rattle.std.specs.Prelude.{ℕ, Bool, not, ◌||◌, ◌==◌, List, map, filter, codes, Option, option_map, unwrap_or, if◌then◌else◌}
+use Rattle.std.specs.Prelude.{ℕ, Bool, not, ◌||◌, List, map, filter, codes, Option, option_map, unwrap_or, if◌then◌else◌}
 use Rattle.std.specs.Borrow.{Bor}
 use Rattle.std.specs.List.{find, flat_map}
 use Rattle.std.specs.Str.{bytes_eq}
@@ -29,7 +29,7 @@ text_for pairs run = option_map (λ pair. pair.1) (find (λ pair. is_named run p
 
 -- the mark that joins what stands before and behind it
 abbrev pub is_mark : ℕ → Bool
-is_mark character = character == 95
+is_mark = among (codes "_")
 
 abbrev pub without_marks : List ℕ → List ℕ
 without_marks text = filter (λ c. not (is_mark c)) text

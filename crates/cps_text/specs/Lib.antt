@@ -3,10 +3,12 @@ pub mod Card
 pub mod CardFields
 pub mod Columns
 pub mod Counted
-pub mod CountedExtent
 pub mod DataItem
+pub mod Digits
 pub mod Display
 pub mod Insertion
+pub mod ItemInFront
+pub mod ItemValue
 pub mod Line
 pub mod Name
 pub mod Octal

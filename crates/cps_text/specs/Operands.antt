@@ -1,13 +1,15 @@
 -- The operands of a statement. From the manual's sections on the statement format and on literals.
-use Rattle.std.specs.Prelude.{ℕ, ◌+◌, ◌==◌, List, [], ◌∷◌, drop, if◌then◌else◌}
+use Rattle.std.specs.Prelude.{ℕ, ◌+◌, List, [], ◌∷◌, drop, codes, if◌then◌else◌}
 use Rattle.std.specs.List.{position_or_len}
-use Rattle.cps_text.specs.DataItem.{item_extent}
+use Rattle.cps_text.specs.DataItem.{cp_characters}
+use Rattle.cps_text.specs.ItemInFront.{item_len}
 use Rattle.cps_text.specs.Parts.{ends_part, parts_of}
+use Rattle.cps_text.specs.Text.{among}
 
 -- commas and blanks of a data item behind the `=` that begins an operand don't count; it is one by the central processor's limit in every program
 abbrev pub literal_len : List ℕ → ℕ
 literal_len [] = 0
-literal_len (character ∷ text) = if character == 61 then item_extent 10 text + 1 else 0
+literal_len (character ∷ text) = if among (codes "=") character then item_len cp_characters text + 1 else 0
 
 -- an operand ends before the next comma or blank
 abbrev pub operand_len : List ℕ → ℕ

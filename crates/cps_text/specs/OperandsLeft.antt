@@ -1,4 +1,4 @@
--- The operands that are left to come.
+-- For the loops over operands, not part of what a reader believes: the operands that are left to come.
 use Rattle.std.specs.Prelude.{ℕ, List}
 use Rattle.cps_text.specs.declared.operand_list.Operands.{Operands}
 use Rattle.cps_text.specs.Operands.{operand_len}

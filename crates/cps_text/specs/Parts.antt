@@ -1,5 +1,5 @@
 -- The parts of a text that commas separate. How long the first part of a text is, `len` says: commas further in front don't count.
-use Rattle.std.specs.Prelude.{ℕ, zero, suc, Bool, true, ◌==◌, List, [], ◌∷◌, ◌++◌, length, take, drop, codes, Option, None, Some, if◌then◌else◌}
+use Rattle.std.specs.Prelude.{ℕ, zero, suc, Bool, true, ◌==◌, List, [], ◌∷◌, ◌++◌, length, take, drop, slice_index, codes, Option, None, Some, if◌then◌else◌}
 use Rattle.std.specs.List.{flat_map}
 use Rattle.std.specs.Option.{option_map_or}
 use Rattle.cps_text.specs.Text.{among, is_blank}
@@ -8,6 +8,9 @@ use Rattle.cps_text.specs.Text.{among, is_blank}
 abbrev pub begins_blank : List ℕ → Bool
 begins_blank [] = true
 begins_blank (character ∷ text) = is_blank character
+
+abbrev pub comma : ℕ
+comma = slice_index (codes ",") 0
 
 -- a comma or a blank ends a part
 abbrev pub ends_part : ℕ → Bool
@@ -19,7 +22,7 @@ first_part len text = take (len text) text
 -- what stands behind a comma in front
 abbrev pub behind_comma : List ℕ → Option (List ℕ)
 behind_comma [] = None
-behind_comma (character ∷ text) = if character == 44 then Some text else None
+behind_comma (character ∷ text) = if character == comma then Some text else None
 
 abbrev pub behind_first : (List ℕ → ℕ) → List ℕ → Option (List ℕ)
 behind_first len text = behind_comma (drop (len text) text)
@@ -39,4 +42,4 @@ parts_of len tail = if begins_blank tail then [] else parts_from len tail
 -- parts with a comma between each two
 abbrev pub with_commas : List (List ℕ) → List ℕ
 with_commas [] = []
-with_commas (part ∷ parts) = part ++ flat_map (λ next. 44 ∷ next) parts
+with_commas (part ∷ parts) = part ++ flat_map (λ next. comma ∷ next) parts

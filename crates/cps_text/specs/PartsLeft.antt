@@ -1,4 +1,4 @@
--- The parts that are left to come.
+-- For the loops over parts, not part of what a reader believes: the parts that are left to come.
 use Rattle.std.specs.Prelude.{ℕ, List, [], Option}
 use Rattle.std.specs.Borrow.{Bor}
 use Rattle.std.specs.Option.{option_map_or}

@@ -22,7 +22,7 @@ pub use argument_list::{ArgFault, arguments};
 pub use card::{Fields, StatementFields, read_fields};
 pub use character::{capital, display};
 pub use counted::Counted;
-pub use data_item::{capped_count, digits_len, item_extent};
+pub use data_item::{CP_CHARACTERS, PP_CHARACTERS, Side, TextItem};
 pub use insertion::insert_text;
 pub use line::{Line, LineFault};
 pub use name::Name;

@@ -1,10 +1,12 @@
 //! The first operand of a text.
 ghost use Rattle.std.specs.Prelude.{◌≡◌, ◌≤◌, ◌<◌, length, IfSome};
 ghost use Rattle.std.specs.List.{position, position_or_len};
+ghost use Rattle.cps_text.specs.DataItem.{cp_characters};
+ghost use Rattle.cps_text.specs.ItemInFront.{item_len};
 ghost use Rattle.cps_text.specs.Operands.{literal_len, operand_len};
 ghost use Rattle.cps_text.specs.Parts.{ends_part};
 
-use crate::data_item::{LONGEST_ITEM, item_extent};
+use crate::data_item::{CP_CHARACTERS, TextItem};
 use crate::places::from;
 
 /// How many characters the first operand has.
@@ -22,8 +24,20 @@ fn literal_len(text: &[u8]) -> usize
     ensures within { result ≤ length text.now }
 {
     match text {
-        [b'=', item @ ..] => item_extent(item, LONGEST_ITEM) + 1,
+        [b'=', item @ ..] => item_len(item) + 1,
         _ => 0,
+    }
+}
+
+/// How many characters the item in front takes.
+#[tactic(auto, unfolding(crate::specs::ItemInFront::item_in_front))]
+fn item_len(text: &[u8]) -> usize
+    ensures len { result ≡ item_len cp_characters text.now }
+    ensures within { result ≤ length text.now }
+{
+    match TextItem::read(text, CP_CHARACTERS) {
+        Some(item) => text.len() - item.rest.len(),
+        None => 0,
     }
 }
 

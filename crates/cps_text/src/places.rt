@@ -1,5 +1,5 @@
 //! Where blanks and other characters stand in a text.
-ghost use Rattle.std.specs.Prelude.{◌≡◌, ◌+◌, ◌^◌, ◌≤◌, ◌<◌, length, drop, IfSome};
+ghost use Rattle.std.specs.Prelude.{◌≡◌, ◌+◌, ◌^◌, ◌≤◌, ◌<◌, length, take, drop, IfSome};
 ghost use Rattle.std.specs.List.{before_first, position, position_or_len};
 ghost use Rattle.cps_text.specs.Card.{filled_from, blank_from, field_at};
 ghost use Rattle.cps_text.specs.Text.{is_blank, is_filled};
@@ -46,6 +46,17 @@ pub fn from(text: &[u8], at: usize) -> &[u8]
     }
     let (_, rest) = text.split_at(at);
     rest
+}
+
+/// What stands before a column.
+pub fn up_to(text: &[u8], at: usize) -> &[u8]
+    ensures { result.now ≡ take at text.now }
+{
+    if text.len() < at {
+        return text;
+    }
+    let (front, _) = text.split_at(at);
+    front
 }
 
 /// Where the first character stands that isn't blank, or the length.

@@ -1,7 +1,7 @@
 use Rattle.std.proofs.Common.{◌≡◌, ◌≤◌, true, take}
 use Rattle.std.specs.List.{list_all}
 use Rattle.cps_text.specs.Text.{is_digit}
-use Rattle.cps_expr.specs.Number.{digits_number}
+use Rattle.cps_text.specs.Digits.{digits_number}
 use Rattle.cps_expr.proofs.number.number_in_base.Given as goal
 
 abbrev pub invariant-loop-digit : goal.invariant-loop-digit

@@ -1,4 +1,4 @@
-use Rattle.cps_text.specs.DataItem.{is_no_digit}
+use Rattle.cps_text.specs.ItemInFront.{is_no_digit}
 use Rattle.cps_text.proofs.PlaceLemmas.{position_or_len-none}
 use Rattle.cps_text.proofs.data_item.digits_len.Goals as goal
 

@@ -4,24 +4,20 @@ ghost use Rattle.std.specs.List.{list_all, position};
 ghost use Rattle.cps_text.specs.Display.{has_display};
 ghost use Rattle.cps_expr.specs.Expression.{Expression};
 ghost use Rattle.cps_expr.specs.Reads.{Reads};
-ghost use Rattle.cps_expr.specs.Row.{is_comma, displayed, counted_of, may_enclose, closes, delimited_at, delimited_of, characters_of};
+ghost use Rattle.cps_expr.specs.Row.{is_comma, displayed, counted_of, may_enclose, closes, delimited_at, delimited_of, dis_text_of};
 
 use crate::expr::{Expr, ExprFault};
 use crate::radix::Radix;
 use crate::reads::{paired, read_expression};
-use crate::row::Characters;
+use crate::row::DisText;
 use crate::sequence::Sequence;
 use cps_text::{capital, display};
 use std::alloc::Global;
 
 /// A number of words and characters, or characters between delimiters.
-#[tactic(auto, unfolding(crate::specs::Row::characters_of))]
-pub(crate) fn read_characters(
-    alloc: Global,
-    tail: &[u8],
-    radix: Radix,
-) -> Result<Characters, ExprFault>
-    ensures { Reads result (characters_of radix tail.now) }
+#[tactic(auto, unfolding(crate::specs::Row::dis_text_of))]
+pub(crate) fn read_dis_text(alloc: Global, tail: &[u8], radix: Radix) -> Result<DisText, ExprFault>
+    ensures { Reads result (dis_text_of radix tail.now) }
 {
     match tail {
         [] => Err(ExprFault::Unreadable),
@@ -30,7 +26,7 @@ pub(crate) fn read_characters(
     }
 }
 
-fn read_counted(alloc: Global, text: &[u8], radix: Radix) -> Result<Characters, ExprFault>
+fn read_counted(alloc: Global, text: &[u8], radix: Radix) -> Result<DisText, ExprFault>
     ensures { Reads result (counted_of radix text.now) }
 {
     let Some(at) = comma_at(text) else {
@@ -42,12 +38,12 @@ fn read_counted(alloc: Global, text: &[u8], radix: Radix) -> Result<Characters, 
     ))
 }
 
-fn counted(parts: Result<(Expr, Sequence<u8>), ExprFault>) -> Result<Characters, ExprFault>
+fn counted(parts: Result<(Expr, Sequence<u8>), ExprFault>) -> Result<DisText, ExprFault>
     ensures { (written : Option (Expression × List ℕ)) → Reads parts written
-        → Reads result (option_map (λ parts. Characters.Counted parts.0 parts.1) written) }
+        → Reads result (option_map (λ parts. DisText.Counted parts.0 parts.1) written) }
 {
     let (count, characters) = parts?;
-    Ok(Characters::Counted(count, characters))
+    Ok(DisText::Counted(count, characters))
 }
 
 fn comma_at(text: &[u8]) -> Option<usize>
@@ -57,7 +53,7 @@ fn comma_at(text: &[u8]) -> Option<usize>
     text.iter().position(|byte| *byte == b',')
 }
 
-fn read_delimited(alloc: Global, text: &[u8]) -> Result<Characters, ExprFault>
+fn read_delimited(alloc: Global, text: &[u8]) -> Result<DisText, ExprFault>
     ensures { Reads result (delimited_of text.now) }
 {
     match text {
@@ -67,14 +63,14 @@ fn read_delimited(alloc: Global, text: &[u8]) -> Result<Characters, ExprFault>
 }
 
 /// The characters before the next delimiter.
-fn read_up_to(alloc: Global, text: &[u8], delimiter: u8) -> Result<Characters, ExprFault>
+fn read_up_to(alloc: Global, text: &[u8], delimiter: u8) -> Result<DisText, ExprFault>
     ensures { Reads result (delimited_at text.now (position (closes delimiter) text.now)) }
 {
     let Some(at) = delimiter_at(text, delimiter) else {
         return Err(ExprFault::Unreadable);
     };
     let characters = read_displayed(alloc, &text[..at])?;
-    Ok(Characters::Delimited(characters))
+    Ok(DisText::Delimited(characters))
 }
 
 fn delimiter_at(text: &[u8], delimiter: u8) -> Option<usize>

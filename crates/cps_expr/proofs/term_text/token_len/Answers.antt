@@ -1,7 +1,7 @@
 use Rattle.std.proofs.Common.{◌≡◌, false, get_or, sym, ◌∙◌}
 use Rattle.cps_expr.specs.Term.{is_operator}
 use Rattle.cps_expr.proofs.TokenLemmas.{run-first}
-use Rattle.cps_expr.proofs.reading.token_len.Goals as goal
+use Rattle.cps_expr.proofs.term_text.token_len.Goals as goal
 
 pub returns-else-is_operator-clause-tokens : goal.returns-else-is_operator-clause-tokens
 returns-else-is_operator-clause-tokens c =

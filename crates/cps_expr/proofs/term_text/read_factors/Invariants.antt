@@ -2,7 +2,7 @@ use Rattle.std.proofs.Common.{◌≡◌, length}
 use Rattle.std.specs.Prelude.{is_none, IfSome}
 use Rattle.cps_expr.specs.Term.{tokens_of, factors_of}
 use Rattle.cps_expr.proofs.JoinLemmas.{joined}
-use Rattle.cps_expr.proofs.reading.read_factors.Given as goal
+use Rattle.cps_expr.proofs.term_text.read_factors.Given as goal
 
 abbrev pub invariant-loop-rest : goal.invariant-loop-rest
 invariant-loop-rest l = record {

@@ -3,7 +3,7 @@ use Rattle.std.specs.Prelude.{is_none}
 use Rattle.cps_expr.specs.Term.{tokens_of, factors_of}
 use Rattle.cps_expr.proofs.JoinLemmas.{joined, joined-none, joined-kept, readable-more, unreadable}
 use Rattle.cps_expr.proofs.FactorReading.{end-readable}
-use Rattle.cps_expr.proofs.reading.read_factors.Goals as goal
+use Rattle.cps_expr.proofs.term_text.read_factors.Goals as goal
 
 pub loop-rest-init : goal.loop-rest-init
 loop-rest-init c =

@@ -1,12 +1,13 @@
 //! Reading terms.
 ghost use Rattle.std.specs.Prelude.{◌≡◌, ◌↔◌, ℕ, ◌<◌, ◌≤◌, ◌++◌, ◌∷◌, [], Bool, true, false, Some, None, MatchOption, IfSome, IsSomeAnd, IfOk, IsErrOf, IsSome, length, take, drop, slice_index};
-ghost use Rattle.cps_expr.specs.Term.{is_operator, is_star, tokens_of, element_of, operator_of, factor_of, factors_of, with_factors, term_with, term_of};
+ghost use Rattle.cps_expr.specs.OperandList.{with_first};
+ghost use Rattle.cps_expr.specs.Term.{is_operator, is_star, tokens_of, element_of, operator_of, factor_of, factors_of, term_with, term_of};
 
 use crate::expr::ExprFault;
 use crate::number::read_number;
 use crate::radix::Radix;
 use crate::term::{Element, Factor, Operator, Term};
-use crate::value::GREATEST;
+use crate::value::GREATEST_PLAIN;
 use cps_text::Name;
 use std::alloc::Global;
 
@@ -78,7 +79,7 @@ fn first_factor(text: &[u8], radix: Radix) -> Option<(Factor, &[u8])>
     requires { 0 < length text.now }
     ensures { MatchOption result
         (factors_of radix (tokens_of text.now) ≡ None)
-        (λ parts. (factors_of radix (tokens_of text.now) ≡ with_factors (Some parts.0) (factors_of radix (tokens_of parts.1.now))) × (length parts.1.now < length text.now)) }
+        (λ parts. (factors_of radix (tokens_of text.now) ≡ with_first (Some parts.0) (factors_of radix (tokens_of parts.1.now))) × (length parts.1.now < length text.now)) }
 {
     let (operator, behind) = first_token(text)?;
     let (element, rest) = first_token(behind)?;
@@ -110,7 +111,7 @@ fn read_element(text: &[u8], radix: Radix) -> Option<Element>
     if is_star(text) {
         return Some(Element::Counter);
     }
-    match read_number(text, radix, GREATEST) {
+    match read_number(text, radix, GREATEST_PLAIN) {
         Some(number) => Some(Element::Number(number)),
         None => match Name::read(text) {
             Some(name) => Some(Element::Symbol(name)),
