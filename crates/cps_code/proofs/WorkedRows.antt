@@ -2,6 +2,7 @@
 use Rattle.std.specs.Prelude.{◌≡◌, ℕ, Bool, true, false, List, map, codes, ℤ, pos, Option, None, Some, option_map, refl}
 use Rattle.std.specs.Option.{option_map_or}
 use Rattle.cps_text.specs.Display.{display_characters}
+use Rattle.cps_text.specs.ItemInFront.{item_in_front}
 use Rattle.cps_text.specs.Parts.{parts_from, parts_up_to}
 use Rattle.cps_code.specs.declared.filled.Filled.{Filled}
 use Rattle.cps_expr.specs.declared.radix.Radix.TheVariants.{Decimal}
@@ -106,5 +107,5 @@ unfolding parts_from parts_up_to
 no_operand = refl
 
 literal : code (codes "SA1") (codes "=3HA B") ≡ None
-unfolding parts_from parts_up_to display_characters
+unfolding parts_from parts_up_to display_characters item_in_front
 literal = refl
