@@ -1,3 +1,2 @@
-pub mod CardLemmas
 pub mod CourseLemmas
 pub mod StepLemmas

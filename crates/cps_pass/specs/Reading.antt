@@ -7,7 +7,6 @@ use Rattle.cps_expr.specs.declared.radix.Radix.{Radix}
 use Rattle.cps_expr.specs.declared.row.Row.{Row}
 use Rattle.cps_expr.specs.Operation.{operation_named}
 use Rattle.cps_expr.specs.Statement.{row_of}
-use Rattle.cps_text.specs.Text.{capitals}
 use Rattle.cps_text.specs.Name.{name_of}
 use Rattle.cps_code.specs.Table.{is_operation, form_of}
 use Rattle.cps_pass.specs.declared.reading.Location.{Location}
@@ -58,6 +57,6 @@ reading_in radix CommentLine = Comment
 reading_in radix ContinuedLine = Continued
 reading_in radix (StatementLine statement) = Statement (location_in statement.location) (stating_in radix statement.operation statement.tail)
 
--- what a line says under a base of numbers; lower case stands for capitals
+-- what a line says under a base of numbers
 abbrev pub reading_of : Radix → List ℕ → Reading
-reading_of radix line = reading_in radix (fields_of (capitals line))
+reading_of radix line = reading_in radix (fields_of line)

@@ -1,20 +1,16 @@
 //! What a line says.
-ghost use Rattle.std.specs.Prelude.{◌≡◌, ◌≤◌, Some, IfOk, bytes_eq, length, take};
+ghost use Rattle.std.specs.Prelude.{◌≡◌, Some, IfOk, bytes_eq};
 ghost use Rattle.cps_expr.specs.Operation.{operation_named};
 ghost use Rattle.cps_expr.specs.Statement.{row_of};
 ghost use Rattle.cps_expr.specs.declared.machine.Machine.TheVariants.{Cp};
 ghost use Rattle.cps_text.specs.CardFields.{fields_value};
 ghost use Rattle.cps_text.specs.Name.{name_of};
-ghost use Rattle.cps_text.specs.Text.{capitals};
 ghost use Rattle.cps_pass.specs.Reading.{symbol_or_none, location_in, instruction_in, row_or_none, stating_in, reading_in, reading_of};
 
 use cps_code::{CpForm, FormFault, cp_form};
 use cps_expr::{Machine, Operation, Radix, Stmt, StmtFault};
-use cps_text::{Fields, Line, Name, capital, read_fields};
+use cps_text::{Fields, Line, Name};
 use std::alloc::{AllocError, Global};
-
-/// The most bytes that a line has.
-const LONGEST_LINE: usize = 90;
 
 /// A location field.
 #[derive(Clone, Copy, Debug, PartialEq, Eq)]
@@ -53,26 +49,11 @@ pub enum Reading {
     Statement(Location, Stating),
 }
 
-/// What a line says under a base of numbers; lower case stands for capitals.
+/// What a line says under a base of numbers.
 pub fn read_line(alloc: Global, line: &Line, radix: Radix) -> Result<Reading, AllocError>
     ensures { IfOk result (λ reading. reading ≡ reading_of radix line.now) }
 {
-    let bytes = line.bytes();
-    let capitals = capitals(bytes);
-    let (card, _) = capitals.split_at(bytes.len());
-    read_card(alloc, read_fields(card), radix)
-}
-
-/// The capitals of a line, and blanks behind them.
-fn capitals(line: &[u8]) -> [u8; LONGEST_LINE]
-    requires { length line.now ≤ LONGEST_LINE }
-    ensures { take (length line.now) result ≡ capitals line.now }
-{
-    let mut capitals = [b' '; LONGEST_LINE];
-    for at in 0..line.len() {
-        capitals[at] = capital(line[at]);
-    }
-    capitals
+    read_card(alloc, line.fields(), radix)
 }
 
 fn read_card(alloc: Global, fields: Fields<'_>, radix: Radix) -> Result<Reading, AllocError>

@@ -1,0 +1,138 @@
+//! Steps of pass one: what lines ask and put, and the count of steps.
+ghost use Rattle.std.specs.Prelude.{◌≡◌, Some};
+
+use cps_code::Place;
+use cps_expr::{Radix, Value};
+use cps_pass::{
+    Answer, Asked, Control, Head, Key, Lookup, Phase, Put, State, Tally, Trace, Work, step_one,
+};
+use cps_text::{Line, Name};
+use std::alloc::Global;
+use std::test::Fail;
+
+/// Each key has the same answer.
+#[derive(Drop)]
+struct SameAnswer {
+    answer: Answer,
+}
+
+impl Lookup for SameAnswer {
+    ghost answer = { λ same key. Some same.answer };
+
+    fn ask(&self, _key: &Key) -> Option<&Answer> {
+        Some(&self.answer)
+    }
+}
+
+fn step<L: Lookup>(
+    alloc: Global,
+    work: &mut Work,
+    text: &[u8],
+    state: &L,
+) -> Result<Trace, Fail> {
+    let line = Line::new(alloc, text)?;
+    let trace = step_one(alloc, work, &line, state)?;
+    Ok(trace)
+}
+
+fn place(word: u32, used: u8, is_pending: bool) -> Answer {
+    Answer::Counter(Place::behind(60 * word + u32::from(used), is_pending))
+}
+
+const FIRST: Control = Control {
+    phase: Phase::Head(Head {
+        is_named: false,
+        is_declared: false,
+    }),
+    radix: Radix::Decimal,
+    block: None,
+};
+
+const BODY: Control = Control {
+    phase: Phase::Body,
+    radix: Radix::Decimal,
+    block: None,
+};
+
+/// The lines of a program, each in the state behind those before it.
+#[test]
+fn folds_a_program(rt: HostRuntime) -> Result<(), Fail> {
+    let start = Name::read(b"START").ok_or("a symbol")?;
+    let mut state = State::first(rt.alloc());
+    let mut work = Work::new();
+    let head: [&[u8]; 3] = [
+        b"         IDENT   T1",
+        b"         ABS",
+        b"         ORG     100B",
+    ];
+    for text in head {
+        let trace = step(rt.alloc(), &mut work, text, &state)?;
+        state.apply(&trace)?;
+    }
+    let trace = step(rt.alloc(), &mut work, b"START    SA1     B1+3", &state)?;
+    let asks = [
+        Asked {
+            key: Key::Control,
+            answer: Some(Answer::Control(BODY)),
+        },
+        Asked {
+            key: Key::Counter(None),
+            answer: Some(place(0o100, 0, false)),
+        },
+        Asked {
+            key: Key::Label(start),
+            answer: None,
+        },
+    ];
+    assert_eq!(rt; trace.asks(), &asks[..], "what is asked");
+    let puts = [
+        Put {
+            key: Key::Counter(None),
+            answer: place(0o100, 30, false),
+        },
+        Put {
+            key: Key::Label(start),
+            answer: Answer::Value(Value::plain(0o100)),
+        },
+    ];
+    assert_eq!(rt; trace.puts(), &puts[..], "what is put");
+    assert_eq!(rt; trace.items().len(), 1, "statements");
+    state.apply(&trace)?;
+    let trace = step(rt.alloc(), &mut work, b"         EQ      START", &state)?;
+    let puts = [Put {
+        key: Key::Counter(None),
+        answer: place(0o101, 0, true),
+    }];
+    assert_eq!(rt; trace.puts(), &puts[..], "what stays pending");
+    assert_eq!(rt; (work.ones(), work.twos(), work.looked()), (5, 0, 0), "steps");
+    Ok(())
+}
+
+/// An answer of another kind counts as what stands before the first line.
+#[test]
+fn takes_other_answers_for_the_first(rt: HostRuntime) -> Result<(), Fail> {
+    let odd = SameAnswer {
+        answer: Answer::Value(Value::plain(7)),
+    };
+    let mut work = Work::new();
+    work.raise(Tally::Ones);
+    let trace = step(rt.alloc(), &mut work, b"         NO", &odd)?;
+    let puts = [
+        Put {
+            key: Key::Control,
+            answer: Answer::Control(BODY),
+        },
+        Put {
+            key: Key::Counter(None),
+            answer: place(0, 15, false),
+        },
+    ];
+    assert_eq!(rt; trace.puts(), &puts[..], "what is put");
+    assert_eq!(rt; work.ones(), 2, "steps");
+    let late = SameAnswer {
+        answer: Answer::Control(FIRST),
+    };
+    let trace = step(rt.alloc(), &mut work, b"L        NO", &late)?;
+    assert_eq!(rt; trace.asks().len(), 3, "what is asked");
+    Ok(())
+}
