@@ -24,12 +24,7 @@ impl Lookup for SameAnswer {
     }
 }
 
-fn step<L: Lookup>(
-    alloc: Global,
-    work: &mut Work,
-    text: &[u8],
-    state: &L,
-) -> Result<Trace, Fail> {
+fn step<L: Lookup>(alloc: Global, work: &mut Work, text: &[u8], state: &L) -> Result<Trace, Fail> {
     let line = Line::new(alloc, text)?;
     let trace = step_one(alloc, work, &line, state)?;
     Ok(trace)
@@ -104,7 +99,11 @@ fn folds_a_program(rt: HostRuntime) -> Result<(), Fail> {
         answer: place(0o101, 0, true),
     }];
     assert_eq!(rt; trace.puts(), &puts[..], "what stays pending");
-    assert_eq!(rt; (work.ones(), work.twos(), work.looked()), (5, 0, 0), "steps");
+    assert_eq!(rt;
+        (work.ones(), work.twos(), work.looked()),
+        (5, 0, 0),
+        "steps"
+    );
     Ok(())
 }
 

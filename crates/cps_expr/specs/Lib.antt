@@ -6,6 +6,7 @@ pub mod Limits
 pub mod Number
 pub mod OperandList
 pub mod Operation
+pub mod ReadSoFar
 pub mod Reads
 pub mod Row
 pub mod Same

@@ -4,7 +4,8 @@ ghost use Rattle.cps_text.specs.Operands.{operands_of};
 ghost use Rattle.cps_text.specs.OperandsLeft.{operands_left};
 ghost use Rattle.cps_expr.specs.Expression.{expression_of};
 ghost use Rattle.cps_expr.specs.OperandList.{paired, all_some, one_or_more, only_one, at_most_one};
-ghost use Rattle.cps_expr.specs.Reads.{Reads, Continues, IsAdded};
+ghost use Rattle.cps_expr.specs.Reads.{Reads};
+ghost use Rattle.cps_expr.specs.ReadSoFar.{Continues, IsAdded};
 
 use crate::expr::{Expr, ExprFault};
 use crate::radix::Radix;

@@ -11,7 +11,7 @@ use Rattle.cps_state.specs.declared.key.Phase.TheVariants.{AfterEnd}
 use Rattle.cps_state.specs.declared.made.Shown.TheVariants as shown
 use Rattle.cps_state.specs.Course.{Part, nothing, ◌before◌, asking, fill}
 use Rattle.cps_state.specs.Keys.{same_block, place_of, limit}
-use Rattle.cps_state.specs.Made.{Made, flagged}
+use Rattle.cps_state.specs.Made.{Made, nothing_made}
 use Rattle.cps_pass.specs.declared.reading.Location.{Location}
 use Rattle.cps_pass.specs.declared.value_now.ValueNow.{ValueNow}
 use Rattle.cps_pass.specs.declared.value_now.ValueNow.TheVariants.{Undefined, NoValue, Known}
@@ -22,11 +22,11 @@ use Rattle.cps_pass.specs.ValueNow.{now}
 
 -- the word of a block is left; what fills it belongs to the statement
 abbrev pub left : Option Name → Location → Place → Made
-left block location place = record (flagged (present_flags location)) { block = block; filling = filling_between (position place) (place_left place) }
+left block location place = record (nothing_made (present_flags location)) { block = block; filling = filling_between (position place) (place_left place) }
 
 -- a statement that takes no location field, with unreadable operands
 abbrev pub unread_made : Location → Made
-unread_made location = flagged (record (present_flags location) { operand = true })
+unread_made location = nothing_made (record (present_flags location) { operand = true })
 
 abbrev pub unread : Location → Part
 unread location = fill (unread_made location)
@@ -40,7 +40,7 @@ using control block = if same_block control.block block then nothing else puttin
 -- E above the machine's words
 abbrev pub moving_to : Control → Location → Place → Option Name → ℕ → Part
 moving_to control location place block address =
-    if nat_lt limit address then fill (flagged (record (present_flags location) { structure = true }))
+    if nat_lt limit address then fill (nothing_made (record (present_flags location) { structure = true }))
     else going_on control.block (place_left place) false before going_on block (60 * address) false before using control block
     before fill (record (left control.block location place) { shown = shown.Address (record { block = block; offset = pos address }) })
 
@@ -55,7 +55,7 @@ moving_by control location place block None = unread location
 moving_by control location place block (Some address) = moving_to control location place block address
 
 abbrev pub moving : Control → Location → Place → ValueNow → Part
-moving control location place Undefined = fill (flagged (record (present_flags location) { undefined = true }))
+moving control location place Undefined = fill (nothing_made (record (present_flags location) { undefined = true }))
 moving control location place NoValue = unread location
 moving control location place (Known value) = moving_by control location place value.block (address_in value.offset)
 

@@ -11,7 +11,7 @@ use Rattle.cps_state.specs.declared.key.Phase.{Phase}
 use Rattle.cps_state.specs.declared.key.Phase.TheVariants.{Head, Body, AfterEnd}
 use Rattle.cps_state.specs.declared.key.Put.{Put}
 use Rattle.cps_state.specs.Course.{Part, nothing, ◌before◌, put, fill}
-use Rattle.cps_state.specs.Made.{flagged, no_flags}
+use Rattle.cps_state.specs.Made.{nothing_made, no_flags}
 use Rattle.cps_pass.specs.declared.reading.Location.{Location}
 use Rattle.cps_pass.specs.Located.{is_present, present_flags}
 
@@ -63,10 +63,10 @@ ident_flags phase location name = record no_flags { operand = is_none name; stru
 
 -- None: the operand is unreadable
 abbrev pub ident : Control → Location → Option Name → Part
-ident control location None = fill (flagged (ident_flags control.phase location None))
+ident control location None = fill (nothing_made (ident_flags control.phase location None))
 ident control location (Some name) =
-    if is_late_name control.phase then fill (flagged (ident_flags control.phase location (Some name)))
-    else entering control (with_name control.phase) before fill (record (flagged (ident_flags control.phase location (Some name))) { program = Some name })
+    if is_late_name control.phase then fill (nothing_made (ident_flags control.phase location (Some name)))
+    else entering control (with_name control.phase) before fill (record (nothing_made (ident_flags control.phase location (Some name))) { program = Some name })
 
 -- a declaration comes too late: there is one already, or the head has ended
 abbrev pub is_late_declaration : Phase → Bool
@@ -87,7 +87,7 @@ abbrev pub declaring : Control → Part
 declaring control = if is_late_declaration control.phase then nothing else entering control (with_declaration control.phase)
 
 abbrev pub abs : Control → Location → Part
-abs control location = declaring control before fill (flagged (abs_flags control.phase location))
+abs control location = declaring control before fill (nothing_made (abs_flags control.phase location))
 
 -- ---- BASE: the base of numbers that no letter marks
 
@@ -101,4 +101,4 @@ abbrev pub rebasing : Control → Radix → Part
 rebasing control radix = if same_radix control.radix radix then nothing else putting_control (record control { radix = radix })
 
 abbrev pub base : Control → Location → Radix → Part
-base control location radix = rebasing control radix before fill (flagged (present_flags location))
+base control location radix = rebasing control radix before fill (nothing_made (present_flags location))

@@ -12,7 +12,7 @@ use Rattle.cps_state.specs.declared.made.Content.TheVariants as content
 use Rattle.cps_state.specs.declared.made.Field.{Field}
 use Rattle.cps_state.specs.Course.{Part, ◌before◌, asking, fill}
 use Rattle.cps_state.specs.Keys.{place_of, limit}
-use Rattle.cps_state.specs.Made.{flagged, no_flags}
+use Rattle.cps_state.specs.Made.{nothing_made, no_flags}
 use Rattle.cps_pass.specs.declared.reading.Location.{Location}
 use Rattle.cps_pass.specs.declared.reading.Location.TheVariants.{Absent, Plus, Minus, Symbol, NoSymbol}
 use Rattle.cps_pass.specs.Located.{symbol_in, asking_taken, defining}
@@ -47,7 +47,7 @@ start_for location place bits = start_of (position place) bits (is_forced place.
 unfoldable pub unplaced : Option Name → Location → Bool → Place → ℕ → Part
 unplaced block location is_taken place start =
     going_on block start false before defining (symbol_in location) is_taken (here_at block start)
-    before fill (record (flagged (record (placing_flags location is_taken) { operand = true })) { block = block; filling = filling_between (position place) start })
+    before fill (record (nothing_made (record (placing_flags location is_taken) { operand = true })) { block = block; filling = filling_between (position place) start })
 
 -- ---- instructions
 
@@ -58,12 +58,12 @@ code_at start form = record { start = start; content = content.Instruction form 
 abbrev pub coded : Option Name → Location → Bool → Place → Form → ℕ → Part
 coded block location is_taken place form start =
     going_on block (start + form.bits) form.forces_after before defining (symbol_in location) is_taken (here_at block start)
-    before fill (record (flagged (placing_flags location is_taken)) { block = block; filling = filling_between (position place) start; fields = code_at start form ∷ [] })
+    before fill (record (nothing_made (placing_flags location is_taken)) { block = block; filling = filling_between (position place) start; fields = code_at start form ∷ [] })
 
 -- one that would pass the machine's words makes nothing, and its symbol is not defined
 abbrev pub too_far : Option Name → Location → Bool → Form → ℕ → Part
 too_far block location is_taken form start =
-    fill (record (flagged (record (placing_flags location is_taken) { structure = true })) { block = block; fields = code_at start form ∷ []; is_too_far = true })
+    fill (record (nothing_made (record (placing_flags location is_taken) { structure = true })) { block = block; fields = code_at start form ∷ []; is_too_far = true })
 
 abbrev pub coded_or_not : Option Name → Location → Bool → Place → Form → ℕ → Part
 coded_or_not block location is_taken place form start =

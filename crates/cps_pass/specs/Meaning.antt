@@ -11,7 +11,7 @@ use Rattle.cps_state.specs.declared.key.Phase.{Phase}
 use Rattle.cps_state.specs.declared.key.Phase.TheVariants.{Head, Body, AfterEnd}
 use Rattle.cps_state.specs.Course.{Part, ◌before◌, asking, stop, begin, fill, Trace, run, not_begun, traced}
 use Rattle.cps_state.specs.Keys.{State, control_of}
-use Rattle.cps_state.specs.Made.{flagged, no_flags}
+use Rattle.cps_state.specs.Made.{nothing_made, no_flags}
 use Rattle.cps_pass.specs.declared.reading.Location.{Location}
 use Rattle.cps_pass.specs.declared.reading.Stating.{Stating}
 use Rattle.cps_pass.specs.declared.reading.Stating.TheVariants.{Missing, Unknown, Stated, Unreadable, Instruction}
@@ -26,11 +26,11 @@ use Rattle.cps_pass.specs.Symbols.{equate, unread_equate}
 
 -- a line that does nothing
 abbrev pub listed : Part
-listed = fill (flagged no_flags)
+listed = fill (nothing_made no_flags)
 
 -- a line without an operation, or with one that isn't there
 abbrev pub unknown : Part
-unknown = fill (flagged (record no_flags { operation = true }))
+unknown = fill (nothing_made (record no_flags { operation = true }))
 
 -- an operation that the language doesn't have, or that isn't there yet
 abbrev pub not_there : Control → Part
@@ -44,7 +44,7 @@ obeyed control location (row.Base radix) = base control location radix
 obeyed control location (row.Equate terms) = equate control.block location terms
 obeyed control location (row.Org terms) = leaving_head control before org (in_body control) location terms
 obeyed control location row.End = end control location
-obeyed control location row.Listing = fill (flagged (present_flags location))
+obeyed control location row.Listing = fill (nothing_made (present_flags location))
 -- what isn't there yet: PERIPH, SET, USE, BSS, BSSZ, CON, DATA, VFD, DIS, the IFs, ELSE, ENDIF, DUP, ENDD, MACRO and ENDM
 obeyed control location _ = not_there control
 
@@ -66,7 +66,7 @@ stated control location (Instruction form) = leaving_head control before instruc
 
 -- a line that may not stand where it stands
 abbrev pub misplaced : Part
-misplaced = fill (flagged (record no_flags { structure = true }))
+misplaced = fill (nothing_made (record no_flags { structure = true }))
 
 -- a line that continues the one before is not read
 abbrev pub before_end : Control → Reading → Part

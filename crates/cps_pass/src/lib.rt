@@ -13,8 +13,8 @@ mod symbols;
 mod value_now;
 
 pub use cps_state::{
-    Answer, Asked, Content, Control, Field, Flags, Head, Item, Key, LIMIT, Lookup, Made, Phase, Put,
-    Shown, State, Tally, Trace, Work,
+    Answer, Asked, Content, Control, Field, Flags, Head, Item, Key, LIMIT, Lookup, Made, Phase,
+    Put, Shown, State, Tally, Trace, Work,
 };
 pub use places::here_at;
 pub use step::step_one;

@@ -1,7 +1,7 @@
 //! Statements that make nothing but flags.
 ghost use Rattle.std.specs.Prelude.{◌≡◌};
 ghost use Rattle.cps_state.specs.Course.{filled};
-ghost use Rattle.cps_state.specs.Made.{flagged};
+ghost use Rattle.cps_state.specs.Made.{nothing_made};
 ghost use Rattle.cps_pass.specs.Blocks.{unread_made};
 
 use crate::located::present_flags;
@@ -11,9 +11,9 @@ use std::alloc::Global;
 
 /// A statement that does nothing but have flags.
 pub fn flag(alloc: Global, recorder: &mut Recorder, flags: Flags)
-    ensures { recorder.new ≡ filled recorder.old (flagged flags) }
+    ensures { recorder.new ≡ filled recorder.old (nothing_made flags) }
 {
-    recorder.fill(Made::flagged(alloc, flags));
+    recorder.fill(Made::nothing(alloc, flags));
 }
 
 /// A statement that takes no location field, with unreadable operands.

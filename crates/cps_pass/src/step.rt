@@ -2,7 +2,7 @@
 ghost use Rattle.std.specs.Prelude.{◌≡◌, true, OnOk, IfOk};
 ghost use Rattle.cps_text.specs.CardFields.{fields_value};
 ghost use Rattle.cps_state.specs.Course.{Does, Holds, filled};
-ghost use Rattle.cps_state.specs.Made.{flagged, no_flags};
+ghost use Rattle.cps_state.specs.Made.{nothing_made, no_flags};
 ghost use Rattle.cps_state.specs.Keys as keys;
 ghost use Rattle.cps_state.specs.Work.{raised};
 ghost use Rattle.cps_state.specs.declared.work.Tally.TheVariants as tally;
@@ -81,7 +81,7 @@ fn behind_end<L: Lookup>(alloc: Global, recorder: &mut Recorder, state: &L, fiel
 
 /// A line that may not stand where it stands.
 fn misplaced(alloc: Global, recorder: &mut Recorder)
-    ensures { recorder.new ≡ filled recorder.old (flagged (record no_flags { structure = true })) }
+    ensures { recorder.new ≡ filled recorder.old (nothing_made (record no_flags { structure = true })) }
 {
     let mut flags = Flags::none();
     flags.structure = true;
@@ -90,7 +90,7 @@ fn misplaced(alloc: Global, recorder: &mut Recorder)
 
 /// A line without an operation, or with one that isn't there.
 fn unknown(alloc: Global, recorder: &mut Recorder)
-    ensures { recorder.new ≡ filled recorder.old (flagged (record no_flags { operation = true })) }
+    ensures { recorder.new ≡ filled recorder.old (nothing_made (record no_flags { operation = true })) }
 {
     let mut flags = Flags::none();
     flags.operation = true;

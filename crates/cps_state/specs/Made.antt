@@ -22,8 +22,8 @@ pub record Made : Type 0 where
   pub shown : Shown
 
 -- a statement that does nothing but have flags
-abbrev pub flagged : Flags → Made
-flagged flags = record { flags = flags; program = None; block = None; filling = []; fields = []; is_too_far = false; shown = Nothing }
+abbrev pub nothing_made : Flags → Made
+nothing_made flags = record { flags = flags; program = None; block = None; filling = []; fields = []; is_too_far = false; shown = Nothing }
 
 abbrev pub no_flags : Flags
 no_flags = record { operand = false; twice = false; structure = false; location = false; operation = false; cut = false; undefined = false }

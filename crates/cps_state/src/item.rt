@@ -20,7 +20,7 @@ impl Item {
     {
         Item {
             depth,
-            made: Made::flagged(alloc, Flags::none()),
+            made: Made::nothing(alloc, Flags::none()),
         }
     }
 

@@ -2,7 +2,7 @@
 ghost use Rattle.std.specs.Prelude.{◌≡◌, [], ◌∷◌, Some, true, false, IfOk, option_map};
 ghost use Rattle.std.specs.Option.{option_to_list};
 ghost use Rattle.cps_code.specs.Image.{piece_of};
-ghost use Rattle.cps_state.specs.Made.{flagged, HasRoom, HaveRoom};
+ghost use Rattle.cps_state.specs.Made.{nothing_made, HasRoom, HaveRoom};
 
 use crate::flags::Flags;
 use cps_code::{CpForm, Piece};
@@ -69,8 +69,8 @@ impl Model for Made {
 
 impl Made {
     /// Of a statement that does nothing but have flags.
-    pub fn flagged(alloc: Global, flags: Flags) -> Made
-        ensures { result ≡ flagged flags }
+    pub fn nothing(alloc: Global, flags: Flags) -> Made
+        ensures { result ≡ nothing_made flags }
     {
         Made {
             flags,
@@ -85,18 +85,18 @@ impl Made {
 
     /// Of a statement that names the program.
     pub fn naming(alloc: Global, flags: Flags, name: Name) -> Made
-        ensures { result ≡ record (flagged flags) { program = Some name } }
+        ensures { result ≡ record (nothing_made flags) { program = Some name } }
     {
-        let mut made = Made::flagged(alloc, flags);
+        let mut made = Made::nothing(alloc, flags);
         made.program = Some(name);
         made
     }
 
     /// Of a statement whose row shows something.
     pub fn showing(alloc: Global, flags: Flags, shown: Shown) -> Made
-        ensures { result ≡ record (flagged flags) { shown = shown } }
+        ensures { result ≡ record (nothing_made flags) { shown = shown } }
     {
-        let mut made = Made::flagged(alloc, flags);
+        let mut made = Made::nothing(alloc, flags);
         made.shown = shown;
         made
     }
@@ -109,9 +109,9 @@ impl Made {
         filling: Option<Piece>,
         shown: Shown,
     ) -> Made
-        ensures { result ≡ record (flagged flags) { block = block; filling = option_to_list (option_map piece_of filling); shown = shown } }
+        ensures { result ≡ record (nothing_made flags) { block = block; filling = option_to_list (option_map piece_of filling); shown = shown } }
     {
-        let mut made = Made::flagged(alloc, flags);
+        let mut made = Made::nothing(alloc, flags);
         made.block = block;
         made.filling = filling;
         made.shown = shown;
@@ -127,7 +127,7 @@ impl Made {
         field: Field,
     ) -> Result<Made, AllocError>
         requires { HasRoom field }
-        ensures { IfOk result (λ made. made ≡ record (flagged flags) { block = block; filling = option_to_list (option_map piece_of filling); fields = field ∷ [] }) }
+        ensures { IfOk result (λ made. made ≡ record (nothing_made flags) { block = block; filling = option_to_list (option_map piece_of filling); fields = field ∷ [] }) }
     {
         let mut fields = Vec::new(alloc);
         fields.push(field)?;
@@ -149,7 +149,7 @@ impl Made {
         block: Option<Name>,
         field: Field,
     ) -> Result<Made, AllocError>
-        ensures { IfOk result (λ made. made ≡ record (flagged flags) { block = block; fields = field ∷ []; is_too_far = true }) }
+        ensures { IfOk result (λ made. made ≡ record (nothing_made flags) { block = block; fields = field ∷ []; is_too_far = true }) }
     {
         let mut fields = Vec::new(alloc);
         fields.push(field)?;

@@ -16,15 +16,19 @@ is_register (c ∷ []) = false
 is_register (c ∷ d ∷ []) = among (codes "ABX") c && is_digit 8 d
 is_register (c ∷ d ∷ e ∷ text) = false
 
+-- the most characters of a symbol
+abbrev pub longest_symbol : ℕ
+longest_symbol = 8
+
 -- a symbol in capitals has 1 to 8 characters, first a letter or a point, then letters, digits, points and equal signs; a register is none
 abbrev pub is_symbol : List ℕ → Bool
 is_symbol text =
-    (nat_lt 0 (length text) && nat_le (length text) 8)
+    (nat_lt 0 (length text) && nat_le (length text) longest_symbol)
     && (begins_symbol (slice_index text 0) && (list_all continues_symbol text && not (is_register text)))
 
--- the characters and zeros behind them, eight in all
+-- the characters and zeros behind them, as many as the longest symbol has
 abbrev pub padded : List ℕ → List ℕ
-padded text = text ++ replicate (8 - length text) 0
+padded text = text ++ replicate (longest_symbol - length text) 0
 
 abbrev pub is_padding : ℕ → Bool
 is_padding byte = byte == 0

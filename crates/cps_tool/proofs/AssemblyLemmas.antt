@@ -5,7 +5,7 @@ use Rattle.cps_state.specs.Keys.{State, first_state, with_put, overwritten}
 use Rattle.cps_state.specs.Course.{Trace}
 use Rattle.cps_pass.specs.Meaning.{trace_of}
 use Rattle.cps_tool.specs.Assembly.{after, state_after, traces_from, traces_of}
-use Rattle.cps_tool.specs.Assembled.{IsAssembled}
+use Rattle.cps_tool.specs.PassOne.{IsPassOne}
 
 state_after-more : (f : State) (lines : List (List ℕ)) (line : List ℕ) → state_after f (lines ++ line ∷ []) ≡ after (state_after f lines) line
 state_after-more f [] line = refl
@@ -17,8 +17,8 @@ traces_from-more f [] line = refl
 traces_from-more f (l ∷ lines) line = ap (λ traces. trace_of l f ∷ traces) (traces_from-more (after f l) lines line)
 
 pub assembled-line : (done more : List Trace) (now next : State) (lines : List (List ℕ)) (line : List ℕ) (trace : Trace)
-    → IsAssembled done now lines → trace ≡ trace_of line now → more ≡ done ++ trace ∷ [] → next ≡ overwritten now trace.puts
-    → IsAssembled more next (lines ++ line ∷ [])
+    → IsPassOne done now lines → trace ≡ trace_of line now → more ≡ done ++ trace ∷ [] → next ≡ overwritten now trace.puts
+    → IsPassOne more next (lines ++ line ∷ [])
 assembled-line done more now next lines line trace is stepped pushed put_ = record {
   traces =
       pushed ∙ ap (λ t. done ++ t ∷ []) stepped ∙ ap (λ ts. ts ++ trace_of line now ∷ []) is.traces
@@ -33,9 +33,9 @@ lines-next before lines i line lt is =
     append_assoc before (take i lines) (line ∷ []) ∙ ap (λ l. before ++ (take i lines ++ l ∷ [])) is ∙ ap (λ front. before ++ front) (sym (take_more lines i line lt))
 
 pub assembled-next : (done : List Trace) (now : State) (before lines : List (List ℕ)) (i : ℕ) (line : List ℕ) → i < length lines → line ≡ get_or lines i line
-    → IsAssembled done now ((before ++ take i lines) ++ line ∷ []) → IsAssembled done now (before ++ take (i + 1) lines)
-assembled-next done now before lines i line lt is assembled = subst (λ ls. IsAssembled done now ls) (lines-next before lines i line lt is) assembled
+    → IsPassOne done now ((before ++ take i lines) ++ line ∷ []) → IsPassOne done now (before ++ take (i + 1) lines)
+assembled-next done now before lines i line lt is assembled = subst (λ ls. IsPassOne done now ls) (lines-next before lines i line lt is) assembled
 
 pub assembled-all : (done : List Trace) (now : State) (before lines : List (List ℕ)) (i : ℕ) → length lines ≤ i
-    → IsAssembled done now (before ++ take i lines) → IsAssembled done now (before ++ lines)
-assembled-all done now before lines i past assembled = subst (λ ls. IsAssembled done now (before ++ ls)) (take_all i lines past) assembled
+    → IsPassOne done now (before ++ take i lines) → IsPassOne done now (before ++ lines)
+assembled-all done now before lines i past assembled = subst (λ ls. IsPassOne done now (before ++ ls)) (take_all i lines past) assembled

@@ -2,7 +2,7 @@ pub mod Edits
 pub mod Lines
 pub mod Outcome
 pub mod Assembly
-pub mod Assembled
+pub mod PassOne
 pub mod Making
 pub mod Binary
 pub mod Listing

@@ -3,12 +3,12 @@ ghost use Rattle.std.specs.Prelude.{◌≡◌, ◌++◌, ℕ, IfOk, OnOk, List, 
 ghost use Rattle.cps_code.specs.Image.{Piece, ArePacked};
 ghost use Rattle.cps_state.specs.Keys.{limit};
 ghost use Rattle.cps_tool.specs.Assembly.{first_program, program_of, pieces_of_trace, pieces_in};
-ghost use Rattle.cps_tool.specs.Assembled.{IsAssembled};
+ghost use Rattle.cps_tool.specs.PassOne.{IsPassOne};
 ghost use Rattle.cps_tool.specs.Making.{Adds};
 ghost use Rattle.cps_tool.specs.Binary as texts;
 
-use super::assembling::Assembled;
 use super::outcome::put_bits;
+use super::pass_one::PassOne;
 use cps_code::Words;
 use cps_expr::Names;
 use cps_pass::{Item, LIMIT, Lookup, State, Trace};
@@ -21,8 +21,8 @@ const ADDRESS_DIGITS: u8 = 6;
 const WORD_DIGITS: u8 = 20;
 
 /// The binary text of a source.
-pub fn binary_text(alloc: Global, assembled: &Assembled) -> Result<Vec<u8>, AllocError>
-    ensures { IfOk result (λ text. (lines : List (List ℕ)) → IsAssembled assembled.now.traces.items (⟦<State as Lookup>⟧.answer assembled.now.state) lines
+pub fn binary_text(alloc: Global, assembled: &PassOne) -> Result<Vec<u8>, AllocError>
+    ensures { IfOk result (λ text. (lines : List (List ℕ)) → IsPassOne assembled.now.traces.items (⟦<State as Lookup>⟧.answer assembled.now.state) lines
         → text.items ≡ texts.binary_text lines) }
 {
     let words = make_words(alloc, &assembled.traces, &assembled.state)?;

@@ -1,18 +1,18 @@
 //! The flags text.
 ghost use Rattle.std.specs.Prelude.{◌≡◌, ◌++◌, ◌+◌, ◌≤◌, ℕ, List, OnOk, IfOk, decimal, length};
-ghost use Rattle.cps_tool.specs.Assembled.{IsAssembled};
+ghost use Rattle.cps_tool.specs.PassOne.{IsPassOne};
 ghost use Rattle.cps_tool.specs.Flagged as texts;
 
-use super::assembling::Assembled;
 use super::outcome::flags_of;
+use super::pass_one::PassOne;
 use cps_expr::Names;
 use cps_pass::{Flags, Lookup, State, Trace};
 use itoa::Buffer;
 use std::alloc::{AllocError, Global};
 
 /// The flags text of a source.
-pub fn flags_text(alloc: Global, assembled: &Assembled) -> Result<Vec<u8>, AllocError>
-    ensures { IfOk result (λ text. (lines : List (List ℕ)) → IsAssembled assembled.now.traces.items (⟦<State as Lookup>⟧.answer assembled.now.state) lines
+pub fn flags_text(alloc: Global, assembled: &PassOne) -> Result<Vec<u8>, AllocError>
+    ensures { IfOk result (λ text. (lines : List (List ℕ)) → IsPassOne assembled.now.traces.items (⟦<State as Lookup>⟧.answer assembled.now.state) lines
         → text.items ≡ texts.flags_text lines) }
 {
     text_of(alloc, &assembled.traces, &assembled.state)
@@ -29,8 +29,8 @@ fn text_of<N: Names>(alloc: Global, traces: &[Trace], labels: &N) -> Result<Vec<
 }
 
 /// How many lines of a source have a flag. Takes no memory.
-pub fn flagged_lines(assembled: &Assembled) -> usize
-    ensures count { (lines : List (List ℕ)) → IsAssembled assembled.now.traces.items (⟦<State as Lookup>⟧.answer assembled.now.state) lines
+pub fn flagged_lines(assembled: &PassOne) -> usize
+    ensures count { (lines : List (List ℕ)) → IsPassOne assembled.now.traces.items (⟦<State as Lookup>⟧.answer assembled.now.state) lines
         → result ≡ texts.flagged_lines lines }
     ensures within { result ≤ length assembled.now.traces.items }
 {

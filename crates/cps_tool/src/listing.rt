@@ -2,11 +2,11 @@
 ghost use Rattle.std.specs.Prelude.{◌≡◌, ◌++◌, ◌+◌, ◌≤◌, ◌<◌, ℕ, List, [], ◌∷◌, OnOk, IfOk, codes, decimal, length, take, ◌^◌, if◌then◌else◌};
 ghost use Rattle.cps_text.specs.Text.{is_blank};
 ghost use Rattle.cps_state.specs.Flags.{letters};
-ghost use Rattle.cps_tool.specs.Assembled.{IsAssembled};
+ghost use Rattle.cps_tool.specs.PassOne.{IsPassOne};
 ghost use Rattle.cps_tool.specs.Listing as texts;
 
-use super::assembling::Assembled;
 use super::outcome::{Digits, Row, row_of};
+use super::pass_one::PassOne;
 use cps_expr::Names;
 use cps_pass::{Flags, Lookup, State, Trace};
 use cps_text::{Line, push_octal};
@@ -29,10 +29,10 @@ const ADDRESS_DIGITS: u8 = 6;
 pub fn listing_text(
     alloc: Global,
     lines: &[Line],
-    assembled: &Assembled,
+    assembled: &PassOne,
 ) -> Result<Vec<u8>, AllocError>
     requires { length lines.now ≡ length assembled.now.traces.items }
-    ensures { IfOk result (λ text. IsAssembled assembled.now.traces.items (⟦<State as Lookup>⟧.answer assembled.now.state) lines.now
+    ensures { IfOk result (λ text. IsPassOne assembled.now.traces.items (⟦<State as Lookup>⟧.answer assembled.now.state) lines.now
         → text.items ≡ texts.listing_text lines.now) }
 {
     let mut text = Vec::new(alloc);

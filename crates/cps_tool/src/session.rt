@@ -5,10 +5,10 @@ ghost use Rattle.cps_tool.specs.Listing.{listing_text};
 ghost use Rattle.cps_tool.specs.Flagged.{flags_text, flagged_lines};
 ghost use Rattle.cps_tool.specs.Edits.{HasLine, LacksLine, HasLines, LacksLines, without_lines};
 
-use super::assembling::{Assembled, assemble};
 use super::binary::binary_text;
 use super::flagged::{flagged_lines, flags_text};
 use super::listing::listing_text;
+use super::pass_one::{PassOne, assemble};
 use cps_pass::{Lookup, State};
 use cps_text::Line;
 use std::alloc::{AllocError, Global};
@@ -41,20 +41,20 @@ pub enum EditFault {
 pub struct Session {
     alloc: Global,
     lines: Vec<Line>,
-    assembled: Assembled,
+    assembled: PassOne,
 }
 
 impl Model for Session {
     ghost use Rattle.std.specs.Prelude.{List, ℕ, ◌≤◌, length};
     ghost use Rattle.cps_tool.specs.Edits.{most_lines};
-    ghost use Rattle.cps_tool.specs.Assembled.{IsAssembled};
+    ghost use Rattle.cps_tool.specs.PassOne.{IsPassOne};
 
     ghost Value = { List (List ℕ) };
 
     ghost view = { λ session. session.lines.items };
 
     ghost invariant = { λ session. (length session.lines.items ≤ most_lines)
-        × IsAssembled session.assembled.traces.items (⟦<State as Lookup>⟧.answer session.assembled.state) session.lines.items };
+        × IsPassOne session.assembled.traces.items (⟦<State as Lookup>⟧.answer session.assembled.state) session.lines.items };
 }
 
 impl Session {
@@ -65,7 +65,7 @@ impl Session {
         Session {
             alloc,
             lines: Vec::new(alloc),
-            assembled: Assembled::new(alloc),
+            assembled: PassOne::new(alloc),
         }
     }
 

@@ -1,7 +1,7 @@
 use Rattle.std.proofs.Common.{rules, arith, ◌++◌, take}
 use Rattle.std.proofs.lemmas.Bool.Decides.{nat_tests}
 use Rattle.cps_tool.proofs.AssemblyLemmas.{assembled-next, assembled-all}
-use Rattle.cps_tool.proofs.assembling.Assembled.take_lines.Goals as goal
+use Rattle.cps_tool.proofs.pass_one.PassOne.take_lines.Goals as goal
 
 pub loop-line-preserved : goal.loop-line-preserved
 loop-line-preserved c = λ before is.

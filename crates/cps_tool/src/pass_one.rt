@@ -1,6 +1,6 @@
 //! Pass one of a source.
 ghost use Rattle.std.specs.Prelude.{◌≡◌, ℕ, [], ◌∷◌, ◌++◌, List, IfOk, OnOk, OnErr};
-ghost use Rattle.cps_tool.specs.Assembled.{IsAssembled};
+ghost use Rattle.cps_tool.specs.PassOne.{IsPassOne};
 
 use cps_pass::{Lookup, State, Trace, Work, step_one};
 use cps_text::Line;
@@ -8,17 +8,17 @@ use std::alloc::{AllocError, Global};
 
 /// What the lines of a source do in pass one, and the state behind the last of them.
 #[derive(Drop)]
-pub struct Assembled {
+pub struct PassOne {
     pub traces: Vec<Trace>,
     pub state: State,
 }
 
-impl Assembled {
+impl PassOne {
     /// Of a source without a line. Takes no memory yet.
-    pub fn new(alloc: Global) -> Assembled
-        ensures { IsAssembled result.traces.items (⟦<State as Lookup>⟧.answer result.state) [] }
+    pub fn new(alloc: Global) -> PassOne
+        ensures { IsPassOne result.traces.items (⟦<State as Lookup>⟧.answer result.state) [] }
     {
-        Assembled {
+        PassOne {
             traces: Vec::new(alloc),
             state: State::first(alloc),
         }
@@ -26,8 +26,8 @@ impl Assembled {
 
     /// Takes the next line; after a refusal nothing is changed.
     pub fn take_line(&mut self, alloc: Global, line: &Line) -> Result<(), AllocError>
-        ensures ok { OnOk result ((lines : List (List ℕ)) → IsAssembled self.old.traces.items (⟦<State as Lookup>⟧.answer self.old.state) lines
-            → IsAssembled self.new.traces.items (⟦<State as Lookup>⟧.answer self.new.state) (lines ++ line.now ∷ [])) }
+        ensures ok { OnOk result ((lines : List (List ℕ)) → IsPassOne self.old.traces.items (⟦<State as Lookup>⟧.answer self.old.state) lines
+            → IsPassOne self.new.traces.items (⟦<State as Lookup>⟧.answer self.new.state) (lines ++ line.now ∷ [])) }
         ensures err_traces { OnErr result (self.new.traces.items ≡ self.old.traces.items) }
         ensures err_state { OnErr result (⟦<State as Lookup>⟧.answer self.new.state ≡ ⟦<State as Lookup>⟧.answer self.old.state) }
     {
@@ -42,8 +42,8 @@ impl Assembled {
 
     /// Takes the next lines.
     fn take_lines(&mut self, alloc: Global, lines: &[Line]) -> Result<(), AllocError>
-        ensures { OnOk result ((before : List (List ℕ)) → IsAssembled self.old.traces.items (⟦<State as Lookup>⟧.answer self.old.state) before
-            → IsAssembled self.new.traces.items (⟦<State as Lookup>⟧.answer self.new.state) (before ++ lines.now)) }
+        ensures { OnOk result ((before : List (List ℕ)) → IsPassOne self.old.traces.items (⟦<State as Lookup>⟧.answer self.old.state) before
+            → IsPassOne self.new.traces.items (⟦<State as Lookup>⟧.answer self.new.state) (before ++ lines.now)) }
     {
         for line in lines {
             self.take_line(alloc, line)?;
@@ -58,10 +58,10 @@ pub fn assemble(
     front: &[Line],
     middle: &[Line],
     back: &[Line],
-) -> Result<Assembled, AllocError>
-    ensures { IfOk result (λ assembled. IsAssembled assembled.traces.items (⟦<State as Lookup>⟧.answer assembled.state) ((front.now ++ middle.now) ++ back.now)) }
+) -> Result<PassOne, AllocError>
+    ensures { IfOk result (λ assembled. IsPassOne assembled.traces.items (⟦<State as Lookup>⟧.answer assembled.state) ((front.now ++ middle.now) ++ back.now)) }
 {
-    let mut assembled = Assembled::new(alloc);
+    let mut assembled = PassOne::new(alloc);
     assembled.take_lines(alloc, front)?;
     assembled.take_lines(alloc, middle)?;
     assembled.take_lines(alloc, back)?;

@@ -2,7 +2,7 @@ use Rattle.std.proofs.Common.{rules, ap, ◌∙◌}
 use Rattle.std.specs.Prelude.{Result, Ok, Err, OnErr}
 use Rattle.cps_state.specs.Keys.{overwritten}
 use Rattle.cps_tool.proofs.AssemblyLemmas.{assembled-line}
-use Rattle.cps_tool.proofs.assembling.Assembled.take_line.Goals as goal
+use Rattle.cps_tool.proofs.pass_one.PassOne.take_line.Goals as goal
 
 pub returns-clause-ok : goal.returns-clause-ok
 returns-clause-ok c = λ lines is.
