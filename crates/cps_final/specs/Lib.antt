@@ -1,0 +1,5 @@
+pub mod Distinct
+pub mod Finals
+pub mod Gathering
+pub mod Layout
+pub mod Pool
