@@ -2,4 +2,5 @@ pub mod Distinct
 pub mod Finals
 pub mod Gathering
 pub mod Layout
+pub mod Outcome
 pub mod Pool

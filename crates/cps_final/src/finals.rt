@@ -1,11 +1,12 @@
 //! Final values.
-ghost use Rattle.std.specs.Prelude.{◌≡◌, ◌+◌, ◌<◌, ◌^◌, [], ◌++◌, ◌∷◌, pos, OnOk, OnErr, IfSome};
+ghost use Rattle.std.specs.Prelude.{◌≡◌, ◌+◌, ◌<◌, ◌^◌, [], ◌++◌, ◌∷◌, pos, nat_abs, OnOk, OnErr, IfSome};
 ghost use Rattle.std.specs.Option.{option_or};
 ghost use Rattle.cps_expr.specs.declared.machine.Machine.TheVariants.{Cp};
-ghost use Rattle.cps_expr.specs.Value.{plain, limited};
+ghost use Rattle.cps_expr.specs.Value.{plain, limited, IsInRange};
 ghost use Rattle.cps_state.specs.Keys.{overwritten};
 ghost use Rattle.cps_final.specs.Finals.{first_program, Gathers, words_to_named, base_of, based, final_value, label, setting, block as block_named, literal};
 ghost use Rattle.cps_final.specs.Gathering.{grown_by};
+ghost use Rattle.cps_final.specs.Outcome.{base_in, final_of};
 
 use crate::blocks::Blocks;
 use cps_expr::{Machine, Names, Value};
@@ -39,6 +40,18 @@ impl Gathered for Finals {
       pool = finals.pool.keys;
       program = finals.program;
     } };
+}
+
+/// The final values of symbols, by their names.
+impl Names for Finals {
+    ghost use Rattle.cps_final.specs.Finals.{final_value};
+    ghost use Rattle.cps_final.specs.Outcome.{labels_by};
+
+    ghost value = { λ finals. labels_by (final_value (⟦<Finals as Gathered>⟧.gathered finals)) };
+
+    fn value_of(&self, name: Name) -> Option<Value> {
+        self.label(name)
+    }
 }
 
 impl Finals {
@@ -103,7 +116,8 @@ impl Finals {
 
     /// The address of the first word of a block; None: the block has no put. The nominal block (None) stands at 0.
     pub fn base(&self, block: Option<Name>) -> Option<Value>
-        ensures { result ≡ final_value (⟦<Finals as Gathered>⟧.gathered self.now) (block_named block) }
+        ensures base { result ≡ final_value (⟦<Finals as Gathered>⟧.gathered self.now) (block_named block) }
+        ensures range { IfSome result IsInRange }
     {
         let base = self.base_of(block)?;
         plain_in_range(base as i128)
@@ -130,6 +144,24 @@ impl Finals {
     {
         let index = self.pool.get_index_of(&word)?;
         plain_in_range(i128::from(self.blocks.size(None)) + index as i128)
+    }
+
+    /// The address of the first word of a block; one that stands nowhere counts as at 0.
+    pub(crate) fn address_of(&self, block: Option<Name>) -> u64
+        ensures address { result ≡ base_in (final_value (⟦<Finals as Gathered>⟧.gathered self.now)) block }
+        ensures bound { result < 2 ^ 60 }
+    {
+        match self.base(block) {
+            Some(base) => magnitude(base),
+            None => 0,
+        }
+    }
+
+    /// A value with its block at its final address.
+    pub(crate) fn final_of(&self, value: Value) -> Option<Value>
+        ensures { result ≡ final_of (final_value (⟦<Finals as Gathered>⟧.gathered self.now)) value }
+    {
+        plain_in_range(i128::from(value.offset) + i128::from(self.address_of(value.block)))
     }
 
     /// An offset behind the base of its block; where there is no base, behind 0.
@@ -178,10 +210,19 @@ fn first_program(items: &[Item]) -> Option<Name>
 
 /// A plain value, None beyond the range of expressions.
 fn plain_in_range(number: i128) -> Option<Value>
-    ensures { result ≡ limited (plain number) }
+    ensures value { result ≡ limited (plain number) }
+    ensures range { IfSome result IsInRange }
 {
     match i64::try_from(number) {
         Ok(offset) => Value::plain(offset).limited(),
         Err(_) => None,
     }
+}
+
+fn magnitude(value: Value) -> u64
+    requires { IsInRange value }
+    ensures magnitude { result ≡ nat_abs value.offset }
+    ensures bound { result < 2 ^ 60 }
+{
+    value.offset.unsigned_abs()
 }

@@ -4,6 +4,14 @@
 mod blocks;
 mod finals;
 mod gather;
+mod names;
+mod outcome;
+mod pieces;
+mod row;
+mod rows;
+mod valued;
 
 pub use finals::{Finals, Gathered};
 pub use gather::Gather;
+pub use outcome::{Outcome, step_two};
+pub use row::{Digits, Row};
