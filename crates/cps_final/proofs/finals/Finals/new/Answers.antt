@@ -1,0 +1,6 @@
+use Rattle.std.proofs.Common.{refl}
+use Rattle.cps_final.proofs.GatherLemmas.{same-finals}
+use Rattle.cps_final.proofs.finals.Finals.new.Goals as goal
+
+pub returns : goal.returns
+returns c = same-finals _ _ c.first.ensures c.new.ensures c.new-2.ensures.empty refl

@@ -1,0 +1,10 @@
+use Rattle.std.proofs.Common.{◌≡◌, take, flat_map}
+use Rattle.std.specs.Prelude.{map}
+use Rattle.cps_code.specs.Image.{piece_of}
+use Rattle.cps_final.specs.Finals.{final_value}
+use Rattle.cps_final.specs.Outcome.{pieces_of}
+use Rattle.cps_final.specs.contracts.finals.FinalsGathered.TheImpl.{gathered-value}
+use Rattle.cps_final.proofs.pieces.make_pieces.Given as goal
+
+abbrev pub invariant-loop-item : goal.invariant-loop-item
+invariant-loop-item l = map piece_of l.pieces.items ≡ flat_map (λ item. pieces_of (final_value (gathered-value.it l.finals)) item.made) (take l.item-index l.items)

@@ -1,0 +1,8 @@
+use Rattle.std.proofs.Common.{◌≡◌, take, flat_map}
+use Rattle.cps_final.specs.Finals.{final_value}
+use Rattle.cps_final.specs.Outcome.{rows_of}
+use Rattle.cps_final.specs.contracts.finals.FinalsGathered.TheImpl.{gathered-value}
+use Rattle.cps_final.proofs.rows.make_rows.Given as goal
+
+abbrev pub invariant-loop-item : goal.invariant-loop-item
+invariant-loop-item l = l.rows.items ≡ flat_map (λ item. rows_of (final_value (gathered-value.it l.finals)) item.made) (take l.item-index l.items)

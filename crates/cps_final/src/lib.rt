@@ -1,0 +1,17 @@
+//! Pass two: what stands behind the last line of a source, and what each line makes there.
+#![tactic(auto)]
+
+mod blocks;
+mod finals;
+mod gather;
+mod names;
+mod outcome;
+mod pieces;
+mod row;
+mod rows;
+mod valued;
+
+pub use finals::{Finals, Gathered};
+pub use gather::Gather;
+pub use outcome::{Outcome, step_two};
+pub use row::{Digits, Row};

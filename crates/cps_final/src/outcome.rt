@@ -1,0 +1,99 @@
+//! Pass two of a line.
+ghost use Rattle.std.specs.Prelude.{◌≡◌, IfOk, map};
+ghost use Rattle.cps_code.specs.Image.{piece_of};
+ghost use Rattle.cps_state.specs.declared.work.Tally.TheVariants.{Twos};
+ghost use Rattle.cps_state.specs.Work.{raised};
+ghost use Rattle.cps_final.specs.Finals.{final_value};
+ghost use Rattle.cps_final.specs.Outcome as outcome;
+
+use crate::finals::{Finals, Gathered};
+use crate::names::read_names;
+use crate::pieces::make_pieces;
+use crate::row::Row;
+use crate::rows::make_rows;
+use cps_code::Piece;
+use cps_state::{Flags, Tally, Trace, Work};
+use cps_text::Name;
+use indexmap::IndexSet;
+use std::alloc::{AllocError, Global};
+use std::marker::Model;
+
+/// What pass two makes of a line: its rows, its bits, and the names that it read.
+#[derive(Drop)]
+pub struct Outcome {
+    rows: Vec<Row>,
+    pieces: Vec<Piece>,
+    names: IndexSet<Name>,
+}
+
+impl Model for Outcome {
+    ghost use Rattle.std.specs.Prelude.{map};
+    ghost use Rattle.cps_code.specs.Image.{piece_of};
+    ghost use Rattle.cps_final.specs.Outcome.{Outcome};
+
+    ghost Value = { Outcome };
+
+    ghost view = { λ outcome. record { rows = outcome.rows.items; pieces = map piece_of outcome.pieces.items; names = outcome.names.keys } };
+}
+
+/// Pass two of a line. It counts as one step, whatever is answered.
+pub fn step_two(
+    alloc: Global,
+    work: &mut Work,
+    trace: &Trace,
+    finals: &Finals,
+) -> Result<Outcome, AllocError>
+    ensures outcome { IfOk result (λ made. made ≡ outcome.outcome_of (final_value (⟦<Finals as Gathered>⟧.gathered finals.now)) trace.now) }
+    ensures step { work.new ≡ raised Twos work.old }
+{
+    work.raise(Tally::Twos);
+    make_outcome(alloc, trace, finals)
+}
+
+fn make_outcome(alloc: Global, trace: &Trace, finals: &Finals) -> Result<Outcome, AllocError>
+    ensures { IfOk result (λ made. made ≡ outcome.outcome_of (final_value (⟦<Finals as Gathered>⟧.gathered finals.now)) trace.now) }
+{
+    let items = trace.items();
+    let rows = make_rows(alloc, items, finals)?;
+    let pieces = make_pieces(alloc, items, finals)?;
+    let names = read_names(alloc, items)?;
+    Ok(Outcome {
+        rows,
+        pieces,
+        names,
+    })
+}
+
+impl Outcome {
+    /// The rows, in their order.
+    pub fn rows(&self) -> &[Row]
+        ensures { result.now ≡ self.now.rows }
+    {
+        self.rows.as_slice()
+    }
+
+    /// The bits, in their order.
+    pub fn pieces(&self) -> &[Piece]
+        ensures { map piece_of result.now ≡ self.now.pieces }
+    {
+        self.pieces.as_slice()
+    }
+
+    /// The names of symbols that were read, each once.
+    pub fn names(&self) -> &[Name]
+        ensures { result.now ≡ self.now.names }
+    {
+        self.names.as_slice()
+    }
+
+    /// The flags of all rows.
+    pub fn flags(&self) -> Flags
+        ensures { result ≡ outcome.flags_of self.now.rows }
+    {
+        let mut flags = Flags::none();
+        for row in &self.rows {
+            flags = flags.joined(row.flags);
+        }
+        flags
+    }
+}
