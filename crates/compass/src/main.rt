@@ -14,6 +14,8 @@ mod devices;
 #[cfg(test)]
 mod expression_rows;
 #[cfg(test)]
+mod final_rows;
+#[cfg(test)]
 mod pass_rows;
 #[cfg(test)]
 mod replies;
