@@ -1,11 +1,11 @@
 -- Pass two: the rows and the bits of a line, where everything that can be named has its final value.
 -- From the manual's sections on the two passes and on the listing; that a name that is never defined counts as 0, and the machine's limit, are our profile's.
-use Rattle.std.specs.Prelude.{ℕ, ◌+◌, ◌/◌, ◌%◌, Bool, nat_le, List, [], ◌∷◌, ◌++◌, map, flat_map, fold, ℤ, pos, ◌+ℤ◌, nat_abs, Option, None, Some, option_map, is_none, unwrap_or, if◌then◌else◌}
+use Rattle.std.specs.Prelude.{◌≡◌, All, ℕ, ◌+◌, ◌/◌, ◌%◌, Bool, nat_le, List, [], ◌∷◌, ◌++◌, map, flat_map, fold, ℤ, pos, ◌+ℤ◌, nat_abs, Option, None, Some, option_map, is_none, unwrap_or, if◌then◌else◌}
 use Rattle.std.specs.List.{list_any}
 use Rattle.cps_text.specs.declared.name.Name.{Name}
 use Rattle.cps_expr.specs.declared.value.Value.{Value}
 use Rattle.cps_expr.specs.Expression.{Expression, names_of}
-use Rattle.cps_expr.specs.Value.{Values, plain, limited, same_name, value_in, has_undefined}
+use Rattle.cps_expr.specs.Value.{Values, AgreeOn, plain, limited, same_name, value_in, has_undefined}
 use Rattle.cps_code.specs.Form.{Form, filled, complemented}
 use Rattle.cps_code.specs.Image.{Piece}
 use Rattle.cps_state.specs.declared.flags.Flags.{Flags}
@@ -168,3 +168,19 @@ outcome_of finals trace = record {
 -- the flags of a line are those of all its rows
 abbrev pub flags_of : List Row → Flags
 flags_of rows = fold (λ flags row. joined flags row.flags) no_flags rows
+
+-- ---- what a line depends on
+
+-- the block of a value that a row shows
+abbrev pub blocks_shown : Shown → List (Option Name)
+blocks_shown shown.Nothing = []
+blocks_shown (shown.Value value) = value.block ∷ []
+blocks_shown (shown.Address value) = value.block ∷ []
+
+-- two ways of giving final values agree on the symbols and the blocks that a statement names; no statement so far names a literal
+pub record AgreeOnMade (others finals : Resolved) (made : Made) : Type 0 where
+  pub labels : AgreeOn (labels_by others) (labels_by finals) (flat_map (λ field. content_names field.content) made.fields)
+  pub blocks : All (λ name. others (block name) ≡ finals (block name)) (made.block ∷ blocks_shown made.shown)
+
+abbrev pub AgreeOnNamed : Resolved → Resolved → Trace → Type 0
+AgreeOnNamed others finals trace = All (λ item. AgreeOnMade others finals item.made) trace.items

@@ -44,6 +44,8 @@ pub fn step_two(
     finals: &Finals,
 ) -> Result<Outcome, AllocError>
     ensures outcome { IfOk result (λ made. made ≡ outcome.outcome_of (final_value (⟦<Finals as Gathered>⟧.gathered finals.now)) trace.now) }
+    ensures alone { IfOk result (λ made. (others : outcome.Resolved) → outcome.AgreeOnNamed others (final_value (⟦<Finals as Gathered>⟧.gathered finals.now)) trace.now
+        → outcome.outcome_of others trace.now ≡ made) }
     ensures step { work.new ≡ raised Twos work.old }
 {
     work.raise(Tally::Twos);
@@ -51,7 +53,9 @@ pub fn step_two(
 }
 
 fn make_outcome(alloc: Global, trace: &Trace, finals: &Finals) -> Result<Outcome, AllocError>
-    ensures { IfOk result (λ made. made ≡ outcome.outcome_of (final_value (⟦<Finals as Gathered>⟧.gathered finals.now)) trace.now) }
+    ensures outcome { IfOk result (λ made. made ≡ outcome.outcome_of (final_value (⟦<Finals as Gathered>⟧.gathered finals.now)) trace.now) }
+    ensures alone { IfOk result (λ made. (others : outcome.Resolved) → outcome.AgreeOnNamed others (final_value (⟦<Finals as Gathered>⟧.gathered finals.now)) trace.now
+        → outcome.outcome_of others trace.now ≡ made) }
 {
     let items = trace.items();
     let rows = make_rows(alloc, items, finals)?;
