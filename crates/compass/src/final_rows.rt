@@ -42,12 +42,22 @@ fn row(location: Option<u64>, code: Option<(u8, u64)>) -> Row {
     }
 }
 
-fn piece(address: u32, first: u8, number: u64) -> Piece {
+fn code_at_100() -> Piece {
     Piece {
-        address,
-        first,
+        address: 0o100,
+        first: 0,
         width: 30,
-        number: number & 0o7777777777,
+        number: 0o5111000003,
+        times: 1,
+    }
+}
+
+fn filling_at_101() -> Piece {
+    Piece {
+        address: 0o101,
+        first: 30,
+        width: 30,
+        number: 0o4600046000,
         times: 1,
     }
 }
@@ -59,7 +69,11 @@ fn gathers_final_values(rt: HostRuntime) -> Result<(), Fail> {
     let other = Name::read(b"OTHER").ok_or("a symbol")?;
     assert_eq!(rt; finals.machine(), Machine::Cp, "the machine");
     assert_eq!(rt; finals.program(), Name::read(b"T1"), "the program");
-    assert_eq!(rt; finals.base(None), Some(Value::plain(0)), "the nominal block");
+    assert_eq!(rt;
+        finals.base(None),
+        Some(Value::plain(0)),
+        "the nominal block"
+    );
     assert_eq!(rt; finals.base(Some(other)), None, "another block");
     assert_eq!(rt; finals.label(start), Some(Value::plain(0o100)), "a label");
     assert_eq!(rt; finals.label(other), None, "no label");
@@ -89,13 +103,17 @@ fn makes_outcomes(rt: HostRuntime) -> Result<(), Fail> {
         row(None, None),
     ];
     for (at, want) in rows.iter().enumerate() {
-        assert_eq!(rt; outcomes[at].rows(), &[*want][..], "row {at}");
-        assert!(rt; !outcomes[at].flags().has_flag(), "flags of {at}");
+        let outcome = outcomes.get(at).ok_or("an outcome")?;
+        assert_eq!(rt; outcome.rows(), &[*want][..], "row {at}");
+        assert!(rt; !outcome.flags().has_flag(), "flags of {at}");
     }
-    assert_eq!(rt; outcomes[3].pieces(), &[piece(0o100, 0, 0o5111000003)][..], "a code");
-    assert_eq!(rt; outcomes[7].pieces(), &[piece(0o101, 30, 0o4600046000)][..], "the filling");
     let start = Name::read(b"START").ok_or("a symbol")?;
-    assert_eq!(rt; outcomes[6].names(), &[start][..], "a name that is read");
-    assert_eq!(rt; outcomes[3].names().len(), 0, "no name");
+    let labelled = outcomes.get(3).ok_or("an outcome")?;
+    assert_eq!(rt; labelled.pieces(), &[code_at_100()][..], "a code");
+    assert_eq!(rt; labelled.names().len(), 0, "no name");
+    let jump = outcomes.get(6).ok_or("an outcome")?;
+    assert_eq!(rt; jump.names(), &[start][..], "a name that is read");
+    let end = outcomes.get(7).ok_or("an outcome")?;
+    assert_eq!(rt; end.pieces(), &[filling_at_101()][..], "the filling");
     Ok(())
 }

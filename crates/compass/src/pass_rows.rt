@@ -30,8 +30,9 @@ fn step<L: Lookup>(alloc: Global, work: &mut Work, text: &[u8], state: &L) -> Re
     Ok(trace)
 }
 
-fn place(word: u32, used: u8, is_pending: bool) -> Answer {
-    Answer::Counter(Place::behind(60 * word + u32::from(used), is_pending))
+/// The place behind so many bits.
+fn place(bits: u32, is_pending: bool) -> Answer {
+    Answer::Counter(Place::behind(bits, is_pending))
 }
 
 const FIRST: Control = Control {
@@ -72,7 +73,7 @@ fn folds_a_program(rt: HostRuntime) -> Result<(), Fail> {
         },
         Asked {
             key: Key::Counter(None),
-            answer: Some(place(0o100, 0, false)),
+            answer: Some(place(64 * 60, false)),
         },
         Asked {
             key: Key::Label(start),
@@ -83,7 +84,7 @@ fn folds_a_program(rt: HostRuntime) -> Result<(), Fail> {
     let puts = [
         Put {
             key: Key::Counter(None),
-            answer: place(0o100, 30, false),
+            answer: place(64 * 60 + 30, false),
         },
         Put {
             key: Key::Label(start),
@@ -96,7 +97,7 @@ fn folds_a_program(rt: HostRuntime) -> Result<(), Fail> {
     let trace = step(rt.alloc(), &mut work, b"         EQ      START", &state)?;
     let puts = [Put {
         key: Key::Counter(None),
-        answer: place(0o101, 0, true),
+        answer: place(65 * 60, true),
     }];
     assert_eq!(rt; trace.puts(), &puts[..], "what stays pending");
     assert_eq!(rt;
@@ -123,7 +124,7 @@ fn takes_other_answers_for_the_first(rt: HostRuntime) -> Result<(), Fail> {
         },
         Put {
             key: Key::Counter(None),
-            answer: place(0, 15, false),
+            answer: place(15, false),
         },
     ];
     assert_eq!(rt; trace.puts(), &puts[..], "what is put");
