@@ -16,7 +16,7 @@ use Rattle.cps_code.specs.Image.{Piece}
 use Rattle.cps_state.specs.Made.{Made, no_flags, width_of, HasRoom, HaveRoom}
 use Rattle.cps_final.specs.declared.row.Row.{Row}
 use Rattle.cps_final.specs.Distinct.{distinct}
-use Rattle.cps_final.specs.Outcome.{Resolved, labels_by, base_in, number_of, value_flags, limit_flags, digits, row_at, field_rows, rows_of, placed, field_piece, field_pieces, pieces_of, content_names, labels_in, outcome_of}
+use Rattle.cps_final.specs.Outcome.{Resolved, labels_by, base_in, number_of, value_flags, limit_flags, digits, row_at, field_rows, rows_of, placed, field_piece, field_pieces, pieces_of, content_names, labels_in, outcome_of, joined_with}
 use Rattle.cps_final.proofs.BlockLemmas.{same_name-laws}
 use Rattle.cps_final.proofs.GatherLemmas.{distinct-append}
 
@@ -125,3 +125,30 @@ outcome-made finals trace items rows pieces names is shows bits reads =
 pub appends-more : {X Y : Type 0} (f : X → List Y) (xs : List X) (i : ℕ) (x : X) (mid new : List Y) → i < length xs → x ≡ get_or xs i x
     → mid ≡ flat_map f (take i xs) → new ≡ mid ++ f x → new ≡ flat_map f (take (i + 1) xs)
 appends-more f xs i x mid new lt is before made = made ∙ ap (λ l. l ++ f x) before ∙ sym (flat_map-more f xs i x lt is)
+
+-- ---- flags
+
+rows-joined : {X : Type 0} (f : X → List Row) (xs : List X) (i : ℕ) (x : X) (flags : Flags) → i < length xs → x ≡ get_or xs i x
+    → joined_with flags (flat_map f (drop i xs)) ≡ joined_with (joined_with flags (f x)) (flat_map f (drop (i + 1) xs))
+rows-joined f xs i x flags lt is =
+    ap (λ l. joined_with flags (flat_map f l)) (drop_more xs i x lt)
+    ∙ fold-append (λ all (row : Row). joined all row.flags) flags (f (get_or xs i x)) (flat_map f (drop (i + 1) xs))
+    ∙ ap (λ y. joined_with (joined_with flags (f y)) (flat_map f (drop (i + 1) xs))) (sym is)
+
+pub item-flags-next : (f : Item → List Row) (items shown : List Item) (i : ℕ) (item : Item) (flags new end : Flags) → items ≡ shown → i < length items → item ≡ get_or items i item
+    → new ≡ joined_with flags (f item) → joined_with flags (flat_map f (drop i shown)) ≡ end → joined_with new (flat_map f (drop (i + 1) shown)) ≡ end
+item-flags-next f items shown i item flags new end same lt is joins so_far =
+    let within : i < length shown = subst (λ (l : List Item). i < length l) same lt in
+    let is-now : item ≡ get_or shown i item = is ∙ ap (λ (l : List Item). get_or l i item) same in
+    ap (λ (fs : Flags). joined_with fs (flat_map f (drop (i + 1) shown))) joins ∙ sym (rows-joined f shown i item flags within is-now) ∙ so_far
+
+pub field-flags-next : (finals : Resolved) (made : Made) (fields : List Field) (i : ℕ) (field : Field) (flags own next new end : Flags) (row : Row) → fields ≡ made.fields → i < length fields → field ≡ get_or fields i field
+    → new ≡ joined flags row.flags → row ≡ row_at (labels_by finals) own made.is_too_far (base_in finals made.block + field.start / 60) field → next ≡ no_flags
+    → joined_with flags (field_rows finals made own (drop i made.fields)) ≡ end → joined_with new (field_rows finals made next (drop (i + 1) made.fields)) ≡ end
+field-flags-next finals made fields i field flags own next new end row same lt is joins shows none so_far =
+    let within : i < length made.fields = subst (λ (l : List Field). i < length l) same lt in
+    let is-now : field ≡ get_or made.fields i field = is ∙ ap (λ (l : List Field). get_or l i field) same in
+    ap (λ (f : Flags). joined_with new (field_rows finals made f (drop (i + 1) made.fields))) none
+    ∙ ap (λ (fs : Flags). joined_with fs (field_rows finals made no_flags (drop (i + 1) made.fields)))
+    (joins ∙ ap (λ (r : Row). joined flags r.flags) (shows ∙ ap (λ (f : Field). row_at (labels_by finals) own made.is_too_far (base_in finals made.block + f.start / 60) f) is-now))
+    ∙ sym (ap (λ (l : List Field). joined_with flags (field_rows finals made own l)) (drop_more made.fields i field within)) ∙ so_far

@@ -165,9 +165,13 @@ outcome_of finals trace = record {
   names = labels_in trace;
 }
 
+-- flags, and those of rows
+abbrev pub joined_with : Flags → List Row → Flags
+joined_with flags rows = fold (λ all row. joined all row.flags) flags rows
+
 -- the flags of a line are those of all its rows
 abbrev pub flags_of : List Row → Flags
-flags_of rows = fold (λ flags row. joined flags row.flags) no_flags rows
+flags_of rows = joined_with no_flags rows
 
 -- ---- what a line depends on
 

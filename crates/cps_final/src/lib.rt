@@ -4,6 +4,7 @@
 mod blocks;
 mod finals;
 mod gather;
+mod line_flags;
 mod names;
 mod outcome;
 mod pieces;
@@ -13,5 +14,6 @@ mod valued;
 
 pub use finals::{Finals, Gathered};
 pub use gather::Gather;
+pub use line_flags::flags_under;
 pub use outcome::{Outcome, step_two};
 pub use row::{Digits, Row};

@@ -52,7 +52,8 @@ fn push_field_rows(rows: &mut Vec<Row>, made: &Made, finals: &Finals) -> Result<
     Ok(())
 }
 
-fn row_at(flags: Flags, is_too_far: bool, base: u64, field: &Field, finals: &Finals) -> Row
+/// The row of a field, in its block behind so many words.
+pub fn row_at(flags: Flags, is_too_far: bool, base: u64, field: &Field, finals: &Finals) -> Row
     requires { base < 2 ^ 60 }
     ensures { result ≡ outcome.row_at (outcome.labels_by (final_value (⟦<Finals as Gathered>⟧.gathered finals.now))) flags is_too_far (base + field.now.start / 60) field.now }
 {
@@ -86,7 +87,7 @@ fn limit_flags(address: u64) -> Flags
 }
 
 /// The row of a statement without fields.
-fn statement_row(flags: Flags, shown: Shown, finals: &Finals) -> Row
+pub fn statement_row(flags: Flags, shown: Shown, finals: &Finals) -> Row
     ensures { result ≡ outcome.statement_row (final_value (⟦<Finals as Gathered>⟧.gathered finals.now)) flags shown }
 {
     let (location, code) = match shown {

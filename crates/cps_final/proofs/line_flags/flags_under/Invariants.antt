@@ -1,0 +1,11 @@
+use Rattle.std.proofs.Common.{◌≡◌, drop, flat_map}
+use Rattle.cps_state.specs.Made.{no_flags}
+use Rattle.cps_final.specs.Finals.{final_value}
+use Rattle.cps_final.specs.Outcome.{joined_with, rows_of}
+use Rattle.cps_final.specs.contracts.finals.FinalsGathered.TheImpl.{gathered-value}
+use Rattle.cps_final.proofs.line_flags.flags_under.Given as goal
+
+abbrev pub invariant-loop-item : goal.invariant-loop-item
+invariant-loop-item l =
+    joined_with l.flags (flat_map (λ item. rows_of (final_value (gathered-value.it l.finals)) item.made) (drop l.item-index l.trace.items))
+    ≡ joined_with no_flags (flat_map (λ item. rows_of (final_value (gathered-value.it l.finals)) item.made) l.trace.items)
