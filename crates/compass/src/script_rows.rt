@@ -1,5 +1,6 @@
 //! Scripts and the replies to them.
 use super::replies::assert_replies;
+use cps_pass::Work;
 use cps_text::Line;
 use cps_tool::{EditFault, Session};
 use std::test::Fail;
@@ -82,12 +83,13 @@ fn limits_lines(rt: HostRuntime) -> Result<(), Fail> {
 #[test]
 fn holds_lines(rt: HostRuntime) -> Result<(), Fail> {
     let mut session = Session::new(rt.alloc());
+    let mut work = Work::new();
     let empty = session.binary(rt.alloc())?;
     assert_eq!(rt; empty.as_slice(), b"IDENT\n".as_slice());
     let text = b"  NO".as_slice();
     let line = Line::new(rt.alloc(), text)?;
     assert_eq!(rt; line.bytes(), text);
-    assert_eq!(rt; session.insert(0, line), Ok(()));
+    assert_eq!(rt; session.insert(0, line, &mut work), Ok(()));
     assert_eq!(rt; session.line(1).map(|line| line.bytes()), Some(text));
     assert!(rt; session.line(0).is_none());
     assert!(rt; session.line(2).is_none());
@@ -104,15 +106,44 @@ fn holds_lines(rt: HostRuntime) -> Result<(), Fail> {
         b"IDENT\n000000 46000000000000000000\n".as_slice()
     );
     let other = Line::new(rt.alloc(), b"* none")?;
-    assert_eq!(rt; session.replace(1, other), Ok(()));
+    assert_eq!(rt; session.replace(1, other, &mut work), Ok(()));
     assert_eq!(rt;
         session.line(1).map(|line| line.bytes()),
         Some(b"* none".as_slice())
     );
-    assert_eq!(rt; session.delete(1, 2), Err(EditFault::NoSuchLine));
+    assert_eq!(rt; session.delete(1, 2, &mut work), Err(EditFault::NoSuchLine));
     assert_eq!(rt; session.count(), 1);
-    assert_eq!(rt; session.delete(1, 1), Ok(()));
+    assert_eq!(rt; session.delete(1, 1, &mut work), Ok(()));
     assert_eq!(rt; session.count(), 0);
+    Ok(())
+}
+
+/// An edit counts the steps of the lines from the first on that it touches.
+#[test]
+fn counts_steps(rt: HostRuntime) -> Result<(), Fail> {
+    let mut session = Session::new(rt.alloc());
+    let mut work = Work::new();
+    for after in 0..4 {
+        let line = Line::new(rt.alloc(), b"  NO")?;
+        assert_eq!(rt; session.insert(after, line, &mut work), Ok(()));
+    }
+    assert_eq!(rt; work.ones(), 4);
+    let line = Line::new(rt.alloc(), b"* one")?;
+    assert_eq!(rt; session.insert(1, line, &mut work), Ok(()));
+    assert_eq!(rt; work.ones(), 4 + 4);
+    let line = Line::new(rt.alloc(), b"* two")?;
+    assert_eq!(rt; session.replace(4, line, &mut work), Ok(()));
+    assert_eq!(rt; work.ones(), 8 + 2);
+    assert_eq!(rt; session.delete(2, 4, &mut work), Ok(()));
+    assert_eq!(rt; work.ones(), 10 + 1);
+    assert_eq!(rt; session.delete(2, 4, &mut work), Err(EditFault::NoSuchLine));
+    assert_eq!(rt; work.ones(), 11);
+    assert_eq!(rt; work.twos(), 0);
+    let listing = session.listing(rt.alloc())?;
+    assert_eq!(rt;
+        listing.as_slice(),
+        b"         000000 46000                     1   NO\n         000000 46000                     2   NO\n".as_slice()
+    );
     Ok(())
 }
 

@@ -1,5 +1,5 @@
 -- The steps that were made. Our own.
-use Rattle.std.specs.Prelude.{ℕ, ◌+◌, ◌-◌, ◌^◌, min, max}
+use Rattle.std.specs.Prelude.{◌≡◌, ℕ, ◌+◌, ◌-◌, ◌^◌, ◌≤◌, min, max}
 use Rattle.cps_state.specs.declared.work.Tally.{Tally}
 use Rattle.cps_state.specs.declared.work.Tally.TheVariants.{Ones, Twos, Looked}
 
@@ -21,3 +21,11 @@ abbrev pub raised : Tally → Counts → Counts
 raised Ones counts = record counts { ones = more counts.ones 1 }
 raised Twos counts = record counts { twos = more counts.twos 1 }
 raised Looked counts = record counts { looked = more counts.looked 1 }
+
+-- so many steps of pass one more
+abbrev pub stepped : ℕ → Counts → Counts
+stepped count counts = record counts { ones = more counts.ones count }
+
+-- so many at most
+abbrev pub IsSteppedUpTo : ℕ → Counts → Counts → Type 0
+IsSteppedUpTo most old new = (count : ℕ) × (count ≤ most) × (new ≡ stepped count old)

@@ -1,11 +1,10 @@
 pub mod AssemblyLemmas
 pub mod BegunLemmas
 pub mod CommandLemmas
-pub mod FoldLemmas
 pub mod NumberLemmas
 pub mod OrderLemmas
 pub mod ProgressLemmas
 pub mod RangeLemmas
 pub mod RowLemmas
-pub mod SessionLemmas
 pub mod TextLemmas
+pub mod WorkLemmas

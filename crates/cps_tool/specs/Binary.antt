@@ -6,7 +6,8 @@ use Rattle.cps_text.specs.Name.{name_text}
 use Rattle.cps_code.specs.Image.{Piece, packed_word}
 use Rattle.cps_state.specs.Keys.{limit}
 use Rattle.cps_text.specs.Octal.{octal}
-use Rattle.cps_tool.specs.Assembly.{traces_of, final_labels, program_of, pieces_in}
+use Rattle.cps_final.specs.Finals.{program_of}
+use Rattle.cps_tool.specs.Assembly.{traces_of, outcomes_of, pieces_in}
 
 abbrev pub first_row : Option Name → List ℕ
 first_row None = codes "IDENT\n"
@@ -23,4 +24,4 @@ rows_below count pieces = flat_map (λ address. word_row address (packed_word pi
 
 -- the binary text of a source
 abbrev pub binary_text : List (List ℕ) → List ℕ
-binary_text lines = first_row (program_of (traces_of lines)) ++ rows_below limit (pieces_in (final_labels lines) (traces_of lines))
+binary_text lines = first_row (program_of (traces_of lines)) ++ rows_below limit (pieces_in (outcomes_of lines))

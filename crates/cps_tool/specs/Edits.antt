@@ -1,5 +1,8 @@
 -- A source as a list of lines, and what an edit makes of it. Our own.
-use Rattle.std.specs.Prelude.{◌≡◌, ℕ, ◌-◌, ◌<◌, ◌≤◌, ◌⊎◌, List, ◌++◌, length, insert, slice_set, take, drop}
+use Rattle.std.specs.Prelude.{◌≡◌, ℕ, ◌-◌, ◌<◌, ◌≤◌, ◌⊎◌, List, ◌++◌, length, insert, slice_set, take, drop, Result, Ok, Err}
+use Rattle.cps_state.specs.Work.{Counts, stepped, IsSteppedUpTo}
+use Rattle.cps_tool.specs.declared.session.EditFault.{EditFault}
+use Rattle.cps_tool.specs.declared.session.EditFault.TheVariants as faults
 use Rattle.cps_tool.specs.declared.reply.Refusal.{Refusal}
 use Rattle.cps_tool.specs.declared.reply.Refusal.TheVariants as refusals
 use Rattle.cps_text.specs.Line.{longest_line, IsLine, HasBadCharacter}
@@ -8,6 +11,10 @@ use Rattle.cps_tool.specs.Reply.{Response, accepted, refused, shown}
 -- the most lines that a source has
 abbrev pub most_lines : ℕ
 most_lines = 9999
+
+-- what a session tells: the lines of its source
+pub record Source : Type 0 where
+  pub lines : List (List ℕ)
 
 -- a source has a line of that number, where lines count from 1
 abbrev pub HasLine : List (List ℕ) → ℕ → Type 0
@@ -74,3 +81,12 @@ abbrev pub Deleted : List (List ℕ) → ℕ → ℕ → Response → List (List
 Deleted old first last (accepted count) new = HasLines old first last × (new ≡ without_lines old first last) × (count ≡ length new)
 Deleted old first last (refused refusal) new = IsNotDeleted old first last refusal × (new ≡ old)
 Deleted old first last (shown bytes) new = ⊥
+
+-- ---- steps
+
+-- An edit counts so many steps of pass one where it is accepted; none where it is wrong; at most as many where there is no memory.
+abbrev pub StepsOfEdit : {T : Type 0} → Result T EditFault → ℕ → Counts → Counts → Type 0
+StepsOfEdit (Ok done) count old new = new ≡ stepped count old
+StepsOfEdit (Err faults.NoSuchLine) count old new = new ≡ old
+StepsOfEdit (Err faults.TooManyLines) count old new = new ≡ old
+StepsOfEdit (Err faults.Memory) count old new = IsSteppedUpTo count old new

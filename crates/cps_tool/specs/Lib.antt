@@ -1,8 +1,7 @@
 pub mod Edits
 pub mod Lines
-pub mod Outcome
 pub mod Assembly
-pub mod PassOne
+pub mod Assembled
 pub mod Making
 pub mod Binary
 pub mod Listing

@@ -4,14 +4,12 @@
 use Rattle.std.specs.Prelude.{ℕ, ◌+◌, ◌-◌, List, [], ◌∷◌, ◌++◌, length, replicate, slice_index, codes, decimal, flat_map, Option, None, Some, if◌then◌else◌}
 use Rattle.std.specs.List.{list_all}
 use Rattle.cps_text.specs.Text.{is_blank}
-use Rattle.cps_tool.specs.declared.outcome.Row.{Row}
-use Rattle.cps_tool.specs.declared.outcome.Digits.{Digits}
 use Rattle.cps_text.specs.Octal.{octal}
 use Rattle.cps_state.specs.Flags.{letters}
-use Rattle.cps_state.specs.Course.{Trace}
-use Rattle.cps_expr.specs.Value.{Values}
-use Rattle.cps_tool.specs.Outcome.{row_of}
-use Rattle.cps_tool.specs.Assembly.{traces_of, final_labels}
+use Rattle.cps_final.specs.declared.row.Row.{Row}
+use Rattle.cps_final.specs.declared.row.Digits.{Digits}
+use Rattle.cps_final.specs.Outcome.{Outcome}
+use Rattle.cps_tool.specs.Assembly.{outcomes_of}
 
 abbrev pub blanks : ℕ → List ℕ
 blanks count = replicate count (slice_index (codes " ") 0)
@@ -45,15 +43,15 @@ abbrev pub listing_row : ℕ → List ℕ → Row → List ℕ
 listing_row number line row = trimmed (row_columns row ++ at_right 6 (decimal number) ++ codes " " ++ line) ++ codes "\n"
 
 -- the rows of a line
-abbrev pub line_rows : Values → ℕ → List ℕ → Trace → List ℕ
-line_rows labels number line trace = flat_map (λ item. listing_row number line (row_of labels item)) trace.items
+abbrev pub line_rows : ℕ → List ℕ → List Row → List ℕ
+line_rows number line rows = flat_map (listing_row number line) rows
 
 -- the rows of lines that have numbers from one on
-abbrev pub listing_from : Values → ℕ → List (List ℕ) → List Trace → List ℕ
-listing_from labels number [] traces = []
-listing_from labels number (line ∷ lines) [] = []
-listing_from labels number (line ∷ lines) (trace ∷ traces) = line_rows labels number line trace ++ listing_from labels (number + 1) lines traces
+abbrev pub listing_from : ℕ → List (List ℕ) → List Outcome → List ℕ
+listing_from number [] outcomes = []
+listing_from number (line ∷ lines) [] = []
+listing_from number (line ∷ lines) (outcome ∷ outcomes) = line_rows number line outcome.rows ++ listing_from (number + 1) lines outcomes
 
 -- the listing of a source
 abbrev pub listing_text : List (List ℕ) → List ℕ
-listing_text lines = listing_from (final_labels lines) 1 lines (traces_of lines)
+listing_text lines = listing_from 1 lines (outcomes_of lines)

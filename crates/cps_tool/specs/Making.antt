@@ -1,4 +1,4 @@
--- For the loops over statements and their fields, not part of what a reader believes: what they add to the words.
+-- For the loop over the bits of a line, not part of what a reader believes: what they add to the words.
 use Rattle.std.specs.Prelude.{List, ◌++◌, Option, ℕ}
 use Rattle.cps_code.specs.Image.{Piece, ArePacked}
 

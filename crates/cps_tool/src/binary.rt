@@ -1,17 +1,15 @@
 //! The binary text.
-ghost use Rattle.std.specs.Prelude.{◌≡◌, ◌++◌, ℕ, IfOk, OnOk, List, Option};
-ghost use Rattle.cps_code.specs.Image.{Piece, ArePacked};
+ghost use Rattle.std.specs.Prelude.{◌≡◌, ◌++◌, ℕ, IfOk, OnOk, List, Option, map};
+ghost use Rattle.cps_code.specs.Image as image;
+ghost use Rattle.cps_code.specs.Image.{piece_of, ArePacked};
 ghost use Rattle.cps_state.specs.Keys.{limit};
-ghost use Rattle.cps_tool.specs.Assembly.{first_program, program_of, pieces_of_trace, pieces_in};
-ghost use Rattle.cps_tool.specs.PassOne.{IsPassOne};
+ghost use Rattle.cps_tool.specs.Assembly.{outcomes_under, pieces_in};
 ghost use Rattle.cps_tool.specs.Making.{Adds};
 ghost use Rattle.cps_tool.specs.Binary as texts;
 
-use super::outcome::put_bits;
-use super::pass_one::PassOne;
-use cps_code::Words;
-use cps_expr::Names;
-use cps_pass::{Item, LIMIT, Lookup, State, Trace};
+use cps_code::{Piece, Words};
+use cps_final::{Finals, Gathered, step_two};
+use cps_pass::{LIMIT, Trace, Work};
 use cps_text::{Name, push_octal};
 use std::alloc::{AllocError, Global};
 
@@ -20,57 +18,36 @@ const ADDRESS_DIGITS: u8 = 6;
 
 const WORD_DIGITS: u8 = 20;
 
-/// The binary text of a source.
-pub fn binary_text(alloc: Global, assembled: &PassOne) -> Result<Vec<u8>, AllocError>
-    ensures { IfOk result (λ text. (lines : List (List ℕ)) → IsPassOne assembled.now.traces.items (⟦<State as Lookup>⟧.answer assembled.now.state) lines
-        → text.items ≡ texts.binary_text lines) }
+/// The binary text of lines that did this in pass one.
+pub fn binary_text(alloc: Global, traces: &[Trace], finals: &Finals) -> Result<Vec<u8>, AllocError>
+    ensures { IfOk result (λ text. text.items ≡ texts.first_row (⟦<Finals as Gathered>⟧.gathered finals.now).program
+        ++ texts.rows_below limit (pieces_in (outcomes_under (⟦<Finals as Gathered>⟧.gathered finals.now) traces.now))) }
 {
-    let words = make_words(alloc, &assembled.traces, &assembled.state)?;
+    let words = make_words(alloc, traces, finals)?;
     let mut text = Vec::new(alloc);
-    push_first_row(&mut text, program_of(&assembled.traces))?;
+    push_first_row(&mut text, finals.program())?;
     push_rows(&mut text, &words)?;
     Ok(text)
 }
 
-/// The program's name: the first that a statement gives.
-fn program_of(traces: &[Trace]) -> Option<Name>
-    ensures { result ≡ program_of traces.now }
+/// The words of lines, where everything that can be named has its final value.
+fn make_words(alloc: Global, traces: &[Trace], finals: &Finals) -> Result<Words, AllocError>
+    ensures { IfOk result (λ words. ArePacked (pieces_in (outcomes_under (⟦<Finals as Gathered>⟧.gathered finals.now) traces.now)) words) }
 {
-    for trace in traces {
-        if let Some(name) = first_program(trace.items()) {
-            return Some(name);
-        }
-    }
-    None
-}
-
-fn first_program(items: &[Item]) -> Option<Name>
-    ensures { result ≡ first_program items.now }
-{
-    for item in items {
-        if let Some(name) = item.made.program() {
-            return Some(name);
-        }
-    }
-    None
-}
-
-/// The words of a source, where the labels have their final values.
-fn make_words<N: Names>(alloc: Global, traces: &[Trace], labels: &N) -> Result<Words, AllocError>
-    ensures { IfOk result (λ words. ArePacked (pieces_in (N.value labels.now) traces.now) words) }
-{
+    let mut work = Work::new();
     let mut words = Words::new(alloc);
     for trace in traces {
-        put_trace(&mut words, trace, labels)?;
+        let outcome = step_two(alloc, &mut work, trace, finals)?;
+        put_pieces(&mut words, outcome.pieces())?;
     }
     Ok(words)
 }
 
-fn put_trace<N: Names>(words: &mut Words, trace: &Trace, labels: &N) -> Result<(), AllocError>
-    ensures { OnOk result (Adds (pieces_of_trace (N.value labels.now) trace.now) words.old words.new) }
+fn put_pieces(words: &mut Words, pieces: &[Piece]) -> Result<(), AllocError>
+    ensures { OnOk result (Adds (map piece_of pieces.now) words.old words.new) }
 {
-    for item in trace.items() {
-        put_bits(words, item, labels)?;
+    for piece in pieces {
+        words.deposit(*piece)?;
     }
     Ok(())
 }
@@ -88,7 +65,7 @@ fn push_first_row(text: &mut Vec<u8>, program: Option<Name>) -> Result<(), Alloc
 }
 
 fn push_rows(text: &mut Vec<u8>, words: &Words) -> Result<(), AllocError>
-    ensures { (pieces : List Piece) → ArePacked pieces words.now → OnOk result (text.new.items ≡ text.old.items ++ texts.rows_below limit pieces) }
+    ensures { (pieces : List image.Piece) → ArePacked pieces words.now → OnOk result (text.new.items ≡ text.old.items ++ texts.rows_below limit pieces) }
 {
     for address in 0..LIMIT {
         push_row(text, address, words.get(address))?;

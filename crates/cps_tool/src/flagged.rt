@@ -1,49 +1,32 @@
 //! The flags text.
 ghost use Rattle.std.specs.Prelude.{◌≡◌, ◌++◌, ◌+◌, ◌≤◌, ℕ, List, OnOk, IfOk, decimal, length};
-ghost use Rattle.cps_tool.specs.PassOne.{IsPassOne};
+ghost use Rattle.cps_tool.specs.Assembly.{outcomes_under};
 ghost use Rattle.cps_tool.specs.Flagged as texts;
 
-use super::outcome::flags_of;
-use super::pass_one::PassOne;
-use cps_expr::Names;
-use cps_pass::{Flags, Lookup, State, Trace};
+use cps_final::{Finals, Gathered, flags_under};
+use cps_pass::{Flags, Trace};
 use itoa::Buffer;
 use std::alloc::{AllocError, Global};
 
-/// The flags text of a source.
-pub fn flags_text(alloc: Global, assembled: &PassOne) -> Result<Vec<u8>, AllocError>
-    ensures { IfOk result (λ text. (lines : List (List ℕ)) → IsPassOne assembled.now.traces.items (⟦<State as Lookup>⟧.answer assembled.now.state) lines
-        → text.items ≡ texts.flags_text lines) }
-{
-    text_of(alloc, &assembled.traces, &assembled.state)
-}
-
-fn text_of<N: Names>(alloc: Global, traces: &[Trace], labels: &N) -> Result<Vec<u8>, AllocError>
-    ensures { IfOk result (λ text. text.items ≡ texts.flags_text_in (N.value labels.now) traces.now) }
+/// The flags text of lines that did this in pass one.
+pub fn flags_text(alloc: Global, traces: &[Trace], finals: &Finals) -> Result<Vec<u8>, AllocError>
+    ensures { IfOk result (λ text. text.items ≡ texts.flags_text_in (outcomes_under (⟦<Finals as Gathered>⟧.gathered finals.now) traces.now)) }
 {
     let mut text = Vec::new(alloc);
-    push_rows(&mut text, traces, labels)?;
-    push_decimal(&mut text, count_flagged(traces, labels))?;
+    push_rows(&mut text, traces, finals)?;
+    push_decimal(&mut text, flagged_lines(traces, finals))?;
     text.extend_from_slice(b" flagged lines\n")?;
     Ok(text)
 }
 
-/// How many lines of a source have a flag. Takes no memory.
-pub fn flagged_lines(assembled: &PassOne) -> usize
-    ensures count { (lines : List (List ℕ)) → IsPassOne assembled.now.traces.items (⟦<State as Lookup>⟧.answer assembled.now.state) lines
-        → result ≡ texts.flagged_lines lines }
-    ensures within { result ≤ length assembled.now.traces.items }
-{
-    count_flagged(&assembled.traces, &assembled.state)
-}
-
-fn count_flagged<N: Names>(traces: &[Trace], labels: &N) -> usize
-    ensures count { result ≡ texts.flagged_in (N.value labels.now) traces.now }
+/// How many of these lines have a flag. Takes no memory.
+pub fn flagged_lines(traces: &[Trace], finals: &Finals) -> usize
+    ensures count { result ≡ texts.flagged_in (outcomes_under (⟦<Finals as Gathered>⟧.gathered finals.now) traces.now) }
     ensures within { result ≤ length traces.now }
 {
     let mut count = 0;
     for trace in traces {
-        if flags_of(trace, labels).has_flag() {
+        if flags_under(trace, finals).has_flag() {
             count += 1;
         }
     }
@@ -51,11 +34,11 @@ fn count_flagged<N: Names>(traces: &[Trace], labels: &N) -> usize
 }
 
 /// The rows of lines that are numbered from 1.
-fn push_rows<N: Names>(text: &mut Vec<u8>, traces: &[Trace], labels: &N) -> Result<(), AllocError>
-    ensures { OnOk result (text.new.items ≡ text.old.items ++ texts.flag_rows_from (N.value labels.now) 1 traces.now) }
+fn push_rows(text: &mut Vec<u8>, traces: &[Trace], finals: &Finals) -> Result<(), AllocError>
+    ensures { OnOk result (text.new.items ≡ text.old.items ++ texts.flag_rows_from 1 (outcomes_under (⟦<Finals as Gathered>⟧.gathered finals.now) traces.now)) }
 {
     for (before, trace) in traces.iter().enumerate() {
-        push_row(text, before + 1, flags_of(trace, labels))?;
+        push_row(text, before + 1, flags_under(trace, finals))?;
     }
     Ok(())
 }

@@ -1,12 +1,11 @@
 //! The assembly of a source, and a session on one: a script of edits and queries comes in, and the replies go out.
 #![tactic(auto)]
 
+mod assembled;
 mod binary;
 mod command;
 mod flagged;
 mod listing;
-mod outcome;
-mod pass_one;
 mod reply;
 mod replying;
 mod script;

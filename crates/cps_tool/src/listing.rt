@@ -2,13 +2,11 @@
 ghost use Rattle.std.specs.Prelude.{◌≡◌, ◌++◌, ◌+◌, ◌≤◌, ◌<◌, ℕ, List, [], ◌∷◌, OnOk, IfOk, codes, decimal, length, take, ◌^◌, if◌then◌else◌};
 ghost use Rattle.cps_text.specs.Text.{is_blank};
 ghost use Rattle.cps_state.specs.Flags.{letters};
-ghost use Rattle.cps_tool.specs.PassOne.{IsPassOne};
+ghost use Rattle.cps_tool.specs.Assembly.{outcomes_under};
 ghost use Rattle.cps_tool.specs.Listing as texts;
 
-use super::outcome::{Digits, Row, row_of};
-use super::pass_one::PassOne;
-use cps_expr::Names;
-use cps_pass::{Flags, Lookup, State, Trace};
+use cps_final::{Digits, Finals, Gathered, Row, step_two};
+use cps_pass::{Flags, Trace, Work};
 use cps_text::{Line, push_octal};
 use itoa::Buffer;
 use std::alloc::{AllocError, Global};
@@ -25,48 +23,45 @@ const NUMBER_COLUMNS: usize = 6;
 /// The octal digits of an address.
 const ADDRESS_DIGITS: u8 = 6;
 
-/// The listing of a source.
+/// The listing of lines that did this in pass one.
 pub fn listing_text(
     alloc: Global,
     lines: &[Line],
-    assembled: &PassOne,
+    traces: &[Trace],
+    finals: &Finals,
 ) -> Result<Vec<u8>, AllocError>
-    requires { length lines.now ≡ length assembled.now.traces.items }
-    ensures { IfOk result (λ text. IsPassOne assembled.now.traces.items (⟦<State as Lookup>⟧.answer assembled.now.state) lines.now
-        → text.items ≡ texts.listing_text lines.now) }
+    requires { length lines.now ≡ length traces.now }
+    ensures { IfOk result (λ text. text.items ≡ texts.listing_from 1 lines.now (outcomes_under (⟦<Finals as Gathered>⟧.gathered finals.now) traces.now)) }
 {
     let mut text = Vec::new(alloc);
-    push_lines(&mut text, lines, &assembled.traces, &assembled.state)?;
+    push_lines(alloc, &mut text, lines, traces, finals)?;
     Ok(text)
 }
 
 /// The rows of lines that are numbered from 1.
-fn push_lines<N: Names>(
+fn push_lines(
+    alloc: Global,
     text: &mut Vec<u8>,
     lines: &[Line],
     traces: &[Trace],
-    labels: &N,
+    finals: &Finals,
 ) -> Result<(), AllocError>
     requires { length lines.now ≡ length traces.now }
-    ensures { OnOk result (text.new.items ≡ text.old.items ++ texts.listing_from (N.value labels.now) 1 lines.now traces.now) }
+    ensures { OnOk result (text.new.items ≡ text.old.items ++ texts.listing_from 1 lines.now (outcomes_under (⟦<Finals as Gathered>⟧.gathered finals.now) traces.now)) }
 {
+    let mut work = Work::new();
     for (before, line) in lines.iter().enumerate() {
-        push_line(text, before + 1, line.bytes(), &traces[before], labels)?;
+        let outcome = step_two(alloc, &mut work, &traces[before], finals)?;
+        push_line(text, before + 1, line.bytes(), outcome.rows())?;
     }
     Ok(())
 }
 
-fn push_line<N: Names>(
-    text: &mut Vec<u8>,
-    number: usize,
-    line: &[u8],
-    trace: &Trace,
-    labels: &N,
-) -> Result<(), AllocError>
-    ensures { OnOk result (text.new.items ≡ text.old.items ++ texts.line_rows (N.value labels.now) number line.now trace.now) }
+fn push_line(text: &mut Vec<u8>, number: usize, line: &[u8], rows: &[Row]) -> Result<(), AllocError>
+    ensures { OnOk result (text.new.items ≡ text.old.items ++ texts.line_rows number line.now rows.now) }
 {
-    for item in trace.items() {
-        push_row(text, number, line, row_of(item, labels))?;
+    for row in rows {
+        push_row(text, number, line, *row)?;
     }
     Ok(())
 }

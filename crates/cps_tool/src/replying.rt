@@ -13,6 +13,7 @@ use super::reply::{Refusal, Reply};
 use super::session::{EditFault, Session};
 use super::writing::{RunFault, write_text};
 use arrayvec::ArrayString;
+use cps_pass::Work;
 use cps_text::{Counted, Line, LineFault};
 use itoa::Buffer;
 use std::alloc::{AllocError, Global};
@@ -21,8 +22,8 @@ use std::io::Write;
 /// The reply to a line of a script, None to the one that ends it.
 pub fn obey(alloc: Global, line: &[u8], session: &mut Session) -> Option<Reply>
     ensures { MatchOption result
-        ((is_quit line.now ≡ true) × (session.new ≡ session.old))
-        (λ reply. (is_quit line.now ≡ false) × IsAnswered session.old line.now (meaning_of reply) session.new) }
+        ((is_quit line.now ≡ true) × (session.new.lines ≡ session.old.lines))
+        (λ reply. (is_quit line.now ≡ false) × IsAnswered session.old.lines line.now (meaning_of reply) session.new.lines) }
 {
     match Command::read(line) {
         Err(_) => Some(Reply::Refused(Refusal::BadCommand)),
@@ -49,7 +50,7 @@ fn show(text: Result<Vec<u8>, AllocError>) -> Reply
 
 /// Inserts a text behind line `after`, 0 for the front.
 fn insert_text(alloc: Global, after: u32, text: &[u8], session: &mut Session) -> Reply
-    ensures { Inserted session.old after text.now (meaning_of result) session.new }
+    ensures { Inserted session.old.lines after text.now (meaning_of result) session.new.lines }
 {
     if after > session.count() {
         return Reply::Refused(Refusal::NoSuchLine);
@@ -61,7 +62,7 @@ fn insert_text(alloc: Global, after: u32, text: &[u8], session: &mut Session) ->
         Err(LineFault::Memory) if session.is_full() => return Reply::Refused(Refusal::TooManyLines),
         Err(LineFault::Memory) => return Reply::Refused(Refusal::NoMemory),
     };
-    match session.insert(after, line) {
+    match session.insert(after, line, &mut Work::new()) {
         Ok(()) => Reply::Accepted(session.count()),
         Err(fault) => Reply::Refused(refusal_of_edit(fault)),
     }
@@ -69,7 +70,7 @@ fn insert_text(alloc: Global, after: u32, text: &[u8], session: &mut Session) ->
 
 /// Puts a text in place of line `at`, where lines count from 1.
 fn replace_text(alloc: Global, at: u32, text: &[u8], session: &mut Session) -> Reply
-    ensures { Replaced session.old at text.now (meaning_of result) session.new }
+    ensures { Replaced session.old.lines at text.now (meaning_of result) session.new.lines }
 {
     if at == 0 || at > session.count() {
         return Reply::Refused(Refusal::NoSuchLine);
@@ -80,7 +81,7 @@ fn replace_text(alloc: Global, at: u32, text: &[u8], session: &mut Session) -> R
         Err(LineFault::BadCharacter) => return Reply::Refused(Refusal::BadCharacter),
         Err(LineFault::Memory) => return Reply::Refused(Refusal::NoMemory),
     };
-    match session.replace(at, line) {
+    match session.replace(at, line, &mut Work::new()) {
         Ok(()) => Reply::Accepted(session.count()),
         Err(fault) => Reply::Refused(refusal_of_edit(fault)),
     }
@@ -88,9 +89,9 @@ fn replace_text(alloc: Global, at: u32, text: &[u8], session: &mut Session) -> R
 
 /// Deletes the lines from `first` to `last`, where lines count from 1.
 fn delete_lines(first: u32, last: u32, session: &mut Session) -> Reply
-    ensures { Deleted session.old first last (meaning_of result) session.new }
+    ensures { Deleted session.old.lines first last (meaning_of result) session.new.lines }
 {
-    match session.delete(first, last) {
+    match session.delete(first, last, &mut Work::new()) {
         Ok(()) => Reply::Accepted(session.count()),
         Err(fault) => Reply::Refused(refusal_of_edit(fault)),
     }

@@ -44,20 +44,20 @@ pub fn run_script<R: Read, W: Write>(
     // What is written is a text that the script may write, and the session is the source after it.
     ensures ok { OnOk result ((before last text : List ℕ)
         × Consumes (R.remaining (inner_of reader.old)) (R.remaining (inner_of reader.new)) (before ++ last)
-        × Script session.old (before ++ last) text session.new
+        × Script session.old.lines (before ++ last) text session.new.lines
         × Appends (W.contents (inner_of writer.old)) (W.contents (inner_of writer.new)) text
         × LastReadGave reader.old reader.new before last
         × IsReadToEnd before last (R.remaining (inner_of reader.new))) }
     ensures whole_input { OnOk result (IfSome (R.remaining (inner_of reader.old)) (λ input. (text : List ℕ)
-        × Script session.old input text session.new
+        × Script session.old.lines input text session.new.lines
         × Appends (W.contents (inner_of writer.old)) (W.contents (inner_of writer.new)) text)) }
-    ensures flagged { IfOk result (λ count. count ≡ flagged_lines session.new) }
+    ensures flagged { IfOk result (λ count. count ≡ flagged_lines session.new.lines) }
 
     // After a read fault it is a text of the lines that a newline ended before it. The last read failed, or none did and
     // each of the most reads gave a byte.
     ensures read_fault { IsErrOf result RunFault.ReadFault → (taken text : List ℕ)
         × Consumes (R.remaining (inner_of reader.old)) (R.remaining (inner_of reader.new)) taken
-        × LinesOfScript session.old taken text session.new
+        × LinesOfScript session.old.lines taken text session.new.lines
         × Appends (W.contents (inner_of writer.old)) (W.contents (inner_of writer.new)) text
         × ((FailsOnce reader.old reader.new × LastReadGave reader.old reader.new taken [])
         ⊎ ((failures_of reader.new ≡ failures_of reader.old) × (MOST_READS ≤ length taken)
@@ -66,10 +66,10 @@ pub fn run_script<R: Read, W: Write>(
     // After a failed write the replies to some first lines are written, the last one in part, and the session is the source after them.
     ensures write_fault { IsErrOf result RunFault.WriteFault → (before last text unsaid : List ℕ)
         × Consumes (R.remaining (inner_of reader.old)) (R.remaining (inner_of reader.new)) (before ++ last)
-        × FrontOfScript session.old (before ++ last) last (R.remaining (inner_of reader.new)) text unsaid session.new
+        × FrontOfScript session.old.lines (before ++ last) last (R.remaining (inner_of reader.new)) text unsaid session.new.lines
         × Appends (W.contents (inner_of writer.old)) (W.contents (inner_of writer.new)) text
         × LastReadGave reader.old reader.new before last
-        × AreAnswered session.old before text }
+        × AreAnswered session.old.lines before text }
     ensures write_cause { IsErrOf result RunFault.WriteFault → FailsOnce writer.old writer.new }
 
     // Nothing is tried again after a failure, and there are at most so many reads.
@@ -106,7 +106,7 @@ fn finish<W: Write>(
     writer: &mut Counted<W>,
     session: &mut Session,
 ) -> Result<(), RunFault>
-    ensures finishes { Finishes result line.now session.old session.new
+    ensures finishes { Finishes result line.now session.old.lines session.new.lines
         (W.contents (inner_of writer.old)) (W.contents (inner_of writer.new)) }
     ensures fault { IsErrOf result RunFault.ReadFault → ⊥ }
     ensures failed { OnErr result (FailsOnce writer.old writer.new) }
@@ -130,11 +130,11 @@ pub fn answer_line<W: Write>(
 ) -> Result<Flow, RunFault>
     ensures answer { (begun : List ℕ) → IsBegun line.now begun → MatchResult result
         (λ flow. MatchFlow flow
-        ((is_quit (without_return begun) ≡ false) × (response : Response) × IsAnswered session.old (without_return begun) response session.new
+        ((is_quit (without_return begun) ≡ false) × (response : Response) × IsAnswered session.old.lines (without_return begun) response session.new.lines
         × Appends (W.contents (inner_of writer.old)) (W.contents (inner_of writer.new)) (reply_text response))
-        ((is_quit (without_return begun) ≡ true) × (session.new ≡ session.old)
+        ((is_quit (without_return begun) ≡ true) × (session.new.lines ≡ session.old.lines)
         × Appends (W.contents (inner_of writer.old)) (W.contents (inner_of writer.new)) []))
-        (λ _. (is_quit (without_return begun) ≡ false) × (response : Response) × IsAnswered session.old (without_return begun) response session.new
+        (λ _. (is_quit (without_return begun) ≡ false) × (response : Response) × IsAnswered session.old.lines (without_return begun) response session.new.lines
         × (front back : List ℕ) × (reply_text response ≡ front ++ back)
         × Appends (W.contents (inner_of writer.old)) (W.contents (inner_of writer.new)) front) }
     ensures fault { IsErrOf result RunFault.ReadFault → ⊥ }
@@ -156,7 +156,7 @@ fn take_bytes<W: Write>(
     writer: &mut Counted<W>,
     session: &mut Session,
 ) -> Result<Flow, RunFault>
-    ensures takes { Takes result line.old line.new session.old session.new
+    ensures takes { Takes result line.old line.new session.old.lines session.new.lines
         (W.contents (inner_of writer.old)) (W.contents (inner_of writer.new)) bytes.now }
     ensures fault { IsErrOf result RunFault.ReadFault → ⊥ }
     ensures failed { OnErr result (FailsOnce writer.old writer.new) }
@@ -180,7 +180,7 @@ fn take_byte<W: Write>(
     writer: &mut Counted<W>,
     session: &mut Session,
 ) -> Result<Flow, RunFault>
-    ensures takes { Takes result line.old line.new session.old session.new
+    ensures takes { Takes result line.old line.new session.old.lines session.new.lines
         (W.contents (inner_of writer.old)) (W.contents (inner_of writer.new)) (byte ∷ []) }
     ensures fault { IsErrOf result RunFault.ReadFault → ⊥ }
     ensures failed { OnErr result (FailsOnce writer.old writer.new) }
@@ -198,8 +198,8 @@ fn take_byte<W: Write>(
 /// The reply to a command line that has come, None to the one that ends the script.
 fn reply_to(alloc: Global, line: &ScriptLine, session: &mut Session) -> Option<Reply>
     ensures { (begun : List ℕ) → IsBegun line.now begun → MatchOption result
-        ((is_quit (without_return begun) ≡ true) × (session.new ≡ session.old))
-        (λ reply. (is_quit (without_return begun) ≡ false) × IsAnswered session.old (without_return begun) (meaning_of reply) session.new) }
+        ((is_quit (without_return begun) ≡ true) × (session.new.lines ≡ session.old.lines))
+        (λ reply. (is_quit (without_return begun) ≡ false) × IsAnswered session.old.lines (without_return begun) (meaning_of reply) session.new.lines) }
 {
     match line.text() {
         None => Some(Reply::Refused(Refusal::BadCommand)),

@@ -1,15 +1,15 @@
 //! A source that is edited line by line.
-ghost use Rattle.std.specs.Prelude.{◌≡◌, ◌-◌, ◌<◌, ◌≤◌, ◌↔◌, [], ◌++◌, length, insert, take, drop, slice_get, slice_set, Some, IsTrue, IsOk, IsSome, IfSome, OnOk, OnErr, IfOk, IsErrOf};
+ghost use Rattle.std.specs.Prelude.{◌≡◌, ◌+◌, ◌-◌, ◌<◌, ◌≤◌, ◌↔◌, [], ◌++◌, length, insert, take, drop, slice_get, slice_set, Some, IsTrue, IsOk, IsSome, IfSome, OnOk, OnErr, IfOk, IsErrOf};
 ghost use Rattle.cps_tool.specs.Binary.{binary_text};
 ghost use Rattle.cps_tool.specs.Listing.{listing_text};
 ghost use Rattle.cps_tool.specs.Flagged.{flags_text, flagged_lines};
-ghost use Rattle.cps_tool.specs.Edits.{HasLine, LacksLine, HasLines, LacksLines, without_lines};
+ghost use Rattle.cps_tool.specs.Edits.{HasLine, LacksLine, HasLines, LacksLines, without_lines, StepsOfEdit};
 
+use super::assembled::{Assembled, Keeps};
 use super::binary::binary_text;
 use super::flagged::{flagged_lines, flags_text};
 use super::listing::listing_text;
-use super::pass_one::{PassOne, assemble};
-use cps_pass::{Lookup, State};
+use cps_pass::Work;
 use cps_text::Line;
 use std::alloc::{AllocError, Global};
 use std::marker::Model;
@@ -35,43 +35,42 @@ pub enum EditFault {
 
 /// A source that is edited line by line. It has at most 9,999 lines.
 ///
-/// What its lines do in pass one is kept. An edit makes that anew before it is accepted; a line behind the last one
-/// is only added to it.
+/// What its lines do in pass one is kept. An edit makes that anew from the first line on that it touches, before it is
+/// accepted, and counts these steps in the caller's work.
 #[derive(Drop)]
 pub struct Session {
     alloc: Global,
     lines: Vec<Line>,
-    assembled: PassOne,
+    assembled: Assembled,
 }
 
 impl Model for Session {
-    ghost use Rattle.std.specs.Prelude.{List, ℕ, ◌≤◌, length};
-    ghost use Rattle.cps_tool.specs.Edits.{most_lines};
-    ghost use Rattle.cps_tool.specs.PassOne.{IsPassOne};
+    ghost use Rattle.std.specs.Prelude.{◌≡◌, ◌≤◌, length};
+    ghost use Rattle.cps_tool.specs.Edits.{Source, most_lines};
+    ghost use Rattle.cps_tool.specs.Assembled.{assembled_of};
 
-    ghost Value = { List (List ℕ) };
+    ghost Value = { Source };
 
-    ghost view = { λ session. session.lines.items };
+    ghost view = { λ session. record { lines = session.lines.items } };
 
-    ghost invariant = { λ session. (length session.lines.items ≤ most_lines)
-        × IsPassOne session.assembled.traces.items (⟦<State as Lookup>⟧.answer session.assembled.state) session.lines.items };
+    ghost invariant = { λ session. (length session.lines.items ≤ most_lines) × (⟦<Assembled as Keeps>⟧.assembled session.assembled ≡ assembled_of session.lines.items) };
 }
 
 impl Session {
     /// A source without a line. Takes no memory yet.
     pub fn new(alloc: Global) -> Session
-        ensures { result ≡ [] }
+        ensures { result.lines ≡ [] }
     {
         Session {
             alloc,
             lines: Vec::new(alloc),
-            assembled: PassOne::new(alloc),
+            assembled: Assembled::new(alloc),
         }
     }
 
     /// How many lines the source has.
     pub fn count(&self) -> u32
-        ensures count { result ≡ length self.now }
+        ensures count { result ≡ length self.now.lines }
         ensures within { result ≤ MOST_LINES }
     {
         self.lines.len() as u32
@@ -79,8 +78,8 @@ impl Session {
 
     /// Line `n`, where lines count from 1.
     pub fn line(&self, n: u32) -> Option<&Line>
-        ensures there { IsSome result ↔ ((1 ≤ n) × (n ≤ length self.now)) }
-        ensures line { IfSome result (λ line. slice_get self.now (n - 1) ≡ Some line.now) }
+        ensures there { IsSome result ↔ ((1 ≤ n) × (n ≤ length self.now.lines)) }
+        ensures line { IfSome result (λ line. slice_get self.now.lines (n - 1) ≡ Some line.now) }
     {
         if n == 0 {
             return None;
@@ -90,20 +89,21 @@ impl Session {
 
     /// Whether the source has as many lines as it may have.
     pub fn is_full(&self) -> bool
-        ensures full { IsTrue result ↔ (length self.now ≡ MOST_LINES) }
-        ensures within { length self.now ≤ MOST_LINES }
+        ensures full { IsTrue result ↔ (length self.now.lines ≡ MOST_LINES) }
+        ensures within { length self.now.lines ≤ MOST_LINES }
     {
         self.lines.len() == MOST_LINES
     }
 
     /// Inserts a line behind line `after`, 0 for the front. A line that is refused is dropped.
-    pub fn insert(&mut self, after: u32, line: Line) -> Result<(), EditFault>
-        ensures ok { OnOk result (self.new ≡ insert self.old after line) }
-        ensures allowed { OnOk result ((after ≤ length self.old) × (length self.old < MOST_LINES)) }
+    pub fn insert(&mut self, after: u32, line: Line, work: &mut Work) -> Result<(), EditFault>
+        ensures ok { OnOk result (self.new.lines ≡ insert self.old.lines after line) }
+        ensures allowed { OnOk result ((after ≤ length self.old.lines) × (length self.old.lines < MOST_LINES)) }
         ensures err { OnErr result (self.new ≡ self.old) }
-        ensures no_line { IsErrOf result EditFault.NoSuchLine ↔ (length self.old < after) }
-        ensures too_many { IsErrOf result EditFault.TooManyLines ↔ ((after ≤ length self.old) × (length self.old ≡ MOST_LINES)) }
-        ensures memory { IsErrOf result EditFault.Memory → (after ≤ length self.old) × (length self.old < MOST_LINES) }
+        ensures no_line { IsErrOf result EditFault.NoSuchLine ↔ (length self.old.lines < after) }
+        ensures too_many { IsErrOf result EditFault.TooManyLines ↔ ((after ≤ length self.old.lines) × (length self.old.lines ≡ MOST_LINES)) }
+        ensures memory { IsErrOf result EditFault.Memory → (after ≤ length self.old.lines) × (length self.old.lines < MOST_LINES) }
+        ensures steps { StepsOfEdit result (length self.old.lines + 1 - after) work.old work.new }
     {
         if after as usize > self.lines.len() {
             return Err(EditFault::NoSuchLine);
@@ -112,23 +112,23 @@ impl Session {
             return Err(EditFault::TooManyLines);
         }
         if after as usize == self.lines.len() {
-            self.append(line)
+            self.append(line, work)
         } else {
-            self.insert_before_end(after as usize, line)
+            self.insert_before_end(after as usize, line, work)
         }
     }
 
-    fn append(&mut self, line: Line) -> Result<(), EditFault>
-        requires { length self.old < MOST_LINES }
-        ensures ok { OnOk result (self.new ≡ insert self.old (length self.old) line) }
+    fn append(&mut self, line: Line, work: &mut Work) -> Result<(), EditFault>
+        requires { length self.old.lines < MOST_LINES }
+        ensures ok { OnOk result (self.new.lines ≡ insert self.old.lines (length self.old.lines) line) }
         ensures err { OnErr result (self.new ≡ self.old) }
-        ensures no_line { IsErrOf result EditFault.NoSuchLine → ⊥ }
-        ensures too_many { IsErrOf result EditFault.TooManyLines → ⊥ }
+        ensures only { OnErr result (IsErrOf result EditFault.Memory) }
+        ensures steps { StepsOfEdit result 1 work.old work.new }
     {
         let Ok(_) = self.lines.reserve(1) else {
             return Err(EditFault::Memory);
         };
-        let Ok(_) = self.assembled.take_line(self.alloc, &line) else {
+        let Ok(_) = self.assembled.take_line(self.alloc, work, &line) else {
             return Err(EditFault::Memory);
         };
         let Ok(_) = self.lines.push(line) else {
@@ -137,117 +137,133 @@ impl Session {
         Ok(())
     }
 
-    fn insert_before_end(&mut self, after: usize, line: Line) -> Result<(), EditFault>
-        requires few { length self.old < MOST_LINES }
-        requires within { after ≤ length self.old }
-        ensures ok { OnOk result (self.new ≡ insert self.old after line) }
+    fn insert_before_end(
+        &mut self,
+        after: usize,
+        line: Line,
+        work: &mut Work,
+    ) -> Result<(), EditFault>
+        requires few { length self.old.lines < MOST_LINES }
+        requires within { after ≤ length self.old.lines }
+        ensures ok { OnOk result (self.new.lines ≡ insert self.old.lines after line) }
         ensures err { OnErr result (self.new ≡ self.old) }
-        ensures no_line { IsErrOf result EditFault.NoSuchLine → ⊥ }
-        ensures too_many { IsErrOf result EditFault.TooManyLines → ⊥ }
+        ensures only { OnErr result (IsErrOf result EditFault.Memory) }
+        ensures steps { StepsOfEdit result (length self.old.lines + 1 - after) work.old work.new }
     {
-        let (front, back) = self.lines.split_at(after);
-        let Ok(assembled) = assemble(self.alloc, front, from_ref(&line), back) else {
+        let Ok(_) = self.lines.reserve(1) else {
             return Err(EditFault::Memory);
         };
-        if self.lines.insert(after, line).is_err() {
+        let (_, back) = self.lines.split_at(after);
+        let Ok(_) = self
+            .assembled
+            .redo(self.alloc, work, after, from_ref(&line), back)
+        else {
             return Err(EditFault::Memory);
-        }
-        self.assembled = assembled;
+        };
+        let Ok(_) = self.lines.insert(after, line) else {
+            unreachable!();
+        };
         Ok(())
     }
 
     /// Puts a line in place of line `at`, where lines count from 1. A line that is refused is dropped.
-    pub fn replace(&mut self, at: u32, line: Line) -> Result<(), EditFault>
-        ensures ok { OnOk result (self.new ≡ slice_set self.old (at - 1) line) }
-        ensures allowed { OnOk result (HasLine self.old at) }
+    pub fn replace(&mut self, at: u32, line: Line, work: &mut Work) -> Result<(), EditFault>
+        ensures ok { OnOk result (self.new.lines ≡ slice_set self.old.lines (at - 1) line) }
+        ensures allowed { OnOk result (HasLine self.old.lines at) }
         ensures err { OnErr result (self.new ≡ self.old) }
-        ensures no_line { IsErrOf result EditFault.NoSuchLine ↔ LacksLine self.old at }
+        ensures no_line { IsErrOf result EditFault.NoSuchLine ↔ LacksLine self.old.lines at }
         ensures too_many { IsErrOf result EditFault.TooManyLines → ⊥ }
-        ensures memory { IsErrOf result EditFault.Memory → HasLine self.old at }
+        ensures memory { IsErrOf result EditFault.Memory → HasLine self.old.lines at }
+        ensures steps { StepsOfEdit result (length self.old.lines + 1 - at) work.old work.new }
     {
         if at == 0 || at as usize > self.lines.len() {
             return Err(EditFault::NoSuchLine);
         }
-        self.put_at(at as usize - 1, line)
+        self.put_at(at as usize - 1, line, work)
     }
 
     /// Puts a line in place of the one behind the first `before`.
-    fn put_at(&mut self, before: usize, line: Line) -> Result<(), EditFault>
-        requires { before < length self.old }
-        ensures ok { OnOk result (self.new ≡ slice_set self.old before line) }
+    fn put_at(&mut self, before: usize, line: Line, work: &mut Work) -> Result<(), EditFault>
+        requires { before < length self.old.lines }
+        ensures ok { OnOk result (self.new.lines ≡ slice_set self.old.lines before line) }
         ensures err { OnErr result (self.new ≡ self.old) }
-        ensures no_line { IsErrOf result EditFault.NoSuchLine → ⊥ }
-        ensures too_many { IsErrOf result EditFault.TooManyLines → ⊥ }
+        ensures only { OnErr result (IsErrOf result EditFault.Memory) }
+        ensures steps { StepsOfEdit result (length self.old.lines - before) work.old work.new }
     {
-        let (front, rest) = self.lines.split_at(before);
-        let (_, back) = rest.split_at(1);
-        let Ok(assembled) = assemble(self.alloc, front, from_ref(&line), back) else {
+        let (_, back) = self.lines.split_at(before + 1);
+        let Ok(_) = self
+            .assembled
+            .redo(self.alloc, work, before, from_ref(&line), back)
+        else {
             return Err(EditFault::Memory);
         };
         self.lines[before] = line;
-        self.assembled = assembled;
         Ok(())
     }
 
     /// Deletes the lines from `first` to `last`, where lines count from 1.
-    pub fn delete(&mut self, first: u32, last: u32) -> Result<(), EditFault>
-        ensures ok { OnOk result (self.new ≡ without_lines self.old first last) }
-        ensures allowed { OnOk result (HasLines self.old first last) }
+    pub fn delete(&mut self, first: u32, last: u32, work: &mut Work) -> Result<(), EditFault>
+        ensures ok { OnOk result (self.new.lines ≡ without_lines self.old.lines first last) }
+        ensures allowed { OnOk result (HasLines self.old.lines first last) }
         ensures err { OnErr result (self.new ≡ self.old) }
-        ensures no_line { IsErrOf result EditFault.NoSuchLine ↔ LacksLines self.old first last }
+        ensures no_line { IsErrOf result EditFault.NoSuchLine ↔ LacksLines self.old.lines first last }
         ensures too_many { IsErrOf result EditFault.TooManyLines → ⊥ }
-        ensures memory { IsErrOf result EditFault.Memory → HasLines self.old first last }
+        ensures memory { IsErrOf result EditFault.Memory → HasLines self.old.lines first last }
+        ensures steps { StepsOfEdit result (length self.old.lines - last) work.old work.new }
     {
         if first == 0 || last < first || last as usize > self.lines.len() {
             return Err(EditFault::NoSuchLine);
         }
-        self.cut(first as usize - 1, last as usize)
+        self.cut(first as usize - 1, last as usize, work)
     }
 
     /// Deletes the lines behind the first `from`, up to the first `to`.
-    fn cut(&mut self, from: usize, to: usize) -> Result<(), EditFault>
+    fn cut(&mut self, from: usize, to: usize, work: &mut Work) -> Result<(), EditFault>
         requires forwards { from ≤ to }
-        requires within { to ≤ length self.old }
-        ensures ok { OnOk result (self.new ≡ take from self.old ++ drop to self.old) }
+        requires within { to ≤ length self.old.lines }
+        ensures ok { OnOk result (self.new.lines ≡ take from self.old.lines ++ drop to self.old.lines) }
         ensures err { OnErr result (self.new ≡ self.old) }
-        ensures no_line { IsErrOf result EditFault.NoSuchLine → ⊥ }
-        ensures too_many { IsErrOf result EditFault.TooManyLines → ⊥ }
+        ensures only { OnErr result (IsErrOf result EditFault.Memory) }
+        ensures steps { StepsOfEdit result (length self.old.lines - to) work.old work.new }
     {
-        let (front, _) = self.lines.split_at(from);
         let (_, back) = self.lines.split_at(to);
-        let Ok(assembled) = assemble(self.alloc, front, &[], back) else {
+        let Ok(_) = self.assembled.redo(self.alloc, work, from, &[], back) else {
             return Err(EditFault::Memory);
         };
         self.lines.drain(from..to);
-        self.assembled = assembled;
         Ok(())
     }
 
     /// The binary text of the source.
     pub fn binary(&self, alloc: Global) -> Result<Vec<u8>, AllocError>
-        ensures { IfOk result (λ text. text.items ≡ binary_text self.now) }
+        ensures { IfOk result (λ text. text.items ≡ binary_text self.now.lines) }
     {
-        binary_text(alloc, &self.assembled)
+        binary_text(alloc, self.assembled.traces(), self.assembled.finals())
     }
 
     /// The listing of the source.
     pub fn listing(&self, alloc: Global) -> Result<Vec<u8>, AllocError>
-        ensures { IfOk result (λ text. text.items ≡ listing_text self.now) }
+        ensures { IfOk result (λ text. text.items ≡ listing_text self.now.lines) }
     {
-        listing_text(alloc, &self.lines, &self.assembled)
+        listing_text(
+            alloc,
+            &self.lines,
+            self.assembled.traces(),
+            self.assembled.finals(),
+        )
     }
 
     /// The flags text of the source.
     pub fn flags(&self, alloc: Global) -> Result<Vec<u8>, AllocError>
-        ensures { IfOk result (λ text. text.items ≡ flags_text self.now) }
+        ensures { IfOk result (λ text. text.items ≡ flags_text self.now.lines) }
     {
-        flags_text(alloc, &self.assembled)
+        flags_text(alloc, self.assembled.traces(), self.assembled.finals())
     }
 
     /// How many lines of the source have a flag. Takes no memory.
     pub fn flagged(&self) -> u32
-        ensures { result ≡ flagged_lines self.now }
+        ensures { result ≡ flagged_lines self.now.lines }
     {
-        flagged_lines(&self.assembled) as u32
+        flagged_lines(self.assembled.traces(), self.assembled.finals()) as u32
     }
 }
