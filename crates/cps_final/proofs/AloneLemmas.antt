@@ -22,7 +22,7 @@ use Rattle.cps_state.specs.Flags.{joined}
 use Rattle.cps_state.specs.Made.{Made, no_flags, width_of}
 use Rattle.cps_final.specs.declared.row.Row.{Row}
 use Rattle.cps_final.specs.Finals.{block}
-use Rattle.cps_final.specs.Outcome.{Resolved, labels_by, address_of, base_in, plain_offset, value_at, number_of, value_flags, limit_flags, digits, row_at, field_rows, final_of, statement_row, rows_with, rows_of, field_piece, placed, field_pieces, pieces_of, content_names, labels_in, outcome_of, blocks_shown, AgreeOnMade, AgreeOnNamed}
+use Rattle.cps_final.specs.Outcome.{Resolved, labels_by, address_of, base_in, plain_offset, value_at, number_of, value_flags, limit_flags, digits, row_at, field_rows, final_of, statement_row, rows_with, rows_of, field_piece, placed, field_pieces, pieces_of, content_names, names_read, names_defined, outcome_of, blocks_shown, AgreeOnMade, AgreeOnNamed}
 
 all-head : {T : Type 0} (P : T → Type 0) (x : T) (xs : List T) → All P (x ∷ xs) → P x
 all-head P x xs each = each 0 x (omega arith)
@@ -164,5 +164,6 @@ pub outcome-alone : (others finals : Resolved) (trace : Trace) → AgreeOnNamed 
 outcome-alone others finals trace agree = λ i. record {
   rows = all-rows-same others finals trace.items agree i;
   pieces = all-pieces-same others finals trace.items agree i;
-  names = labels_in trace;
+  defined = names_defined trace;
+  read = names_read trace;
 }

@@ -10,13 +10,14 @@ use Rattle.cps_expr.specs.Value.{Values, same_name}
 use Rattle.cps_state.specs.declared.flags.Flags.{Flags}
 use Rattle.cps_state.specs.declared.made.Field.{Field}
 use Rattle.cps_state.specs.declared.item.Item.{Item}
+use Rattle.cps_state.specs.declared.key.Put.{Put}
 use Rattle.cps_state.specs.Course.{Trace}
 use Rattle.cps_state.specs.Flags.{joined}
 use Rattle.cps_code.specs.Image.{Piece}
 use Rattle.cps_state.specs.Made.{Made, no_flags, width_of, HasRoom, HaveRoom}
 use Rattle.cps_final.specs.declared.row.Row.{Row}
 use Rattle.cps_final.specs.Distinct.{distinct}
-use Rattle.cps_final.specs.Outcome.{Resolved, labels_by, base_in, number_of, value_flags, limit_flags, digits, row_at, field_rows, rows_of, placed, field_piece, field_pieces, pieces_of, content_names, labels_in, outcome_of, joined_with}
+use Rattle.cps_final.specs.Outcome.{Resolved, labels_by, base_in, number_of, value_flags, limit_flags, digits, row_at, field_rows, rows_of, placed, field_piece, field_pieces, pieces_of, content_names, later_names, symbol_put, names_read, names_defined, outcome_of, joined_with}
 use Rattle.cps_final.proofs.BlockLemmas.{same_name-laws}
 use Rattle.cps_final.proofs.GatherLemmas.{distinct-append}
 
@@ -109,17 +110,20 @@ bits-ok (Err e) finals made base far filling mid old new fields based near is fi
 
 -- ---- a line
 
-pub outcome-made : (finals : Resolved) (trace : Trace) (items : List Item) (rows : List Row) (pieces : List Piece) (names : List Name) → items ≡ trace.items
+pub outcome-made : (finals : Resolved) (trace : Trace) (items : List Item) (puts : List Put) (rows : List Row) (pieces : List Piece) (defined read : List Name) → items ≡ trace.items → puts ≡ trace.puts
     → rows ≡ flat_map (λ item. rows_of finals item.made) items → pieces ≡ flat_map (λ item. pieces_of finals item.made) items
-    → names ≡ insert_all same_name [] (flat_map (λ item. flat_map (λ field. content_names field.content) item.made.fields) items)
-    → record { rows = rows; pieces = pieces; names = names } ≡ outcome_of finals trace
-outcome-made finals trace items rows pieces names is shows bits reads =
-    let all : List Item → List Name = λ l. flat_map (λ item. flat_map (λ field. content_names field.content) item.made.fields) l in
-    let names-now : names ≡ labels_in trace = reads ∙ sym (distinct-append same_name same_name-laws [] (all items)) ∙ ap (λ (l : List Item). distinct same_name (all l)) is in
+    → defined ≡ insert_all same_name [] (flat_map (λ p. symbol_put p.key) puts) → read ≡ insert_all same_name [] (trace.reads ++ later_names trace)
+    → record { rows = rows; pieces = pieces; defined = defined; read = read } ≡ outcome_of finals trace
+outcome-made finals trace items puts rows pieces defined read is has shows bits defines reads =
+    let defined-now : defined ≡ names_defined trace =
+    defines ∙ ap (λ (l : List Put). insert_all same_name [] (flat_map (λ p. symbol_put p.key) l)) has
+    ∙ sym (distinct-append same_name same_name-laws [] (flat_map (λ p. symbol_put p.key) trace.puts)) in
+    let read-now : read ≡ names_read trace = reads ∙ sym (distinct-append same_name same_name-laws [] (trace.reads ++ later_names trace)) in
     λ i. record {
       rows = (shows ∙ ap (flat_map (λ (item : Item). rows_of finals item.made)) is) i;
       pieces = (bits ∙ ap (flat_map (λ (item : Item). pieces_of finals item.made)) is) i;
-      names = names-now i;
+      defined = defined-now i;
+      read = read-now i;
     }
 
 pub appends-more : {X Y : Type 0} (f : X → List Y) (xs : List X) (i : ℕ) (x : X) (mid new : List Y) → i < length xs → x ≡ get_or xs i x

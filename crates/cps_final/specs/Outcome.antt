@@ -14,6 +14,8 @@ use Rattle.cps_state.specs.declared.made.Content.TheVariants.{Instruction}
 use Rattle.cps_state.specs.declared.made.Field.{Field}
 use Rattle.cps_state.specs.declared.made.Shown.{Shown}
 use Rattle.cps_state.specs.declared.made.Shown.TheVariants as shown
+use Rattle.cps_state.specs.declared.key.Key.{Key}
+use Rattle.cps_state.specs.declared.key.Key.TheVariants as key
 use Rattle.cps_state.specs.Course.{Trace}
 use Rattle.cps_state.specs.Flags.{joined}
 use Rattle.cps_state.specs.Keys.{limit}
@@ -147,22 +149,38 @@ pieces_of finals made =
 abbrev pub content_names : Content → List Name
 content_names (Instruction form) = flat_map (λ hole. names_of hole.expression) form.holes
 
--- the names that the expressions of a line read later, each once
-abbrev pub labels_in : Trace → List Name
-labels_in trace = distinct same_name (flat_map (λ item. flat_map (λ field. content_names field.content) item.made.fields) trace.items)
+-- the names that the expressions of a line read later
+abbrev pub later_names : Trace → List Name
+later_names trace = flat_map (λ item. flat_map (λ field. content_names field.content) item.made.fields) trace.items
+
+-- the symbols that a line reads, now or later, each once
+abbrev pub names_read : Trace → List Name
+names_read trace = distinct same_name (trace.reads ++ later_names trace)
+
+-- the symbol whose value a key is
+abbrev pub symbol_put : Key → List Name
+symbol_put key.Control = []
+symbol_put (key.Counter place) = []
+symbol_put (key.Label name) = name ∷ []
+
+-- the symbols that a line defines, each once
+abbrev pub names_defined : Trace → List Name
+names_defined trace = distinct same_name (flat_map (λ p. symbol_put p.key) trace.puts)
 
 -- ---- a line
 
 pub record Outcome : Type 0 where
   pub rows : List Row
   pub pieces : List Piece
-  pub names : List Name
+  pub defined : List Name
+  pub read : List Name
 
 abbrev pub outcome_of : Resolved → Trace → Outcome
 outcome_of finals trace = record {
   rows = flat_map (λ item. rows_of finals item.made) trace.items;
   pieces = flat_map (λ item. pieces_of finals item.made) trace.items;
-  names = labels_in trace;
+  defined = names_defined trace;
+  read = names_read trace;
 }
 
 -- flags, and those of rows

@@ -7,7 +7,7 @@ ghost use Rattle.cps_final.specs.Finals.{final_value};
 ghost use Rattle.cps_final.specs.Outcome as outcome;
 
 use crate::finals::{Finals, Gathered};
-use crate::names::read_names;
+use crate::names::{defined_names, read_names};
 use crate::pieces::make_pieces;
 use crate::row::Row;
 use crate::rows::make_rows;
@@ -18,12 +18,13 @@ use indexmap::IndexSet;
 use std::alloc::{AllocError, Global};
 use std::marker::Model;
 
-/// What pass two makes of a line: its rows, its bits, and the names that it read.
+/// What pass two makes of a line: its rows, its bits, and the symbols that it defines and reads.
 #[derive(Drop)]
 pub struct Outcome {
     rows: Vec<Row>,
     pieces: Vec<Piece>,
-    names: IndexSet<Name>,
+    defined: IndexSet<Name>,
+    read: IndexSet<Name>,
 }
 
 impl Model for Outcome {
@@ -33,7 +34,7 @@ impl Model for Outcome {
 
     ghost Value = { Outcome };
 
-    ghost view = { λ outcome. record { rows = outcome.rows.items; pieces = map piece_of outcome.pieces.items; names = outcome.names.keys } };
+    ghost view = { λ outcome. record { rows = outcome.rows.items; pieces = map piece_of outcome.pieces.items; defined = outcome.defined.keys; read = outcome.read.keys } };
 }
 
 /// Pass two of a line. It counts as one step, whatever is answered.
@@ -60,11 +61,13 @@ fn make_outcome(alloc: Global, trace: &Trace, finals: &Finals) -> Result<Outcome
     let items = trace.items();
     let rows = make_rows(alloc, items, finals)?;
     let pieces = make_pieces(alloc, items, finals)?;
-    let names = read_names(alloc, items)?;
+    let defined = defined_names(alloc, trace.puts())?;
+    let read = read_names(alloc, trace)?;
     Ok(Outcome {
         rows,
         pieces,
-        names,
+        defined,
+        read,
     })
 }
 
@@ -83,11 +86,18 @@ impl Outcome {
         self.pieces.as_slice()
     }
 
-    /// The names of symbols that were read, each once.
-    pub fn names(&self) -> &[Name]
-        ensures { result.now ≡ self.now.names }
+    /// The symbols that the line defines, each once.
+    pub fn names_defined(&self) -> &[Name]
+        ensures { result.now ≡ self.now.defined }
     {
-        self.names.as_slice()
+        self.defined.as_slice()
+    }
+
+    /// The symbols that the line reads, each once.
+    pub fn names_read(&self) -> &[Name]
+        ensures { result.now ≡ self.now.read }
+    {
+        self.read.as_slice()
     }
 
     /// The flags of all rows.

@@ -5,7 +5,7 @@ use Rattle.cps_expr.specs.declared.value.Value.{Value as AValue}
 use Rattle.cps_state.specs.declared.flags.Flags.{Flags}
 use Rattle.cps_state.specs.declared.key.Key.TheVariants as key
 use Rattle.cps_state.specs.declared.key.Answer.TheVariants as answer
-use Rattle.cps_state.specs.Course.{Part, nothing, asking, putting}
+use Rattle.cps_state.specs.Course.{Part, nothing, ◌before◌, asking, putting, telling_if}
 use Rattle.cps_state.specs.Keys.{value_of}
 use Rattle.cps_state.specs.Made.{no_flags}
 use Rattle.cps_pass.specs.declared.reading.Location.{Location}
@@ -31,10 +31,10 @@ symbol_in Minus = None
 symbol_in (Symbol name) = Some name
 symbol_in NoSymbol = None
 
--- asking whether a symbol has a value already; where there is no symbol nothing is asked
+-- asking whether a symbol has a value already, and then it counts as read; where there is no symbol nothing is asked
 abbrev pub asking_taken : Option Name → (Bool → Part) → Part
 asking_taken None next = next false
-asking_taken (Some name) next = asking (key.Label name) (λ a. next (is_some (value_of a)))
+asking_taken (Some name) next = asking (key.Label name) (λ a. telling_if (is_some (value_of a)) name before next (is_some (value_of a)))
 
 -- a symbol gets a value; one that has a value keeps it
 abbrev pub defining : Option Name → Bool → AValue → Part

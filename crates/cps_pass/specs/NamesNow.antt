@@ -3,7 +3,7 @@ use Rattle.std.specs.Prelude.{List, [], ◌∷◌}
 use Rattle.cps_text.specs.declared.name.Name.{Name}
 use Rattle.cps_expr.specs.Value.{Values}
 use Rattle.cps_state.specs.declared.key.Key.TheVariants as key
-use Rattle.cps_state.specs.Course.{Part, asking}
+use Rattle.cps_state.specs.Course.{Part, ◌before◌, asking, tell}
 use Rattle.cps_state.specs.Keys.{value_of}
 use Rattle.cps_pass.specs.declared.value_now.NameNow.{NameNow}
 use Rattle.cps_pass.specs.ValueNow.{no_values, with_value}
@@ -16,6 +16,6 @@ with_values (now ∷ names) values = with_value now.name now.value (with_values 
 abbrev pub values_in : List NameNow → Values
 values_in names = with_values names no_values
 
--- asking the value of a name
+-- asking the value of a name, which is read
 abbrev pub name_now : Name → (NameNow → Part) → Part
-name_now name next = asking (key.Label name) (λ a. next (record { name = name; value = value_of a }))
+name_now name next = asking (key.Label name) (λ a. tell name before next (record { name = name; value = value_of a }))

@@ -6,7 +6,7 @@ use Rattle.cps_expr.specs.Expression.{Expression, names_of, has_counter}
 use Rattle.cps_expr.specs.Value.{Values, plain, same_name, value_in, has_undefined}
 use Rattle.cps_code.specs.Place.{position}
 use Rattle.cps_state.specs.declared.key.Key.TheVariants as key
-use Rattle.cps_state.specs.Course.{Part, asking}
+use Rattle.cps_state.specs.Course.{Part, ◌before◌, asking, tell}
 use Rattle.cps_state.specs.Keys.{place_of, value_of}
 use Rattle.cps_pass.specs.declared.value_now.ValueNow.{ValueNow}
 use Rattle.cps_pass.specs.declared.value_now.ValueNow.TheVariants.{Undefined, NoValue, Known}
@@ -23,10 +23,10 @@ no_values name = None
 abbrev pub with_value : Name → Option AValue → Values → Values
 with_value name value values other = if same_name name other then value else values other
 
--- asking the values of names
+-- asking the values of names, which are read
 abbrev pub names_now : List Name → (Values → Part) → Part
 names_now [] next = next no_values
-names_now (name ∷ names) next = asking (key.Label name) (λ a. names_now names (λ values. next (with_value name (value_of a) values)))
+names_now (name ∷ names) next = asking (key.Label name) (λ a. tell name before names_now names (λ values. next (with_value name (value_of a) values)))
 
 -- the value of an expression; a name without a value leaves it undefined
 abbrev pub value_now : Values → AValue → Expression → ValueNow

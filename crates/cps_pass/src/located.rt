@@ -38,7 +38,7 @@ pub fn symbol_in(location: Location) -> Option<Name>
     }
 }
 
-/// Whether the symbol of a location field has a value already.
+/// Whether the symbol of a location field has a value already; then it counts as read.
 pub fn is_taken<L: Lookup>(
     recorder: &mut Recorder,
     state: &L,
@@ -49,7 +49,11 @@ pub fn is_taken<L: Lookup>(
     match symbol_in(location) {
         Some(name) => {
             let answer = recorder.ask(state, Key::Label(name))?;
-            Ok(value_of(answer.as_ref()).is_some())
+            let is_taken = value_of(answer.as_ref()).is_some();
+            if is_taken {
+                recorder.tell(name)?;
+            }
+            Ok(is_taken)
         }
         None => Ok(false),
     }

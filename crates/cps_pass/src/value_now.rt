@@ -137,6 +137,7 @@ fn name_now<L: Lookup>(
     ensures { IfOk result (λ value. Hands (name_now name.now) value (L.answer state.now) recorder.old recorder.new) }
 {
     let answer = recorder.ask(state, Key::Label(*name))?;
+    recorder.tell(*name)?;
     Ok(NameNow {
         name: *name,
         value: value_of(answer.as_ref()),

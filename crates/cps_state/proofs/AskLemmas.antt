@@ -5,7 +5,7 @@ use Rattle.cps_state.specs.declared.key.Key.{Key}
 use Rattle.cps_state.specs.declared.key.Answer.{Answer}
 use Rattle.cps_state.specs.declared.key.Asked.{Asked}
 use Rattle.cps_state.specs.Keys.{State}
-use Rattle.cps_state.specs.Course.{Course, stop, ask, put, begin, fill, Running, run, known_at, answer_at, with_ask, with_put_made, begun, filled, Holds}
+use Rattle.cps_state.specs.Course.{Course, stop, ask, put, begin, fill, tell, Running, run, known_at, answer_at, with_ask, with_put_made, begun, filled, with_read, Holds}
 
 holds-front : (front back : List Asked) (g : State) → Holds (front ++ back) g → Holds front g
 holds-front [] back g held = tt
@@ -43,6 +43,7 @@ kept-asks (ask k next) f g t held = asked-before f g t k (known_at t k) (kept-as
 kept-asks (put p rest) f g t held = kept-asks rest f g (with_put_made t p) held
 kept-asks (begin depth rest) f g t held = kept-asks rest f g (begun t depth) held
 kept-asks (fill made rest) f g t held = kept-asks rest f g (filled t made) held
+kept-asks (tell name rest) f g t held = kept-asks rest f g (with_read t name) held
 
 pub run-same : (course : Course) (f g : State) (t : Running) → Holds (run course f t).asks g → run course g t ≡ run course f t
 unfolding asking_with
@@ -55,3 +56,4 @@ run-same (ask k next) f g t held =
 run-same (put p rest) f g t held = run-same rest f g (with_put_made t p) held
 run-same (begin depth rest) f g t held = run-same rest f g (begun t depth) held
 run-same (fill made rest) f g t held = run-same rest f g (filled t made) held
+run-same (tell name rest) f g t held = run-same rest f g (with_read t name) held

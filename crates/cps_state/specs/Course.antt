@@ -1,7 +1,8 @@
--- The course of a line in pass one (our own): it asks keys of the state, puts answers there, begins statements and fills them. The next key
--- follows from the answers so far. What the line itself put or asked before is not asked again.
-use Rattle.std.specs.Prelude.{◌≡◌, ℕ, List, [], ◌∷◌, ◌++◌, Option, None, Some, option_map, is_some, unwrap_or, if◌then◌else◌}
+-- The course of a line in pass one (our own): it asks keys of the state, puts answers there, begins statements and fills them, and
+-- tells the symbols that it reads. The next key follows from the answers so far. What the line itself put or asked before is not asked again.
+use Rattle.std.specs.Prelude.{◌≡◌, ℕ, Bool, List, [], ◌∷◌, ◌++◌, Option, None, Some, option_map, is_some, unwrap_or, if◌then◌else◌}
 use Rattle.std.specs.Option.{option_or, option_to_list}
+use Rattle.cps_text.specs.declared.name.Name.{Name}
 use Rattle.cps_state.specs.declared.key.Key.{Key}
 use Rattle.cps_state.specs.declared.key.Answer.{Answer}
 use Rattle.cps_state.specs.declared.key.Asked.{Asked}
@@ -17,6 +18,7 @@ pub data Course : Type 0 where
   put : Put → Course → Course
   begin : ℕ → Course → Course
   fill : Made → Course → Course
+  tell : Name → Course → Course
 
 -- ---- parts: what a line does before what comes behind it
 
@@ -37,16 +39,21 @@ asking key next rest = ask key (λ answer. next answer rest)
 abbrev pub putting : Key → Answer → Part
 putting key answer = put (record { key = key; answer = answer })
 
--- ---- what a line has done so far: what it asked and put, the statements that are whole, and the one that began last
+-- telling a symbol where something holds
+abbrev pub telling_if : Bool → Name → Part
+telling_if holds name = if holds then tell name else nothing
+
+-- ---- what a line has done so far: what it asked and put, the statements that are whole, the one that began last, and the symbols that it read
 
 pub record Running : Type 0 where
   pub asks : List Asked
   pub puts : List Put
   pub whole : List Item
   pub present : Option Item
+  pub reads : List Name
 
 abbrev pub not_begun : Running
-not_begun = record { asks = []; puts = []; whole = []; present = None }
+not_begun = record { asks = []; puts = []; whole = []; present = None; reads = [] }
 
 -- the newest put at a key
 abbrev pub last_put : List Put → Key → Option Answer
@@ -83,6 +90,9 @@ begun running depth = record running { whole = items_of running; present = Some 
 abbrev pub filled : Running → Made → Running
 filled running made = record running { present = option_map (with_made made) running.present }
 
+abbrev pub with_read : Running → Name → Running
+with_read running name = record running { reads = running.reads ++ name ∷ [] }
+
 -- what a course leaves behind what came before
 abbrev pub run : Course → State → Running → Running
 run stop state running = running
@@ -90,6 +100,7 @@ run (ask k next) state running = run (next (answer_at state running k)) state (w
 run (put p rest) state running = run rest state (with_put_made running p)
 run (begin depth rest) state running = run rest state (begun running depth)
 run (fill made rest) state running = run rest state (filled running made)
+run (tell name rest) state running = run rest state (with_read running name)
 
 -- in a state a part was done: what had been done became what has been done
 abbrev pub Does : Part → State → Running → Running → Type 0
@@ -101,14 +112,15 @@ Hands {T} part value state old new = (next : T → Part) (rest : Course) → run
 
 -- ---- what a line did
 
--- what was asked, put and made
+-- what was asked, put and made, and the symbols that were read, in their order
 pub record Trace : Type 0 where
   pub asks : List Asked
   pub puts : List Put
   pub items : List Item
+  pub reads : List Name
 
 abbrev pub traced : Running → Trace
-traced running = record { asks = running.asks; puts = running.puts; items = items_of running }
+traced running = record { asks = running.asks; puts = running.puts; items = items_of running; reads = running.reads }
 
 -- each key that was asked has the same answer in another state
 abbrev pub Holds : List Asked → State → Type 0

@@ -129,7 +129,7 @@ impl Made {
         requires { HasRoom field }
         ensures { IfOk result (λ made. made ≡ record (nothing_made flags) { block = block; filling = option_to_list (option_map piece_of filling); fields = field ∷ [] }) }
     {
-        let mut fields = Vec::new(alloc);
+        let mut fields = Vec::with_capacity(alloc, 1)?;
         fields.push(field)?;
         Ok(Made {
             flags,
@@ -151,7 +151,7 @@ impl Made {
     ) -> Result<Made, AllocError>
         ensures { IfOk result (λ made. made ≡ record (nothing_made flags) { block = block; fields = field ∷ []; is_too_far = true }) }
     {
-        let mut fields = Vec::new(alloc);
+        let mut fields = Vec::with_capacity(alloc, 1)?;
         fields.push(field)?;
         Ok(Made {
             flags,

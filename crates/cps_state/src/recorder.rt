@@ -1,16 +1,17 @@
-//! What a line has asked, put and made so far.
+//! What a line has asked, put, made and read so far.
 ghost use Rattle.std.specs.Prelude.{◌≡◌, OnOk, IfOk};
-ghost use Rattle.cps_state.specs.Course.{not_begun, known_at, last_put, last_ask, answer_at, with_ask, with_put_made, begun, filled, traced};
+ghost use Rattle.cps_state.specs.Course.{not_begun, known_at, last_put, last_ask, answer_at, with_ask, with_put_made, begun, filled, with_read, traced};
 
 use crate::item::Item;
 use crate::key::{Answer, Asked, Key, Put, is_same_key, share_answer};
 use crate::lookup::Lookup;
 use crate::made::Made;
 use crate::trace::Trace;
+use cps_text::Name;
 use std::alloc::{AllocError, Global};
 use std::marker::Model;
 
-/// What a line has asked, put and made so far.
+/// What a line has asked, put, made and read so far.
 #[derive(Drop)]
 pub struct Recorder {
     alloc: Global,
@@ -18,6 +19,7 @@ pub struct Recorder {
     puts: Vec<Put>,
     whole: Vec<Item>,
     present: Option<Item>,
+    reads: Vec<Name>,
 }
 
 impl Model for Recorder {
@@ -25,7 +27,7 @@ impl Model for Recorder {
 
     ghost Value = { Running };
 
-    ghost view = { λ recorder. record { asks = recorder.asks.items; puts = recorder.puts.items; whole = recorder.whole.items; present = recorder.present } };
+    ghost view = { λ recorder. record { asks = recorder.asks.items; puts = recorder.puts.items; whole = recorder.whole.items; present = recorder.present; reads = recorder.reads.items } };
 }
 
 impl Recorder {
@@ -39,6 +41,7 @@ impl Recorder {
             puts: Vec::new(alloc),
             whole: Vec::new(alloc),
             present: None,
+            reads: Vec::new(alloc),
         }
     }
 
@@ -96,6 +99,14 @@ impl Recorder {
         }
     }
 
+    /// Tells a symbol that is read.
+    pub fn tell(&mut self, name: Name) -> Result<(), AllocError>
+        ensures { OnOk result (self.new ≡ with_read self.old name) }
+    {
+        self.reads.push(name)?;
+        Ok(())
+    }
+
     /// What the line did.
     pub fn into_trace(self) -> Result<Trace, AllocError>
         ensures { IfOk result (λ trace. trace ≡ traced self) }
@@ -105,12 +116,14 @@ impl Recorder {
             puts,
             mut whole,
             present,
+            reads,
             ..
         } = self;
         if let Some(present) = present {
+            whole.reserve_exact(1)?;
             whole.push(present)?;
         }
-        Ok(Trace::new(asks, puts, whole))
+        Ok(Trace::new(asks, puts, whole, reads))
     }
 }
 

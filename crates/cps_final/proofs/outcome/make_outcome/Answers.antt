@@ -8,5 +8,5 @@ use Rattle.cps_final.proofs.outcome.make_outcome.Goals as goal
 pub returns : goal.returns
 returns c =
     let finals = final_value (gathered-value.it c.args.finals.now) in
-    let made = outcome-made finals c.args.trace.now c.items-items.result.now _ _ _ c.items-items.ensures c.in_ok-rows.ensures c.in_ok-pieces.ensures c.in_ok-names.ensures in
+    let made = outcome-made finals c.args.trace.now c.items-items.result.now c.puts.result.now _ _ _ _ c.items-items.ensures c.puts.ensures c.in_ok-rows.ensures c.in_ok-pieces.ensures c.in_ok-defined.ensures c.in_ok-read.ensures in
     record { outcome = made; alone = λ others agree. outcome-alone others finals c.args.trace.now agree ∙ sym made }

@@ -1,0 +1,9 @@
+use Rattle.std.proofs.Common.{◌≡◌, take, flat_map}
+use Rattle.cps_expr.specs.Value.{same_name}
+use Rattle.indexmap.specs.IndexSet.{insert_all}
+use Rattle.cps_final.specs.Outcome.{content_names}
+use Rattle.cps_final.proofs.names.insert_later_names.Given as goal
+
+abbrev pub invariant-loop-item : goal.invariant-loop-item
+invariant-loop-item l =
+    l.names.keys ≡ insert_all same_name l.fn.names.keys (flat_map (λ item. flat_map (λ field. content_names field.content) item.made.fields) (take l.item-index l.items))
