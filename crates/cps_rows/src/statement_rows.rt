@@ -1,4 +1,5 @@
 //! The rows of statements, with the names that they read.
+use super::assertions::{assert_row, assert_row_text};
 use super::same_value::UNDEFINED;
 use cps_expr::{
     Block, Comparison, DisText, Expr, Machine, Operation, Radix, Relation, Row, Stmt, StmtFault,
@@ -123,7 +124,14 @@ fn push_names(text: &mut Vec<u8>, mark: u8, names: &[Name]) -> Result<(), Fail> 
 }
 
 /// The operands of a statement, then the names read now behind `<` and those read later behind `>`.
-fn shown(alloc: Global, statement: &Stmt) -> Result<Vec<u8>, Fail> {
+fn shown(
+    alloc: Global,
+    operation: &str,
+    tail: &str,
+    machine: Machine,
+    radix: Radix,
+) -> Result<Vec<u8>, Fail> {
+    let statement = Stmt::read(alloc, operation.as_bytes(), tail.as_bytes(), machine, radix)?;
     let mut text = Vec::new(alloc);
     push_operands(&mut text, statement.row())?;
     push_names(&mut text, b'<', statement.now())?;
@@ -131,9 +139,21 @@ fn shown(alloc: Global, statement: &Stmt) -> Result<Vec<u8>, Fail> {
     Ok(text)
 }
 
+/// Why a statement is not read.
+fn refused(
+    alloc: Global,
+    operation: &str,
+    tail: &str,
+    machine: Machine,
+    radix: Radix,
+) -> Option<StmtFault> {
+    let statement = Stmt::read(alloc, operation.as_bytes(), tail.as_bytes(), machine, radix);
+    statement.err()
+}
+
 #[test]
 fn reads_statements(rt: HostRuntime) -> Result<(), Fail> {
-    let rows: [(&str, &str, Operation, &str); 48] = [
+    const ROWS: [(&str, &str, Operation, &str); 48] = [
         ("IDENT", "t1,(", Operation::Ident, " T1"),
         ("abs", "X1", Operation::Abs, ""),
         ("PERIPH", "", Operation::Periph, ""),
@@ -223,45 +243,28 @@ fn reads_statements(rt: HostRuntime) -> Result<(), Fail> {
         ("CON", "A-A", Operation::Con, " 00 >A >A"),
         ("BSS", "100B/8", Operation::Bss, " 10"),
     ];
-    for (at, (operation, tail, named, want)) in rows.iter().enumerate() {
-        let statement = Stmt::read(
-            rt.alloc(),
-            operation.as_bytes(),
-            tail.as_bytes(),
-            Machine::Cp,
-            Radix::Decimal,
-        )?;
-        let text = shown(rt.alloc(), &statement)?;
-        assert_eq!(rt; str::from_utf8(&text)?, *want, "row {at}");
-        assert_eq!(rt;
-            Operation::named(operation.as_bytes()),
-            Some(*named),
-            "row {at}"
-        );
+    for (at, (operation, tail, named, want)) in ROWS.iter().enumerate() {
+        let text = shown(rt.alloc(), operation, tail, Machine::Cp, Radix::Decimal)?;
+        assert_row_text(&rt, at, &text, want)?;
+        let found = Operation::named(operation.as_bytes());
+        assert_row(&rt, at, &found, &Some(*named));
     }
     Ok(())
 }
 
 #[test]
 fn reads_items_of_a_machine(rt: HostRuntime) -> Result<(), Fail> {
-    let statement = Stmt::read(
-        rt.alloc(),
-        b"DATA",
-        b"2LAB,-1,17",
-        Machine::Pp,
-        Radix::Octal,
-    )?;
-    let text = shown(rt.alloc(), &statement)?;
+    let text = shown(rt.alloc(), "DATA", "2LAB,-1,17", Machine::Pp, Radix::Octal)?;
     let want = " 00000000000000000102 00000000000000007776 00000000000000000017";
-    assert_eq!(rt; str::from_utf8(&text)?, want);
-    let statement = Stmt::read(rt.alloc(), b"DATA", b"3LABC", Machine::Pp, Radix::Octal);
-    assert_eq!(rt; statement.err(), Some(StmtFault::Unreadable));
+    assert_row_text(&rt, 0, &text, want)?;
+    let fault = refused(rt.alloc(), "DATA", "3LABC", Machine::Pp, Radix::Octal);
+    assert_row(&rt, 1, &fault, &Some(StmtFault::Unreadable));
     Ok(())
 }
 
 #[test]
 fn refuses_operands(rt: HostRuntime) -> Result<(), Fail> {
-    let unreadable: [(&str, &str); 44] = [
+    const UNREADABLE: [(&str, &str); 44] = [
         ("IDENT", ""),
         ("IDENT", "X1"),
         ("BASE", ""),
@@ -307,17 +310,16 @@ fn refuses_operands(rt: HostRuntime) -> Result<(), Fail> {
         ("MACRO", "A,B,a"),
         ("MACRO", "A=,B"),
     ];
-    for (at, (operation, tail)) in unreadable.iter().enumerate() {
-        let operation = operation.as_bytes();
-        let tail = tail.as_bytes();
-        let statement = Stmt::read(rt.alloc(), operation, tail, Machine::Cp, Radix::Decimal);
-        assert_eq!(rt; statement.err(), Some(StmtFault::Unreadable), "row {at}");
+    for (at, (operation, tail)) in UNREADABLE.iter().enumerate() {
+        let fault = refused(rt.alloc(), operation, tail, Machine::Cp, Radix::Decimal);
+        assert_row(&rt, at, &fault, &Some(StmtFault::Unreadable));
     }
-    for operation in ["SA1", "NO", "MXX", "RE", "", "IFEQQ", "LOCAL"] {
-        let operation = operation.as_bytes();
-        let statement = Stmt::read(rt.alloc(), operation, b"1", Machine::Cp, Radix::Decimal);
-        assert_eq!(rt; statement.err(), Some(StmtFault::NoOperation));
-        assert_eq!(rt; Operation::named(operation), None);
+    const UNKNOWN: [&str; 7] = ["SA1", "NO", "MXX", "RE", "", "IFEQQ", "LOCAL"];
+    for (at, operation) in UNKNOWN.iter().enumerate() {
+        let fault = refused(rt.alloc(), operation, "1", Machine::Cp, Radix::Decimal);
+        assert_row(&rt, at, &fault, &Some(StmtFault::NoOperation));
+        let found = Operation::named(operation.as_bytes());
+        assert_row(&rt, at, &found, &None);
     }
     Ok(())
 }
