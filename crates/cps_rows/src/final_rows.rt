@@ -1,10 +1,11 @@
 //! Steps of pass two: final values, and the rows, bits and names of lines.
-use super::assertions::assert_same;
+use super::assertions::{assert_row, assert_same};
 use super::given::{line, name};
 use cps_code::Piece;
 use cps_expr::{Machine, Value};
 use cps_final::{Digits, Finals, Gather, Outcome, Row, step_two};
 use cps_pass::{Flags, Trace, Work, step_one};
+use cps_text::Name;
 use std::alloc::Global;
 use std::process::Abort;
 use std::test::Fail;
@@ -39,12 +40,23 @@ fn assembled(alloc: Global, work: &mut Work) -> Result<(Vec<Trace>, Finals), Fai
     Ok((traces, gather.finish()?))
 }
 
+/// What a line makes in pass two.
+fn outcome(
+    alloc: Global,
+    work: &mut Work,
+    trace: &Trace,
+    finals: &Finals,
+) -> Result<Outcome, Fail> {
+    let outcome = step_two(alloc, work, trace, finals)?;
+    Ok(outcome)
+}
+
 /// What the lines make in pass two.
 fn outcomes(alloc: Global, work: &mut Work) -> Result<Vec<Outcome>, Fail> {
     let (traces, finals) = assembled(alloc, work)?;
     let mut outcomes = Vec::new(alloc);
     for trace in traces.iter() {
-        outcomes.push(step_two(alloc, work, trace, &finals)?)?;
+        outcomes.push(outcome(alloc, work, trace, &finals)?)?;
     }
     Ok(outcomes)
 }
@@ -80,23 +92,57 @@ fn filling_at_101() -> Piece {
     }
 }
 
+/// What has a final value.
+#[derive(Clone, Copy)]
+enum Asked {
+    Nominal,
+    Block(&'static [u8]),
+    Label(&'static [u8]),
+    Setting(&'static [u8]),
+    Literal(u64),
+}
+
+fn final_value(finals: &Finals, asked: Asked) -> Result<Option<Value>, Fail> {
+    let value = match asked {
+        Asked::Nominal => finals.base(None),
+        Asked::Block(block) => finals.base(Some(name(block)?)),
+        Asked::Label(label) => finals.label(name(label)?),
+        Asked::Setting(setting) => finals.setting(name(setting)?),
+        Asked::Literal(word) => finals.literal(word),
+    };
+    Ok(value)
+}
+
+/// The finals of the program.
+fn finals(alloc: Global) -> Result<Finals, Fail> {
+    let (_, finals) = assembled(alloc, &mut Work::new())?;
+    Ok(finals)
+}
+
+/// Asserts the program's machine, its name and that it has no literal.
+fn assert_program(rt: &impl Abort, finals: &Finals, name: Name) {
+    assert_same(rt, "the machine", &finals.machine(), &Machine::Cp);
+    assert_same(rt, "the program", &finals.program(), &Some(name));
+    assert_same(rt, "the pool", &finals.pool().len(), &0);
+}
+
 #[test]
 fn gathers_final_values(rt: HostRuntime) -> Result<(), Fail> {
-    let (_, finals) = assembled(rt.alloc(), &mut Work::new())?;
-    let start = name(b"START")?;
-    let other = name(b"OTHER")?;
-    let program = name(b"T1")?;
-    let nominal = Value::plain(0);
-    let label = Value::plain(0o100);
-    assert_same(&rt, "the machine", &finals.machine(), &Machine::Cp);
-    assert_same(&rt, "the program", &finals.program(), &Some(program));
-    assert_same(&rt, "the nominal block", &finals.base(None), &Some(nominal));
-    assert_same(&rt, "another block", &finals.base(Some(other)), &None);
-    assert_same(&rt, "a label", &finals.label(start), &Some(label));
-    assert_same(&rt, "no label", &finals.label(other), &None);
-    assert_same(&rt, "no setting", &finals.setting(start), &None);
-    assert_same(&rt, "no literal", &finals.literal(1), &None);
-    assert_same(&rt, "the pool", &finals.pool().len(), &0);
+    const ROWS: [(Asked, Option<i64>); 6] = [
+        (Asked::Nominal, Some(0)),
+        (Asked::Block(b"OTHER"), None),
+        (Asked::Label(b"START"), Some(0o100)),
+        (Asked::Label(b"OTHER"), None),
+        (Asked::Setting(b"START"), None),
+        (Asked::Literal(1), None),
+    ];
+    let finals = finals(rt.alloc())?;
+    for (at, (asked, want)) in ROWS.iter().enumerate() {
+        let got = final_value(&finals, *asked)?;
+        let want = want.map(|number| Value::plain(number));
+        assert_row(&rt, at, &got, &want);
+    }
+    assert_program(&rt, &finals, name(b"T1")?);
     Ok(())
 }
 
