@@ -8,8 +8,8 @@ const FULL: &str = "         SX1     0+0+0+0+0+0+0+0+0+0+0+0+0+0+0+0+0+0+0+0+0+0
 /// Columns 1 to 72 are read, those behind them are not.
 #[test]
 fn reads_72_columns(rt: HostRuntime) -> Result<(), Fail> {
-    let behind = ["", "4", "*", "/2", ",5", "+X2", " COMMENT"];
-    for (at, text) in behind.iter().enumerate() {
+    const BEHIND: [&str; 7] = ["", "4", "*", "/2", ",5", "+X2", " COMMENT"];
+    for (at, text) in BEHIND.iter().enumerate() {
         let line = format!(in rt.alloc(); "{FULL}{text}")?;
         let want = "IDENT\n000000 71100001730000000000\n";
         assert_text(&rt, rt.alloc(), at, &[line.as_str()], "binary", want)?;
@@ -28,7 +28,7 @@ fn reads_72_columns(rt: HostRuntime) -> Result<(), Fail> {
 /// What stands in the last columns that are read, and in the first that aren't.
 #[test]
 fn reads_last_columns(rt: HostRuntime) -> Result<(), Fail> {
-    let source = [
+    const SOURCE: [&str; 4] = [
         "                                                                        NO",
         "                                                                       NO",
         "                                                                      NO",
@@ -38,18 +38,18 @@ fn reads_last_columns(rt: HostRuntime) -> Result<(), Fail> {
         &rt,
         rt.alloc(),
         0,
-        &source,
+        &SOURCE,
         "flags",
         "2 O\n1 flagged lines\n",
     )?;
     let binary = "IDENT\n000000 46000460000000000000\n";
-    assert_text(&rt, rt.alloc(), 1, &source, "binary", binary)
+    assert_text(&rt, rt.alloc(), 1, &SOURCE, "binary", binary)
 }
 
 /// A location field ends before the next blank, also past column 3; one of nine characters is no symbol.
 #[test]
 fn reads_location_fields(rt: HostRuntime) -> Result<(), Fail> {
-    let rows: [(&[&str], &str, &str); 5] = [
+    const ROWS: [(&[&str], &str, &str); 5] = [
         (
             &[
                 "         ORG     100B",
@@ -85,7 +85,7 @@ fn reads_location_fields(rt: HostRuntime) -> Result<(), Fail> {
             "1 O\n2 O\n4 D\n3 flagged lines\n",
         ),
     ];
-    for (at, (source, query, want)) in rows.iter().enumerate() {
+    for (at, (source, query, want)) in ROWS.iter().enumerate() {
         assert_text(&rt, rt.alloc(), at, source, query, want)?;
     }
     Ok(())
@@ -94,7 +94,7 @@ fn reads_location_fields(rt: HostRuntime) -> Result<(), Fail> {
 /// The variable field begins in column 29 or before; what begins in column 30 is a comment.
 #[test]
 fn reads_variable_fields(rt: HostRuntime) -> Result<(), Fail> {
-    let rows: [(&[&str], &str, &str); 5] = [
+    const ROWS: [(&[&str], &str, &str); 5] = [
         (
             &["         SX1                X2"],
             "binary",
@@ -130,7 +130,7 @@ fn reads_variable_fields(rt: HostRuntime) -> Result<(), Fail> {
             "2 A\n1 flagged lines\n",
         ),
     ];
-    for (at, (source, query, want)) in rows.iter().enumerate() {
+    for (at, (source, query, want)) in ROWS.iter().enumerate() {
         assert_text(&rt, rt.alloc(), at, source, query, want)?;
     }
     Ok(())

@@ -1,9 +1,11 @@
 //! Readers and writers that are slow or fail, and what a script's run does with them.
+use super::assertions::assert_same;
 use cps_text::Counted;
 use cps_tool::{RunFault, Session, run_script};
 use std::cell::Cell;
 use std::io;
 use std::io::{ErrorKind, Read, Write};
+use std::process::Abort;
 use std::test::Fail;
 
 /// A reader that gives one byte a call, and behind the last one fails or ends.
@@ -52,6 +54,12 @@ impl Write for SlowWriter {
     }
 }
 
+/// Asserts how many lines a source has, and what the first is.
+fn assert_session(rt: &impl Abort, session: &Session, count: u32, first: Option<&[u8]>) {
+    assert_eq!(rt; session.count(), count);
+    assert_eq!(rt; session.line(1).map(|line| line.bytes()), first);
+}
+
 #[test]
 fn stops_at_a_failed_write(rt: HostRuntime) -> Result<(), Fail> {
     let whole = b"ok 1 lines\nIDENT\n".as_slice();
@@ -63,34 +71,34 @@ fn stops_at_a_failed_write(rt: HostRuntime) -> Result<(), Fail> {
         });
         let mut session = Session::new(rt.alloc());
         let end = run_script(rt.alloc(), &mut reader, &mut writer, &mut session);
-        assert_eq!(rt; end, Err(RunFault::WriteFault));
-        assert_eq!(rt; session.count(), 1);
-        assert_eq!(rt;
-            session.line(1).map(|line| line.bytes()),
-            Some(b"X".as_slice())
-        );
-        assert_eq!(rt; writer.failures(), 1);
-        assert_eq!(rt; writer.into_inner().taken.as_slice(), &whole[..room]);
+        assert_same(&rt, "the end", &end, &Err(RunFault::WriteFault));
+        assert_session(&rt, &session, 1, Some(b"X"));
+        assert_same(&rt, "failures", &writer.failures(), &1);
+        let taken = writer.into_inner().taken;
+        assert_same(&rt, "what is taken", &taken.as_slice(), &&whole[..room]);
     }
     Ok(())
 }
 
 #[test]
 fn stops_at_a_failed_read(rt: HostRuntime) -> Result<(), Fail> {
-    let rows: [(&[u8], u32, Option<&[u8]>, &[u8]); 2] = [
+    const ROWS: [(&[u8], u32, Option<&[u8]>, &[u8]); 2] = [
         (b"a X", 0, None, b""),
         (b"a X\n", 1, Some(b"X"), b"ok 1 lines\n"),
     ];
-    for (rest, count, first, replies) in rows {
-        let mut reader = Counted::new(SlowReader { rest, fails: true });
+    for (rest, count, first, replies) in ROWS.iter() {
+        let mut reader = Counted::new(SlowReader {
+            rest: *rest,
+            fails: true,
+        });
         let mut writer = Counted::new(Vec::new(rt.alloc()));
         let mut session = Session::new(rt.alloc());
         let end = run_script(rt.alloc(), &mut reader, &mut writer, &mut session);
-        assert_eq!(rt; end, Err(RunFault::ReadFault));
-        assert_eq!(rt; session.count(), count);
-        assert_eq!(rt; session.line(1).map(|line| line.bytes()), first);
-        assert_eq!(rt; reader.failures(), 1);
-        assert_eq!(rt; writer.into_inner().as_slice(), replies);
+        assert_same(&rt, "the end", &end, &Err(RunFault::ReadFault));
+        assert_session(&rt, &session, *count, *first);
+        assert_same(&rt, "failures", &reader.failures(), &1);
+        let replied = writer.into_inner();
+        assert_same(&rt, "the replies", &replied.as_slice(), replies);
     }
     Ok(())
 }
@@ -112,11 +120,11 @@ impl Write for Idle {
 #[test]
 fn counts_a_write_that_takes_nothing(rt: HostRuntime) -> Result<(), Fail> {
     let mut writer = Counted::new(Idle);
-    assert_eq!(rt; writer.write(&[]), Some(0));
-    assert_eq!(rt; writer.failures(), 0);
-    assert_eq!(rt; writer.write(b"X"), None);
-    assert_eq!(rt; writer.failures(), 1);
-    assert_eq!(rt; writer.calls(), 2);
+    assert_same(&rt, "nothing", &writer.write(&[]), &Some(0));
+    assert_same(&rt, "no failure", &writer.failures(), &0);
+    assert_same(&rt, "a byte", &writer.write(b"X"), &None);
+    assert_same(&rt, "a failure", &writer.failures(), &1);
+    assert_same(&rt, "calls", &writer.calls(), &2);
     Ok(())
 }
 
@@ -172,10 +180,8 @@ fn replies_before_it_reads_on(rt: HostRuntime) -> Result<(), Fail> {
     let mut writer = Counted::new(Telling { written: &written });
     let mut session = Session::new(rt.alloc());
     run_script(rt.alloc(), &mut reader, &mut writer, &mut session)?;
-    assert_eq!(rt;
-        reader.into_inner().seen.as_slice(),
-        [0, 11, 33, 44].as_slice()
-    );
+    let seen = reader.into_inner().seen;
+    assert_same(&rt, "bytes", &seen.as_slice(), &[0, 11, 33, 44].as_slice());
     Ok(())
 }
 
@@ -233,25 +239,34 @@ impl Write for FailsAt<'_> {
     }
 }
 
+/// Calls, failures and bytes of the last call.
+type Counts = (u64, u64, usize);
+
+/// Asserts what is counted of a device, and that the device counted the same.
+fn assert_counts(rt: &impl Abort, counted: Counted<FailsAt<'_>>, want: Counts) {
+    let got = (counted.calls(), counted.failures(), counted.moved());
+    assert_same(rt, "counts", &got, &want);
+    let device = counted.into_inner();
+    let got = (device.calls, device.failures);
+    assert_same(rt, "the device's counts", &got, &(want.0, want.1));
+}
+
 #[test]
 fn counts_what_the_devices_count(rt: HostRuntime) -> Result<(), Fail> {
     // The failing read and write, the end, and of the reader and the writer: calls, failures, bytes of the last call.
-    let rows = [
+    const ROWS: [(u64, u64, Result<u32, RunFault>, Counts, Counts); 3] = [
         (0, 0, Ok(0), (7, 0, 1), (22, 0, 1)),
         (4, 0, Err(RunFault::ReadFault), (4, 1, 0), (22, 0, 1)),
         (0, 3, Err(RunFault::WriteFault), (2, 0, 1), (3, 1, 0)),
     ];
-    for (failing_read, failing_write, want, reads, writes) in rows {
-        let mut reader = Counted::new(FailsAt::new(b"x\nquit\nx\n", failing_read));
-        let mut writer = Counted::new(FailsAt::new(b"", failing_write));
+    for (failing_read, failing_write, want, reads, writes) in ROWS.iter() {
+        let mut reader = Counted::new(FailsAt::new(b"x\nquit\nx\n", *failing_read));
+        let mut writer = Counted::new(FailsAt::new(b"", *failing_write));
         let mut session = Session::new(rt.alloc());
         let end = run_script(rt.alloc(), &mut reader, &mut writer, &mut session);
-        assert_eq!(rt; end, want);
-        assert_eq!(rt; (reader.calls(), reader.failures(), reader.moved()), reads);
-        assert_eq!(rt; (writer.calls(), writer.failures(), writer.moved()), writes);
-        let (reader, writer) = (reader.into_inner(), writer.into_inner());
-        assert_eq!(rt; (reader.calls, reader.failures), (reads.0, reads.1));
-        assert_eq!(rt; (writer.calls, writer.failures), (writes.0, writes.1));
+        assert_same(&rt, "the end", &end, want);
+        assert_counts(&rt, reader, *reads);
+        assert_counts(&rt, writer, *writes);
     }
     Ok(())
 }

@@ -6,29 +6,17 @@
 #![tactic(auto)]
 
 #[cfg(test)]
-mod code_rows;
+mod assertions;
 #[cfg(test)]
 mod column_rows;
 #[cfg(test)]
 mod devices;
 #[cfg(test)]
-mod expression_rows;
-#[cfg(test)]
-mod final_rows;
-#[cfg(test)]
-mod pass_rows;
-#[cfg(test)]
 mod replies;
-#[cfg(test)]
-mod same_value;
 #[cfg(test)]
 mod script_rows;
 #[cfg(test)]
 mod source_rows;
-#[cfg(test)]
-mod statement_rows;
-#[cfg(test)]
-mod text_rows;
 
 use cps_text::Counted;
 use cps_tool::{Session, run_script};

@@ -1,13 +1,16 @@
 //! Scripts and the replies to them.
+use super::assertions::{assert_bytes, assert_same};
 use super::replies::assert_replies;
 use cps_pass::Work;
 use cps_text::Line;
 use cps_tool::{EditFault, Session};
+use std::alloc::Global;
+use std::process::Abort;
 use std::test::Fail;
 
 #[test]
 fn answers_commands(rt: HostRuntime) -> Result<(), Fail> {
-    let rows: [(&str, &str); 26] = [
+    const ROWS: [(&str, &str); 26] = [
         ("", ""),
         ("a", "ok 1 lines\n"),
         ("a\r\nquit\r\na\r\n", "ok 1 lines\n"),
@@ -35,7 +38,7 @@ fn answers_commands(rt: HostRuntime) -> Result<(), Fail> {
         ("d 0\n", "refused 1 no such line\n"),
         ("a\nquit\na\nx 1\nbinary\n", "ok 1 lines\n"),
     ];
-    for (at, (script, want)) in rows.iter().enumerate() {
+    for (at, (script, want)) in ROWS.iter().enumerate() {
         assert_replies(&rt, rt.alloc(), at, script, want)?;
     }
     Ok(())
@@ -43,7 +46,7 @@ fn answers_commands(rt: HostRuntime) -> Result<(), Fail> {
 
 #[test]
 fn measures_lines(rt: HostRuntime) -> Result<(), Fail> {
-    let rows: [(&str, u32, &str); 7] = [
+    const ROWS: [(&str, u32, &str); 7] = [
         ("a ", 90, "ok 1 lines\n"),
         ("a ", 91, "refused 2 line too long\n"),
         ("a \t", 90, "refused 2 line too long\n"),
@@ -52,7 +55,7 @@ fn measures_lines(rt: HostRuntime) -> Result<(), Fail> {
         ("a ", 198, "refused 2 line too long\n"),
         ("a ", 199, "refused 5 bad command\n"),
     ];
-    for (at, (front, more, want)) in rows.iter().enumerate() {
+    for (at, (front, more, want)) in ROWS.iter().enumerate() {
         let mut script = String::from_str(rt.alloc(), front)?;
         for _ in 0..*more {
             script.push('X')?;
@@ -80,41 +83,62 @@ fn limits_lines(rt: HostRuntime) -> Result<(), Fail> {
     assert_replies(&rt, rt.alloc(), 0, &script, &want)
 }
 
+fn line(alloc: Global, text: &[u8]) -> Result<Line, Fail> {
+    let line = Line::new(alloc, text)?;
+    Ok(line)
+}
+
+fn assert_binary(
+    rt: &impl Abort,
+    alloc: Global,
+    session: &Session,
+    want: &str,
+) -> Result<(), Fail> {
+    assert_bytes(rt, "the binary text", &session.binary(alloc)?, want)
+}
+
+fn assert_listing(
+    rt: &impl Abort,
+    alloc: Global,
+    session: &Session,
+    want: &str,
+) -> Result<(), Fail> {
+    assert_bytes(rt, "the listing", &session.listing(alloc)?, want)
+}
+
+fn assert_flags(rt: &impl Abort, alloc: Global, session: &Session, want: &str) -> Result<(), Fail> {
+    assert_bytes(rt, "the flags text", &session.flags(alloc)?, want)
+}
+
+/// Asserts what a line of a source is, None where there is none.
+fn assert_line(rt: &impl Abort, session: &Session, n: u32, want: Option<&[u8]>) {
+    assert_eq!(rt; session.line(n).map(|line| line.bytes()), want, "line {n}");
+}
+
 #[test]
 fn holds_lines(rt: HostRuntime) -> Result<(), Fail> {
     let mut session = Session::new(rt.alloc());
     let mut work = Work::new();
-    let empty = session.binary(rt.alloc())?;
-    assert_eq!(rt; empty.as_slice(), b"IDENT\n".as_slice());
-    let text = b"  NO".as_slice();
-    let line = Line::new(rt.alloc(), text)?;
-    assert_eq!(rt; line.bytes(), text);
-    assert_eq!(rt; session.insert(0, line, &mut work), Ok(()));
-    assert_eq!(rt; session.line(1).map(|line| line.bytes()), Some(text));
-    assert!(rt; session.line(0).is_none());
-    assert!(rt; session.line(2).is_none());
-    let listing = session.listing(rt.alloc())?;
-    assert_eq!(rt;
-        listing.as_slice(),
-        b"         000000 46000                     1   NO\n".as_slice()
-    );
-    let flags = session.flags(rt.alloc())?;
-    assert_eq!(rt; flags.as_slice(), b"0 flagged lines\n".as_slice());
-    let full = session.binary(rt.alloc())?;
-    assert_eq!(rt;
-        full.as_slice(),
-        b"IDENT\n000000 46000000000000000000\n".as_slice()
-    );
-    let other = Line::new(rt.alloc(), b"* none")?;
-    assert_eq!(rt; session.replace(1, other, &mut work), Ok(()));
-    assert_eq!(rt;
-        session.line(1).map(|line| line.bytes()),
-        Some(b"* none".as_slice())
-    );
-    assert_eq!(rt; session.delete(1, 2, &mut work), Err(EditFault::NoSuchLine));
-    assert_eq!(rt; session.count(), 1);
-    assert_eq!(rt; session.delete(1, 1, &mut work), Ok(()));
-    assert_eq!(rt; session.count(), 0);
+    assert_binary(&rt, rt.alloc(), &session, "IDENT\n")?;
+    let first = line(rt.alloc(), b"  NO")?;
+    assert_same(&rt, "a line", &first.bytes(), &b"  NO".as_slice());
+    assert_same(&rt, "inserted", &session.insert(0, first, &mut work), &Ok(()));
+    assert_line(&rt, &session, 1, Some(b"  NO"));
+    assert_line(&rt, &session, 0, None);
+    assert_line(&rt, &session, 2, None);
+    let listing = "         000000 46000                     1   NO\n";
+    assert_listing(&rt, rt.alloc(), &session, listing)?;
+    assert_flags(&rt, rt.alloc(), &session, "0 flagged lines\n")?;
+    let binary = "IDENT\n000000 46000000000000000000\n";
+    assert_binary(&rt, rt.alloc(), &session, binary)?;
+    let other = line(rt.alloc(), b"* none")?;
+    assert_same(&rt, "replaced", &session.replace(1, other, &mut work), &Ok(()));
+    assert_line(&rt, &session, 1, Some(b"* none"));
+    let refused = session.delete(1, 2, &mut work);
+    assert_same(&rt, "refused", &refused, &Err(EditFault::NoSuchLine));
+    assert_same(&rt, "one line", &session.count(), &1);
+    assert_same(&rt, "deleted", &session.delete(1, 1, &mut work), &Ok(()));
+    assert_same(&rt, "no line", &session.count(), &0);
     Ok(())
 }
 
@@ -124,32 +148,28 @@ fn counts_steps(rt: HostRuntime) -> Result<(), Fail> {
     let mut session = Session::new(rt.alloc());
     let mut work = Work::new();
     for after in 0..4 {
-        let line = Line::new(rt.alloc(), b"  NO")?;
-        assert_eq!(rt; session.insert(after, line, &mut work), Ok(()));
+        let entered = line(rt.alloc(), b"  NO")?;
+        assert_same(&rt, "entered", &session.insert(after, entered, &mut work), &Ok(()));
     }
-    assert_eq!(rt; work.ones(), 4);
-    let line = Line::new(rt.alloc(), b"* one")?;
-    assert_eq!(rt; session.insert(1, line, &mut work), Ok(()));
-    assert_eq!(rt; work.ones(), 4 + 4);
-    let line = Line::new(rt.alloc(), b"* two")?;
-    assert_eq!(rt; session.replace(4, line, &mut work), Ok(()));
-    assert_eq!(rt; work.ones(), 8 + 2);
-    assert_eq!(rt; session.delete(2, 4, &mut work), Ok(()));
-    assert_eq!(rt; work.ones(), 10 + 1);
-    assert_eq!(rt; session.delete(2, 4, &mut work), Err(EditFault::NoSuchLine));
-    assert_eq!(rt; work.ones(), 11);
-    assert_eq!(rt; work.twos(), 0);
-    let listing = session.listing(rt.alloc())?;
-    assert_eq!(rt;
-        listing.as_slice(),
-        b"         000000 46000                     1   NO\n         000000 46000                     2   NO\n".as_slice()
-    );
-    Ok(())
+    assert_same(&rt, "a step a line", &work.ones(), &4);
+    let first = line(rt.alloc(), b"* one")?;
+    assert_same(&rt, "inserted", &session.insert(1, first, &mut work), &Ok(()));
+    assert_same(&rt, "four lines behind the first", &work.ones(), &8);
+    let second = line(rt.alloc(), b"* two")?;
+    assert_same(&rt, "replaced", &session.replace(4, second, &mut work), &Ok(()));
+    assert_same(&rt, "lines 4 and 5", &work.ones(), &10);
+    assert_same(&rt, "deleted", &session.delete(2, 4, &mut work), &Ok(()));
+    assert_same(&rt, "the last line", &work.ones(), &11);
+    let refused = session.delete(2, 4, &mut work);
+    assert_same(&rt, "refused", &refused, &Err(EditFault::NoSuchLine));
+    assert_same(&rt, "no step", &work.ones(), &11);
+    let binary = "IDENT\n000000 46000460000000000000\n";
+    assert_binary(&rt, rt.alloc(), &session, binary)
 }
 
 #[test]
 fn edits_lines(rt: HostRuntime) -> Result<(), Fail> {
-    let rows: [(&str, &str); 6] = [
+    const ROWS: [(&str, &str); 6] = [
         (
             "binary\nd 1\nbinary\n",
             "IDENT\nrefused 1 no such line\nIDENT\n",
@@ -180,7 +200,7 @@ fn edits_lines(rt: HostRuntime) -> Result<(), Fail> {
              IDENT\n000000 46000000000000000000\nok 0 lines\nIDENT\n",
         ),
     ];
-    for (at, (script, want)) in rows.iter().enumerate() {
+    for (at, (script, want)) in ROWS.iter().enumerate() {
         assert_replies(&rt, rt.alloc(), at, script, want)?;
     }
     Ok(())

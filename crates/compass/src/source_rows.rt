@@ -1,4 +1,5 @@
 //! Sources, and the texts that are written of them.
+use super::assertions::assert_same;
 use super::replies::{assert_replies, assert_text};
 use cps_text::Counted;
 use cps_tool::{Session, run_script};
@@ -111,7 +112,7 @@ const LAST_WORD: [&str; 4] = [
 
 #[test]
 fn lists_sources(rt: HostRuntime) -> Result<(), Fail> {
-    let rows: [(&[&str], &str); 6] = [
+    const ROWS: [(&[&str], &str); 6] = [
         (&[], ""),
         (
             &PROGRAM,
@@ -181,7 +182,7 @@ E                                        10          NO
 ",
         ),
     ];
-    for (at, (source, want)) in rows.iter().enumerate() {
+    for (at, (source, want)) in ROWS.iter().enumerate() {
         assert_text(&rt, rt.alloc(), at, source, "list", want)?;
     }
     Ok(())
@@ -190,7 +191,7 @@ E                                        10          NO
 /// Blanks at the end are cut, and the columns that aren't read are listed.
 #[test]
 fn lists_lines_as_given(rt: HostRuntime) -> Result<(), Fail> {
-    let rows: [(&[&str], &str); 5] = [
+    const ROWS: [(&[&str], &str); 5] = [
         (
             &["", "   ", "A  "],
             "                                          1\n                                          2\n\
@@ -225,7 +226,7 @@ A                                         2          SX1                 X2
 ",
         ),
     ];
-    for (at, (source, want)) in rows.iter().enumerate() {
+    for (at, (source, want)) in ROWS.iter().enumerate() {
         assert_text(&rt, rt.alloc(), at, source, "list", want)?;
     }
     Ok(())
@@ -233,7 +234,7 @@ A                                         2          SX1                 X2
 
 #[test]
 fn tells_flags(rt: HostRuntime) -> Result<(), Fail> {
-    let rows: [(&[&str], &str); 7] = [
+    const ROWS: [(&[&str], &str); 7] = [
         (&[], "0 flagged lines\n"),
         (&PROGRAM, "0 flagged lines\n"),
         (
@@ -265,7 +266,7 @@ fn tells_flags(rt: HostRuntime) -> Result<(), Fail> {
             "4 E\n5 L\n8 E\n9 E\n4 flagged lines\n",
         ),
     ];
-    for (at, (source, want)) in rows.iter().enumerate() {
+    for (at, (source, want)) in ROWS.iter().enumerate() {
         assert_text(&rt, rt.alloc(), at, source, "flags", want)?;
     }
     Ok(())
@@ -273,7 +274,7 @@ fn tells_flags(rt: HostRuntime) -> Result<(), Fail> {
 
 #[test]
 fn assembles_sources(rt: HostRuntime) -> Result<(), Fail> {
-    let rows: [(&[&str], &str); 11] = [
+    const ROWS: [(&[&str], &str); 11] = [
         (&[], "IDENT\n"),
         (
             &PROGRAM,
@@ -333,7 +334,7 @@ fn assembles_sources(rt: HostRuntime) -> Result<(), Fail> {
             "IDENT\n000000 51104000004600046000\n377777 51104000005110400000\n",
         ),
     ];
-    for (at, (source, want)) in rows.iter().enumerate() {
+    for (at, (source, want)) in ROWS.iter().enumerate() {
         assert_text(&rt, rt.alloc(), at, source, "binary", want)?;
     }
     Ok(())
@@ -342,7 +343,7 @@ fn assembles_sources(rt: HostRuntime) -> Result<(), Fail> {
 /// A symbol and `+` force to a new word, and so does what `EQ` leaves pending unless `-` cancels it.
 #[test]
 fn forces_to_new_words(rt: HostRuntime) -> Result<(), Fail> {
-    let rows: [(&[&str], &str); 8] = [
+    const ROWS: [(&[&str], &str); 8] = [
         (
             &["         EQ      0", "-        SX1     X2", "         END"],
             "IDENT\n000000 04000000007312046000\n",
@@ -384,7 +385,7 @@ fn forces_to_new_words(rt: HostRuntime) -> Result<(), Fail> {
             "IDENT\n000000 73120000000000000000\n",
         ),
     ];
-    for (at, (source, want)) in rows.iter().enumerate() {
+    for (at, (source, want)) in ROWS.iter().enumerate() {
         assert_text(&rt, rt.alloc(), at, source, "binary", want)?;
     }
     Ok(())
@@ -393,7 +394,7 @@ fn forces_to_new_words(rt: HostRuntime) -> Result<(), Fail> {
 /// The texts are those of the present source, after each edit.
 #[test]
 fn texts_follow_edits(rt: HostRuntime) -> Result<(), Fail> {
-    let rows: [(&str, &str); 4] = [
+    const ROWS: [(&str, &str); 4] = [
         (
             "d 1\nlist\nbinary\nflags\n",
             "refused 1 no such line\nIDENT\n0 flagged lines\n",
@@ -418,7 +419,7 @@ ok 2 lines\n         000000 5110000006                1          SA1     N
 ok 1 lines\n1 U\n1 flagged lines\n",
         ),
     ];
-    for (at, (script, want)) in rows.iter().enumerate() {
+    for (at, (script, want)) in ROWS.iter().enumerate() {
         assert_replies(&rt, rt.alloc(), at, script, want)?;
     }
     Ok(())
@@ -427,19 +428,19 @@ ok 1 lines\n1 U\n1 flagged lines\n",
 /// A run gives the number of lines that have a flag at its end, before `quit`.
 #[test]
 fn counts_flagged_lines(rt: HostRuntime) -> Result<(), Fail> {
-    let rows: [(&str, u32); 4] = [
+    const ROWS: [(&str, u32); 4] = [
         ("", 0),
         ("a A\n", 1),
         ("a A\na          NO\na A\nd 1\n", 1),
         ("a A\na B\nquit\nd 1\n", 2),
     ];
-    for (at, (script, want)) in rows.iter().enumerate() {
+    for (script, want) in ROWS.iter() {
         let mut reader = Counted::new(script.as_bytes());
         let mut writer = Counted::new(Vec::new(rt.alloc()));
         let mut session = Session::new(rt.alloc());
         let count = run_script(rt.alloc(), &mut reader, &mut writer, &mut session)?;
-        assert_eq!(rt; count, *want, "row {at}");
-        assert_eq!(rt; session.flagged(), *want, "row {at}");
+        assert_same(&rt, script, &count, want);
+        assert_same(&rt, script, &session.flagged(), want);
     }
     Ok(())
 }
@@ -478,7 +479,7 @@ A                                        17          SX1     A*B1
 /// A quotient is truncated toward zero, whichever of the two is negative, and no product is minus zero.
 #[test]
 fn truncates_toward_zero(rt: HostRuntime) -> Result<(), Fail> {
-    let source = [
+    const SOURCE: [&str; 10] = [
         "A        EQU     -7",
         "B        EQU     -2",
         "C        EQU     -1",
@@ -501,6 +502,6 @@ fn truncates_toward_zero(rt: HostRuntime) -> Result<(), Fail> {
                 00000000000000000007      9 I        EQU     1-A/2*2
                 00000000000000000000     10 J        EQU     A/0
 ";
-    assert_text(&rt, rt.alloc(), 0, &source, "list", listing)?;
-    assert_text(&rt, rt.alloc(), 1, &source, "flags", "0 flagged lines\n")
+    assert_text(&rt, rt.alloc(), 0, &SOURCE, "list", listing)?;
+    assert_text(&rt, rt.alloc(), 1, &SOURCE, "flags", "0 flagged lines\n")
 }

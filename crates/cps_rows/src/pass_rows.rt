@@ -1,12 +1,13 @@
 //! Steps of pass one: what lines ask and put, and the count of steps.
 ghost use Rattle.std.specs.Prelude.{◌≡◌, Some};
 
+use super::assertions::assert_same;
+use super::given::{line, name};
 use cps_code::Place;
 use cps_expr::{Radix, Value};
 use cps_pass::{
     Answer, Asked, Control, Head, Key, Lookup, Phase, Put, State, Tally, Trace, Work, step_one,
 };
-use cps_text::{Line, Name};
 use std::alloc::Global;
 use std::test::Fail;
 
@@ -25,8 +26,15 @@ impl Lookup for SameAnswer {
 }
 
 fn step<L: Lookup>(alloc: Global, work: &mut Work, text: &[u8], state: &L) -> Result<Trace, Fail> {
-    let line = Line::new(alloc, text)?;
+    let line = line(alloc, text)?;
     let trace = step_one(alloc, work, &line, state)?;
+    Ok(trace)
+}
+
+/// The step of a line, and the state behind it.
+fn apply(alloc: Global, work: &mut Work, text: &[u8], state: &mut State) -> Result<Trace, Fail> {
+    let trace = step(alloc, work, text, state)?;
+    state.apply(&trace)?;
     Ok(trace)
 }
 
@@ -53,7 +61,7 @@ const BODY: Control = Control {
 /// The lines of a program, each in the state behind those before it.
 #[test]
 fn folds_a_program(rt: HostRuntime) -> Result<(), Fail> {
-    let start = Name::read(b"START").ok_or("a symbol")?;
+    let start = name(b"START")?;
     let mut state = State::first(rt.alloc());
     let mut work = Work::new();
     let head: [&[u8]; 3] = [
@@ -62,10 +70,9 @@ fn folds_a_program(rt: HostRuntime) -> Result<(), Fail> {
         b"         ORG     100B",
     ];
     for text in head {
-        let trace = step(rt.alloc(), &mut work, text, &state)?;
-        state.apply(&trace)?;
+        apply(rt.alloc(), &mut work, text, &mut state)?;
     }
-    let trace = step(rt.alloc(), &mut work, b"START    SA1     B1+3", &state)?;
+    let trace = apply(rt.alloc(), &mut work, b"START    SA1     B1+3", &mut state)?;
     let asks = [
         Asked {
             key: Key::Control,
@@ -80,7 +87,7 @@ fn folds_a_program(rt: HostRuntime) -> Result<(), Fail> {
             answer: None,
         },
     ];
-    assert_eq!(rt; trace.asks(), &asks[..], "what is asked");
+    assert_same(&rt, "what is asked", &trace.asks(), &asks.as_slice());
     let puts = [
         Put {
             key: Key::Counter(None),
@@ -91,20 +98,16 @@ fn folds_a_program(rt: HostRuntime) -> Result<(), Fail> {
             answer: Answer::Value(Value::plain(0o100)),
         },
     ];
-    assert_eq!(rt; trace.puts(), &puts[..], "what is put");
-    assert_eq!(rt; trace.items().len(), 1, "statements");
-    state.apply(&trace)?;
+    assert_same(&rt, "what is put", &trace.puts(), &puts.as_slice());
+    assert_same(&rt, "statements", &trace.items().len(), &1);
     let trace = step(rt.alloc(), &mut work, b"         EQ      START", &state)?;
     let puts = [Put {
         key: Key::Counter(None),
         answer: place(65 * 60, true),
     }];
-    assert_eq!(rt; trace.puts(), &puts[..], "what stays pending");
-    assert_eq!(rt;
-        (work.ones(), work.twos(), work.looked()),
-        (5, 0, 0),
-        "steps"
-    );
+    assert_same(&rt, "what stays pending", &trace.puts(), &puts.as_slice());
+    let steps = (work.ones(), work.twos(), work.looked());
+    assert_same(&rt, "steps", &steps, &(5, 0, 0));
     Ok(())
 }
 
@@ -127,12 +130,12 @@ fn takes_other_answers_for_the_first(rt: HostRuntime) -> Result<(), Fail> {
             answer: place(15, false),
         },
     ];
-    assert_eq!(rt; trace.puts(), &puts[..], "what is put");
-    assert_eq!(rt; work.ones(), 2, "steps");
+    assert_same(&rt, "what is put", &trace.puts(), &puts.as_slice());
+    assert_same(&rt, "steps", &work.ones(), &2);
     let late = SameAnswer {
         answer: Answer::Control(FIRST),
     };
     let trace = step(rt.alloc(), &mut work, b"L        NO", &late)?;
-    assert_eq!(rt; trace.asks().len(), 3, "what is asked");
+    assert_same(&rt, "what is asked", &trace.asks().len(), &3);
     Ok(())
 }

@@ -1,7 +1,7 @@
 //! Operands, the text of macros, characters and fields.
-use cps_text::{
-    ArgFault, Fields, Line, Name, arguments, display, insert_text, operands, push_octal,
-};
+use super::assertions::{assert_row, assert_row_text, assert_same};
+use super::given::{line, name};
+use cps_text::{ArgFault, Fields, arguments, display, insert_text, operands, push_octal};
 use std::alloc::Global;
 use std::test::Fail;
 
@@ -17,7 +17,7 @@ fn joined_operands(alloc: Global, tail: &[u8]) -> Result<Vec<u8>, Fail> {
 
 #[test]
 fn parts_operands(rt: HostRuntime) -> Result<(), Fail> {
-    let rows: [(&str, &str); 12] = [
+    const ROWS: [(&str, &str); 12] = [
         ("", ""),
         (" A", ""),
         ("A,,B", "A||B|"),
@@ -31,9 +31,9 @@ fn parts_operands(rt: HostRuntime) -> Result<(), Fail> {
         ("=11HABCDEFGHIJ,KX,C", "=11HABCDEFGHIJ|KX|C|"),
         ("=L**,C", "=L**|C|"),
     ];
-    for (at, (tail, want)) in rows.iter().enumerate() {
+    for (at, (tail, want)) in ROWS.iter().enumerate() {
         let text = joined_operands(rt.alloc(), tail.as_bytes())?;
-        assert_eq!(rt; str::from_utf8(&text)?, *want, "row {at}");
+        assert_row_text(&rt, at, &text, want)?;
     }
     Ok(())
 }
@@ -51,7 +51,7 @@ fn joined_arguments(alloc: Global, tail: &[u8]) -> Result<Vec<u8>, Fail> {
 
 #[test]
 fn parts_arguments(rt: HostRuntime) -> Result<(), Fail> {
-    let rows: [(&str, &str); 12] = [
+    const ROWS: [(&str, &str); 12] = [
         ("", ""),
         (" A", ""),
         ("A,B", "A|B|"),
@@ -65,20 +65,21 @@ fn parts_arguments(rt: HostRuntime) -> Result<(), Fail> {
         ("(A)B", "(A)B|"),
         ("),A", ")|A|"),
     ];
-    for (at, (tail, want)) in rows.iter().enumerate() {
+    for (at, (tail, want)) in ROWS.iter().enumerate() {
         let text = joined_arguments(rt.alloc(), tail.as_bytes())?;
-        assert_eq!(rt; str::from_utf8(&text)?, *want, "row {at}");
+        assert_row_text(&rt, at, &text, want)?;
     }
-    for tail in ["(A", "A,(B,(C)", ")("] {
+    const UNCLOSED: [&str; 3] = ["(A", "A,(B,(C)", ")("];
+    for (at, tail) in UNCLOSED.iter().enumerate() {
         let fault = arguments(rt.alloc(), tail.as_bytes()).err();
-        assert_eq!(rt; fault, Some(ArgFault::Unclosed));
+        assert_row(&rt, at, &fault, &Some(ArgFault::Unclosed));
     }
     Ok(())
 }
 
 #[test]
 fn inserts_arguments(rt: HostRuntime) -> Result<(), Fail> {
-    let rows: [(&str, &str); 6] = [
+    const ROWS: [(&str, &str); 6] = [
         ("         SX_R    X_R+K", "         SX5    X5+10B"),
         ("* R_K", "* R_K"),
         ("   KR K.R RK_", "   KR K.R RK"),
@@ -87,21 +88,21 @@ fn inserts_arguments(rt: HostRuntime) -> Result<(), Fail> {
         ("", ""),
     ];
     let pairs = [
-        (Name::read(b"R").ok_or("a symbol")?, b"5".as_slice()),
-        (Name::read(b"K").ok_or("a symbol")?, b"10B".as_slice()),
-        (Name::read(b"K").ok_or("a symbol")?, b"20B".as_slice()),
-        (Name::read(b"LONG").ok_or("a symbol")?, b"K_R".as_slice()),
+        (name(b"R")?, b"5".as_slice()),
+        (name(b"K")?, b"10B".as_slice()),
+        (name(b"K")?, b"20B".as_slice()),
+        (name(b"LONG")?, b"K_R".as_slice()),
     ];
-    for (at, (body, want)) in rows.iter().enumerate() {
+    for (at, (body, want)) in ROWS.iter().enumerate() {
         let text = insert_text(rt.alloc(), body.as_bytes(), &pairs)?;
-        assert_eq!(rt; str::from_utf8(&text)?, *want, "row {at}");
+        assert_row_text(&rt, at, &text, want)?;
     }
     Ok(())
 }
 
 #[test]
 fn codes_characters(rt: HostRuntime) -> Result<(), Fail> {
-    let rows: [(u8, u8); 16] = [
+    const ROWS: [(u8, u8); 16] = [
         (b':', 0o00),
         (b'A', 0o01),
         (b'a', 0o01),
@@ -119,31 +120,30 @@ fn codes_characters(rt: HostRuntime) -> Result<(), Fail> {
         (b'\'', 0o70),
         (b';', 0o77),
     ];
-    for (character, code) in rows {
-        assert_eq!(rt; display(character), Some(code));
+    for (at, (character, code)) in ROWS.iter().enumerate() {
+        assert_row(&rt, at, &display(*character), &Some(*code));
     }
-    assert_eq!(rt; display(b'~'), None);
+    assert_same(&rt, "no code", &display(b'~'), &None);
     let mut text = Vec::new(rt.alloc());
     push_octal(&mut text, 0o1234567, 4)?;
     push_octal(&mut text, 7, 3)?;
-    assert_eq!(rt; text.as_slice(), b"4567007".as_slice());
-    Ok(())
+    assert_row_text(&rt, 0, &text, "4567007")
 }
 
 #[test]
 fn cuts_fields(rt: HostRuntime) -> Result<(), Fail> {
-    let line = Line::new(rt.alloc(), b" Start   SA1     B1+3,X COMMENT here")?;
-    let Fields::Statement(statement) = line.fields() else {
+    let whole = line(rt.alloc(), b" Start   SA1     B1+3,X COMMENT here")?;
+    let Fields::Statement(statement) = whole.fields() else {
         return Err(Fail::from("a statement"));
     };
-    assert_eq!(rt; statement.location, b"Start".as_slice());
-    assert_eq!(rt; statement.operation, b"SA1".as_slice());
-    assert_eq!(rt; statement.variable, b"B1+3,X".as_slice());
-    assert_eq!(rt; statement.comment, b"COMMENT here".as_slice());
-    assert_eq!(rt; statement.tail, b"B1+3,X COMMENT here".as_slice());
-    let comment = Line::new(rt.alloc(), b"*SA1")?;
+    assert_row_text(&rt, 0, statement.location, "Start")?;
+    assert_row_text(&rt, 1, statement.operation, "SA1")?;
+    assert_row_text(&rt, 2, statement.variable, "B1+3,X")?;
+    assert_row_text(&rt, 3, statement.comment, "COMMENT here")?;
+    assert_row_text(&rt, 4, statement.tail, "B1+3,X COMMENT here")?;
+    let comment = line(rt.alloc(), b"*SA1")?;
     assert!(rt; matches!(comment.fields(), Fields::Comment));
-    let continued = Line::new(rt.alloc(), b",SA1")?;
+    let continued = line(rt.alloc(), b",SA1")?;
     assert!(rt; matches!(continued.fields(), Fields::Continued));
     Ok(())
 }

@@ -1,8 +1,9 @@
 //! The rows of statements, with the names that they read.
+use super::assertions::{assert_row, assert_row_text};
 use super::same_value::UNDEFINED;
 use cps_expr::{
-    Block, Comparison, DisText, Expr, Machine, Operation, Radix, Relation, Row, Stmt, StmtFault,
-    Value,
+    Block, Comparison, DisText, Expr, Field, Machine, Operation, Radix, Relation, Row, Stmt,
+    StmtFault, SymbolTest, Value,
 };
 use cps_text::{Name, push_octal};
 use std::alloc::Global;
@@ -63,6 +64,42 @@ fn push_block(text: &mut Vec<u8>, block: &Block) -> Result<(), Fail> {
     }
 }
 
+fn push_values(text: &mut Vec<u8>, values: &[Expr]) -> Result<(), Fail> {
+    for value in values {
+        push_expression(text, value)?;
+    }
+    Ok(())
+}
+
+fn push_words(text: &mut Vec<u8>, words: &[u64]) -> Result<(), Fail> {
+    for word in words {
+        text.push(b' ')?;
+        push_octal(text, *word, 20)?;
+    }
+    Ok(())
+}
+
+fn push_fields(text: &mut Vec<u8>, fields: &[Field]) -> Result<(), Fail> {
+    for field in fields {
+        push_expression(text, &field.width)?;
+        push_expression(text, &field.value)?;
+    }
+    Ok(())
+}
+
+fn push_test(text: &mut Vec<u8>, test: &SymbolTest) -> Result<(), Fail> {
+    push_word(text, if test.is_defined { b"DEF" } else { b"-DEF" })?;
+    push_word(text, test.symbol.text())?;
+    push_lines(text, &test.lines)
+}
+
+fn push_parameters(text: &mut Vec<u8>, parameters: &[Name]) -> Result<(), Fail> {
+    for parameter in parameters {
+        push_word(text, parameter.text())?;
+    }
+    Ok(())
+}
+
 /// Writes the operands of a row, each with a blank before it.
 fn push_operands(text: &mut Vec<u8>, row: &Row) -> Result<(), Fail> {
     match row {
@@ -75,39 +112,17 @@ fn push_operands(text: &mut Vec<u8>, row: &Row) -> Result<(), Fail> {
         Row::Use(block) => push_block(text, block)?,
         Row::Bss(words) => push_expression(text, words)?,
         Row::Bssz(words) => push_expression(text, words)?,
-        Row::Con(values) => {
-            for value in values.as_slice() {
-                push_expression(text, value)?;
-            }
-        }
-        Row::Data(words) => {
-            for word in words.as_slice() {
-                text.push(b' ')?;
-                push_octal(text, *word, 20)?;
-            }
-        }
-        Row::Vfd(fields) => {
-            for field in fields.as_slice() {
-                push_expression(text, &field.width)?;
-                push_expression(text, &field.value)?;
-            }
-        }
+        Row::Con(values) => push_values(text, values.as_slice())?,
+        Row::Data(words) => push_words(text, words.as_slice())?,
+        Row::Vfd(fields) => push_fields(text, fields.as_slice())?,
         Row::Dis(characters) => push_characters(text, characters)?,
         Row::Compare(test) => push_comparison(text, test)?,
-        Row::If(test) => {
-            push_word(text, if test.is_defined { b"DEF" } else { b"-DEF" })?;
-            push_word(text, test.symbol.text())?;
-            push_lines(text, &test.lines)?;
-        }
+        Row::If(test) => push_test(text, test)?,
         Row::Dup(repetition) => {
             push_expression(text, &repetition.count)?;
             push_lines(text, &repetition.lines)?;
         }
-        Row::Macro(parameters) => {
-            for parameter in parameters.as_slice() {
-                push_word(text, parameter.text())?;
-            }
-        }
+        Row::Macro(parameters) => push_parameters(text, parameters.as_slice())?,
         _ => (),
     }
     Ok(())
@@ -122,18 +137,43 @@ fn push_names(text: &mut Vec<u8>, mark: u8, names: &[Name]) -> Result<(), Fail> 
     Ok(())
 }
 
+fn push_now(text: &mut Vec<u8>, statement: &Stmt) -> Result<(), Fail> {
+    push_names(text, b'<', statement.now())
+}
+
+fn push_later(text: &mut Vec<u8>, statement: &Stmt) -> Result<(), Fail> {
+    push_names(text, b'>', statement.later())
+}
+
 /// The operands of a statement, then the names read now behind `<` and those read later behind `>`.
 fn shown(alloc: Global, statement: &Stmt) -> Result<Vec<u8>, Fail> {
     let mut text = Vec::new(alloc);
     push_operands(&mut text, statement.row())?;
-    push_names(&mut text, b'<', statement.now())?;
-    push_names(&mut text, b'>', statement.later())?;
+    push_now(&mut text, statement)?;
+    push_later(&mut text, statement)?;
     Ok(text)
+}
+
+fn read(
+    alloc: Global,
+    operation: &[u8],
+    tail: &[u8],
+    machine: Machine,
+    radix: Radix,
+) -> Result<Stmt, StmtFault> {
+    Stmt::read(alloc, operation, tail, machine, radix)
+}
+
+/// Why the machine's operands in base 10 are not read.
+fn refused(alloc: Global, operation: &str, tail: &str) -> Option<StmtFault> {
+    let operation = operation.as_bytes();
+    let tail = tail.as_bytes();
+    read(alloc, operation, tail, Machine::Cp, Radix::Decimal).err()
 }
 
 #[test]
 fn reads_statements(rt: HostRuntime) -> Result<(), Fail> {
-    let rows: [(&str, &str, Operation, &str); 48] = [
+    const ROWS: [(&str, &str, Operation, &str); 48] = [
         ("IDENT", "t1,(", Operation::Ident, " T1"),
         ("abs", "X1", Operation::Abs, ""),
         ("PERIPH", "", Operation::Periph, ""),
@@ -223,45 +263,33 @@ fn reads_statements(rt: HostRuntime) -> Result<(), Fail> {
         ("CON", "A-A", Operation::Con, " 00 >A >A"),
         ("BSS", "100B/8", Operation::Bss, " 10"),
     ];
-    for (at, (operation, tail, named, want)) in rows.iter().enumerate() {
-        let statement = Stmt::read(
-            rt.alloc(),
-            operation.as_bytes(),
-            tail.as_bytes(),
-            Machine::Cp,
-            Radix::Decimal,
-        )?;
+    for (at, (operation, tail, named, want)) in ROWS.iter().enumerate() {
+        let operation = operation.as_bytes();
+        let tail = tail.as_bytes();
+        let statement = read(rt.alloc(), operation, tail, Machine::Cp, Radix::Decimal)?;
         let text = shown(rt.alloc(), &statement)?;
-        assert_eq!(rt; str::from_utf8(&text)?, *want, "row {at}");
-        assert_eq!(rt;
-            Operation::named(operation.as_bytes()),
-            Some(*named),
-            "row {at}"
-        );
+        assert_row_text(&rt, at, &text, want)?;
+        let found = Operation::named(operation);
+        assert_row(&rt, at, &found, &Some(*named));
     }
     Ok(())
 }
 
 #[test]
 fn reads_items_of_a_machine(rt: HostRuntime) -> Result<(), Fail> {
-    let statement = Stmt::read(
-        rt.alloc(),
-        b"DATA",
-        b"2LAB,-1,17",
-        Machine::Pp,
-        Radix::Octal,
-    )?;
+    let tail = b"2LAB,-1,17";
+    let statement = read(rt.alloc(), b"DATA", tail, Machine::Pp, Radix::Octal)?;
     let text = shown(rt.alloc(), &statement)?;
     let want = " 00000000000000000102 00000000000000007776 00000000000000000017";
-    assert_eq!(rt; str::from_utf8(&text)?, want);
-    let statement = Stmt::read(rt.alloc(), b"DATA", b"3LABC", Machine::Pp, Radix::Octal);
-    assert_eq!(rt; statement.err(), Some(StmtFault::Unreadable));
+    assert_row_text(&rt, 0, &text, want)?;
+    let statement = read(rt.alloc(), b"DATA", b"3LABC", Machine::Pp, Radix::Octal);
+    assert_row(&rt, 1, &statement.err(), &Some(StmtFault::Unreadable));
     Ok(())
 }
 
 #[test]
 fn refuses_operands(rt: HostRuntime) -> Result<(), Fail> {
-    let unreadable: [(&str, &str); 44] = [
+    const UNREADABLE: [(&str, &str); 44] = [
         ("IDENT", ""),
         ("IDENT", "X1"),
         ("BASE", ""),
@@ -307,17 +335,16 @@ fn refuses_operands(rt: HostRuntime) -> Result<(), Fail> {
         ("MACRO", "A,B,a"),
         ("MACRO", "A=,B"),
     ];
-    for (at, (operation, tail)) in unreadable.iter().enumerate() {
-        let operation = operation.as_bytes();
-        let tail = tail.as_bytes();
-        let statement = Stmt::read(rt.alloc(), operation, tail, Machine::Cp, Radix::Decimal);
-        assert_eq!(rt; statement.err(), Some(StmtFault::Unreadable), "row {at}");
+    for (at, (operation, tail)) in UNREADABLE.iter().enumerate() {
+        let fault = refused(rt.alloc(), operation, tail);
+        assert_row(&rt, at, &fault, &Some(StmtFault::Unreadable));
     }
-    for operation in ["SA1", "NO", "MXX", "RE", "", "IFEQQ", "LOCAL"] {
-        let operation = operation.as_bytes();
-        let statement = Stmt::read(rt.alloc(), operation, b"1", Machine::Cp, Radix::Decimal);
-        assert_eq!(rt; statement.err(), Some(StmtFault::NoOperation));
-        assert_eq!(rt; Operation::named(operation), None);
+    const UNKNOWN: [&str; 7] = ["SA1", "NO", "MXX", "RE", "", "IFEQQ", "LOCAL"];
+    for (at, operation) in UNKNOWN.iter().enumerate() {
+        let fault = refused(rt.alloc(), operation, "1");
+        assert_row(&rt, at, &fault, &Some(StmtFault::NoOperation));
+        let found = Operation::named(operation.as_bytes());
+        assert_row(&rt, at, &found, &None);
     }
     Ok(())
 }

@@ -1,15 +1,21 @@
 //! The codes of statements, and the words that they make.
+use super::assertions::{assert_row, assert_same};
 use super::same_value::UNDEFINED;
 use cps_code::{
     CpForm, Filled, Force, FormFault, Piece, Place, Placed, Words, cp_form, place_next,
 };
 use cps_expr::{Radix, Value};
 use cps_text::Name;
+use std::alloc::Global;
 use std::process::Abort;
 use std::test::Fail;
 
 /// The greatest magnitude of a value.
 const GREATEST: i64 = (1 << 59) - 1;
+
+fn read(alloc: Global, operation: &[u8], tail: &[u8], radix: Radix) -> Result<CpForm, FormFault> {
+    cp_form(alloc, operation, tail, radix)
+}
 
 /// The code of a form with the values of its expressions, where no name is defined and `*` is 3.
 fn filled(form: &CpForm) -> Result<Filled, Fail> {
@@ -29,7 +35,7 @@ fn filled(form: &CpForm) -> Result<Filled, Fail> {
 
 #[test]
 fn codes_statements(rt: HostRuntime) -> Result<(), Fail> {
-    let rows: [(&[u8], &[u8], u64, bool); 22] = [
+    const ROWS: [(&[u8], &[u8], u64, bool); 22] = [
         (b"SA1", b"B1+3", 0o5111000003, false),
         (b"SX6", b"X1", 0o73610, false),
         (b"SA6", b"A1", 0o54610, false),
@@ -53,21 +59,21 @@ fn codes_statements(rt: HostRuntime) -> Result<(), Fail> {
         (b"eQ", b"17b", 0o0400000017, false),
         (b"No", b"1,2", 0o46000, false),
     ];
-    for (at, (operation, tail, digits, is_truncated)) in rows.iter().enumerate() {
-        let form = cp_form(rt.alloc(), operation, tail, Radix::Decimal)?;
+    for (at, (operation, tail, digits, is_truncated)) in ROWS.iter().enumerate() {
+        let form = read(rt.alloc(), operation, tail, Radix::Decimal)?;
         let want = Filled {
             digits: *digits,
             is_truncated: *is_truncated,
             is_out_of_range: false,
         };
-        assert_eq!(rt; filled(&form)?, want, "row {at}");
+        assert_row(&rt, at, &filled(&form)?, &want);
     }
     Ok(())
 }
 
 #[test]
 fn refuses_statements(rt: HostRuntime) -> Result<(), Fail> {
-    let rows: [(&[u8], &[u8], Radix, FormFault); 15] = [
+    const ROWS: [(&[u8], &[u8], Radix, FormFault); 15] = [
         (b"XX", b"1", Radix::Decimal, FormFault::NoOperation),
         (b"SA1", b"-X1", Radix::Decimal, FormFault::Unreadable),
         (b"EQ", b"X1", Radix::Decimal, FormFault::Unreadable),
@@ -84,24 +90,24 @@ fn refuses_statements(rt: HostRuntime) -> Result<(), Fail> {
         (b"EQ", b" 1", Radix::Decimal, FormFault::Unreadable),
         (b"EQ", b"=3HA B", Radix::Decimal, FormFault::Unreadable),
     ];
-    for (at, (operation, tail, radix, fault)) in rows.iter().enumerate() {
-        let form = cp_form(rt.alloc(), operation, tail, *radix);
-        assert_eq!(rt; form.err(), Some(*fault), "row {at}");
+    for (at, (operation, tail, radix, fault)) in ROWS.iter().enumerate() {
+        let refused = read(rt.alloc(), operation, tail, *radix).err();
+        assert_row(&rt, at, &refused, &Some(*fault));
     }
     Ok(())
 }
 
 #[test]
 fn reads_octal_numbers(rt: HostRuntime) -> Result<(), Fail> {
-    let form = cp_form(rt.alloc(), b"SA1", b"17", Radix::Octal)?;
-    assert_eq!(rt; filled(&form)?.digits, 0o5110000017);
+    let form = read(rt.alloc(), b"SA1", b"17", Radix::Octal)?;
+    assert_same(&rt, "digits", &filled(&form)?.digits, &0o5110000017);
     Ok(())
 }
 
 #[test]
 fn forces_behind_a_jump(rt: HostRuntime) -> Result<(), Fail> {
-    let jump = cp_form(rt.alloc(), b"EQ", b"0", Radix::Decimal)?;
-    let pass = cp_form(rt.alloc(), b"NO", b"", Radix::Decimal)?;
+    let jump = read(rt.alloc(), b"EQ", b"0", Radix::Decimal)?;
+    let pass = read(rt.alloc(), b"NO", b"", Radix::Decimal)?;
     assert!(rt; jump.forces_after());
     assert!(rt; !pass.forces_after());
     Ok(())
@@ -109,7 +115,7 @@ fn forces_behind_a_jump(rt: HostRuntime) -> Result<(), Fail> {
 
 #[test]
 fn reads_names(rt: HostRuntime) -> Result<(), Fail> {
-    let rows: [(&[u8], Option<&[u8]>); 11] = [
+    const ROWS: [(&[u8], Option<&[u8]>); 11] = [
         (b"START", Some(b"START")),
         (b"loop", Some(b"LOOP")),
         (b"ABCDEFGH", Some(b"ABCDEFGH")),
@@ -122,9 +128,9 @@ fn reads_names(rt: HostRuntime) -> Result<(), Fail> {
         (b"=A", None),
         (b"9A", None),
     ];
-    for (at, (text, want)) in rows.iter().enumerate() {
+    for (at, (text, want)) in ROWS.iter().enumerate() {
         let name = Name::read(text);
-        assert_eq!(rt; name.as_ref().map(|name| name.text()), *want, "row {at}");
+        assert_row(&rt, at, &name.as_ref().map(|name| name.text()), want);
     }
     Ok(())
 }
@@ -132,7 +138,7 @@ fn reads_names(rt: HostRuntime) -> Result<(), Fail> {
 #[test]
 fn gathers_terms(rt: HostRuntime) -> Result<(), Fail> {
     let tail = b"first-2*3+B1-first/7";
-    let form = cp_form(rt.alloc(), b"SA1", tail, Radix::Decimal)?;
+    let form = read(rt.alloc(), b"SA1", tail, Radix::Decimal)?;
     let [hole] = form.holes() else {
         return Err(Fail::from("not one hole"));
     };
@@ -141,12 +147,10 @@ fn gathers_terms(rt: HostRuntime) -> Result<(), Fail> {
         names.push(name.text())?;
     }
     let want: [&[u8]; 2] = [b"FIRST", b"FIRST"];
-    assert_eq!(rt; names.as_slice(), want.as_slice());
+    assert_same(&rt, "names", &names.as_slice(), &want.as_slice());
     let valued = hole.expression.value(&UNDEFINED, Value::plain(3));
-    assert_eq!(rt;
-        (valued.value, valued.undefined),
-        (Some(Value::plain(-6)), true)
-    );
+    let got = (valued.value, valued.undefined);
+    assert_same(&rt, "the value", &got, &(Some(Value::plain(-6)), true));
     Ok(())
 }
 
@@ -224,26 +228,26 @@ fn put(
 
 #[test]
 fn packs_words(rt: HostRuntime) -> Result<(), Fail> {
-    let last = cp_form(rt.alloc(), b"SA1", b"B0+1", Radix::Decimal)?;
+    let last = read(rt.alloc(), b"SA1", b"B0+1", Radix::Decimal)?;
     // A statement, how often it stands in front, and the first word.
-    let rows: [(&[u8], &[u8], u8, u64); 2] = [
+    const ROWS: [(&[u8], &[u8], u8, u64); 2] = [
         (b"NO", b"", 3, 0o46000_46000_46000_46000),
         (b"EQ", b"0", 1, 0o04000_00000_46000_46000),
     ];
-    for (operation, tail, times, first_word) in rows {
-        let form = cp_form(rt.alloc(), operation, tail, Radix::Decimal)?;
+    for (at, (operation, tail, times, first_word)) in ROWS.iter().enumerate() {
+        let form = read(rt.alloc(), operation, tail, Radix::Decimal)?;
         let mut words = Words::new(rt.alloc());
         let mut place = beginning();
-        for _ in 0..times {
+        for _ in 0..*times {
             let (_, after) = put(&rt, &mut words, place, &form)?;
             place = after;
         }
         let (start, after) = put(&rt, &mut words, place, &last)?;
         advance(&rt, &mut words, after, 0, Force::NewWord)?;
-        assert_eq!(rt; (start.word, start.used), (1, 0));
-        assert_eq!(rt; words.get(0), Some(first_word));
-        assert_eq!(rt; words.get(1), Some(0o51100_00001_46000_46000));
-        assert_eq!(rt; words.get(2), None);
+        assert_row(&rt, at, &(start.word, start.used), &(1, 0));
+        assert_row(&rt, at, &words.get(0), &Some(*first_word));
+        assert_row(&rt, at, &words.get(1), &Some(0o51100_00001_46000_46000));
+        assert_row(&rt, at, &words.get(2), &None);
     }
     Ok(())
 }

@@ -1,15 +1,39 @@
 //! Expressions and data items.
-use super::same_value::{SameValue, UNDEFINED, within};
+use super::assertions::{assert_row, assert_row_text, assert_same};
+use super::given::Given;
+use super::given::Given::{Plain, Within};
+use super::same_value::{SameValue, UNDEFINED};
 use cps_expr::{Expr, ExprFault, Machine, Radix, Value, read_item};
+use std::alloc::Global;
 use std::test::Fail;
 
 /// The greatest number of an expression.
 const GREATEST: i64 = 576_460_752_303_423_487;
 
+fn read(alloc: Global, text: &[u8], radix: Radix) -> Result<Expr, ExprFault> {
+    Expr::read(alloc, text, radix)
+}
+
+/// The value of an expression, and whether it has an undefined name.
+fn valued(expression: &Expr, names: &SameValue, here: Value) -> (Option<Value>, bool) {
+    let valued = expression.value(names, here);
+    (valued.value, valued.undefined)
+}
+
+/// The names of an expression, each with a blank behind it.
+fn named(alloc: Global, expression: &Expr) -> Result<Vec<u8>, Fail> {
+    let mut text = Vec::new(alloc);
+    for name in expression.names() {
+        text.extend_from_slice(name.text())?;
+        text.push(b' ')?;
+    }
+    Ok(text)
+}
+
 #[test]
 fn values_expressions(rt: HostRuntime) -> Result<(), Fail> {
     // `*` is plain 3, and no name is defined.
-    let rows: [(&[u8], Radix, Result<Option<i64>, ExprFault>); 34] = [
+    const ROWS: [(&[u8], Radix, Result<Option<i64>, ExprFault>); 34] = [
         (b"2+3*4", Radix::Decimal, Ok(Some(14))),
         (b"7/2*2", Radix::Decimal, Ok(Some(6))),
         (b"-7/2", Radix::Decimal, Ok(Some(-3))),
@@ -53,115 +77,111 @@ fn values_expressions(rt: HostRuntime) -> Result<(), Fail> {
         (b"1 ", Radix::Decimal, Err(ExprFault::Unreadable)),
         (b"A=9", Radix::Decimal, Ok(Some(0))),
     ];
-    for (at, (text, radix, want)) in rows.iter().enumerate() {
-        let got = match Expr::read(rt.alloc(), text, *radix) {
-            Ok(expression) => Ok(expression.value(&UNDEFINED, Value::plain(3)).value),
+    for (at, (text, radix, want)) in ROWS.iter().enumerate() {
+        let got = match read(rt.alloc(), text, *radix) {
+            Ok(expression) => Ok(valued(&expression, &UNDEFINED, Value::plain(3)).0),
             Err(fault) => Err(fault),
         };
         let want = match want {
             Ok(value) => Ok(value.map(|offset| Value::plain(offset))),
             Err(fault) => Err(*fault),
         };
-        assert_eq!(rt; got, want, "row {at}");
+        assert_row(&rt, at, &got, &want);
     }
     Ok(())
 }
 
 #[test]
 fn values_blocks(rt: HostRuntime) -> Result<(), Fail> {
-    let seven = within(b"BLK", 7)?;
-    let far = within(b"BLK", 1 << 58)?;
+    const SEVEN: Given = Within(b"BLK", 7);
+    const FAR: Given = Within(b"BLK", 1 << 58);
     // Each name has the first value, and `*` the second.
-    let rows: [(&[u8], Value, Value, Option<Value>); 23] = [
-        (b"A", seven, Value::plain(3), Some(seven)),
-        (b"+A", seven, Value::plain(3), Some(seven)),
-        (b"-A", seven, Value::plain(3), None),
-        (b"-A+A", seven, Value::plain(3), None),
-        (b"A+1", seven, Value::plain(3), Some(within(b"BLK", 8)?)),
-        (b"1+A", seven, Value::plain(3), Some(within(b"BLK", 8)?)),
-        (b"A-*", seven, Value::plain(3), Some(within(b"BLK", 4)?)),
-        (b"*-A", seven, Value::plain(3), None),
-        (b"A-B", seven, Value::plain(3), Some(Value::plain(0))),
-        (b"A+B", seven, Value::plain(3), None),
-        (b"A+B-A", seven, Value::plain(3), None),
-        (b"A*1", seven, Value::plain(3), None),
-        (b"1*A", seven, Value::plain(3), None),
-        (b"A/1", seven, Value::plain(3), None),
-        (b"*-*", seven, within(b"WORK", 9)?, Some(Value::plain(0))),
-        (b"A-*", seven, within(b"WORK", 9)?, None),
-        (b"A-*", seven, within(b"blk", 9)?, Some(Value::plain(-2))),
-        (b"A", far, Value::plain(3), Some(far)),
-        (b"A+1", far, Value::plain(3), None),
-        (b"A+1-1", far, Value::plain(3), None),
-        (b"A-A", far, Value::plain(3), Some(Value::plain(0))),
-        (b"A", Value::plain(GREATEST + 1), Value::plain(3), None),
-        (b"A-A", Value::plain(GREATEST + 1), Value::plain(3), None),
+    const ROWS: [(&[u8], Given, Given, Option<Given>); 23] = [
+        (b"A", SEVEN, Plain(3), Some(SEVEN)),
+        (b"+A", SEVEN, Plain(3), Some(SEVEN)),
+        (b"-A", SEVEN, Plain(3), None),
+        (b"-A+A", SEVEN, Plain(3), None),
+        (b"A+1", SEVEN, Plain(3), Some(Within(b"BLK", 8))),
+        (b"1+A", SEVEN, Plain(3), Some(Within(b"BLK", 8))),
+        (b"A-*", SEVEN, Plain(3), Some(Within(b"BLK", 4))),
+        (b"*-A", SEVEN, Plain(3), None),
+        (b"A-B", SEVEN, Plain(3), Some(Plain(0))),
+        (b"A+B", SEVEN, Plain(3), None),
+        (b"A+B-A", SEVEN, Plain(3), None),
+        (b"A*1", SEVEN, Plain(3), None),
+        (b"1*A", SEVEN, Plain(3), None),
+        (b"A/1", SEVEN, Plain(3), None),
+        (b"*-*", SEVEN, Within(b"WORK", 9), Some(Plain(0))),
+        (b"A-*", SEVEN, Within(b"WORK", 9), None),
+        (b"A-*", SEVEN, Within(b"blk", 9), Some(Plain(-2))),
+        (b"A", FAR, Plain(3), Some(FAR)),
+        (b"A+1", FAR, Plain(3), None),
+        (b"A+1-1", FAR, Plain(3), None),
+        (b"A-A", FAR, Plain(3), Some(Plain(0))),
+        (b"A", Plain(GREATEST + 1), Plain(3), None),
+        (b"A-A", Plain(GREATEST + 1), Plain(3), None),
     ];
-    for (at, (text, value, here, want)) in rows.iter().enumerate() {
-        let expression = Expr::read(rt.alloc(), text, Radix::Decimal)?;
+    for (at, (text, value, here, want)) in ROWS.iter().enumerate() {
         let names = SameValue {
-            value: Some(*value),
+            value: Some(value.value()?),
         };
-        let valued = expression.value(&names, *here);
-        assert_eq!(rt;
-            (valued.value, valued.undefined),
-            (*want, false),
-            "row {at}"
-        );
+        let expression = read(rt.alloc(), text, Radix::Decimal)?;
+        let got = valued(&expression, &names, here.value()?);
+        let want = match want {
+            Some(want) => Some(want.value()?),
+            None => None,
+        };
+        assert_row(&rt, at, &got, &(want, false));
     }
     Ok(())
 }
 
 #[test]
 fn tells_undefined_names(rt: HostRuntime) -> Result<(), Fail> {
-    let expression = Expr::read(rt.alloc(), b"first*2-7/first+second", Radix::Decimal)?;
-    let mut names = Vec::new(rt.alloc());
-    for name in expression.names() {
-        names.push(name.text())?;
-    }
-    let want: [&[u8]; 3] = [b"FIRST", b"FIRST", b"SECOND"];
-    assert_eq!(rt; names.as_slice(), want.as_slice());
+    let expression = read(rt.alloc(), b"first*2-7/first+second", Radix::Decimal)?;
+    let names = named(rt.alloc(), &expression)?;
+    assert_row_text(&rt, 0, &names, "FIRST FIRST SECOND ")?;
     assert!(rt; !expression.has_counter());
-    let valued = expression.value(&UNDEFINED, Value::plain(3));
-    assert_eq!(rt;
-        (valued.value, valued.undefined),
-        (Some(Value::plain(0)), true)
-    );
+    let got = valued(&expression, &UNDEFINED, Value::plain(3));
+    assert_same(&rt, "undefined", &got, &(Some(Value::plain(0)), true));
     let defined = SameValue {
         value: Some(Value::plain(7)),
     };
-    let valued = expression.value(&defined, Value::plain(3));
-    assert_eq!(rt;
-        (valued.value, valued.undefined),
-        (Some(Value::plain(20)), false)
-    );
-    let counted = Expr::read(rt.alloc(), b"2*3**", Radix::Decimal)?;
+    let got = valued(&expression, &defined, Value::plain(3));
+    assert_same(&rt, "defined", &got, &(Some(Value::plain(20)), false));
+    let counted = read(rt.alloc(), b"2*3**", Radix::Decimal)?;
     assert!(rt; counted.has_counter());
     assert!(rt; counted.names().is_empty());
     Ok(())
 }
 
+fn add_term(
+    expression: &mut Expr,
+    minus: bool,
+    text: &[u8],
+    radix: Radix,
+) -> Result<(), ExprFault> {
+    expression.add_term(minus, text, radix)
+}
+
 #[test]
 fn adds_terms(rt: HostRuntime) -> Result<(), Fail> {
     let mut expression = Expr::new(rt.alloc());
-    expression.add_term(false, b"2*A", Radix::Decimal)?;
-    expression.add_term(true, b"17", Radix::Octal)?;
-    let refused = expression.add_term(false, b"B1", Radix::Decimal);
-    assert_eq!(rt; refused.err(), Some(ExprFault::Unreadable));
+    add_term(&mut expression, false, b"2*A", Radix::Decimal)?;
+    add_term(&mut expression, true, b"17", Radix::Octal)?;
+    let refused = add_term(&mut expression, false, b"B1", Radix::Decimal).err();
+    assert_same(&rt, "a register", &refused, &Some(ExprFault::Unreadable));
     let defined = SameValue {
         value: Some(Value::plain(7)),
     };
-    let valued = expression.value(&defined, Value::plain(3));
-    assert_eq!(rt;
-        (valued.value, valued.undefined),
-        (Some(Value::plain(-1)), false)
-    );
+    let got = valued(&expression, &defined, Value::plain(3));
+    assert_same(&rt, "the value", &got, &(Some(Value::plain(-1)), false));
     Ok(())
 }
 
 #[test]
 fn reads_items(rt: HostRuntime) -> Result<(), Fail> {
-    let rows: [(&[u8], Machine, Option<(u64, usize)>); 31] = [
+    const ROWS: [(&[u8], Machine, Option<(u64, usize)>); 31] = [
         (b"3LABC,", Machine::Cp, Some((0o01020300000000000000, 5))),
         (b"3RABC", Machine::Cp, Some((0o00000000000000010203, 5))),
         (b"3HABC", Machine::Cp, Some((0o01020355555555555555, 5))),
@@ -202,10 +222,11 @@ fn reads_items(rt: HostRuntime) -> Result<(), Fail> {
         (b"4095", Machine::Pp, Some((0o7777, 4))),
         (b"4096", Machine::Pp, None),
     ];
-    for (at, (text, machine, want)) in rows.iter().enumerate() {
+    for (at, (text, machine, want)) in ROWS.iter().enumerate() {
         let item = read_item(text, Radix::Decimal, *machine);
-        assert_eq!(rt; item, *want, "row {at}");
+        assert_row(&rt, at, &item, want);
     }
-    assert_eq!(rt; read_item(b"17", Radix::Octal, Machine::Cp), Some((15, 2)));
+    let octal = read_item(b"17", Radix::Octal, Machine::Cp);
+    assert_same(&rt, "an octal number", &octal, &Some((15, 2)));
     Ok(())
 }

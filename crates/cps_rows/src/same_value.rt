@@ -3,7 +3,6 @@ ghost use Rattle.std.specs.Prelude.{◌≡◌};
 
 use cps_expr::{Names, Value};
 use cps_text::Name;
-use std::test::Fail;
 
 /// Each name has this value, or is undefined.
 #[derive(Clone, Copy)]
@@ -21,12 +20,3 @@ impl Names for SameValue {
 
 /// No name is defined.
 pub const UNDEFINED: SameValue = SameValue { value: None };
-
-/// An offset in a block.
-pub fn within(block: &[u8], offset: i64) -> Result<Value, Fail> {
-    let block = Name::read(block).ok_or("a symbol")?;
-    Ok(Value {
-        block: Some(block),
-        offset,
-    })
-}
