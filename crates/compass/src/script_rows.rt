@@ -122,7 +122,12 @@ fn holds_lines(rt: HostRuntime) -> Result<(), Fail> {
     assert_binary(&rt, rt.alloc(), &session, "IDENT\n")?;
     let first = line(rt.alloc(), b"  NO")?;
     assert_same(&rt, "a line", &first.bytes(), &b"  NO".as_slice());
-    assert_same(&rt, "inserted", &session.insert(0, first, &mut work), &Ok(()));
+    assert_same(
+        &rt,
+        "inserted",
+        &session.insert(0, first, &mut work),
+        &Ok(()),
+    );
     assert_line(&rt, &session, 1, Some(b"  NO"));
     assert_line(&rt, &session, 0, None);
     assert_line(&rt, &session, 2, None);
@@ -132,7 +137,12 @@ fn holds_lines(rt: HostRuntime) -> Result<(), Fail> {
     let binary = "IDENT\n000000 46000000000000000000\n";
     assert_binary(&rt, rt.alloc(), &session, binary)?;
     let other = line(rt.alloc(), b"* none")?;
-    assert_same(&rt, "replaced", &session.replace(1, other, &mut work), &Ok(()));
+    assert_same(
+        &rt,
+        "replaced",
+        &session.replace(1, other, &mut work),
+        &Ok(()),
+    );
     assert_line(&rt, &session, 1, Some(b"* none"));
     let refused = session.delete(1, 2, &mut work);
     assert_same(&rt, "refused", &refused, &Err(EditFault::NoSuchLine));
@@ -149,14 +159,29 @@ fn counts_steps(rt: HostRuntime) -> Result<(), Fail> {
     let mut work = Work::new();
     for after in 0..4 {
         let entered = line(rt.alloc(), b"  NO")?;
-        assert_same(&rt, "entered", &session.insert(after, entered, &mut work), &Ok(()));
+        assert_same(
+            &rt,
+            "entered",
+            &session.insert(after, entered, &mut work),
+            &Ok(()),
+        );
     }
     assert_same(&rt, "a step a line", &work.ones(), &4);
     let first = line(rt.alloc(), b"* one")?;
-    assert_same(&rt, "inserted", &session.insert(1, first, &mut work), &Ok(()));
+    assert_same(
+        &rt,
+        "inserted",
+        &session.insert(1, first, &mut work),
+        &Ok(()),
+    );
     assert_same(&rt, "four lines behind the first", &work.ones(), &8);
     let second = line(rt.alloc(), b"* two")?;
-    assert_same(&rt, "replaced", &session.replace(4, second, &mut work), &Ok(()));
+    assert_same(
+        &rt,
+        "replaced",
+        &session.replace(4, second, &mut work),
+        &Ok(()),
+    );
     assert_same(&rt, "lines 4 and 5", &work.ones(), &10);
     assert_same(&rt, "deleted", &session.delete(2, 4, &mut work), &Ok(()));
     assert_same(&rt, "the last line", &work.ones(), &11);
