@@ -22,7 +22,7 @@ use Rattle.cps_state.specs.Flags.{joined}
 use Rattle.cps_state.specs.Made.{Made, no_flags, width_of}
 use Rattle.cps_final.specs.declared.row.Row.{Row}
 use Rattle.cps_final.specs.Finals.{block}
-use Rattle.cps_final.specs.Outcome.{Resolved, labels_by, address_of, base_in, plain_offset, value_at, number_of, value_flags, limit_flags, digits, row_at, field_rows, final_of, statement_row, rows_with, rows_of, field_piece, placed, field_pieces, pieces_of, content_names, names_read, names_defined, outcome_of, blocks_shown, AgreeOnMade, AgreeOnNamed}
+use Rattle.cps_final.specs.Outcome.{Resolved, labels_by, address_of, base_in, plain_offset, value_at, number_of, value_flags, limit_flags, digits, row_at, field_rows, final_of, reserved_row, statement_row, rows_with, rows_of, field_piece, placed, field_pieces, pieces_of, content_names, names_read, names_defined, outcome_of, blocks_shown, AgreeOnMade, AgreeOnNamed}
 
 all-head : {T : Type 0} (P : T → Type 0) (x : T) (xs : List T) → All P (x ∷ xs) → P x
 all-head P x xs each = each 0 x (omega arith)
@@ -124,6 +124,8 @@ statement-same others finals flags (shown.Value value) agree =
 statement-same others finals flags (shown.Address value) agree =
     let same = final-same others finals value (all-head (λ (b : Option Name). others (block b) ≡ finals (block b)) value.block [] agree) in
     λ i. record { flags = flags; location = option_map (λ (v : Value). nat_abs v.offset) (same i); code = None }
+statement-same others finals flags (shown.Reserved value) agree =
+    ap (reserved_row flags) (final-same others finals value (all-head (λ (b : Option Name). others (block b) ≡ finals (block b)) value.block [] agree))
 
 module _ (others finals : Resolved) (made : Made) (agree : AgreeOnMade others finals made) where
   here-same : base_in others made.block ≡ base_in finals made.block

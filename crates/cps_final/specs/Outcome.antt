@@ -107,11 +107,17 @@ field_rows finals made flags (field ∷ fields) =
 abbrev pub final_of : Resolved → Value → Option Value
 final_of finals value = limited (plain (value.offset +ℤ pos (base_in finals value.block)))
 
+-- the address of words that are reserved; one at or past the machine's words has E
+abbrev pub reserved_row : Flags → Option Value → Row
+reserved_row flags None = record { flags = flags; location = None; code = None }
+reserved_row flags (Some value) = record { flags = joined flags (limit_flags (nat_abs value.offset)); location = Some (nat_abs value.offset); code = None }
+
 -- the row of a statement without fields
 abbrev pub statement_row : Resolved → Flags → Shown → Row
 statement_row finals flags shown.Nothing = record { flags = flags; location = None; code = None }
 statement_row finals flags (shown.Value value) = record { flags = flags; location = None; code = option_map (λ v. digits 20 (complemented 60 v.offset)) (final_of finals value) }
 statement_row finals flags (shown.Address value) = record { flags = flags; location = option_map (λ v. nat_abs v.offset) (final_of finals value); code = None }
+statement_row finals flags (shown.Reserved value) = reserved_row flags (final_of finals value)
 
 abbrev pub rows_with : Resolved → Made → List Field → List Row
 rows_with finals made [] = statement_row finals made.flags made.shown ∷ []
@@ -198,6 +204,7 @@ abbrev pub blocks_shown : Shown → List (Option Name)
 blocks_shown shown.Nothing = []
 blocks_shown (shown.Value value) = value.block ∷ []
 blocks_shown (shown.Address value) = value.block ∷ []
+blocks_shown (shown.Reserved value) = value.block ∷ []
 
 -- two ways of giving final values agree on the symbols and the blocks that a statement names; no statement so far names a literal
 pub record AgreeOnMade (others finals : Resolved) (made : Made) : Type 0 where

@@ -7,6 +7,7 @@ ghost use Rattle.cps_final.specs.Outcome as outcome;
 use crate::finals::{Finals, Gathered};
 use crate::row::{Digits, Row};
 use crate::valued::{value_content, width_of};
+use cps_expr::Value;
 use cps_state::{Field, Flags, Item, LIMIT, Made, Shown, WORD};
 use std::alloc::{AllocError, Global};
 
@@ -100,11 +101,31 @@ pub fn statement_row(flags: Flags, shown: Shown, finals: &Finals) -> Row
             Some(value) => (Some(value.offset.unsigned_abs()), None),
             None => (None, None),
         },
+        Shown::Reserved(value) => return reserved_row(flags, finals.final_of(value)),
     };
     Row {
         flags,
         location,
         code,
+    }
+}
+
+/// The row of words that are reserved.
+fn reserved_row(flags: Flags, first: Option<Value>) -> Row
+    ensures { result ≡ outcome.reserved_row flags first }
+{
+    let Some(value) = first else {
+        return Row {
+            flags,
+            location: None,
+            code: None,
+        };
+    };
+    let address = value.offset.unsigned_abs();
+    Row {
+        flags: flags.joined(limit_flags(address)),
+        location: Some(address),
+        code: None,
     }
 }
 

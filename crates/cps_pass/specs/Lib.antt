@@ -5,6 +5,8 @@ pub mod Located
 pub mod Meaning
 pub mod NamesNow
 pub mod Places
+pub mod Placing
 pub mod Reading
 pub mod Symbols
 pub mod ValueNow
+pub mod Words

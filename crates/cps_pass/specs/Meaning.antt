@@ -23,6 +23,7 @@ use Rattle.cps_pass.specs.Instruction.{instruction}
 use Rattle.cps_pass.specs.Located.{present_flags}
 use Rattle.cps_pass.specs.Reading.{reading_of}
 use Rattle.cps_pass.specs.Symbols.{equate, unread_equate}
+use Rattle.cps_pass.specs.Words.{bss, unread_words}
 
 -- a line that does nothing
 abbrev pub listed : Part
@@ -44,8 +45,9 @@ obeyed control location (row.Base radix) = base control location radix
 obeyed control location (row.Equate terms) = equate control.block location terms
 obeyed control location (row.Org terms) = leaving_head control before org (in_body control) location terms
 obeyed control location row.End = end control location
+obeyed control location (row.Bss terms) = leaving_head control before bss control.block location terms
 obeyed control location row.Listing = fill (nothing_made (present_flags location))
--- what isn't there yet: PERIPH, SET, USE, BSS, BSSZ, CON, DATA, VFD, DIS, the IFs, ELSE, ENDIF, DUP, ENDD, MACRO and ENDM
+-- what isn't there yet: PERIPH, SET, USE, BSSZ, CON, DATA, VFD, DIS, the IFs, ELSE, ENDIF, DUP, ENDD, MACRO and ENDM
 obeyed control location _ = not_there control
 
 -- a statement with unreadable operands
@@ -54,6 +56,7 @@ unreadable control location operation.Ident = ident control location None
 unreadable control location operation.Base = unread location
 unreadable control location operation.Equate = unread_equate location
 unreadable control location operation.Org = leaving_head control before unread_org (in_body control) location
+unreadable control location operation.Bss = leaving_head control before unread_words control.block location
 -- what isn't there yet, and what reads no operands
 unreadable control location _ = not_there control
 

@@ -95,7 +95,7 @@ fn move_by<L: Lookup>(
 }
 
 /// An address is no number below 0.
-fn address_in(offset: i64) -> Option<u64>
+pub fn address_in(offset: i64) -> Option<u64>
     ensures { result ≡ blocks.address_in offset }
 {
     if offset < 0 {

@@ -10,9 +10,10 @@ ghost use Rattle.cps_pass.specs.Places.{filling_between};
 
 use crate::located::{define, is_taken};
 use crate::places::{Begun, begin, go_on, here_at};
+use crate::placing::{force_of, place_nothing, placing_flags, unread_flags};
 use crate::reading::Location;
-use cps_code::{CpForm, Force, Place};
-use cps_state::{Content, Field, Flags, Key, LIMIT, Lookup, Made, Recorder, Shown, WORD, place_of};
+use cps_code::{CpForm, Place};
+use cps_state::{Content, Field, Key, LIMIT, Lookup, Made, Recorder, WORD, place_of};
 use cps_text::Name;
 use std::alloc::{AllocError, Global};
 
@@ -31,70 +32,17 @@ pub fn instruction<L: Lookup>(
     let place = place_of(answer.as_ref());
     let is_taken = is_taken(recorder, state, location)?;
     match form {
-        None => force(alloc, recorder, state, block, location, is_taken, place),
+        None => {
+            let begun = begin(place, 0, force_of(location));
+            let flags = unread_flags(location, is_taken);
+            place_nothing(
+                alloc, recorder, state, block, location, is_taken, place, flags, begun,
+            )
+        }
         Some(form) => place_code(
             alloc, recorder, state, block, location, is_taken, place, form,
         ),
     }
-}
-
-fn force_of(location: Location) -> Force
-    ensures { result ≡ instructions.force_of location }
-{
-    match location {
-        Location::Absent => Force::Free,
-        Location::Plus => Force::NewWord,
-        Location::Minus => Force::Cancel,
-        Location::Symbol(_) => Force::NewWord,
-        Location::NoSymbol => Force::Free,
-    }
-}
-
-fn placing_flags(location: Location, is_taken: bool) -> Flags
-    ensures { result ≡ instructions.placing_flags location is_taken }
-{
-    let mut flags = Flags::none();
-    flags.location = is_no_symbol(location);
-    flags.twice = is_taken;
-    flags
-}
-
-fn is_no_symbol(location: Location) -> bool
-    ensures { result ≡ instructions.is_no_symbol location }
-{
-    match location {
-        Location::NoSymbol => true,
-        _ => false,
-    }
-}
-
-/// An instruction with an unreadable operand makes nothing; it forces, and its symbol is defined.
-#[tactic(auto, unfolding(crate::specs::Instruction::unplaced))]
-fn force<L: Lookup>(
-    alloc: Global,
-    recorder: &mut Recorder,
-    state: &L,
-    block: Option<Name>,
-    location: Location,
-    is_taken: bool,
-    place: Place,
-) -> Result<(), AllocError>
-    requires { position place ≤ 60 * limit }
-    ensures { OnOk result (Does (instructions.unplaced block location is_taken place (instructions.start_for location place 0)) (L.answer state.now) recorder.old recorder.new) }
-{
-    let begun = begin(place, 0, force_of(location));
-    go_on(recorder, block, begun.start, false)?;
-    define(
-        recorder,
-        state,
-        location,
-        is_taken,
-        here_at(block, begun.start),
-    )?;
-    let mut flags = placing_flags(location, is_taken);
-    flags.operand = true;
-    recorder.fill(Made::leaving(alloc, flags, block, begun.filling, Shown::Nothing));
-    Ok(())
 }
 
 fn place_code<L: Lookup>(

@@ -7,10 +7,12 @@ mod instruction;
 mod located;
 mod making;
 mod places;
+mod placing;
 mod reading;
 mod step;
 mod symbols;
 mod value_now;
+mod words;
 
 pub use cps_state::{
     Answer, Asked, Content, Control, Field, Flags, Head, Item, Key, LIMIT, Lookup, Made, Phase,

@@ -15,6 +15,7 @@ use crate::located::present_flags;
 use crate::making::{flag, unread};
 use crate::reading::{Location, Reading, Stating, read_line};
 use crate::symbols::{equate, unread_equate};
+use crate::words::{bss, unread_words};
 use cps_expr::{Operation, Row, Stmt};
 use cps_state::{Control, Flags, Key, Lookup, Phase, Recorder, Tally, Trace, Work, control_of};
 use cps_text::{Fields, Line};
@@ -185,6 +186,10 @@ fn obey_statement<L: Lookup>(
             org(alloc, recorder, state, in_body(control), location, operand)
         }
         Row::End => end(alloc, recorder, state, control, location),
+        Row::Bss(operand) => {
+            leave_head(recorder, state, control)?;
+            bss(alloc, recorder, state, control.block, location, operand)
+        }
         Row::Listing => {
             flag(alloc, recorder, present_flags(location));
             Ok(())
@@ -214,6 +219,10 @@ fn flag_unreadable<L: Lookup>(
         Operation::Org => {
             leave_head(recorder, state, control)?;
             unread_org(alloc, recorder, state, in_body(control), location)
+        }
+        Operation::Bss => {
+            leave_head(recorder, state, control)?;
+            unread_words(alloc, recorder, state, control.block, location)
         }
         _ => not_there(alloc, recorder, state, control),
     }

@@ -32,6 +32,8 @@ pub enum Shown {
     Value(Value),
     /// ORG: the address of the next word.
     Address(Value),
+    /// BSS: the address of the first word that is reserved.
+    Reserved(Value),
 }
 
 /// What a statement made, for pass two.
