@@ -3,13 +3,13 @@ use Rattle.std.proofs.Common.{◌≡◌, ℕ, ◌+◌, ◌-◌, ◌*◌, ◌%◌
 use mir.Val.{SFits}
 use Rattle.std.proofs.lemmas.Bool.Decides.{nat_tests}
 use Rattle.std.proofs.lemmas.Nat.{pow-add, pow_pos}
-use Rattle.std.proofs.Math.Nat.{mul-add-mod_self_right, mod-eq_of_lt, pow-le-pow_right, mul-le-mul_right}
+use Rattle.std.proofs.Math.Nat.{mul-add-mod_self_right, mod-eq_of_lt, pow-le-pow_right}
 use Rattle.cps_code.specs.declared.hole.Hole.{Hole}
 use Rattle.cps_code.specs.Value.{is_in_range}
-use Rattle.std.specs.Prelude.{All, not, ◌||◌}
+use Rattle.std.specs.Prelude.{not, ◌||◌}
 use Rattle.cps_code.specs.declared.hole.HoleKind.{HoleKind}
 use Rattle.cps_code.specs.declared.hole.HoleKind.TheVariants.{Value, Count, Target}
-use Rattle.cps_code.specs.Form.{IsHole, room_of, put_values, is_cut, is_out, complemented, fits_width, put_value, put_in, is_cut_in, is_out_in}
+use Rattle.cps_code.specs.Form.{room_of, put_values, is_cut, is_out, complemented, fits_width, put_value, put_in, is_cut_in, is_out_in}
 
 chosen : (b : Bool) (x y : ℕ) → (b ≡ true → y ≡ x) → y ≡ cond b x y
 chosen true x y same = same refl
