@@ -20,6 +20,7 @@ mod widths;
 mod words;
 
 pub use filled::Filled;
+pub use filling_holes::fill_holes;
 pub use form::CpForm;
 pub use forms::{FormFault, cp_form};
 pub use hole::{Hole, HoleKind};
