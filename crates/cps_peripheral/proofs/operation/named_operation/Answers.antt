@@ -1,8 +1,7 @@
-use Rattle.std.proofs.Common.{◌≡◌, ◌∷◌, sym, ap, ◌∙◌}
+use Rattle.std.proofs.Common.{sym, ap, ◌∙◌}
 use Rattle.std.specs.Prelude.{option_map}
-use Rattle.cps_text.specs.Text.{capital}
 use Rattle.cps_peripheral.specs.Table.{named, pp_table}
-use Rattle.cps_peripheral.specs.Rows.{beginning_with, layout_and_number}
+use Rattle.cps_peripheral.specs.Rows.{layout_and_number}
 use Rattle.cps_peripheral.proofs.RowLemmas.{named_by_letter, no_empty_name, small_numbers}
 use Rattle.cps_peripheral.proofs.operation.named_operation.Goals as goal
 
