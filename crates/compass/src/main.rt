@@ -6,6 +6,8 @@
 #![tactic(auto)]
 
 #[cfg(test)]
+mod central_rows;
+#[cfg(test)]
 mod code_rows;
 #[cfg(test)]
 mod column_rows;
@@ -17,6 +19,8 @@ mod expression_rows;
 mod final_rows;
 #[cfg(test)]
 mod pass_rows;
+#[cfg(test)]
+mod peripheral_rows;
 #[cfg(test)]
 mod replies;
 #[cfg(test)]
