@@ -60,7 +60,7 @@ const INSTRUCTIONS: [&str; 9] = [
     "         SA1     Q",
     "         SX1     576460752303423487+1",
     "         SX1     -X1",
-    "         EQ      B1,B2,5",
+    "         EQ      B1,B2,X5",
     "9A       NO",
     "LATER    SX6     X1",
     "LATER    SX6     X2",
@@ -160,7 +160,7 @@ AD                                       10 A        EQU     1,2
 U        000000 5110000000                2          SA1     Q
 A        000001 7110000000                3          SX1     576460752303423487+1
 A                                         4          SX1     -X1
-A                                         5          EQ      B1,B2,5
+A                                         5          EQ      B1,B2,X5
 L        000001 46000                     6 9A       NO
          000002 73610                     7 LATER    SX6     X1
 D        000003 73620                     8 LATER    SX6     X2

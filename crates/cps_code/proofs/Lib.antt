@@ -7,5 +7,6 @@ pub mod NumberLemmas
 pub mod SumReading
 pub mod HoleLemmas
 pub mod SetLemmas
-pub mod WorkedRows
 pub mod NameLemmas
+pub mod FieldLemmas
+pub mod WorkedRows

@@ -1,53 +1,60 @@
--- Names of another length than those of the table.
-use Rattle.std.proofs.Common.{◌≡◌, ℕ, ◌-◌, Bool, true, false, cond, eqb, List, [], ◌∷◌, ◌++◌, length, Option, None, refl, sym, ap, ◌∙◌, arith}
-use Rattle.std.proofs.lemmas.Bool.Decides.{nat_tests}
-use Rattle.std.proofs.lemmas.List.{length-map}
+-- Operations by the first letter of their names.
+use Rattle.std.proofs.Common.{◌≡◌, ℕ, Bool, true, false, cond, eqb, List, [], ◌∷◌, Option, None, refl, sym, ap, ◌∙◌}
 use Rattle.std.specs.Option.{option_or}
-use Rattle.std.specs.Prelude.{option_map, is_some, not}
+use Rattle.std.specs.Prelude.{option_map, option_and_then, not, slice_index, codes}
 use Rattle.std.specs.List.{list_all}
-use Rattle.cps_text.specs.Text.{capital, capitals, is_digit}
-use Rattle.cps_code.specs.Table.{Operation, given, is_digit_letter, given_by_name, Named, named, cp_table, instruction_named, is_operation}
+use Rattle.cps_text.specs.Text.{among, capital, is_digit}
+use Rattle.cps_code.specs.declared.digits.Digits.{Digits}
+use Rattle.cps_code.specs.Digits.{first_digit, with_digit, with_character, digits_in}
+use Rattle.cps_code.specs.Register.{digit_value}
+use Rattle.cps_code.specs.Rows.{Operation, Named, named}
+use Rattle.cps_code.specs.Table.{cp_operations, instruction_named}
+use Rattle.cps_code.specs.Operations.{beginning_with}
 use Rattle.cps_code.proofs.SetLemmas.{left_true, right_true}
 
-no_choices : {X : Type 0} (a b c : Bool) → cond {A = Option X} a (cond b None None) (cond c None None) ≡ None
-no_choices true true c = refl
-no_choices true false c = refl
-no_choices false b true = refl
-no_choices false b false = refl
+-- a name begins with no letter that stands for a digit
+abbrev begins_plainly : Operation → Bool
+begins_plainly o = not (among (codes "ijk") (slice_index o.name 0))
 
-given-other_length : (name text : List ℕ) → (length name ≡ length text → ⊥) → given_by_name name text ≡ None
-given-other_length [] [] other = absurd (other refl)
-given-other_length [] (c ∷ text) other = refl
-given-other_length (n ∷ name) [] other = refl
-given-other_length (n ∷ name) (c ∷ text) other =
-    ap (λ found. cond (is_digit_letter n) (cond (is_digit 8 c) (option_map (λ more. given n (c - 48) ∷ more) found) None) (cond (eqb n c) found None))
-    (given-other_length name text (λ same. other (omega arith)))
-    ∙ no_choices (is_digit_letter n) (is_digit 8 c) (eqb n c)
+another : (letter character : ℕ) (digits : Digits) → not (among (codes "ijk") letter) ≡ true → eqb letter (capital character) ≡ false → with_character letter character digits ≡ None
+another letter character digits plain other = by_cases (among (codes "ijk") letter) (eqb letter (capital character)) plain other
+  where
+    by_cases : (a b : Bool) → not a ≡ true → b ≡ false
+        → cond a (cond (is_digit 8 character) (Option.Some (with_digit letter (digit_value character) digits)) None) (cond b (Option.Some digits) None) ≡ None
+    by_cases true b p q = cc
+    by_cases false true p q = cc
+    by_cases false false p q = refl
 
-abbrev has_other_length : ℕ → Operation → Bool
-has_other_length count o = not (eqb (length o.name) count)
+no_name : (name text : List ℕ) (character : ℕ) (digits : Digits) → not (among (codes "ijk") (slice_index name 0)) ≡ true → eqb (slice_index name 0) (capital character) ≡ false
+    → digits_in name (character ∷ text) digits ≡ None
+no_name [] text character digits plain other = refl
+no_name (letter ∷ name) text character digits plain other = ap (option_and_then (digits_in name text)) (another letter character digits plain other)
 
-differs : (a b : ℕ) → not (eqb a b) ≡ true → a ≡ b → ⊥
-differs a b other same = grind (arith, nat_tests)
+module _ (character : ℕ) (text : List ℕ) where
+  abbrev onto : Operation → Option Named → Option Named
+  onto o rest = option_or (option_map (λ digits. record { digits = digits; forms = o.forms }) (digits_in o.name (character ∷ text) (first_digit o.f))) rest
 
-named-other_length : (table : List Operation) (text : List ℕ) → list_all (has_other_length (length text)) table ≡ true → named table text ≡ None
-named-other_length [] text other = refl
-named-other_length (o ∷ operations) text other =
-    ap (λ found. option_or (option_map (λ digits. record { digits = o.digits ++ digits; rows = o.rows }) found) (named operations text))
-    (given-other_length o.name text (differs (length o.name) (length text) (left_true (has_other_length (length text) o) (list_all (has_other_length (length text)) operations) other)))
-    ∙ named-other_length operations text (right_true (has_other_length (length text) o) (list_all (has_other_length (length text)) operations) other)
+  kept : (o : Operation) (operations : List Operation) (b : Bool) → b ≡ eqb (slice_index o.name 0) (capital character) → begins_plainly o ≡ true
+      → named (cond b (o ∷ operations) operations) (character ∷ text) ≡ onto o (named operations (character ∷ text))
+  kept o operations true is plain = refl
+  kept o operations false is plain =
+      sym (ap (λ found. option_or (option_map (λ digits. record { digits = digits; forms = o.forms }) found) (named operations (character ∷ text)))
+      (no_name o.name text character (first_digit o.f) plain (sym is)))
 
-none_is_none : (found : Option Named) → found ≡ None → is_some found ≡ false
-none_is_none found is = rw is refl
+  by_letter : (operations : List Operation) → list_all begins_plainly operations ≡ true
+      → named (beginning_with (capital character) operations) (character ∷ text) ≡ named operations (character ∷ text)
+  by_letter [] plain = refl
+  by_letter (o ∷ operations) plain =
+      kept o (beginning_with (capital character) operations) (eqb (slice_index o.name 0) (capital character)) refl (left_true (begins_plainly o) (list_all begins_plainly operations) plain)
+      ∙ ap (onto o) (by_letter operations (right_true (begins_plainly o) (list_all begins_plainly operations) plain))
 
-other_lengths : (count : ℕ) → (count ≡ 2 → ⊥) → (count ≡ 3 → ⊥) → list_all (has_other_length count) cp_table ≡ true
-other_lengths count two three = grind (arith, nat_tests)
+all_plain : list_all begins_plainly cp_operations ≡ true
+unfolding cp_operations
+all_plain = refl
 
-other_length : (name : List ℕ) → (length name ≡ 2 → ⊥) → (length name ≡ 3 → ⊥) → instruction_named name ≡ None
-other_length name two three =
-    let same : length (capitals name) ≡ length name = length-map name capital in
-    named-other_length cp_table (capitals name) (other_lengths (length (capitals name)) (λ h. two (sym same ∙ h)) (λ h. three (sym same ∙ h)))
+pub named_by_letter : (character : ℕ) (text : List ℕ) → named (beginning_with (capital character) cp_operations) (character ∷ text) ≡ instruction_named (character ∷ text)
+named_by_letter character text = by_letter character text cp_operations all_plain
 
--- each name of the table has two or three characters
-pub no_instruction : (name : List ℕ) → (length name ≡ 2 → ⊥) → (length name ≡ 3 → ⊥) → is_operation name ≡ false
-no_instruction name two three = none_is_none (instruction_named name) (other_length name two three)
+pub no_empty_name : instruction_named [] ≡ None
+unfolding cp_operations
+no_empty_name = refl

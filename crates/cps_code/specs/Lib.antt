@@ -8,5 +8,7 @@ pub mod Sum
 pub mod Terms
 pub mod Form
 pub mod Table
-pub mod Sets
+pub mod Operations
 pub mod Register
+pub mod Digits
+pub mod Rows

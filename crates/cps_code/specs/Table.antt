@@ -1,252 +1,136 @@
--- The instructions of the central processor, as the machine's reference manual lists them: the operation, the operand, the code.
--- In a name and a code the letters i, j and k stand for the digits of registers, and K for a constant of 18 bits;
--- f is the first digit of a set instruction's code.
-use Rattle.std.specs.Prelude.{ℕ, ◌+◌, ◌*◌, ◌^◌, Bool, true, false, ◌&&◌, not, ◌==◌, List, [], ◌∷◌, ◌++◌, reverse, codes, fold, sum_by, Option, None, Some, option_map, option_and_then, is_some, if◌then◌else◌}
-use Rattle.std.specs.Option.{option_or}
+-- The instructions of the central processor, as the machine's reference manual lists them: operation, operands, code.
+-- In them i, j and k stand for the digits of registers, K for an expression of 18 bits and n for one of a count; f is the first
+-- digit of a set instruction's code. `unread` reads no operand; `written` reads operands that look like these; `summed` reads one
+-- operand, a sum of these register terms and, where `true` stands, of a K beside them. Behind a `forcing_row` a forcing is pending.
+-- That the terms of a sum may stand in any order is our profile's.
+use Prim.Native.Char.{code}
+use Rattle.std.specs.Prelude.{ℕ, Bool, true, false, List, [], ◌∷◌, ◌++◌, codes, Option, is_some, option_and_then}
 use Rattle.cps_expr.specs.declared.radix.Radix.{Radix}
-use Rattle.cps_expr.specs.OperandList.{only_one}
-use Rattle.cps_expr.specs.Term.{Term}
-use Rattle.cps_code.specs.declared.hole.Hole.{Hole}
-use Rattle.cps_code.specs.declared.hole.HoleKind.TheVariants.{Value}
-use Rattle.cps_code.specs.declared.register.Letter.{Letter}
 use Rattle.cps_code.specs.declared.register.Letter.TheVariants.{A, B, X}
-use Rattle.cps_code.specs.declared.register.RegisterTerm.{RegisterTerm}
-use Rattle.cps_text.specs.Operands.{operands_of}
-use Rattle.cps_text.specs.Text.{among, capitals, is_digit}
-use Rattle.cps_code.specs.Bits.{constant_bits}
-use Rattle.cps_code.specs.Register.{character, digit_value}
-use Rattle.cps_code.specs.Sum.{Sum, sum_of}
 use Rattle.cps_code.specs.Form.{Form}
+use Rattle.cps_code.specs.Rows.{Row, Operation, Named, unread, summed, written, row, forcing_row, set_row, plus, minus, operations_in, named, operands_in, form_of_rows}
 
--- ---- rows
+-- ---- set instructions
 
--- a register term of a row: its sign, its letter, and the letter that stands for its digit
-pub record RowTerm : Type 0 where
-  pub is_minus : Bool
-  pub letter : Letter
-  pub digit : ℕ
+abbrev pub set_rows : List ℕ → ℕ → List Row
+set_rows name f =
+    set_row name f (summed [] true) (codes "f1i0K")
+    ∷ set_row name f (summed (plus A (code "j") ∷ []) true) (codes "f0ijK")
+    ∷ set_row name f (summed (plus B (code "j") ∷ []) true) (codes "f1ijK")
+    ∷ set_row name f (summed (plus X (code "j") ∷ []) true) (codes "f2ijK")
+    ∷ set_row name f (summed (plus X (code "j") ∷ []) false) (codes "f3ij0")
+    ∷ set_row name f (summed (plus A (code "j") ∷ []) false) (codes "f4ij0")
+    ∷ set_row name f (summed (plus B (code "j") ∷ []) false) (codes "f6ij0")
+    ∷ set_row name f (summed (minus B (code "k") ∷ []) false) (codes "f7i0k")
+    ∷ set_row name f (summed (plus X (code "j") ∷ plus B (code "k") ∷ []) false) (codes "f3ijk")
+    ∷ set_row name f (summed (plus A (code "j") ∷ plus B (code "k") ∷ []) false) (codes "f4ijk")
+    ∷ set_row name f (summed (plus A (code "j") ∷ minus B (code "k") ∷ []) false) (codes "f5ijk")
+    ∷ set_row name f (summed (plus B (code "j") ∷ plus B (code "k") ∷ []) false) (codes "f6ijk")
+    ∷ set_row name f (summed (plus B (code "j") ∷ minus B (code "k") ∷ []) false) (codes "f7ijk")
+    ∷ []
 
--- what a row asks of the operand
-pub data Shape : Type 0 where
-  -- nothing: the variable field isn't read
-  unread : Shape
-  -- a sum of these register terms, and of a K beside them or of none
-  terms_and_constant : List RowTerm → Bool → Shape
+-- ---- the jump to a register
 
-pub record Row : Type 0 where
-  pub shape : Shape
-  pub code : List ℕ
-  -- whether a forcing is pending behind it
-  pub forces : Bool
+abbrev pub jump_rows : List Row
+jump_rows =
+    forcing_row (codes "JP") (summed (plus B (code "i") ∷ []) true) (codes "02i0K")
+    ∷ forcing_row (codes "JP") (summed [] true) (codes "0200K")
+    ∷ forcing_row (codes "JP") (summed (plus B (code "i") ∷ []) false) (codes "02i0000000")
+    ∷ []
 
--- the digit that a letter stands for
-pub record Given : Type 0 where
-  pub letter : ℕ
-  pub digit : ℕ
+-- ---- all others
 
-abbrev pub given : ℕ → ℕ → Given
-given letter digit = record { letter = letter; digit = digit }
-
-pub record Operation : Type 0 where
-  pub name : List ℕ
-  pub digits : List Given
-  pub rows : List Row
-
-abbrev pub row : Shape → List ℕ → Row
-row shape code = record { shape = shape; code = code; forces = false }
-
-abbrev pub forcing_row : Shape → List ℕ → Row
-forcing_row shape code = record { shape = shape; code = code; forces = true }
-
-abbrev pub operation : List ℕ → List Row → Operation
-operation name rows = record { name = name; digits = []; rows = rows }
-
--- the letters of the digits
-abbrev pub f : ℕ
-f = character (codes "f")
-
-abbrev pub i : ℕ
-i = character (codes "i")
-
-abbrev pub j : ℕ
-j = character (codes "j")
-
-abbrev pub k : ℕ
-k = character (codes "k")
-
-abbrev pub plus : Letter → ℕ → RowTerm
-plus letter digit = record { is_minus = false; letter = letter; digit = digit }
-
-abbrev pub minus : Letter → ℕ → RowTerm
-minus letter digit = record { is_minus = true; letter = letter; digit = digit }
+abbrev pub other_rows : List Row
+other_rows =
+    forcing_row (codes "PS") unread (codes "0000000000")
+    ∷ row (codes "NO") unread (codes "46000")
+    ∷ forcing_row (codes "RJ") (written (codes "K")) (codes "0100K")
+    ∷ row (codes "ZR") (written (codes "Xj,K")) (codes "030jK")
+    ∷ row (codes "ZR") (written (codes "Bi,K")) (codes "04i0K")
+    ∷ row (codes "NZ") (written (codes "Xj,K")) (codes "031jK")
+    ∷ row (codes "NZ") (written (codes "Bi,K")) (codes "05i0K")
+    ∷ row (codes "PL") (written (codes "Xj,K")) (codes "032jK")
+    ∷ row (codes "PL") (written (codes "Bi,K")) (codes "06i0K")
+    ∷ row (codes "NG") (written (codes "Xj,K")) (codes "033jK")
+    ∷ row (codes "NG") (written (codes "Bi,K")) (codes "07i0K")
+    ∷ row (codes "MI") (written (codes "Xj,K")) (codes "033jK")
+    ∷ row (codes "MI") (written (codes "Bi,K")) (codes "07i0K")
+    ∷ row (codes "IR") (written (codes "Xj,K")) (codes "034jK")
+    ∷ row (codes "OR") (written (codes "Xj,K")) (codes "035jK")
+    ∷ row (codes "DF") (written (codes "Xj,K")) (codes "036jK")
+    ∷ row (codes "ID") (written (codes "Xj,K")) (codes "037jK")
+    ∷ row (codes "EQ") (written (codes "Bi,Bj,K")) (codes "04ijK")
+    ∷ row (codes "EQ") (written (codes "Bi,K")) (codes "04i0K")
+    ∷ forcing_row (codes "EQ") (written (codes "K")) (codes "0400K")
+    ∷ row (codes "NE") (written (codes "Bi,Bj,K")) (codes "05ijK")
+    ∷ row (codes "NE") (written (codes "Bi,K")) (codes "05i0K")
+    ∷ row (codes "GE") (written (codes "Bi,Bj,K")) (codes "06ijK")
+    ∷ row (codes "GE") (written (codes "Bi,K")) (codes "06i0K")
+    ∷ row (codes "LT") (written (codes "Bi,Bj,K")) (codes "07ijK")
+    ∷ row (codes "LT") (written (codes "Bi,K")) (codes "07i0K")
+    ∷ row (codes "LE") (written (codes "Bi,Bj,K")) (codes "06jiK")
+    ∷ row (codes "LE") (written (codes "Bi,K")) (codes "060iK")
+    ∷ row (codes "GT") (written (codes "Bi,Bj,K")) (codes "07jiK")
+    ∷ row (codes "GT") (written (codes "Bi,K")) (codes "070iK")
+    ∷ row (codes "BXi") (written (codes "Xj")) (codes "10ijj")
+    ∷ row (codes "BXi") (written (codes "Xj*Xk")) (codes "11ijk")
+    ∷ row (codes "BXi") (written (codes "Xj+Xk")) (codes "12ijk")
+    ∷ row (codes "BXi") (written (codes "Xj-Xk")) (codes "13ijk")
+    ∷ row (codes "BXi") (written (codes "-Xk")) (codes "14ikk")
+    ∷ row (codes "BXi") (written (codes "-Xk*Xj")) (codes "15ijk")
+    ∷ row (codes "BXi") (written (codes "-Xk+Xj")) (codes "16ijk")
+    ∷ row (codes "BXi") (written (codes "-Xk-Xj")) (codes "17ijk")
+    ∷ row (codes "LXi") (written (codes "n")) (codes "20in")
+    ∷ row (codes "LXi") (written (codes "Bj,Xk")) (codes "22ijk")
+    ∷ row (codes "LXi") (written (codes "Xk,Bj")) (codes "22ijk")
+    ∷ row (codes "AXi") (written (codes "n")) (codes "21in")
+    ∷ row (codes "AXi") (written (codes "Bj,Xk")) (codes "23ijk")
+    ∷ row (codes "AXi") (written (codes "Xk,Bj")) (codes "23ijk")
+    ∷ row (codes "MXi") (written (codes "n")) (codes "43in")
+    ∷ row (codes "NXi") (written (codes "Bj,Xk")) (codes "24ijk")
+    ∷ row (codes "NXi") (written (codes "Xk,Bj")) (codes "24ijk")
+    ∷ row (codes "NXi") (written (codes "Xk")) (codes "24i0k")
+    ∷ row (codes "ZXi") (written (codes "Bj,Xk")) (codes "25ijk")
+    ∷ row (codes "ZXi") (written (codes "Xk,Bj")) (codes "25ijk")
+    ∷ row (codes "ZXi") (written (codes "Xk")) (codes "25i0k")
+    ∷ row (codes "UXi") (written (codes "Bj,Xk")) (codes "26ijk")
+    ∷ row (codes "UXi") (written (codes "Xk,Bj")) (codes "26ijk")
+    ∷ row (codes "UXi") (written (codes "Xk")) (codes "26i0k")
+    ∷ row (codes "PXi") (written (codes "Bj,Xk")) (codes "27ijk")
+    ∷ row (codes "PXi") (written (codes "Xk,Bj")) (codes "27ijk")
+    ∷ row (codes "PXi") (written (codes "Xk")) (codes "27i0k")
+    ∷ row (codes "FXi") (written (codes "Xj+Xk")) (codes "30ijk")
+    ∷ row (codes "FXi") (written (codes "Xj-Xk")) (codes "31ijk")
+    ∷ row (codes "FXi") (written (codes "Xj*Xk")) (codes "40ijk")
+    ∷ row (codes "FXi") (written (codes "Xj/Xk")) (codes "44ijk")
+    ∷ row (codes "DXi") (written (codes "Xj+Xk")) (codes "32ijk")
+    ∷ row (codes "DXi") (written (codes "Xj-Xk")) (codes "33ijk")
+    ∷ row (codes "DXi") (written (codes "Xj*Xk")) (codes "42ijk")
+    ∷ row (codes "RXi") (written (codes "Xj+Xk")) (codes "34ijk")
+    ∷ row (codes "RXi") (written (codes "Xj-Xk")) (codes "35ijk")
+    ∷ row (codes "RXi") (written (codes "Xj*Xk")) (codes "41ijk")
+    ∷ row (codes "RXi") (written (codes "Xj/Xk")) (codes "45ijk")
+    ∷ row (codes "IXi") (written (codes "Xj+Xk")) (codes "36ijk")
+    ∷ row (codes "IXi") (written (codes "Xj-Xk")) (codes "37ijk")
+    ∷ row (codes "CXi") (written (codes "Xk")) (codes "47ikk")
+    ∷ []
 
 -- ---- the table
 
--- the rows of SAi, SBi and SXi
-abbrev pub set_rows : List Row
-set_rows =
-    row (terms_and_constant [] true) (codes "f1i0K")
-    ∷ row (terms_and_constant (plus A j ∷ []) true) (codes "f0ijK")
-    ∷ row (terms_and_constant (plus B j ∷ []) true) (codes "f1ijK")
-    ∷ row (terms_and_constant (plus X j ∷ []) true) (codes "f2ijK")
-    ∷ row (terms_and_constant (plus X j ∷ []) false) (codes "f3ij0")
-    ∷ row (terms_and_constant (plus A j ∷ []) false) (codes "f4ij0")
-    ∷ row (terms_and_constant (plus B j ∷ []) false) (codes "f6ij0")
-    ∷ row (terms_and_constant (minus B k ∷ []) false) (codes "f7i0k")
-    ∷ row (terms_and_constant (plus X j ∷ plus B k ∷ []) false) (codes "f3ijk")
-    ∷ row (terms_and_constant (plus A j ∷ plus B k ∷ []) false) (codes "f4ijk")
-    ∷ row (terms_and_constant (plus A j ∷ minus B k ∷ []) false) (codes "f5ijk")
-    ∷ row (terms_and_constant (plus B j ∷ plus B k ∷ []) false) (codes "f6ijk")
-    ∷ row (terms_and_constant (plus B j ∷ minus B k ∷ []) false) (codes "f7ijk")
-    ∷ []
+abbrev pub cp_table : List Row
+cp_table = set_rows (codes "SAi") 5 ++ set_rows (codes "SBi") 6 ++ set_rows (codes "SXi") 7 ++ jump_rows ++ other_rows
 
-abbrev pub set_operation : List ℕ → ℕ → Operation
-set_operation name digit = record { name = name; digits = given f digit ∷ []; rows = set_rows }
+-- its operations, with their rows
+unfoldable pub cp_operations : List Operation
+cp_operations = operations_in cp_table
 
--- the row of EQ with a K alone
-abbrev pub jump_rows : List Row
-jump_rows = forcing_row (terms_and_constant [] true) (codes "0400K") ∷ []
-
-abbrev pub cp_table : List Operation
-cp_table =
-    operation (codes "NO") (row unread (codes "46000") ∷ [])
-    ∷ operation (codes "EQ") jump_rows
-    ∷ set_operation (codes "SAi") 5
-    ∷ set_operation (codes "SBi") 6
-    ∷ set_operation (codes "SXi") 7
-    ∷ []
-
--- ---- digits of a statement
-
-abbrev pub is_digit_letter : ℕ → Bool
-is_digit_letter = among (codes "fijk")
-
--- what a text has where a name has i, j or k; elsewhere the two agree
-abbrev pub given_by_name : List ℕ → List ℕ → Option (List Given)
-given_by_name [] [] = Some []
-given_by_name [] (c ∷ text) = None
-given_by_name (n ∷ name) [] = None
-given_by_name (n ∷ name) (c ∷ text) =
-    if is_digit_letter n then (if is_digit 8 c then option_map (λ more. given n (digit_value c) ∷ more) (given_by_name name text) else None)
-    else (if n == c then given_by_name name text else None)
-
-abbrev pub same_bool : Bool → Bool → Bool
-same_bool true b = b
-same_bool false b = not b
-
-abbrev pub same_letter : Letter → Letter → Bool
-same_letter A A = true
-same_letter A B = false
-same_letter A X = false
-same_letter B A = false
-same_letter B B = true
-same_letter B X = false
-same_letter X A = false
-same_letter X B = false
-same_letter X X = true
-
-abbrev pub is_of : RowTerm → RegisterTerm → Bool
-is_of term register = same_bool term.is_minus register.is_minus && same_letter term.letter register.letter
-
--- the registers are those of the terms, one for one
-abbrev pub given_by_terms : List RowTerm → List RegisterTerm → Option (List Given)
-given_by_terms [] [] = Some []
-given_by_terms [] (r ∷ registers) = None
-given_by_terms (t ∷ terms) [] = None
-given_by_terms (t ∷ terms) (r ∷ registers) =
-    if is_of t r then option_map (λ more. given t.digit r.digit ∷ more) (given_by_terms terms registers) else None
-
-abbrev pub digit_given : List Given → ℕ → ℕ
-digit_given [] letter = 0
-digit_given (g ∷ more) letter = if g.letter == letter then g.digit else digit_given more letter
-
--- ---- the form of a row
-
-abbrev pub is_constant : ℕ → Bool
-is_constant = among (codes "K")
-
--- the bits of a code's letter or digit
-abbrev pub width_of : ℕ → ℕ
-width_of letter = if is_constant letter then constant_bits else 3
-
--- an octal digit of a code: one that is written, or the one that a letter stands for; a hole is left empty
-abbrev pub digit_of : List Given → ℕ → ℕ
-digit_of digits letter = if is_constant letter then 0 else (if is_digit_letter letter then digit_given digits letter else digit_value letter)
-
-abbrev pub code_of : List Given → List ℕ → ℕ
-code_of digits code = fold (λ number letter. number * 2 ^ width_of letter + digit_of digits letter) 0 code
-
--- the holes of a code, from a bit on
-abbrev pub holes_from : ℕ → List Term → List ℕ → List Hole
-holes_from at constant [] = []
-holes_from at constant (letter ∷ code) =
-    if is_constant letter
-    then record { first = at; width = width_of letter; kind = Value; expression = constant } ∷ holes_from (at + width_of letter) constant code
-    else holes_from (at + width_of letter) constant code
-
--- what a row finds in an operand
-pub record Found : Type 0 where
-  pub digits : List Given
-  pub constant : List Term
-
-abbrev pub form_of_row : List Given → Row → Found → Form
-form_of_row digits row found = record {
-  bits = sum_by width_of row.code;
-  code = code_of (digits ++ found.digits) row.code;
-  holes = holes_from 0 found.constant row.code;
-  forces_after = row.forces;
-}
-
--- ---- the row that fits
-
--- the sum that the only operand of a tail writes; None where it writes none, or where there is another number of operands
-abbrev pub operand_of : Radix → List ℕ → Option Sum
-operand_of radix tail = only_one (sum_of radix) (operands_of tail)
-
--- the operand with its register terms turned round
-abbrev pub turned : Option Sum → Option Sum
-turned = option_map (λ s. record { registers = reverse s.registers; constant = s.constant })
-
-abbrev pub is_some_list : List Term → Bool
-is_some_list [] = false
-is_some_list (n ∷ constant) = true
-
-abbrev pub found_in_sum : List RowTerm → Bool → Sum → Option Found
-found_in_sum terms has_constant sum =
-    if same_bool (is_some_list sum.constant) has_constant
-    then option_map (λ digits. record { digits = digits; constant = sum.constant }) (given_by_terms terms sum.registers)
-    else None
-
--- None: the shape doesn't fit the operand
-abbrev pub found_in : Shape → Option Sum → Option Found
-found_in unread operand = Some (record { digits = []; constant = [] })
-found_in (terms_and_constant terms has_constant) operand = option_and_then (found_in_sum terms has_constant) operand
-
--- the form of the first row that fits
-abbrev pub form_in : List Given → List Row → Option Sum → Option Form
-form_in digits [] operand = None
-form_in digits (row ∷ rows) operand = option_or (option_map (form_of_row digits row) (found_in row.shape operand)) (form_in digits rows operand)
-
--- the register terms are tried as they stand, and then turned round
-abbrev pub form_of_rows : List Given → List Row → Option Sum → Option Form
-form_of_rows digits rows operand = option_or (form_in digits rows operand) (form_in digits rows (turned operand))
-
--- an operation of the table with the digits of its name
-pub record Named : Type 0 where
-  pub digits : List Given
-  pub rows : List Row
-
-abbrev pub named : List Operation → List ℕ → Option Named
-named [] name = None
-named (o ∷ operations) name = option_or (option_map (λ digits. record { digits = o.digits ++ digits; rows = o.rows }) (given_by_name o.name name)) (named operations name)
-
--- the operation of the table that a name stands for; lower-case letters stand for capitals
+-- the operation that a name stands for; lower-case letters stand for capitals
 abbrev pub instruction_named : List ℕ → Option Named
-instruction_named name = named cp_table (capitals name)
+instruction_named name = named cp_operations name
 
 abbrev pub is_operation : List ℕ → Bool
 is_operation name = is_some (instruction_named name)
 
 -- the form of a statement
 abbrev pub form_of : List ℕ → List ℕ → Radix → Option Form
-form_of name tail radix = option_and_then (λ n. form_of_rows n.digits n.rows (operand_of radix tail)) (instruction_named name)
+form_of name tail radix = option_and_then (λ n. form_of_rows radix n.digits n.forms (operands_in radix tail)) (instruction_named name)

@@ -1,11 +1,12 @@
 -- For the loop over the terms of a sum, not part of what a reader believes: sums of the code, as sums.
-use Rattle.std.specs.Prelude.{◌≡◌, ◌<◌, List, [], ◌∷◌, ◌++◌, All, IfSome}
+use Rattle.std.specs.Prelude.{◌≡◌, ◌<◌, Bool, true, false, List, [], ◌∷◌, ◌++◌, All, IfSome}
 use Rattle.cps_code.specs.declared.register.RegisterTerm.{RegisterTerm}
 use Rattle.cps_code.specs.declared.sum.Registers.{Registers}
 use Rattle.cps_code.specs.declared.sum.Registers.TheVariants.{Absent, One, Two}
 use Rattle.cps_code.specs.declared.sum.KeptSum.{KeptSum}
 use Rattle.cps_code.specs.Sum.{SumTerm, register, other, Sum}
-use Rattle.cps_code.specs.Table.{is_some_list}
+use Rattle.cps_code.specs.declared.digits.Digits.{Digits}
+use Rattle.cps_code.specs.Rows.{is_some_list}
 
 -- a term at the end
 abbrev pub pushed : Sum → SumTerm → Sum
@@ -20,6 +21,11 @@ register_list Absent = []
 register_list (One first) = first ∷ []
 register_list (Two first second) = first ∷ second ∷ []
 
+abbrev pub is_empty : Registers → Bool
+is_empty Absent = true
+is_empty (One first) = false
+is_empty (Two first second) = false
+
 abbrev pub AreRegisters : Registers → Type 0
 AreRegisters Absent = Unit {0}
 AreRegisters (One first) = IsRegister first
@@ -31,3 +37,9 @@ pub record IsKept (kept : KeptSum) (sum : Sum) : Type 0 where
   pub has_constant : kept.has_constant ≡ is_some_list sum.constant
   pub constant : IfSome kept.constant (λ constant. constant ≡ sum.constant)
   pub digits : All IsRegister sum.registers
+
+pub record AreDigits (digits : Digits) : Type 0 where
+  pub f : digits.f < 8
+  pub i : digits.i < 8
+  pub j : digits.j < 8
+  pub k : digits.k < 8

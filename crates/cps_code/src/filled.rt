@@ -5,6 +5,6 @@ pub struct Filled {
     pub digits: u64,
     /// Some value doesn't fit its hole: flag T.
     pub is_truncated: bool,
-    /// Some value is none that its hole can hold: flag A. No hole of the forms so far is of that kind.
+    /// Some value is none that its hole can hold, a count below 0 or a target that is too far: flag A. It is put as 0.
     pub is_out_of_range: bool,
 }

@@ -1,10 +1,10 @@
-ghost use Rattle.std.specs.Prelude.{◌≡◌, ◌<◌, ◌≤◌, ◌^◌, ◌+◌, ◌*◌, false, length, All};
+ghost use Rattle.std.specs.Prelude.{◌≡◌, ◌<◌, ◌≤◌, ◌^◌, ◌+◌, ◌-◌, ◌*◌, ◌||◌, length, All};
 ghost use Rattle.cps_code.specs.Bits.{word_bits, parcel_bits};
 ghost use Rattle.cps_code.specs.Value.{IsInRange};
-ghost use Rattle.cps_code.specs.Form.{IsHole, fits_width, complemented, put_value, put_values, is_cut, room_of};
+ghost use Rattle.cps_code.specs.Form.{IsHole, fits_width, complemented, put_value, put_in, put_values, is_cut, is_cut_in, is_out, is_out_in, room_of};
 
 use super::filled::Filled;
-use super::hole::Hole;
+use super::hole::{Hole, HoleKind};
 use super::widths::WORD;
 
 /// All ones in the bits of a word.
@@ -13,30 +13,93 @@ const ALL_ONES: u64 = (1 << WORD) - 1;
 /// A code with numbers in its holes.
 pub fn fill_holes(bits: u8, code: u64, holes: &[Hole], numbers: &[i64]) -> Filled
     requires short { bits ≤ 2 * parcel_bits }
-    requires few { length holes.now ≤ 1 }
+    requires few { length holes.now ≤ 2 }
     requires holes { All (IsHole bits) holes.now }
     requires room { code + room_of bits holes.now < 2 ^ bits }
     requires one_each { length numbers.now ≡ length holes.now }
     requires range { All IsInRange numbers.now }
     ensures digits { result.digits ≡ code + put_values bits holes.now numbers.now }
     ensures truncated { result.is_truncated ≡ is_cut holes.now numbers.now }
-    ensures in_range { result.is_out_of_range ≡ false }
+    ensures out_of_range { result.is_out_of_range ≡ is_out holes.now numbers.now }
     ensures fits { result.digits < 2 ^ bits }
 {
-    if holes.is_empty() {
-        return Filled {
+    match (holes, numbers) {
+        ([], []) => Filled {
             digits: code,
             is_truncated: false,
             is_out_of_range: false,
+        },
+        ([hole], [number]) => {
+            let put = put_number(bits, hole, *number);
+            Filled {
+                digits: code + put.digits,
+                ..put
+            }
+        }
+        ([hole, other_hole], [number, other_number]) => {
+            let put = joined(
+                put_number(bits, hole, *number),
+                put_number(bits, other_hole, *other_number),
+            );
+            Filled {
+                digits: code + put.digits,
+                ..put
+            }
+        }
+        _ => unreachable!(),
+    }
+}
+
+/// Two numbers in their holes.
+fn joined(put: Filled, other: Filled) -> Filled
+    requires { put.digits + other.digits < 2 ^ 60 }
+    ensures digits { result.digits ≡ put.digits + other.digits }
+    ensures truncated { result.is_truncated ≡ (put.is_truncated || other.is_truncated) }
+    ensures out_of_range { result.is_out_of_range ≡ (put.is_out_of_range || other.is_out_of_range) }
+{
+    Filled {
+        digits: put.digits + other.digits,
+        is_truncated: put.is_truncated || other.is_truncated,
+        is_out_of_range: put.is_out_of_range || other.is_out_of_range,
+    }
+}
+
+/// A number in its hole, all other bits of the code 0.
+fn put_number(bits: u8, hole: &Hole, number: i64) -> Filled
+    requires short { bits ≤ 2 * parcel_bits }
+    requires hole { IsHole bits hole.now }
+    requires range { IsInRange number }
+    ensures digits { result.digits ≡ put_in hole.now.kind hole.now.width number * 2 ^ (bits - hole.now.first - hole.now.width) }
+    ensures truncated { result.is_truncated ≡ is_cut_in hole.now.kind hole.now.width number }
+    ensures out_of_range { result.is_out_of_range ≡ is_out_in hole.now.kind hole.now.width number }
+    ensures most { result.digits ≤ (2 ^ hole.now.width - 1) * 2 ^ (bits - hole.now.first - hole.now.width) }
+{
+    if is_out(hole.kind, number, hole.width) {
+        return Filled {
+            digits: 0,
+            is_truncated: false,
+            is_out_of_range: true,
         };
     }
-    let hole = &holes[0];
-    let number = numbers[0];
     let below = bits - hole.first - hole.width;
     Filled {
-        digits: code + (bits_of_value(number, hole.width) << below),
+        digits: bits_of_value(number, hole.width) << below,
         is_truncated: !fits(number, hole.width),
         is_out_of_range: false,
+    }
+}
+
+/// Whether a number is none that a hole of this kind can hold.
+fn is_out(kind: HoleKind, number: i64, width: u8) -> bool
+    requires range { IsInRange number }
+    requires width { width ≤ 2 * parcel_bits }
+    requires some { 0 < width }
+    ensures { result ≡ is_out_in kind width number }
+{
+    match kind {
+        HoleKind::Value => false,
+        HoleKind::Count => number < 0,
+        HoleKind::Target => number.unsigned_abs() >= 1 << (width - 1),
     }
 }
 

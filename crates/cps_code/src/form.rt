@@ -2,12 +2,12 @@ ghost use Rattle.std.specs.Prelude.{◌≡◌, ◌<◌, ◌^◌, ◌≤◌, IfOk
 ghost use Rattle.cps_code.specs.Bits.{parcel_bits};
 ghost use Rattle.cps_code.specs.Value.{IsInRange};
 ghost use Rattle.cps_code.specs.Form.{IsForm, filled};
-ghost use Rattle.cps_code.specs.Sets.{short_form, long_form};
+ghost use Rattle.cps_code.specs.Operations.{short_form, long_form, bare_form, count_form};
 
 use super::filled::Filled;
 use super::filling_holes::fill_holes;
 use super::hole::{Hole, HoleKind};
-use super::widths::{CONSTANT, PARCEL};
+use super::widths::{CONSTANT, COUNT, PARCEL};
 use cps_expr::Expr;
 use std::alloc::{AllocError, Global};
 use std::marker::Model;
@@ -43,6 +43,39 @@ impl CpForm {
             holes: Vec::new(alloc),
             forces_after: false,
         }
+    }
+
+    /// A form of 30 bits: four digits and a constant of 0, with a forcing pending behind it.
+    pub(crate) fn bare(alloc: Global, front: u16) -> CpForm
+        requires { front < 2 ^ 12 }
+        ensures { result ≡ bare_form front }
+    {
+        CpForm {
+            bits: 2 * PARCEL,
+            code: u64::from(front) << CONSTANT,
+            holes: Vec::new(alloc),
+            forces_after: true,
+        }
+    }
+
+    /// A form of 15 bits: three digits and a count.
+    pub(crate) fn counted(alloc: Global, front: u16, count: Expr) -> Result<CpForm, AllocError>
+        requires { front < 2 ^ 9 }
+        ensures { IfOk result (λ form. form ≡ count_form front count) }
+    {
+        let mut holes = Vec::new(alloc);
+        holes.push(Hole {
+            first: PARCEL - COUNT,
+            width: COUNT,
+            kind: HoleKind::Count,
+            expression: count,
+        })?;
+        Ok(CpForm {
+            bits: PARCEL,
+            code: u64::from(front) << COUNT,
+            holes,
+            forces_after: false,
+        })
     }
 
     /// A form of 30 bits: four digits and a constant of 18 bits.

@@ -1,13 +1,19 @@
-ghost use Rattle.std.specs.Prelude.{◌≡◌, ◌<◌, ◌^◌, [], ◌↔◌, Some, None, false, length, IfOk, IfSome, IsErrOf, IsSome, IsSomeAnd, IsTrue, MatchOption};
+ghost use Rattle.std.specs.Prelude.{◌≡◌, ◌<◌, ◌^◌, true, List, [], ◌∷◌, map, option_map, if◌then◌else◌, ◌↔◌, Some, None, false, length, IfOk, IfSome, IsErrOf, IsSome, IsSomeAnd, IsTrue, MatchOption};
 ghost use Rattle.cps_code.specs.Sum.{Sum};
-ghost use Rattle.cps_code.specs.Terms.{AreRegisters, IsKept, register_list};
-ghost use Rattle.cps_code.specs.Table.{is_operation, form_of, operand_of};
-ghost use Rattle.cps_code.specs.Sets.{set_form, set_form_of, jump_form, jump_form_of, long_form};
+ghost use Rattle.cps_code.specs.Terms.{AreDigits, AreRegisters, IsKept, is_empty, register_list};
+ghost use Rattle.cps_expr.specs.Term.{Term};
+ghost use Rattle.cps_code.specs.Rows.{operand_of, operands_in, form_of_rows};
+ghost use Rattle.cps_code.specs.Table.{is_operation, form_of};
+ghost use Rattle.cps_code.specs.Operations.{rows_of, row_of_fields, set_form, set_form_of, jump_form, jump_form_of, long_form, bare_form};
 
+use super::digits::Digits;
+use super::fields::form_of_fields;
 use super::form::CpForm;
-use super::set::{code_with_constant, code_without_constant};
+use super::operation::{FieldForm, Forms, named_operation};
+use super::register::{Letter, RegisterTerm};
+use super::set::{code_with_constant, code_without_constant, four_digits};
 use super::sum::{KeptSum, Registers, read_sum};
-use cps_expr::{Expr, Radix};
+use cps_expr::{Expr, ExprFault, Radix};
 use cps_text::{capital, operands};
 use std::alloc::Global;
 use thiserror::Error;
@@ -29,7 +35,6 @@ pub enum FormFault {
 /// The form of a statement of the central processor: that of the row of the table that fits its operation and its
 /// tail, which is the text from the variable field's first column on. Numbers with no letter go by the radix; lower-case
 /// letters stand for capitals.
-#[tactic(auto, using(crate::proofs::NameLemmas::no_instruction))]
 pub fn cp_form(
     alloc: Global,
     operation: &[u8],
@@ -42,19 +47,54 @@ pub fn cp_form(
         ↔ (IsTrue (is_operation operation.now) × (form_of operation.now tail.now radix ≡ None)) }
     ensures memory { IsErrOf result FormFault.Memory → IsSome (form_of operation.now tail.now radix) }
 {
-    match operation {
-        [first, second] => match (capital(*first), capital(*second)) {
-            (b'N', b'O') => Ok(CpForm::short(alloc, 0o46000)),
-            (b'E', b'Q') => jump_form(alloc, tail, radix),
-            _ => Err(FormFault::NoOperation),
-        },
-        [first, second, i] => match (capital(*first), capital(*second), capital(*i)) {
-            (b'S', b'A', i @ b'0'..=b'7') => set_form(alloc, 5, i - b'0', tail, radix),
-            (b'S', b'B', i @ b'0'..=b'7') => set_form(alloc, 6, i - b'0', tail, radix),
-            (b'S', b'X', i @ b'0'..=b'7') => set_form(alloc, 7, i - b'0', tail, radix),
-            _ => Err(FormFault::NoOperation),
-        },
-        _ => Err(FormFault::NoOperation),
+    let Some((forms, digits)) = named_operation(operation) else {
+        return Err(FormFault::NoOperation);
+    };
+    form_of_operation(alloc, forms, digits, tail, radix)
+}
+
+fn form_of_operation(
+    alloc: Global,
+    forms: Forms,
+    digits: Digits,
+    tail: &[u8],
+    radix: Radix,
+) -> Result<CpForm, FormFault>
+    requires known { AreDigits digits }
+    ensures form { IfOk result (λ form. form_of_rows radix digits (rows_of forms) (operands_in radix tail.now) ≡ Some form) }
+    ensures no_operation { IsErrOf result FormFault.NoOperation → ⊥ }
+    ensures unreadable { IsErrOf result FormFault.Unreadable → form_of_rows radix digits (rows_of forms) (operands_in radix tail.now) ≡ None }
+    ensures memory { IsErrOf result FormFault.Memory → IsSome (form_of_rows radix digits (rows_of forms) (operands_in radix tail.now)) }
+{
+    match forms {
+        Forms::Pass => Ok(CpForm::short(alloc, 0o46000)),
+        Forms::Stop => Ok(CpForm::bare(alloc, 0)),
+        Forms::SetA => set_form(alloc, digits, tail, radix),
+        Forms::SetB => set_form(alloc, digits, tail, radix),
+        Forms::SetX => set_form(alloc, digits, tail, radix),
+        Forms::Jump => jump_form(alloc, digits, tail, radix),
+        Forms::Fields(rows) => fields_form(alloc, rows, digits, tail, radix),
+    }
+}
+
+#[tactic(auto, using(crate::proofs::FieldLemmas::none_read))]
+fn fields_form(
+    alloc: Global,
+    rows: &[FieldForm],
+    digits: Digits,
+    tail: &[u8],
+    radix: Radix,
+) -> Result<CpForm, FormFault>
+    requires known { AreDigits digits }
+    ensures form { IfOk result (λ form. form_of_rows radix digits (map row_of_fields rows.now) (operands_in radix tail.now) ≡ Some form) }
+    ensures no_operation { IsErrOf result FormFault.NoOperation → ⊥ }
+    ensures unreadable { IsErrOf result FormFault.Unreadable → form_of_rows radix digits (map row_of_fields rows.now) (operands_in radix tail.now) ≡ None }
+    ensures memory { IsErrOf result FormFault.Memory → IsSome (form_of_rows radix digits (map row_of_fields rows.now) (operands_in radix tail.now)) }
+{
+    match form_of_fields(alloc, rows, digits, tail, radix) {
+        Ok(form) => Ok(form),
+        Err(ExprFault::Unreadable) => Err(FormFault::Unreadable),
+        Err(ExprFault::Memory) => Err(FormFault::Memory),
     }
 }
 
@@ -74,30 +114,61 @@ fn read_operand(alloc: Global, tail: &[u8], radix: Radix) -> Option<KeptSum>
     read_sum(alloc, operand, radix)
 }
 
-fn jump_form(alloc: Global, tail: &[u8], radix: Radix) -> Result<CpForm, FormFault>
-    ensures form { IfOk result (λ form. jump_form_of radix tail.now ≡ Some form) }
+fn jump_form(alloc: Global, digits: Digits, tail: &[u8], radix: Radix) -> Result<CpForm, FormFault>
+    requires known { AreDigits digits }
+    ensures form { IfOk result (λ form. jump_form_of radix digits tail.now ≡ Some form) }
     ensures no_operation { IsErrOf result FormFault.NoOperation → ⊥ }
-    ensures unreadable { IsErrOf result FormFault.Unreadable → jump_form_of radix tail.now ≡ None }
-    ensures memory { IsErrOf result FormFault.Memory → IsSome (jump_form_of radix tail.now) }
+    ensures unreadable { IsErrOf result FormFault.Unreadable → jump_form_of radix digits tail.now ≡ None }
+    ensures memory { IsErrOf result FormFault.Memory → IsSome (jump_form_of radix digits tail.now) }
 {
     match read_operand(alloc, tail, radix) {
         None => Err(FormFault::Unreadable),
-        Some(kept) => jump_form_of_sum(alloc, kept),
+        Some(kept) => jump_form_of_sum(alloc, digits, kept),
     }
 }
 
-fn jump_form_of_sum(alloc: Global, kept: KeptSum) -> Result<CpForm, FormFault>
-    ensures form { IfOk result (λ form. (sum : Sum) → IsKept kept sum → jump_form sum.registers sum.constant ≡ Some form) }
+fn jump_form_of_sum(alloc: Global, digits: Digits, kept: KeptSum) -> Result<CpForm, FormFault>
+    requires known { AreDigits digits }
+    requires registers { AreRegisters kept.registers }
+    ensures form { IfOk result (λ form. (sum : Sum) → IsKept kept sum → jump_form digits sum.registers sum.constant ≡ Some form) }
     ensures no_operation { IsErrOf result FormFault.NoOperation → ⊥ }
-    ensures unreadable { IsErrOf result FormFault.Unreadable → (sum : Sum) → IsKept kept sum → jump_form sum.registers sum.constant ≡ None }
-    ensures memory { IsErrOf result FormFault.Memory → (sum : Sum) → IsKept kept sum → IsSome (jump_form sum.registers sum.constant) }
+    ensures unreadable { IsErrOf result FormFault.Unreadable → (sum : Sum) → IsKept kept sum → jump_form digits sum.registers sum.constant ≡ None }
+    ensures memory { IsErrOf result FormFault.Memory → (sum : Sum) → IsKept kept sum → IsSome (jump_form digits sum.registers sum.constant) }
 {
-    match (kept.has_constant, kept.registers) {
-        (true, Registers::Absent) => match long_form(alloc, 0o0400, kept.constant, true) {
+    let Some(front) = jump_front(kept.registers) else {
+        return Err(FormFault::Unreadable);
+    };
+    if kept.has_constant {
+        match long_form(alloc, front, kept.constant, true) {
             None => Err(FormFault::Memory),
             Some(form) => Ok(form),
-        },
-        _ => Err(FormFault::Unreadable),
+        }
+    } else {
+        match kept.registers {
+            Registers::Absent => Err(FormFault::Unreadable),
+            _ => Ok(CpForm::bare(alloc, front)),
+        }
+    }
+}
+
+/// The first four digits of a jump to a register, if it is one, and a constant.
+fn jump_front(registers: Registers) -> Option<u16>
+    requires { AreRegisters registers }
+    ensures front { (digits : Digits) (first : Term) (constant : List Term)
+        → jump_form digits (register_list registers) (first ∷ constant) ≡ option_map (λ front. long_form front (first ∷ constant) true) result }
+    ensures bare { (digits : Digits) → jump_form digits (register_list registers) [] ≡ (if is_empty registers then None else option_map bare_form result) }
+    ensures small { IfSome result (λ front. front < 4096) }
+{
+    match registers {
+        Registers::Absent => Some(0o0200),
+        Registers::One(
+            RegisterTerm {
+                is_minus: false,
+                letter: Letter::B,
+                digit,
+            },
+        ) => Some(four_digits(0, 2, digit, 0)),
+        _ => None,
     }
 }
 
@@ -117,32 +188,30 @@ fn long_form(
     }
 }
 
-/// The form of a set instruction: `f` is the first digit of its codes, `i` that of the register set.
-fn set_form(alloc: Global, f: u8, i: u8, tail: &[u8], radix: Radix) -> Result<CpForm, FormFault>
-    requires f { f < 8 }
-    requires i { i < 8 }
-    ensures form { IfOk result (λ form. set_form_of f i radix tail.now ≡ Some form) }
+/// The form of a set instruction.
+fn set_form(alloc: Global, digits: Digits, tail: &[u8], radix: Radix) -> Result<CpForm, FormFault>
+    requires known { AreDigits digits }
+    ensures form { IfOk result (λ form. set_form_of radix digits tail.now ≡ Some form) }
     ensures no_operation { IsErrOf result FormFault.NoOperation → ⊥ }
-    ensures unreadable { IsErrOf result FormFault.Unreadable → set_form_of f i radix tail.now ≡ None }
-    ensures memory { IsErrOf result FormFault.Memory → IsSome (set_form_of f i radix tail.now) }
+    ensures unreadable { IsErrOf result FormFault.Unreadable → set_form_of radix digits tail.now ≡ None }
+    ensures memory { IsErrOf result FormFault.Memory → IsSome (set_form_of radix digits tail.now) }
 {
     match read_operand(alloc, tail, radix) {
         None => Err(FormFault::Unreadable),
-        Some(kept) => form_of_sum(alloc, f, i, kept),
+        Some(kept) => form_of_sum(alloc, digits, kept),
     }
 }
 
-fn form_of_sum(alloc: Global, f: u8, i: u8, kept: KeptSum) -> Result<CpForm, FormFault>
-    requires f { f < 8 }
-    requires i { i < 8 }
+fn form_of_sum(alloc: Global, digits: Digits, kept: KeptSum) -> Result<CpForm, FormFault>
+    requires known { AreDigits digits }
     requires registers { AreRegisters kept.registers }
-    ensures form { IfOk result (λ form. (sum : Sum) → IsKept kept sum → set_form f i sum.registers sum.constant ≡ Some form) }
+    ensures form { IfOk result (λ form. (sum : Sum) → IsKept kept sum → set_form digits sum.registers sum.constant ≡ Some form) }
     ensures no_operation { IsErrOf result FormFault.NoOperation → ⊥ }
-    ensures unreadable { IsErrOf result FormFault.Unreadable → (sum : Sum) → IsKept kept sum → set_form f i sum.registers sum.constant ≡ None }
-    ensures memory { IsErrOf result FormFault.Memory → (sum : Sum) → IsKept kept sum → IsSome (set_form f i sum.registers sum.constant) }
+    ensures unreadable { IsErrOf result FormFault.Unreadable → (sum : Sum) → IsKept kept sum → set_form digits sum.registers sum.constant ≡ None }
+    ensures memory { IsErrOf result FormFault.Memory → (sum : Sum) → IsKept kept sum → IsSome (set_form digits sum.registers sum.constant) }
 {
     if kept.has_constant {
-        match code_with_constant(f, i, kept.registers) {
+        match code_with_constant(digits, kept.registers) {
             None => Err(FormFault::Unreadable),
             Some(code) => match long_form(alloc, code, kept.constant, false) {
                 None => Err(FormFault::Memory),
@@ -150,7 +219,7 @@ fn form_of_sum(alloc: Global, f: u8, i: u8, kept: KeptSum) -> Result<CpForm, For
             },
         }
     } else {
-        match short_form(alloc, f, i, kept.registers) {
+        match short_form(alloc, digits, kept.registers) {
             None => Err(FormFault::Unreadable),
             Some(form) => Ok(form),
         }
@@ -158,13 +227,12 @@ fn form_of_sum(alloc: Global, f: u8, i: u8, kept: KeptSum) -> Result<CpForm, For
 }
 
 /// The form of registers without a constant.
-fn short_form(alloc: Global, f: u8, i: u8, registers: Registers) -> Option<CpForm>
-    requires f { f < 8 }
-    requires i { i < 8 }
+fn short_form(alloc: Global, digits: Digits, registers: Registers) -> Option<CpForm>
+    requires known { AreDigits digits }
     requires digits { AreRegisters registers }
-    ensures { set_form f i (register_list registers) [] ≡ result }
+    ensures { set_form digits (register_list registers) [] ≡ result }
 {
-    match code_without_constant(f, i, registers) {
+    match code_without_constant(digits, registers) {
         None => None,
         Some(code) => Some(CpForm::short(alloc, code)),
     }

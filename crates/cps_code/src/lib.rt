@@ -1,11 +1,15 @@
 //! Instruction forms of the central processor, the places where instructions begin, and the words that they make.
 #![tactic(auto)]
 
+mod digits;
+mod fields;
 mod filled;
 mod filling_holes;
 mod form;
 mod forms;
 mod hole;
+mod operation;
+mod operation_table;
 mod piece;
 mod place;
 mod placing;
@@ -16,6 +20,7 @@ mod widths;
 mod words;
 
 pub use filled::Filled;
+pub use filling_holes::fill_holes;
 pub use form::CpForm;
 pub use forms::{FormFault, cp_form};
 pub use hole::{Hole, HoleKind};

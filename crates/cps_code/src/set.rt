@@ -1,70 +1,68 @@
 ghost use Rattle.cps_expr.specs.Term.{Term};
 ghost use Rattle.std.specs.Prelude.{◌≡◌, ◌<◌, ◌+◌, ◌*◌, [], ◌∷◌, false, List, IfSome, option_map};
-ghost use Rattle.cps_code.specs.Terms.{IsRegister, AreRegisters, register_list};
-ghost use Rattle.cps_code.specs.Sets.{set_form, set_form_as_it_stands, long_form, short_form};
+ghost use Rattle.cps_code.specs.Terms.{IsRegister, AreRegisters, AreDigits, register_list};
+ghost use Rattle.cps_code.specs.Operations.{set_form, set_form_as_it_stands, long_form, short_form};
 
+use super::digits::Digits;
 use super::register::{Letter, RegisterTerm};
 use super::sum::Registers;
 
-/// The four digits of a set instruction before its constant. `f` is the first digit, `i` that of the register set.
-pub fn code_with_constant(f: u8, i: u8, registers: Registers) -> Option<u16>
-    requires f { f < 8 }
-    requires i { i < 8 }
+/// The four digits of a set instruction before its constant.
+pub fn code_with_constant(digits: Digits, registers: Registers) -> Option<u16>
+    requires known { AreDigits digits }
     requires digits { AreRegisters registers }
     ensures form { (first : Term) (constant : List Term)
-        → set_form f i (register_list registers) (first ∷ constant) ≡ option_map (λ code. long_form code (first ∷ constant) false) result }
+        → set_form digits (register_list registers) (first ∷ constant) ≡ option_map (λ code. long_form code (first ∷ constant) false) result }
     ensures small { IfSome result (λ code. code < 4096) }
 {
     match registers {
-        Registers::Absent => Some(four_digits(f, 1, i, 0)),
+        Registers::Absent => Some(four_digits(digits.f, 1, digits.i, 0)),
         Registers::One(
             RegisterTerm {
                 is_minus: false,
                 letter: Letter::A,
                 digit,
             },
-        ) => Some(four_digits(f, 0, i, digit)),
+        ) => Some(four_digits(digits.f, 0, digits.i, digit)),
         Registers::One(
             RegisterTerm {
                 is_minus: false,
                 letter: Letter::B,
                 digit,
             },
-        ) => Some(four_digits(f, 1, i, digit)),
+        ) => Some(four_digits(digits.f, 1, digits.i, digit)),
         Registers::One(
             RegisterTerm {
                 is_minus: false,
                 letter: Letter::X,
                 digit,
             },
-        ) => Some(four_digits(f, 2, i, digit)),
+        ) => Some(four_digits(digits.f, 2, digits.i, digit)),
         _ => None,
     }
 }
 
 /// The five digits of a set instruction without a constant.
-pub fn code_without_constant(f: u8, i: u8, registers: Registers) -> Option<u16>
-    requires f { f < 8 }
-    requires i { i < 8 }
+pub fn code_without_constant(digits: Digits, registers: Registers) -> Option<u16>
+    requires known { AreDigits digits }
     requires digits { AreRegisters registers }
-    ensures form { set_form f i (register_list registers) [] ≡ option_map short_form result }
+    ensures form { set_form digits (register_list registers) [] ≡ option_map short_form result }
     ensures small { IfSome result (λ code. code < 32768) }
 {
     match registers {
         Registers::Absent => None,
-        Registers::One(register) => code_alone(f, i, register),
-        Registers::Two(first, second) => match code_of_pair(f, i, first, second) {
+        Registers::One(register) => code_alone(digits, register),
+        Registers::Two(first, second) => match code_of_pair(digits, first, second) {
             Some(code) => Some(code),
-            None => code_of_pair(f, i, second, first),
+            None => code_of_pair(digits, second, first),
         },
     }
 }
 
-fn code_alone(f: u8, i: u8, register: RegisterTerm) -> Option<u16>
-    requires f { f < 8 }
-    requires i { i < 8 }
+fn code_alone(digits: Digits, register: RegisterTerm) -> Option<u16>
+    requires known { AreDigits digits }
     requires digit { IsRegister register }
-    ensures form { set_form f i (register ∷ []) [] ≡ option_map short_form result }
+    ensures form { set_form digits (register ∷ []) [] ≡ option_map short_form result }
     ensures small { IfSome result (λ code. code < 32768) }
 {
     match register {
@@ -72,32 +70,31 @@ fn code_alone(f: u8, i: u8, register: RegisterTerm) -> Option<u16>
             is_minus: false,
             letter: Letter::X,
             digit,
-        } => Some(four_digits(f, 3, i, digit) * 8),
+        } => Some(four_digits(digits.f, 3, digits.i, digit) * 8),
         RegisterTerm {
             is_minus: false,
             letter: Letter::A,
             digit,
-        } => Some(four_digits(f, 4, i, digit) * 8),
+        } => Some(four_digits(digits.f, 4, digits.i, digit) * 8),
         RegisterTerm {
             is_minus: false,
             letter: Letter::B,
             digit,
-        } => Some(four_digits(f, 6, i, digit) * 8),
+        } => Some(four_digits(digits.f, 6, digits.i, digit) * 8),
         RegisterTerm {
             is_minus: true,
             letter: Letter::B,
             digit,
-        } => Some(four_digits(f, 7, i, 0) * 8 + u16::from(digit)),
+        } => Some(four_digits(digits.f, 7, digits.i, 0) * 8 + u16::from(digit)),
         _ => None,
     }
 }
 
 /// The digits for two registers in the order of a row: the first is j, the second k.
-fn code_of_pair(f: u8, i: u8, j: RegisterTerm, k: RegisterTerm) -> Option<u16>
-    requires f { f < 8 }
-    requires i { i < 8 }
+fn code_of_pair(digits: Digits, j: RegisterTerm, k: RegisterTerm) -> Option<u16>
+    requires known { AreDigits digits }
     requires digits { IsRegister j × IsRegister k }
-    ensures form { set_form_as_it_stands f i (j ∷ k ∷ []) [] ≡ option_map short_form result }
+    ensures form { set_form_as_it_stands digits (j ∷ k ∷ []) [] ≡ option_map short_form result }
     ensures small { IfSome result (λ code. code < 32768) }
 {
     let second = match (j.letter, j.is_minus, k.letter, k.is_minus) {
@@ -108,11 +105,11 @@ fn code_of_pair(f: u8, i: u8, j: RegisterTerm, k: RegisterTerm) -> Option<u16>
         (Letter::B, false, Letter::B, true) => 7,
         _ => return None,
     };
-    Some(four_digits(f, second, i, j.digit) * 8 + u16::from(k.digit))
+    Some(four_digits(digits.f, second, digits.i, j.digit) * 8 + u16::from(k.digit))
 }
 
 /// Four octal digits, one behind the other.
-fn four_digits(a: u8, b: u8, c: u8, d: u8) -> u16
+pub fn four_digits(a: u8, b: u8, c: u8, d: u8) -> u16
     requires a { a < 8 }
     requires b { b < 8 }
     requires c { c < 8 }

@@ -56,7 +56,7 @@ pub fn read_sum(alloc: Global, text: &[u8], radix: Radix) -> Option<KeptSum>
     }
 }
 
-fn first_and_rest(text: &[u8]) -> Option<(u8, &[u8])>
+pub fn first_and_rest(text: &[u8]) -> Option<(u8, &[u8])>
     ensures { MatchOption result (text.now ≡ []) (λ parts. text.now ≡ parts.0 ∷ parts.1.now) }
 {
     match text {

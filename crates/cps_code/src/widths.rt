@@ -8,3 +8,6 @@ pub const PARCEL: u8 = 15;
 
 /// The bits of the constant of an instruction.
 pub const CONSTANT: u8 = 18;
+
+/// The bits of the count of an instruction.
+pub const COUNT: u8 = 6;

@@ -73,7 +73,7 @@ module _ (o f : Values) (here : ℕ) where
 
   flags-same : (content : Content) → Same (content_names content) → value_flags o here content ≡ value_flags f here content
   flags-same (Instruction form) agree = λ i. record no_flags {
-    operand = nones-same form.holes agree i;
+    operand = nones-same form.holes agree i || (filled form (values-same form.holes agree i)).is_out_of_range;
     cut = (filled form (values-same form.holes agree i)).is_truncated;
     undefined = undefined-same form.holes agree i;
   }

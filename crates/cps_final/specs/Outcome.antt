@@ -1,6 +1,6 @@
 -- Pass two: the rows and the bits of a line, where everything that can be named has its final value.
 -- From the manual's sections on the two passes and on the listing; that a name that is never defined counts as 0, and the machine's limit, are our profile's.
-use Rattle.std.specs.Prelude.{◌≡◌, All, ℕ, ◌+◌, ◌/◌, ◌%◌, Bool, nat_le, List, [], ◌∷◌, ◌++◌, map, flat_map, fold, ℤ, pos, ◌+ℤ◌, nat_abs, Option, None, Some, option_map, is_none, unwrap_or, if◌then◌else◌}
+use Rattle.std.specs.Prelude.{◌≡◌, All, ℕ, ◌+◌, ◌/◌, ◌%◌, Bool, ◌||◌, nat_le, List, [], ◌∷◌, ◌++◌, map, flat_map, fold, ℤ, pos, ◌+ℤ◌, nat_abs, Option, None, Some, option_map, is_none, unwrap_or, if◌then◌else◌}
 use Rattle.std.specs.List.{list_any}
 use Rattle.cps_text.specs.declared.name.Name.{Name}
 use Rattle.cps_expr.specs.declared.value.Value.{Value}
@@ -67,7 +67,7 @@ form_number labels here form = (filled form (values_of labels here form)).digits
 -- the flags that the values of an instruction give
 abbrev pub form_flags : Values → ℕ → Form → Flags
 form_flags labels here form = record no_flags {
-  operand = list_any (λ hole. is_none (value_at labels here hole.expression)) form.holes;
+  operand = list_any (λ hole. is_none (value_at labels here hole.expression)) form.holes || (filled form (values_of labels here form)).is_out_of_range;
   cut = (filled form (values_of labels here form)).is_truncated;
   undefined = list_any (λ hole. has_undefined labels hole.expression) form.holes;
 }

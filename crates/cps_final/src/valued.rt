@@ -1,5 +1,5 @@
 //! Codes with the final values of their expressions.
-ghost use Rattle.std.specs.Prelude.{◌≡◌, ◌<◌, ◌^◌, pos, IfSome};
+ghost use Rattle.std.specs.Prelude.{◌≡◌, ◌<◌, ◌^◌, ◌||◌, pos, IfSome};
 ghost use Rattle.cps_code.specs.Value as number;
 ghost use Rattle.cps_expr.specs.Value.{IsInRange, plain};
 ghost use Rattle.cps_state.specs.Made.{no_flags, width_of};
@@ -50,10 +50,10 @@ fn value_form(form: &CpForm, finals: &Finals, address: u64) -> Valued
 
 fn valued_form(filled: Filled, has_no_value: bool, is_undefined: bool) -> Valued
     ensures number { result.number ≡ filled.digits }
-    ensures flags { result.flags ≡ record no_flags { operand = has_no_value; cut = filled.is_truncated; undefined = is_undefined } }
+    ensures flags { result.flags ≡ record no_flags { operand = (has_no_value || filled.is_out_of_range); cut = filled.is_truncated; undefined = is_undefined } }
 {
     let mut flags = Flags::none();
-    flags.operand = has_no_value;
+    flags.operand = has_no_value || filled.is_out_of_range;
     flags.cut = filled.is_truncated;
     flags.undefined = is_undefined;
     Valued {

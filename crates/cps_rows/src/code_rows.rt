@@ -18,7 +18,7 @@ fn read(alloc: Global, operation: &[u8], tail: &[u8], radix: Radix) -> Result<Cp
 }
 
 /// The code of a form with the values of its expressions, where no name is defined and `*` is 3.
-fn filled(form: &CpForm) -> Result<Filled, Fail> {
+pub fn filled(form: &CpForm) -> Result<Filled, Fail> {
     match form.holes() {
         [] => Ok(form.fill(&[])),
         [hole] => {
@@ -77,7 +77,7 @@ fn refuses_statements(rt: HostRuntime) -> Result<(), Fail> {
         (b"XX", b"1", Radix::Decimal, FormFault::NoOperation),
         (b"SA1", b"-X1", Radix::Decimal, FormFault::Unreadable),
         (b"EQ", b"X1", Radix::Decimal, FormFault::Unreadable),
-        (b"EQ", b"B1,B2,5", Radix::Decimal, FormFault::Unreadable),
+        (b"EQ", b"B1,B2,X5", Radix::Decimal, FormFault::Unreadable),
         (b"SA1", b"18", Radix::Octal, FormFault::Unreadable),
         (b"SA1", b"B1*2", Radix::Decimal, FormFault::Unreadable),
         (b"SA1", b"2*B1+1", Radix::Decimal, FormFault::Unreadable),

@@ -4,6 +4,8 @@
 #[cfg(test)]
 mod assertions;
 #[cfg(test)]
+mod central_rows;
+#[cfg(test)]
 mod code_rows;
 #[cfg(test)]
 mod expression_rows;
@@ -13,6 +15,8 @@ mod final_rows;
 mod given;
 #[cfg(test)]
 mod pass_rows;
+#[cfg(test)]
+mod peripheral_rows;
 #[cfg(test)]
 mod same_value;
 #[cfg(test)]

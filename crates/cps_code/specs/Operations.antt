@@ -1,0 +1,129 @@
+-- For the look-up of an operation and the branches on its forms, not part of what a reader believes: the table as the code keeps it.
+use Prim.Native.Char.{code}
+use Rattle.std.specs.Prelude.{ℕ, ◌*◌, ◌^◌, Bool, true, false, ◌==◌, List, [], ◌∷◌, map, filter, slice_index, codes, Option, None, Some}
+use Rattle.std.specs.Borrow.{Bor}
+use Rattle.cps_expr.specs.declared.radix.Radix.{Radix}
+use Rattle.cps_expr.specs.declared.radix.Radix.TheVariants.{Octal}
+use Rattle.cps_expr.specs.Term.{Term}
+use Rattle.cps_code.specs.declared.digits.Digits.{Digits}
+use Rattle.cps_code.specs.declared.hole.HoleKind.TheVariants.{Value, Count}
+use Rattle.cps_code.specs.declared.operation.FieldForm.{FieldForm}
+use Rattle.cps_code.specs.declared.operation.FieldForm.TheVariants as field
+use Rattle.cps_code.specs.declared.operation.Forms.{Forms}
+use Rattle.cps_code.specs.declared.operation.Forms.TheVariants.{Pass, Stop, SetA, SetB, SetX, Jump, Fields}
+use Rattle.cps_code.specs.declared.register.RegisterTerm.{RegisterTerm}
+use Rattle.cps_code.specs.Bits.{constant_bits, count_bits}
+use Rattle.cps_code.specs.Form.{Form}
+use Rattle.cps_code.specs.Rows.{RowForm, Operation, Named, Operands, unread, fields, form_in, form_of_rows, operands_in}
+use Rattle.cps_code.specs.Table.{set_rows, jump_rows}
+
+-- ---- the code's rows
+
+abbrev pub texts : List (Bor (List ℕ)) → List (List ℕ)
+texts borrowed = map (λ text. text.now) borrowed
+
+abbrev pub field_row : List (List ℕ) → Bool → List ℕ → Option ℕ → Bool → RowForm
+field_row registers has_expression digits hole forces = record {
+  shape = fields (record { registers = registers; has_expression = has_expression });
+  code = record { digits = digits; hole = hole };
+  forces = forces;
+}
+
+abbrev pub row_of_fields : FieldForm → RowForm
+row_of_fields (field.Short registers digits) = field_row (texts registers.now) false digits.now None false
+row_of_fields (field.Constant registers digits) = field_row (texts registers.now) true digits.now (Some (code "K")) false
+row_of_fields (field.Forcing registers digits) = field_row (texts registers.now) true digits.now (Some (code "K")) true
+row_of_fields (field.Count digits) = field_row [] true digits.now (Some (code "n")) false
+
+abbrev pub set_forms : List RowForm
+set_forms = map (λ row. row.form) (set_rows [] 0)
+
+abbrev pub jump_forms : List RowForm
+jump_forms = map (λ row. row.form) jump_rows
+
+abbrev pub unread_form : List ℕ → Bool → RowForm
+unread_form digits forces = record { shape = unread; code = record { digits = digits; hole = None }; forces = forces }
+
+abbrev pub rows_of : Forms → List RowForm
+rows_of Pass = unread_form (codes "46000") false ∷ []
+rows_of Stop = unread_form (codes "0000000000") true ∷ []
+rows_of SetA = set_forms
+rows_of SetB = set_forms
+rows_of SetX = set_forms
+rows_of Jump = jump_forms
+rows_of (Fields rows) = map row_of_fields rows.now
+
+abbrev pub first_of : Forms → ℕ
+first_of Pass = 0
+first_of Stop = 0
+first_of SetA = 5
+first_of SetB = 6
+first_of SetX = 7
+first_of Jump = 0
+first_of (Fields rows) = 0
+
+abbrev pub operation_values : List (Bor (List ℕ) × Forms) → List Operation
+operation_values entries = map (λ entry. record { name = entry.0.now; f = first_of entry.1; forms = rows_of entry.1 }) entries
+
+abbrev pub named_value : Forms × Digits → Named
+named_value found = record { digits = found.1; forms = rows_of found.0 }
+
+-- the operations whose names begin with a letter
+abbrev pub beginning_with : ℕ → List Operation → List Operation
+beginning_with letter operations = filter (λ o. slice_index o.name 0 == letter) operations
+
+-- ---- forms at given digits and operands
+
+-- the operands, where no row asks for a sum
+abbrev pub no_sum : List (List ℕ) → Operands
+no_sum operands = record { texts = operands; sum = None }
+
+-- the operands, where no row asks for anything but a sum
+abbrev pub sum_alone : List RegisterTerm → List Term → Operands
+sum_alone registers constant = record { texts = []; sum = Some (record { registers = registers; constant = constant }) }
+
+-- the form for these registers and this constant, in the one order or the other
+abbrev pub set_form : Digits → List RegisterTerm → List Term → Option Form
+set_form digits registers constant = form_of_rows Octal digits set_forms (sum_alone registers constant)
+
+-- the same in this order alone
+abbrev pub set_form_as_it_stands : Digits → List RegisterTerm → List Term → Option Form
+set_form_as_it_stands digits registers constant = form_in Octal digits set_forms (sum_alone registers constant)
+
+-- the form of a set instruction with this tail
+abbrev pub set_form_of : Radix → Digits → List ℕ → Option Form
+set_form_of radix digits tail = form_of_rows radix digits set_forms (operands_in radix tail)
+
+-- the form of a jump with these registers and this constant
+abbrev pub jump_form : Digits → List RegisterTerm → List Term → Option Form
+jump_form digits registers constant = form_of_rows Octal digits jump_forms (sum_alone registers constant)
+
+-- the form of a jump with this tail
+abbrev pub jump_form_of : Radix → Digits → List ℕ → Option Form
+jump_form_of radix digits tail = form_of_rows radix digits jump_forms (operands_in radix tail)
+
+-- four digits and a constant
+abbrev pub long_form : ℕ → List Term → Bool → Form
+long_form front constant forces = record {
+  bits = 30;
+  code = front * 2 ^ constant_bits;
+  holes = record { first = 12; width = constant_bits; kind = Value; expression = constant } ∷ [];
+  forces_after = forces;
+}
+
+-- four digits and a constant of 0, with a forcing pending behind it
+abbrev pub bare_form : ℕ → Form
+bare_form front = record { bits = 30; code = front * 2 ^ constant_bits; holes = []; forces_after = true }
+
+-- five digits
+abbrev pub short_form : ℕ → Form
+short_form code = record { bits = 15; code = code; holes = []; forces_after = false }
+
+-- three digits and a count
+abbrev pub count_form : ℕ → List Term → Form
+count_form front count = record {
+  bits = 15;
+  code = front * 2 ^ count_bits;
+  holes = record { first = 9; width = count_bits; kind = Count; expression = count } ∷ [];
+  forces_after = false;
+}

@@ -1,0 +1,193 @@
+ghost use Rattle.std.specs.Prelude.{◌≡◌, ◌<◌, ◌≤◌, ◌^◌, true, false, [], ◌∷◌, map, option_map, IfOk, IfSome, IsErrOf, MatchOption};
+ghost use Rattle.cps_expr.specs.Reads.{Reads};
+ghost use Rattle.cps_text.specs.Operands.{operands_of};
+ghost use Rattle.cps_text.specs.OperandsLeft.{operands_left};
+ghost use Rattle.cps_code.specs.Rows.{registers_in, found_in_fields, form_in, form_in_row, form_of_rows, operands_in};
+ghost use Rattle.cps_code.specs.Operations.{texts, no_sum, row_of_fields, long_form, count_form};
+ghost use Rattle.cps_expr.specs.declared.radix.Radix.TheVariants.{Octal};
+ghost use Rattle.cps_code.specs.Terms.{AreDigits};
+
+use super::digits::{Digits, octal, read_digits};
+use super::form::CpForm;
+use super::operation::FieldForm;
+use cps_expr::{Expr, ExprFault, Radix};
+use cps_text::{Operands, operands};
+use std::alloc::Global;
+
+/// The form of the first row that fits the operands of a tail.
+#[tactic(auto, using(crate::proofs::FieldLemmas::without_sum))]
+pub fn form_of_fields(
+    alloc: Global,
+    rows: &[FieldForm],
+    digits: Digits,
+    tail: &[u8],
+    radix: Radix,
+) -> Result<CpForm, ExprFault>
+    requires { AreDigits digits }
+    ensures { Reads result (form_of_rows radix digits (map row_of_fields rows.now) (operands_in radix tail.now)) }
+{
+    first_form(alloc, rows, digits, tail, radix)
+}
+
+fn first_form(
+    alloc: Global,
+    rows: &[FieldForm],
+    digits: Digits,
+    tail: &[u8],
+    radix: Radix,
+) -> Result<CpForm, ExprFault>
+    requires { AreDigits digits }
+    ensures { Reads result (form_in radix digits (map row_of_fields rows.now) (no_sum (operands_of tail.now))) }
+{
+    for row in rows {
+        match form_of_row(alloc, *row, digits, tail, radix) {
+            Ok(form) => return Ok(form),
+            Err(ExprFault::Memory) => return Err(ExprFault::Memory),
+            Err(ExprFault::Unreadable) => {}
+        }
+    }
+    Err(ExprFault::Unreadable)
+}
+
+fn form_of_row(
+    alloc: Global,
+    row: FieldForm,
+    digits: Digits,
+    tail: &[u8],
+    radix: Radix,
+) -> Result<CpForm, ExprFault>
+    requires { AreDigits digits }
+    ensures { Reads result (form_in_row radix digits (row_of_fields row) (no_sum (operands_of tail.now))) }
+{
+    match row {
+        FieldForm::Short(registers, code) => {
+            match read_registers_alone(registers, digits, tail) {
+                None => Err(ExprFault::Unreadable),
+                Some(known) => Ok(CpForm::short(alloc, octal(known, code))),
+            }
+        }
+        FieldForm::Constant(registers, code) => {
+            let found = read_fields(alloc, registers, digits, tail, radix)?;
+            long_form(alloc, octal(found.digits, code), found.expression, false)
+        }
+        FieldForm::Forcing(registers, code) => {
+            let found = read_fields(alloc, registers, digits, tail, radix)?;
+            long_form(alloc, octal(found.digits, code), found.expression, true)
+        }
+        FieldForm::Count(code) => {
+            let found = read_fields(alloc, &[], digits, tail, radix)?;
+            count_form(alloc, octal(found.digits, code), found.expression)
+        }
+    }
+}
+
+fn long_form(
+    alloc: Global,
+    front: u16,
+    constant: Expr,
+    forces_after: bool,
+) -> Result<CpForm, ExprFault>
+    requires { front < 2 ^ 12 }
+    ensures form { IfOk result (λ form. form ≡ long_form front constant forces_after) }
+    ensures readable { IsErrOf result ExprFault.Unreadable → ⊥ }
+{
+    match CpForm::long(alloc, front, constant, forces_after) {
+        Ok(form) => Ok(form),
+        Err(_) => Err(ExprFault::Memory),
+    }
+}
+
+fn count_form(alloc: Global, front: u16, count: Expr) -> Result<CpForm, ExprFault>
+    requires { front < 2 ^ 9 }
+    ensures form { IfOk result (λ form. form ≡ count_form front count) }
+    ensures readable { IsErrOf result ExprFault.Unreadable → ⊥ }
+{
+    match CpForm::counted(alloc, front, count) {
+        Ok(form) => Ok(form),
+        Err(_) => Err(ExprFault::Memory),
+    }
+}
+
+/// The digits of the operands, all of registers.
+fn read_registers_alone(registers: &[&[u8]], digits: Digits, tail: &[u8]) -> Option<Digits>
+    requires { AreDigits digits }
+    ensures digits { found_in_fields Octal (record { registers = texts registers.now; has_expression = false }) (operands_of tail.now) digits
+        ≡ option_map (λ known. record { digits = known; expression = [] }) result }
+    ensures octal { IfSome result AreDigits }
+{
+    let (known, mut left) = read_registers(operands(tail), registers, digits)?;
+    match left.next() {
+        None => Some(known),
+        Some(_) => None,
+    }
+}
+
+#[derive(Drop)]
+struct Found {
+    digits: Digits,
+    expression: Expr,
+}
+
+/// The digits of the operands of registers, and the expression behind them.
+fn read_fields(
+    alloc: Global,
+    registers: &[&[u8]],
+    digits: Digits,
+    tail: &[u8],
+    radix: Radix,
+) -> Result<Found, ExprFault>
+    requires { AreDigits digits }
+    ensures found { Reads result (option_map (λ found. record { digits = found.digits; expression = found.expression }) (found_in_fields radix (record { registers = texts registers.now; has_expression = true }) (operands_of tail.now) digits)) }
+    ensures octal { IfOk result (λ found. AreDigits found.digits) }
+{
+    let Some((digits, mut left)) = read_registers(operands(tail), registers, digits) else {
+        return Err(ExprFault::Unreadable);
+    };
+    let Some(operand) = left.next() else {
+        return Err(ExprFault::Unreadable);
+    };
+    if left.next().is_some() {
+        return Err(ExprFault::Unreadable);
+    }
+    match Expr::read(alloc, operand, radix) {
+        Ok(expression) => Ok(Found { digits, expression }),
+        Err(ExprFault::Unreadable) => Err(ExprFault::Unreadable),
+        Err(ExprFault::Memory) => Err(ExprFault::Memory),
+    }
+}
+
+/// The digits of the operands that begin with these of registers, and the operands behind them.
+fn read_registers<'a>(
+    operands: Operands<'a>,
+    registers: &[&[u8]],
+    digits: Digits,
+) -> Option<(Digits, Operands<'a>)>
+    requires { AreDigits digits }
+    ensures digits { registers_in (texts registers.now) (operands_left operands.entry) digits ≡ option_map (λ found. (found.0, operands_left found.1)) result }
+    ensures octal { IfSome result (λ found. AreDigits found.0) }
+{
+    let mut known = digits;
+    let mut left = operands;
+    for letters in registers {
+        match first_operand(left) {
+            None => return None,
+            Some((text, more)) => match read_digits(letters, text, known) {
+                None => return None,
+                Some(digits) => {
+                    known = digits;
+                    left = more;
+                }
+            },
+        }
+    }
+    Some((known, left))
+}
+
+fn first_operand<'a>(mut operands: Operands<'a>) -> Option<(&'a [u8], Operands<'a>)>
+    ensures { MatchOption result (operands_left operands.entry ≡ []) (λ found. operands_left operands.entry ≡ found.0.now ∷ operands_left found.1) }
+{
+    match operands.next() {
+        None => None,
+        Some(text) => Some((text, operands)),
+    }
+}
