@@ -24,7 +24,7 @@ const STRUCTURE: [&str; 18] = [
     "         IDENT   X1",
     "+        ABS",
     "         ABS",
-    "         BSS     1",
+    "         XYZ     1",
     "         IDENT   T3",
     "         ABS",
     "A",
@@ -81,6 +81,27 @@ const LIMIT: [&str; 10] = [
     "         NO",
 ];
 
+/// Words that are reserved.
+const RESERVED: [&str; 9] = [
+    "         NO",
+    "A        BSS     *",
+    "B        BSS     0",
+    "         SA1     A+B",
+    "C        BSS     X1",
+    "-        BSS     -1",
+    "A        BSS     Q",
+    "D        BSS     C+1",
+    "         SA1     D",
+];
+
+/// Words that are reserved at the end of the machine's words.
+const LAST_RESERVED: [&str; 4] = [
+    "         ORG     131071",
+    "         BSS     1",
+    "         BSS     0",
+    "A        BSS     1",
+];
+
 /// Products, `*` and the base of numbers.
 const EXPRESSIONS: [&str; 17] = [
     "         SA1     B1+1",
@@ -112,7 +133,7 @@ const LAST_WORD: [&str; 4] = [
 
 #[test]
 fn lists_sources(rt: HostRuntime) -> Result<(), Fail> {
-    const ROWS: [(&[&str], &str); 6] = [
+    const ROWS: [(&[&str], &str); 8] = [
         (&[], ""),
         (
             &PROGRAM,
@@ -137,6 +158,27 @@ fn lists_sources(rt: HostRuntime) -> Result<(), Fail> {
 T        000000 5110000000                2          SA1     1000000B
          000001 7110400000                3          SX1     -377777B
 T        000001 7110377777                4          SX1     -400000B
+",
+        ),
+        (
+            &RESERVED,
+            "         000000 46000                     1          NO
+         000001                           2 A        BSS     *
+         000002                           3 B        BSS     0
+         000002 5110000003                4          SA1     A+B
+A                                         5 C        BSS     X1
+A                                         6 -        BSS     -1
+DU                                        7 A        BSS     Q
+         000003                           8 D        BSS     C+1
+         000007 5110000003                9          SA1     D
+",
+        ),
+        (
+            &LAST_RESERVED,
+            "         377777                           1          ORG     131071
+         377777                           2          BSS     1
+E        400000                           3          BSS     0
+E                                         4 A        BSS     1
 ",
         ),
         (
@@ -274,7 +316,11 @@ fn tells_flags(rt: HostRuntime) -> Result<(), Fail> {
 
 #[test]
 fn assembles_sources(rt: HostRuntime) -> Result<(), Fail> {
-    const ROWS: [(&[&str], &str); 11] = [
+    const ROWS: [(&[&str], &str); 12] = [
+        (
+            &RESERVED,
+            "IDENT\n000000 46000460004600046000\n000002 51100000034600046000\n000007 51100000030000000000\n",
+        ),
         (&[], "IDENT\n"),
         (
             &PROGRAM,

@@ -1,9 +1,9 @@
 //! Each row of the table of the central processor, with i 4, j 5, k 7, K 123456 octal and n 77 octal.
+use super::assertions::assert_row;
 use super::code_rows::filled;
-use cps_code::{FormFault, cp_form};
+use cps_code::{CpForm, Filled, FormFault, cp_form};
 use cps_expr::Radix;
 use std::alloc::Global;
-use std::process::Abort;
 use std::test::Fail;
 
 static SETS: [(&'static [u8], &'static [u8], u64); 39] = [
@@ -131,7 +131,7 @@ fn wrong_row(
     rows: &[(&'static [u8], &'static [u8], u64)],
 ) -> Result<Option<usize>, Fail> {
     for (at, (operation, tail, digits)) in rows.iter().enumerate() {
-        let form = cp_form(alloc, operation, tail, Radix::Decimal)?;
+        let form = read(alloc, operation, tail)?;
         if filled(&form)?.digits != *digits {
             return Ok(Some(at));
         }
@@ -151,9 +151,14 @@ fn codes_other_instructions(rt: HostRuntime) -> Result<(), Fail> {
     Ok(())
 }
 
+/// The form of a statement, with decimal numbers.
+fn read(alloc: Global, operation: &[u8], tail: &[u8]) -> Result<CpForm, FormFault> {
+    cp_form(alloc, operation, tail, Radix::Decimal)
+}
+
 #[test]
 fn leaves_forcings(rt: HostRuntime) -> Result<(), Fail> {
-    let rows: [(&[u8], &[u8], bool); 8] = [
+    const ROWS: [(&[u8], &[u8], bool); 8] = [
         (b"PS", b"", true),
         (b"RJ", b"5", true),
         (b"JP", b"5", true),
@@ -163,33 +168,36 @@ fn leaves_forcings(rt: HostRuntime) -> Result<(), Fail> {
         (b"EQ", b"B1,5", false),
         (b"ZR", b"X1,5", false),
     ];
-    for (at, (operation, tail, forces)) in rows.iter().enumerate() {
-        let form = cp_form(rt.alloc(), operation, tail, Radix::Decimal)?;
-        assert_eq!(rt; form.forces_after(), *forces, "row {at}");
+    for (at, (operation, tail, forces)) in ROWS.iter().enumerate() {
+        let form = read(rt.alloc(), operation, tail)?;
+        assert_row(&rt, at, &form.forces_after(), forces);
     }
     Ok(())
 }
 
 #[test]
 fn flags_counts(rt: HostRuntime) -> Result<(), Fail> {
-    let rows: [(&[u8], u64, bool, bool); 4] = [
+    const ROWS: [(&[u8], u64, bool, bool); 4] = [
         (b"60", 0o43074, false, false),
         (b"64", 0o43000, true, false),
         (b"127", 0o43077, true, false),
         (b"-1", 0o43000, false, true),
     ];
-    for (at, (tail, digits, is_truncated, is_out_of_range)) in rows.iter().enumerate() {
-        let filled = filled(&cp_form(rt.alloc(), b"MX0", tail, Radix::Decimal)?)?;
-        assert_eq!(rt; filled.digits, *digits, "row {at}");
-        assert_eq!(rt; filled.is_truncated, *is_truncated, "row {at}");
-        assert_eq!(rt; filled.is_out_of_range, *is_out_of_range, "row {at}");
+    for (at, (tail, digits, is_truncated, is_out_of_range)) in ROWS.iter().enumerate() {
+        let want = Filled {
+            digits: *digits,
+            is_truncated: *is_truncated,
+            is_out_of_range: *is_out_of_range,
+        };
+        let form = read(rt.alloc(), b"MX0", tail)?;
+        assert_row(&rt, at, &filled(&form)?, &want);
     }
     Ok(())
 }
 
 #[test]
 fn refuses_operands(rt: HostRuntime) -> Result<(), Fail> {
-    let rows: [(&[u8], &[u8]); 16] = [
+    const ROWS: [(&[u8], &[u8]); 16] = [
         (b"ZR", b"+X3,5"),
         (b"ZR", b"X3"),
         (b"ZR", b"X3,5,6"),
@@ -207,9 +215,9 @@ fn refuses_operands(rt: HostRuntime) -> Result<(), Fail> {
         (b"MX1", b"B2,X3"),
         (b"CX1", b"=1"),
     ];
-    for (at, (operation, tail)) in rows.iter().enumerate() {
-        let form = cp_form(rt.alloc(), operation, tail, Radix::Decimal);
-        assert_eq!(rt; form.err(), Some(FormFault::Unreadable), "row {at}");
+    for (at, (operation, tail)) in ROWS.iter().enumerate() {
+        let fault = read(rt.alloc(), operation, tail).err();
+        assert_row(&rt, at, &fault, &Some(FormFault::Unreadable));
     }
     Ok(())
 }

@@ -1,10 +1,10 @@
 //! Each row of the table of a peripheral processor: a target 5 words back, d 12, m 3456 and the constant 123456 octal.
+use super::assertions::assert_row;
 use super::same_value::UNDEFINED;
 use cps_code::{Filled, FormFault, Hole};
 use cps_expr::{Radix, Value};
 use cps_peripheral::{PpForm, pp_form};
 use std::alloc::Global;
-use std::process::Abort;
 use std::test::Fail;
 
 /// The greatest magnitude of a value.
@@ -130,7 +130,7 @@ fn wrong_row(
     rows: &[(&'static [u8], &'static [u8], u64)],
 ) -> Result<Option<usize>, Fail> {
     for (at, (operation, tail, digits)) in rows.iter().enumerate() {
-        let form = pp_form(alloc, operation, tail, Radix::Decimal)?;
+        let form = read(alloc, operation, tail)?;
         if form.bits() != bits || filled(&form)?.digits != *digits {
             return Ok(Some(at));
         }
@@ -150,26 +150,34 @@ fn codes_two_words(rt: HostRuntime) -> Result<(), Fail> {
     Ok(())
 }
 
+/// The form of a statement, with decimal numbers.
+fn read(alloc: Global, operation: &[u8], tail: &[u8]) -> Result<PpForm, FormFault> {
+    pp_form(alloc, operation, tail, Radix::Decimal)
+}
+
 #[test]
 fn flags_distances(rt: HostRuntime) -> Result<(), Fail> {
-    let rows: [(&[u8], u64, bool); 4] = [
+    const ROWS: [(&[u8], u64, bool); 4] = [
         (b"31", 0o0337, false),
         (b"-31", 0o0340, false),
         (b"32", 0o0300, true),
         (b"-32", 0o0300, true),
     ];
-    for (at, (tail, digits, is_out_of_range)) in rows.iter().enumerate() {
-        let filled = filled(&pp_form(rt.alloc(), b"ujn", tail, Radix::Decimal)?)?;
-        assert_eq!(rt; filled.digits, *digits, "row {at}");
-        assert_eq!(rt; filled.is_out_of_range, *is_out_of_range, "row {at}");
-        assert!(rt; !filled.is_truncated, "row {at}");
+    for (at, (tail, digits, is_out_of_range)) in ROWS.iter().enumerate() {
+        let want = Filled {
+            digits: *digits,
+            is_truncated: false,
+            is_out_of_range: *is_out_of_range,
+        };
+        let form = read(rt.alloc(), b"ujn", tail)?;
+        assert_row(&rt, at, &filled(&form)?, &want);
     }
     Ok(())
 }
 
 #[test]
 fn refuses_peripheral_statements(rt: HostRuntime) -> Result<(), Fail> {
-    let rows: [(&[u8], &[u8], FormFault); 8] = [
+    const ROWS: [(&[u8], &[u8], FormFault); 8] = [
         (b"NO", b"", FormFault::NoOperation),
         (b"LDX", b"5", FormFault::NoOperation),
         (b"LD", b"5", FormFault::NoOperation),
@@ -179,9 +187,9 @@ fn refuses_peripheral_statements(rt: HostRuntime) -> Result<(), Fail> {
         (b"LJM", b"5,", FormFault::Unreadable),
         (b"LJM", b"5,6,7", FormFault::Unreadable),
     ];
-    for (at, (operation, tail, fault)) in rows.iter().enumerate() {
-        let form = pp_form(rt.alloc(), operation, tail, Radix::Decimal);
-        assert_eq!(rt; form.err(), Some(*fault), "row {at}");
+    for (at, (operation, tail, fault)) in ROWS.iter().enumerate() {
+        let got = read(rt.alloc(), operation, tail).err();
+        assert_row(&rt, at, &got, &Some(*fault));
     }
     Ok(())
 }
