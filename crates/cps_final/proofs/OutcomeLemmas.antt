@@ -16,8 +16,7 @@ use Rattle.cps_state.specs.Flags.{joined}
 use Rattle.cps_code.specs.Image.{Piece}
 use Rattle.cps_state.specs.Made.{Made, no_flags, width_of, HasRoom, HaveRoom}
 use Rattle.cps_final.specs.declared.row.Row.{Row}
-use Rattle.cps_final.specs.Distinct.{distinct}
-use Rattle.cps_final.specs.Outcome.{Resolved, labels_by, base_in, number_of, value_flags, limit_flags, digits, row_at, field_rows, rows_of, placed, field_piece, field_pieces, pieces_of, content_names, later_names, symbol_put, names_read, names_defined, outcome_of, joined_with}
+use Rattle.cps_final.specs.Outcome.{Resolved, labels_by, base_in, number_of, value_flags, limit_flags, digits, row_at, field_rows, rows_of, placed, field_piece, field_pieces, pieces_of, later_names, symbol_put, names_read, names_defined, outcome_of, joined_with}
 use Rattle.cps_final.proofs.BlockLemmas.{same_name-laws}
 use Rattle.cps_final.proofs.GatherLemmas.{distinct-append}
 

@@ -1,6 +1,6 @@
 -- A line does the same in two states that agree on what it asked.
 use Rattle.std.proofs.Common.{◌≡◌, ℕ, List, sym, ap, subst, ◌∙◌}
-use Rattle.cps_state.specs.Course.{stop, not_begun, Trace, Running, run, traced, Holds}
+use Rattle.cps_state.specs.Course.{stop, not_begun, Trace, Running, traced, Holds}
 use Rattle.cps_state.specs.Keys.{State}
 use Rattle.cps_state.proofs.AskLemmas.{run-same}
 use Rattle.cps_pass.specs.Meaning.{line_part, trace_of}

@@ -1,16 +1,15 @@
 -- Instructions. From the manual's sections on the location field and on forcing upper; the limit is our profile's.
-use Rattle.std.specs.Prelude.{ℕ, ◌+◌, ◌*◌, Bool, true, false, nat_lt, List, [], ◌∷◌, Option, None, Some, if◌then◌else◌}
+use Rattle.std.specs.Prelude.{ℕ, ◌+◌, ◌*◌, Bool, true, nat_lt, [], ◌∷◌, Option, None, Some, if◌then◌else◌}
 use Rattle.cps_text.specs.declared.name.Name.{Name}
 use Rattle.cps_code.specs.declared.place.Place.{Place}
 use Rattle.cps_code.specs.Form.{Form}
 use Rattle.cps_code.specs.Place.{position, is_forced, start_of}
-use Rattle.cps_state.specs.declared.flags.Flags.{Flags}
 use Rattle.cps_state.specs.declared.key.Key.TheVariants as key
 use Rattle.cps_state.specs.declared.made.Content.TheVariants as content
 use Rattle.cps_state.specs.declared.made.Field.{Field}
 use Rattle.cps_state.specs.Course.{Part, ◌before◌, asking, fill}
 use Rattle.cps_state.specs.Keys.{place_of, limit}
-use Rattle.cps_state.specs.Made.{nothing_made, no_flags}
+use Rattle.cps_state.specs.Made.{nothing_made}
 use Rattle.cps_pass.specs.declared.reading.Location.{Location}
 use Rattle.cps_pass.specs.Located.{symbol_in, asking_taken, defining}
 use Rattle.cps_pass.specs.Places.{filling_between, here_at, going_on}

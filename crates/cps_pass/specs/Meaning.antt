@@ -1,5 +1,5 @@
 -- What a line does in pass one: by what it says, and by the part of the program in which it stands. From the manual's chapter on pseudo instructions.
-use Rattle.std.specs.Prelude.{ℕ, true, List, Option, None, Some}
+use Rattle.std.specs.Prelude.{ℕ, true, List, None, Some}
 use Rattle.cps_text.specs.Card.{LineFields, CommentLine, ContinuedLine, StatementLine, fields_of}
 use Rattle.cps_expr.specs.declared.operation.Operation.{Operation}
 use Rattle.cps_expr.specs.declared.operation.Operation.TheVariants as operation

@@ -1,5 +1,5 @@
 -- Steps of pass one, counted one after another.
-use Rattle.std.proofs.Common.{◌≡◌, ℕ, ◌+◌, ◌≤◌, sym, ap, ◌∙◌, arith, Result, Ok, Err}
+use Rattle.std.proofs.Common.{◌≡◌, ℕ, ◌+◌, ◌≤◌, ap, ◌∙◌, arith, Result, Ok, Err}
 use Rattle.std.specs.Prelude.{OnErr}
 use Rattle.cps_state.specs.declared.work.Tally.TheVariants.{Ones}
 use Rattle.cps_state.specs.Work.{Counts, more, raised, stepped, IsSteppedUpTo}

@@ -1,10 +1,7 @@
-use Rattle.std.proofs.Common.{◌≡◌, ◌++◌, ◌+◌, List, rules, ap, subst, take, ◌∙◌}
+use Rattle.std.proofs.Common.{List, rules, ap, subst, ◌∙◌}
 use Rattle.cps_code.specs.Image.{Piece, ArePacked}
-use Rattle.cps_final.specs.Finals.{final_value}
-use Rattle.cps_final.specs.Outcome.{outcome_of, Outcome}
+use Rattle.cps_final.specs.Outcome.{Outcome}
 use Rattle.cps_final.specs.contracts.finals.FinalsGathered.TheImpl.{gathered-value}
-use Rattle.cps_state.specs.Course.{Trace}
-use Rattle.cps_tool.specs.Assembly.{outcomes_under, pieces_in}
 use Rattle.cps_tool.proofs.AssemblyLemmas.{pieces-more}
 use Rattle.cps_tool.proofs.binary.make_words.Goals as goal
 

@@ -1,4 +1,4 @@
-use Rattle.std.proofs.Common.{rules, arith, ◌++◌, take}
+use Rattle.std.proofs.Common.{rules, arith, take}
 use Rattle.std.proofs.lemmas.Bool.Decides.{nat_tests}
 use Rattle.cps_tool.proofs.AssemblyLemmas.{gathers-next, gathers-all, none-behind}
 use Rattle.cps_tool.proofs.assembled.Assembled.behind.Goals as goal

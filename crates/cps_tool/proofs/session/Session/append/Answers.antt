@@ -1,8 +1,6 @@
-use Rattle.std.proofs.Common.{◌≡◌, ◌+◌, ◌<◌, ◌≤◌, [], ◌∷◌, ◌++◌, rules, ap, length, take, drop, arith, ◌∙◌}
-use Rattle.std.proofs.lemmas.List.{length-set}
-use Rattle.cps_tool.specs.Edits.{Source}
+use Rattle.std.proofs.Common.{◌≡◌, [], ◌∷◌, ◌++◌, rules, ap, ◌∙◌}
 use Rattle.cps_tool.specs.Assembled.{assembled_of}
-use Rattle.cps_tool.proofs.AssemblyLemmas.{keep-within, same-kept, edited, replaced-parts}
+use Rattle.cps_tool.proofs.AssemblyLemmas.{same-kept}
 use Rattle.cps_tool.proofs.session.Session.append.Goals as goal
 
 pub invariant_of-self-in_default-take_line : goal.invariant_of-self-in_default-take_line

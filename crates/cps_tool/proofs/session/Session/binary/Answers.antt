@@ -1,13 +1,11 @@
-use Rattle.std.proofs.Common.{◌≡◌, ◌++◌, List, ℕ, sym, ap, subst, length, arith, ◌∙◌}
+use Rattle.std.proofs.Common.{◌≡◌, ◌++◌, List, ℕ, ap, subst, ◌∙◌}
 use Rattle.std.specs.Prelude.{IfOk}
 use Rattle.cps_final.specs.contracts.finals.FinalsGathered.TheImpl.{gathered-value}
 use Rattle.cps_state.specs.Keys.{limit}
 use Rattle.cps_tool.specs.Assembly.{outcomes_under, outcomes_of, pieces_in}
 use Rattle.cps_tool.specs.Edits.{Source}
-use Rattle.cps_tool.specs.Listing.{listing_from, listing_text}
-use Rattle.cps_tool.specs.Flagged.{flags_text_in, flags_text, flagged_in, flagged_lines}
 use Rattle.cps_tool.specs.Binary.{first_row, rows_below, binary_text}
-use Rattle.cps_tool.proofs.AssemblyLemmas.{assembled-length, outcomes-kept, program-kept}
+use Rattle.cps_tool.proofs.AssemblyLemmas.{outcomes-kept, program-kept}
 use Rattle.cps_tool.proofs.session.Session.binary.Goals as goal
 
 pub returns : goal.returns

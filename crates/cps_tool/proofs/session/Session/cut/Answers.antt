@@ -1,7 +1,7 @@
-use Rattle.std.proofs.Common.{◌≡◌, ◌+◌, ◌<◌, ◌≤◌, [], ◌∷◌, ◌++◌, rules, sym, ap, length, take, drop, arith, ◌∙◌}
+use Rattle.std.proofs.Common.{◌≡◌, ◌+◌, ◌≤◌, [], ◌++◌, rules, sym, ap, length, take, drop, arith, ◌∙◌}
 use Rattle.std.proofs.lemmas.List.{length-take, length-drop, length-append}
 use Rattle.cps_tool.specs.Edits.{Source}
-use Rattle.cps_tool.proofs.AssemblyLemmas.{keep-within, same-kept, edited, replaced-parts}
+use Rattle.cps_tool.proofs.AssemblyLemmas.{keep-within, edited}
 use Rattle.cps_tool.proofs.session.Session.cut.Goals as goal
 
 pub redo-requires : goal.redo-requires

@@ -1,7 +1,6 @@
-use Rattle.std.proofs.Common.{◌≡◌, ◌+◌, ◌<◌, ◌≤◌, [], ◌∷◌, ◌++◌, rules, ap, length, take, drop, arith, ◌∙◌}
-use Rattle.std.proofs.lemmas.List.{length-set}
+use Rattle.std.proofs.Common.{◌≡◌, ◌≤◌, rules, ap, length, arith}
 use Rattle.cps_tool.specs.Edits.{Source}
-use Rattle.cps_tool.proofs.AssemblyLemmas.{keep-within, same-kept, edited, replaced-parts}
+use Rattle.cps_tool.proofs.AssemblyLemmas.{keep-within, same-kept, edited}
 use Rattle.cps_tool.proofs.session.Session.insert_before_end.Goals as goal
 
 pub redo-requires : goal.redo-requires
