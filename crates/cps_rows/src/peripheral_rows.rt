@@ -100,11 +100,8 @@ static TWO_WORDS: [(&'static [u8], &'static [u8], u64); 42] = [
 /// The value of a hole's expression, where no name is defined and `*` is 0.
 fn number_of(hole: &Hole) -> Result<i64, Fail> {
     let valued = hole.expression.value(&UNDEFINED, Value::plain(0));
-    let number = valued.value.ok_or("a value")?.offset;
-    if number < -GREATEST || number > GREATEST {
-        return Err(Fail::from("a value in range"));
-    }
-    Ok(number)
+    let value = valued.value.ok_or("a value")?;
+    Ok(value.offset)
 }
 
 fn filled(form: &PpForm) -> Result<Filled, Fail> {
@@ -112,11 +109,17 @@ fn filled(form: &PpForm) -> Result<Filled, Fail> {
         [] => Ok(form.fill(&[])),
         [hole] => {
             let number = number_of(hole)?;
+            if number < -GREATEST || number > GREATEST {
+                return Err(Fail::from("a value in range"));
+            }
             Ok(form.fill(&[number]))
         }
         [first, second] => {
             let number = number_of(first)?;
             let next = number_of(second)?;
+            if number < -GREATEST || number > GREATEST || next < -GREATEST || next > GREATEST {
+                return Err(Fail::from("values in range"));
+            }
             Ok(form.fill(&[number, next]))
         }
         _ => Err(Fail::from("more than two holes")),
