@@ -14,7 +14,7 @@ use super::register::{Letter, RegisterTerm};
 use super::set::{code_with_constant, code_without_constant, four_digits};
 use super::sum::{KeptSum, Registers, read_sum};
 use cps_expr::{Expr, ExprFault, Radix};
-use cps_text::{capital, operands};
+use cps_text::operands;
 use std::alloc::Global;
 use thiserror::Error;
 
