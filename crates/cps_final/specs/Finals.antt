@@ -4,11 +4,13 @@ use Rattle.std.specs.Prelude.{◌≡◌, ℕ, ◌+◌, nat_eq, List, [], ◌∷�
 use Rattle.std.specs.List.{sum_by}
 use Rattle.std.specs.Option.{option_or}
 use Rattle.cps_text.specs.declared.name.Name.{Name}
+use Rattle.cps_expr.specs.declared.machine.Machine.{Machine}
 use Rattle.cps_expr.specs.declared.value.Value.{Value}
 use Rattle.cps_expr.specs.Value.{same_name, plain, limited}
 use Rattle.cps_state.specs.declared.item.Item.{Item}
 use Rattle.cps_state.specs.Course.{Trace}
-use Rattle.cps_state.specs.Keys.{State, first_state, overwritten, labels_of}
+use Rattle.cps_state.specs.declared.key.Key.TheVariants as key
+use Rattle.cps_state.specs.Keys.{State, first_state, overwritten, labels_of, control_of}
 use Rattle.cps_final.specs.Layout.{Layout, layout_of, puts_of}
 use Rattle.cps_final.specs.Pool.{pool_of}
 
@@ -41,6 +43,10 @@ finals_of traces = record {
 -- these were gathered of these lines
 abbrev pub Gathers : Finals → List Trace → Type 0
 Gathers finals traces = finals ≡ finals_of traces
+
+-- the machine of the program
+abbrev pub machine_of : Finals → Machine
+machine_of finals = (control_of (finals.state key.Control)).machine
 
 -- ---- where blocks and literals stand
 

@@ -2,6 +2,7 @@
 -- its counter passed, those skipped by ORG too, is our profile's.
 use Rattle.std.specs.Prelude.{ℕ, ◌+◌, max, nat_lt, List, [], ◌∷◌, flat_map, Option, None, Some, if◌then◌else◌}
 use Rattle.cps_text.specs.declared.name.Name.{Name}
+use Rattle.cps_expr.specs.declared.machine.Machine.TheVariants.{Cp}
 use Rattle.cps_expr.specs.Value.{same_name}
 use Rattle.cps_code.specs.declared.place.Place.{Place}
 use Rattle.cps_state.specs.declared.key.Key.{Key}
@@ -19,9 +20,9 @@ puts_of traces = flat_map (λ trace. trace.puts) traces
 abbrev pub words_before : Place → ℕ
 words_before place = if nat_lt 0 place.used then place.word + 1 else place.word
 
--- the words that a put gives a block
+-- the words that a put gives a block; no machine has more than the central processor
 abbrev pub words_put : Option Name → Put → ℕ
-words_put block p = if same_key (key.Counter block) p.key then words_before (place_of (Some p.answer)) else 0
+words_put block p = if same_key (key.Counter block) p.key then words_before (place_of Cp (Some p.answer)) else 0
 
 -- a block's size: the most words that a put gives it
 abbrev pub size_in : List Put → Option Name → ℕ

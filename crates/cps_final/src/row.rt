@@ -15,4 +15,8 @@ pub struct Row {
     /// A final address, in words.
     pub location: Option<u64>,
     pub code: Option<Digits>,
+    /// The second word of an instruction, where its words are shown apart.
+    pub second: Option<Digits>,
+    /// Whether it is a later row of its statement, which shows neither the line nor its number.
+    pub is_later: bool,
 }

@@ -12,10 +12,11 @@ joined a b = record {
   operation = a.operation || b.operation;
   cut = a.cut || b.cut;
   undefined = a.undefined || b.undefined;
+  width = a.width || b.width;
 }
 
 abbrev pub has_flag : Flags → Bool
-has_flag a = a.operand || (a.twice || (a.structure || (a.location || (a.operation || (a.cut || a.undefined)))))
+has_flag a = a.operand || (a.twice || (a.structure || (a.location || (a.operation || (a.cut || (a.undefined || a.width))))))
 
 -- a letter, where its flag is there
 abbrev pub letter : Bool → List ℕ → List ℕ
@@ -25,4 +26,4 @@ letter is_there text = if is_there then text else []
 abbrev pub letters : Flags → List ℕ
 letters a =
     letter a.operand (codes "A") ++ letter a.twice (codes "D") ++ letter a.structure (codes "E") ++ letter a.location (codes "L")
-    ++ letter a.operation (codes "O") ++ letter a.cut (codes "T") ++ letter a.undefined (codes "U")
+    ++ letter a.operation (codes "O") ++ letter a.cut (codes "T") ++ letter a.undefined (codes "U") ++ letter a.width (codes "V")

@@ -1,6 +1,8 @@
 -- The state of an assembly: what each key answers. The counters and the symbols are the manual's; the keys are our own.
-use Rattle.std.specs.Prelude.{ℕ, ◌*◌, Bool, true, false, nat_lt, List, [], ◌∷◌, Option, None, Some, if◌then◌else◌}
+use Rattle.std.specs.Prelude.{◌*◌, Bool, true, false, min, nat_lt, List, [], ◌∷◌, Option, None, Some, if◌then◌else◌}
 use Rattle.cps_text.specs.declared.name.Name.{Name}
+use Rattle.cps_expr.specs.declared.machine.Machine.{Machine}
+use Rattle.cps_expr.specs.declared.machine.Machine.TheVariants.{Cp, Pp}
 use Rattle.cps_expr.specs.declared.radix.Radix.TheVariants.{Decimal}
 use Rattle.cps_expr.specs.declared.value.Value.{Value}
 use Rattle.cps_expr.specs.Value.{limited, same_name, Values}
@@ -13,6 +15,7 @@ use Rattle.cps_state.specs.declared.key.Control.{Control}
 use Rattle.cps_state.specs.declared.key.Answer.{Answer}
 use Rattle.cps_state.specs.declared.key.Answer.TheVariants as answer
 use Rattle.cps_state.specs.declared.key.Put.{Put}
+use Rattle.cps_state.specs.Machines.{limit}
 
 -- a state answers each key, or has no answer there
 abbrev pub State : Type 0
@@ -51,9 +54,9 @@ answers_in control nominal others (key.Label name) = others (key.Label name)
 
 -- ---- before the first line
 
--- the program is in its head, numbers are decimal, and the nominal block is in use
+-- the program is in its head and for the central processor, numbers are decimal, and the nominal block is in use
 abbrev pub first_control : Control
-first_control = record { phase = phase.Head (record { is_named = false; is_declared = false }); radix = Decimal; block = None }
+first_control = record { phase = phase.Head (record { is_named = false; is_declared = false }); machine = Cp; radix = Decimal; block = None }
 
 -- a block begins at word 0
 abbrev pub first_place : Place
@@ -83,19 +86,16 @@ control_of (Some (answer.Counter c)) = first_control
 control_of (Some (answer.Value v)) = first_control
 control_of None = first_control
 
--- the words that the machine has
-abbrev pub limit : ℕ
-limit = 131072
+-- a place past the machine's words counts as the first bit behind them; a peripheral processor's has no bit used and nothing pending
+abbrev pub within_limit : Machine → Place → Place
+within_limit Cp place = if nat_lt (60 * limit Cp) (position place) then place_at (60 * limit Cp) place.is_pending else place
+within_limit Pp place = place_at (60 * min place.word (limit Pp)) false
 
--- a place past the machine's words counts as the first bit behind them; what is pending stays
-abbrev pub within_limit : Place → Place
-within_limit place = if nat_lt (60 * limit) (position place) then place_at (60 * limit) place.is_pending else place
-
-abbrev pub place_of : Option Answer → Place
-place_of (Some (answer.Counter place)) = within_limit place
-place_of (Some (answer.Control c)) = first_place
-place_of (Some (answer.Value v)) = first_place
-place_of None = first_place
+abbrev pub place_of : Machine → Option Answer → Place
+place_of machine (Some (answer.Counter place)) = within_limit machine place
+place_of machine (Some (answer.Control c)) = first_place
+place_of machine (Some (answer.Value v)) = first_place
+place_of machine None = first_place
 
 -- a value beyond the range of expressions is none
 abbrev pub value_of : Option Answer → Option Value

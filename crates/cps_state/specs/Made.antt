@@ -1,42 +1,73 @@
 -- What a statement made in pass one, for pass two. Our own.
-use Rattle.std.specs.Prelude.{ℕ, ◌+◌, ◌*◌, ◌%◌, ◌<◌, ◌≤◌, Bool, false, List, [], ◌∷◌, Option, None}
+use Rattle.std.specs.Prelude.{ℕ, ◌*◌, ◌%◌, ◌^◌, ◌<◌, ◌≤◌, Bool, false, List, [], ◌∷◌, All, Option, None}
 use Rattle.cps_text.specs.declared.name.Name.{Name}
+use Rattle.cps_expr.specs.declared.machine.Machine.{Machine}
+use Rattle.cps_expr.specs.declared.machine.Machine.TheVariants.{Cp}
+use Rattle.cps_expr.specs.Item.{bits_of}
 use Rattle.cps_code.specs.Image.{Piece}
 use Rattle.cps_state.specs.declared.flags.Flags.{Flags}
 use Rattle.cps_state.specs.declared.made.Content.{Content}
-use Rattle.cps_state.specs.declared.made.Content.TheVariants.{Instruction}
-use Rattle.cps_state.specs.declared.made.Field.{Field}
+use Rattle.cps_state.specs.declared.made.Content.TheVariants.{Instruction, Peripheral, Value, Number, Unsized}
 use Rattle.cps_state.specs.declared.made.Shown.{Shown}
 use Rattle.cps_state.specs.declared.made.Shown.TheVariants.{Nothing}
-use Rattle.cps_state.specs.Keys.{limit}
+use Rattle.cps_state.specs.Machines.{limit, behind}
 
--- The flags of pass one; the program's name where the statement gives it; the block in which its bits stand, what fills those that were
--- skipped, and its fields; what else its row shows. Fields past the machine's words are no bits: they only give flags.
+-- The flags of pass one; the program's name where the statement gives it; the machine, the block, and what fills the bits that were skipped;
+-- the place where the statement starts, and its contents from there on, one behind the other; so many words of zeros from there on; what else
+-- its row shows. Of a statement that makes nothing the contents are no bits: they only give flags.
 pub record Made : Type 0 where
   pub flags : Flags
   pub program : Option Name
+  pub machine : Machine
   pub block : Option Name
   pub filling : List Piece
-  pub fields : List Field
-  pub is_too_far : Bool
+  pub start : ℕ
+  pub contents : List Content
+  pub zeros : ℕ
+  pub only_flags : Bool
   pub shown : Shown
 
 -- a statement that does nothing but have flags
 abbrev pub nothing_made : Flags → Made
-nothing_made flags = record { flags = flags; program = None; block = None; filling = []; fields = []; is_too_far = false; shown = Nothing }
+nothing_made flags = record {
+  flags = flags;
+  program = None;
+  machine = Cp;
+  block = None;
+  filling = [];
+  start = 0;
+  contents = [];
+  zeros = 0;
+  only_flags = false;
+  shown = Nothing;
+}
 
 abbrev pub no_flags : Flags
-no_flags = record { operand = false; twice = false; structure = false; location = false; operation = false; cut = false; undefined = false }
+no_flags = record { operand = false; twice = false; structure = false; location = false; operation = false; cut = false; undefined = false; width = false }
 
--- how many bits a field has
+-- how many bits a content has; a value whose width is none has no bits
 abbrev pub width_of : Content → ℕ
 width_of (Instruction form) = form.bits
+width_of (Peripheral form) = form.bits
+width_of (Value width expression) = width
+width_of (Number width number) = width
+width_of (Unsized expression) = 0
 
--- a field has room in its word, and stands below the machine's limit
-pub record HasRoom (field : Field) : Type 0 where
-  pub in_word : field.start % 60 + width_of field.content ≤ 60
-  pub within : field.start < 60 * limit
+-- the place behind contents that stand one behind the other
+abbrev pub end_of : Machine → ℕ → List Content → ℕ
+end_of machine at [] = at
+end_of machine at (content ∷ contents) = end_of machine (behind machine at (width_of content)) contents
 
-abbrev pub HaveRoom : List Field → Type 0
-HaveRoom [] = Unit {0}
-HaveRoom (field ∷ fields) = HasRoom field × HaveRoom fields
+-- ---- what each statement keeps
+
+-- values and numbers have 60 bits at most, and a number fits its bits
+abbrev pub IsContent : Content → Type 0
+IsContent (Value width expression) = (0 < width) × (width ≤ 60)
+IsContent (Number width number) = (0 < width) × (width ≤ 60) × (number < 2 ^ width)
+IsContent _ = Unit {0}
+
+-- contents that are bits stand in words of the machine
+pub record HaveRoom (machine : Machine) (start : ℕ) (contents : List Content) : Type 0 where
+  pub in_word : start % 60 < bits_of machine
+  pub some : All (λ content. 0 < width_of content) contents
+  pub within : end_of machine start contents ≤ 60 * limit machine

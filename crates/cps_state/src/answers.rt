@@ -3,19 +3,15 @@ ghost use Rattle.std.specs.Prelude.{◌≡◌, ◌*◌, ◌≤◌, IfSome};
 ghost use Rattle.std.specs.Option.{option_copied};
 ghost use Rattle.cps_code.specs.Place.{position};
 ghost use Rattle.cps_expr.specs.Value.{IsInRange};
-ghost use Rattle.cps_state.specs.Keys.{first_control, first_place, control_of, place_of, within_limit, value_of, limit};
+ghost use Rattle.cps_state.specs.Keys.{first_control, first_place, control_of, place_of, within_limit, value_of};
+ghost use Rattle.cps_state.specs.Machines.{limit};
 
 use crate::key::{Answer, Control, Head, Phase};
+use crate::machines::{WORD, limit_of};
 use cps_code::Place;
-use cps_expr::{Radix, Value};
+use cps_expr::{Machine, Radix, Value};
 
-/// The words that the machine has.
-pub const LIMIT: u32 = 131_072;
-
-/// The bits of a word.
-pub const WORD: u32 = 60;
-
-/// The control before the first line: in the head, decimal, and in the nominal block.
+/// The control before the first line: in the head, for the central processor, decimal, and in the nominal block.
 pub fn first_control() -> Control
     ensures { result ≡ first_control }
 {
@@ -24,6 +20,7 @@ pub fn first_control() -> Control
             is_named: false,
             is_declared: false,
         }),
+        machine: Machine::Cp,
         radix: Radix::Decimal,
         block: None,
     }
@@ -46,24 +43,27 @@ pub fn control_of(answer: Option<&Answer>) -> Control
 }
 
 /// A place past the machine's words counts as the one behind them.
-pub fn place_of(answer: Option<&Answer>) -> Place
-    ensures place { result ≡ place_of (option_copied answer.entry) }
-    ensures within { position result ≤ 60 * limit }
+pub fn place_of(answer: Option<&Answer>, machine: Machine) -> Place
+    ensures place { result ≡ place_of machine (option_copied answer.entry) }
+    ensures within { position result ≤ 60 * limit machine }
 {
     match answer {
-        Some(Answer::Counter(place)) => within_limit(*place),
+        Some(Answer::Counter(place)) => within_limit(*place, machine),
         _ => first_place(),
     }
 }
 
-fn within_limit(place: Place) -> Place
-    ensures place { result ≡ within_limit place }
-    ensures within { position result ≤ 60 * limit }
+fn within_limit(place: Place, machine: Machine) -> Place
+    ensures place { result ≡ within_limit machine place }
+    ensures within { position result ≤ 60 * limit machine }
 {
-    if place.word >= LIMIT && (place.word > LIMIT || place.used > 0) {
-        Place::behind(WORD * LIMIT, place.is_pending)
-    } else {
-        place
+    let limit = limit_of(machine);
+    match machine {
+        Machine::Cp if place.word >= limit && (place.word > limit || place.used > 0) => {
+            Place::behind(WORD * limit, place.is_pending)
+        }
+        Machine::Cp => place,
+        Machine::Pp => Place::behind(WORD * place.word.min(limit), false),
     }
 }
 

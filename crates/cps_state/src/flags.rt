@@ -22,6 +22,8 @@ pub struct Flags {
     pub cut: bool,
     /// U: a name that is not defined.
     pub undefined: bool,
+    /// V: the width of a field.
+    pub width: bool,
 }
 
 impl Flags {
@@ -36,6 +38,7 @@ impl Flags {
             operation: false,
             cut: false,
             undefined: false,
+            width: false,
         }
     }
 
@@ -51,6 +54,7 @@ impl Flags {
             operation: self.operation || other.operation,
             cut: self.cut || other.cut,
             undefined: self.undefined || other.undefined,
+            width: self.width || other.width,
         }
     }
 
@@ -64,6 +68,7 @@ impl Flags {
             || self.operation
             || self.cut
             || self.undefined
+            || self.width
     }
 
     /// Appends the letters in alphabetical order.
@@ -76,7 +81,8 @@ impl Flags {
         push_letter(text, self.location, b'L')?;
         push_letter(text, self.operation, b'O')?;
         push_letter(text, self.cut, b'T')?;
-        push_letter(text, self.undefined, b'U')
+        push_letter(text, self.undefined, b'U')?;
+        push_letter(text, self.width, b'V')
     }
 }
 

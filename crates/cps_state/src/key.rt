@@ -4,7 +4,7 @@ ghost use Rattle.std.specs.Option.{option_copied};
 ghost use Rattle.cps_state.specs.Keys.{same_block, same_key};
 
 use cps_code::Place;
-use cps_expr::{Radix, Value, is_same_name};
+use cps_expr::{Machine, Radix, Value, is_same_name};
 use cps_text::Name;
 
 /// A part of the state of an assembly.
@@ -23,24 +23,25 @@ pub enum Key {
 pub struct Head {
     /// A name, by IDENT.
     pub is_named: bool,
-    /// The machine, by ABS.
+    /// The machine, by ABS or PERIPH.
     pub is_declared: bool,
 }
 
 /// The part of a program.
 #[derive(Clone, Copy, Debug, PartialEq, Eq)]
 pub enum Phase {
-    /// Before the first statement other than IDENT, ABS, BASE, EQU, `=` and the listing operations.
+    /// Before the first statement other than IDENT, ABS, PERIPH, BASE, EQU, `=` and the listing operations.
     Head(Head),
     Body,
     /// Behind END.
     AfterEnd,
 }
 
-/// What holds for the lines to come: the part of the program that they are in, the base of their numbers, and the block in use.
+/// What holds for the lines to come: the part of the program that they are in, the machine, the base of their numbers, and the block in use.
 #[derive(Clone, Copy, Debug, PartialEq, Eq)]
 pub struct Control {
     pub phase: Phase,
+    pub machine: Machine,
     pub radix: Radix,
     /// None: the nominal block.
     pub block: Option<Name>,

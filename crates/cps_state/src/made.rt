@@ -1,30 +1,68 @@
 //! What a statement made in pass one.
-ghost use Rattle.std.specs.Prelude.{◌≡◌, [], ◌∷◌, Some, true, false, IfOk, option_map};
+ghost use Rattle.std.specs.Prelude.{◌≡◌, [], None, Some, true, false, All, nat_lt, option_map, ◌≤◌, ◌*◌, ◌<◌, ◌%◌, if◌then◌else◌};
 ghost use Rattle.std.specs.Option.{option_to_list};
 ghost use Rattle.cps_code.specs.Image.{piece_of};
-ghost use Rattle.cps_state.specs.Made.{nothing_made, HasRoom, HaveRoom};
+ghost use Rattle.cps_expr.specs.Item.{bits_of};
+ghost use Rattle.cps_state.specs.Machines.{limit};
+ghost use Rattle.cps_state.specs.Made.{nothing_made, width_of, end_of, IsContent, HaveRoom};
 
 use crate::flags::Flags;
+use crate::machines::{WORD, behind, limit_of};
 use cps_code::{CpForm, Piece};
-use cps_expr::Value;
+use cps_expr::{Expr, Machine, Value};
+use cps_peripheral::PpForm;
 use cps_text::Name;
-use std::alloc::{AllocError, Global};
+use std::alloc::Global;
 use std::marker::Model;
 
-/// What stands in a field.
+/// What stands in bits of a statement that are told as one.
 #[derive(Drop)]
 pub enum Content {
+    /// An instruction of the central processor.
     Instruction(CpForm),
+    /// An instruction of a peripheral processor.
+    Peripheral(PpForm),
+    /// The value of an expression in so many bits.
+    Value(u8, Expr),
+    /// A number of so many bits.
+    Number(u8, u64),
+    /// The value of an expression whose width is none. It is no bits.
+    Unsized(Expr),
 }
 
-/// Bits of a statement that are told as one, and the bits before them in their block.
-#[derive(Drop)]
-pub struct Field {
-    pub start: u32,
-    pub content: Content,
+impl Content {
+    /// How many bits it has.
+    pub fn width(&self) -> u8
+        ensures width { result ≡ width_of self.now }
+        ensures most { IsContent self.now → result ≤ 60 }
+    {
+        match self {
+            Content::Instruction(form) => form.bits(),
+            Content::Peripheral(form) => form.bits(),
+            Content::Value(width, _) => *width,
+            Content::Number(width, _) => *width,
+            Content::Unsized(_) => 0,
+        }
+    }
 }
 
-/// What a row shows beside its fields.
+/// The place behind contents that stand one behind the other, None past the machine's words.
+pub fn end_of(machine: Machine, start: u32, contents: &[Content]) -> Option<u32>
+    requires start { start ≤ 60 * limit machine }
+    requires each { All IsContent contents.now }
+    ensures { result ≡ (if nat_lt (60 * limit machine) (end_of machine start contents.now) then None else Some (end_of machine start contents.now)) }
+{
+    let mut at = start;
+    for content in contents {
+        at = behind(machine, at, content.width());
+        if at > WORD * limit_of(machine) {
+            return None;
+        }
+    }
+    Some(at)
+}
+
+/// What a row shows beside codes.
 #[derive(Clone, Copy, Debug, PartialEq, Eq)]
 pub enum Shown {
     Nothing,
@@ -32,8 +70,8 @@ pub enum Shown {
     Value(Value),
     /// ORG: the address of the next word.
     Address(Value),
-    /// BSS: the address of the first word that is reserved.
-    Reserved(Value),
+    /// BSS and BSSZ: the address of the word where the statement starts.
+    Start,
 }
 
 /// What a statement made, for pass two.
@@ -41,32 +79,38 @@ pub enum Shown {
 pub struct Made {
     flags: Flags,
     program: Option<Name>,
+    machine: Machine,
     block: Option<Name>,
     filling: Option<Piece>,
-    fields: Vec<Field>,
-    is_too_far: bool,
+    start: u32,
+    contents: Vec<Content>,
+    zeros: u32,
+    only_flags: bool,
     shown: Shown,
 }
 
 impl Model for Made {
-    ghost use Rattle.std.specs.Prelude.{◌≡◌, false, option_map};
+    ghost use Rattle.std.specs.Prelude.{◌≡◌, All, false, option_map};
     ghost use Rattle.std.specs.Option.{option_to_list};
     ghost use Rattle.cps_code.specs.Image.{piece_of};
-    ghost use Rattle.cps_state.specs.Made.{Made, HaveRoom};
+    ghost use Rattle.cps_state.specs.Made.{Made, IsContent, HaveRoom};
 
     ghost Value = { Made };
 
     ghost view = { λ made. record {
       flags = made.flags;
       program = made.program;
+      machine = made.machine;
       block = made.block;
       filling = option_to_list (option_map piece_of made.filling);
-      fields = made.fields.items;
-      is_too_far = made.is_too_far;
+      start = made.start;
+      contents = made.contents.items;
+      zeros = made.zeros;
+      only_flags = made.only_flags;
       shown = made.shown;
     } };
 
-    ghost invariant = { λ made. made.is_too_far ≡ false → HaveRoom made.fields.items };
+    ghost invariant = { λ made. All IsContent made.contents.items × (made.only_flags ≡ false → HaveRoom made.machine made.start made.contents.items) };
 }
 
 impl Made {
@@ -77,10 +121,13 @@ impl Made {
         Made {
             flags,
             program: None,
+            machine: Machine::Cp,
             block: None,
             filling: None,
-            fields: Vec::new(alloc),
-            is_too_far: false,
+            start: 0,
+            contents: Vec::new(alloc),
+            zeros: 0,
+            only_flags: false,
             shown: Shown::Nothing,
         }
     }
@@ -120,50 +167,85 @@ impl Made {
         made
     }
 
-    /// Of a statement with one field.
-    pub fn field(
+    /// Of a statement that reserves words, or that makes so many words of zeros.
+    pub fn reserving(
         alloc: Global,
         flags: Flags,
+        machine: Machine,
         block: Option<Name>,
         filling: Option<Piece>,
-        field: Field,
-    ) -> Result<Made, AllocError>
-        requires { HasRoom field }
-        ensures { IfOk result (λ made. made ≡ record (nothing_made flags) { block = block; filling = option_to_list (option_map piece_of filling); fields = field ∷ [] }) }
+        start: u32,
+        zeros: u32,
+    ) -> Made
+        requires word { start % 60 < bits_of machine }
+        requires within { start ≤ 60 * limit machine }
+        ensures { result ≡ record (nothing_made flags) { machine = machine; block = block; filling = option_to_list (option_map piece_of filling); start = start; zeros = zeros; shown = Shown.Start } }
     {
-        let mut fields = Vec::with_capacity(alloc, 1)?;
-        fields.push(field)?;
-        Ok(Made {
+        Made {
             flags,
             program: None,
+            machine,
             block,
             filling,
-            fields,
-            is_too_far: false,
-            shown: Shown::Nothing,
-        })
+            start,
+            contents: Vec::new(alloc),
+            zeros,
+            only_flags: false,
+            shown: Shown::Start,
+        }
     }
 
-    /// Of a statement whose field would pass the machine's words.
-    pub fn too_far(
-        alloc: Global,
+    /// Of a statement with contents.
+    pub fn placing(
         flags: Flags,
+        machine: Machine,
         block: Option<Name>,
-        field: Field,
-    ) -> Result<Made, AllocError>
-        ensures { IfOk result (λ made. made ≡ record (nothing_made flags) { block = block; fields = field ∷ []; is_too_far = true }) }
+        filling: Option<Piece>,
+        start: u32,
+        contents: Vec<Content>,
+    ) -> Made
+        requires each { All IsContent contents.items }
+        requires room { HaveRoom machine start contents.items }
+        ensures { result ≡ record (nothing_made flags) { machine = machine; block = block; filling = option_to_list (option_map piece_of filling); start = start; contents = contents.items } }
     {
-        let mut fields = Vec::with_capacity(alloc, 1)?;
-        fields.push(field)?;
-        Ok(Made {
+        Made {
             flags,
             program: None,
+            machine,
             block,
-            filling: None,
-            fields,
-            is_too_far: true,
+            filling,
+            start,
+            contents,
+            zeros: 0,
+            only_flags: false,
             shown: Shown::Nothing,
-        })
+        }
+    }
+
+    /// Of a statement that makes nothing, with contents that give flags.
+    pub fn flagging(
+        flags: Flags,
+        machine: Machine,
+        block: Option<Name>,
+        filling: Option<Piece>,
+        start: u32,
+        contents: Vec<Content>,
+    ) -> Made
+        requires { All IsContent contents.items }
+        ensures { result ≡ record (nothing_made flags) { machine = machine; block = block; filling = option_to_list (option_map piece_of filling); start = start; contents = contents.items; only_flags = true } }
+    {
+        Made {
+            flags,
+            program: None,
+            machine,
+            block,
+            filling,
+            start,
+            contents,
+            zeros: 0,
+            only_flags: true,
+            shown: Shown::Nothing,
+        }
     }
 
     /// The flags of pass one.
@@ -180,6 +262,13 @@ impl Made {
         self.program
     }
 
+    /// The machine whose words the bits are.
+    pub fn machine(&self) -> Machine
+        ensures { result ≡ self.now.machine }
+    {
+        self.machine
+    }
+
     /// The block in which the bits stand; None is the nominal one.
     pub fn block(&self) -> Option<Name>
         ensures { result ≡ self.now.block }
@@ -194,22 +283,37 @@ impl Made {
         self.filling
     }
 
-    /// The fields, in their order.
-    pub fn fields(&self) -> &[Field]
-        ensures fields { result.now ≡ self.now.fields }
-        ensures room { self.now.is_too_far ≡ false → HaveRoom self.now.fields }
+    /// Where the statement starts: the bits before it in its block.
+    pub fn start(&self) -> u32
+        ensures { result ≡ self.now.start }
     {
-        self.fields.as_slice()
+        self.start
     }
 
-    /// Whether the fields would pass the machine's words.
-    pub fn is_too_far(&self) -> bool
-        ensures { result ≡ self.now.is_too_far }
+    /// The contents, in their order.
+    pub fn contents(&self) -> &[Content]
+        ensures contents { result.now ≡ self.now.contents }
+        ensures each { All IsContent self.now.contents }
+        ensures room { self.now.only_flags ≡ false → HaveRoom self.now.machine self.now.start self.now.contents }
     {
-        self.is_too_far
+        self.contents.as_slice()
     }
 
-    /// What the row shows beside the fields.
+    /// How many words of zeros there are from the start on.
+    pub fn zeros(&self) -> u32
+        ensures { result ≡ self.now.zeros }
+    {
+        self.zeros
+    }
+
+    /// Whether the contents only give flags.
+    pub fn only_flags(&self) -> bool
+        ensures { result ≡ self.now.only_flags }
+    {
+        self.only_flags
+    }
+
+    /// What the row shows beside codes.
     pub fn shown(&self) -> Shown
         ensures { result ≡ self.now.shown }
     {
