@@ -10,3 +10,5 @@ pub mod SetLemmas
 pub mod NameLemmas
 pub mod FieldLemmas
 pub mod WorkedRows
+pub mod PairLemmas
+pub mod OneRow

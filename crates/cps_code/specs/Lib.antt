@@ -12,3 +12,4 @@ pub mod Operations
 pub mod Register
 pub mod Digits
 pub mod Rows
+pub mod OneRow
