@@ -9,13 +9,15 @@ use Rattle.cps_state.specs.declared.key.Control.{Control}
 use Rattle.cps_state.specs.declared.key.Phase.TheVariants.{AfterEnd}
 use Rattle.cps_state.specs.declared.made.Shown.TheVariants as shown
 use Rattle.cps_state.specs.Course.{Part, nothing, ◌before◌, asking, fill}
-use Rattle.cps_state.specs.Keys.{same_block, place_of, limit}
+use Rattle.cps_state.specs.Keys.{same_block, place_of}
+use Rattle.cps_state.specs.Machines.{limit}
 use Rattle.cps_state.specs.Made.{Made, nothing_made}
 use Rattle.cps_pass.specs.declared.reading.Location.{Location}
 use Rattle.cps_pass.specs.declared.value_now.ValueNow.{ValueNow}
 use Rattle.cps_pass.specs.declared.value_now.ValueNow.TheVariants.{Undefined, NoValue, Known}
 use Rattle.cps_pass.specs.Head.{putting_control, entering}
 use Rattle.cps_pass.specs.Located.{present_flags}
+use Rattle.cps_pass.specs.Numbers.{not_negative}
 use Rattle.cps_pass.specs.Places.{filling_between, place_left, here_at, going_on}
 use Rattle.cps_pass.specs.ValueNow.{now}
 
@@ -39,14 +41,9 @@ using control block = if same_block control.block block then nothing else puttin
 -- E above the machine's words
 abbrev pub moving_to : Control → Location → Place → Option Name → ℕ → Part
 moving_to control location place block address =
-    if nat_lt limit address then fill (nothing_made (record (present_flags location) { structure = true }))
+    if nat_lt (limit control.machine) address then fill (nothing_made (record (present_flags location) { structure = true }))
     else going_on control.block (place_left place) false before going_on block (60 * address) false before using control block
     before fill (record (left control.block location place) { shown = shown.Address (record { block = block; offset = pos address }) })
-
--- an address is no number below 0
-abbrev pub address_in : ℤ → Option ℕ
-address_in (pos address) = Some address
-address_in (negsuc n) = None
 
 -- A where there is none
 abbrev pub moving_by : Control → Location → Place → Option Name → Option ℕ → Part
@@ -56,14 +53,14 @@ moving_by control location place block (Some address) = moving_to control locati
 abbrev pub moving : Control → Location → Place → ValueNow → Part
 moving control location place Undefined = fill (nothing_made (record (present_flags location) { undefined = true }))
 moving control location place NoValue = unread location
-moving control location place (Known value) = moving_by control location place value.block (address_in value.offset)
+moving control location place (Known value) = moving_by control location place value.block (not_negative value.offset)
 
 -- `*` is the address behind the word that is left
 abbrev pub org_from : Control → Location → Place → Expression → Part
 org_from control location place terms = now terms (here_at control.block (place_left place)) (λ value. moving control location place value)
 
 abbrev pub org : Control → Location → Expression → Part
-org control location terms = asking (key.Counter control.block) (λ a. org_from control location (place_of a) terms)
+org control location terms = asking (key.Counter control.block) (λ a. org_from control location (place_of control.machine a) terms)
 
 -- ORG with an unreadable operand
 abbrev pub unread_org : Control → Location → Part
@@ -76,4 +73,4 @@ ending control location place =
     going_on control.block (place_left place) false before entering control AfterEnd before fill (left control.block location place)
 
 abbrev pub end : Control → Location → Part
-end control location = asking (key.Counter control.block) (λ a. ending control location (place_of a))
+end control location = asking (key.Counter control.block) (λ a. ending control location (place_of control.machine a))

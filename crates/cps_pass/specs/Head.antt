@@ -1,6 +1,7 @@
--- The head of a program: IDENT, ABS and BASE. From the manual's descriptions of these statements; what ends the head is our profile's.
+-- The head of a program: IDENT, ABS, PERIPH and BASE. From the manual's descriptions of these statements; what ends the head is our profile's.
 use Rattle.std.specs.Prelude.{Bool, true, false, Option, None, Some, is_none, if◌then◌else◌}
 use Rattle.cps_text.specs.declared.name.Name.{Name}
+use Rattle.cps_expr.specs.declared.machine.Machine.{Machine}
 use Rattle.cps_expr.specs.declared.radix.Radix.{Radix}
 use Rattle.cps_expr.specs.declared.radix.Radix.TheVariants.{Octal, Decimal}
 use Rattle.cps_state.specs.declared.flags.Flags.{Flags}
@@ -21,11 +22,11 @@ control_put control = record { key = key.Control; answer = answer.Control contro
 abbrev pub putting_control : Control → Part
 putting_control control = put (control_put control)
 
--- the program is in another part; the base and the block stay
+-- the program is in another part; all else stays
 abbrev pub entering : Control → Phase → Part
 entering control phase = putting_control (record control { phase = phase })
 
--- ---- leaving the head, where the program is in it: it lasts until the first statement other than IDENT, ABS, BASE, EQU, `=`, TITLE, SPACE, EJECT and LIST
+-- ---- leaving the head, where the program is in it: it lasts until the first statement other than IDENT, ABS, PERIPH, BASE, EQU, `=`, TITLE, SPACE, EJECT and LIST
 
 abbrev pub behind_head : Phase → Phase
 behind_head (Head head) = Body
@@ -44,7 +45,7 @@ is_in_head AfterEnd = false
 abbrev pub leaving_head : Control → Part
 leaving_head control = if is_in_head control.phase then putting_control (in_body control) else nothing
 
--- ---- IDENT and ABS: the first of each, in the head
+-- ---- IDENT, and ABS or PERIPH: the first of each, in the head
 
 -- a name comes too late: there is one already, or the head has ended
 abbrev pub is_late_name : Phase → Bool
@@ -80,14 +81,17 @@ with_declaration (Head head) = Head (record { is_named = head.is_named; is_decla
 with_declaration Body = Body
 with_declaration AfterEnd = AfterEnd
 
-abbrev pub abs_flags : Phase → Location → Flags
-abs_flags phase location = record no_flags { structure = is_late_declaration phase; location = is_present location }
+abbrev pub declaration_flags : Phase → Location → Flags
+declaration_flags phase location = record no_flags { structure = is_late_declaration phase; location = is_present location }
 
-abbrev pub declaring : Control → Part
-declaring control = if is_late_declaration control.phase then nothing else entering control (with_declaration control.phase)
+abbrev pub declaring : Control → Machine → Part
+declaring control machine =
+    if is_late_declaration control.phase then nothing
+    else putting_control (record control { phase = with_declaration control.phase; machine = machine })
 
-abbrev pub abs : Control → Location → Part
-abs control location = declaring control before fill (nothing_made (abs_flags control.phase location))
+-- ABS is for the central processor, PERIPH for a peripheral one
+abbrev pub declaration : Control → Location → Machine → Part
+declaration control location machine = declaring control machine before fill (nothing_made (declaration_flags control.phase location))
 
 -- ---- BASE: the base of numbers that no letter marks
 

@@ -1,12 +1,15 @@
 pub mod Blocks
+pub mod Fields
 pub mod Head
 pub mod Instruction
 pub mod Located
 pub mod Meaning
 pub mod NamesNow
+pub mod Numbers
 pub mod Places
 pub mod Placing
 pub mod Reading
+pub mod Reserving
 pub mod Symbols
 pub mod ValueNow
 pub mod Words

@@ -14,16 +14,19 @@ use Rattle.cps_state.specs.Keys.{State, control_of}
 use Rattle.cps_state.specs.Made.{nothing_made, no_flags}
 use Rattle.cps_pass.specs.declared.reading.Location.{Location}
 use Rattle.cps_pass.specs.declared.reading.Stating.{Stating}
-use Rattle.cps_pass.specs.declared.reading.Stating.TheVariants.{Missing, Unknown, Stated, Unreadable, Instruction}
+use Rattle.cps_pass.specs.declared.reading.Stating.TheVariants.{Missing, Unknown, Stated, Unreadable, Instruction, Peripheral}
 use Rattle.cps_pass.specs.declared.reading.Reading.{Reading}
 use Rattle.cps_pass.specs.declared.reading.Reading.TheVariants.{Comment, Continued, Statement}
 use Rattle.cps_pass.specs.Blocks.{org, unread, unread_org, end}
-use Rattle.cps_pass.specs.Head.{in_body, leaving_head, ident, abs, base}
-use Rattle.cps_pass.specs.Instruction.{instruction}
+use Rattle.cps_expr.specs.declared.machine.Machine.TheVariants.{Cp, Pp}
+use Rattle.cps_pass.specs.Fields.{vfd, unread_vfd}
+use Rattle.cps_pass.specs.Head.{in_body, leaving_head, ident, declaration, base}
+use Rattle.cps_pass.specs.Instruction.{instruction, peripheral_instruction}
 use Rattle.cps_pass.specs.Located.{present_flags}
 use Rattle.cps_pass.specs.Reading.{reading_of}
 use Rattle.cps_pass.specs.Symbols.{equate, unread_equate}
-use Rattle.cps_pass.specs.Words.{bss, unread_words}
+use Rattle.cps_pass.specs.Reserving.{bss, bssz}
+use Rattle.cps_pass.specs.Words.{con, data_words, dis, unread_words}
 
 -- a line that does nothing
 abbrev pub listed : Part
@@ -40,14 +43,20 @@ not_there control = leaving_head control before unknown
 -- a statement with its operands
 abbrev pub obeyed : Control → Location → Row → Part
 obeyed control location (row.Ident name) = ident control location (Some name)
-obeyed control location row.Abs = abs control location
+obeyed control location row.Abs = declaration control location Cp
+obeyed control location row.Periph = declaration control location Pp
 obeyed control location (row.Base radix) = base control location radix
-obeyed control location (row.Equate terms) = equate control.block location terms
+obeyed control location (row.Equate terms) = equate control location terms
 obeyed control location (row.Org terms) = leaving_head control before org (in_body control) location terms
 obeyed control location row.End = end control location
-obeyed control location (row.Bss terms) = leaving_head control before bss control.block location terms
+obeyed control location (row.Bss terms) = leaving_head control before bss control location terms
+obeyed control location (row.Bssz terms) = leaving_head control before bssz control location terms
+obeyed control location (row.Con values) = leaving_head control before con control location values
+obeyed control location (row.Data numbers) = leaving_head control before data_words control location numbers
+obeyed control location (row.Vfd fields) = leaving_head control before vfd control location fields
+obeyed control location (row.Dis text) = leaving_head control before dis control location text
 obeyed control location row.Listing = fill (nothing_made (present_flags location))
--- what isn't there yet: PERIPH, SET, USE, BSSZ, CON, DATA, VFD, DIS, the IFs, ELSE, ENDIF, DUP, ENDD, MACRO and ENDM
+-- what isn't there yet: SET, USE, the IFs, ELSE, ENDIF, DUP, ENDD, MACRO and ENDM
 obeyed control location _ = not_there control
 
 -- a statement with unreadable operands
@@ -56,7 +65,12 @@ unreadable control location operation.Ident = ident control location None
 unreadable control location operation.Base = unread location
 unreadable control location operation.Equate = unread_equate location
 unreadable control location operation.Org = leaving_head control before unread_org (in_body control) location
-unreadable control location operation.Bss = leaving_head control before unread_words control.block location
+unreadable control location operation.Bss = leaving_head control before unread_words control location
+unreadable control location operation.Bssz = leaving_head control before unread_words control location
+unreadable control location operation.Con = leaving_head control before unread_words control location
+unreadable control location operation.Data = leaving_head control before unread_words control location
+unreadable control location operation.Vfd = leaving_head control before unread_vfd control location
+unreadable control location operation.Dis = leaving_head control before unread_words control location
 -- what isn't there yet, and what reads no operands
 unreadable control location _ = not_there control
 
@@ -65,7 +79,8 @@ stated control location Missing = unknown
 stated control location Unknown = not_there control
 stated control location (Stated row) = obeyed control location row
 stated control location (Unreadable operation) = unreadable control location operation
-stated control location (Instruction form) = leaving_head control before instruction control.block location form
+stated control location (Instruction form) = leaving_head control before instruction control location form
+stated control location (Peripheral form) = leaving_head control before peripheral_instruction control location form
 
 -- a line that may not stand where it stands
 abbrev pub misplaced : Part
@@ -83,10 +98,10 @@ behind_end CommentLine = listed
 behind_end ContinuedLine = misplaced
 behind_end (StatementLine statement) = misplaced
 
--- the base of numbers decides how a line is read
+-- the machine and the base of numbers decide how a line is read
 abbrev pub in_phase : Control → Phase → List ℕ → Part
-in_phase control (Head head) line = before_end control (reading_of control.radix line)
-in_phase control Body line = before_end control (reading_of control.radix line)
+in_phase control (Head head) line = before_end control (reading_of control.machine control.radix line)
+in_phase control Body line = before_end control (reading_of control.machine control.radix line)
 in_phase control AfterEnd line = behind_end (fields_of line)
 
 abbrev pub under : Control → List ℕ → Part

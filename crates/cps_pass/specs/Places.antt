@@ -1,6 +1,8 @@
 -- Places of a block: what is skipped between two of them, and what `*` stands for. From the manual's sections on forcing upper and on the location counter.
-use Rattle.std.specs.Prelude.{ℕ, ◌/◌, ◌%◌, Bool, true, List, [], ◌∷◌, pos, Option, None, Some}
+use Rattle.std.specs.Prelude.{ℕ, ◌+◌, ◌*◌, ◌/◌, ◌%◌, Bool, true, List, [], ◌∷◌, pos, Option, None, Some}
 use Rattle.cps_text.specs.declared.name.Name.{Name}
+use Rattle.cps_expr.specs.declared.machine.Machine.{Machine}
+use Rattle.cps_expr.specs.declared.machine.Machine.TheVariants.{Cp, Pp}
 use Rattle.cps_expr.specs.declared.value.Value.{Value as AValue}
 use Rattle.cps_code.specs.declared.place.Filling.{Filling}
 use Rattle.cps_code.specs.declared.place.Place.{Place}
@@ -26,6 +28,11 @@ filling_between from to = filling_at from (skipped from to)
 -- where a place stands once its word is left: the next word's beginning, or the place itself where its word has no bit yet
 abbrev pub place_left : Place → ℕ
 place_left place = start_of (position place) 0 true
+
+-- where a block goes on behind bits: a peripheral processor's word that was begun is left
+abbrev pub whole : Machine → ℕ → ℕ
+whole Cp at = at
+whole Pp at = 60 * ((at + 59) / 60)
 
 -- `*` is the address of the word in which a place is
 abbrev pub here_at : Option Name → ℕ → AValue

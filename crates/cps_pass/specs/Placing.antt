@@ -1,17 +1,32 @@
--- Placing statements: what all of them share. From the manual's sections on the location field and on forcing upper; what stays pending is our profile's.
-use Rattle.std.specs.Prelude.{ℕ, Bool, true, false, Option}
+-- Placing statements: what all of them share. From the manual's sections on the location field and on forcing upper; what stays pending is our
+-- profile's, and the limit too.
+use Rattle.std.specs.Prelude.{ℕ, ◌*◌, Bool, true, false, nat_lt, List, [], Option, None, Some, if◌then◌else◌}
 use Rattle.cps_text.specs.declared.name.Name.{Name}
+use Rattle.cps_code.specs.Image.{Piece}
 use Rattle.cps_code.specs.declared.place.Force.{Force}
 use Rattle.cps_code.specs.declared.place.Force.TheVariants.{Free, NewWord, Cancel}
-use Rattle.cps_code.specs.declared.place.Place.{Place}
-use Rattle.cps_code.specs.Place.{position}
+use Rattle.cps_code.specs.Place.{position, is_forced, start_of}
 use Rattle.cps_state.specs.declared.flags.Flags.{Flags}
-use Rattle.cps_state.specs.Course.{Part, ◌before◌, fill}
-use Rattle.cps_state.specs.Made.{nothing_made, no_flags}
+use Rattle.cps_state.specs.declared.key.Control.{Control}
+use Rattle.cps_state.specs.declared.key.Key.TheVariants as key
+use Rattle.cps_state.specs.declared.made.Content.{Content}
+use Rattle.cps_state.specs.Course.{Part, ◌before◌, asking, fill}
+use Rattle.cps_state.specs.Keys.{place_of}
+use Rattle.cps_state.specs.Machines.{limit}
+use Rattle.cps_state.specs.Made.{Made, nothing_made, no_flags, end_of}
+use Rattle.cps_pass.specs.declared.placing.Site.{Site}
 use Rattle.cps_pass.specs.declared.reading.Location.{Location}
 use Rattle.cps_pass.specs.declared.reading.Location.TheVariants.{Absent, Plus, Minus, Symbol, NoSymbol}
-use Rattle.cps_pass.specs.Located.{symbol_in, defining}
-use Rattle.cps_pass.specs.Places.{filling_between, here_at, going_on}
+use Rattle.cps_pass.specs.Located.{symbol_in, asking_taken, defining}
+use Rattle.cps_pass.specs.Places.{filling_between, whole, place_left, here_at, going_on}
+
+-- what a placing statement asks: the place in the block in use, and whether its symbol has a value already
+abbrev pub asking_site : Control → Location → (Site → Part) → Part
+asking_site control location next =
+    asking (key.Counter control.block) (λ a. asking_taken (symbol_in location) (λ is_taken.
+    next (record { machine = control.machine; block = control.block; place = place_of control.machine a; location = location; is_taken = is_taken })))
+
+-- ---- where it starts
 
 -- a symbol and `+` force to a new word; `-` cancels a forcing that is pending
 abbrev pub force_of : Location → Force
@@ -21,6 +36,16 @@ force_of Minus = Cancel
 force_of (Symbol name) = NewWord
 force_of NoSymbol = Free
 
+-- the least place where so many bits may begin: of an instruction, or none of a field of any width
+abbrev pub start_for : Site → ℕ → ℕ
+start_for site bits = start_of (position site.place) bits (is_forced site.place.is_pending (force_of site.location))
+
+-- the beginning of a word
+abbrev pub word_start : Site → ℕ
+word_start site = place_left site.place
+
+-- ---- its flags
+
 abbrev pub is_no_symbol : Location → Bool
 is_no_symbol Absent = false
 is_no_symbol Plus = false
@@ -29,15 +54,47 @@ is_no_symbol (Symbol name) = false
 is_no_symbol NoSymbol = true
 
 -- L for a location field that is none of those that the statement takes, D for a symbol that has a value
-abbrev pub placing_flags : Location → Bool → Flags
-placing_flags location is_taken = record no_flags { location = is_no_symbol location; twice = is_taken }
-
--- One that makes nothing because of its operands: it forces, and its symbol is defined. The flags tell what is wrong with them.
-unfoldable pub unplaced : Flags → Option Name → Location → Bool → Place → ℕ → Part
-unplaced flags block location is_taken place start =
-    going_on block start false before defining (symbol_in location) is_taken (here_at block start)
-    before fill (record (nothing_made flags) { block = block; filling = filling_between (position place) start })
+abbrev pub placing_flags : Site → Flags
+placing_flags site = record no_flags { location = is_no_symbol site.location; twice = site.is_taken }
 
 -- A: it can't be read, or has no value
-abbrev pub unread_flags : Location → Bool → Flags
-unread_flags location is_taken = record (placing_flags location is_taken) { operand = true }
+abbrev pub unread_flags : Site → Flags
+unread_flags site = record (placing_flags site) { operand = true }
+
+-- E: it would pass the machine's words
+abbrev pub far_flags : Site → Flags
+far_flags site = record (placing_flags site) { structure = true }
+
+-- ---- what it puts and makes
+
+-- contents that only give flags
+abbrev pub only_flagging : Flags → Site → List Piece → ℕ → List Content → Made
+only_flagging flags site filling start contents = record (nothing_made flags) {
+  machine = site.machine; block = site.block; filling = filling; start = start; contents = contents; only_flags = true;
+}
+
+-- the block goes on at a place, and the symbol gets the address of the statement's first word
+abbrev pub settling : Site → ℕ → ℕ → Bool → Part
+settling site start after is_pending = going_on site.block after is_pending before defining (symbol_in site.location) site.is_taken (here_at site.block start)
+
+-- One that makes nothing because of its operands: it forces, and its symbol is defined. The flags tell what is wrong with them.
+unfoldable pub unplaced : Flags → Site → ℕ → List Content → Part
+unplaced flags site start contents =
+    settling site start start false before fill (only_flagging flags site (filling_between (position site.place) start) start contents)
+
+-- One that would pass the machine's words makes nothing; nothing is put.
+abbrev pub too_far : Site → ℕ → List Content → Part
+too_far site start contents = fill (only_flagging (far_flags site) site [] start contents)
+
+-- contents from a place on up to another
+abbrev pub placed_to : Site → ℕ → List Content → Bool → ℕ → Part
+placed_to site start contents is_pending end =
+    if nat_lt (60 * limit site.machine) end then too_far site start contents
+    else settling site start (whole site.machine end) is_pending
+    before fill (record (nothing_made (placing_flags site)) {
+      machine = site.machine; block = site.block; filling = filling_between (position site.place) start; start = start; contents = contents;
+    })
+
+-- contents from a place on, one behind the other
+unfoldable pub placed : Site → ℕ → List Content → Bool → Part
+placed site start contents is_pending = placed_to site start contents is_pending (end_of site.machine start contents)

@@ -1,7 +1,8 @@
 -- What a line says: the fields of a statement, read. From the manual's section on the statement format.
 use Rattle.std.specs.Prelude.{ℕ, List, [], codes, bytes_eq, Option, None, Some, if◌then◌else◌}
 use Rattle.cps_text.specs.declared.name.Name.{Name}
-use Rattle.cps_expr.specs.declared.machine.Machine.TheVariants.{Cp}
+use Rattle.cps_expr.specs.declared.machine.Machine.{Machine}
+use Rattle.cps_expr.specs.declared.machine.Machine.TheVariants.{Cp, Pp}
 use Rattle.cps_expr.specs.declared.operation.Operation.{Operation}
 use Rattle.cps_expr.specs.declared.radix.Radix.{Radix}
 use Rattle.cps_expr.specs.declared.row.Row.{Row}
@@ -9,10 +10,11 @@ use Rattle.cps_expr.specs.Operation.{operation_named}
 use Rattle.cps_expr.specs.Statement.{row_of}
 use Rattle.cps_text.specs.Name.{name_of}
 use Rattle.cps_code.specs.Table.{is_operation, form_of}
+use Rattle.cps_peripheral.specs.Table.{is_operation as is_peripheral_operation, form_of as peripheral_form_of}
 use Rattle.cps_pass.specs.declared.reading.Location.{Location}
 use Rattle.cps_pass.specs.declared.reading.Location.TheVariants.{Absent, Plus, Minus, Symbol, NoSymbol}
 use Rattle.cps_pass.specs.declared.reading.Stating.{Stating}
-use Rattle.cps_pass.specs.declared.reading.Stating.TheVariants.{Missing, Unknown, Stated, Unreadable, Instruction}
+use Rattle.cps_pass.specs.declared.reading.Stating.TheVariants.{Missing, Unknown, Stated, Unreadable, Instruction, Peripheral}
 use Rattle.cps_pass.specs.declared.reading.Reading.{Reading}
 use Rattle.cps_pass.specs.declared.reading.Reading.TheVariants.{Comment, Continued, Statement}
 use Rattle.cps_text.specs.Card.{LineFields, CommentLine, ContinuedLine, StatementLine, fields_of}
@@ -34,29 +36,30 @@ location_in field =
 
 -- ---- the operation and its operands
 
--- an instruction of the central processor, or an operation that nobody knows
-abbrev pub instruction_in : Radix → List ℕ → List ℕ → Stating
-instruction_in radix operation tail = if is_operation operation then Instruction (form_of operation tail radix) else Unknown
+-- an instruction of the machine, or an operation that it doesn't have
+abbrev pub instruction_in : Machine → Radix → List ℕ → List ℕ → Stating
+instruction_in Cp radix operation tail = if is_operation operation then Instruction (form_of operation tail radix) else Unknown
+instruction_in Pp radix operation tail = if is_peripheral_operation operation then Peripheral (peripheral_form_of operation tail radix) else Unknown
 
 abbrev pub row_or_none : Operation → Option Row → Stating
 row_or_none operation None = Unreadable operation
 row_or_none operation (Some row) = Stated row
 
 -- a statement of the statement table, or else an instruction
-abbrev pub stating_with : Option Operation → Radix → List ℕ → List ℕ → Stating
-stating_with None radix operation tail = instruction_in radix operation tail
-stating_with (Some named) radix operation tail = row_or_none named (row_of operation tail Cp radix)
+abbrev pub stating_with : Option Operation → Machine → Radix → List ℕ → List ℕ → Stating
+stating_with None machine radix operation tail = instruction_in machine radix operation tail
+stating_with (Some named) machine radix operation tail = row_or_none named (row_of operation tail machine radix)
 
-abbrev pub stating_in : Radix → List ℕ → List ℕ → Stating
-stating_in radix operation tail = if bytes_eq operation [] then Missing else stating_with (operation_named operation) radix operation tail
+abbrev pub stating_in : Machine → Radix → List ℕ → List ℕ → Stating
+stating_in machine radix operation tail = if bytes_eq operation [] then Missing else stating_with (operation_named operation) machine radix operation tail
 
 -- ---- the line
 
-abbrev pub reading_in : Radix → LineFields → Reading
-reading_in radix CommentLine = Comment
-reading_in radix ContinuedLine = Continued
-reading_in radix (StatementLine statement) = Statement (location_in statement.location) (stating_in radix statement.operation statement.tail)
+abbrev pub reading_in : Machine → Radix → LineFields → Reading
+reading_in machine radix CommentLine = Comment
+reading_in machine radix ContinuedLine = Continued
+reading_in machine radix (StatementLine statement) = Statement (location_in statement.location) (stating_in machine radix statement.operation statement.tail)
 
--- what a line says under a base of numbers
-abbrev pub reading_of : Radix → List ℕ → Reading
-reading_of radix line = reading_in radix (fields_of line)
+-- what a line says in a program for a machine, under a base of numbers
+abbrev pub reading_of : Machine → Radix → List ℕ → Reading
+reading_of machine radix line = reading_in machine radix (fields_of line)

@@ -1,8 +1,8 @@
 -- EQU and `=`. From the manual's description of EQU; that the value is listed beside L and D too is our profile's.
-use Rattle.std.specs.Prelude.{Bool, true, Option, is_none}
-use Rattle.cps_text.specs.declared.name.Name.{Name}
+use Rattle.std.specs.Prelude.{Bool, true, is_none}
 use Rattle.cps_expr.specs.Expression.{Expression}
 use Rattle.cps_state.specs.declared.flags.Flags.{Flags}
+use Rattle.cps_state.specs.declared.key.Control.{Control}
 use Rattle.cps_state.specs.declared.made.Shown.TheVariants as shown
 use Rattle.cps_state.specs.Course.{Part, ◌before◌, fill}
 use Rattle.cps_state.specs.Made.{nothing_made, no_flags}
@@ -22,8 +22,8 @@ equate_to location is_taken NoValue = fill (nothing_made (record (equate_flags l
 equate_to location is_taken (Known value) =
     defining (symbol_in location) is_taken value before fill (record (nothing_made (equate_flags location is_taken)) { shown = shown.Value value })
 
-abbrev pub equate : Option Name → Location → Expression → Part
-equate block location terms = asking_taken (symbol_in location) (λ is_taken. now_here block terms (λ value. equate_to location is_taken value))
+abbrev pub equate : Control → Location → Expression → Part
+equate control location terms = asking_taken (symbol_in location) (λ is_taken. now_here control terms (λ value. equate_to location is_taken value))
 
 -- EQU with an unreadable operand
 abbrev pub unread_equate : Location → Part

@@ -5,6 +5,7 @@ use Rattle.cps_expr.specs.declared.value.Value.{Value as AValue}
 use Rattle.cps_expr.specs.Expression.{Expression, names_of, has_counter}
 use Rattle.cps_expr.specs.Value.{Values, plain, same_name, value_in, has_undefined}
 use Rattle.cps_code.specs.Place.{position}
+use Rattle.cps_state.specs.declared.key.Control.{Control}
 use Rattle.cps_state.specs.declared.key.Key.TheVariants as key
 use Rattle.cps_state.specs.Course.{Part, ◌before◌, asking, tell}
 use Rattle.cps_state.specs.Keys.{place_of, value_of}
@@ -37,10 +38,10 @@ abbrev pub now : Expression → AValue → (ValueNow → Part) → Part
 now terms here next = names_now (names_of terms) (λ values. next (value_now values here terms))
 
 -- asking what `*` is, if it stands in an expression: the present word of the block in use, begun or not
-abbrev pub asking_here : Option Name → Expression → (AValue → Part) → Part
-asking_here block terms next =
-    if has_counter terms then asking (key.Counter block) (λ a. next (here_at block (position (place_of a)))) else next (plain (pos 0))
+abbrev pub asking_here : Control → Expression → (AValue → Part) → Part
+asking_here control terms next =
+    if has_counter terms then asking (key.Counter control.block) (λ a. next (here_at control.block (position (place_of control.machine a)))) else next (plain (pos 0))
 
 -- asking the value of an expression in which `*` is the present word
-abbrev pub now_here : Option Name → Expression → (ValueNow → Part) → Part
-now_here block terms next = asking_here block terms (λ here. now terms here next)
+abbrev pub now_here : Control → Expression → (ValueNow → Part) → Part
+now_here control terms next = asking_here control terms (λ here. now terms here next)

@@ -1,61 +1,70 @@
--- BSS: reserving words. From the manual's description of BSS; the limit, and that a number below 0 or in a block is none, are our profile's.
-use Rattle.std.specs.Prelude.{ℕ, ◌+◌, ◌*◌, ◌/◌, Bool, true, false, nat_lt, ℤ, Option, None, Some, if◌then◌else◌}
-use Rattle.cps_text.specs.declared.name.Name.{Name}
-use Rattle.cps_expr.specs.declared.value.Value.{Value as AValue}
+-- CON, DATA and DIS: words from the beginning of a word on. From the manual's descriptions of these statements; that DIS has 1 to 100 words is our profile's.
+use Rattle.std.specs.Prelude.{ℕ, ◌+◌, ◌-◌, ◌*◌, ◌/◌, false, List, [], length, map, take, drop, Option, None, Some}
+use Rattle.std.specs.List.{range_with_len}
+use Rattle.cps_expr.specs.declared.machine.Machine.{Machine}
+use Rattle.cps_expr.specs.declared.row.DisText.{DisText}
+use Rattle.cps_expr.specs.declared.row.DisText.TheVariants.{Counted, Delimited}
 use Rattle.cps_expr.specs.Expression.{Expression}
-use Rattle.cps_code.specs.declared.place.Place.{Place}
-use Rattle.cps_code.specs.Place.{position}
-use Rattle.cps_state.specs.declared.key.Key.TheVariants as key
-use Rattle.cps_state.specs.declared.made.Shown.TheVariants as shown
-use Rattle.cps_state.specs.Course.{Part, ◌before◌, asking, fill}
-use Rattle.cps_state.specs.Keys.{place_of, limit}
-use Rattle.cps_state.specs.Made.{nothing_made}
+use Rattle.cps_expr.specs.Item.{bits_of, blank_code, characters_in_word, packed_characters}
+use Rattle.cps_state.specs.declared.key.Control.{Control}
+use Rattle.cps_state.specs.declared.made.Content.{Content}
+use Rattle.cps_state.specs.declared.made.Content.TheVariants as content
+use Rattle.cps_state.specs.Course.{Part}
+use Rattle.cps_pass.specs.declared.placing.Site.{Site}
 use Rattle.cps_pass.specs.declared.reading.Location.{Location}
 use Rattle.cps_pass.specs.declared.value_now.ValueNow.{ValueNow}
-use Rattle.cps_pass.specs.declared.value_now.ValueNow.TheVariants.{Undefined, NoValue, Known}
-use Rattle.cps_pass.specs.Blocks.{address_in}
-use Rattle.cps_pass.specs.Located.{symbol_in, asking_taken, defining}
-use Rattle.cps_pass.specs.Places.{filling_between, place_left, here_at, going_on}
-use Rattle.cps_pass.specs.Placing.{placing_flags, unread_flags, unplaced}
+use Rattle.cps_pass.specs.Numbers.{plain_number, between, no_number_flags}
+use Rattle.cps_pass.specs.Places.{here_at}
+use Rattle.cps_pass.specs.Placing.{asking_site, word_start, unread_flags, unplaced, placed}
 use Rattle.cps_pass.specs.ValueNow.{now}
 
--- a number of words is plain and not below 0
-abbrev pub plain_words : Option Name → ℤ → Option ℕ
-plain_words None offset = address_in offset
-plain_words (Some block) offset = None
+-- words of a statement
+abbrev pub words : List Content → Site → Part
+words contents site = placed site (word_start site) contents false
 
-abbrev pub words_in : AValue → Option ℕ
-words_in value = plain_words value.block value.offset
+-- with unreadable operands
+abbrev pub no_words : Site → Part
+no_words site = unplaced (unread_flags site) site (word_start site) []
 
--- so many words from the beginning of a word on: its symbol gets the first one's address; E where they would pass the machine's words
-abbrev pub reserved : Option Name → Location → Bool → Place → ℕ → ℕ → Part
-reserved block location is_taken place start words =
-    if nat_lt limit (start / 60 + words) then fill (nothing_made (record (placing_flags location is_taken) { structure = true }))
-    else going_on block (start + 60 * words) false before defining (symbol_in location) is_taken (here_at block start)
-    before fill (record (nothing_made (placing_flags location is_taken)) { block = block; filling = filling_between (position place) start; shown = shown.Reserved (here_at block start) })
+abbrev pub unread_words : Control → Location → Part
+unread_words control location = asking_site control location no_words
 
--- None: there is no such number
-abbrev pub reserved_or_not : Option Name → Location → Bool → Place → ℕ → Option ℕ → Part
-reserved_or_not block location is_taken place start None = unplaced (unread_flags location is_taken) block location is_taken place start
-reserved_or_not block location is_taken place start (Some words) = reserved block location is_taken place start words
+-- ---- CON: a word for each value
 
-abbrev pub reserving : Option Name → Location → Bool → Place → ℕ → ValueNow → Part
-reserving block location is_taken place start Undefined =
-    unplaced (record (placing_flags location is_taken) { undefined = true }) block location is_taken place start
-reserving block location is_taken place start NoValue = unplaced (unread_flags location is_taken) block location is_taken place start
-reserving block location is_taken place start (Known value) = reserved_or_not block location is_taken place start (words_in value)
+abbrev pub value_words : Machine → List Expression → List Content
+value_words machine values = map (content.Value (bits_of machine)) values
 
--- BSS begins a word; `*` is the address of that word
-abbrev pub bss_from : Option Name → Location → Bool → Place → Expression → Part
-bss_from block location is_taken place terms =
-    now terms (here_at block (place_left place)) (λ value. reserving block location is_taken place (place_left place) value)
+abbrev pub con : Control → Location → List Expression → Part
+con control location values = asking_site control location (words (value_words control.machine values))
 
-abbrev pub bss : Option Name → Location → Expression → Part
-bss block location terms =
-    asking (key.Counter block) (λ a. asking_taken (symbol_in location) (λ is_taken. bss_from block location is_taken (place_of a) terms))
+-- ---- DATA: a word for each item
 
--- with an unreadable operand
-abbrev pub unread_words : Option Name → Location → Part
-unread_words block location =
-    asking (key.Counter block) (λ a. asking_taken (symbol_in location) (λ is_taken.
-    unplaced (unread_flags location is_taken) block location is_taken (place_of a) (place_left (place_of a))))
+abbrev pub number_words : Machine → List ℕ → List Content
+number_words machine numbers = map (content.Number (bits_of machine)) numbers
+
+abbrev pub data_words : Control → Location → List ℕ → Part
+data_words control location numbers = asking_site control location (words (number_words control.machine numbers))
+
+-- ---- DIS: characters, 6 bits each
+
+-- so many words of characters; a code stands for those that are missing
+abbrev pub text_words : Machine → ℕ → ℕ → List ℕ → List ℕ
+text_words machine fill count text =
+    map (λ word. packed_characters (characters_in_word machine) fill (take (characters_in_word machine) (drop (characters_in_word machine * word) text))) (range_with_len 0 count)
+
+-- zero bits behind the characters, at least 12, to a word's end
+abbrev pub delimited_words : Machine → List ℕ → List ℕ
+delimited_words machine text = text_words machine 0 ((length text + 2 + (characters_in_word machine - 1)) / characters_in_word machine) text
+
+-- None: there is no such number of words
+abbrev pub counted_or_not : List ℕ → Site → ValueNow → Option ℕ → Part
+counted_or_not text site value None = unplaced (no_number_flags site value) site (word_start site) []
+counted_or_not text site value (Some count) = words (number_words site.machine (text_words site.machine blank_code count text)) site
+
+abbrev pub displayed : DisText → Site → Part
+displayed (Counted count text) site =
+    now count (here_at site.block (word_start site)) (λ value. counted_or_not text site value (between 1 100 (plain_number value)))
+displayed (Delimited text) site = words (number_words site.machine (delimited_words site.machine text)) site
+
+abbrev pub dis : Control → Location → DisText → Part
+dis control location text = asking_site control location (displayed text)
