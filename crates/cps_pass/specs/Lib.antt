@@ -10,6 +10,7 @@ pub mod Places
 pub mod Placing
 pub mod Reading
 pub mod Reserving
+pub mod Sites
 pub mod Symbols
 pub mod ValueNow
 pub mod Words

@@ -1,21 +1,82 @@
 //! What all placing statements share.
-ghost use Rattle.std.specs.Prelude.{◌≡◌, OnOk, option_map};
+ghost use Rattle.std.specs.Prelude.{◌≡◌, ◌⊎◌, ◌<◌, [], All, OnOk, IfOk, option_map};
 ghost use Rattle.std.specs.Option.{option_to_list};
 ghost use Rattle.cps_code.specs.Image.{piece_of};
 ghost use Rattle.cps_code.specs.Place.{position};
-ghost use Rattle.cps_state.specs.Course.{Does};
+ghost use Rattle.cps_state.specs.Course.{Does, Hands, filled};
+ghost use Rattle.cps_state.specs.Made.{width_of, IsContent};
 ghost use Rattle.cps_pass.specs.Placing as placing;
 ghost use Rattle.cps_pass.specs.Places.{filling_between};
+ghost use Rattle.cps_pass.specs.Sites.{IsSite, Starts};
 
-use crate::located::define;
-use crate::places::{Begun, go_on, here_at};
+use crate::located::{define, is_taken};
+use crate::places::{Begun, begin, go_on, here_at, leave_word, whole};
 use crate::reading::Location;
 use cps_code::{Force, Place};
-use cps_state::{Flags, Lookup, Made, Recorder, Shown};
+use cps_expr::Machine;
+use cps_state::{Content, Control, Flags, Key, Lookup, Made, Recorder, end_of, place_of};
 use cps_text::Name;
 use std::alloc::{AllocError, Global};
 
-pub fn force_of(location: Location) -> Force
+/// Where a placing statement stands, and its location field.
+#[derive(Clone, Copy, Debug, PartialEq, Eq)]
+pub struct Site {
+    pub machine: Machine,
+    /// The block in use; None is the nominal one.
+    pub block: Option<Name>,
+    /// The place in it.
+    pub place: Place,
+    pub location: Location,
+    /// Whether the symbol of the location field has a value already.
+    pub is_taken: bool,
+}
+
+/// What a placing statement asks.
+pub fn ask_site<L: Lookup>(
+    recorder: &mut Recorder,
+    state: &L,
+    control: Control,
+    location: Location,
+) -> Result<Site, AllocError>
+    ensures site { IfOk result (λ site. Hands (placing.asking_site control location) site (L.answer state.now) recorder.old recorder.new) }
+    ensures is { IfOk result IsSite }
+    ensures machine { IfOk result (λ site. site.machine ≡ control.machine) }
+{
+    let answer = recorder.ask(state, Key::Counter(control.block))?;
+    let place = place_of(answer.as_ref(), control.machine);
+    let is_taken = is_taken(recorder, state, location)?;
+    Ok(Site {
+        machine: control.machine,
+        block: control.block,
+        place,
+        location,
+        is_taken,
+    })
+}
+
+/// Where a statement starts that begins a word.
+pub fn word_start(site: Site) -> Begun
+    requires { IsSite site }
+    ensures start { result.start ≡ placing.word_start site }
+    ensures starts { Starts site result.start }
+    ensures filling { option_to_list (option_map piece_of result.filling) ≡ filling_between (position site.place) result.start }
+{
+    leave_word(site.place)
+}
+
+/// Where so many bits start, 15 or 30 of an instruction; 0 stands for a field of any width.
+pub fn start_for(site: Site, bits: u8) -> Begun
+    requires site { IsSite site }
+    requires kind { (bits ≡ 0) ⊎ (bits ≡ 15) ⊎ (bits ≡ 30) }
+    requires machine { 0 < bits → site.machine ≡ Machine.Cp }
+    ensures start { result.start ≡ placing.start_for site bits }
+    ensures starts { Starts site result.start }
+    ensures filling { option_to_list (option_map piece_of result.filling) ≡ filling_between (position site.place) result.start }
+{
+    begin(site.place, bits, force_of(site.location))
+}
+
+fn force_of(location: Location) -> Force
     ensures { result ≡ placing.force_of location }
 {
     match location {
@@ -27,15 +88,6 @@ pub fn force_of(location: Location) -> Force
     }
 }
 
-pub fn placing_flags(location: Location, is_taken: bool) -> Flags
-    ensures { result ≡ placing.placing_flags location is_taken }
-{
-    let mut flags = Flags::none();
-    flags.location = is_no_symbol(location);
-    flags.twice = is_taken;
-    flags
-}
-
 fn is_no_symbol(location: Location) -> bool
     ensures { result ≡ placing.is_no_symbol location }
 {
@@ -45,39 +97,145 @@ fn is_no_symbol(location: Location) -> bool
     }
 }
 
-/// The flags of a placing statement whose operands can't be read, or have no value.
-pub fn unread_flags(location: Location, is_taken: bool) -> Flags
-    ensures { result ≡ placing.unread_flags location is_taken }
+pub fn placing_flags(site: Site) -> Flags
+    ensures { result ≡ placing.placing_flags site }
 {
-    let mut flags = placing_flags(location, is_taken);
+    let mut flags = Flags::none();
+    flags.location = is_no_symbol(site.location);
+    flags.twice = site.is_taken;
+    flags
+}
+
+/// The flags of a placing statement whose operands can't be read, or have no value.
+pub fn unread_flags(site: Site) -> Flags
+    ensures { result ≡ placing.unread_flags site }
+{
+    let mut flags = placing_flags(site);
     flags.operand = true;
     flags
+}
+
+/// The flags of one that would pass the machine's words.
+pub fn far_flags(site: Site) -> Flags
+    ensures { result ≡ placing.far_flags site }
+{
+    let mut flags = placing_flags(site);
+    flags.structure = true;
+    flags
+}
+
+/// The block goes on at a place, and the symbol gets the address of the statement's first word.
+pub fn settle<L: Lookup>(
+    recorder: &mut Recorder,
+    state: &L,
+    site: Site,
+    start: u32,
+    after: u32,
+    is_pending: bool,
+) -> Result<(), AllocError>
+    ensures { OnOk result (Does (placing.settling site start after is_pending) (L.answer state.now) recorder.old recorder.new) }
+{
+    go_on(recorder, site.block, after, is_pending)?;
+    define(
+        recorder,
+        state,
+        site.location,
+        site.is_taken,
+        here_at(site.block, start),
+    )
 }
 
 /// A placing statement that makes nothing because of its operands; it forces, and its symbol is defined.
 #[tactic(auto, unfolding(crate::specs::Placing::unplaced))]
 pub fn place_nothing<L: Lookup>(
+    recorder: &mut Recorder,
+    state: &L,
+    site: Site,
+    begun: Begun,
+    flags: Flags,
+    contents: Vec<Content>,
+) -> Result<(), AllocError>
+    requires filling { option_to_list (option_map piece_of begun.filling) ≡ filling_between (position site.place) begun.start }
+    requires each { All IsContent contents.items }
+    ensures { OnOk result (Does (placing.unplaced flags site begun.start contents.items) (L.answer state.now) recorder.old recorder.new) }
+{
+    settle(recorder, state, site, begun.start, begun.start, false)?;
+    recorder.fill(Made::flagging(
+        flags,
+        site.machine,
+        site.block,
+        begun.filling,
+        begun.start,
+        contents,
+    ));
+    Ok(())
+}
+
+/// The same of one whose operands can't be read.
+pub fn place_unread<L: Lookup>(
     alloc: Global,
     recorder: &mut Recorder,
     state: &L,
-    block: Option<Name>,
-    location: Location,
-    is_taken: bool,
-    place: Place,
-    flags: Flags,
+    site: Site,
     begun: Begun,
 ) -> Result<(), AllocError>
-    requires { option_to_list (option_map piece_of begun.filling) ≡ filling_between (position place) begun.start }
-    ensures { OnOk result (Does (placing.unplaced flags block location is_taken place begun.start) (L.answer state.now) recorder.old recorder.new) }
+    requires { option_to_list (option_map piece_of begun.filling) ≡ filling_between (position site.place) begun.start }
+    ensures { OnOk result (Does (placing.unplaced (placing.unread_flags site) site begun.start []) (L.answer state.now) recorder.old recorder.new) }
 {
-    go_on(recorder, block, begun.start, false)?;
-    define(
+    place_nothing(
         recorder,
         state,
-        location,
-        is_taken,
-        here_at(block, begun.start),
-    )?;
-    recorder.fill(Made::leaving(alloc, flags, block, begun.filling, Shown::Nothing));
+        site,
+        begun,
+        unread_flags(site),
+        Vec::new(alloc),
+    )
+}
+
+/// One that would pass the machine's words makes nothing; nothing is put.
+pub fn pass_limit(recorder: &mut Recorder, site: Site, start: u32, contents: Vec<Content>)
+    requires { All IsContent contents.items }
+    ensures { recorder.new ≡ filled recorder.old (placing.only_flagging (placing.far_flags site) site [] start contents.items) }
+{
+    recorder.fill(Made::flagging(
+        far_flags(site),
+        site.machine,
+        site.block,
+        None,
+        start,
+        contents,
+    ));
+}
+
+/// Contents, one behind the other.
+#[tactic(auto, unfolding(crate::specs::Placing::placed))]
+pub fn place<L: Lookup>(
+    recorder: &mut Recorder,
+    state: &L,
+    site: Site,
+    begun: Begun,
+    contents: Vec<Content>,
+    is_pending: bool,
+) -> Result<(), AllocError>
+    requires starts { Starts site begun.start }
+    requires filling { option_to_list (option_map piece_of begun.filling) ≡ filling_between (position site.place) begun.start }
+    requires each { All IsContent contents.items }
+    requires some { All (λ content. 0 < width_of content) contents.items }
+    ensures { OnOk result (Does (placing.placed site begun.start contents.items is_pending) (L.answer state.now) recorder.old recorder.new) }
+{
+    let Some(end) = end_of(site.machine, begun.start, &contents) else {
+        pass_limit(recorder, site, begun.start, contents);
+        return Ok(());
+    };
+    let after = whole(site.machine, end);
+    settle(recorder, state, site, begun.start, after, is_pending)?;
+    recorder.fill(Made::placing(
+        placing_flags(site),
+        site.machine,
+        site.block,
+        begun.filling,
+        begun.start,
+        contents,
+    ));
     Ok(())
 }

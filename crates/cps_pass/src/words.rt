@@ -1,146 +1,205 @@
-//! BSS: reserving words.
-ghost use Rattle.std.specs.Prelude.{◌≡◌, ◌*◌, ◌%◌, ◌+◌, ◌≤◌, OnOk, option_map};
-ghost use Rattle.std.specs.Option.{option_to_list};
-ghost use Rattle.cps_code.specs.Image.{piece_of};
-ghost use Rattle.cps_code.specs.Place.{position};
+//! CON, DATA and DIS: words from the beginning of a word on.
+ghost use Rattle.std.specs.Prelude.{◌≡◌, ◌<◌, ◌≤◌, ◌^◌, ◌*◌, ◌+◌, [], map, take, drop, length, All, IfOk, OnOk};
+ghost use Rattle.cps_expr.specs.Item.{bits_of, blank_code, characters_in_word, packed_characters};
 ghost use Rattle.cps_state.specs.Course.{Does};
-ghost use Rattle.cps_state.specs.Keys.{limit};
-ghost use Rattle.cps_pass.specs.Places.{filling_between};
+ghost use Rattle.cps_pass.specs.Sites.{IsSite};
 ghost use Rattle.cps_pass.specs.Words as meaning;
 
-use crate::blocks::address_in;
-use crate::located::{define, is_taken};
-use crate::making::flag;
-use crate::places::{Begun, go_on, here_at, leave_word};
-use crate::placing::{place_nothing, placing_flags, unread_flags};
+use crate::numbers::{between, no_number_flags, plain_number};
+use crate::places::here_at;
+use crate::placing::{Site, ask_site, place, place_nothing, place_unread, word_start};
 use crate::reading::Location;
-use crate::value_now::{ValueNow, value_now};
-use cps_code::Place;
-use cps_expr::{Expr, Value};
-use cps_state::{Key, LIMIT, Lookup, Made, Recorder, Shown, WORD, place_of};
-use cps_text::Name;
+use crate::value_now::value_now;
+use cps_expr::{DisText, Expr, Machine, pack_characters};
+use cps_state::{Content, Control, Lookup, Recorder, word_bits};
 use std::alloc::{AllocError, Global};
 
-/// BSS: reserves words from the beginning of a word on.
-pub fn bss<L: Lookup>(
-    alloc: Global,
-    recorder: &mut Recorder,
-    state: &L,
-    block: Option<Name>,
-    location: Location,
-    operand: &Expr,
-) -> Result<(), AllocError>
-    ensures { OnOk result (Does (meaning.bss block location operand.now) (L.answer state.now) recorder.old recorder.new) }
-{
-    let answer = recorder.ask(state, Key::Counter(block))?;
-    let place = place_of(answer.as_ref());
-    let is_taken = is_taken(recorder, state, location)?;
-    let begun = leave_word(place);
-    let value = value_now(alloc, recorder, state, operand, here_at(block, begun.start))?;
-    reserve_by(
-        alloc, recorder, state, block, location, is_taken, place, begun, value,
-    )
-}
+/// The most words that DIS counts.
+const MOST_WORDS: u8 = 100;
 
-/// The same with an unreadable operand.
+/// The display code of a blank.
+const BLANK: u8 = 0o55;
+
+/// A statement of words with unreadable operands.
 pub fn unread_words<L: Lookup>(
     alloc: Global,
     recorder: &mut Recorder,
     state: &L,
-    block: Option<Name>,
+    control: Control,
     location: Location,
 ) -> Result<(), AllocError>
-    ensures { OnOk result (Does (meaning.unread_words block location) (L.answer state.now) recorder.old recorder.new) }
+    ensures { OnOk result (Does (meaning.unread_words control location) (L.answer state.now) recorder.old recorder.new) }
 {
-    let answer = recorder.ask(state, Key::Counter(block))?;
-    let place = place_of(answer.as_ref());
-    let is_taken = is_taken(recorder, state, location)?;
-    let flags = unread_flags(location, is_taken);
-    place_nothing(
-        alloc,
-        recorder,
-        state,
-        block,
-        location,
-        is_taken,
-        place,
-        flags,
-        leave_word(place),
-    )
+    let site = ask_site(recorder, state, control, location)?;
+    place_unread(alloc, recorder, state, site, word_start(site))
 }
 
-/// A number of words is plain and not below 0.
-fn words_in(value: Value) -> Option<u64>
-    ensures { result ≡ meaning.words_in value }
+fn place_words<L: Lookup>(
+    recorder: &mut Recorder,
+    state: &L,
+    site: Site,
+    contents: Vec<Content>,
+) -> Result<(), AllocError>
+    requires site { IsSite site }
+    requires each { All IsContent contents.items }
+    requires some { All (λ content. 0 < width_of content) contents.items }
+    ensures { OnOk result (Does (meaning.words contents.items site) (L.answer state.now) recorder.old recorder.new) }
 {
-    match value.block {
-        None => address_in(value.offset),
-        Some(_) => None,
-    }
+    place(recorder, state, site, word_start(site), contents, false)
 }
 
-fn reserve_by<L: Lookup>(
+/// CON: a word for each value.
+pub fn con<L: Lookup>(
     alloc: Global,
     recorder: &mut Recorder,
     state: &L,
-    block: Option<Name>,
+    control: Control,
     location: Location,
-    is_taken: bool,
-    place: Place,
-    begun: Begun,
-    value: ValueNow,
+    values: Vec<Expr>,
 ) -> Result<(), AllocError>
-    requires near { begun.start ≤ 60 * limit + 60 }
-    requires filling { option_to_list (option_map piece_of begun.filling) ≡ filling_between (position place) begun.start }
-    ensures { OnOk result (Does (meaning.reserving block location is_taken place begun.start value) (L.answer state.now) recorder.old recorder.new) }
+    ensures { OnOk result (Does (meaning.con control location values.items) (L.answer state.now) recorder.old recorder.new) }
 {
-    let words = match value {
-        ValueNow::Undefined => {
-            let mut flags = placing_flags(location, is_taken);
-            flags.undefined = true;
-            return place_nothing(
-                alloc, recorder, state, block, location, is_taken, place, flags, begun,
-            );
+    let site = ask_site(recorder, state, control, location)?;
+    let contents = value_words(alloc, control.machine, values)?;
+    place_words(recorder, state, site, contents)
+}
+
+fn value_words(alloc: Global, machine: Machine, values: Vec<Expr>) -> Result<Vec<Content>, AllocError>
+    ensures contents { IfOk result (λ contents. contents.items ≡ meaning.value_words machine values.items) }
+    ensures each { IfOk result (λ contents. All IsContent contents.items) }
+    ensures some { IfOk result (λ contents. All (λ content. 0 < width_of content) contents.items) }
+{
+    let mut contents = Vec::with_capacity(alloc, values.len())?;
+    for value in values {
+        contents.push(Content::Value(word_bits(machine), value))?;
+    }
+    Ok(contents)
+}
+
+/// DATA: a word for each item.
+pub fn data_words<L: Lookup>(
+    alloc: Global,
+    recorder: &mut Recorder,
+    state: &L,
+    control: Control,
+    location: Location,
+    numbers: &[u64],
+) -> Result<(), AllocError>
+    requires { All (λ number. number < 2 ^ bits_of control.machine) numbers.now }
+    ensures { OnOk result (Does (meaning.data_words control location numbers.now) (L.answer state.now) recorder.old recorder.new) }
+{
+    let site = ask_site(recorder, state, control, location)?;
+    let contents = number_words(alloc, control.machine, numbers)?;
+    place_words(recorder, state, site, contents)
+}
+
+fn number_words(alloc: Global, machine: Machine, numbers: &[u64]) -> Result<Vec<Content>, AllocError>
+    requires { All (λ number. number < 2 ^ bits_of machine) numbers.now }
+    ensures contents { IfOk result (λ contents. contents.items ≡ meaning.number_words machine numbers.now) }
+    ensures each { IfOk result (λ contents. All IsContent contents.items) }
+    ensures some { IfOk result (λ contents. All (λ content. 0 < width_of content) contents.items) }
+{
+    let mut contents = Vec::with_capacity(alloc, numbers.len())?;
+    for number in numbers {
+        contents.push(Content::Number(word_bits(machine), *number))?;
+    }
+    Ok(contents)
+}
+
+/// DIS: characters.
+pub fn dis<L: Lookup>(
+    alloc: Global,
+    recorder: &mut Recorder,
+    state: &L,
+    control: Control,
+    location: Location,
+    text: &DisText,
+) -> Result<(), AllocError>
+    ensures { OnOk result (Does (meaning.dis control location text.now) (L.answer state.now) recorder.old recorder.new) }
+{
+    let site = ask_site(recorder, state, control, location)?;
+    match text {
+        DisText::Counted(count, text) => {
+            display_counted(alloc, recorder, state, site, count, text.as_slice())
         }
-        ValueNow::NoValue => None,
-        ValueNow::Known(value) => words_in(value),
-    };
-    let Some(words) = words else {
-        let flags = unread_flags(location, is_taken);
-        return place_nothing(
-            alloc, recorder, state, block, location, is_taken, place, flags, begun,
-        );
-    };
-    reserve(
-        alloc, recorder, state, block, location, is_taken, place, begun, words,
-    )
+        DisText::Delimited(text) => {
+            let text = text.as_slice();
+            let count = delimited_count(site.machine, text.len());
+            let contents = text_words(alloc, site.machine, 0, count, text)?;
+            place_words(recorder, state, site, contents)
+        }
+    }
 }
 
-fn reserve<L: Lookup>(
+fn display_counted<L: Lookup>(
     alloc: Global,
     recorder: &mut Recorder,
     state: &L,
-    block: Option<Name>,
-    location: Location,
-    is_taken: bool,
-    place: Place,
-    begun: Begun,
-    words: u64,
+    site: Site,
+    count: &Expr,
+    text: &[u8],
 ) -> Result<(), AllocError>
-    requires near { begun.start ≤ 60 * limit + 60 }
-    requires filling { option_to_list (option_map piece_of begun.filling) ≡ filling_between (position place) begun.start }
-    ensures { OnOk result (Does (meaning.reserved block location is_taken place begun.start words) (L.answer state.now) recorder.old recorder.new) }
+    requires { IsSite site }
+    ensures { OnOk result (Does (meaning.displayed (DisText.Counted count.now text.now) site) (L.answer state.now) recorder.old recorder.new) }
 {
-    let mut flags = placing_flags(location, is_taken);
-    if words > u64::from(LIMIT) || u64::from(begun.start / WORD) + words > u64::from(LIMIT) {
-        flags.structure = true;
-        flag(alloc, recorder, flags);
-        return Ok(());
+    let begun = word_start(site);
+    let here = here_at(site.block, begun.start);
+    let value = value_now(alloc, recorder, state, count, here)?;
+    let Some(count) = between(1, MOST_WORDS, plain_number(value)) else {
+        let flags = no_number_flags(site, value);
+        return place_nothing(recorder, state, site, begun, flags, Vec::new(alloc));
+    };
+    let contents = text_words(alloc, site.machine, BLANK, usize::from(count), text)?;
+    place_words(recorder, state, site, contents)
+}
+
+/// The characters of a word.
+fn characters_in_word(machine: Machine) -> usize
+    ensures { result ≡ characters_in_word machine }
+{
+    match machine {
+        Machine::Cp => 10,
+        Machine::Pp => 2,
     }
-    go_on(recorder, block, begun.start + WORD * words as u32, false)?;
-    let first = here_at(block, begun.start);
-    define(recorder, state, location, is_taken, first)?;
-    let shown = Shown::Reserved(first);
-    recorder.fill(Made::leaving(alloc, flags, block, begun.filling, shown));
-    Ok(())
+}
+
+/// How many words so many characters take with at least 12 zero bits behind them.
+fn delimited_count(machine: Machine, characters: usize) -> usize
+    requires { characters < 2 ^ 63 }
+    ensures { result ≡ (characters + 2 + (characters_in_word machine - 1)) / characters_in_word machine }
+{
+    (characters + 2).div_ceil(characters_in_word(machine))
+}
+
+/// So many words of characters, with a code for those that are missing.
+fn text_words(
+    alloc: Global,
+    machine: Machine,
+    fill: u8,
+    count: usize,
+    text: &[u8],
+) -> Result<Vec<Content>, AllocError>
+    requires { fill < 64 }
+    ensures contents { IfOk result (λ contents. contents.items ≡ meaning.number_words machine (meaning.text_words machine fill count text.now)) }
+    ensures each { IfOk result (λ contents. All IsContent contents.items) }
+    ensures some { IfOk result (λ contents. All (λ content. 0 < width_of content) contents.items) }
+{
+    let mut contents = Vec::new(alloc);
+    for word in 0..count {
+        let number = text_word(machine, fill, word, text);
+        contents.push(Content::Number(word_bits(machine), number))?;
+    }
+    Ok(contents)
+}
+
+/// The characters of one of the words.
+fn text_word(machine: Machine, fill: u8, word: usize, text: &[u8]) -> u64
+    requires { fill < 64 }
+    ensures word { result ≡ packed_characters (characters_in_word machine) fill (take (characters_in_word machine) (drop (characters_in_word machine * word) text.now)) }
+    ensures fits { result < 2 ^ bits_of machine }
+{
+    let most = characters_in_word(machine);
+    let first = word.saturating_mul(most).min(text.len());
+    let end = first.saturating_add(most).min(text.len());
+    pack_characters(&text[first..end], most, fill)
 }
