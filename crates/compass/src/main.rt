@@ -12,11 +12,15 @@ mod column_rows;
 #[cfg(test)]
 mod devices;
 #[cfg(test)]
+mod peripheral_rows;
+#[cfg(test)]
 mod replies;
 #[cfg(test)]
 mod script_rows;
 #[cfg(test)]
 mod source_rows;
+#[cfg(test)]
+mod word_rows;
 
 use cps_text::Counted;
 use cps_tool::{Session, run_script};

@@ -64,3 +64,15 @@ pub fn assert_text(
     replies.push_str(want)?;
     assert_replies(rt, alloc, at, &script, &replies)
 }
+
+/// Asserts what queries write of sources: each row is a source, a query and the text.
+pub fn assert_rows(
+    rt: &impl Abort,
+    alloc: Global,
+    rows: &[(&[&str], &str, &str)],
+) -> Result<(), Fail> {
+    for (at, (source, query, want)) in rows.iter().enumerate() {
+        assert_text(rt, alloc, at, source, query, want)?;
+    }
+    Ok(())
+}
