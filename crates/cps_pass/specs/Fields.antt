@@ -40,25 +40,37 @@ width_flags (Known value) (Some width) = no_flags
 
 -- ---- all fields
 
--- asking the widths in their order; then the fields have contents, and their widths give flags
-abbrev pub sizing : List Field → AValue → (List Content → Flags → Part) → Part
-sizing [] here next = next [] no_flags
-sizing (field ∷ fields) here next =
-    now field.width here (λ width. sizing fields here (λ contents flags.
-    next (field_with field.value (width_in width) ∷ contents) (joined (width_flags width (width_in width)) flags)))
+-- fields as contents, and the flags of their widths
+pub record Sized : Type 0 where
+  pub contents : List Content
+  pub flags : Flags
+
+abbrev pub no_fields_sized : Sized
+no_fields_sized = record { contents = []; flags = no_flags }
+
+abbrev pub with_field : Expression → ValueNow → Sized → Sized
+with_field value width sized = record {
+  contents = field_with value (width_in width) ∷ sized.contents;
+  flags = joined (width_flags width (width_in width)) sized.flags;
+}
+
+-- asking the values of the widths, in their order
+abbrev pub sizing : List Field → AValue → (Sized → Part) → Part
+sizing [] here next = next no_fields_sized
+sizing (field ∷ fields) here next = now field.width here (λ width. sizing fields here (λ sized. next (with_field field.value width sized)))
 
 abbrev pub are_sized : List Content → Bool
 are_sized contents = list_all (λ content. nat_lt 0 (width_of content)) contents
 
 -- nothing is made where a width is none
-abbrev pub sized : Site → List Content → Flags → Part
-sized site contents flags =
-    if are_sized contents then placed site (start_for site 0) contents false
-    else unplaced (joined (placing_flags site) flags) site (start_for site 0) contents
+abbrev pub placing_fields : Site → Sized → Part
+placing_fields site sized =
+    if are_sized sized.contents then placed site (start_for site 0) sized.contents false
+    else unplaced (joined (placing_flags site) sized.flags) site (start_for site 0) sized.contents
 
 -- `*` is the address of the word in which the first field begins
 abbrev pub fields_in : List Field → Site → Part
-fields_in fields site = sizing fields (here_at site.block (start_for site 0)) (sized site)
+fields_in fields site = sizing fields (here_at site.block (start_for site 0)) (placing_fields site)
 
 abbrev pub vfd : Control → Location → List Field → Part
 vfd control location fields = asking_site control location (fields_in fields)

@@ -1,20 +1,19 @@
 //! ORG and END: both leave the word that was begun.
-ghost use Rattle.std.specs.Prelude.{◌≡◌, ◌*◌, ◌≤◌, OnOk};
-ghost use Rattle.cps_code.specs.Place.{position};
+ghost use Rattle.std.specs.Prelude.{◌≡◌, ◌<◌, ◌^◌, OnOk};
 ghost use Rattle.cps_state.specs.Course.{Does};
-ghost use Rattle.cps_state.specs.Keys.{limit};
 ghost use Rattle.cps_pass.specs.Blocks as blocks;
 
 use crate::head::{enter, put_control};
 use crate::located::present_flags;
 use crate::making::{flag, unread};
+use crate::numbers::not_negative;
 use crate::places::{go_on, here_at, leave_word};
 use crate::reading::Location;
 use crate::value_now::{ValueNow, value_now};
 use cps_code::Place;
 use cps_expr::{Expr, Value};
 use cps_state::{
-    Control, Key, LIMIT, Lookup, Made, Phase, Recorder, Shown, WORD, is_same_block, place_of,
+    Control, Key, Lookup, Made, Phase, Recorder, Shown, WORD, is_same_block, limit_of, place_of,
 };
 use cps_text::Name;
 use std::alloc::{AllocError, Global};
@@ -31,7 +30,7 @@ pub fn org<L: Lookup>(
     ensures { OnOk result (Does (blocks.org control location operand.now) (L.answer state.now) recorder.old recorder.new) }
 {
     let answer = recorder.ask(state, Key::Counter(control.block))?;
-    let place = place_of(answer.as_ref());
+    let place = place_of(answer.as_ref(), control.machine);
     let here = here_at(control.block, leave_word(place).start);
     let value = value_now(alloc, recorder, state, operand, here)?;
     move_by(alloc, recorder, state, control, location, place, value)
@@ -61,7 +60,7 @@ fn move_by<L: Lookup>(
     place: Place,
     value: ValueNow,
 ) -> Result<(), AllocError>
-    requires { position place ≤ 60 * limit }
+    requires { place.word < 2 ^ 26 }
     ensures { OnOk result (Does (blocks.moving control location place value) (L.answer state.now) recorder.old recorder.new) }
 {
     match value {
@@ -75,7 +74,7 @@ fn move_by<L: Lookup>(
             unread(alloc, recorder, location);
             Ok(())
         }
-        ValueNow::Known(value) => match address_in(value.offset) {
+        ValueNow::Known(value) => match not_negative(value.offset) {
             None => {
                 unread(alloc, recorder, location);
                 Ok(())
@@ -94,17 +93,6 @@ fn move_by<L: Lookup>(
     }
 }
 
-/// An address is no number below 0.
-pub fn address_in(offset: i64) -> Option<u64>
-    ensures { result ≡ blocks.address_in offset }
-{
-    if offset < 0 {
-        None
-    } else {
-        Some(offset.unsigned_abs())
-    }
-}
-
 fn move_to<L: Lookup>(
     alloc: Global,
     recorder: &mut Recorder,
@@ -115,11 +103,11 @@ fn move_to<L: Lookup>(
     block: Option<Name>,
     address: u64,
 ) -> Result<(), AllocError>
-    requires { position place ≤ 60 * limit }
+    requires { place.word < 2 ^ 26 }
     ensures { OnOk result (Does (blocks.moving_to control location place block address) (L.answer state.now) recorder.old recorder.new) }
 {
     let mut flags = present_flags(location);
-    if address > u64::from(LIMIT) {
+    if address > u64::from(limit_of(control.machine)) {
         flags.structure = true;
         flag(alloc, recorder, flags);
         return Ok(());
@@ -148,12 +136,7 @@ fn use_block<L: Lookup>(
     if is_same_block(control.block, block) {
         return Ok(());
     }
-    let control = Control {
-        phase: control.phase,
-        radix: control.radix,
-        block,
-    };
-    put_control(recorder, control)
+    put_control(recorder, Control { block, ..control })
 }
 
 /// END: leaves the word that was begun.
@@ -167,7 +150,7 @@ pub fn end<L: Lookup>(
     ensures { OnOk result (Does (blocks.end control location) (L.answer state.now) recorder.old recorder.new) }
 {
     let answer = recorder.ask(state, Key::Counter(control.block))?;
-    let left = leave_word(place_of(answer.as_ref()));
+    let left = leave_word(place_of(answer.as_ref(), control.machine));
     go_on(recorder, control.block, left.start, false)?;
     enter(recorder, control, Phase::AfterEnd)?;
     recorder.fill(Made::leaving(

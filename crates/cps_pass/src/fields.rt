@@ -1,8 +1,7 @@
 //! VFD: fields of any width.
-ghost use Rattle.std.specs.Prelude.{◌≡◌, ◌<◌, [], All, IfOk, OnOk};
+ghost use Rattle.std.specs.Prelude.{◌≡◌, All, IfOk, OnOk};
 ghost use Rattle.cps_state.specs.Course.{Does, Hands};
-ghost use Rattle.cps_state.specs.Made.{width_of, IsContent};
-ghost use Rattle.cps_expr.specs.declared.row.Field.{Field as AField};
+ghost use Rattle.cps_state.specs.Made.{IsContent};
 ghost use Rattle.cps_pass.specs.Fields as meaning;
 ghost use Rattle.cps_pass.specs.Sites.{IsSite};
 
@@ -63,7 +62,7 @@ fn size_fields<L: Lookup>(
     fields: Vec<Field>,
     here: Value,
 ) -> Result<Sized, AllocError>
-    ensures sized { IfOk result (λ sized. (next : List AContent → AFlags → Part) → Does (meaning.sizing fields.items here next) … ) }
+    ensures sized { IfOk result (λ sized. Hands (meaning.sizing fields.items here) (record { contents = sized.contents.items; flags = sized.flags }) (L.answer state.now) recorder.old recorder.new) }
     ensures each { IfOk result (λ sized. All IsContent sized.contents.items) }
 {
     let mut sized = Sized {
@@ -121,7 +120,7 @@ fn place_sized<L: Lookup>(
 ) -> Result<(), AllocError>
     requires site { IsSite site }
     requires each { All IsContent sized.contents.items }
-    ensures { OnOk result (Does (meaning.sized site sized.contents.items sized.flags) (L.answer state.now) recorder.old recorder.new) }
+    ensures { OnOk result (Does (meaning.placing_fields site (record { contents = sized.contents.items; flags = sized.flags })) (L.answer state.now) recorder.old recorder.new) }
 {
     let begun = start_for(site, 0);
     if are_sized(&sized.contents) {

@@ -1,4 +1,4 @@
-//! The head of a program: IDENT, ABS and BASE.
+//! The head of a program: IDENT, ABS, PERIPH and BASE.
 ghost use Rattle.std.specs.Prelude.{◌≡◌, Option, Some, OnOk};
 ghost use Rattle.cps_state.specs.Course.{Does, with_put_made};
 ghost use Rattle.cps_pass.specs.Head as head;
@@ -6,7 +6,7 @@ ghost use Rattle.cps_pass.specs.Head as head;
 use crate::located::present_flags;
 use crate::making::flag;
 use crate::reading::Location;
-use cps_expr::Radix;
+use cps_expr::{Machine, Radix};
 use cps_state::{Answer, Control, Flags, Head, Key, Lookup, Made, Phase, Recorder};
 use cps_text::Name;
 use std::alloc::{AllocError, Global};
@@ -18,16 +18,11 @@ pub fn put_control(recorder: &mut Recorder, control: Control) -> Result<(), Allo
     recorder.put(Key::Control, Answer::Control(control))
 }
 
-/// The program is in another part; the base of numbers and the block stay.
+/// The program is in another part; all else stays.
 pub fn enter(recorder: &mut Recorder, control: Control, phase: Phase) -> Result<(), AllocError>
     ensures { OnOk result (recorder.new ≡ with_put_made recorder.old (head.control_put (record control { phase = phase }))) }
 {
-    let control = Control {
-        phase,
-        radix: control.radix,
-        block: control.block,
-    };
-    put_control(recorder, control)
+    put_control(recorder, Control { phase, ..control })
 }
 
 /// The control behind a statement that ends the head.
@@ -38,11 +33,7 @@ pub fn in_body(control: Control) -> Control
         Phase::Head(_) => Phase::Body,
         phase => phase,
     };
-    Control {
-        phase,
-        radix: control.radix,
-        block: control.block,
-    }
+    Control { phase, ..control }
 }
 
 fn is_in_head(phase: Phase) -> bool
@@ -139,18 +130,23 @@ fn with_name(phase: Phase) -> Phase
     }
 }
 
-/// ABS: the first declaration of the machine in the head counts.
-pub fn abs<L: Lookup>(
+/// ABS is for the central processor, PERIPH for a peripheral one: the first declaration in the head counts.
+pub fn declaration<L: Lookup>(
     alloc: Global,
     recorder: &mut Recorder,
     state: &L,
     control: Control,
     location: Location,
+    machine: Machine,
 ) -> Result<(), AllocError>
-    ensures { OnOk result (Does (head.abs control location) (L.answer state.now) recorder.old recorder.new) }
+    ensures { OnOk result (Does (head.declaration control location machine) (L.answer state.now) recorder.old recorder.new) }
 {
-    declare(recorder, state, control)?;
-    flag(alloc, recorder, abs_flags(control.phase, location));
+    declare(recorder, state, control, machine)?;
+    flag(
+        alloc,
+        recorder,
+        declaration_flags(control.phase, location),
+    );
     Ok(())
 }
 
@@ -158,17 +154,23 @@ fn declare<L: Lookup>(
     recorder: &mut Recorder,
     state: &L,
     control: Control,
+    machine: Machine,
 ) -> Result<(), AllocError>
-    ensures { OnOk result (Does (head.declaring control) (L.answer state.now) recorder.old recorder.new) }
+    ensures { OnOk result (Does (head.declaring control machine) (L.answer state.now) recorder.old recorder.new) }
 {
     if is_late_declaration(control.phase) {
         return Ok(());
     }
-    enter(recorder, control, with_declaration(control.phase))
+    let control = Control {
+        phase: with_declaration(control.phase),
+        machine,
+        ..control
+    };
+    put_control(recorder, control)
 }
 
-fn abs_flags(phase: Phase, location: Location) -> Flags
-    ensures { result ≡ head.abs_flags phase location }
+fn declaration_flags(phase: Phase, location: Location) -> Flags
+    ensures { result ≡ head.declaration_flags phase location }
 {
     let mut flags = present_flags(location);
     flags.structure = is_late_declaration(phase);
@@ -225,12 +227,7 @@ fn put_radix<L: Lookup>(
     if is_same_radix(control.radix, radix) {
         return Ok(());
     }
-    let control = Control {
-        phase: control.phase,
-        radix,
-        block: control.block,
-    };
-    put_control(recorder, control)
+    put_control(recorder, Control { radix, ..control })
 }
 
 fn is_same_radix(a: Radix, b: Radix) -> bool

@@ -2,21 +2,24 @@
 #![tactic(auto)]
 
 mod blocks;
+mod fields;
 mod head;
 mod instruction;
 mod located;
 mod making;
+mod numbers;
 mod places;
 mod placing;
 mod reading;
+mod reserving;
 mod step;
 mod symbols;
 mod value_now;
 mod words;
 
 pub use cps_state::{
-    Answer, Asked, Content, Control, Field, Flags, Head, Item, Key, LIMIT, Lookup, Made, Phase,
-    Put, Shown, State, Tally, Trace, Work,
+    Answer, Asked, Content, Control, Flags, Head, Item, Key, Lookup, Made, Phase, Put, Shown,
+    State, Tally, Trace, Work, limit_of, word_bits,
 };
 pub use places::here_at;
 pub use step::step_one;

@@ -1,14 +1,14 @@
 //! Places of a block, and what is skipped between two of them.
-ghost use Rattle.std.specs.Prelude.{◌≡◌, ◌⊎◌, ◌+◌, ◌*◌, ◌%◌, ◌≤◌, ◌<◌, ◌^◌, IfSome, OnOk, option_map};
+ghost use Rattle.std.specs.Prelude.{◌≡◌, ℕ, ◌⊎◌, ◌+◌, ◌*◌, ◌%◌, ◌≤◌, ◌<◌, ◌^◌, IfSome, OnOk, option_map};
 ghost use Rattle.std.specs.Option.{option_to_list};
 ghost use Rattle.cps_code.specs.Place.{position, start_of, is_forced};
 ghost use Rattle.cps_code.specs.Image.{piece_of};
 ghost use Rattle.cps_state.specs.Course.{with_put_made};
-ghost use Rattle.cps_state.specs.Keys.{limit};
+ghost use Rattle.cps_state.specs.Machines.{limit};
 ghost use Rattle.cps_pass.specs.Places as places;
 
 use cps_code::{Filling, Force, Piece, Place, place_next};
-use cps_expr::Value;
+use cps_expr::{Machine, Value};
 use cps_state::{Answer, Key, Recorder, WORD};
 use cps_text::Name;
 use std::alloc::AllocError;
@@ -22,10 +22,11 @@ pub struct Begun {
 
 /// The beginning of the next word, if one has been begun.
 pub fn leave_word(place: Place) -> Begun
-    requires { position place ≤ 60 * limit }
+    requires { place.word < 2 ^ 26 }
     ensures start { result.start ≡ places.place_left place }
     ensures filling { option_to_list (option_map piece_of result.filling) ≡ places.filling_between (position place) (places.place_left place) }
-    ensures near { result.start ≤ position place + 60 }
+    ensures not_before { position place ≤ result.start }
+    ensures word { (word : ℕ) → position place ≤ 60 * word → result.start ≤ 60 * word }
 {
     begin(place, 0, Force::NewWord)
 }
@@ -33,16 +34,28 @@ pub fn leave_word(place: Place) -> Begun
 /// The least place where so many bits may begin: 15 or 30 of an instruction, or 0 where the place is only forced.
 pub fn begin(place: Place, bits: u8, force: Force) -> Begun
     requires kind { (bits ≡ 0) ⊎ (bits ≡ 15) ⊎ (bits ≡ 30) }
-    requires within { position place ≤ 60 * limit }
+    requires low { place.word < 2 ^ 26 }
     ensures start { result.start ≡ start_of (position place) bits (is_forced place.is_pending force) }
     ensures filling { option_to_list (option_map piece_of result.filling) ≡ places.filling_between (position place) (start_of (position place) bits (is_forced place.is_pending force)) }
-    ensures room { result.start % 60 + bits ≤ 60 }
-    ensures near { result.start ≤ position place + 60 }
+    ensures not_before { position place ≤ result.start }
+    // It is not past the next word's beginning.
+    ensures word { (word : ℕ) → position place ≤ 60 * word → result.start ≤ 60 * word }
 {
     let placed = place_next(place, bits, force);
     Begun {
         start: WORD * placed.start.word + u32::from(placed.start.used),
         filling: filling_at(place, placed.filling),
+    }
+}
+
+/// Where a block goes on behind bits: a peripheral processor's word that was begun is left.
+pub fn whole(machine: Machine, at: u32) -> u32
+    requires { at ≤ 60 * limit machine }
+    ensures { result ≡ places.whole machine at }
+{
+    match machine {
+        Machine::Cp => at,
+        Machine::Pp => WORD * at.div_ceil(WORD),
     }
 }
 

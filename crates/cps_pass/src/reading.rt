@@ -2,13 +2,13 @@
 ghost use Rattle.std.specs.Prelude.{◌≡◌, Some, IfOk, bytes_eq};
 ghost use Rattle.cps_expr.specs.Operation.{operation_named};
 ghost use Rattle.cps_expr.specs.Statement.{row_of};
-ghost use Rattle.cps_expr.specs.declared.machine.Machine.TheVariants.{Cp};
 ghost use Rattle.cps_text.specs.CardFields.{fields_value};
 ghost use Rattle.cps_text.specs.Name.{name_of};
 ghost use Rattle.cps_pass.specs.Reading.{symbol_or_none, location_in, instruction_in, row_or_none, stating_in, reading_in, reading_of};
 
 use cps_code::{CpForm, FormFault, cp_form};
 use cps_expr::{Machine, Operation, Radix, Stmt, StmtFault};
+use cps_peripheral::{PpForm, pp_form};
 use cps_text::{Fields, Line, Name};
 use std::alloc::{AllocError, Global};
 
@@ -36,8 +36,10 @@ pub enum Stating {
     Stated(Stmt),
     /// An operation of the statement table with operands that don't fit.
     Unreadable(Operation),
-    /// An instruction; None where its operand is unreadable.
+    /// An instruction of the central processor; None where its operands are unreadable.
     Instruction(Option<CpForm>),
+    /// An instruction of a peripheral processor; None where its operands are unreadable.
+    Peripheral(Option<PpForm>),
 }
 
 /// What a line says.
@@ -49,21 +51,21 @@ pub enum Reading {
     Statement(Location, Stating),
 }
 
-/// What a line says under a base of numbers.
-pub fn read_line(alloc: Global, line: &Line, radix: Radix) -> Result<Reading, AllocError>
-    ensures { IfOk result (λ reading. reading ≡ reading_of radix line.now) }
+/// What a line says in a program for a machine, under a base of numbers.
+pub fn read_line(alloc: Global, line: &Line, machine: Machine, radix: Radix) -> Result<Reading, AllocError>
+    ensures { IfOk result (λ reading. reading ≡ reading_of machine radix line.now) }
 {
-    read_card(alloc, line.fields(), radix)
+    read_card(alloc, line.fields(), machine, radix)
 }
 
-fn read_card(alloc: Global, fields: Fields<'_>, radix: Radix) -> Result<Reading, AllocError>
-    ensures { IfOk result (λ reading. reading ≡ reading_in radix (fields_value fields.entry)) }
+fn read_card(alloc: Global, fields: Fields<'_>, machine: Machine, radix: Radix) -> Result<Reading, AllocError>
+    ensures { IfOk result (λ reading. reading ≡ reading_in machine radix (fields_value fields.entry)) }
 {
     match fields {
         Fields::Comment => Ok(Reading::Comment),
         Fields::Continued => Ok(Reading::Continued),
         Fields::Statement(statement) => {
-            let stating = read_stating(alloc, statement.operation, statement.tail, radix)?;
+            let stating = read_stating(alloc, statement.operation, statement.tail, machine, radix)?;
             Ok(Reading::Statement(read_location(statement.location), stating))
         }
     }
@@ -103,16 +105,17 @@ fn read_stating(
     alloc: Global,
     operation: &[u8],
     tail: &[u8],
+    machine: Machine,
     radix: Radix,
 ) -> Result<Stating, AllocError>
-    ensures { IfOk result (λ stating. stating ≡ stating_in radix operation.now tail.now) }
+    ensures { IfOk result (λ stating. stating ≡ stating_in machine radix operation.now tail.now) }
 {
     if is_text(operation, b"") {
         return Ok(Stating::Missing);
     }
     match Operation::named(operation) {
-        None => read_instruction(alloc, operation, tail, radix),
-        Some(named) => read_statement(alloc, named, operation, tail, radix),
+        None => read_instruction(alloc, operation, tail, machine, radix),
+        Some(named) => read_statement(alloc, named, operation, tail, machine, radix),
     }
 }
 
@@ -121,12 +124,13 @@ fn read_statement(
     named: Operation,
     operation: &[u8],
     tail: &[u8],
+    machine: Machine,
     radix: Radix,
 ) -> Result<Stating, AllocError>
     requires { Some named ≡ operation_named operation.now }
-    ensures { IfOk result (λ stating. stating ≡ row_or_none named (row_of operation.now tail.now Cp radix)) }
+    ensures { IfOk result (λ stating. stating ≡ row_or_none named (row_of operation.now tail.now machine radix)) }
 {
-    match Stmt::read(alloc, operation, tail, Machine::Cp, radix) {
+    match Stmt::read(alloc, operation, tail, machine, radix) {
         Ok(statement) => Ok(Stating::Stated(statement)),
         Err(StmtFault::NoOperation) => unreachable!(),
         Err(StmtFault::Unreadable) => Ok(Stating::Unreadable(named)),
@@ -138,14 +142,45 @@ fn read_instruction(
     alloc: Global,
     operation: &[u8],
     tail: &[u8],
+    machine: Machine,
     radix: Radix,
 ) -> Result<Stating, AllocError>
-    ensures { IfOk result (λ stating. stating ≡ instruction_in radix operation.now tail.now) }
+    ensures { IfOk result (λ stating. stating ≡ instruction_in machine radix operation.now tail.now) }
+{
+    match machine {
+        Machine::Cp => read_central(alloc, operation, tail, radix),
+        Machine::Pp => read_peripheral(alloc, operation, tail, radix),
+    }
+}
+
+fn read_central(
+    alloc: Global,
+    operation: &[u8],
+    tail: &[u8],
+    radix: Radix,
+) -> Result<Stating, AllocError>
+    ensures { IfOk result (λ stating. stating ≡ instruction_in Machine.Cp radix operation.now tail.now) }
 {
     match cp_form(alloc, operation, tail, radix) {
         Ok(form) => Ok(Stating::Instruction(Some(form))),
         Err(FormFault::NoOperation) => Ok(Stating::Unknown),
         Err(FormFault::Unreadable) => Ok(Stating::Instruction(None)),
+        Err(FormFault::Memory) => Err(AllocError),
+    }
+}
+
+fn read_peripheral(
+    alloc: Global,
+    operation: &[u8],
+    tail: &[u8],
+    radix: Radix,
+) -> Result<Stating, AllocError>
+    ensures { IfOk result (λ stating. stating ≡ instruction_in Machine.Pp radix operation.now tail.now) }
+{
+    match pp_form(alloc, operation, tail, radix) {
+        Ok(form) => Ok(Stating::Peripheral(Some(form))),
+        Err(FormFault::NoOperation) => Ok(Stating::Unknown),
+        Err(FormFault::Unreadable) => Ok(Stating::Peripheral(None)),
         Err(FormFault::Memory) => Err(AllocError),
     }
 }

@@ -1,5 +1,6 @@
 //! Pass one of a line.
 ghost use Rattle.std.specs.Prelude.{◌≡◌, true, OnOk, IfOk};
+ghost use Rattle.cps_expr.specs.Bounds.{IsBounded};
 ghost use Rattle.cps_text.specs.CardFields.{fields_value};
 ghost use Rattle.cps_state.specs.Course.{Does, Holds, filled};
 ghost use Rattle.cps_state.specs.Made.{nothing_made, no_flags};
@@ -9,14 +10,16 @@ ghost use Rattle.cps_state.specs.declared.work.Tally.TheVariants as tally;
 ghost use Rattle.cps_pass.specs.Meaning as meaning;
 
 use crate::blocks::{end, org, unread_org};
-use crate::head::{abs, base, ident, in_body, leave_head};
-use crate::instruction::instruction;
+use crate::fields::{unread_vfd, vfd};
+use crate::head::{base, declaration, ident, in_body, leave_head};
+use crate::instruction::{instruction, peripheral_instruction};
 use crate::located::present_flags;
 use crate::making::{flag, unread};
 use crate::reading::{Location, Reading, Stating, read_line};
+use crate::reserving::{bss, bssz};
 use crate::symbols::{equate, unread_equate};
-use crate::words::{bss, unread_words};
-use cps_expr::{Operation, Row, Stmt};
+use crate::words::{con, data_words, dis, unread_words};
+use cps_expr::{Machine, Operation, Row, Stmt};
 use cps_state::{Control, Flags, Key, Lookup, Phase, Recorder, Tally, Trace, Work, control_of};
 use cps_text::{Fields, Line};
 use std::alloc::{AllocError, Global};
@@ -64,7 +67,7 @@ fn take_line<L: Lookup>(
             Ok(())
         }
         _ => {
-            let reading = read_line(alloc, line, control.radix)?;
+            let reading = read_line(alloc, line, control.machine, control.radix)?;
             before_end(alloc, recorder, state, control, reading)
         }
     }
@@ -153,14 +156,18 @@ fn obey<L: Lookup>(
         }
         Stating::Unknown => not_there(alloc, recorder, state, control),
         Stating::Stated(statement) => {
-            obey_statement(alloc, recorder, state, control, location, &statement)
+            obey_statement(alloc, recorder, state, control, location, statement)
         }
         Stating::Unreadable(operation) => {
             flag_unreadable(alloc, recorder, state, control, location, operation)
         }
         Stating::Instruction(form) => {
             leave_head(recorder, state, control)?;
-            instruction(alloc, recorder, state, control.block, location, form)
+            instruction(alloc, recorder, state, control, location, form)
+        }
+        Stating::Peripheral(form) => {
+            leave_head(recorder, state, control)?;
+            peripheral_instruction(alloc, recorder, state, control, location, form)
         }
     }
 }
@@ -172,29 +179,56 @@ fn obey_statement<L: Lookup>(
     state: &L,
     control: Control,
     location: Location,
-    statement: &Stmt,
+    statement: Stmt,
 ) -> Result<(), AllocError>
-    ensures { OnOk result (Does (meaning.obeyed control location statement.now) (L.answer state.now) recorder.old recorder.new) }
+    requires { IsBounded control.machine statement }
+    ensures { OnOk result (Does (meaning.obeyed control location statement) (L.answer state.now) recorder.old recorder.new) }
 {
-    match statement.row() {
-        Row::Ident(name) => ident(alloc, recorder, state, control, location, Some(*name)),
-        Row::Abs => abs(alloc, recorder, state, control, location),
-        Row::Base(radix) => base(alloc, recorder, state, control, location, *radix),
-        Row::Equate(operand) => equate(alloc, recorder, state, control.block, location, operand),
+    match statement.into_row() {
+        Row::Ident(name) => ident(alloc, recorder, state, control, location, Some(name)),
+        Row::Abs => declaration(alloc, recorder, state, control, location, Machine::Cp),
+        Row::Periph => declaration(alloc, recorder, state, control, location, Machine::Pp),
+        Row::Base(radix) => base(alloc, recorder, state, control, location, radix),
+        Row::Equate(operand) => equate(alloc, recorder, state, control, location, &operand),
         Row::Org(operand) => {
             leave_head(recorder, state, control)?;
-            org(alloc, recorder, state, in_body(control), location, operand)
+            org(alloc, recorder, state, in_body(control), location, &operand)
         }
         Row::End => end(alloc, recorder, state, control, location),
-        Row::Bss(operand) => {
-            leave_head(recorder, state, control)?;
-            bss(alloc, recorder, state, control.block, location, operand)
-        }
         Row::Listing => {
             flag(alloc, recorder, present_flags(location));
             Ok(())
         }
-        _ => not_there(alloc, recorder, state, control),
+        row => obey_placing(alloc, recorder, state, control, location, row),
+    }
+}
+
+/// A statement that places words or fields.
+fn obey_placing<L: Lookup>(
+    alloc: Global,
+    recorder: &mut Recorder,
+    state: &L,
+    control: Control,
+    location: Location,
+    row: Row,
+) -> Result<(), AllocError>
+    requires { IsBounded control.machine row }
+    ensures { OnOk result (Does (meaning.obeyed control location row) (L.answer state.now) recorder.old recorder.new) }
+{
+    leave_head(recorder, state, control)?;
+    match row {
+        Row::Bss(operand) => bss(alloc, recorder, state, control, location, &operand),
+        Row::Bssz(operand) => bssz(alloc, recorder, state, control, location, &operand),
+        Row::Con(values) => con(alloc, recorder, state, control, location, values.into_vec()),
+        Row::Data(numbers) => {
+            data_words(alloc, recorder, state, control, location, numbers.as_slice())
+        }
+        Row::Vfd(fields) => vfd(alloc, recorder, state, control, location, fields.into_vec()),
+        Row::Dis(text) => dis(alloc, recorder, state, control, location, &text),
+        _ => {
+            unknown(alloc, recorder);
+            Ok(())
+        }
     }
 }
 
@@ -220,9 +254,13 @@ fn flag_unreadable<L: Lookup>(
             leave_head(recorder, state, control)?;
             unread_org(alloc, recorder, state, in_body(control), location)
         }
-        Operation::Bss => {
+        Operation::Bss | Operation::Bssz | Operation::Con | Operation::Data | Operation::Dis => {
             leave_head(recorder, state, control)?;
-            unread_words(alloc, recorder, state, control.block, location)
+            unread_words(alloc, recorder, state, control, location)
+        }
+        Operation::Vfd => {
+            leave_head(recorder, state, control)?;
+            unread_vfd(alloc, recorder, state, control, location)
         }
         _ => not_there(alloc, recorder, state, control),
     }

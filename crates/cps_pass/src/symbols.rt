@@ -8,8 +8,7 @@ use crate::making::flag;
 use crate::reading::Location;
 use crate::value_now::{ValueNow, value_here};
 use cps_expr::Expr;
-use cps_state::{Flags, Lookup, Made, Recorder, Shown};
-use cps_text::Name;
+use cps_state::{Control, Flags, Lookup, Made, Recorder, Shown};
 use std::alloc::{AllocError, Global};
 
 /// The location symbol gets the value of the operand, unless it has one already.
@@ -17,14 +16,14 @@ pub fn equate<L: Lookup>(
     alloc: Global,
     recorder: &mut Recorder,
     state: &L,
-    block: Option<Name>,
+    control: Control,
     location: Location,
     operand: &Expr,
 ) -> Result<(), AllocError>
-    ensures { OnOk result (Does (symbols.equate block location operand.now) (L.answer state.now) recorder.old recorder.new) }
+    ensures { OnOk result (Does (symbols.equate control location operand.now) (L.answer state.now) recorder.old recorder.new) }
 {
     let is_taken = is_taken(recorder, state, location)?;
-    let value = value_here(alloc, recorder, state, block, operand)?;
+    let value = value_here(alloc, recorder, state, control, operand)?;
     equate_to(alloc, recorder, state, location, is_taken, value)
 }
 

@@ -6,7 +6,7 @@ ghost use Rattle.cps_pass.specs.NamesNow.{values_in, name_now};
 
 use crate::places::here_at;
 use cps_expr::{Expr, Names, Value, is_same_name};
-use cps_state::{Key, Lookup, Recorder, WORD, place_of, value_of};
+use cps_state::{Control, Key, Lookup, Recorder, WORD, place_of, value_of};
 use cps_text::Name;
 use std::alloc::{AllocError, Global};
 
@@ -58,30 +58,30 @@ fn value_among(names: &[NameNow], name: Name) -> Option<Value>
 fn here_in<L: Lookup>(
     recorder: &mut Recorder,
     state: &L,
-    block: Option<Name>,
+    control: Control,
     expression: &Expr,
 ) -> Result<Value, AllocError>
-    ensures { IfOk result (λ here. Hands (now.asking_here block expression.now) here (L.answer state.now) recorder.old recorder.new) }
+    ensures { IfOk result (λ here. Hands (now.asking_here control expression.now) here (L.answer state.now) recorder.old recorder.new) }
 {
     if !expression.has_counter() {
         return Ok(Value::plain(0));
     }
-    let answer = recorder.ask(state, Key::Counter(block))?;
-    let place = place_of(answer.as_ref());
-    Ok(here_at(block, WORD * place.word + u32::from(place.used)))
+    let answer = recorder.ask(state, Key::Counter(control.block))?;
+    let place = place_of(answer.as_ref(), control.machine);
+    Ok(here_at(control.block, WORD * place.word + u32::from(place.used)))
 }
 
-/// The value of an expression, where `*` is the address of the present word of a block.
+/// The value of an expression, where `*` is the address of the present word of the block in use.
 pub fn value_here<L: Lookup>(
     alloc: Global,
     recorder: &mut Recorder,
     state: &L,
-    block: Option<Name>,
+    control: Control,
     expression: &Expr,
 ) -> Result<ValueNow, AllocError>
-    ensures { IfOk result (λ value. Hands (now.now_here block expression.now) value (L.answer state.now) recorder.old recorder.new) }
+    ensures { IfOk result (λ value. Hands (now.now_here control expression.now) value (L.answer state.now) recorder.old recorder.new) }
 {
-    let here = here_in(recorder, state, block, expression)?;
+    let here = here_in(recorder, state, control, expression)?;
     let value = value_now(alloc, recorder, state, expression, here)?;
     Ok(value)
 }

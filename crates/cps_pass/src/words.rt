@@ -1,7 +1,8 @@
 //! CON, DATA and DIS: words from the beginning of a word on.
-ghost use Rattle.std.specs.Prelude.{◌≡◌, ◌<◌, ◌≤◌, ◌^◌, ◌*◌, ◌+◌, [], map, take, drop, length, All, IfOk, OnOk};
-ghost use Rattle.cps_expr.specs.Item.{bits_of, blank_code, characters_in_word, packed_characters};
+ghost use Rattle.std.specs.Prelude.{◌≡◌, ◌<◌, ◌^◌, ◌*◌, ◌/◌, ◌+◌, ◌-◌, take, drop, All, IfOk, OnOk};
+ghost use Rattle.cps_expr.specs.Item.{bits_of, characters_in_word, packed_characters};
 ghost use Rattle.cps_state.specs.Course.{Does};
+ghost use Rattle.cps_state.specs.Made.{width_of, IsContent};
 ghost use Rattle.cps_pass.specs.Sites.{IsSite};
 ghost use Rattle.cps_pass.specs.Words as meaning;
 
