@@ -1,2 +1,6 @@
 pub mod CourseLemmas
+pub mod PartLemmas
+pub mod SiteLemmas
+pub mod SizedLemmas
 pub mod StepLemmas
+pub mod WordLemmas

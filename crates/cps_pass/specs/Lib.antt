@@ -9,6 +9,7 @@ pub mod Numbers
 pub mod Places
 pub mod Placing
 pub mod Reading
+pub mod Readings
 pub mod Reserving
 pub mod Sites
 pub mod Symbols

@@ -40,6 +40,18 @@ unknown = fill (nothing_made (record no_flags { operation = true }))
 abbrev pub not_there : Control → Part
 not_there control = leaving_head control before unknown
 
+-- what ends the head, with its operands
+abbrev pub obeyed_in_body : Control → Location → Row → Part
+obeyed_in_body control location (row.Org terms) = org control location terms
+obeyed_in_body control location (row.Bss terms) = bss control location terms
+obeyed_in_body control location (row.Bssz terms) = bssz control location terms
+obeyed_in_body control location (row.Con values) = con control location values
+obeyed_in_body control location (row.Data numbers) = data_words control location numbers
+obeyed_in_body control location (row.Vfd fields) = vfd control location fields
+obeyed_in_body control location (row.Dis text) = dis control location text
+-- what isn't there yet: SET, USE, the IFs, ELSE, ENDIF, DUP, ENDD, MACRO and ENDM
+obeyed_in_body control location _ = unknown
+
 -- a statement with its operands
 abbrev pub obeyed : Control → Location → Row → Part
 obeyed control location (row.Ident name) = ident control location (Some name)
@@ -47,32 +59,28 @@ obeyed control location row.Abs = declaration control location Cp
 obeyed control location row.Periph = declaration control location Pp
 obeyed control location (row.Base radix) = base control location radix
 obeyed control location (row.Equate terms) = equate control location terms
-obeyed control location (row.Org terms) = leaving_head control before org (in_body control) location terms
 obeyed control location row.End = end control location
-obeyed control location (row.Bss terms) = leaving_head control before bss control location terms
-obeyed control location (row.Bssz terms) = leaving_head control before bssz control location terms
-obeyed control location (row.Con values) = leaving_head control before con control location values
-obeyed control location (row.Data numbers) = leaving_head control before data_words control location numbers
-obeyed control location (row.Vfd fields) = leaving_head control before vfd control location fields
-obeyed control location (row.Dis text) = leaving_head control before dis control location text
 obeyed control location row.Listing = fill (nothing_made (present_flags location))
--- what isn't there yet: SET, USE, the IFs, ELSE, ENDIF, DUP, ENDD, MACRO and ENDM
-obeyed control location _ = not_there control
+obeyed control location other = leaving_head control before obeyed_in_body (in_body control) location other
+
+-- what ends the head, with unreadable operands
+abbrev pub unreadable_in_body : Control → Location → Operation → Part
+unreadable_in_body control location operation.Org = unread_org control location
+unreadable_in_body control location operation.Bss = unread_words control location
+unreadable_in_body control location operation.Bssz = unread_words control location
+unreadable_in_body control location operation.Con = unread_words control location
+unreadable_in_body control location operation.Data = unread_words control location
+unreadable_in_body control location operation.Vfd = unread_vfd control location
+unreadable_in_body control location operation.Dis = unread_words control location
+-- what isn't there yet, and what reads no operands
+unreadable_in_body control location _ = unknown
 
 -- a statement with unreadable operands
 abbrev pub unreadable : Control → Location → Operation → Part
 unreadable control location operation.Ident = ident control location None
 unreadable control location operation.Base = unread location
 unreadable control location operation.Equate = unread_equate location
-unreadable control location operation.Org = leaving_head control before unread_org (in_body control) location
-unreadable control location operation.Bss = leaving_head control before unread_words control location
-unreadable control location operation.Bssz = leaving_head control before unread_words control location
-unreadable control location operation.Con = leaving_head control before unread_words control location
-unreadable control location operation.Data = leaving_head control before unread_words control location
-unreadable control location operation.Vfd = leaving_head control before unread_vfd control location
-unreadable control location operation.Dis = leaving_head control before unread_words control location
--- what isn't there yet, and what reads no operands
-unreadable control location _ = not_there control
+unreadable control location other = leaving_head control before unreadable_in_body (in_body control) location other
 
 abbrev pub stated : Control → Location → Stating → Part
 stated control location Missing = unknown

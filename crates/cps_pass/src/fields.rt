@@ -1,5 +1,5 @@
 //! VFD: fields of any width.
-ghost use Rattle.std.specs.Prelude.{◌≡◌, All, IfOk, OnOk};
+ghost use Rattle.std.specs.Prelude.{◌≡◌, ◌<◌, ◌≤◌, All, IfOk, IfSome, OnOk};
 ghost use Rattle.cps_state.specs.Course.{Does, Hands};
 ghost use Rattle.cps_state.specs.Made.{IsContent};
 ghost use Rattle.cps_pass.specs.Fields as meaning;
@@ -10,7 +10,7 @@ use crate::places::here_at;
 use crate::placing::{Site, ask_site, place, place_nothing, place_unread, placing_flags, start_for};
 use crate::reading::Location;
 use crate::value_now::{ValueNow, value_now};
-use cps_expr::{Expr, Field, Value};
+use cps_expr::{Expr, Field, Sequence, Value};
 use cps_state::{Content, Control, Flags, Lookup, Recorder};
 use std::alloc::{AllocError, Global};
 
@@ -24,9 +24,9 @@ pub fn vfd<L: Lookup>(
     state: &L,
     control: Control,
     location: Location,
-    fields: Vec<Field>,
+    fields: Sequence<Field>,
 ) -> Result<(), AllocError>
-    ensures { OnOk result (Does (meaning.vfd control location fields.items) (L.answer state.now) recorder.old recorder.new) }
+    ensures { OnOk result (Does (meaning.vfd control location fields) (L.answer state.now) recorder.old recorder.new) }
 {
     let site = ask_site(recorder, state, control, location)?;
     let here = here_at(site.block, start_for(site, 0).start);
@@ -59,34 +59,36 @@ fn size_fields<L: Lookup>(
     alloc: Global,
     recorder: &mut Recorder,
     state: &L,
-    fields: Vec<Field>,
+    fields: Sequence<Field>,
     here: Value,
 ) -> Result<Sized, AllocError>
-    ensures sized { IfOk result (λ sized. Hands (meaning.sizing fields.items here) (record { contents = sized.contents.items; flags = sized.flags }) (L.answer state.now) recorder.old recorder.new) }
+    ensures sized { IfOk result (λ sized. Hands (meaning.sizing fields here) (record { contents = sized.contents.items; flags = sized.flags }) (L.answer state.now) recorder.old recorder.new) }
     ensures each { IfOk result (λ sized. All IsContent sized.contents.items) }
 {
-    let mut sized = Sized {
-        contents: Vec::with_capacity(alloc, fields.len())?,
-        flags: Flags::none(),
-    };
+    let fields = fields.into_vec();
+    let mut contents = Vec::with_capacity(alloc, fields.len())?;
+    let mut flags = Flags::none();
     for field in fields {
         let width = value_now(alloc, recorder, state, &field.width, here)?;
         let bits = width_in(width);
-        sized.contents.push(field_with(field.value, bits))?;
-        sized.flags = sized.flags.joined(width_flags(width, bits));
+        contents.push(field_with(field.value, bits))?;
+        flags = flags.joined(width_flags(width, bits));
     }
-    Ok(sized)
+    Ok(Sized { contents, flags })
 }
 
 /// A width is a number from 1 to 60.
 fn width_in(value: ValueNow) -> Option<u8>
-    ensures { result ≡ meaning.width_in value }
+    ensures width { result ≡ meaning.width_in value }
+    ensures range { IfSome result (λ width. (0 < width) × (width ≤ 60)) }
 {
     between(1, MOST_BITS, plain_number(value))
 }
 
 fn field_with(value: Expr, width: Option<u8>) -> Content
-    ensures { result ≡ meaning.field_with value width }
+    requires { IfSome width (λ width. (0 < width) × (width ≤ 60)) }
+    ensures content { result ≡ meaning.field_with value width }
+    ensures is { IsContent result }
 {
     match width {
         None => Content::Unsized(value),

@@ -7,7 +7,6 @@ ghost use Rattle.cps_pass.specs.Sites.{IsSite};
 use crate::placing::{Site, ask_site, place, place_unread, start_for, word_start};
 use crate::reading::Location;
 use cps_code::CpForm;
-use cps_expr::Machine;
 use cps_peripheral::PpForm;
 use cps_state::{Content, Control, Lookup, Recorder};
 use std::alloc::{AllocError, Global};
@@ -21,7 +20,6 @@ pub fn instruction<L: Lookup>(
     location: Location,
     form: Option<CpForm>,
 ) -> Result<(), AllocError>
-    requires { control.machine ≡ Machine.Cp }
     ensures { OnOk result (Does (instructions.instruction control location form) (L.answer state.now) recorder.old recorder.new) }
 {
     let site = ask_site(recorder, state, control, location)?;
@@ -35,8 +33,7 @@ fn code<L: Lookup>(
     site: Site,
     form: Option<CpForm>,
 ) -> Result<(), AllocError>
-    requires site { IsSite site }
-    requires machine { site.machine ≡ Machine.Cp }
+    requires { IsSite site }
     ensures { OnOk result (Does (instructions.coded form site) (L.answer state.now) recorder.old recorder.new) }
 {
     let Some(form) = form else {

@@ -68,7 +68,6 @@ pub fn word_start(site: Site) -> Begun
 pub fn start_for(site: Site, bits: u8) -> Begun
     requires site { IsSite site }
     requires kind { (bits ≡ 0) ⊎ (bits ≡ 15) ⊎ (bits ≡ 30) }
-    requires machine { 0 < bits → site.machine ≡ Machine.Cp }
     ensures start { result.start ≡ placing.start_for site bits }
     ensures starts { Starts site result.start }
     ensures filling { option_to_list (option_map piece_of result.filling) ≡ filling_between (position site.place) result.start }

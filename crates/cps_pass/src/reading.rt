@@ -4,6 +4,7 @@ ghost use Rattle.cps_expr.specs.Operation.{operation_named};
 ghost use Rattle.cps_expr.specs.Statement.{row_of};
 ghost use Rattle.cps_text.specs.CardFields.{fields_value};
 ghost use Rattle.cps_text.specs.Name.{name_of};
+ghost use Rattle.cps_pass.specs.Readings.{IsStating, IsReading};
 ghost use Rattle.cps_pass.specs.Reading.{symbol_or_none, location_in, instruction_in, row_or_none, stating_in, reading_in, reading_of};
 
 use cps_code::{CpForm, FormFault, cp_form};
@@ -53,13 +54,15 @@ pub enum Reading {
 
 /// What a line says in a program for a machine, under a base of numbers.
 pub fn read_line(alloc: Global, line: &Line, machine: Machine, radix: Radix) -> Result<Reading, AllocError>
-    ensures { IfOk result (λ reading. reading ≡ reading_of machine radix line.now) }
+    ensures reading { IfOk result (λ reading. reading ≡ reading_of machine radix line.now) }
+    ensures bounded { IfOk result (IsReading machine) }
 {
     read_card(alloc, line.fields(), machine, radix)
 }
 
 fn read_card(alloc: Global, fields: Fields<'_>, machine: Machine, radix: Radix) -> Result<Reading, AllocError>
-    ensures { IfOk result (λ reading. reading ≡ reading_in machine radix (fields_value fields.entry)) }
+    ensures reading { IfOk result (λ reading. reading ≡ reading_in machine radix (fields_value fields.entry)) }
+    ensures bounded { IfOk result (IsReading machine) }
 {
     match fields {
         Fields::Comment => Ok(Reading::Comment),
@@ -108,7 +111,8 @@ fn read_stating(
     machine: Machine,
     radix: Radix,
 ) -> Result<Stating, AllocError>
-    ensures { IfOk result (λ stating. stating ≡ stating_in machine radix operation.now tail.now) }
+    ensures stating { IfOk result (λ stating. stating ≡ stating_in machine radix operation.now tail.now) }
+    ensures bounded { IfOk result (IsStating machine) }
 {
     if is_text(operation, b"") {
         return Ok(Stating::Missing);
@@ -128,7 +132,8 @@ fn read_statement(
     radix: Radix,
 ) -> Result<Stating, AllocError>
     requires { Some named ≡ operation_named operation.now }
-    ensures { IfOk result (λ stating. stating ≡ row_or_none named (row_of operation.now tail.now machine radix)) }
+    ensures stating { IfOk result (λ stating. stating ≡ row_or_none named (row_of operation.now tail.now machine radix)) }
+    ensures bounded { IfOk result (IsStating machine) }
 {
     match Stmt::read(alloc, operation, tail, machine, radix) {
         Ok(statement) => Ok(Stating::Stated(statement)),
@@ -145,7 +150,8 @@ fn read_instruction(
     machine: Machine,
     radix: Radix,
 ) -> Result<Stating, AllocError>
-    ensures { IfOk result (λ stating. stating ≡ instruction_in machine radix operation.now tail.now) }
+    ensures stating { IfOk result (λ stating. stating ≡ instruction_in machine radix operation.now tail.now) }
+    ensures bounded { IfOk result (IsStating machine) }
 {
     match machine {
         Machine::Cp => read_central(alloc, operation, tail, radix),
@@ -159,7 +165,8 @@ fn read_central(
     tail: &[u8],
     radix: Radix,
 ) -> Result<Stating, AllocError>
-    ensures { IfOk result (λ stating. stating ≡ instruction_in Machine.Cp radix operation.now tail.now) }
+    ensures stating { IfOk result (λ stating. stating ≡ instruction_in Machine.Cp radix operation.now tail.now) }
+    ensures bounded { IfOk result (IsStating Machine.Cp) }
 {
     match cp_form(alloc, operation, tail, radix) {
         Ok(form) => Ok(Stating::Instruction(Some(form))),
@@ -175,7 +182,8 @@ fn read_peripheral(
     tail: &[u8],
     radix: Radix,
 ) -> Result<Stating, AllocError>
-    ensures { IfOk result (λ stating. stating ≡ instruction_in Machine.Pp radix operation.now tail.now) }
+    ensures stating { IfOk result (λ stating. stating ≡ instruction_in Machine.Pp radix operation.now tail.now) }
+    ensures bounded { IfOk result (IsStating Machine.Pp) }
 {
     match pp_form(alloc, operation, tail, radix) {
         Ok(form) => Ok(Stating::Peripheral(Some(form))),

@@ -8,6 +8,7 @@ ghost use Rattle.cps_state.specs.Keys as keys;
 ghost use Rattle.cps_state.specs.Work.{raised};
 ghost use Rattle.cps_state.specs.declared.work.Tally.TheVariants as tally;
 ghost use Rattle.cps_pass.specs.Meaning as meaning;
+ghost use Rattle.cps_pass.specs.Readings.{IsStating, IsReading};
 
 use crate::blocks::{end, org, unread_org};
 use crate::fields::{unread_vfd, vfd};
@@ -19,7 +20,7 @@ use crate::reading::{Location, Reading, Stating, read_line};
 use crate::reserving::{bss, bssz};
 use crate::symbols::{equate, unread_equate};
 use crate::words::{con, data_words, dis, unread_words};
-use cps_expr::{Machine, Operation, Row, Stmt};
+use cps_expr::{Machine, Operation, Row};
 use cps_state::{Control, Flags, Key, Lookup, Phase, Recorder, Tally, Trace, Work, control_of};
 use cps_text::{Fields, Line};
 use std::alloc::{AllocError, Global};
@@ -122,6 +123,7 @@ fn before_end<L: Lookup>(
     control: Control,
     reading: Reading,
 ) -> Result<(), AllocError>
+    requires { IsReading control.machine reading }
     ensures { OnOk result (Does (meaning.before_end control reading) (L.answer state.now) recorder.old recorder.new) }
 {
     match reading {
@@ -147,6 +149,7 @@ fn obey<L: Lookup>(
     location: Location,
     stating: Stating,
 ) -> Result<(), AllocError>
+    requires { IsStating control.machine stating }
     ensures { OnOk result (Does (meaning.stated control location stating) (L.answer state.now) recorder.old recorder.new) }
 {
     match stating {
@@ -155,9 +158,14 @@ fn obey<L: Lookup>(
             Ok(())
         }
         Stating::Unknown => not_there(alloc, recorder, state, control),
-        Stating::Stated(statement) => {
-            obey_statement(alloc, recorder, state, control, location, statement)
-        }
+        Stating::Stated(statement) => obey_statement(
+            alloc,
+            recorder,
+            state,
+            control,
+            location,
+            statement.into_row(),
+        ),
         Stating::Unreadable(operation) => {
             flag_unreadable(alloc, recorder, state, control, location, operation)
         }
@@ -179,32 +187,31 @@ fn obey_statement<L: Lookup>(
     state: &L,
     control: Control,
     location: Location,
-    statement: Stmt,
+    row: Row,
 ) -> Result<(), AllocError>
-    requires { IsBounded control.machine statement }
-    ensures { OnOk result (Does (meaning.obeyed control location statement) (L.answer state.now) recorder.old recorder.new) }
+    requires { IsBounded control.machine row }
+    ensures { OnOk result (Does (meaning.obeyed control location row) (L.answer state.now) recorder.old recorder.new) }
 {
-    match statement.into_row() {
+    match row {
         Row::Ident(name) => ident(alloc, recorder, state, control, location, Some(name)),
         Row::Abs => declaration(alloc, recorder, state, control, location, Machine::Cp),
         Row::Periph => declaration(alloc, recorder, state, control, location, Machine::Pp),
         Row::Base(radix) => base(alloc, recorder, state, control, location, radix),
         Row::Equate(operand) => equate(alloc, recorder, state, control, location, &operand),
-        Row::Org(operand) => {
-            leave_head(recorder, state, control)?;
-            org(alloc, recorder, state, in_body(control), location, &operand)
-        }
         Row::End => end(alloc, recorder, state, control, location),
         Row::Listing => {
             flag(alloc, recorder, present_flags(location));
             Ok(())
         }
-        row => obey_placing(alloc, recorder, state, control, location, row),
+        row => {
+            leave_head(recorder, state, control)?;
+            obey_in_body(alloc, recorder, state, in_body(control), location, row)
+        }
     }
 }
 
-/// A statement that places words or fields.
-fn obey_placing<L: Lookup>(
+/// A statement that ends the head, with its operands.
+fn obey_in_body<L: Lookup>(
     alloc: Global,
     recorder: &mut Recorder,
     state: &L,
@@ -213,17 +220,15 @@ fn obey_placing<L: Lookup>(
     row: Row,
 ) -> Result<(), AllocError>
     requires { IsBounded control.machine row }
-    ensures { OnOk result (Does (meaning.obeyed control location row) (L.answer state.now) recorder.old recorder.new) }
+    ensures { OnOk result (Does (meaning.obeyed_in_body control location row) (L.answer state.now) recorder.old recorder.new) }
 {
-    leave_head(recorder, state, control)?;
     match row {
+        Row::Org(operand) => org(alloc, recorder, state, control, location, &operand),
         Row::Bss(operand) => bss(alloc, recorder, state, control, location, &operand),
         Row::Bssz(operand) => bssz(alloc, recorder, state, control, location, &operand),
-        Row::Con(values) => con(alloc, recorder, state, control, location, values.into_vec()),
-        Row::Data(numbers) => {
-            data_words(alloc, recorder, state, control, location, numbers.as_slice())
-        }
-        Row::Vfd(fields) => vfd(alloc, recorder, state, control, location, fields.into_vec()),
+        Row::Con(values) => con(alloc, recorder, state, control, location, values),
+        Row::Data(numbers) => data_words(alloc, recorder, state, control, location, &numbers),
+        Row::Vfd(fields) => vfd(alloc, recorder, state, control, location, fields),
         Row::Dis(text) => dis(alloc, recorder, state, control, location, &text),
         _ => {
             unknown(alloc, recorder);
@@ -250,18 +255,40 @@ fn flag_unreadable<L: Lookup>(
             Ok(())
         }
         Operation::Equate => unread_equate(alloc, recorder, state, location),
-        Operation::Org => {
+        operation => {
             leave_head(recorder, state, control)?;
-            unread_org(alloc, recorder, state, in_body(control), location)
+            flag_in_body(
+                alloc,
+                recorder,
+                state,
+                in_body(control),
+                location,
+                operation,
+            )
         }
+    }
+}
+
+/// A statement that ends the head, with unreadable operands.
+fn flag_in_body<L: Lookup>(
+    alloc: Global,
+    recorder: &mut Recorder,
+    state: &L,
+    control: Control,
+    location: Location,
+    operation: Operation,
+) -> Result<(), AllocError>
+    ensures { OnOk result (Does (meaning.unreadable_in_body control location operation) (L.answer state.now) recorder.old recorder.new) }
+{
+    match operation {
+        Operation::Org => unread_org(alloc, recorder, state, control, location),
         Operation::Bss | Operation::Bssz | Operation::Con | Operation::Data | Operation::Dis => {
-            leave_head(recorder, state, control)?;
             unread_words(alloc, recorder, state, control, location)
         }
-        Operation::Vfd => {
-            leave_head(recorder, state, control)?;
-            unread_vfd(alloc, recorder, state, control, location)
+        Operation::Vfd => unread_vfd(alloc, recorder, state, control, location),
+        _ => {
+            unknown(alloc, recorder);
+            Ok(())
         }
-        _ => not_there(alloc, recorder, state, control),
     }
 }

@@ -11,7 +11,7 @@ use crate::places::here_at;
 use crate::placing::{Site, ask_site, place, place_nothing, place_unread, word_start};
 use crate::reading::Location;
 use crate::value_now::value_now;
-use cps_expr::{DisText, Expr, Machine, pack_characters};
+use cps_expr::{DisText, Expr, Machine, Sequence, pack_characters};
 use cps_state::{Content, Control, Lookup, Recorder, word_bits};
 use std::alloc::{AllocError, Global};
 
@@ -56,20 +56,21 @@ pub fn con<L: Lookup>(
     state: &L,
     control: Control,
     location: Location,
-    values: Vec<Expr>,
+    values: Sequence<Expr>,
 ) -> Result<(), AllocError>
-    ensures { OnOk result (Does (meaning.con control location values.items) (L.answer state.now) recorder.old recorder.new) }
+    ensures { OnOk result (Does (meaning.con control location values) (L.answer state.now) recorder.old recorder.new) }
 {
     let site = ask_site(recorder, state, control, location)?;
     let contents = value_words(alloc, control.machine, values)?;
     place_words(recorder, state, site, contents)
 }
 
-fn value_words(alloc: Global, machine: Machine, values: Vec<Expr>) -> Result<Vec<Content>, AllocError>
-    ensures contents { IfOk result (λ contents. contents.items ≡ meaning.value_words machine values.items) }
+fn value_words(alloc: Global, machine: Machine, values: Sequence<Expr>) -> Result<Vec<Content>, AllocError>
+    ensures contents { IfOk result (λ contents. contents.items ≡ meaning.value_words machine values) }
     ensures each { IfOk result (λ contents. All IsContent contents.items) }
     ensures some { IfOk result (λ contents. All (λ content. 0 < width_of content) contents.items) }
 {
+    let values = values.into_vec();
     let mut contents = Vec::with_capacity(alloc, values.len())?;
     for value in values {
         contents.push(Content::Value(word_bits(machine), value))?;
@@ -84,7 +85,7 @@ pub fn data_words<L: Lookup>(
     state: &L,
     control: Control,
     location: Location,
-    numbers: &[u64],
+    numbers: &Sequence<u64>,
 ) -> Result<(), AllocError>
     requires { All (λ number. number < 2 ^ bits_of control.machine) numbers.now }
     ensures { OnOk result (Does (meaning.data_words control location numbers.now) (L.answer state.now) recorder.old recorder.new) }
@@ -94,12 +95,13 @@ pub fn data_words<L: Lookup>(
     place_words(recorder, state, site, contents)
 }
 
-fn number_words(alloc: Global, machine: Machine, numbers: &[u64]) -> Result<Vec<Content>, AllocError>
+fn number_words(alloc: Global, machine: Machine, numbers: &Sequence<u64>) -> Result<Vec<Content>, AllocError>
     requires { All (λ number. number < 2 ^ bits_of machine) numbers.now }
     ensures contents { IfOk result (λ contents. contents.items ≡ meaning.number_words machine numbers.now) }
     ensures each { IfOk result (λ contents. All IsContent contents.items) }
     ensures some { IfOk result (λ contents. All (λ content. 0 < width_of content) contents.items) }
 {
+    let numbers = numbers.as_slice();
     let mut contents = Vec::with_capacity(alloc, numbers.len())?;
     for number in numbers {
         contents.push(Content::Number(word_bits(machine), *number))?;
@@ -121,12 +123,10 @@ pub fn dis<L: Lookup>(
     let site = ask_site(recorder, state, control, location)?;
     match text {
         DisText::Counted(count, text) => {
-            display_counted(alloc, recorder, state, site, count, text.as_slice())
+            display_counted(alloc, recorder, state, site, count, text)
         }
         DisText::Delimited(text) => {
-            let text = text.as_slice();
-            let count = delimited_count(site.machine, text.len());
-            let contents = text_words(alloc, site.machine, 0, count, text)?;
+            let contents = delimited_words(alloc, site.machine, text)?;
             place_words(recorder, state, site, contents)
         }
     }
@@ -138,7 +138,7 @@ fn display_counted<L: Lookup>(
     state: &L,
     site: Site,
     count: &Expr,
-    text: &[u8],
+    text: &Sequence<u8>,
 ) -> Result<(), AllocError>
     requires { IsSite site }
     ensures { OnOk result (Does (meaning.displayed (DisText.Counted count.now text.now) site) (L.answer state.now) recorder.old recorder.new) }
@@ -150,7 +150,7 @@ fn display_counted<L: Lookup>(
         let flags = no_number_flags(site, value);
         return place_nothing(recorder, state, site, begun, flags, Vec::new(alloc));
     };
-    let contents = text_words(alloc, site.machine, BLANK, usize::from(count), text)?;
+    let contents = text_words(alloc, site.machine, BLANK, usize::from(count), text.as_slice())?;
     place_words(recorder, state, site, contents)
 }
 
@@ -162,6 +162,16 @@ fn characters_in_word(machine: Machine) -> usize
         Machine::Cp => 10,
         Machine::Pp => 2,
     }
+}
+
+/// Words of characters with at least 12 zero bits behind them.
+fn delimited_words(alloc: Global, machine: Machine, text: &Sequence<u8>) -> Result<Vec<Content>, AllocError>
+    ensures contents { IfOk result (λ contents. contents.items ≡ meaning.number_words machine (meaning.delimited_words machine text.now)) }
+    ensures each { IfOk result (λ contents. All IsContent contents.items) }
+    ensures some { IfOk result (λ contents. All (λ content. 0 < width_of content) contents.items) }
+{
+    let text = text.as_slice();
+    text_words(alloc, machine, 0, delimited_count(machine, text.len()), text)
 }
 
 /// How many words so many characters take with at least 12 zero bits behind them.

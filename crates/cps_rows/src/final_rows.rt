@@ -69,6 +69,8 @@ fn row(location: Option<u64>, code: Option<(u8, u64)>) -> Row {
             Some((count, number)) => Some(Digits { count, number }),
             None => None,
         },
+        second: None,
+        is_later: false,
     }
 }
 

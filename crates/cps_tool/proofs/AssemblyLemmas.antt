@@ -8,7 +8,7 @@ use Rattle.cps_state.specs.Keys.{State, first_state, with_put, overwritten}
 use Rattle.cps_state.specs.Course.{Trace}
 use Rattle.cps_pass.specs.Meaning.{trace_of}
 use Rattle.cps_final.specs.Layout.{puts_of}
-use Rattle.cps_final.specs.Finals.{Finals, finals_of, program_of, final_value}
+use Rattle.cps_final.specs.Finals.{Finals, finals_of, final_value}
 use Rattle.cps_final.specs.Outcome.{Outcome, outcome_of}
 use Rattle.cps_code.specs.Image.{Piece}
 use Rattle.cps_tool.specs.Assembly.{after, state_after, traces_from, traces_of, outcomes_under, outcomes_of, pieces_in}
@@ -114,9 +114,9 @@ unfolding assembled_behind
 outcomes-kept traces finals kept lines same same-finals is =
     (λ i. outcomes_under (same-finals i) (same i)) ∙ ap (λ (a : Assembled). outcomes_under a.finals a.traces) is
 
-pub program-kept : (finals : Finals) (kept : Assembled) (lines : List (List ℕ)) → finals ≡ kept.finals → kept ≡ assembled_of lines → finals.program ≡ program_of (traces_of lines)
+pub finals-kept : (finals : Finals) (kept : Assembled) (lines : List (List ℕ)) → finals ≡ kept.finals → kept ≡ assembled_of lines → finals ≡ finals_of (traces_of lines)
 unfolding assembled_behind
-program-kept finals kept lines same is = ap (λ (f : Finals). f.program) same ∙ ap (λ (a : Assembled). a.finals.program) is
+finals-kept finals kept lines same is = same ∙ ap (λ (a : Assembled). a.finals) is
 
 -- ---- edits
 

@@ -2,6 +2,7 @@
 use Rattle.std.proofs.Common.{◌≡◌, ℕ, zero, suc, ◌+◌, List, [], ◌∷◌, ◌++◌, refl, ap, ◌∙◌, append-nil, arith}
 use Rattle.std.specs.List.{flat_map, range_with_len}
 use Rattle.std.proofs.lemmas.Grind.{flat_map-append}
+use Rattle.cps_expr.specs.declared.machine.Machine.{Machine}
 use Rattle.cps_code.specs.Image.{Piece, packed_word}
 use Rattle.cps_tool.specs.Binary.{word_row, rows_below}
 
@@ -12,13 +13,14 @@ range-more from (suc count) =
     let last : from + 1 + count ≡ from + suc count = omega arith in
     rw next (ap (λ range. from ∷ range) (range-more (from + 1) count) ∙ ap (λ n. from ∷ (range_with_len (from + 1) count ++ n ∷ [])) last)
 
-pub rows_below-none : (pieces : List Piece) → rows_below 0 pieces ≡ []
+pub rows_below-none : (machine : Machine) (pieces : List Piece) → rows_below 0 machine pieces ≡ []
 unfolding rows_below
-rows_below-none pieces = refl
+rows_below-none machine pieces = refl
 
-pub rows_below-more : (address : ℕ) (pieces : List Piece) → rows_below (address + 1) pieces ≡ rows_below address pieces ++ word_row address (packed_word pieces address)
+pub rows_below-more : (address : ℕ) (machine : Machine) (pieces : List Piece)
+    → rows_below (address + 1) machine pieces ≡ rows_below address machine pieces ++ word_row machine address (packed_word pieces address)
 unfolding rows_below
-rows_below-more address pieces =
-    ap (flat_map (λ a. word_row a (packed_word pieces a))) (range-more 0 address)
-    ∙ flat_map-append (λ a. word_row a (packed_word pieces a)) (range_with_len 0 address) ((0 + address) ∷ [])
+rows_below-more address machine pieces =
+    ap (flat_map (λ a. word_row machine a (packed_word pieces a))) (range-more 0 address)
+    ∙ flat_map-append (λ a. word_row machine a (packed_word pieces a)) (range_with_len 0 address) ((0 + address) ∷ [])
     ∙ (let same : 0 + address ≡ address = omega arith in rw (same, append-nil) refl)

@@ -1,27 +1,35 @@
 -- The binary text: the program's name, and each word in octal behind its address. The layout is our profile's.
-use Rattle.std.specs.Prelude.{ℕ, List, [], ◌++◌, codes, flat_map, Option, None, Some}
+use Rattle.std.specs.Prelude.{ℕ, ◌/◌, ◌^◌, List, [], ◌++◌, codes, flat_map, Option, None, Some}
 use Rattle.std.specs.List.{range_with_len}
 use Rattle.cps_text.specs.declared.name.Name.{Name}
 use Rattle.cps_text.specs.Name.{name_text}
-use Rattle.cps_code.specs.Image.{Piece, packed_word}
-use Rattle.cps_state.specs.Keys.{limit}
 use Rattle.cps_text.specs.Octal.{octal}
-use Rattle.cps_final.specs.Finals.{program_of}
+use Rattle.cps_expr.specs.declared.machine.Machine.{Machine}
+use Rattle.cps_expr.specs.declared.machine.Machine.TheVariants.{Cp, Pp}
+use Rattle.cps_code.specs.Image.{Piece, packed_word}
+use Rattle.cps_state.specs.Machines.{limit}
+use Rattle.cps_final.specs.Finals.{Finals, finals_of, machine_of}
+use Rattle.cps_final.specs.Outcome.{Outcome}
 use Rattle.cps_tool.specs.Assembly.{traces_of, outcomes_of, pieces_in}
 
 abbrev pub first_row : Option Name → List ℕ
 first_row None = codes "IDENT\n"
 first_row (Some name) = codes "IDENT " ++ name_text name ++ codes "\n"
 
--- the row of a word; no row where there is none
-abbrev pub word_row : ℕ → Option ℕ → List ℕ
-word_row address None = []
-word_row address (Some word) = octal 6 address ++ codes " " ++ octal 20 word ++ codes "\n"
+-- the row of a word; no row where there is none. A peripheral processor's word is the first 12 of the 60 bits.
+abbrev pub word_row : Machine → ℕ → Option ℕ → List ℕ
+word_row machine address None = []
+word_row Cp address (Some word) = octal 6 address ++ codes " " ++ octal 20 word ++ codes "\n"
+word_row Pp address (Some word) = octal 4 address ++ codes " " ++ octal 4 (word / 2 ^ 48) ++ codes "\n"
 
 -- the rows of the words that pieces make, by rising addresses below one
-unfoldable pub rows_below : ℕ → List Piece → List ℕ
-rows_below count pieces = flat_map (λ address. word_row address (packed_word pieces address)) (range_with_len 0 count)
+unfoldable pub rows_below : ℕ → Machine → List Piece → List ℕ
+rows_below count machine pieces = flat_map (λ address. word_row machine address (packed_word pieces address)) (range_with_len 0 count)
+
+-- the binary text of what lines make, with these final values
+abbrev pub text_under : Finals → List Outcome → List ℕ
+text_under finals outcomes = first_row finals.program ++ rows_below (limit (machine_of finals)) (machine_of finals) (pieces_in outcomes)
 
 -- the binary text of a source
 abbrev pub binary_text : List (List ℕ) → List ℕ
-binary_text lines = first_row (program_of (traces_of lines)) ++ rows_below limit (pieces_in (outcomes_of lines))
+binary_text lines = text_under (finals_of (traces_of lines)) (outcomes_of lines)

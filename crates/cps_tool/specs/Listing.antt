@@ -1,7 +1,7 @@
--- The listing: a row for each statement, with its flags, its address, its code and the line as it was given.
+-- The listing: the rows of each statement, with their flags, their addresses and their codes, and beside the first the line as it was given.
 -- The columns are our profile's. They are counted from 1: flags in 1 to 8, the address in 10 to 15, the code in 17 to 36,
 -- the line's number in 38 to 43, the line from 45 on; columns between are blank, and blanks at the end are cut.
-use Rattle.std.specs.Prelude.{ℕ, ◌+◌, ◌-◌, List, [], ◌∷◌, ◌++◌, length, replicate, slice_index, codes, decimal, flat_map, Option, None, Some, if◌then◌else◌}
+use Rattle.std.specs.Prelude.{ℕ, ◌+◌, ◌-◌, Bool, List, [], ◌∷◌, ◌++◌, length, replicate, slice_index, codes, decimal, flat_map, Option, None, Some, if◌then◌else◌}
 use Rattle.std.specs.List.{list_all}
 use Rattle.cps_text.specs.Text.{is_blank}
 use Rattle.cps_text.specs.Octal.{octal}
@@ -29,6 +29,11 @@ abbrev pub code_text : Option Digits → List ℕ
 code_text None = []
 code_text (Some digits) = octal digits.count digits.number
 
+-- the second word of an instruction, behind a blank
+abbrev pub second_text : Option Digits → List ℕ
+second_text None = []
+second_text (Some digits) = codes " " ++ octal digits.count digits.number
+
 -- a text without the blanks at its end
 abbrev pub trimmed : List ℕ → List ℕ
 trimmed [] = []
@@ -37,10 +42,15 @@ trimmed (c ∷ text) = if list_all is_blank (c ∷ text) then [] else c ∷ trim
 -- the columns of the flags, the address and the code, each with a blank behind it
 abbrev pub row_columns : Row → List ℕ
 row_columns row =
-    at_left 8 (letters row.flags) ++ codes " " ++ at_left 6 (address_text row.location) ++ codes " " ++ at_left 20 (code_text row.code) ++ codes " "
+    at_left 8 (letters row.flags) ++ codes " " ++ at_left 6 (address_text row.location) ++ codes " "
+    ++ at_left 20 (code_text row.code ++ second_text row.second) ++ codes " "
+
+-- a line behind its number; later rows of a statement show neither
+abbrev pub numbered : Bool → ℕ → List ℕ → List ℕ
+numbered is_later number line = if is_later then [] else at_right 6 (decimal number) ++ codes " " ++ line
 
 abbrev pub listing_row : ℕ → List ℕ → Row → List ℕ
-listing_row number line row = trimmed (row_columns row ++ at_right 6 (decimal number) ++ codes " " ++ line) ++ codes "\n"
+listing_row number line row = trimmed (row_columns row ++ numbered row.is_later number line) ++ codes "\n"
 
 -- the rows of a line
 abbrev pub line_rows : ℕ → List ℕ → List Row → List ℕ

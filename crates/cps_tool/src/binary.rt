@@ -1,32 +1,42 @@
 //! The binary text.
-ghost use Rattle.std.specs.Prelude.{◌≡◌, ◌++◌, ℕ, IfOk, OnOk, List, Option, map};
+ghost use Rattle.std.specs.Prelude.{◌≡◌, ◌++◌, ℕ, IfOk, OnOk, List, Option, map, codes};
+ghost use Rattle.cps_text.specs.Octal.{octal};
 ghost use Rattle.cps_code.specs.Image as image;
 ghost use Rattle.cps_code.specs.Image.{piece_of, ArePacked};
-ghost use Rattle.cps_state.specs.Keys.{limit};
+ghost use Rattle.cps_state.specs.Machines.{limit};
 ghost use Rattle.cps_tool.specs.Assembly.{outcomes_under, pieces_in};
 ghost use Rattle.cps_tool.specs.Making.{Adds};
 ghost use Rattle.cps_tool.specs.Binary as texts;
 
 use cps_code::{Piece, Words};
+use cps_expr::Machine;
 use cps_final::{Finals, Gathered, step_two};
-use cps_pass::{LIMIT, Trace, Work};
+use cps_pass::{Trace, Work, limit_of};
 use cps_text::{Name, push_octal};
 use std::alloc::{AllocError, Global};
 
-/// The octal digits of an address and of a word.
-const ADDRESS_DIGITS: u8 = 6;
+/// The octal digits of an address and of a word of the central processor.
+const CP_ADDRESS_DIGITS: u8 = 6;
 
-const WORD_DIGITS: u8 = 20;
+const CP_WORD_DIGITS: u8 = 20;
+
+/// The octal digits of an address and of a word of a peripheral processor.
+const PP_ADDRESS_DIGITS: u8 = 4;
+
+const PP_WORD_DIGITS: u8 = 4;
+
+/// The bits of a word that are behind those of a peripheral processor.
+const BITS_BEHIND: u32 = 48;
 
 /// The binary text of lines that did this in pass one.
 pub fn binary_text(alloc: Global, traces: &[Trace], finals: &Finals) -> Result<Vec<u8>, AllocError>
-    ensures { IfOk result (λ text. text.items ≡ texts.first_row (⟦<Finals as Gathered>⟧.gathered finals.now).program
-        ++ texts.rows_below limit (pieces_in (outcomes_under (⟦<Finals as Gathered>⟧.gathered finals.now) traces.now))) }
+    ensures { IfOk result (λ text. text.items
+        ≡ texts.text_under (⟦<Finals as Gathered>⟧.gathered finals.now) (outcomes_under (⟦<Finals as Gathered>⟧.gathered finals.now) traces.now)) }
 {
     let words = make_words(alloc, traces, finals)?;
     let mut text = Vec::new(alloc);
     push_first_row(&mut text, finals.program())?;
-    push_rows(&mut text, &words)?;
+    push_rows(&mut text, finals.machine(), &words)?;
     Ok(text)
 }
 
@@ -64,24 +74,49 @@ fn push_first_row(text: &mut Vec<u8>, program: Option<Name>) -> Result<(), Alloc
     Ok(())
 }
 
-fn push_rows(text: &mut Vec<u8>, words: &Words) -> Result<(), AllocError>
-    ensures { (pieces : List image.Piece) → ArePacked pieces words.now → OnOk result (text.new.items ≡ text.old.items ++ texts.rows_below limit pieces) }
+fn push_rows(text: &mut Vec<u8>, machine: Machine, words: &Words) -> Result<(), AllocError>
+    ensures { (pieces : List image.Piece) → ArePacked pieces words.now
+        → OnOk result (text.new.items ≡ text.old.items ++ texts.rows_below (limit machine) machine pieces) }
 {
-    for address in 0..LIMIT {
-        push_row(text, address, words.get(address))?;
+    for address in 0..limit_of(machine) {
+        push_row(text, machine, address, words.get(address))?;
     }
     Ok(())
 }
 
-fn push_row(text: &mut Vec<u8>, address: u32, word: Option<u64>) -> Result<(), AllocError>
-    ensures { OnOk result (text.new.items ≡ text.old.items ++ texts.word_row address word) }
+fn push_row(
+    text: &mut Vec<u8>,
+    machine: Machine,
+    address: u32,
+    word: Option<u64>,
+) -> Result<(), AllocError>
+    ensures { OnOk result (text.new.items ≡ text.old.items ++ texts.word_row machine address word) }
 {
     let Some(word) = word else {
         return Ok(());
     };
-    push_octal(text, u64::from(address), ADDRESS_DIGITS)?;
+    match machine {
+        Machine::Cp => push_numbers(text, address, CP_ADDRESS_DIGITS, word, CP_WORD_DIGITS),
+        Machine::Pp => {
+            let own = word >> BITS_BEHIND;
+            push_numbers(text, address, PP_ADDRESS_DIGITS, own, PP_WORD_DIGITS)
+        }
+    }
+}
+
+/// An address and a word, each with so many digits.
+fn push_numbers(
+    text: &mut Vec<u8>,
+    address: u32,
+    address_digits: u8,
+    word: u64,
+    word_digits: u8,
+) -> Result<(), AllocError>
+    ensures { OnOk result (text.new.items ≡ text.old.items ++ (octal address_digits address ++ codes " " ++ octal word_digits word ++ codes "\n")) }
+{
+    push_octal(text, u64::from(address), address_digits)?;
     text.push(b' ')?;
-    push_octal(text, word, WORD_DIGITS)?;
+    push_octal(text, word, word_digits)?;
     text.push(b'\n')?;
     Ok(())
 }

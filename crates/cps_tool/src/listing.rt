@@ -69,9 +69,10 @@ fn push_line(text: &mut Vec<u8>, number: usize, line: &[u8], rows: &[Row]) -> Re
 fn push_row(text: &mut Vec<u8>, number: usize, line: &[u8], row: Row) -> Result<(), AllocError>
     ensures { OnOk result (text.new.items ≡ text.old.items ++ texts.listing_row number line.now row) }
 {
+    let before = text.len();
     push_columns(text, row)?;
-    push_number(text, number)?;
-    push_trimmed(text, line)?;
+    push_numbered(text, row.is_later, number, line)?;
+    cut_blanks(text, before);
     text.push(b'\n')?;
     Ok(())
 }
@@ -84,7 +85,7 @@ fn push_columns(text: &mut Vec<u8>, row: Row) -> Result<(), AllocError>
     text.push(b' ')?;
     push_address(text, row.location)?;
     text.push(b' ')?;
-    push_code(text, row.code)?;
+    push_code(text, row.code, row.second)?;
     text.push(b' ')?;
     Ok(())
 }
@@ -107,11 +108,19 @@ fn push_address(text: &mut Vec<u8>, location: Option<u64>) -> Result<(), AllocEr
     fill_columns(text, before, ADDRESS_COLUMNS)
 }
 
-fn push_code(text: &mut Vec<u8>, code: Option<Digits>) -> Result<(), AllocError>
-    ensures { OnOk result (text.new.items ≡ text.old.items ++ texts.at_left CODE_COLUMNS (texts.code_text code)) }
+fn push_code(
+    text: &mut Vec<u8>,
+    code: Option<Digits>,
+    second: Option<Digits>,
+) -> Result<(), AllocError>
+    ensures { OnOk result (text.new.items ≡ text.old.items ++ texts.at_left CODE_COLUMNS (texts.code_text code ++ texts.second_text second)) }
 {
     let before = text.len();
     if let Some(digits) = code {
+        push_octal(text, digits.number, digits.count)?;
+    }
+    if let Some(digits) = second {
+        text.push(b' ')?;
         push_octal(text, digits.number, digits.count)?;
     }
     fill_columns(text, before, CODE_COLUMNS)
@@ -134,6 +143,23 @@ fn push_blanks(text: &mut Vec<u8>, count: usize) -> Result<(), AllocError>
     text.resize(text.len() + count, b' ')
 }
 
+/// A line behind its number, which later rows of a statement don't show.
+fn push_numbered(
+    text: &mut Vec<u8>,
+    is_later: bool,
+    number: usize,
+    line: &[u8],
+) -> Result<(), AllocError>
+    ensures { OnOk result (text.new.items ≡ text.old.items ++ texts.numbered is_later number line.now) }
+{
+    if is_later {
+        return Ok(());
+    }
+    push_number(text, number)?;
+    text.push(b' ')?;
+    text.extend_from_slice(line)
+}
+
 /// A line's number, at the right of its columns.
 fn push_number(text: &mut Vec<u8>, number: usize) -> Result<(), AllocError>
     ensures { OnOk result (text.new.items ≡ text.old.items ++ texts.at_right NUMBER_COLUMNS (decimal number)) }
@@ -144,32 +170,17 @@ fn push_number(text: &mut Vec<u8>, number: usize) -> Result<(), AllocError>
     text.extend_from_slice(digits)
 }
 
-/// A blank and a line, without the blanks at their end.
-fn push_trimmed(text: &mut Vec<u8>, line: &[u8]) -> Result<(), AllocError>
-    ensures { OnOk result (text.new.items ≡ text.old.items ++ texts.trimmed (codes " " ++ line.now)) }
+/// Cuts the blanks at the end of a row that begins at a length.
+fn cut_blanks(text: &mut Vec<u8>, before: usize)
+    requires { before ≤ length text.old.items }
+    ensures { (front row : List ℕ) → text.old.items ≡ front ++ row → before ≡ length front → text.new.items ≡ front ++ texts.trimmed row }
 {
-    let shown = trimmed(line);
-    if shown.is_empty() {
-        return Ok(());
-    }
-    push_shown(text, shown)
+    let (_, row) = text.split_at(before);
+    let kept = trimmed_length(row);
+    text.truncate(before + kept);
 }
 
-fn push_shown(text: &mut Vec<u8>, shown: &[u8]) -> Result<(), AllocError>
-    ensures { OnOk result (text.new.items ≡ text.old.items ++ 32 ∷ shown.now) }
-{
-    text.push(b' ')?;
-    text.extend_from_slice(shown)
-}
-
-/// A text without the blanks at its end.
-fn trimmed(text: &[u8]) -> &[u8]
-    ensures { result.now ≡ texts.trimmed text.now }
-{
-    let (front, _) = text.split_at(trimmed_length(text));
-    front
-}
-
+/// The length of a text without the blanks at its end.
 fn trimmed_length(text: &[u8]) -> usize
     ensures length { take result text.now ≡ texts.trimmed text.now }
     ensures within { result ≤ length text.now }

@@ -5,14 +5,15 @@ use Rattle.cps_tool.proofs.RowLemmas.{rows_below-none, rows_below-more}
 use Rattle.cps_tool.proofs.binary.push_rows.Goals as goal
 
 pub loop-address-init : goal.loop-address-init
-loop-address-init c = λ pieces packed. sym (ap (λ rows. c.args.text.now.items ++ rows) (rows_below-none pieces) ∙ append-nil c.args.text.now.items)
+loop-address-init c = λ pieces packed. sym (ap (λ rows. c.args.text.now.items ++ rows) (rows_below-none c.args.machine pieces) ∙ append-nil c.args.text.now.items)
 
 pub loop-address-preserved : goal.loop-address-preserved
 loop-address-preserved c = λ pieces packed.
     let address = c.loop-address.address in
+    let machine = c.args.machine in
     let before = c.args.text.now.items in
     c.in_ok-push_row.ensures
-    ∙ ap (λ word. c.loop-address.text.items ++ word_row address word) (c.get.ensures.packed pieces packed)
-    ∙ ap (λ text. text ++ word_row address (packed_word pieces address)) (c.loop-address.invariant pieces packed)
-    ∙ append_assoc before (rows_below address pieces) (word_row address (packed_word pieces address))
-    ∙ sym (ap (λ rows. before ++ rows) (rows_below-more address pieces))
+    ∙ ap (λ word. c.loop-address.text.items ++ word_row machine address word) (c.get.ensures.packed pieces packed)
+    ∙ ap (λ text. text ++ word_row machine address (packed_word pieces address)) (c.loop-address.invariant pieces packed)
+    ∙ append_assoc before (rows_below address machine pieces) (word_row machine address (packed_word pieces address))
+    ∙ sym (ap (λ rows. before ++ rows) (rows_below-more address machine pieces))

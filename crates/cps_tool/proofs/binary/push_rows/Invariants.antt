@@ -4,4 +4,4 @@ use Rattle.cps_tool.specs.Binary.{rows_below}
 use Rattle.cps_tool.proofs.binary.push_rows.Given as goal
 
 abbrev pub invariant-loop-address : goal.invariant-loop-address
-invariant-loop-address l = (pieces : List Piece) → ArePacked pieces l.words → l.text.items ≡ l.fn.text.items ++ rows_below l.address pieces
+invariant-loop-address l = (pieces : List Piece) → ArePacked pieces l.words → l.text.items ≡ l.fn.text.items ++ rows_below l.address l.machine pieces

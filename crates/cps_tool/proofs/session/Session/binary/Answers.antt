@@ -1,11 +1,10 @@
-use Rattle.std.proofs.Common.{◌≡◌, ◌++◌, List, ℕ, ap, subst, ◌∙◌}
+use Rattle.std.proofs.Common.{◌≡◌, List, ℕ, ap, subst, ◌∙◌}
 use Rattle.std.specs.Prelude.{IfOk}
 use Rattle.cps_final.specs.contracts.finals.FinalsGathered.TheImpl.{gathered-value}
-use Rattle.cps_state.specs.Keys.{limit}
-use Rattle.cps_tool.specs.Assembly.{outcomes_under, outcomes_of, pieces_in}
+use Rattle.cps_tool.specs.Assembly.{outcomes_under, outcomes_of}
 use Rattle.cps_tool.specs.Edits.{Source}
-use Rattle.cps_tool.specs.Binary.{first_row, rows_below, binary_text}
-use Rattle.cps_tool.proofs.AssemblyLemmas.{outcomes-kept, program-kept}
+use Rattle.cps_tool.specs.Binary.{text_under, binary_text}
+use Rattle.cps_tool.proofs.AssemblyLemmas.{outcomes-kept, finals-kept}
 use Rattle.cps_tool.proofs.session.Session.binary.Goals as goal
 
 pub returns : goal.returns
@@ -13,6 +12,6 @@ returns c =
     let lines : c.self.inside.lines.items ≡ c.args.self.now.lines = ap (λ (s : Source). s.lines) c.self.view_is in
     let outcomes : outcomes_under (gathered-value.it c.finals.result.now) c.traces.result.now ≡ outcomes_of c.self.inside.lines.items =
     outcomes-kept _ _ _ _ c.traces.ensures c.finals.ensures c.self.invariant.1 in
-    let program = program-kept _ _ _ c.finals.ensures c.self.invariant.1 in
+    let finals = finals-kept _ _ _ c.finals.ensures c.self.invariant.1 in
     subst (λ (t : List ℕ). IfOk c.binary_text.result (λ text. text.items ≡ t))
-    ((λ i. first_row (program i) ++ rows_below limit (pieces_in (outcomes i))) ∙ ap binary_text lines) c.binary_text.ensures
+    ((λ i. text_under (finals i) (outcomes i)) ∙ ap binary_text lines) c.binary_text.ensures
