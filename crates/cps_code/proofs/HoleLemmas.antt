@@ -1,11 +1,9 @@
 -- Values in holes.
-use Rattle.std.proofs.Common.{◌≡◌, ℕ, ◌+◌, ◌-◌, ◌*◌, ◌%◌, ◌^◌, ◌<◌, ◌≤◌, Bool, true, false, cond, ltb, List, [], ◌∷◌, length, get_or, ℤ, pos, negsuc, w64, refl, sym, ap, ◌∙◌, arith}
-use mir.Val.{SFits}
+use Rattle.std.proofs.Common.{◌≡◌, ℕ, ◌+◌, ◌-◌, ◌*◌, ◌%◌, ◌^◌, ◌<◌, ◌≤◌, Bool, true, false, cond, ltb, List, [], ◌∷◌, length, get_or, ℤ, pos, negsuc, refl, sym, ap, ◌∙◌, arith}
 use Rattle.std.proofs.lemmas.Bool.Decides.{nat_tests}
 use Rattle.std.proofs.lemmas.Nat.{pow-add, pow_pos}
 use Rattle.std.proofs.Math.Nat.{mul-add-mod_self_right, mod-eq_of_lt, pow-le-pow_right}
 use Rattle.cps_code.specs.declared.hole.Hole.{Hole}
-use Rattle.cps_code.specs.Value.{is_in_range}
 use Rattle.std.specs.Prelude.{not, ◌||◌}
 use Rattle.cps_code.specs.declared.hole.HoleKind.{HoleKind}
 use Rattle.cps_code.specs.declared.hole.HoleKind.TheVariants.{Value, Count, Target}
@@ -30,13 +28,9 @@ low-bits width n some short small =
     rw parts (mod-least high (2 ^ width) (2 ^ width - 1 - (n + 1)) (omega arith))
 
 -- the low bits in 60 bits are what is put, also of a value that fits
-pub put_value-is : (width : ℕ) (value : ℤ) → 0 < width → width ≤ 30 → is_in_range value ≡ true → complemented 60 value % 2 ^ width ≡ put_value width value
-put_value-is width (pos n) some short range = chosen (ltb n (2 ^ width)) n (n % 2 ^ width) (λ fits. mod-eq_of_lt (grind (arith, nat_tests)))
-put_value-is width (negsuc n) some short range = chosen (ltb (n + 1) (2 ^ (width - 1))) (2 ^ width - 1 - (n + 1)) ((2 ^ 60 - 1 - (n + 1)) % 2 ^ width) (λ fits. low-bits width n some short (grind (arith, nat_tests)))
-
-pub fits-in_range : (value : ℤ) → is_in_range value ≡ true → SFits w64 value
-fits-in_range (pos n) small = record { sfits = grind (arith, nat_tests) }
-fits-in_range (negsuc n) small = record { sfits = grind (arith, nat_tests) }
+pub put_value-is : (width : ℕ) (value : ℤ) → 0 < width → width ≤ 30 → complemented 60 value % 2 ^ width ≡ put_value width value
+put_value-is width (pos n) some short = chosen (ltb n (2 ^ width)) n (n % 2 ^ width) (λ fits. mod-eq_of_lt (grind (arith, nat_tests)))
+put_value-is width (negsuc n) some short = chosen (ltb (n + 1) (2 ^ (width - 1))) (2 ^ width - 1 - (n + 1)) ((2 ^ 60 - 1 - (n + 1)) % 2 ^ width) (λ fits. low-bits width n some short (grind (arith, nat_tests)))
 
 -- ---- holes of each kind
 

@@ -20,7 +20,7 @@ abbrev pub fits_width : ℕ → ℤ → Bool
 fits_width width (pos n) = nat_lt n (2 ^ width)
 fits_width width (negsuc n) = nat_lt (n + 1) (2 ^ (width - 1))
 
--- a value in ones' complement; `negsuc n` is -(n + 1)
+-- a value in ones' complement, and 0 for one below its range; `negsuc n` is -(n + 1)
 abbrev pub complemented : ℕ → ℤ → ℕ
 complemented width (pos n) = n
 complemented width (negsuc n) = 2 ^ width - 1 - (n + 1)

@@ -1,4 +1,4 @@
--- The numbers that may be put into holes: plain values of expressions. The range is our profile's.
+-- The numbers that plain values of expressions can be. The range is our profile's.
 use Rattle.std.specs.Prelude.{Bool, IsTrue, ℤ}
 use Rattle.cps_expr.specs.Value as value
 

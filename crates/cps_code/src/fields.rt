@@ -10,7 +10,7 @@ ghost use Rattle.cps_code.specs.Terms.{AreDigits};
 use super::digits::{Digits, octal, read_digits};
 use super::form::CpForm;
 use super::operation::FieldForm;
-use cps_expr::{Expr, ExprFault, Radix};
+use cps_expr::{Expr, ExprFault, Radix, read_expression};
 use cps_text::{Operands, operands};
 use std::alloc::Global;
 
@@ -149,11 +149,8 @@ fn read_fields(
     if left.next().is_some() {
         return Err(ExprFault::Unreadable);
     }
-    match Expr::read(alloc, operand, radix) {
-        Ok(expression) => Ok(Found { digits, expression }),
-        Err(ExprFault::Unreadable) => Err(ExprFault::Unreadable),
-        Err(ExprFault::Memory) => Err(ExprFault::Memory),
-    }
+    let expression = read_expression(alloc, operand, radix)?;
+    Ok(Found { digits, expression })
 }
 
 /// The digits of the operands that begin with these of registers, and the operands behind them.

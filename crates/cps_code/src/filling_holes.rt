@@ -1,6 +1,5 @@
 ghost use Rattle.std.specs.Prelude.{◌≡◌, ◌<◌, ◌≤◌, ◌^◌, ◌+◌, ◌-◌, ◌*◌, ◌||◌, length, All};
 ghost use Rattle.cps_code.specs.Bits.{word_bits, parcel_bits};
-ghost use Rattle.cps_code.specs.Value.{IsInRange};
 ghost use Rattle.cps_code.specs.Form.{IsHole, fits_width, complemented, put_value, put_in, put_values, is_cut, is_cut_in, is_out, is_out_in, room_of};
 
 use super::filled::Filled;
@@ -17,7 +16,6 @@ pub fn fill_holes(bits: u8, code: u64, holes: &[Hole], numbers: &[i64]) -> Fille
     requires holes { All (IsHole bits) holes.now }
     requires room { code + room_of bits holes.now < 2 ^ bits }
     requires one_each { length numbers.now ≡ length holes.now }
-    requires range { All IsInRange numbers.now }
     ensures digits { result.digits ≡ code + put_values bits holes.now numbers.now }
     ensures truncated { result.is_truncated ≡ is_cut holes.now numbers.now }
     ensures out_of_range { result.is_out_of_range ≡ is_out holes.now numbers.now }
@@ -68,7 +66,6 @@ fn joined(put: Filled, other: Filled) -> Filled
 fn put_number(bits: u8, hole: &Hole, number: i64) -> Filled
     requires short { bits ≤ 2 * parcel_bits }
     requires hole { IsHole bits hole.now }
-    requires range { IsInRange number }
     ensures digits { result.digits ≡ put_in hole.now.kind hole.now.width number * 2 ^ (bits - hole.now.first - hole.now.width) }
     ensures truncated { result.is_truncated ≡ is_cut_in hole.now.kind hole.now.width number }
     ensures out_of_range { result.is_out_of_range ≡ is_out_in hole.now.kind hole.now.width number }
@@ -91,7 +88,6 @@ fn put_number(bits: u8, hole: &Hole, number: i64) -> Filled
 
 /// Whether a number is none that a hole of this kind can hold.
 fn is_out(kind: HoleKind, number: i64, width: u8) -> bool
-    requires range { IsInRange number }
     requires width { width ≤ 2 * parcel_bits }
     requires some { 0 < width }
     ensures { result ≡ is_out_in kind width number }
@@ -105,7 +101,6 @@ fn is_out(kind: HoleKind, number: i64, width: u8) -> bool
 
 /// The low bits of a number in ones' complement of 60 bits. Of a number that fits they are those in its own width.
 fn bits_of_value(number: i64, width: u8) -> u64
-    requires range { IsInRange number }
     requires width { width ≤ 2 * parcel_bits }
     requires some { 0 < width }
     ensures value { result ≡ put_value width number }
@@ -114,14 +109,12 @@ fn bits_of_value(number: i64, width: u8) -> u64
     complement(number) & ((1 << width) - 1)
 }
 
-/// A number in ones' complement of 60 bits.
+/// A number in ones' complement of 60 bits; 0 for one below their range.
 fn complement(number: i64) -> u64
-    requires { IsInRange number }
-    ensures value { result ≡ complemented word_bits number }
-    ensures small { result < 2 ^ word_bits }
+    ensures { result ≡ complemented word_bits number }
 {
     if number < 0 {
-        ALL_ONES - number.unsigned_abs()
+        ALL_ONES.saturating_sub(number.unsigned_abs())
     } else {
         number.unsigned_abs()
     }
@@ -129,7 +122,6 @@ fn complement(number: i64) -> u64
 
 /// Whether a number fits a width: from -(2^(width-1) - 1) to 2^width - 1.
 fn fits(number: i64, width: u8) -> bool
-    requires range { IsInRange number }
     requires width { width ≤ 2 * parcel_bits }
     requires some { 0 < width }
     ensures { result ≡ fits_width width number }

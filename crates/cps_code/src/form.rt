@@ -1,6 +1,5 @@
 ghost use Rattle.std.specs.Prelude.{◌≡◌, ◌<◌, ◌^◌, ◌≤◌, IfOk, length, All};
 ghost use Rattle.cps_code.specs.Bits.{parcel_bits};
-ghost use Rattle.cps_code.specs.Value.{IsInRange};
 ghost use Rattle.cps_code.specs.Form.{IsForm, filled};
 ghost use Rattle.cps_code.specs.Operations.{short_form, long_form, bare_form, count_form};
 
@@ -129,7 +128,6 @@ impl CpForm {
     /// The code with these numbers in its holes, one for each hole.
     pub fn fill(&self, numbers: &[i64]) -> Filled
         requires one_each { length numbers.now ≡ length self.now.holes }
-        requires range { All IsInRange numbers.now }
         ensures filled { result ≡ filled self.now numbers.now }
         ensures fits { result.digits < 2 ^ self.now.bits }
     {

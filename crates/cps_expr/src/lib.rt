@@ -37,6 +37,7 @@ pub use names::Names;
 pub use operation::{Operation, Relation};
 pub use packing::pack_characters;
 pub use radix::Radix;
+pub use reads::{paired, read_expression, read_last, read_only};
 pub use row::{Block, Comparison, DisText, Field, Repetition, Row, SymbolTest};
 pub use sequence::Sequence;
 pub use signs::{leading_sign, sign_at};

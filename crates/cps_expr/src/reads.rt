@@ -33,7 +33,8 @@ impl Operand for Expr {
     }
 }
 
-pub(crate) fn read_expression(alloc: Global, text: &[u8], radix: Radix) -> Result<Expr, ExprFault>
+/// A text as an expression; numbers with no letter go by the radix.
+pub fn read_expression(alloc: Global, text: &[u8], radix: Radix) -> Result<Expr, ExprFault>
     ensures { Reads result (expression_of radix text.now) }
 {
     match Expr::read(alloc, text, radix) {
@@ -43,8 +44,8 @@ pub(crate) fn read_expression(alloc: Global, text: &[u8], radix: Radix) -> Resul
     }
 }
 
-/// Two readings as one.
-pub(crate) fn paired<T: Drop, U: Drop>(
+/// Two readings as one. Where one is unreadable, so are both, also if memory was refused for the other.
+pub fn paired<T: Drop, U: Drop>(
     first: Result<T, ExprFault>,
     second: Result<U, ExprFault>,
 ) -> Result<(T, U), ExprFault>
@@ -114,7 +115,7 @@ pub(crate) fn read_some<T: Operand>(
 }
 
 /// The only operand as an expression.
-pub(crate) fn read_only(alloc: Global, tail: &[u8], radix: Radix) -> Result<Expr, ExprFault>
+pub fn read_only(alloc: Global, tail: &[u8], radix: Radix) -> Result<Expr, ExprFault>
     ensures { Reads result (only_one (expression_of radix) (operands_of tail.now)) }
 {
     let mut operands = operands(tail);
@@ -128,7 +129,7 @@ pub(crate) fn read_only(alloc: Global, tail: &[u8], radix: Radix) -> Result<Expr
 }
 
 /// The operand that is left as an expression, if there is one.
-pub(crate) fn read_last(
+pub fn read_last(
     alloc: Global,
     mut operands: Operands<'_>,
     radix: Radix,

@@ -30,4 +30,11 @@ impl<T> Sequence<T> {
     {
         self.items.as_slice()
     }
+
+    /// The items, to be taken one by one.
+    pub fn into_vec(self) -> Vec<T>
+        ensures { result.items ≡ self }
+    {
+        self.items
+    }
 }

@@ -88,6 +88,13 @@ impl Stmt {
         &self.row
     }
 
+    /// Its operands, to be taken out of it.
+    pub fn into_row(self) -> Row
+        ensures { result ≡ self }
+    {
+        self.row
+    }
+
     /// The names that are read in the first pass, in their order.
     pub fn now(&self) -> &[Name]
         ensures { result.now ≡ now_names self.now }

@@ -1,5 +1,4 @@
 ghost use Rattle.std.specs.Prelude.{◌≡◌, ◌<◌, ◌^◌, ◌≤◌, [], ◌∷◌, IfOk, length, All};
-ghost use Rattle.cps_code.specs.Value.{IsInRange};
 ghost use Rattle.cps_code.specs.Form.{filled};
 ghost use Rattle.cps_peripheral.specs.Forms.{IsPpForm, one_word, two_words, hole_of_d, hole_of_constant, hole_of_m, holes_of_d};
 
@@ -145,7 +144,6 @@ impl PpForm {
     /// The code with these numbers in its holes, one for each hole: for a target the distance to it.
     pub fn fill(&self, numbers: &[i64]) -> Filled
         requires one_each { length numbers.now ≡ length self.now.holes }
-        requires range { All IsInRange numbers.now }
         ensures filled { result ≡ filled self.now numbers.now }
         ensures fits { result.digits < 2 ^ self.now.bits }
     {

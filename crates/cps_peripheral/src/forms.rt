@@ -7,9 +7,9 @@ ghost use Rattle.cps_peripheral.specs.Table.{is_operation, form_of};
 use super::form::PpForm;
 use super::layout::Layout;
 use super::operation::named_operation;
-use super::reads::{read_memory, read_only};
+use super::reads::read_memory;
 use cps_code::{FormFault, HoleKind};
-use cps_expr::{ExprFault, Radix};
+use cps_expr::{ExprFault, Radix, read_only};
 use std::alloc::{AllocError, Global};
 
 /// The form of a statement of a peripheral processor: that of the row of the table that fits its operation and its

@@ -1,9 +1,9 @@
-use Rattle.std.proofs.Common.{◌≡◌, ◌^◌, ◌≤◌, length, get_or, pos, w64, sym, ◌∙◌, arith}
+use Rattle.std.proofs.Common.{rules, ◌≡◌, ◌^◌, ◌≤◌, length, get_or, pos, w64, SFits, sym, ◌∙◌, arith}
 use Rattle.std.specs.Prelude.{◌||◌}
 use Rattle.std.proofs.lemmas.Int.{to_z-of_z}
 use Rattle.std.proofs.lemmas.Bool.Decides.{nat_tests}
 use Rattle.std.proofs.Math.Nat.{pow-le-pow_right}
-use Rattle.cps_code.proofs.HoleLemmas.{one_item, two_items, two_numbers, room-one, room-two, put_values-two, is_cut-two, is_out-two, fits-in_range}
+use Rattle.cps_code.proofs.HoleLemmas.{one_item, two_items, two_numbers, room-one, room-two, put_values-two, is_cut-two, is_out-two}
 use Rattle.cps_code.proofs.filling_holes.fill_holes.Goals as goal
 
 pub overflow_add-result : goal.overflow_add-result
@@ -46,8 +46,10 @@ returns-in-len2-len2-clause-digits c =
     let holes = two_items c.args.holes.now first.result c.other_hole-item.result two first.is c.other_hole-item.is in
     let n = get_or c.args.numbers.now 0 (pos 0) in
     let m = get_or c.args.numbers.now 1 (pos 0) in
-    let value = rw (to_z-of_z w64 n (fits-in_range n (c.requires.range 0 (pos 0) (omega arith)))) at c.put_number.ensures.digits in
-    let next = rw (to_z-of_z w64 m (fits-in_range m (c.requires.range 1 (pos 0) (omega arith)))) at c.put_number-in-len2-len2.ensures.digits in
+    let first_fits : SFits w64 n = search rules in
+    let second_fits : SFits w64 m = search rules in
+    let value = rw (to_z-of_z w64 n first_fits) at c.put_number.ensures.digits in
+    let next = rw (to_z-of_z w64 m second_fits) at c.put_number-in-len2-len2.ensures.digits in
     let sum = c.joined-put.ensures.digits in
     rw (put_values-two c.args.bits c.args.holes.now c.args.numbers.now first.result c.other_hole-item.result n m holes (two_numbers c.args.numbers.now both), sum, value, next) (omega arith)
 
@@ -59,8 +61,10 @@ returns-in-len2-len2-clause-truncated c =
     let holes = two_items c.args.holes.now first.result c.other_hole-item.result two first.is c.other_hole-item.is in
     let n = get_or c.args.numbers.now 0 (pos 0) in
     let m = get_or c.args.numbers.now 1 (pos 0) in
-    let value = rw (to_z-of_z w64 n (fits-in_range n (c.requires.range 0 (pos 0) (omega arith)))) at c.put_number.ensures.truncated in
-    let next = rw (to_z-of_z w64 m (fits-in_range m (c.requires.range 1 (pos 0) (omega arith)))) at c.put_number-in-len2-len2.ensures.truncated in
+    let first_fits : SFits w64 n = search rules in
+    let second_fits : SFits w64 m = search rules in
+    let value = rw (to_z-of_z w64 n first_fits) at c.put_number.ensures.truncated in
+    let next = rw (to_z-of_z w64 m second_fits) at c.put_number-in-len2-len2.ensures.truncated in
     c.joined-put.ensures.truncated ∙ (λ i. value i || next i)
     ∙ sym (is_cut-two c.args.holes.now c.args.numbers.now first.result c.other_hole-item.result n m holes (two_numbers c.args.numbers.now both))
 
@@ -72,7 +76,9 @@ returns-in-len2-len2-clause-out_of_range c =
     let holes = two_items c.args.holes.now first.result c.other_hole-item.result two first.is c.other_hole-item.is in
     let n = get_or c.args.numbers.now 0 (pos 0) in
     let m = get_or c.args.numbers.now 1 (pos 0) in
-    let value = rw (to_z-of_z w64 n (fits-in_range n (c.requires.range 0 (pos 0) (omega arith)))) at c.put_number.ensures.out_of_range in
-    let next = rw (to_z-of_z w64 m (fits-in_range m (c.requires.range 1 (pos 0) (omega arith)))) at c.put_number-in-len2-len2.ensures.out_of_range in
+    let first_fits : SFits w64 n = search rules in
+    let second_fits : SFits w64 m = search rules in
+    let value = rw (to_z-of_z w64 n first_fits) at c.put_number.ensures.out_of_range in
+    let next = rw (to_z-of_z w64 m second_fits) at c.put_number-in-len2-len2.ensures.out_of_range in
     c.joined-put.ensures.out_of_range ∙ (λ i. value i || next i)
     ∙ sym (is_out-two c.args.holes.now c.args.numbers.now first.result c.other_hole-item.result n m holes (two_numbers c.args.numbers.now both))
