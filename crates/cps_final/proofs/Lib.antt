@@ -1,4 +1,4 @@
 pub mod BlockLemmas
 pub mod GatherLemmas
 pub mod OutcomeLemmas
-pub mod AloneLemmas
+pub mod ValueLemmas

@@ -1,70 +1,111 @@
 -- Pass two, one content or one name further.
-use Rattle.std.proofs.Common.{◌≡◌, ℕ, ◌+◌, ◌/◌, ◌<◌, ◌≤◌, Bool, true, false, List, [], ◌∷◌, ◌++◌, length, get_or, take, drop, flat_map, sym, ap, subst, ◌∙◌, append-nil, append_assoc}
-use Rattle.std.specs.Prelude.{fold}
+use Rattle.std.proofs.Common.{◌≡◌, ℕ, ◌+◌, ◌*◌, ◌/◌, ◌<◌, ◌≤◌, Bool, true, false, List, [], ◌∷◌, ◌++◌, length, get_or, take, drop, flat_map, refl, sym, ap, subst, ◌∙◌, arith, append-nil, append_assoc}
+use Rattle.std.specs.Prelude.{fold, if◌then◌else◌}
 use Rattle.std.proofs.lemmas.Grind.{flat_map-append}
-use Rattle.std.proofs.lemmas.List.{take_more, drop_more, drop_all}
+use Rattle.std.proofs.lemmas.List.{take_more, take_all, drop_more}
 use Rattle.std.proofs.lemmas.List.Sums.{fold-append}
 use Rattle.indexmap.specs.IndexSet.{insert_all, insert_key}
 use Rattle.cps_text.specs.declared.name.Name.{Name}
-use Rattle.cps_expr.specs.Value.{same_name}
+use Rattle.cps_expr.specs.declared.machine.Machine.{Machine}
+use Rattle.cps_expr.specs.Value.{Values, same_name}
 use Rattle.cps_state.specs.declared.flags.Flags.{Flags}
 use Rattle.cps_state.specs.declared.made.Content.{Content}
 use Rattle.cps_state.specs.declared.item.Item.{Item}
 use Rattle.cps_state.specs.declared.key.Put.{Put}
 use Rattle.cps_state.specs.Course.{Trace}
 use Rattle.cps_state.specs.Flags.{joined}
-use Rattle.cps_state.specs.Machines.{behind}
+use Rattle.cps_state.specs.Machines.{limit, behind}
 use Rattle.cps_code.specs.Image.{Piece}
-use Rattle.cps_state.specs.Made.{Made, no_flags, width_of}
+use Rattle.cps_state.specs.Made.{Made, no_flags, width_of, end_of, HaveRoom}
+use Rattle.cps_state.proofs.PlaceLemmas.{end-not-before, end-next}
 use Rattle.cps_final.specs.declared.row.Row.{Row}
-use Rattle.cps_final.specs.Outcome.{Resolved, labels_by, base_in, first_address, row_at, content_rows, rows_of, pieces_of, later_names, symbol_put, names_read, names_defined, outcome_of, joined_with}
+use Rattle.cps_final.specs.Outcome.{Resolved, labels_by, base_in, first_address, row_at, content_rows, with_contents, blank_row, rows_with, rows_of, pieces_of, later_names, symbol_put, names_read, names_defined, outcome_of, joined_with}
 use Rattle.cps_final.proofs.BlockLemmas.{same_name-laws}
 use Rattle.cps_final.proofs.GatherLemmas.{distinct-append}
 
--- ---- rows
+-- ---- the walk over contents
 
--- the row of a content whose addresses were worked out
-pub row-is : (finals : Resolved) (made : Made) (flags : Flags) (is_later : Bool) (base here at : ℕ) (content : Content) (row : Row)
-    → base ≡ base_in finals made.block → here ≡ base + made.start / 60
-    → row ≡ row_at (labels_by finals) made.machine flags is_later here (base + at / 60) content
-    → row ≡ row_at (labels_by finals) made.machine flags is_later (first_address finals made) (base_in finals made.block + at / 60) content
-row-is finals made flags is_later base here at content row based starts shows =
-    shows ∙ ap (λ (n : ℕ). row_at (labels_by finals) made.machine flags is_later n (base + at / 60) content) (starts ∙ ap (λ (n : ℕ). n + made.start / 60) based)
-    ∙ ap (λ (n : ℕ). row_at (labels_by finals) made.machine flags is_later (first_address finals made) (n + at / 60) content) based
+-- from the place where a statement starts its contents have room
+pub room-first : (machine : Machine) (made : Made) (at : ℕ) → machine ≡ made.machine → at ≡ made.start → HaveRoom made.machine made.start made.contents
+    → (at ≤ 60 * limit machine) × (end_of machine at made.contents ≤ 60 * limit machine)
+room-first machine made at of starts room =
+    let ends : end_of machine at made.contents ≤ 60 * limit machine =
+    subst (λ (m : Machine). end_of m at made.contents ≤ 60 * limit m) (sym of) (subst (λ (n : ℕ). end_of made.machine n made.contents ≤ 60 * limit made.machine) (sym starts) room.within) in
+    let after = end-not-before machine at made.contents in
+    (omega (arith, after, ends), ends)
 
--- the rows from a content on are its own and those behind it
-rows-more : (finals : Resolved) (made : Made) (flags : Flags) (is_later : Bool) (at next i : ℕ) (content : Content) (row : Row)
-    → i < length made.contents → content ≡ get_or made.contents i content → next ≡ behind made.machine at (width_of content)
-    → row ≡ row_at (labels_by finals) made.machine flags is_later (first_address finals made) (base_in finals made.block + at / 60) content
-    → content_rows finals made flags is_later at (drop i made.contents) ≡ row ∷ content_rows finals made no_flags true next (drop (i + 1) made.contents)
-rows-more finals made flags is_later at next i content row lt is moved shows =
-    ap (content_rows finals made flags is_later at) (drop_more made.contents i content lt)
-    ∙ ap (λ (c : Content). row_at (labels_by finals) made.machine flags is_later (first_address finals made) (base_in finals made.block + at / 60) c
-        ∷ content_rows finals made no_flags true (behind made.machine at (width_of c)) (drop (i + 1) made.contents)) (sym is)
-    ∙ (λ i'. sym shows i' ∷ content_rows finals made no_flags true (sym moved i') (drop (i + 1) made.contents))
+-- the content at an index, its row, and the place behind it
+pub record Step (finals : Resolved) (made : Made) (machine : Machine) (flags : Flags) (is_later : Bool) (at next i : ℕ) (content : Content) (row : Row) : Type 0 where
+  pub of : machine ≡ made.machine
+  pub within : i < length made.contents
+  pub is : content ≡ get_or made.contents i content
+  pub moved : next ≡ behind machine at (width_of content)
+  pub shows : row ≡ row_at (labels_by finals) made.machine flags is_later (first_address finals made) (base_in finals made.block + at / 60) content
 
-pub rows-next : (finals : Resolved) (made : Made) (rows new : List Row) (flags next_flags : Flags) (is_later : Bool) (at next i : ℕ) (content : Content) (row : Row) (end : List Row)
-    → i < length made.contents → content ≡ get_or made.contents i content → next ≡ behind made.machine at (width_of content)
-    → row ≡ row_at (labels_by finals) made.machine flags is_later (first_address finals made) (base_in finals made.block + at / 60) content
-    → new ≡ rows ++ row ∷ [] → next_flags ≡ no_flags
-    → rows ++ content_rows finals made flags is_later at (drop i made.contents) ≡ end
-    → new ++ content_rows finals made next_flags true next (drop (i + 1) made.contents) ≡ end
-rows-next finals made rows new flags next_flags is_later at next i content row end lt is moved shows pushed none so_far =
-    let rest = content_rows finals made no_flags true next (drop (i + 1) made.contents) in
-    ap (λ (f : Flags). new ++ content_rows finals made f true next (drop (i + 1) made.contents)) none
-    ∙ ap (λ (l : List Row). l ++ rest) pushed ∙ append_assoc rows (row ∷ []) rest
-    ∙ sym (ap (λ (l : List Row). rows ++ l) (rows-more finals made flags is_later at next i content row lt is moved shows)) ∙ so_far
+-- the same from what the code worked out
+pub step : (finals : Resolved) (made : Made) (machine : Machine) (flags : Flags) (is_later : Bool) (base here word at next width i : ℕ) (contents : List Content) (content : Content) (row : Row)
+    → machine ≡ made.machine → base ≡ base_in finals made.block → here ≡ base + made.start / 60 → word ≡ at / 60
+    → contents ≡ made.contents → i < length contents → content ≡ get_or contents i content → width ≡ width_of content → next ≡ behind machine at width
+    → row ≡ row_at (labels_by finals) machine flags is_later here (base + word) content
+    → Step finals made machine flags is_later at next i content row
+step finals made machine flags is_later base here word at next width i contents content row of based starts counts same lt is wide moved shows = record {
+  of = of;
+  within = subst (λ (l : List Content). i < length l) same lt;
+  is = is ∙ ap (λ (l : List Content). get_or l i content) same;
+  moved = moved ∙ ap (behind machine at) wide;
+  shows = shows
+      ∙ (λ j. row_at (labels_by finals) (of j) flags is_later ((starts ∙ ap (λ (n : ℕ). n + made.start / 60) based) j) (based j + counts j) content);
+}
 
-pub flags-next : (finals : Resolved) (made : Made) (flags new own next_own : Flags) (is_later : Bool) (at next i : ℕ) (content : Content) (row : Row) (end : Flags)
-    → i < length made.contents → content ≡ get_or made.contents i content → next ≡ behind made.machine at (width_of content)
-    → row ≡ row_at (labels_by finals) made.machine own is_later (first_address finals made) (base_in finals made.block + at / 60) content
-    → new ≡ joined flags row.flags → next_own ≡ no_flags
-    → joined_with flags (content_rows finals made own is_later at (drop i made.contents)) ≡ end
-    → joined_with new (content_rows finals made next_own true next (drop (i + 1) made.contents)) ≡ end
-flags-next finals made flags new own next_own is_later at next i content row end lt is moved shows joins none so_far =
-    ap (λ (f : Flags). joined_with new (content_rows finals made f true next (drop (i + 1) made.contents))) none
-    ∙ ap (λ (f : Flags). joined_with f (content_rows finals made no_flags true next (drop (i + 1) made.contents))) joins
-    ∙ sym (ap (joined_with flags) (rows-more finals made own is_later at next i content row lt is moved shows)) ∙ so_far
+module _ (finals : Resolved) (made : Made) (machine : Machine) (flags : Flags) (is_later : Bool) (at next i : ℕ) (content : Content) (row : Row)
+    (so : Step finals made machine flags is_later at next i content row) where
+  pub room-next : end_of machine at (drop i made.contents) ≤ 60 * limit machine
+      → (next ≤ 60 * limit machine) × (end_of machine next (drop (i + 1) made.contents) ≤ 60 * limit machine)
+  room-next room =
+      let same = end-next machine at next (end_of machine at (drop i made.contents)) made.contents i content so.within so.is so.moved refl in
+      let ends : end_of machine next (drop (i + 1) made.contents) ≤ 60 * limit machine = subst (λ (n : ℕ). n ≤ 60 * limit machine) (sym same) room in
+      let after = end-not-before machine next (drop (i + 1) made.contents) in
+      (omega (arith, after, ends), ends)
+
+  -- the rows from a content on are its own and those behind it
+  rows-more : content_rows finals made flags is_later at (drop i made.contents) ≡ row ∷ content_rows finals made no_flags true next (drop (i + 1) made.contents)
+  rows-more =
+      let moved : next ≡ behind made.machine at (width_of content) = so.moved ∙ ap (λ (m : Machine). behind m at (width_of content)) so.of in
+      ap (content_rows finals made flags is_later at) (drop_more made.contents i content so.within)
+      ∙ ap (λ (c : Content). row_at (labels_by finals) made.machine flags is_later (first_address finals made) (base_in finals made.block + at / 60) c
+          ∷ content_rows finals made no_flags true (behind made.machine at (width_of c)) (drop (i + 1) made.contents)) (sym so.is)
+      ∙ (λ j. sym so.shows j ∷ content_rows finals made no_flags true (sym moved j) (drop (i + 1) made.contents))
+
+  pub rows-next : (rows new end : List Row) (next_flags : Flags) → new ≡ rows ++ row ∷ [] → next_flags ≡ no_flags
+      → rows ++ content_rows finals made flags is_later at (drop i made.contents) ≡ end
+      → new ++ content_rows finals made next_flags true next (drop (i + 1) made.contents) ≡ end
+  rows-next rows new end next_flags pushed none so_far =
+      let rest = content_rows finals made no_flags true next (drop (i + 1) made.contents) in
+      ap (λ (f : Flags). new ++ content_rows finals made f true next (drop (i + 1) made.contents)) none
+      ∙ ap (λ (l : List Row). l ++ rest) pushed ∙ append_assoc rows (row ∷ []) rest
+      ∙ sym (ap (λ (l : List Row). rows ++ l) rows-more) ∙ so_far
+
+  pub flags-next : (all new end next_flags : Flags) → new ≡ joined all row.flags → next_flags ≡ no_flags
+      → joined_with all (content_rows finals made flags is_later at (drop i made.contents)) ≡ end
+      → joined_with new (content_rows finals made next_flags true next (drop (i + 1) made.contents)) ≡ end
+  flags-next all new end next_flags joins none so_far =
+      ap (λ (f : Flags). joined_with new (content_rows finals made f true next (drop (i + 1) made.contents))) none
+      ∙ ap (λ (f : Flags). joined_with f (content_rows finals made no_flags true next (drop (i + 1) made.contents))) joins
+      ∙ sym (ap (joined_with all) rows-more) ∙ so_far
+
+-- the row of contents that only give flags
+pub flags-row : (finals : Resolved) (made : Made) (contents : List Content) → 0 < length contents → made.only_flags ≡ true
+    → rows_with finals made contents ≡ blank_row (with_contents (labels_by finals) (first_address finals made) made.flags contents) ∷ []
+flags-row finals made [] some only = absurd (omega (arith, some))
+flags-row finals made (content ∷ contents) some only =
+    ap (λ (b : Bool). if b then blank_row (with_contents (labels_by finals) (first_address finals made) made.flags (content ∷ contents)) ∷ []
+        else content_rows finals made made.flags false made.start (content ∷ contents)) only
+
+-- all contents were walked
+pub flags-all : (labels : Values) (here address : ℕ) (flags all : Flags) (contents : List Content) (i : ℕ) → length contents ≤ i → here ≡ address
+    → all ≡ with_contents labels here flags (take i contents) → all ≡ with_contents labels address flags contents
+flags-all labels here address flags all contents i past is so_far =
+    so_far ∙ ap (with_contents labels here flags) (take_all i contents past) ∙ ap (λ (n : ℕ). with_contents labels n flags contents) is
 
 -- ---- lists
 
