@@ -1,3 +1,4 @@
+pub mod AloneLemmas
 pub mod BlockLemmas
 pub mod GatherLemmas
 pub mod OutcomeLemmas

@@ -73,7 +73,7 @@ module _ (finals : Resolved) (made : Made) (machine : Machine) (flags : Flags) (
       let moved : next ≡ behind made.machine at (width_of content) = so.moved ∙ ap (λ (m : Machine). behind m at (width_of content)) so.of in
       ap (content_rows finals made flags is_later at) (drop_more made.contents i content so.within)
       ∙ ap (λ (c : Content). row_at (labels_by finals) made.machine flags is_later (first_address finals made) (base_in finals made.block + at / 60) c
-          ∷ content_rows finals made no_flags true (behind made.machine at (width_of c)) (drop (i + 1) made.contents)) (sym so.is)
+      ∷ content_rows finals made no_flags true (behind made.machine at (width_of c)) (drop (i + 1) made.contents)) (sym so.is)
       ∙ (λ j. sym so.shows j ∷ content_rows finals made no_flags true (sym moved j) (drop (i + 1) made.contents))
 
   pub rows-next : (rows new end : List Row) (next_flags : Flags) → new ≡ rows ++ row ∷ [] → next_flags ≡ no_flags
@@ -99,7 +99,7 @@ pub flags-row : (finals : Resolved) (made : Made) (contents : List Content) → 
 flags-row finals made [] some only = absurd (omega (arith, some))
 flags-row finals made (content ∷ contents) some only =
     ap (λ (b : Bool). if b then blank_row (with_contents (labels_by finals) (first_address finals made) made.flags (content ∷ contents)) ∷ []
-        else content_rows finals made made.flags false made.start (content ∷ contents)) only
+    else content_rows finals made made.flags false made.start (content ∷ contents)) only
 
 -- all contents were walked
 pub flags-all : (labels : Values) (here address : ℕ) (flags all : Flags) (contents : List Content) (i : ℕ) → length contents ≤ i → here ≡ address

@@ -57,7 +57,10 @@ impl Blocks {
         ensures room { spare self.old.named ≤ spare self.new.named + 1 }
     {
         if let Key::Counter(block) = put.key {
-            self.put_words(block, words_before(place_of(Some(&put.answer), Machine::Cp)));
+            self.put_words(
+                block,
+                words_before(place_of(Some(&put.answer), Machine::Cp)),
+            );
         }
     }
 

@@ -50,10 +50,7 @@ fn insert_later_names(names: &mut IndexSet<Name>, items: &[Item]) -> Result<(), 
     Ok(())
 }
 
-fn insert_contents_names(
-    names: &mut IndexSet<Name>,
-    contents: &[Content],
-) -> Result<(), AllocError>
+fn insert_contents_names(names: &mut IndexSet<Name>, contents: &[Content]) -> Result<(), AllocError>
     ensures { OnOk result (names.new.keys ≡ insert_all same_name names.old.keys (flat_map content_names contents.now)) }
 {
     for content in contents {

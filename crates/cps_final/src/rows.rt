@@ -80,7 +80,9 @@ pub fn row_at(
 {
     let valued = value_content(content, finals, here);
     Row {
-        flags: flags.joined(valued.flags).joined(limit_flags(machine, address)),
+        flags: flags
+            .joined(valued.flags)
+            .joined(limit_flags(machine, address)),
         location: Some(address),
         code: Some(first_digits(content, valued.number)),
         second: second_digits(content, valued.number),
@@ -177,10 +179,7 @@ fn second_digits(content: &Content, number: u64) -> Option<Digits>
     ensures { result ≡ outcome.second_digits content.now number }
 {
     if is_parted(content) {
-        Some(digits_for(
-            PERIPHERAL_BITS,
-            number % (1 << PERIPHERAL_BITS),
-        ))
+        Some(digits_for(PERIPHERAL_BITS, number % (1 << PERIPHERAL_BITS)))
     } else {
         None
     }

@@ -24,8 +24,8 @@ loop-content-preserved c =
     let based : c.address_of-base.result ≡ base_in finals made.block = c.address_of-base.ensures.address ∙ ap (base_in finals) c.block.ensures in
     let within : now.content-index < length c.contents-content-items.result.now = search rules in
     let so = step finals made c.machine-machine.result now.flags now.is_later c.address_of-base.result c.first_address-here.result c.from.result now.at c.behind-at.result c.width.result
-        now.content-index c.contents-content-items.result.now c.content-item.result c.row_at.result c.machine-machine.ensures based c.first_address-here.ensures.address c.from.ensures
-        c.contents-content-items.ensures.contents within c.content-item.is c.width.ensures.width c.behind-at.ensures c.row_at.ensures in
+    now.content-index c.contents-content-items.result.now c.content-item.result c.row_at.result c.machine-machine.ensures based c.first_address-here.ensures.address c.from.ensures
+    c.contents-content-items.ensures.contents within c.content-item.is c.width.ensures.width c.behind-at.ensures c.row_at.ensures in
     let room = room-next finals made c.machine-machine.result now.flags now.is_later now.at c.behind-at.result now.content-index c.content-item.result c.row_at.result so now.invariant.room in
     record {
       within = room.0;
