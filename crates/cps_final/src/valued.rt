@@ -78,6 +78,7 @@ fn value_in(width: u8, expression: &Expr, finals: &Finals, address: u64) -> Valu
     }
 }
 
+/// An instruction of the central processor.
 fn value_instruction(form: &CpForm, finals: &Finals, address: u64) -> Valued
     requires { address < 2 ^ 62 }
     ensures number { result.number ≡ outcome.form_number (outcome.labels_by (final_value (⟦<Finals as Gathered>⟧.gathered finals.now))) address form.now }
@@ -94,6 +95,7 @@ fn value_instruction(form: &CpForm, finals: &Finals, address: u64) -> Valued
     }
 }
 
+/// An instruction of a peripheral processor.
 fn value_peripheral(form: &PpForm, finals: &Finals, address: u64) -> Valued
     requires { address < 2 ^ 62 }
     ensures number { result.number ≡ outcome.form_number (outcome.labels_by (final_value (⟦<Finals as Gathered>⟧.gathered finals.now))) address form.now }
