@@ -16,7 +16,7 @@ chosen false x y same = refl
 mod-least : (q c r : ℕ) → r < c → (q * c + r) % c ≡ r
 mod-least q c r small = mul-add-mod_self_right q c r ∙ mod-eq_of_lt small
 
-low-bits : (width n : ℕ) → 0 < width → width ≤ 30 → n + 1 < 2 ^ (width - 1) → (2 ^ 60 - 1 - (n + 1)) % 2 ^ width ≡ 2 ^ width - 1 - (n + 1)
+low-bits : (width n : ℕ) → 0 < width → width ≤ 60 → n + 1 < 2 ^ (width - 1) → (2 ^ 60 - 1 - (n + 1)) % 2 ^ width ≡ 2 ^ width - 1 - (n + 1)
 low-bits width n some short small =
     let high = 2 ^ (60 - width) - 1 in
     let split : 60 - width + width ≡ 60 = omega arith in
@@ -28,7 +28,7 @@ low-bits width n some short small =
     rw parts (mod-least high (2 ^ width) (2 ^ width - 1 - (n + 1)) (omega arith))
 
 -- the low bits in 60 bits are what is put, also of a value that fits
-pub put_value-is : (width : ℕ) (value : ℤ) → 0 < width → width ≤ 30 → complemented 60 value % 2 ^ width ≡ put_value width value
+pub put_value-is : (width : ℕ) (value : ℤ) → 0 < width → width ≤ 60 → complemented 60 value % 2 ^ width ≡ put_value width value
 put_value-is width (pos n) some short = chosen (ltb n (2 ^ width)) n (n % 2 ^ width) (λ fits. mod-eq_of_lt (grind (arith, nat_tests)))
 put_value-is width (negsuc n) some short = chosen (ltb (n + 1) (2 ^ (width - 1))) (2 ^ width - 1 - (n + 1)) ((2 ^ 60 - 1 - (n + 1)) % 2 ^ width) (λ fits. low-bits width n some short (grind (arith, nat_tests)))
 

@@ -81,7 +81,7 @@ fn put_number(bits: u8, hole: &Hole, number: i64) -> Filled
     let below = bits - hole.first - hole.width;
     Filled {
         digits: bits_of_value(number, hole.width) << below,
-        is_truncated: !fits(number, hole.width),
+        is_truncated: !fits_width(number, hole.width),
         is_out_of_range: false,
     }
 }
@@ -100,8 +100,8 @@ fn is_out(kind: HoleKind, number: i64, width: u8) -> bool
 }
 
 /// The low bits of a number in ones' complement of 60 bits. Of a number that fits they are those in its own width.
-fn bits_of_value(number: i64, width: u8) -> u64
-    requires width { width ≤ 2 * parcel_bits }
+pub fn bits_of_value(number: i64, width: u8) -> u64
+    requires width { width ≤ word_bits }
     requires some { 0 < width }
     ensures value { result ≡ put_value width number }
     ensures small { result < 2 ^ width }
@@ -110,7 +110,7 @@ fn bits_of_value(number: i64, width: u8) -> u64
 }
 
 /// A number in ones' complement of 60 bits; 0 for one below their range.
-fn complement(number: i64) -> u64
+pub fn complement(number: i64) -> u64
     ensures { result ≡ complemented word_bits number }
 {
     if number < 0 {
@@ -121,8 +121,8 @@ fn complement(number: i64) -> u64
 }
 
 /// Whether a number fits a width: from -(2^(width-1) - 1) to 2^width - 1.
-fn fits(number: i64, width: u8) -> bool
-    requires width { width ≤ 2 * parcel_bits }
+pub fn fits_width(number: i64, width: u8) -> bool
+    requires width { width ≤ word_bits }
     requires some { 0 < width }
     ensures { result ≡ fits_width width number }
 {

@@ -20,7 +20,7 @@ mod widths;
 mod words;
 
 pub use filled::Filled;
-pub use filling_holes::fill_holes;
+pub use filling_holes::{bits_of_value, complement, fill_holes, fits_width};
 pub use form::CpForm;
 pub use forms::{FormFault, cp_form};
 pub use hole::{Hole, HoleKind};

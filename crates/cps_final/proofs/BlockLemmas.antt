@@ -12,6 +12,7 @@ use Rattle.std.proofs.lemmas.Option.{slice_get_within, get_or_from_slice_get, sl
 use Rattle.indexmap.specs.IndexMap.{IndexMap, keys, get, insert_entry, Updates}
 use Rattle.indexmap.specs.IndexSet.{insert_key, insert_all}
 use Rattle.cps_text.specs.declared.name.Name.{Name}
+use Rattle.cps_expr.specs.declared.machine.Machine.TheVariants.{Cp}
 use Rattle.cps_expr.specs.Value.{same_name}
 use Rattle.cps_state.specs.declared.key.Put.{Put}
 use Rattle.cps_state.specs.declared.key.Key.{Key}
@@ -74,13 +75,13 @@ grown-next layout before end puts i p lt is made so_far =
     ap (λ (l : Layout). grown_by l (drop (i + 1) puts)) (made ∙ ap (grown before) is) ∙ sym (ap (grown_by before) (drop_more puts i p lt)) ∙ so_far
 
 -- a put of a counter makes its block grow
-pub grown-counter : (layout new : Layout) (p : Put) (block : Option Name) (words : ℕ) → p.key ≡ key.Counter block → words ≡ words_before (place_of (Some p.answer))
+pub grown-counter : (layout new : Layout) (p : Put) (block : Option Name) (words : ℕ) → p.key ≡ key.Counter block → words ≡ words_before (place_of Cp (Some p.answer))
     → new ≡ grown_to layout block words → new ≡ grown layout p
 grown-counter layout new p block words is counted made =
     made ∙ ap (grown_to layout block) counted
     ∙ sym (ap (λ (k : Key). record {
       named = insert_all same_name layout.named (named_by k);
-      size = λ (other : Option Name). max (layout.size other) (if same_key (key.Counter other) k then words_before (place_of (Some p.answer)) else 0);
+      size = λ (other : Option Name). max (layout.size other) (if same_key (key.Counter other) k then words_before (place_of Cp (Some p.answer)) else 0);
     }) is)
 
 zero-plus : (n : ℕ) → 0 + n ≡ n

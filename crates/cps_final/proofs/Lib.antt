@@ -1,4 +1,5 @@
+pub mod AloneLemmas
 pub mod BlockLemmas
 pub mod GatherLemmas
 pub mod OutcomeLemmas
-pub mod AloneLemmas
+pub mod ValueLemmas

@@ -1,70 +1,113 @@
--- Pass two, one field or one name further.
-use Rattle.std.proofs.Common.{◌≡◌, ℕ, ◌+◌, ◌/◌, ◌<◌, ◌≤◌, Bool, true, false, true≢false, List, [], ◌∷◌, ◌++◌, length, get_or, take, drop, flat_map, None, Some, Result, Ok, Err, sym, ap, subst, ◌∙◌, append-nil, append_assoc}
-use Rattle.std.specs.Prelude.{fold, OnOk}
+-- Pass two, one content or one name further.
+use Rattle.std.proofs.Common.{◌≡◌, ℕ, ◌+◌, ◌*◌, ◌/◌, ◌<◌, ◌≤◌, Bool, true, false, List, [], ◌∷◌, ◌++◌, length, get_or, take, drop, flat_map, refl, sym, ap, subst, ◌∙◌, arith, append-nil, append_assoc}
+use Rattle.std.specs.Prelude.{fold, if◌then◌else◌}
 use Rattle.std.proofs.lemmas.Grind.{flat_map-append}
-use Rattle.std.proofs.lemmas.List.{take_more, drop_more, drop_all}
+use Rattle.std.proofs.lemmas.List.{take_more, take_all, drop_more}
 use Rattle.std.proofs.lemmas.List.Sums.{fold-append}
 use Rattle.indexmap.specs.IndexSet.{insert_all, insert_key}
 use Rattle.cps_text.specs.declared.name.Name.{Name}
+use Rattle.cps_expr.specs.declared.machine.Machine.{Machine}
 use Rattle.cps_expr.specs.Value.{Values, same_name}
 use Rattle.cps_state.specs.declared.flags.Flags.{Flags}
-use Rattle.cps_state.specs.declared.made.Field.{Field}
+use Rattle.cps_state.specs.declared.made.Content.{Content}
 use Rattle.cps_state.specs.declared.item.Item.{Item}
 use Rattle.cps_state.specs.declared.key.Put.{Put}
 use Rattle.cps_state.specs.Course.{Trace}
 use Rattle.cps_state.specs.Flags.{joined}
+use Rattle.cps_state.specs.Machines.{limit, behind}
 use Rattle.cps_code.specs.Image.{Piece}
-use Rattle.cps_state.specs.Made.{Made, no_flags, width_of, HasRoom, HaveRoom}
+use Rattle.cps_state.specs.Made.{Made, no_flags, width_of, end_of, HaveRoom}
+use Rattle.cps_state.proofs.PlaceLemmas.{end-not-before, end-next}
 use Rattle.cps_final.specs.declared.row.Row.{Row}
-use Rattle.cps_final.specs.Outcome.{Resolved, labels_by, base_in, number_of, value_flags, limit_flags, digits, row_at, field_rows, rows_of, placed, field_piece, field_pieces, pieces_of, later_names, symbol_put, names_read, names_defined, outcome_of, joined_with}
+use Rattle.cps_final.specs.Outcome.{Resolved, labels_by, base_in, first_address, row_at, content_rows, with_contents, blank_row, rows_with, rows_of, pieces_of, later_names, symbol_put, names_read, names_defined, outcome_of, joined_with}
 use Rattle.cps_final.proofs.BlockLemmas.{same_name-laws}
 use Rattle.cps_final.proofs.GatherLemmas.{distinct-append}
 
--- ---- rows
+-- ---- the walk over contents
 
-pub row-far : (labels : Values) (flags : Flags) (far : Bool) (base word : ℕ) (field : Field) (valued all : Flags)
-    → far ≡ true → word ≡ field.start / 60 → valued ≡ value_flags labels (base + word) field.content → all ≡ joined flags valued
-    → record { flags = all; location = None; code = None } ≡ row_at labels flags far (base + field.start / 60) field
-row-far labels flags true base word field valued all far is given joins =
-    let flags-now : all ≡ joined flags (value_flags labels (base + field.start / 60) field.content) =
-    joins ∙ ap (joined flags) (given ∙ ap (λ (n : ℕ). value_flags labels (base + n) field.content) is) in
-    λ i. record { flags = flags-now i; location = None; code = None }
-row-far labels flags false base word field valued all far is given joins = absurd (true≢false (sym far))
+-- from the place where a statement starts its contents have room
+pub room-first : (machine : Machine) (made : Made) (at : ℕ) → machine ≡ made.machine → at ≡ made.start → HaveRoom made.machine made.start made.contents
+    → (at ≤ 60 * limit machine) × (end_of machine at made.contents ≤ 60 * limit machine)
+room-first machine made at of starts room =
+    let ends : end_of machine at made.contents ≤ 60 * limit machine =
+    subst (λ (m : Machine). end_of m at made.contents ≤ 60 * limit m) (sym of) (subst (λ (n : ℕ). end_of made.machine n made.contents ≤ 60 * limit made.machine) (sym starts) room.within) in
+    let after = end-not-before machine at made.contents in
+    (omega (arith, after, ends), ends)
 
-pub row-near : (labels : Values) (flags : Flags) (far : Bool) (base word width number : ℕ) (field : Field) (valued all past both : Flags)
-    → far ≡ false → word ≡ field.start / 60 → valued ≡ value_flags labels (base + word) field.content → number ≡ number_of labels (base + word) field.content
-    → width ≡ width_of field.content → all ≡ joined flags valued → past ≡ limit_flags (base + word) → both ≡ joined all past
-    → record { flags = both; location = Some (base + word); code = Some (digits (width / 3) number) } ≡ row_at labels flags far (base + field.start / 60) field
-row-near labels flags true base word width number field valued all past both far is given counts wide joins passes ends = absurd (true≢false far)
-row-near labels flags false base word width number field valued all past both far is given counts wide joins passes ends =
-    let flags-now : both ≡ joined (joined flags (value_flags labels (base + field.start / 60) field.content)) (limit_flags (base + field.start / 60)) =
-    ends ∙ ap (λ (f : Flags). joined f past) (joins ∙ ap (joined flags) (given ∙ ap (λ (n : ℕ). value_flags labels (base + n) field.content) is))
-    ∙ ap (joined (joined flags (value_flags labels (base + field.start / 60) field.content))) (passes ∙ ap (λ (n : ℕ). limit_flags (base + n)) is) in
-    let number-now : number ≡ number_of labels (base + field.start / 60) field.content = counts ∙ ap (λ (n : ℕ). number_of labels (base + n) field.content) is in
-    λ i. record { flags = flags-now i; location = Some (base + is i); code = Some (digits (wide i / 3) (number-now i)) }
+-- the content at an index, its row, and the place behind it
+pub record Step (finals : Resolved) (made : Made) (machine : Machine) (flags : Flags) (is_later : Bool) (at next i : ℕ) (content : Content) (row : Row) : Type 0 where
+  pub of : machine ≡ made.machine
+  pub within : i < length made.contents
+  pub is : content ≡ get_or made.contents i content
+  pub moved : next ≡ behind machine at (width_of content)
+  pub shows : row ≡ row_at (labels_by finals) made.machine flags is_later (first_address finals made) (base_in finals made.block + at / 60) content
 
-pub rows-next : (finals : Resolved) (made : Made) (rows new : List Row) (flags next : Flags) (row : Row) (i : ℕ) (field : Field) (end : List Row)
-    → i < length made.fields → field ≡ get_or made.fields i field → new ≡ rows ++ row ∷ []
-    → row ≡ row_at (labels_by finals) flags made.is_too_far (base_in finals made.block + field.start / 60) field → next ≡ no_flags
-    → rows ++ field_rows finals made flags (drop i made.fields) ≡ end → new ++ field_rows finals made next (drop (i + 1) made.fields) ≡ end
-rows-next finals made rows new flags next row i field end lt is pushed shows none so_far =
-    let rest = field_rows finals made no_flags (drop (i + 1) made.fields) in
-    ap (λ (f : Flags). new ++ field_rows finals made f (drop (i + 1) made.fields)) none ∙ ap (λ (l : List Row). l ++ rest) pushed ∙ append_assoc rows (row ∷ []) rest
-    ∙ ap (λ (r : Row). rows ++ (r ∷ rest)) (shows ∙ ap (λ (f : Field). row_at (labels_by finals) flags made.is_too_far (base_in finals made.block + f.start / 60) f) is)
-    ∙ sym (ap (λ (l : List Field). rows ++ field_rows finals made flags l) (drop_more made.fields i field lt)) ∙ so_far
+-- the same from what the code worked out
+pub step : (finals : Resolved) (made : Made) (machine : Machine) (flags : Flags) (is_later : Bool) (base here word at next width i : ℕ) (contents : List Content) (content : Content) (row : Row)
+    → machine ≡ made.machine → base ≡ base_in finals made.block → here ≡ base + made.start / 60 → word ≡ at / 60
+    → contents ≡ made.contents → i < length contents → content ≡ get_or contents i content → width ≡ width_of content → next ≡ behind machine at width
+    → row ≡ row_at (labels_by finals) machine flags is_later here (base + word) content
+    → Step finals made machine flags is_later at next i content row
+step finals made machine flags is_later base here word at next width i contents content row of based starts counts same lt is wide moved shows = record {
+  of = of;
+  within = subst (λ (l : List Content). i < length l) same lt;
+  is = is ∙ ap (λ (l : List Content). get_or l i content) same;
+  moved = moved ∙ ap (behind machine at) wide;
+  shows = shows
+      ∙ (λ j. row_at (labels_by finals) (of j) flags is_later ((starts ∙ ap (λ (n : ℕ). n + made.start / 60) based) j) (based j + counts j) content);
+}
 
-pub rows-end : (finals : Resolved) (made : Made) (rows end : List Row) (flags : Flags) (i : ℕ) → length made.fields ≤ i
-    → rows ++ field_rows finals made flags (drop i made.fields) ≡ end → rows ≡ end
-rows-end finals made rows end flags i past so_far =
-    sym (ap (λ (l : List Field). rows ++ field_rows finals made flags l) (drop_all i made.fields past) ∙ append-nil rows) ∙ so_far
+module _ (finals : Resolved) (made : Made) (machine : Machine) (flags : Flags) (is_later : Bool) (at next i : ℕ) (content : Content) (row : Row)
+    (so : Step finals made machine flags is_later at next i content row) where
+  pub room-next : end_of machine at (drop i made.contents) ≤ 60 * limit machine
+      → (next ≤ 60 * limit machine) × (end_of machine next (drop (i + 1) made.contents) ≤ 60 * limit machine)
+  room-next room =
+      let same = end-next machine at next (end_of machine at (drop i made.contents)) made.contents i content so.within so.is so.moved refl in
+      let ends : end_of machine next (drop (i + 1) made.contents) ≤ 60 * limit machine = subst (λ (n : ℕ). n ≤ 60 * limit machine) (sym same) room in
+      let after = end-not-before machine next (drop (i + 1) made.contents) in
+      (omega (arith, after, ends), ends)
 
--- ---- fields
+  -- the rows from a content on are its own and those behind it
+  rows-more : content_rows finals made flags is_later at (drop i made.contents) ≡ row ∷ content_rows finals made no_flags true next (drop (i + 1) made.contents)
+  rows-more =
+      let moved : next ≡ behind made.machine at (width_of content) = so.moved ∙ ap (λ (m : Machine). behind m at (width_of content)) so.of in
+      ap (content_rows finals made flags is_later at) (drop_more made.contents i content so.within)
+      ∙ ap (λ (c : Content). row_at (labels_by finals) made.machine flags is_later (first_address finals made) (base_in finals made.block + at / 60) c
+      ∷ content_rows finals made no_flags true (behind made.machine at (width_of c)) (drop (i + 1) made.contents)) (sym so.is)
+      ∙ (λ j. sym so.shows j ∷ content_rows finals made no_flags true (sym moved j) (drop (i + 1) made.contents))
 
-pub room-at : (fields : List Field) (i : ℕ) (field : Field) → i < length fields → field ≡ get_or fields i field → HaveRoom (drop i fields) → HasRoom field
-room-at fields i field lt is room = subst HasRoom (sym is) (subst HaveRoom (drop_more fields i field lt) room).0
+  pub rows-next : (rows new end : List Row) (next_flags : Flags) → new ≡ rows ++ row ∷ [] → next_flags ≡ no_flags
+      → rows ++ content_rows finals made flags is_later at (drop i made.contents) ≡ end
+      → new ++ content_rows finals made next_flags true next (drop (i + 1) made.contents) ≡ end
+  rows-next rows new end next_flags pushed none so_far =
+      let rest = content_rows finals made no_flags true next (drop (i + 1) made.contents) in
+      ap (λ (f : Flags). new ++ content_rows finals made f true next (drop (i + 1) made.contents)) none
+      ∙ ap (λ (l : List Row). l ++ rest) pushed ∙ append_assoc rows (row ∷ []) rest
+      ∙ sym (ap (λ (l : List Row). rows ++ l) rows-more) ∙ so_far
 
-pub room-behind : (fields : List Field) (i : ℕ) (field : Field) → i < length fields → HaveRoom (drop i fields) → HaveRoom (drop (i + 1) fields)
-room-behind fields i field lt room = (subst HaveRoom (drop_more fields i field lt) room).1
+  pub flags-next : (all new end next_flags : Flags) → new ≡ joined all row.flags → next_flags ≡ no_flags
+      → joined_with all (content_rows finals made flags is_later at (drop i made.contents)) ≡ end
+      → joined_with new (content_rows finals made next_flags true next (drop (i + 1) made.contents)) ≡ end
+  flags-next all new end next_flags joins none so_far =
+      ap (λ (f : Flags). joined_with new (content_rows finals made f true next (drop (i + 1) made.contents))) none
+      ∙ ap (λ (f : Flags). joined_with f (content_rows finals made no_flags true next (drop (i + 1) made.contents))) joins
+      ∙ sym (ap (joined_with all) rows-more) ∙ so_far
+
+-- the row of contents that only give flags
+pub flags-row : (finals : Resolved) (made : Made) (contents : List Content) → 0 < length contents → made.only_flags ≡ true
+    → rows_with finals made contents ≡ blank_row (with_contents (labels_by finals) (first_address finals made) made.flags contents) ∷ []
+flags-row finals made [] some only = absurd (omega (arith, some))
+flags-row finals made (content ∷ contents) some only =
+    ap (λ (b : Bool). if b then blank_row (with_contents (labels_by finals) (first_address finals made) made.flags (content ∷ contents)) ∷ []
+    else content_rows finals made made.flags false made.start (content ∷ contents)) only
+
+-- all contents were walked
+pub flags-all : (labels : Values) (here address : ℕ) (flags all : Flags) (contents : List Content) (i : ℕ) → length contents ≤ i → here ≡ address
+    → all ≡ with_contents labels here flags (take i contents) → all ≡ with_contents labels address flags contents
+flags-all labels here address flags all contents i past is so_far =
+    so_far ∙ ap (with_contents labels here flags) (take_all i contents past) ∙ ap (λ (n : ℕ). with_contents labels n flags contents) is
+
+-- ---- lists
 
 pub flat_map-more : {X Y : Type 0} (f : X → List Y) (xs : List X) (i : ℕ) (x : X) → i < length xs → x ≡ get_or xs i x
     → flat_map f (take (i + 1) xs) ≡ flat_map f (take i xs) ++ f x
@@ -83,29 +126,6 @@ pub inserts-more : {X : Type 0} (f : X → List Name) (xs : List X) (i : ℕ) (x
 inserts-more f xs i x old so_far new lt is before made =
     made ∙ ap (λ (l : List Name). insert_all same_name l (f x)) before ∙ sym (fold-append (insert_key same_name) old (flat_map f (take i xs)) (f x))
     ∙ ap (insert_all same_name old) (sym (flat_map-more f xs i x lt is))
-
--- ---- bits
-
-pub bits-next : {T E : Type 0} (r : Result T E) (f : Field → List Piece) (fields : List Field) (i : ℕ) (field : Field) (old mid new : List Piece) → i < length fields → field ≡ get_or fields i field
-    → mid ≡ old ++ flat_map f (take i fields) → new ≡ mid ++ f field → new ≡ old ++ flat_map f (take (i + 1) fields)
-bits-next r f fields i field old mid new lt is before made =
-    made ∙ ap (λ (l : List Piece). l ++ f field) before ∙ append_assoc old (flat_map f (take i fields)) (f field) ∙ ap (λ (l : List Piece). old ++ l) (sym (flat_map-more f fields i field lt is))
-
-joined-bits : (finals : Resolved) (made : Made) (base : ℕ) (far : Bool) (filling mid old new : List Piece) (fields : List Field) → base ≡ base_in finals made.block
-    → far ≡ false → far ≡ made.is_too_far → filling ≡ made.filling → fields ≡ made.fields → mid ≡ old ++ flat_map (placed base) filling
-    → new ≡ mid ++ flat_map (λ field. placed base (field_piece (labels_by finals) base field)) fields → new ≡ old ++ pieces_of finals made
-joined-bits finals made base far filling mid old new fields based near is fills has before made-bits =
-    let code : flat_map (λ field. placed base (field_piece (labels_by finals) base field)) fields ≡ field_pieces (labels_by finals) (base_in finals made.block) made.is_too_far made.fields =
-    (λ i. field_pieces (labels_by finals) (based i) ((sym near ∙ is) i) (has i)) in
-    made-bits ∙ ap (λ (l : List Piece). l ++ flat_map (λ field. placed base (field_piece (labels_by finals) base field)) fields) before
-    ∙ append_assoc old (flat_map (placed base) filling) (flat_map (λ field. placed base (field_piece (labels_by finals) base field)) fields)
-    ∙ (λ i. old ++ (flat_map (placed (based i)) (fills i) ++ code i))
-
-pub bits-ok : {T E : Type 0} (r : Result T E) (finals : Resolved) (made : Made) (base : ℕ) (far : Bool) (filling mid old new : List Piece) (fields : List Field) → base ≡ base_in finals made.block
-    → far ≡ false → far ≡ made.is_too_far → filling ≡ made.filling → fields ≡ made.fields → mid ≡ old ++ flat_map (placed base) filling
-    → OnOk r (new ≡ mid ++ flat_map (λ field. placed base (field_piece (labels_by finals) base field)) fields) → OnOk r (new ≡ old ++ pieces_of finals made)
-bits-ok (Ok x) finals made base far filling mid old new fields based near is fills has before bits = joined-bits finals made base far filling mid old new fields based near is fills has before bits
-bits-ok (Err e) finals made base far filling mid old new fields based near is fills has before bits = tt
 
 -- ---- a line
 
@@ -144,14 +164,3 @@ item-flags-next f items shown i item flags new end same lt is joins so_far =
     let within : i < length shown = subst (λ (l : List Item). i < length l) same lt in
     let is-now : item ≡ get_or shown i item = is ∙ ap (λ (l : List Item). get_or l i item) same in
     ap (λ (fs : Flags). joined_with fs (flat_map f (drop (i + 1) shown))) joins ∙ sym (rows-joined f shown i item flags within is-now) ∙ so_far
-
-pub field-flags-next : (finals : Resolved) (made : Made) (fields : List Field) (i : ℕ) (field : Field) (flags own next new end : Flags) (row : Row) → fields ≡ made.fields → i < length fields → field ≡ get_or fields i field
-    → new ≡ joined flags row.flags → row ≡ row_at (labels_by finals) own made.is_too_far (base_in finals made.block + field.start / 60) field → next ≡ no_flags
-    → joined_with flags (field_rows finals made own (drop i made.fields)) ≡ end → joined_with new (field_rows finals made next (drop (i + 1) made.fields)) ≡ end
-field-flags-next finals made fields i field flags own next new end row same lt is joins shows none so_far =
-    let within : i < length made.fields = subst (λ (l : List Field). i < length l) same lt in
-    let is-now : field ≡ get_or made.fields i field = is ∙ ap (λ (l : List Field). get_or l i field) same in
-    ap (λ (f : Flags). joined_with new (field_rows finals made f (drop (i + 1) made.fields))) none
-    ∙ ap (λ (fs : Flags). joined_with fs (field_rows finals made no_flags (drop (i + 1) made.fields)))
-    (joins ∙ ap (λ (r : Row). joined flags r.flags) (shows ∙ ap (λ (f : Field). row_at (labels_by finals) own made.is_too_far (base_in finals made.block + f.start / 60) f) is-now))
-    ∙ sym (ap (λ (l : List Field). joined_with flags (field_rows finals made own l)) (drop_more made.fields i field within)) ∙ so_far

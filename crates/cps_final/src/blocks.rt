@@ -1,14 +1,16 @@
 //! How large the blocks of a source are.
 ghost use Rattle.std.specs.Prelude.{◌≡◌, ◌≤◌, ◌<◌, ◌+◌, ◌*◌, ◌^◌, [], OnOk, IfSome, length, position};
 ghost use Rattle.cps_code.specs.Place.{position as bits_before};
+ghost use Rattle.cps_expr.specs.declared.machine.Machine.TheVariants.{Cp};
 ghost use Rattle.cps_expr.specs.Value.{same_name};
-ghost use Rattle.cps_state.specs.Keys.{limit};
+ghost use Rattle.cps_state.specs.Machines.{limit};
 ghost use Rattle.cps_final.specs.Layout.{layout_of, words_before};
 ghost use Rattle.cps_final.specs.Finals.{words_of_first};
 ghost use Rattle.cps_final.specs.Gathering.{layout_kept, grown, grown_by, grown_to};
 ghost use Rattle.indexmap.specs.IndexMap.{spare, keys};
 
 use cps_code::Place;
+use cps_expr::Machine;
 use cps_state::{Key, Put, place_of};
 use cps_text::Name;
 use indexmap::IndexMap;
@@ -55,7 +57,10 @@ impl Blocks {
         ensures room { spare self.old.named ≤ spare self.new.named + 1 }
     {
         if let Key::Counter(block) = put.key {
-            self.put_words(block, words_before(place_of(Some(&put.answer))));
+            self.put_words(
+                block,
+                words_before(place_of(Some(&put.answer), Machine::Cp)),
+            );
         }
     }
 
@@ -115,7 +120,7 @@ impl Blocks {
 
 /// The words before a place; one that is begun counts whole.
 fn words_before(place: Place) -> u32
-    requires { bits_before place ≤ 60 * limit }
+    requires { bits_before place ≤ 60 * limit Cp }
     ensures { result ≡ words_before place }
 {
     if place.used > 0 {

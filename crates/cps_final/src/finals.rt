@@ -1,16 +1,15 @@
 //! Final values.
 ghost use Rattle.std.specs.Prelude.{◌≡◌, ◌+◌, ◌<◌, ◌^◌, [], ◌++◌, ◌∷◌, pos, nat_abs, OnOk, OnErr, IfSome};
 ghost use Rattle.std.specs.Option.{option_or};
-ghost use Rattle.cps_expr.specs.declared.machine.Machine.TheVariants.{Cp};
 ghost use Rattle.cps_expr.specs.Value.{plain, limited, IsInRange};
 ghost use Rattle.cps_state.specs.Keys.{overwritten};
-ghost use Rattle.cps_final.specs.Finals.{first_program, Gathers, words_to_named, base_of, based, final_value, label, setting, block as block_named, literal};
+ghost use Rattle.cps_final.specs.Finals.{first_program, Gathers, machine_of, words_to_named, base_of, based, final_value, label, setting, block as block_named, literal};
 ghost use Rattle.cps_final.specs.Gathering.{grown_by};
 ghost use Rattle.cps_final.specs.Outcome.{base_in, final_of};
 
 use crate::blocks::Blocks;
 use cps_expr::{Machine, Names, Value};
-use cps_state::{Item, Lookup, State, Trace};
+use cps_state::{Item, Key, Lookup, State, Trace, control_of};
 use cps_text::Name;
 use indexmap::IndexSet;
 use std::alloc::{AllocError, Global};
@@ -95,9 +94,9 @@ impl Finals {
 
     /// The machine that the program is for.
     pub fn machine(&self) -> Machine
-        ensures { result ≡ Cp }
+        ensures { result ≡ machine_of (⟦<Finals as Gathered>⟧.gathered self.now) }
     {
-        Machine::Cp
+        control_of(self.state.ask(&Key::Control)).machine
     }
 
     /// The program's name: the first that a statement gives.

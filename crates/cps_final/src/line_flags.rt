@@ -1,11 +1,12 @@
 //! The flags of a line, where nothing else of its pass two is wanted.
-ghost use Rattle.std.specs.Prelude.{◌≡◌};
+ghost use Rattle.std.specs.Prelude.{◌≡◌, false};
 ghost use Rattle.cps_final.specs.Finals.{final_value};
 ghost use Rattle.cps_final.specs.Outcome as outcome;
 
 use crate::finals::{Finals, Gathered};
-use crate::rows::{row_at, statement_row};
-use cps_state::{Flags, Made, Trace};
+use crate::rows::{flags_with_contents, row_at, statement_row};
+use crate::valued::first_address;
+use cps_state::{Flags, Made, Trace, WORD, behind};
 
 /// The flags of a line: those of all rows that pass two makes of it. Takes no memory.
 pub fn flags_under(trace: &Trace, finals: &Finals) -> Flags
@@ -22,23 +23,33 @@ pub fn flags_under(trace: &Trace, finals: &Finals) -> Flags
 fn join_rows(flags: Flags, made: &Made, finals: &Finals) -> Flags
     ensures { result ≡ outcome.joined_with flags (outcome.rows_of (final_value (⟦<Finals as Gathered>⟧.gathered finals.now)) made.now) }
 {
-    if made.fields().is_empty() {
-        flags.joined(statement_row(made.flags(), made.shown(), finals).flags)
+    if made.contents().is_empty() {
+        flags.joined(statement_row(made, finals).flags)
+    } else if made.only_flags() {
+        flags.joined(flags_with_contents(made, finals))
     } else {
-        join_field_rows(flags, made, finals)
+        join_content_rows(flags, made, finals)
     }
 }
 
-fn join_field_rows(flags: Flags, made: &Made, finals: &Finals) -> Flags
-    ensures { result ≡ outcome.joined_with flags (outcome.field_rows (final_value (⟦<Finals as Gathered>⟧.gathered finals.now)) made.now made.now.flags made.now.fields) }
+fn join_content_rows(flags: Flags, made: &Made, finals: &Finals) -> Flags
+    requires { made.now.only_flags ≡ false }
+    ensures { result ≡ outcome.joined_with flags (outcome.content_rows (final_value (⟦<Finals as Gathered>⟧.gathered finals.now)) made.now made.now.flags false made.now.start made.now.contents) }
 {
+    let machine = made.machine();
     let base = finals.address_of(made.block());
-    let is_too_far = made.is_too_far();
+    let here = first_address(made, base);
     let mut flags = flags;
     let mut own = made.flags();
-    for field in made.fields() {
-        flags = flags.joined(row_at(own, is_too_far, base, field, finals).flags);
+    let mut is_later = false;
+    let mut at = made.start();
+    for content in made.contents() {
+        let address = base + u64::from(at / WORD);
+        let row = row_at(machine, own, is_later, here, address, content, finals);
+        flags = flags.joined(row.flags);
         own = Flags::none();
+        is_later = true;
+        at = behind(machine, at, content.width());
     }
     flags
 }

@@ -5,8 +5,8 @@ ghost use Rattle.cps_expr.specs.Value.{same_name};
 ghost use Rattle.cps_final.specs.Outcome.{content_names, later_names, symbol_put};
 ghost use Rattle.indexmap.specs.IndexSet.{insert_all};
 
-use cps_code::CpForm;
-use cps_state::{Content, Field, Item, Key, Put, Trace};
+use cps_code::Hole;
+use cps_state::{Content, Item, Key, Put, Trace};
 use cps_text::Name;
 use indexmap::IndexSet;
 use std::alloc::{AllocError, Global};
@@ -42,19 +42,19 @@ fn insert_symbol(names: &mut IndexSet<Name>, key: Key) -> Result<(), AllocError>
 }
 
 fn insert_later_names(names: &mut IndexSet<Name>, items: &[Item]) -> Result<(), AllocError>
-    ensures { OnOk result (names.new.keys ≡ insert_all same_name names.old.keys (flat_map (λ item. flat_map (λ field. content_names field.content) item.made.fields) items.now)) }
+    ensures { OnOk result (names.new.keys ≡ insert_all same_name names.old.keys (flat_map (λ item. flat_map content_names item.made.contents) items.now)) }
 {
     for item in items {
-        insert_field_names(names, item.made.fields())?;
+        insert_contents_names(names, item.made.contents())?;
     }
     Ok(())
 }
 
-fn insert_field_names(names: &mut IndexSet<Name>, fields: &[Field]) -> Result<(), AllocError>
-    ensures { OnOk result (names.new.keys ≡ insert_all same_name names.old.keys (flat_map (λ field. content_names field.content) fields.now)) }
+fn insert_contents_names(names: &mut IndexSet<Name>, contents: &[Content]) -> Result<(), AllocError>
+    ensures { OnOk result (names.new.keys ≡ insert_all same_name names.old.keys (flat_map content_names contents.now)) }
 {
-    for field in fields {
-        insert_content_names(names, &field.content)?;
+    for content in contents {
+        insert_content_names(names, content)?;
     }
     Ok(())
 }
@@ -63,14 +63,18 @@ fn insert_content_names(names: &mut IndexSet<Name>, content: &Content) -> Result
     ensures { OnOk result (names.new.keys ≡ insert_all same_name names.old.keys (content_names content.now)) }
 {
     match content {
-        Content::Instruction(form) => insert_form_names(names, form),
+        Content::Instruction(form) => insert_hole_names(names, form.holes()),
+        Content::Peripheral(form) => insert_hole_names(names, form.holes()),
+        Content::Value(_, expression) => insert_names(names, expression.names()),
+        Content::Number(..) => Ok(()),
+        Content::Unsized(expression) => insert_names(names, expression.names()),
     }
 }
 
-fn insert_form_names(names: &mut IndexSet<Name>, form: &CpForm) -> Result<(), AllocError>
-    ensures { OnOk result (names.new.keys ≡ insert_all same_name names.old.keys (flat_map (λ hole. names_of hole.expression) form.now.holes)) }
+fn insert_hole_names(names: &mut IndexSet<Name>, holes: &[Hole]) -> Result<(), AllocError>
+    ensures { OnOk result (names.new.keys ≡ insert_all same_name names.old.keys (flat_map (λ hole. names_of hole.expression) holes.now)) }
 {
-    for hole in form.holes() {
+    for hole in holes {
         insert_names(names, hole.expression.names())?;
     }
     Ok(())

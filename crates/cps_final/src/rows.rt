@@ -1,21 +1,22 @@
 //! The rows of a statement in pass two.
-ghost use Rattle.std.specs.Prelude.{◌≡◌, ◌++◌, ◌+◌, ◌/◌, ◌<◌, ◌^◌, flat_map, OnOk, IfOk};
-ghost use Rattle.cps_code.specs.Form.{complemented};
+ghost use Rattle.std.specs.Prelude.{◌≡◌, ◌++◌, ◌≤◌, ◌<◌, ◌^◌, false, flat_map, OnOk, IfOk};
+ghost use Rattle.cps_state.specs.Made.{IsContent};
 ghost use Rattle.cps_final.specs.Finals.{final_value};
 ghost use Rattle.cps_final.specs.Outcome as outcome;
 
 use crate::finals::{Finals, Gathered};
 use crate::row::{Digits, Row};
-use crate::valued::{value_content, width_of};
-use cps_expr::Value;
-use cps_state::{Field, Flags, Item, LIMIT, Made, Shown, WORD};
+use crate::valued::{first_address, value_content};
+use cps_code::complement;
+use cps_expr::Machine;
+use cps_state::{Content, Flags, Item, Made, Shown, WORD, behind, limit_of};
 use std::alloc::{AllocError, Global};
 
-/// All ones in the bits of a word.
-const ALL_ONES: u64 = (1 << 60) - 1;
+/// The bits of a central processor's word.
+const WORD_BITS: u8 = 60;
 
-/// The octal digits of a word.
-const WORD_DIGITS: u8 = 20;
+/// The bits of a peripheral processor's word.
+const PERIPHERAL_BITS: u8 = 12;
 
 /// The rows of statements.
 pub fn make_rows(alloc: Global, items: &[Item], finals: &Finals) -> Result<Vec<Row>, AllocError>
@@ -31,120 +32,165 @@ pub fn make_rows(alloc: Global, items: &[Item], finals: &Finals) -> Result<Vec<R
 fn push_rows(rows: &mut Vec<Row>, made: &Made, finals: &Finals) -> Result<(), AllocError>
     ensures { OnOk result (rows.new.items ≡ rows.old.items ++ outcome.rows_of (final_value (⟦<Finals as Gathered>⟧.gathered finals.now)) made.now) }
 {
-    if made.fields().is_empty() {
-        rows.push(statement_row(made.flags(), made.shown(), finals))?;
+    if made.contents().is_empty() {
+        rows.push(statement_row(made, finals))?;
+        Ok(())
+    } else if made.only_flags() {
+        rows.push(blank_row(flags_with_contents(made, finals)))?;
         Ok(())
     } else {
-        push_field_rows(rows, made, finals)
+        push_content_rows(rows, made, finals)
     }
 }
 
-/// A row for each field.
-fn push_field_rows(rows: &mut Vec<Row>, made: &Made, finals: &Finals) -> Result<(), AllocError>
-    ensures { OnOk result (rows.new.items ≡ rows.old.items ++ outcome.field_rows (final_value (⟦<Finals as Gathered>⟧.gathered finals.now)) made.now made.now.flags made.now.fields) }
+/// A row for each content.
+fn push_content_rows(rows: &mut Vec<Row>, made: &Made, finals: &Finals) -> Result<(), AllocError>
+    requires { made.now.only_flags ≡ false }
+    ensures { OnOk result (rows.new.items ≡ rows.old.items ++ outcome.content_rows (final_value (⟦<Finals as Gathered>⟧.gathered finals.now)) made.now made.now.flags false made.now.start made.now.contents) }
 {
+    let machine = made.machine();
     let base = finals.address_of(made.block());
-    let is_too_far = made.is_too_far();
+    let here = first_address(made, base);
     let mut flags = made.flags();
-    for field in made.fields() {
-        rows.push(row_at(flags, is_too_far, base, field, finals))?;
+    let mut is_later = false;
+    let mut at = made.start();
+    for content in made.contents() {
+        let address = base + u64::from(at / WORD);
+        rows.push(row_at(machine, flags, is_later, here, address, content, finals))?;
         flags = Flags::none();
+        is_later = true;
+        at = behind(machine, at, content.width());
     }
     Ok(())
 }
 
-/// The row of a field, in its block behind so many words.
-pub fn row_at(flags: Flags, is_too_far: bool, base: u64, field: &Field, finals: &Finals) -> Row
-    requires { base < 2 ^ 60 }
-    ensures { result ≡ outcome.row_at (outcome.labels_by (final_value (⟦<Finals as Gathered>⟧.gathered finals.now))) flags is_too_far (base + field.now.start / 60) field.now }
+/// The row of a content of the statement that starts in one word, itself in another.
+pub fn row_at(
+    machine: Machine,
+    flags: Flags,
+    is_later: bool,
+    here: u64,
+    address: u64,
+    content: &Content,
+    finals: &Finals,
+) -> Row
+    requires low { here < 2 ^ 62 }
+    requires each { IsContent content.now }
+    ensures { result ≡ outcome.row_at (outcome.labels_by (final_value (⟦<Finals as Gathered>⟧.gathered finals.now))) machine flags is_later here address content.now }
 {
-    let address = base + u64::from(field.start / WORD);
-    let valued = value_content(&field.content, finals, address);
-    let flags = flags.joined(valued.flags);
-    if is_too_far {
-        return Row {
-            flags,
-            location: None,
-            code: None,
-        };
-    }
+    let valued = value_content(content, finals, here);
     Row {
-        flags: flags.joined(limit_flags(address)),
+        flags: flags
+            .joined(valued.flags)
+            .joined(limit_flags(machine, address)),
         location: Some(address),
-        code: Some(Digits {
-            count: width_of(&field.content) / 3,
-            number: valued.number,
-        }),
+        code: Some(first_digits(content, valued.number)),
+        second: second_digits(content, valued.number),
+        is_later,
     }
 }
 
-/// E at or past the machine's words.
-fn limit_flags(address: u64) -> Flags
-    ensures { result ≡ outcome.limit_flags address }
+/// A row that shows nothing but flags.
+pub fn blank_row(flags: Flags) -> Row
+    ensures { result ≡ outcome.blank_row flags }
 {
-    let mut flags = Flags::none();
-    flags.structure = address >= u64::from(LIMIT);
+    Row {
+        flags,
+        location: None,
+        code: None,
+        second: None,
+        is_later: false,
+    }
+}
+
+/// The flags of a statement, and those that its contents give.
+pub fn flags_with_contents(made: &Made, finals: &Finals) -> Flags
+    ensures { result ≡ outcome.with_contents (outcome.labels_by (final_value (⟦<Finals as Gathered>⟧.gathered finals.now)))
+        (outcome.first_address (final_value (⟦<Finals as Gathered>⟧.gathered finals.now)) made.now) made.now.flags made.now.contents }
+{
+    let here = first_address(made, finals.address_of(made.block()));
+    let mut flags = made.flags();
+    for content in made.contents() {
+        flags = flags.joined(value_content(content, finals, here).flags);
+    }
     flags
 }
 
-/// The row of a statement without fields.
-pub fn statement_row(flags: Flags, shown: Shown, finals: &Finals) -> Row
-    ensures { result ≡ outcome.statement_row (final_value (⟦<Finals as Gathered>⟧.gathered finals.now)) flags shown }
+/// E at or past the machine's words.
+fn limit_flags(machine: Machine, address: u64) -> Flags
+    ensures { result ≡ outcome.limit_flags machine address }
 {
-    let (location, code) = match shown {
-        Shown::Nothing => (None, None),
-        Shown::Value(value) => match finals.final_of(value) {
-            Some(value) => (None, Some(word_of(value.offset))),
-            None => (None, None),
-        },
-        Shown::Address(value) => match finals.final_of(value) {
-            Some(value) => (Some(value.offset.unsigned_abs()), None),
-            None => (None, None),
-        },
-        Shown::Reserved(value) => return reserved_row(flags, finals.final_of(value)),
-    };
-    Row {
-        flags,
-        location,
-        code,
-    }
+    let mut flags = Flags::none();
+    flags.structure = address >= u64::from(limit_of(machine));
+    flags
 }
 
-/// The row of words that are reserved.
-fn reserved_row(flags: Flags, first: Option<Value>) -> Row
-    ensures { result ≡ outcome.reserved_row flags first }
+/// The row of a statement without contents.
+pub fn statement_row(made: &Made, finals: &Finals) -> Row
+    ensures { result ≡ outcome.statement_row (final_value (⟦<Finals as Gathered>⟧.gathered finals.now)) made.now made.now.shown }
 {
-    let Some(value) = first else {
-        return Row {
-            flags,
-            location: None,
-            code: None,
-        };
-    };
-    let address = value.offset.unsigned_abs();
-    Row {
-        flags: flags.joined(limit_flags(address)),
-        location: Some(address),
-        code: None,
+    let mut row = blank_row(made.flags());
+    match made.shown() {
+        Shown::Nothing => {}
+        Shown::Value(value) => {
+            if let Some(value) = finals.final_of(value) {
+                row.code = Some(digits_for(WORD_BITS, complement(value.offset)));
+            }
+        }
+        Shown::Address(value) => {
+            if let Some(value) = finals.final_of(value) {
+                row.location = Some(value.offset.unsigned_abs());
+            }
+        }
+        Shown::Start => {
+            let address = first_address(made, finals.address_of(made.block()));
+            row.flags = row.flags.joined(limit_flags(made.machine(), address));
+            row.location = Some(address);
+        }
     }
+    row
 }
 
-fn word_of(value: i64) -> Digits
-    ensures { result ≡ outcome.digits 20 (complemented 60 value) }
+/// One digit for each three bits, rounded up.
+fn digits_for(width: u8, number: u64) -> Digits
+    requires { width ≤ 60 }
+    ensures { result ≡ outcome.digits_for width number }
 {
     Digits {
-        count: WORD_DIGITS,
-        number: complement(value),
+        count: width.div_ceil(3),
+        number,
     }
 }
 
-/// A number in ones' complement of 60 bits.
-fn complement(value: i64) -> u64
-    ensures { result ≡ complemented 60 value }
+/// The digits of a content; of an instruction whose words are shown apart those of its first word.
+fn first_digits(content: &Content, number: u64) -> Digits
+    requires { IsContent content.now }
+    ensures { result ≡ outcome.first_digits content.now number }
 {
-    if value < 0 {
-        ALL_ONES.saturating_sub(value.unsigned_abs())
+    if is_parted(content) {
+        digits_for(PERIPHERAL_BITS, number >> PERIPHERAL_BITS)
     } else {
-        value.unsigned_abs()
+        digits_for(content.width(), number)
+    }
+}
+
+/// The digits of the second word, where the words of an instruction are shown apart.
+fn second_digits(content: &Content, number: u64) -> Option<Digits>
+    ensures { result ≡ outcome.second_digits content.now number }
+{
+    if is_parted(content) {
+        Some(digits_for(PERIPHERAL_BITS, number % (1 << PERIPHERAL_BITS)))
+    } else {
+        None
+    }
+}
+
+/// Whether it is an instruction of two words of a peripheral processor.
+fn is_parted(content: &Content) -> bool
+    ensures { result ≡ outcome.is_parted content.now }
+{
+    match content {
+        Content::Peripheral(form) => form.bits() > PERIPHERAL_BITS,
+        _ => false,
     }
 }

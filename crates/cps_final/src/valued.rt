@@ -1,72 +1,178 @@
-//! Codes with the final values of their expressions.
-ghost use Rattle.std.specs.Prelude.{◌≡◌, ◌<◌, ◌^◌, ◌||◌, pos, IfSome};
-ghost use Rattle.cps_code.specs.Value as number;
-ghost use Rattle.cps_expr.specs.Value.{IsInRange, plain};
-ghost use Rattle.cps_state.specs.Made.{no_flags, width_of};
+//! Contents with the final values of their expressions.
+ghost use Rattle.std.specs.Prelude.{◌≡◌, ◌+◌, ◌/◌, ◌<◌, ◌≤◌, ◌^◌, ◌||◌, not, IfSome};
+ghost use Rattle.cps_code.specs.Form.{put_value, fits_width};
+ghost use Rattle.cps_code.specs.Value.{IsInRange};
+ghost use Rattle.cps_expr.specs.Value as ranges;
+ghost use Rattle.cps_state.specs.Made.{width_of, IsContent};
 ghost use Rattle.cps_final.specs.Finals.{final_value};
 ghost use Rattle.cps_final.specs.Outcome as outcome;
 
 use crate::finals::{Finals, Gathered};
-use cps_code::{CpForm, Filled};
-use cps_expr::Value;
-use cps_state::{Content, Flags};
+use cps_code::{CpForm, Filled, Hole, HoleKind, bits_of_value, fits_width};
+use cps_expr::{Expr, Value};
+use cps_peripheral::PpForm;
+use cps_state::{Content, Flags, Made, WORD};
 
-/// A code and the flags that its values give.
+/// The number that a content makes, and the flags that its values give.
 #[derive(Clone, Copy)]
 pub struct Valued {
     pub number: u64,
     pub flags: Flags,
 }
 
-/// The code of a field in the word at an address; a value that there is not counts as 0.
+/// The value of an expression as a number, and the flags that it gives.
+#[derive(Clone, Copy)]
+struct Counted {
+    number: i64,
+    flags: Flags,
+}
+
+/// The final address of the word in which a statement starts, in its block behind so many words.
+pub fn first_address(made: &Made, base: u64) -> u64
+    requires { base < 2 ^ 60 }
+    ensures address { result ≡ base + made.now.start / 60 }
+    ensures bound { result < 2 ^ 61 }
+{
+    base + u64::from(made.start() / WORD)
+}
+
+/// A content in which `*` stands for an address; a value that there is not counts as 0.
 pub fn value_content(content: &Content, finals: &Finals, address: u64) -> Valued
-    requires { address < 2 ^ 62 }
+    requires low { address < 2 ^ 62 }
+    requires each { IsContent content.now }
     ensures number { result.number ≡ outcome.number_of (outcome.labels_by (final_value (⟦<Finals as Gathered>⟧.gathered finals.now))) address content.now }
     ensures flags { result.flags ≡ outcome.value_flags (outcome.labels_by (final_value (⟦<Finals as Gathered>⟧.gathered finals.now))) address content.now }
     ensures fits { result.number < 2 ^ width_of content.now }
 {
     match content {
-        Content::Instruction(form) => value_form(form, finals, address),
+        Content::Instruction(form) => value_instruction(form, finals, address),
+        Content::Peripheral(form) => value_peripheral(form, finals, address),
+        Content::Value(width, expression) => value_in(*width, expression, finals, address),
+        Content::Number(_, number) => Valued {
+            number: *number,
+            flags: Flags::none(),
+        },
+        Content::Unsized(expression) => Valued {
+            number: 0,
+            flags: value_of(expression, finals, address).flags,
+        },
     }
 }
 
-fn value_form(form: &CpForm, finals: &Finals, address: u64) -> Valued
+/// The value of an expression in so many bits.
+fn value_in(width: u8, expression: &Expr, finals: &Finals, address: u64) -> Valued
+    requires low { address < 2 ^ 62 }
+    requires some { 0 < width }
+    requires few { width ≤ 60 }
+    ensures number { result.number ≡ put_value width (outcome.number_at (outcome.labels_by (final_value (⟦<Finals as Gathered>⟧.gathered finals.now))) address expression.now) }
+    ensures flags { result.flags ≡ record (outcome.expression_flags (outcome.labels_by (final_value (⟦<Finals as Gathered>⟧.gathered finals.now))) address expression.now)
+        { cut = not (fits_width width (outcome.number_at (outcome.labels_by (final_value (⟦<Finals as Gathered>⟧.gathered finals.now))) address expression.now)) } }
+    ensures fits { result.number < 2 ^ width }
+{
+    let value = value_of(expression, finals, address);
+    let mut flags = value.flags;
+    flags.cut = !fits_width(value.number, width);
+    Valued {
+        number: bits_of_value(value.number, width),
+        flags,
+    }
+}
+
+/// An instruction of the central processor.
+fn value_instruction(form: &CpForm, finals: &Finals, address: u64) -> Valued
     requires { address < 2 ^ 62 }
     ensures number { result.number ≡ outcome.form_number (outcome.labels_by (final_value (⟦<Finals as Gathered>⟧.gathered finals.now))) address form.now }
     ensures flags { result.flags ≡ outcome.form_flags (outcome.labels_by (final_value (⟦<Finals as Gathered>⟧.gathered finals.now))) address form.now }
     ensures fits { result.number < 2 ^ form.now.bits }
 {
     match form.holes() {
+        [] => valued_form(form.fill(&[]), Flags::none()),
         [hole] => {
-            let valued = hole.expression.value(finals, Value::plain(address as i64));
-            let offset = plain_offset(valued.value);
-            let filled = form.fill(&[offset.unwrap_or(0)]);
-            valued_form(filled, offset.is_none(), valued.undefined)
+            let value = value_hole(hole, finals, address);
+            valued_form(form.fill(&[value.number]), value.flags)
         }
-        [] => valued_form(form.fill(&[]), false, false),
         _ => unreachable!(),
     }
 }
 
-fn valued_form(filled: Filled, has_no_value: bool, is_undefined: bool) -> Valued
-    ensures number { result.number ≡ filled.digits }
-    ensures flags { result.flags ≡ record no_flags { operand = (has_no_value || filled.is_out_of_range); cut = filled.is_truncated; undefined = is_undefined } }
+/// An instruction of a peripheral processor.
+fn value_peripheral(form: &PpForm, finals: &Finals, address: u64) -> Valued
+    requires { address < 2 ^ 62 }
+    ensures number { result.number ≡ outcome.form_number (outcome.labels_by (final_value (⟦<Finals as Gathered>⟧.gathered finals.now))) address form.now }
+    ensures flags { result.flags ≡ outcome.form_flags (outcome.labels_by (final_value (⟦<Finals as Gathered>⟧.gathered finals.now))) address form.now }
+    ensures fits { result.number < 2 ^ form.now.bits }
 {
-    let mut flags = Flags::none();
-    flags.operand = has_no_value || filled.is_out_of_range;
+    match form.holes() {
+        [] => valued_form(form.fill(&[]), Flags::none()),
+        [hole] => {
+            let value = value_hole(hole, finals, address);
+            valued_form(form.fill(&[value.number]), value.flags)
+        }
+        [hole, other_hole] => {
+            let value = value_hole(hole, finals, address);
+            let other = value_hole(other_hole, finals, address);
+            valued_form(
+                form.fill(&[value.number, other.number]),
+                value.flags.joined(other.flags),
+            )
+        }
+        _ => unreachable!(),
+    }
+}
+
+/// A form that was filled, with the flags of the values in it.
+fn valued_form(filled: Filled, flags: Flags) -> Valued
+    ensures number { result.number ≡ filled.digits }
+    ensures flags { result.flags ≡ record flags { operand = (flags.operand || filled.is_out_of_range); cut = filled.is_truncated } }
+{
+    let mut flags = flags;
+    flags.operand = flags.operand || filled.is_out_of_range;
     flags.cut = filled.is_truncated;
-    flags.undefined = is_undefined;
     Valued {
         number: filled.digits,
         flags,
     }
 }
 
+/// What goes into a hole.
+fn value_hole(hole: &Hole, finals: &Finals, address: u64) -> Counted
+    requires { address < 2 ^ 62 }
+    ensures number { result.number ≡ outcome.number_for hole.now.kind address (outcome.number_at (outcome.labels_by (final_value (⟦<Finals as Gathered>⟧.gathered finals.now))) address hole.now.expression) }
+    ensures flags { result.flags ≡ outcome.expression_flags (outcome.labels_by (final_value (⟦<Finals as Gathered>⟧.gathered finals.now))) address hole.now.expression }
+{
+    let value = value_of(&hole.expression, finals, address);
+    match hole.kind {
+        HoleKind::Value | HoleKind::Count => value,
+        HoleKind::Target => Counted {
+            number: value.number - address as i64,
+            flags: value.flags,
+        },
+    }
+}
+
+/// The value of an expression in which `*` stands for an address.
+fn value_of(expression: &Expr, finals: &Finals, address: u64) -> Counted
+    requires { address < 2 ^ 62 }
+    ensures number { result.number ≡ outcome.number_at (outcome.labels_by (final_value (⟦<Finals as Gathered>⟧.gathered finals.now))) address expression.now }
+    ensures flags { result.flags ≡ outcome.expression_flags (outcome.labels_by (final_value (⟦<Finals as Gathered>⟧.gathered finals.now))) address expression.now }
+    ensures range { IsInRange result.number }
+{
+    let valued = expression.value(finals, Value::plain(address as i64));
+    let offset = plain_offset(valued.value);
+    let mut flags = Flags::none();
+    flags.operand = offset.is_none();
+    flags.undefined = valued.undefined;
+    Counted {
+        number: offset.unwrap_or(0),
+        flags,
+    }
+}
+
 /// A plain value as a number; one in a block is none.
 fn plain_offset(value: Option<Value>) -> Option<i64>
-    requires { IfSome value IsInRange }
+    requires { IfSome value ranges.IsInRange }
     ensures offset { result ≡ outcome.plain_offset value }
-    ensures range { IfSome result number.IsInRange }
+    ensures range { IfSome result IsInRange }
 {
     match value {
         Some(
@@ -76,15 +182,5 @@ fn plain_offset(value: Option<Value>) -> Option<i64>
             },
         ) => Some(offset),
         _ => None,
-    }
-}
-
-/// The bits of a field.
-pub fn width_of(content: &Content) -> u8
-    ensures width { result ≡ width_of content.now }
-    ensures some { 0 < result }
-{
-    match content {
-        Content::Instruction(form) => form.bits(),
     }
 }

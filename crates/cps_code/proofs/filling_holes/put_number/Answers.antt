@@ -32,5 +32,5 @@ returns-clause-truncated c =
     let hole = c.args.hole.now in
     let same = to_z-of_z w64 c.args.number c.ranges.number in
     let within = rw same at c.if-is_out.ensures in
-    let fits = rw same at c.fits.ensures in
+    let fits = rw same at c.fits_width.ensures in
     rw (is_cut_in-within hole.kind hole.width c.args.number (sym within), fits) (search rules)

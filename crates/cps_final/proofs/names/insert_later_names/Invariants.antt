@@ -6,4 +6,4 @@ use Rattle.cps_final.proofs.names.insert_later_names.Given as goal
 
 abbrev pub invariant-loop-item : goal.invariant-loop-item
 invariant-loop-item l =
-    l.names.keys ≡ insert_all same_name l.fn.names.keys (flat_map (λ item. flat_map (λ field. content_names field.content) item.made.fields) (take l.item-index l.items))
+    l.names.keys ≡ insert_all same_name l.fn.names.keys (flat_map (λ item. flat_map content_names item.made.contents) (take l.item-index l.items))

@@ -1,0 +1,8 @@
+use Rattle.std.proofs.Common.{◌≡◌, take, flat_map}
+use Rattle.cps_expr.specs.Value.{same_name}
+use Rattle.indexmap.specs.IndexSet.{insert_all}
+use Rattle.cps_final.specs.Outcome.{content_names}
+use Rattle.cps_final.proofs.names.insert_contents_names.Given as goal
+
+abbrev pub invariant-loop-content : goal.invariant-loop-content
+invariant-loop-content l = l.names.keys ≡ insert_all same_name l.fn.names.keys (flat_map content_names (take l.content-index l.contents))
