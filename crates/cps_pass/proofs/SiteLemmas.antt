@@ -1,5 +1,5 @@
 -- Where statements start.
-use Rattle.std.proofs.Common.{◌≡◌, ℕ, ◌+◌, ◌*◌, ◌%◌, ◌<◌, ◌≤◌, refl, arith}
+use Rattle.std.proofs.Common.{◌≡◌, ℕ, ◌*◌, ◌%◌, ◌<◌, ◌≤◌, refl, arith}
 use Rattle.cps_expr.specs.declared.machine.Machine.{Machine}
 use Rattle.cps_expr.specs.declared.machine.Machine.TheVariants.{Cp, Pp}
 use Rattle.cps_expr.specs.Item.{bits_of}

@@ -1,6 +1,5 @@
 -- Words of characters, one more.
-use Rattle.std.proofs.Common.{◌≡◌, ℕ, ◌+◌, ◌*◌, arith, sym, ap, ◌∙◌, List, [], ◌∷◌, ◌++◌, map, take, drop}
-use Rattle.std.specs.List.{range_with_len}
+use Rattle.std.proofs.Common.{◌≡◌, ℕ, ◌+◌, ◌*◌, arith, sym, ap, ◌∙◌, List, [], ◌∷◌, ◌++◌, take, drop}
 use Rattle.std.proofs.lemmas.List.FromFn.{map-range_with_len_more}
 use Rattle.std.proofs.lemmas.List.{map-append}
 use Rattle.cps_expr.specs.declared.machine.Machine.{Machine}

@@ -1,5 +1,5 @@
 -- ORG and END: both leave the word that was begun. From the manual's descriptions of these statements; that they force is our profile's.
-use Rattle.std.specs.Prelude.{ℕ, ◌*◌, true, false, nat_lt, pos, negsuc, ℤ, Option, None, Some, if◌then◌else◌}
+use Rattle.std.specs.Prelude.{ℕ, ◌*◌, true, false, nat_lt, pos, Option, None, Some, if◌then◌else◌}
 use Rattle.cps_text.specs.declared.name.Name.{Name}
 use Rattle.cps_expr.specs.Expression.{Expression}
 use Rattle.cps_code.specs.declared.place.Place.{Place}

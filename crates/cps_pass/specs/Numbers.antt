@@ -1,5 +1,5 @@
 -- Numbers that the operand of a statement gives in pass one. From the manual's section on expressions; which values are none is our profile's.
-use Rattle.std.specs.Prelude.{ℕ, Bool, true, false, ◌&&◌, nat_le, pos, negsuc, ℤ, Option, None, Some, if◌then◌else◌}
+use Rattle.std.specs.Prelude.{ℕ, true, ◌&&◌, nat_le, pos, negsuc, ℤ, Option, None, Some, if◌then◌else◌}
 use Rattle.cps_text.specs.declared.name.Name.{Name}
 use Rattle.cps_state.specs.declared.flags.Flags.{Flags}
 use Rattle.cps_pass.specs.declared.placing.Site.{Site}

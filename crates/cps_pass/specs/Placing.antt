@@ -1,7 +1,6 @@
 -- Placing statements: what all of them share. From the manual's sections on the location field and on forcing upper; what stays pending is our
 -- profile's, and the limit too.
-use Rattle.std.specs.Prelude.{ℕ, ◌*◌, Bool, true, false, nat_lt, List, [], Option, None, Some, if◌then◌else◌}
-use Rattle.cps_text.specs.declared.name.Name.{Name}
+use Rattle.std.specs.Prelude.{ℕ, ◌*◌, Bool, true, false, nat_lt, List, [], if◌then◌else◌}
 use Rattle.cps_code.specs.Image.{Piece}
 use Rattle.cps_code.specs.declared.place.Force.{Force}
 use Rattle.cps_code.specs.declared.place.Force.TheVariants.{Free, NewWord, Cancel}
@@ -70,7 +69,12 @@ far_flags site = record (placing_flags site) { structure = true }
 -- contents that only give flags
 abbrev pub only_flagging : Flags → Site → List Piece → ℕ → List Content → Made
 only_flagging flags site filling start contents = record (nothing_made flags) {
-  machine = site.machine; block = site.block; filling = filling; start = start; contents = contents; only_flags = true;
+  machine = site.machine;
+  block = site.block;
+  filling = filling;
+  start = start;
+  contents = contents;
+  only_flags = true;
 }
 
 -- the block goes on at a place, and the symbol gets the address of the statement's first word
@@ -92,7 +96,11 @@ placed_to site start contents is_pending end =
     if nat_lt (60 * limit site.machine) end then too_far site start contents
     else settling site start (whole site.machine end) is_pending
     before fill (record (nothing_made (placing_flags site)) {
-      machine = site.machine; block = site.block; filling = filling_between (position site.place) start; start = start; contents = contents;
+      machine = site.machine;
+      block = site.block;
+      filling = filling_between (position site.place) start;
+      start = start;
+      contents = contents;
     })
 
 -- contents from a place on, one behind the other

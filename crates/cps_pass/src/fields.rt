@@ -7,7 +7,9 @@ ghost use Rattle.cps_pass.specs.Sites.{IsSite};
 
 use crate::numbers::{between, plain_number};
 use crate::places::here_at;
-use crate::placing::{Site, ask_site, place, place_nothing, place_unread, placing_flags, start_for};
+use crate::placing::{
+    Site, ask_site, place, place_nothing, place_unread, placing_flags, start_for,
+};
 use crate::reading::Location;
 use crate::value_now::{ValueNow, value_now};
 use cps_expr::{Expr, Field, Sequence, Value};

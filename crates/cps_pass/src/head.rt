@@ -142,11 +142,7 @@ pub fn declaration<L: Lookup>(
     ensures { OnOk result (Does (head.declaration control location machine) (L.answer state.now) recorder.old recorder.new) }
 {
     declare(recorder, state, control, machine)?;
-    flag(
-        alloc,
-        recorder,
-        declaration_flags(control.phase, location),
-    );
+    flag(alloc, recorder, declaration_flags(control.phase, location));
     Ok(())
 }
 

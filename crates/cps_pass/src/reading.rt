@@ -53,14 +53,24 @@ pub enum Reading {
 }
 
 /// What a line says in a program for a machine, under a base of numbers.
-pub fn read_line(alloc: Global, line: &Line, machine: Machine, radix: Radix) -> Result<Reading, AllocError>
+pub fn read_line(
+    alloc: Global,
+    line: &Line,
+    machine: Machine,
+    radix: Radix,
+) -> Result<Reading, AllocError>
     ensures reading { IfOk result (λ reading. reading ≡ reading_of machine radix line.now) }
     ensures bounded { IfOk result (IsReading machine) }
 {
     read_card(alloc, line.fields(), machine, radix)
 }
 
-fn read_card(alloc: Global, fields: Fields<'_>, machine: Machine, radix: Radix) -> Result<Reading, AllocError>
+fn read_card(
+    alloc: Global,
+    fields: Fields<'_>,
+    machine: Machine,
+    radix: Radix,
+) -> Result<Reading, AllocError>
     ensures reading { IfOk result (λ reading. reading ≡ reading_in machine radix (fields_value fields.entry)) }
     ensures bounded { IfOk result (IsReading machine) }
 {

@@ -65,7 +65,11 @@ pub fn con<L: Lookup>(
     place_words(recorder, state, site, contents)
 }
 
-fn value_words(alloc: Global, machine: Machine, values: Sequence<Expr>) -> Result<Vec<Content>, AllocError>
+fn value_words(
+    alloc: Global,
+    machine: Machine,
+    values: Sequence<Expr>,
+) -> Result<Vec<Content>, AllocError>
     ensures contents { IfOk result (λ contents. contents.items ≡ meaning.value_words machine values) }
     ensures each { IfOk result (λ contents. All IsContent contents.items) }
     ensures some { IfOk result (λ contents. All (λ content. 0 < width_of content) contents.items) }
@@ -95,7 +99,11 @@ pub fn data_words<L: Lookup>(
     place_words(recorder, state, site, contents)
 }
 
-fn number_words(alloc: Global, machine: Machine, numbers: &Sequence<u64>) -> Result<Vec<Content>, AllocError>
+fn number_words(
+    alloc: Global,
+    machine: Machine,
+    numbers: &Sequence<u64>,
+) -> Result<Vec<Content>, AllocError>
     requires { All (λ number. number < 2 ^ bits_of machine) numbers.now }
     ensures contents { IfOk result (λ contents. contents.items ≡ meaning.number_words machine numbers.now) }
     ensures each { IfOk result (λ contents. All IsContent contents.items) }
@@ -150,7 +158,13 @@ fn display_counted<L: Lookup>(
         let flags = no_number_flags(site, value);
         return place_nothing(recorder, state, site, begun, flags, Vec::new(alloc));
     };
-    let contents = text_words(alloc, site.machine, BLANK, usize::from(count), text.as_slice())?;
+    let contents = text_words(
+        alloc,
+        site.machine,
+        BLANK,
+        usize::from(count),
+        text.as_slice(),
+    )?;
     place_words(recorder, state, site, contents)
 }
 
@@ -165,13 +179,23 @@ fn characters_in_word(machine: Machine) -> usize
 }
 
 /// Words of characters with at least 12 zero bits behind them.
-fn delimited_words(alloc: Global, machine: Machine, text: &Sequence<u8>) -> Result<Vec<Content>, AllocError>
+fn delimited_words(
+    alloc: Global,
+    machine: Machine,
+    text: &Sequence<u8>,
+) -> Result<Vec<Content>, AllocError>
     ensures contents { IfOk result (λ contents. contents.items ≡ meaning.number_words machine (meaning.delimited_words machine text.now)) }
     ensures each { IfOk result (λ contents. All IsContent contents.items) }
     ensures some { IfOk result (λ contents. All (λ content. 0 < width_of content) contents.items) }
 {
     let text = text.as_slice();
-    text_words(alloc, machine, 0, delimited_count(machine, text.len()), text)
+    text_words(
+        alloc,
+        machine,
+        0,
+        delimited_count(machine, text.len()),
+        text,
+    )
 }
 
 /// How many words so many characters take with at least 12 zero bits behind them.

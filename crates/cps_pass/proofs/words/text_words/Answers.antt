@@ -1,4 +1,4 @@
-use Rattle.std.proofs.Common.{ℕ, ◌<◌, rules, sym, subst, List, All}
+use Rattle.std.proofs.Common.{◌<◌, rules, sym, subst, All}
 use Rattle.std.proofs.lemmas.List.Elements.{All-push}
 use Rattle.cps_state.specs.declared.made.Content.{Content}
 use Rattle.cps_state.specs.declared.made.Content.TheVariants as content

@@ -1,4 +1,4 @@
-use Rattle.std.proofs.Common.{◌≡◌, ◌++◌, ◌<◌, All, take}
+use Rattle.std.proofs.Common.{◌≡◌, ◌<◌, All}
 use Rattle.cps_state.specs.Made.{width_of, IsContent}
 use Rattle.cps_pass.specs.Words.{number_words, text_words}
 use Rattle.cps_pass.proofs.words.text_words.Given as goal
