@@ -177,14 +177,14 @@ fn push_last_word(
     if machine == Machine::Cp || used == 0 {
         return Ok(());
     }
-    let zeros = Piece {
+    let rest = Piece {
         address: at / WORD,
         first: used,
         width: word_bits(machine) - used,
         number: 0,
         times: 1,
     };
-    push_placed(pieces, machine, base, zeros)
+    push_placed(pieces, machine, base, rest)
 }
 
 /// Bits of a block at their final address, as far as they lie below the machine's limit.
