@@ -1,5 +1,5 @@
--- A form: the code of a statement, with holes for the values that are known later, and how values fill them.
--- From the machine's reference manual (the formats of 15 and 30 bits) and the manual's rule for values; what doesn't fit is our profile's.
+-- A form: the code of an instruction, with holes for the values that are known later, and how values fill them.
+-- From the machines' reference manuals (the formats of 15 and 30 bits, and of 12 and 24) and the manual's rule for values; what doesn't fit is our profile's.
 use Rattle.std.specs.Prelude.{◌≡◌, ◌⊎◌, ℕ, ◌+◌, ◌-◌, ◌*◌, ◌%◌, ◌^◌, ◌<◌, ◌≤◌, Bool, true, false, ◌||◌, not, nat_lt, ◌&&◌, List, [], ◌∷◌, length, All, ℤ, pos, negsuc, if◌then◌else◌}
 use Rattle.cps_code.specs.Bits.{word_bits, parcel_bits}
 use Rattle.cps_code.specs.declared.hole.Hole.{Hole}

@@ -1,5 +1,5 @@
 -- The words that pieces make: bit by bit, the last piece that covers a bit counts.
--- The machine's manual gives words of 60 bits; that later pieces stand over earlier ones is our profile's.
+-- The machine's manual gives words of 60 bits, of which a peripheral processor's word is the first 12; that later pieces stand over earlier ones is our profile's.
 use Rattle.std.specs.Prelude.{◌≡◌, ℕ, ◌+◌, ◌-◌, ◌<◌, Bool, ◌&&◌, ◌||◌, nat_le, nat_lt, List, reverse, find, Option, None, Some, if◌then◌else◌, is_some, slice_index_or, unwrap_or}
 use Rattle.std.specs.List.{list_any}
 use Rattle.std.specs.Option.{option_map_or}

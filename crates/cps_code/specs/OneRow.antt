@@ -1,4 +1,4 @@
--- A law of the table: for any statement at most one of its rows fits. So the first row that fits is the only one.
+-- A law of the table: for any statement at most one of its rows fits. So the first row that fits is the only one; where it fits in both orders of its registers, they count as they are written.
 use Rattle.std.specs.Prelude.{◌≢◌, ◌⊎◌, ℕ, List, All, AllPairs, IsSome}
 use Rattle.cps_expr.specs.declared.radix.Radix.{Radix}
 use Rattle.cps_code.specs.declared.digits.Digits.{Digits}

@@ -1,4 +1,4 @@
--- Where an instruction of the central processor begins, and what fills the bits that it skips.
+-- Where an instruction of the central processor or a field begins, where a word is left, and what fills the bits that are skipped.
 -- From the manual's rules for forcing upper and for instructions of 15 and 30 bits in a word of four parcels; what is pending is our profile's.
 use Rattle.std.specs.Prelude.{◌≡◌, ℕ, zero, suc, ◌+◌, ◌-◌, ◌*◌, ◌/◌, ◌%◌, ◌^◌, ◌<◌, ◌≤◌, Bool, true, false, ◌&&◌, ◌||◌, not, ◌==◌, IsTrue, Option, None, Some, if◌then◌else◌, nat_le}
 use Rattle.std.proofs.Math.Nat.{mod-lt}
@@ -24,7 +24,7 @@ is_forced is_pending Free = is_pending
 is_forced is_pending NewWord = true
 is_forced is_pending Cancel = false
 
--- `bits` bits may begin at `at`, not before `from`: an instruction at a parcel's border, with room in its word
+-- `bits` bits may begin at `at`, not before `from`: an instruction at a parcel's border, with room in its word; 0 bits, of forcing alone and of a field, anywhere
 pub record MayBegin (from bits : ℕ) (forced : Bool) (at : ℕ) : Type 0 where
   pub not_before : from ≤ at
   pub at_border : 0 < bits → at % parcel_bits ≡ 0

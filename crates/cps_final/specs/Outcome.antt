@@ -86,7 +86,7 @@ form_flags labels here form = record no_flags {
   undefined = list_any (λ hole. has_undefined labels hole.expression) form.holes;
 }
 
--- those of an expression, where its width is not known
+-- those of an expression, whatever its width
 abbrev pub expression_flags : Values → ℕ → Expression → Flags
 expression_flags labels here terms = record no_flags { operand = is_none (value_at labels here terms); undefined = has_undefined labels terms }
 

@@ -22,8 +22,8 @@ use Rattle.cps_pass.specs.Places.{filling_between, place_left, here_at, going_on
 use Rattle.cps_pass.specs.ValueNow.{now}
 
 -- the word of a block is left; what fills it belongs to the statement
-abbrev pub left : Option Name → Location → Place → Made
-left block location place = record (nothing_made (present_flags location)) { block = block; filling = filling_between (position place) (place_left place) }
+abbrev pub left : Control → Location → Place → Made
+left control location place = record (nothing_made (present_flags location)) { machine = control.machine; block = control.block; filling = filling_between (position place) (place_left place) }
 
 -- a statement that takes no location field, with unreadable operands
 abbrev pub unread_made : Location → Made
@@ -43,7 +43,7 @@ abbrev pub moving_to : Control → Location → Place → Option Name → ℕ �
 moving_to control location place block address =
     if nat_lt (limit control.machine) address then fill (nothing_made (record (present_flags location) { structure = true }))
     else going_on control.block (place_left place) false before going_on block (60 * address) false before using control block
-    before fill (record (left control.block location place) { shown = shown.Address (record { block = block; offset = pos address }) })
+    before fill (record (left control location place) { shown = shown.Address (record { block = block; offset = pos address }) })
 
 -- A where there is none
 abbrev pub moving_by : Control → Location → Place → Option Name → Option ℕ → Part
@@ -70,7 +70,7 @@ unread_org control location = asking (key.Counter control.block) (λ a. unread l
 
 abbrev pub ending : Control → Location → Place → Part
 ending control location place =
-    going_on control.block (place_left place) false before entering control AfterEnd before fill (left control.block location place)
+    going_on control.block (place_left place) false before entering control AfterEnd before fill (left control location place)
 
 abbrev pub end : Control → Location → Part
 end control location = asking (key.Counter control.block) (λ a. ending control location (place_of control.machine a))

@@ -17,7 +17,7 @@ use Rattle.cps_pass.specs.declared.value_now.ValueNow.{ValueNow}
 use Rattle.cps_pass.specs.declared.value_now.ValueNow.TheVariants.{Undefined, NoValue, Known}
 use Rattle.cps_pass.specs.Numbers.{plain_number, between}
 use Rattle.cps_pass.specs.Places.{here_at}
-use Rattle.cps_pass.specs.Placing.{asking_site, start_for, placing_flags, unread_flags, unplaced, placed}
+use Rattle.cps_pass.specs.Placing.{asking_site, start_for, placing_flags, unread_from, unplaced, placed}
 use Rattle.cps_pass.specs.ValueNow.{now}
 
 -- ---- a field and the value of its width
@@ -77,7 +77,7 @@ vfd control location fields = asking_site control location (fields_in fields)
 
 -- with unreadable operands
 abbrev pub no_fields : Site → Part
-no_fields site = unplaced (unread_flags site) site (start_for site 0) []
+no_fields site = unread_from site (start_for site 0)
 
 abbrev pub unread_vfd : Control → Location → Part
 unread_vfd control location = asking_site control location no_fields

@@ -87,8 +87,8 @@ stated control location Missing = unknown
 stated control location Unknown = not_there control
 stated control location (Stated row) = obeyed control location row
 stated control location (Unreadable operation) = unreadable control location operation
-stated control location (Instruction form) = leaving_head control before instruction control location form
-stated control location (Peripheral form) = leaving_head control before peripheral_instruction control location form
+stated control location (Instruction form) = leaving_head control before instruction (in_body control) location form
+stated control location (Peripheral form) = leaving_head control before peripheral_instruction (in_body control) location form
 
 -- a line that may not stand where it stands
 abbrev pub misplaced : Part

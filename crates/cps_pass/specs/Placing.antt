@@ -35,7 +35,7 @@ force_of Minus = Cancel
 force_of (Symbol name) = NewWord
 force_of NoSymbol = Free
 
--- the least place where so many bits may begin: of an instruction, or none of a field of any width
+-- where so many bits of an instruction begin; 0 stands for forcing alone and for a field of any width
 abbrev pub start_for : Site → ℕ → ℕ
 start_for site bits = start_of (position site.place) bits (is_forced site.place.is_pending (force_of site.location))
 
@@ -85,6 +85,10 @@ settling site start after is_pending = going_on site.block after is_pending befo
 unfoldable pub unplaced : Flags → Site → ℕ → List Content → Part
 unplaced flags site start contents =
     settling site start start false before fill (only_flagging flags site (filling_between (position site.place) start) start contents)
+
+-- with unreadable operands
+abbrev pub unread_from : Site → ℕ → Part
+unread_from site start = unplaced (unread_flags site) site start []
 
 -- One that would pass the machine's words makes nothing; nothing is put.
 abbrev pub too_far : Site → ℕ → List Content → Part

@@ -7,7 +7,7 @@ use Rattle.cps_expr.specs.declared.operation.Operation.{Operation}
 use Rattle.cps_expr.specs.declared.radix.Radix.{Radix}
 use Rattle.cps_expr.specs.declared.row.Row.{Row}
 use Rattle.cps_expr.specs.Operation.{operation_named}
-use Rattle.cps_expr.specs.Statement.{row_of}
+use Rattle.cps_expr.specs.Statement.{row_with}
 use Rattle.cps_text.specs.Name.{name_of}
 use Rattle.cps_code.specs.Table.{is_operation, form_of}
 use Rattle.cps_peripheral.specs.Table.{is_operation as is_peripheral_operation, form_of as peripheral_form_of}
@@ -48,7 +48,7 @@ row_or_none operation (Some row) = Stated row
 -- a statement of the statement table, or else an instruction
 abbrev pub stating_with : Option Operation → Machine → Radix → List ℕ → List ℕ → Stating
 stating_with None machine radix operation tail = instruction_in machine radix operation tail
-stating_with (Some named) machine radix operation tail = row_or_none named (row_of operation tail machine radix)
+stating_with (Some named) machine radix operation tail = row_or_none named (row_with named tail machine radix)
 
 abbrev pub stating_in : Machine → Radix → List ℕ → List ℕ → Stating
 stating_in machine radix operation tail = if bytes_eq operation [] then Missing else stating_with (operation_named operation) machine radix operation tail

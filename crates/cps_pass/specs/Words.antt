@@ -15,7 +15,7 @@ use Rattle.cps_pass.specs.declared.reading.Location.{Location}
 use Rattle.cps_pass.specs.declared.value_now.ValueNow.{ValueNow}
 use Rattle.cps_pass.specs.Numbers.{plain_number, between, no_number_flags}
 use Rattle.cps_pass.specs.Places.{here_at}
-use Rattle.cps_pass.specs.Placing.{asking_site, word_start, unread_flags, unplaced, placed}
+use Rattle.cps_pass.specs.Placing.{asking_site, word_start, unread_from, unplaced, placed}
 use Rattle.cps_pass.specs.ValueNow.{now}
 
 -- words of a statement
@@ -24,7 +24,7 @@ words contents site = placed site (word_start site) contents false
 
 -- with unreadable operands
 abbrev pub no_words : Site → Part
-no_words site = unplaced (unread_flags site) site (word_start site) []
+no_words site = unread_from site (word_start site)
 
 abbrev pub unread_words : Control → Location → Part
 unread_words control location = asking_site control location no_words

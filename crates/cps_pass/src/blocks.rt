@@ -120,7 +120,14 @@ fn move_to<L: Lookup>(
         block,
         offset: address as i64,
     });
-    recorder.fill(Made::leaving(alloc, flags, control.block, left.filling, shown));
+    recorder.fill(Made::leaving(
+        alloc,
+        flags,
+        control.machine,
+        control.block,
+        left.filling,
+        shown,
+    ));
     Ok(())
 }
 
@@ -156,6 +163,7 @@ pub fn end<L: Lookup>(
     recorder.fill(Made::leaving(
         alloc,
         present_flags(location),
+        control.machine,
         control.block,
         left.filling,
         Shown::Nothing,

@@ -179,7 +179,7 @@ pub fn place_unread<L: Lookup>(
     begun: Begun,
 ) -> Result<(), AllocError>
     requires { option_to_list (option_map piece_of begun.filling) ≡ filling_between (position site.place) begun.start }
-    ensures { OnOk result (Does (placing.unplaced (placing.unread_flags site) site begun.start []) (L.answer state.now) recorder.old recorder.new) }
+    ensures { OnOk result (Does (placing.unread_from site begun.start) (L.answer state.now) recorder.old recorder.new) }
 {
     place_nothing(
         recorder,

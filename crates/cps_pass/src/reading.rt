@@ -1,7 +1,7 @@
 //! What a line says.
 ghost use Rattle.std.specs.Prelude.{◌≡◌, Some, IfOk, bytes_eq};
 ghost use Rattle.cps_expr.specs.Operation.{operation_named};
-ghost use Rattle.cps_expr.specs.Statement.{row_of};
+ghost use Rattle.cps_expr.specs.Statement.{row_with};
 ghost use Rattle.cps_text.specs.CardFields.{fields_value};
 ghost use Rattle.cps_text.specs.Name.{name_of};
 ghost use Rattle.cps_pass.specs.Readings.{IsStating, IsReading};
@@ -142,7 +142,7 @@ fn read_statement(
     radix: Radix,
 ) -> Result<Stating, AllocError>
     requires { Some named ≡ operation_named operation.now }
-    ensures stating { IfOk result (λ stating. stating ≡ row_or_none named (row_of operation.now tail.now machine radix)) }
+    ensures stating { IfOk result (λ stating. stating ≡ row_or_none named (row_with named tail.now machine radix)) }
     ensures bounded { IfOk result (IsStating machine) }
 {
     match Stmt::read(alloc, operation, tail, machine, radix) {

@@ -171,11 +171,11 @@ fn obey<L: Lookup>(
         }
         Stating::Instruction(form) => {
             leave_head(recorder, state, control)?;
-            instruction(alloc, recorder, state, control, location, form)
+            instruction(alloc, recorder, state, in_body(control), location, form)
         }
         Stating::Peripheral(form) => {
             leave_head(recorder, state, control)?;
-            peripheral_instruction(alloc, recorder, state, control, location, form)
+            peripheral_instruction(alloc, recorder, state, in_body(control), location, form)
         }
     }
 }

@@ -14,7 +14,7 @@ use Rattle.cps_state.specs.Machines.{limit, behind}
 
 -- The flags of pass one; the program's name where the statement gives it; the machine, the block, and what fills the bits that were skipped;
 -- the place where the statement starts, and its contents from there on, one behind the other; so many words of zeros from there on; what else
--- its row shows. Of a statement that makes nothing the contents are no bits: they only give flags.
+-- its row shows. With `only_flags`, of a statement that makes nothing, the contents are no bits: they only give flags.
 pub record Made : Type 0 where
   pub flags : Flags
   pub program : Option Name

@@ -154,13 +154,15 @@ impl Made {
     pub fn leaving(
         alloc: Global,
         flags: Flags,
+        machine: Machine,
         block: Option<Name>,
         filling: Option<Piece>,
         shown: Shown,
     ) -> Made
-        ensures { result ≡ record (nothing_made flags) { block = block; filling = option_to_list (option_map piece_of filling); shown = shown } }
+        ensures { result ≡ record (nothing_made flags) { machine = machine; block = block; filling = option_to_list (option_map piece_of filling); shown = shown } }
     {
         let mut made = Made::nothing(alloc, flags);
+        made.machine = machine;
         made.block = block;
         made.filling = filling;
         made.shown = shown;
