@@ -2,4 +2,5 @@ pub mod AloneLemmas
 pub mod BlockLemmas
 pub mod GatherLemmas
 pub mod OutcomeLemmas
+pub mod PieceLemmas
 pub mod ValueLemmas

@@ -1,10 +1,10 @@
--- Pass two, one content or one name further.
+-- Pass two, one content or one statement further.
 use Rattle.std.proofs.Common.{◌≡◌, ℕ, ◌+◌, ◌*◌, ◌/◌, ◌<◌, ◌≤◌, Bool, true, false, List, [], ◌∷◌, ◌++◌, length, get_or, take, drop, flat_map, refl, sym, ap, subst, ◌∙◌, arith, append-nil, append_assoc}
-use Rattle.std.specs.Prelude.{fold, if◌then◌else◌}
+use Rattle.std.specs.Prelude.{if◌then◌else◌}
 use Rattle.std.proofs.lemmas.Grind.{flat_map-append}
 use Rattle.std.proofs.lemmas.List.{take_more, take_all, drop_more}
 use Rattle.std.proofs.lemmas.List.Sums.{fold-append}
-use Rattle.indexmap.specs.IndexSet.{insert_all, insert_key}
+use Rattle.indexmap.specs.IndexSet.{insert_all}
 use Rattle.cps_text.specs.declared.name.Name.{Name}
 use Rattle.cps_expr.specs.declared.machine.Machine.{Machine}
 use Rattle.cps_expr.specs.Value.{Values, same_name}
@@ -114,18 +114,6 @@ pub flat_map-more : {X Y : Type 0} (f : X → List Y) (xs : List X) (i : ℕ) (x
 flat_map-more f xs i x lt is =
     ap (flat_map f) (take_more xs i x lt) ∙ flat_map-append f (take i xs) (get_or xs i x ∷ []) ∙ ap (λ l. flat_map f (take i xs) ++ l) (append-nil (f (get_or xs i x)))
     ∙ ap (λ y. flat_map f (take i xs) ++ f y) (sym is)
-
--- ---- names
-
-pub fold-more : {A B : Type 0} (f : B → A → B) (a : B) (xs : List A) (i : ℕ) (d : A) → i < length xs → fold f a (take (i + 1) xs) ≡ f (fold f a (take i xs)) (get_or xs i d)
-fold-more f a xs i d lt = ap (fold f a) (take_more xs i d lt) ∙ fold-append f a (take i xs) (get_or xs i d ∷ [])
-
-pub inserts-more : {X : Type 0} (f : X → List Name) (xs : List X) (i : ℕ) (x : X) (old so_far new : List Name) → i < length xs → x ≡ get_or xs i x
-    → so_far ≡ insert_all same_name old (flat_map f (take i xs)) → new ≡ insert_all same_name so_far (f x)
-    → new ≡ insert_all same_name old (flat_map f (take (i + 1) xs))
-inserts-more f xs i x old so_far new lt is before made =
-    made ∙ ap (λ (l : List Name). insert_all same_name l (f x)) before ∙ sym (fold-append (insert_key same_name) old (flat_map f (take i xs)) (f x))
-    ∙ ap (insert_all same_name old) (sym (flat_map-more f xs i x lt is))
 
 -- ---- a line
 

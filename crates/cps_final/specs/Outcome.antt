@@ -180,27 +180,27 @@ rows_of finals made = rows_with finals made made.contents
 
 -- ---- bits
 
--- Of `width` bits of a number, from bit `first` of a word on, those that fall into the word that comes `later` words behind.
-abbrev pub piece_in : Machine → ℕ → ℕ → ℕ → ℕ → ℕ → Piece
-piece_in machine address first width number later =
-    let from = max first (later * bits_of machine) in
-    let to = min (first + width) ((later + 1) * bits_of machine) in
+-- `width` bits of a number from a place on, which may reach into the next words: those of them in the word that comes `later` words behind
+abbrev pub piece_in : Machine → ℕ → ℕ → ℕ → ℕ → Piece
+piece_in machine at width number later =
+    let word = later * bits_of machine in
+    let from = max (at % 60) word in
+    let to = min (at % 60 + width) (word + bits_of machine) in
     record {
-      address = address + later;
-      first = from - later * bits_of machine;
+      address = at / 60 + later;
+      first = from - word;
       width = to - from;
-      number = number / 2 ^ (first + width - to) % 2 ^ (to - from);
+      number = number / 2 ^ (at % 60 + width - to) % 2 ^ (to - from);
       times = 1;
     }
 
 -- how many words they touch
 abbrev pub words_touched : Machine → ℕ → ℕ → ℕ
-words_touched machine first width = (first + width + bits_of machine - 1) / bits_of machine
+words_touched machine at width = (at % 60 + width + bits_of machine - 1) / bits_of machine
 
--- the bits of each word that they touch
+-- all of them, word by word
 abbrev pub pieces_at : Machine → ℕ → ℕ → ℕ → List Piece
-pieces_at machine at width number =
-    map (piece_in machine (at / 60) (at % 60) width number) (range_with_len 0 (words_touched machine (at % 60) width))
+pieces_at machine at width number = map (piece_in machine at width number) (range_with_len 0 (words_touched machine at width))
 
 -- a peripheral processor's word that was begun is filled with zeros
 abbrev pub last_word : Machine → ℕ → List Piece

@@ -1,16 +1,65 @@
 //! The bits of a statement in pass two.
-ghost use Rattle.std.specs.Prelude.{◌≡◌, ◌++◌, ◌<◌, ◌^◌, map, flat_map, option_map, OnOk, IfOk};
-ghost use Rattle.std.specs.Option.{option_to_list};
+ghost use Rattle.std.specs.Prelude.{◌≡◌, [], ◌∷◌, ◌++◌, ◌<◌, ◌≤◌, ◌%◌, ◌^◌, false, map, flat_map, OnOk, IfOk};
 ghost use Rattle.cps_code.specs.Image.{piece_of};
-ghost use Rattle.cps_state.specs.Made.{HasRoom, HaveRoom};
+ghost use Rattle.cps_expr.specs.Item.{bits_of};
 ghost use Rattle.cps_final.specs.Finals.{final_value};
 ghost use Rattle.cps_final.specs.Outcome as outcome;
 
 use crate::finals::{Finals, Gathered};
-use crate::valued::{value_content, width_of};
+use crate::valued::{first_address, value_content};
 use cps_code::Piece;
-use cps_state::{Field, Item, LIMIT, Made, WORD};
+use cps_expr::Machine;
+use cps_state::{Item, Made, WORD, behind, limit_of, word_bits};
 use std::alloc::{AllocError, Global};
+
+/// The `width` low bits of `number`, from a place of a block on. They may reach into the next words.
+#[derive(Clone, Copy)]
+struct Run {
+    machine: Machine,
+    at: u32,
+    width: u8,
+    number: u64,
+    ghost in_word: { at % 60 < bits_of machine },
+    ghost has_bits: { 0 < width },
+    ghost few: { width ≤ 60 },
+}
+
+impl Run {
+    /// The bits before it in the word where it begins.
+    fn first(self) -> u8
+        ensures first { result ≡ self.at % 60 }
+        ensures in_word { result < bits_of self.machine }
+    {
+        (self.at % WORD) as u8
+    }
+
+    /// How many words it touches.
+    fn words(self) -> u8
+        ensures { result ≡ outcome.words_touched self.machine self.at self.width }
+    {
+        (self.first() + self.width).div_ceil(word_bits(self.machine))
+    }
+
+    /// Its bits in the word that comes so many words later.
+    fn piece_in(self, later: u8) -> Piece
+        requires { later < outcome.words_touched self.machine self.at self.width }
+        ensures { piece_of result ≡ outcome.piece_in self.machine self.at self.width self.number later }
+    {
+        let bits = word_bits(self.machine);
+        let word = later * bits;
+        let first = self.first();
+        let end = first + self.width;
+        let from = first.max(word);
+        let to = end.min(word + bits);
+        Piece {
+            address: self.at / WORD + u32::from(later),
+            first: from - word,
+            width: to - from,
+            number: (self.number >> (end - to)) % (1 << (to - from)),
+            times: 1,
+        }
+    }
+}
 
 /// The bits of statements.
 pub fn make_pieces(alloc: Global, items: &[Item], finals: &Finals) -> Result<Vec<Piece>, AllocError>
@@ -27,82 +76,138 @@ fn push_pieces(pieces: &mut Vec<Piece>, made: &Made, finals: &Finals) -> Result<
     ensures { OnOk result (map piece_of pieces.new.items ≡ map piece_of pieces.old.items ++ outcome.pieces_of (final_value (⟦<Finals as Gathered>⟧.gathered finals.now)) made.now) }
 {
     let base = finals.address_of(made.block());
-    push_filling(pieces, base, made.filling())?;
-    if made.is_too_far() {
+    push_filling(pieces, base, made)?;
+    push_zeros(pieces, base, made)?;
+    if made.only_flags() {
         Ok(())
     } else {
-        push_fields(pieces, base, made.fields(), finals)
+        push_contents(pieces, base, made, finals)
     }
 }
 
-fn push_filling(
-    pieces: &mut Vec<Piece>,
-    base: u64,
-    filling: Option<Piece>,
-) -> Result<(), AllocError>
+/// What fills the bits that were skipped.
+fn push_filling(pieces: &mut Vec<Piece>, base: u64, made: &Made) -> Result<(), AllocError>
     requires { base < 2 ^ 60 }
-    ensures { OnOk result (map piece_of pieces.new.items ≡ map piece_of pieces.old.items ++ flat_map (outcome.placed base) (option_to_list (option_map piece_of filling))) }
+    ensures { OnOk result (map piece_of pieces.new.items ≡ map piece_of pieces.old.items ++ flat_map (outcome.placed made.now.machine base) made.now.filling) }
 {
-    match filling {
-        Some(piece) => push_placed(pieces, base, piece),
+    match made.filling() {
+        Some(piece) => push_placed(pieces, made.machine(), base, piece),
         None => Ok(()),
     }
 }
 
-/// Bits of a block at their final address, if that is below the machine's limit.
-fn push_placed(pieces: &mut Vec<Piece>, base: u64, piece: Piece) -> Result<(), AllocError>
+/// Words of zeros. More than the machine has would be cut in any case.
+fn push_zeros(pieces: &mut Vec<Piece>, base: u64, made: &Made) -> Result<(), AllocError>
     requires { base < 2 ^ 60 }
-    ensures { OnOk result (map piece_of pieces.new.items ≡ map piece_of pieces.old.items ++ outcome.placed base (piece_of piece)) }
+    ensures { OnOk result (map piece_of pieces.new.items ≡ map piece_of pieces.old.items
+        ++ flat_map (outcome.placed made.now.machine base) (outcome.zeros_at made.now.machine made.now.start made.now.zeros)) }
 {
+    let machine = made.machine();
+    if made.zeros() == 0 {
+        return Ok(());
+    }
+    let zeros = Piece {
+        address: made.start() / WORD,
+        first: 0,
+        width: word_bits(machine),
+        number: 0,
+        times: made.zeros().min(limit_of(machine)),
+    };
+    push_placed(pieces, machine, base, zeros)
+}
+
+/// The contents, one behind the other.
+fn push_contents(
+    pieces: &mut Vec<Piece>,
+    base: u64,
+    made: &Made,
+    finals: &Finals,
+) -> Result<(), AllocError>
+    requires low { base < 2 ^ 60 }
+    requires based { base ≡ outcome.base_in (final_value (⟦<Finals as Gathered>⟧.gathered finals.now)) made.now.block }
+    requires are_bits { made.now.only_flags ≡ false }
+    ensures { OnOk result (map piece_of pieces.new.items ≡ map piece_of pieces.old.items
+        ++ flat_map (outcome.placed made.now.machine base) (outcome.content_pieces (final_value (⟦<Finals as Gathered>⟧.gathered finals.now)) made.now made.now.start made.now.contents)) }
+{
+    let machine = made.machine();
+    let here = first_address(made, base);
+    let mut at = made.start();
+    for content in made.contents() {
+        let width = content.width();
+        let number = value_content(content, finals, here).number;
+        push_run(
+            pieces,
+            base,
+            Run {
+                machine,
+                at,
+                width,
+                number,
+            },
+        )?;
+        at = behind(machine, at, width);
+    }
+    push_last_word(pieces, machine, base, at)
+}
+
+/// Bits in each word that they touch.
+fn push_run(pieces: &mut Vec<Piece>, base: u64, run: Run) -> Result<(), AllocError>
+    requires { base < 2 ^ 60 }
+    ensures { OnOk result (map piece_of pieces.new.items ≡ map piece_of pieces.old.items
+        ++ flat_map (outcome.placed run.machine base) (outcome.pieces_at run.machine run.at run.width run.number)) }
+{
+    for later in 0..run.words() {
+        push_placed(pieces, run.machine, base, run.piece_in(later))?;
+    }
+    Ok(())
+}
+
+/// A peripheral processor's word that was begun is filled with zeros.
+fn push_last_word(
+    pieces: &mut Vec<Piece>,
+    machine: Machine,
+    base: u64,
+    at: u32,
+) -> Result<(), AllocError>
+    requires low { base < 2 ^ 60 }
+    requires in_word { at % 60 < bits_of machine }
+    ensures { OnOk result (map piece_of pieces.new.items ≡ map piece_of pieces.old.items ++ flat_map (outcome.placed machine base) (outcome.last_word machine at)) }
+{
+    let used = (at % WORD) as u8;
+    if machine == Machine::Cp || used == 0 {
+        return Ok(());
+    }
+    let zeros = Piece {
+        address: at / WORD,
+        first: used,
+        width: word_bits(machine) - used,
+        number: 0,
+        times: 1,
+    };
+    push_placed(pieces, machine, base, zeros)
+}
+
+/// Bits of a block at their final address, as far as they lie below the machine's limit.
+fn push_placed(
+    pieces: &mut Vec<Piece>,
+    machine: Machine,
+    base: u64,
+    piece: Piece,
+) -> Result<(), AllocError>
+    requires { base < 2 ^ 60 }
+    ensures { OnOk result (map piece_of pieces.new.items ≡ map piece_of pieces.old.items ++ flat_map (outcome.placed machine base) (piece_of piece ∷ [])) }
+{
+    let limit = limit_of(machine);
     let address = base + u64::from(piece.address);
-    if address + u64::from(piece.times) <= u64::from(LIMIT) {
+    if address < u64::from(limit) {
+        let address = address as u32;
         pieces.push(Piece {
-            address: address as u32,
+            address,
             first: piece.first,
             width: piece.width,
             number: piece.number,
-            times: piece.times,
+            times: piece.times.min(limit - address),
         })?;
     }
     Ok(())
-}
-
-fn push_fields(
-    pieces: &mut Vec<Piece>,
-    base: u64,
-    fields: &[Field],
-    finals: &Finals,
-) -> Result<(), AllocError>
-    requires low { base < 2 ^ 60 }
-    requires room { HaveRoom fields.now }
-    ensures { OnOk result (map piece_of pieces.new.items ≡ map piece_of pieces.old.items
-        ++ flat_map (λ field. outcome.placed base (outcome.field_piece (outcome.labels_by (final_value (⟦<Finals as Gathered>⟧.gathered finals.now))) base field)) fields.now) }
-{
-    for field in fields {
-        push_field(pieces, base, field, finals)?;
-    }
-    Ok(())
-}
-
-fn push_field(
-    pieces: &mut Vec<Piece>,
-    base: u64,
-    field: &Field,
-    finals: &Finals,
-) -> Result<(), AllocError>
-    requires low { base < 2 ^ 60 }
-    requires room { HasRoom field.now }
-    ensures { OnOk result (map piece_of pieces.new.items ≡ map piece_of pieces.old.items
-        ++ outcome.placed base (outcome.field_piece (outcome.labels_by (final_value (⟦<Finals as Gathered>⟧.gathered finals.now))) base field.now)) }
-{
-    let word = field.start / WORD;
-    let valued = value_content(&field.content, finals, base + u64::from(word));
-    let piece = Piece {
-        address: word,
-        first: (field.start % WORD) as u8,
-        width: width_of(&field.content),
-        number: valued.number,
-        times: 1,
-    };
-    push_placed(pieces, base, piece)
 }
