@@ -10,9 +10,6 @@ use std::alloc::Global;
 use std::process::Abort;
 use std::test::Fail;
 
-/// The greatest magnitude of a value.
-const GREATEST: i64 = (1 << 59) - 1;
-
 fn read(alloc: Global, operation: &[u8], tail: &[u8], radix: Radix) -> Result<CpForm, FormFault> {
     cp_form(alloc, operation, tail, radix)
 }
@@ -24,9 +21,6 @@ pub fn filled(form: &CpForm) -> Result<Filled, Fail> {
         [hole] => {
             let valued = hole.expression.value(&UNDEFINED, Value::plain(3));
             let number = valued.value.ok_or("a value")?.offset;
-            if number < -GREATEST || number > GREATEST {
-                return Err(Fail::from("a value in range"));
-            }
             Ok(form.fill(&[number]))
         }
         _ => Err(Fail::from("more than one hole")),

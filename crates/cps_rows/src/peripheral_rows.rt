@@ -7,9 +7,6 @@ use cps_peripheral::{PpForm, pp_form};
 use std::alloc::Global;
 use std::test::Fail;
 
-/// The greatest magnitude of a value.
-const GREATEST: i64 = (1 << 59) - 1;
-
 static ONE_WORD: [(&'static [u8], &'static [u8], u64); 39] = [
     (b"PSN", b"5", 0o0000),
     (b"UJN", b"-5", 0o0372),
@@ -109,17 +106,11 @@ fn filled(form: &PpForm) -> Result<Filled, Fail> {
         [] => Ok(form.fill(&[])),
         [hole] => {
             let number = number_of(hole)?;
-            if number < -GREATEST || number > GREATEST {
-                return Err(Fail::from("a value in range"));
-            }
             Ok(form.fill(&[number]))
         }
         [first, second] => {
             let number = number_of(first)?;
             let next = number_of(second)?;
-            if number < -GREATEST || number > GREATEST || next < -GREATEST || next > GREATEST {
-                return Err(Fail::from("values in range"));
-            }
             Ok(form.fill(&[number, next]))
         }
         _ => Err(Fail::from("more than two holes")),

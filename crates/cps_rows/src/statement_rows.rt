@@ -1,5 +1,5 @@
 //! The rows of statements, with the names that they read.
-use super::assertions::{assert_row, assert_row_text};
+use super::assertions::{assert_row, assert_row_text, assert_same};
 use super::same_value::UNDEFINED;
 use cps_expr::{
     Block, Comparison, DisText, Expr, Field, Machine, Operation, Radix, Relation, Row, Stmt,
@@ -346,5 +346,27 @@ fn refuses_operands(rt: HostRuntime) -> Result<(), Fail> {
         let found = Operation::named(operation.as_bytes());
         assert_row(&rt, at, &found, &None);
     }
+    Ok(())
+}
+
+/// The values of an operation's expressions, taken out of the statement.
+fn taken(alloc: Global, statement: Stmt) -> Result<Vec<i64>, Fail> {
+    let Row::Con(values) = statement.into_row() else {
+        return Err(Fail::from("not CON"));
+    };
+    let mut numbers = Vec::new(alloc);
+    for expression in values.into_vec() {
+        let value = expression.value(&UNDEFINED, Value::plain(3)).value;
+        numbers.push(value.ok_or("a value")?.offset)?;
+    }
+    Ok(numbers)
+}
+
+#[test]
+fn takes_operands_out(rt: HostRuntime) -> Result<(), Fail> {
+    let tail = b"1,2**,17B";
+    let statement = read(rt.alloc(), b"CON", tail, Machine::Cp, Radix::Decimal)?;
+    let numbers = taken(rt.alloc(), statement)?;
+    assert_same(&rt, "values", &numbers.as_slice(), &[1, 6, 15].as_slice());
     Ok(())
 }
