@@ -8,6 +8,8 @@
 #[cfg(test)]
 mod assertions;
 #[cfg(test)]
+mod block_rows;
+#[cfg(test)]
 mod column_rows;
 #[cfg(test)]
 mod devices;

@@ -31,10 +31,8 @@ size_in (p ∷ puts) block = max (words_put block p) (size_in puts block)
 
 -- the named block whose counter a key is
 abbrev pub named_by : Key → List Name
-named_by key.Control = []
-named_by (key.Counter None) = []
 named_by (key.Counter (Some block)) = block ∷ []
-named_by (key.Label name) = []
+named_by _ = []
 
 abbrev pub names_put : List Put → List Name
 names_put puts = flat_map (λ p. named_by p.key) puts

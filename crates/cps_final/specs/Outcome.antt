@@ -254,9 +254,8 @@ names_read trace = distinct same_name (trace.reads ++ later_names trace)
 
 -- the symbol whose value a key is
 abbrev pub symbol_put : Key → List Name
-symbol_put key.Control = []
-symbol_put (key.Counter place) = []
 symbol_put (key.Label name) = name ∷ []
+symbol_put _ = []
 
 -- the symbols that a line defines, each once
 abbrev pub names_defined : Trace → List Name

@@ -13,5 +13,6 @@ pub mod Readings
 pub mod Reserving
 pub mod Sites
 pub mod Symbols
+pub mod Use
 pub mod ValueNow
 pub mod Words

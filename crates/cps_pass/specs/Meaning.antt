@@ -26,6 +26,7 @@ use Rattle.cps_pass.specs.Located.{present_flags}
 use Rattle.cps_pass.specs.Reading.{reading_of}
 use Rattle.cps_pass.specs.Symbols.{equate, unread_equate}
 use Rattle.cps_pass.specs.Reserving.{bss, bssz}
+use Rattle.cps_pass.specs.Use.{use_block, unread_use}
 use Rattle.cps_pass.specs.Words.{con, data_words, dis, unread_words}
 
 -- a line that does nothing
@@ -43,13 +44,14 @@ not_there control = leaving_head control before unknown
 -- what ends the head, with its operands
 abbrev pub obeyed_in_body : Control → Location → Row → Part
 obeyed_in_body control location (row.Org terms) = org control location terms
+obeyed_in_body control location (row.Use block) = use_block control location block
 obeyed_in_body control location (row.Bss terms) = bss control location terms
 obeyed_in_body control location (row.Bssz terms) = bssz control location terms
 obeyed_in_body control location (row.Con values) = con control location values
 obeyed_in_body control location (row.Data numbers) = data_words control location numbers
 obeyed_in_body control location (row.Vfd fields) = vfd control location fields
 obeyed_in_body control location (row.Dis text) = dis control location text
--- what isn't there yet: SET, USE, the IFs, ELSE, ENDIF, DUP, ENDD, MACRO and ENDM
+-- what isn't there yet: SET, the IFs, ELSE, ENDIF, DUP, ENDD, MACRO and ENDM
 obeyed_in_body control location _ = unknown
 
 -- a statement with its operands
@@ -66,6 +68,7 @@ obeyed control location other = leaving_head control before obeyed_in_body (in_b
 -- what ends the head, with unreadable operands
 abbrev pub unreadable_in_body : Control → Location → Operation → Part
 unreadable_in_body control location operation.Org = unread_org control location
+unreadable_in_body control location operation.Use = unread_use control location
 unreadable_in_body control location operation.Bss = unread_words control location
 unreadable_in_body control location operation.Bssz = unread_words control location
 unreadable_in_body control location operation.Con = unread_words control location

@@ -115,7 +115,7 @@ fn move_to<L: Lookup>(
     let left = leave_word(place);
     go_on(recorder, control.block, left.start, false)?;
     go_on(recorder, block, WORD * address as u32, false)?;
-    use_block(recorder, state, control, block)?;
+    select(recorder, state, control, block)?;
     let shown = Shown::Address(Value {
         block,
         offset: address as i64,
@@ -132,7 +132,7 @@ fn move_to<L: Lookup>(
 }
 
 /// Another block is in use.
-fn use_block<L: Lookup>(
+pub fn select<L: Lookup>(
     recorder: &mut Recorder,
     state: &L,
     control: Control,

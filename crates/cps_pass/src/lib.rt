@@ -14,12 +14,13 @@ mod reading;
 mod reserving;
 mod step;
 mod symbols;
+mod uses;
 mod value_now;
 mod words;
 
 pub use cps_state::{
     Answer, Asked, Content, Control, Flags, Head, Item, Key, Lookup, Made, Phase, Put, Shown,
-    State, Tally, Trace, Work, limit_of, word_bits,
+    State, Tally, Trace, Uses, Work, limit_of, word_bits,
 };
 pub use places::here_at;
 pub use step::step_one;

@@ -19,6 +19,7 @@ use crate::making::{flag, unread};
 use crate::reading::{Location, Reading, Stating, read_line};
 use crate::reserving::{bss, bssz};
 use crate::symbols::{equate, unread_equate};
+use crate::uses::{unread_use, use_block};
 use crate::words::{con, data_words, dis, unread_words};
 use cps_expr::{Machine, Operation, Row};
 use cps_state::{Control, Flags, Key, Lookup, Phase, Recorder, Tally, Trace, Work, control_of};
@@ -224,6 +225,7 @@ fn obey_in_body<L: Lookup>(
 {
     match row {
         Row::Org(operand) => org(alloc, recorder, state, control, location, &operand),
+        Row::Use(block) => use_block(alloc, recorder, state, control, location, block),
         Row::Bss(operand) => bss(alloc, recorder, state, control, location, &operand),
         Row::Bssz(operand) => bssz(alloc, recorder, state, control, location, &operand),
         Row::Con(values) => con(alloc, recorder, state, control, location, values),
@@ -282,6 +284,7 @@ fn flag_in_body<L: Lookup>(
 {
     match operation {
         Operation::Org => unread_org(alloc, recorder, state, control, location),
+        Operation::Use => unread_use(alloc, recorder, state, control, location),
         Operation::Bss | Operation::Bssz | Operation::Con | Operation::Data | Operation::Dis => {
             unread_words(alloc, recorder, state, control, location)
         }

@@ -1,5 +1,5 @@
 -- The state of an assembly: what each key answers. The counters and the symbols are the manual's; the keys are our own.
-use Rattle.std.specs.Prelude.{◌*◌, Bool, true, false, min, nat_lt, List, [], ◌∷◌, Option, None, Some, if◌then◌else◌}
+use Rattle.std.specs.Prelude.{ℕ, ◌*◌, Bool, true, false, min, nat_lt, List, [], ◌∷◌, Option, None, Some, if◌then◌else◌}
 use Rattle.cps_text.specs.declared.name.Name.{Name}
 use Rattle.cps_expr.specs.declared.machine.Machine.{Machine}
 use Rattle.cps_expr.specs.declared.machine.Machine.TheVariants.{Cp, Pp}
@@ -29,28 +29,27 @@ same_block (Some a) (Some b) = same_name a b
 
 abbrev pub same_key : Key → Key → Bool
 same_key key.Control key.Control = true
-same_key key.Control (key.Counter b) = false
-same_key key.Control (key.Label b) = false
-same_key (key.Counter a) key.Control = false
 same_key (key.Counter a) (key.Counter b) = same_block a b
-same_key (key.Counter a) (key.Label b) = false
-same_key (key.Label a) key.Control = false
-same_key (key.Label a) (key.Counter b) = false
 same_key (key.Label a) (key.Label b) = same_name a b
+same_key key.Uses key.Uses = true
+same_key key.Blocks key.Blocks = true
+same_key _ _ = false
 
 -- what doesn't always stand
 abbrev pub is_other : Key → Bool
 is_other key.Control = false
 is_other (key.Counter None) = false
-is_other (key.Counter (Some block)) = true
-is_other (key.Label name) = true
+is_other other = true
 
 -- a state with this control, this place of the nominal block, and these other answers
 abbrev pub answers_in : Answer → Answer → State → State
 answers_in control nominal others key.Control = Some control
 answers_in control nominal others (key.Counter None) = Some nominal
-answers_in control nominal others (key.Counter (Some block)) = others (key.Counter (Some block))
-answers_in control nominal others (key.Label name) = others (key.Label name)
+answers_in control nominal others other = others other
+
+-- how many of the blocks that USE left are kept
+abbrev pub most_uses : ℕ
+most_uses = 64
 
 -- ---- before the first line
 
@@ -65,8 +64,7 @@ first_place = place_at 0 false
 abbrev pub first_state : State
 first_state key.Control = Some (answer.Control first_control)
 first_state (key.Counter None) = Some (answer.Counter first_place)
-first_state (key.Counter (Some block)) = None
-first_state (key.Label name) = None
+first_state other = None
 
 -- ---- puts
 
@@ -82,9 +80,7 @@ overwritten state (p ∷ puts) = overwritten (with_put state p) puts
 
 abbrev pub control_of : Option Answer → Control
 control_of (Some (answer.Control c)) = c
-control_of (Some (answer.Counter c)) = first_control
-control_of (Some (answer.Value v)) = first_control
-control_of None = first_control
+control_of _ = first_control
 
 -- a place past the machine's words counts as the first bit behind them; a peripheral processor's has no bit used and nothing pending
 abbrev pub within_limit : Machine → Place → Place
@@ -93,16 +89,27 @@ within_limit Pp place = place_at (60 * min place.word (limit Pp)) false
 
 abbrev pub place_of : Machine → Option Answer → Place
 place_of machine (Some (answer.Counter place)) = within_limit machine place
-place_of machine (Some (answer.Control c)) = first_place
-place_of machine (Some (answer.Value v)) = first_place
-place_of machine None = first_place
+place_of machine _ = first_place
+
+-- a block's counter stands where a place does
+abbrev pub is_place : Option Answer → Bool
+is_place (Some (answer.Counter place)) = true
+is_place _ = false
 
 -- a value beyond the range of expressions is none
 abbrev pub value_of : Option Answer → Option Value
 value_of (Some (answer.Value v)) = limited v
-value_of (Some (answer.Control c)) = None
-value_of (Some (answer.Counter c)) = None
-value_of None = None
+value_of _ = None
+
+-- no block was left
+abbrev pub uses_of : Option Answer → List (Option Name)
+uses_of (Some (answer.Uses blocks)) = blocks
+uses_of _ = []
+
+-- none was begun
+abbrev pub count_of : Option Answer → ℕ
+count_of (Some (answer.Count count)) = count
+count_of _ = 0
 
 -- what the labels of a state stand for
 abbrev pub labels_of : State → Values

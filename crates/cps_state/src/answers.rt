@@ -3,13 +3,14 @@ ghost use Rattle.std.specs.Prelude.{◌≡◌, ◌*◌, ◌≤◌, IfSome};
 ghost use Rattle.std.specs.Option.{option_copied};
 ghost use Rattle.cps_code.specs.Place.{position};
 ghost use Rattle.cps_expr.specs.Value.{IsInRange};
-ghost use Rattle.cps_state.specs.Keys.{first_control, first_place, control_of, place_of, within_limit, value_of};
+ghost use Rattle.cps_state.specs.Keys.{first_control, first_place, control_of, place_of, within_limit, value_of, uses_of, count_of, is_place};
 ghost use Rattle.cps_state.specs.Machines.{limit};
 
 use crate::key::{Answer, Control, Head, Phase};
 use crate::machines::{WORD, limit_of};
 use cps_code::Place;
 use cps_expr::{Machine, Radix, Value};
+use cps_text::Name;
 
 /// The control before the first line: in the head, for the central processor, decimal, and in the nominal block.
 pub fn first_control() -> Control
@@ -75,5 +76,35 @@ pub fn value_of(answer: Option<&Answer>) -> Option<Value>
     match answer {
         Some(Answer::Value(value)) => value.limited(),
         _ => None,
+    }
+}
+
+/// The blocks that USE may go back to, the last in front.
+pub fn uses_of(answer: Option<&Answer>) -> &[Option<Name>]
+    ensures { result.now ≡ uses_of (option_copied answer.entry) }
+{
+    match answer {
+        Some(Answer::Uses(uses)) => uses.as_slice(),
+        _ => &[],
+    }
+}
+
+/// A count of things.
+pub fn count_of(answer: Option<&Answer>) -> u32
+    ensures { result ≡ count_of (option_copied answer.entry) }
+{
+    match answer {
+        Some(Answer::Count(count)) => *count,
+        _ => 0,
+    }
+}
+
+/// Whether there is a place.
+pub fn is_place(answer: Option<&Answer>) -> bool
+    ensures { result ≡ is_place (option_copied answer.entry) }
+{
+    match answer {
+        Some(Answer::Counter(_)) => true,
+        _ => false,
     }
 }

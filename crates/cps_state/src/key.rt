@@ -1,11 +1,13 @@
 //! Keys of the state of an assembly, and their answers.
-ghost use Rattle.std.specs.Prelude.{◌≡◌};
+ghost use Rattle.std.specs.Prelude.{◌≡◌, IfOk};
 ghost use Rattle.std.specs.Option.{option_copied};
 ghost use Rattle.cps_state.specs.Keys.{same_block, same_key};
 
+use crate::uses::Uses;
 use cps_code::Place;
 use cps_expr::{Machine, Radix, Value, is_same_name};
 use cps_text::Name;
+use std::alloc::{AllocError, Global};
 
 /// A part of the state of an assembly.
 #[derive(Clone, Copy, Debug, PartialEq, Eq, Hash)]
@@ -16,6 +18,10 @@ pub enum Key {
     Counter(Option<Name>),
     /// The value of a symbol.
     Label(Name),
+    /// The blocks that USE left and may go back to.
+    Uses,
+    /// How many named blocks USE has begun.
+    Blocks,
 }
 
 /// What came in the head of a program.
@@ -53,28 +59,32 @@ pub enum Answer {
     Control(Control),
     Counter(Place),
     Value(Value),
+    Uses(Uses),
+    Count(u32),
 }
 
 impl Answer {
-    /// The same answer once more. Takes no memory.
-    pub fn share(&self) -> Answer
-        ensures { result ≡ self.now }
+    /// The same answer once more. Takes no memory; it is refused only past the most owners of a stack.
+    pub fn share(&self) -> Result<Answer, AllocError>
+        ensures { IfOk result (λ same. same ≡ self.now) }
     {
         match self {
-            Answer::Control(control) => Answer::Control(*control),
-            Answer::Counter(place) => Answer::Counter(*place),
-            Answer::Value(value) => Answer::Value(*value),
+            Answer::Control(control) => Ok(Answer::Control(*control)),
+            Answer::Counter(place) => Ok(Answer::Counter(*place)),
+            Answer::Value(value) => Ok(Answer::Value(*value)),
+            Answer::Uses(uses) => Ok(Answer::Uses(uses.share()?)),
+            Answer::Count(count) => Ok(Answer::Count(*count)),
         }
     }
 }
 
 /// The same answer once more, if there is one.
-pub fn share_answer(answer: Option<&Answer>) -> Option<Answer>
-    ensures { result ≡ option_copied answer.entry }
+pub fn share_answer(answer: Option<&Answer>) -> Result<Option<Answer>, AllocError>
+    ensures { IfOk result (λ same. same ≡ option_copied answer.entry) }
 {
     match answer {
-        Some(answer) => Some(answer.share()),
-        None => None,
+        Some(answer) => Ok(Some(answer.share()?)),
+        None => Ok(None),
     }
 }
 
@@ -92,6 +102,20 @@ pub struct Put {
     pub answer: Answer,
 }
 
+/// The same puts once more.
+pub fn share_puts(alloc: Global, puts: &[Put]) -> Result<Vec<Put>, AllocError>
+    ensures { IfOk result (λ same. same.items ≡ puts.now) }
+{
+    let mut same = Vec::with_capacity(alloc, puts.len())?;
+    for put in puts {
+        same.push(Put {
+            key: put.key,
+            answer: put.answer.share()?,
+        })?;
+    }
+    Ok(same)
+}
+
 /// Whether two keys are one.
 pub fn is_same_key(a: Key, b: Key) -> bool
     ensures { result ≡ same_key a b }
@@ -100,6 +124,7 @@ pub fn is_same_key(a: Key, b: Key) -> bool
         (Key::Control, Key::Control) => true,
         (Key::Counter(a), Key::Counter(b)) => is_same_block(a, b),
         (Key::Label(a), Key::Label(b)) => is_same_name(a, b),
+        (Key::Uses, Key::Uses) | (Key::Blocks, Key::Blocks) => true,
         _ => false,
     }
 }

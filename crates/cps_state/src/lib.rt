@@ -11,9 +11,10 @@ mod made;
 mod recorder;
 mod state;
 mod trace;
+mod uses;
 mod work;
 
-pub use answers::{control_of, first_control, place_of, value_of};
+pub use answers::{control_of, count_of, first_control, is_place, place_of, uses_of, value_of};
 pub use flags::Flags;
 pub use item::Item;
 pub use key::{Answer, Asked, Control, Head, Key, Phase, Put, is_same_block};
@@ -23,4 +24,5 @@ pub use made::{Content, Made, Shown, end_of};
 pub use recorder::Recorder;
 pub use state::State;
 pub use trace::Trace;
+pub use uses::Uses;
 pub use work::{Tally, Work};

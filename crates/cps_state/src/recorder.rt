@@ -46,11 +46,11 @@ impl Recorder {
     }
 
     /// What is known of a key: what was put there, else what was asked there. None: neither was done.
-    fn known(&self, key: Key) -> Option<Option<Answer>>
-        ensures { result ≡ known_at self.now key }
+    fn known(&self, key: Key) -> Result<Option<Option<Answer>>, AllocError>
+        ensures { IfOk result (λ known. known ≡ known_at self.now key) }
     {
-        match last_put(&self.puts, key) {
-            Some(answer) => Some(Some(answer)),
+        match last_put(&self.puts, key)? {
+            Some(answer) => Ok(Some(Some(answer))),
             None => last_ask(&self.asks, key),
         }
     }
@@ -60,13 +60,13 @@ impl Recorder {
         ensures answer { IfOk result (λ answer. answer ≡ answer_at (L.answer state.now) self.old key) }
         ensures asks { OnOk result (self.new ≡ with_ask (L.answer state.now) self.old key) }
     {
-        if let Some(answer) = self.known(key) {
+        if let Some(answer) = self.known(key)? {
             return Ok(answer);
         }
-        let answer = share_answer(state.ask(&key));
+        let answer = share_answer(state.ask(&key))?;
         self.asks.push(Asked {
             key,
-            answer: share_answer(answer.as_ref()),
+            answer: share_answer(answer.as_ref())?,
         })?;
         Ok(answer)
     }
@@ -128,27 +128,27 @@ impl Recorder {
 }
 
 /// The newest put at a key.
-fn last_put(puts: &[Put], key: Key) -> Option<Answer>
-    ensures { result ≡ last_put puts.now key }
+fn last_put(puts: &[Put], key: Key) -> Result<Option<Answer>, AllocError>
+    ensures { IfOk result (λ found. found ≡ last_put puts.now key) }
 {
     let mut found = None;
     for put in puts {
         if is_same_key(put.key, key) {
-            found = Some(put.answer.share());
+            found = Some(put.answer.share()?);
         }
     }
-    found
+    Ok(found)
 }
 
 /// The newest ask at a key.
-fn last_ask(asks: &[Asked], key: Key) -> Option<Option<Answer>>
-    ensures { result ≡ last_ask asks.now key }
+fn last_ask(asks: &[Asked], key: Key) -> Result<Option<Option<Answer>>, AllocError>
+    ensures { IfOk result (λ found. found ≡ last_ask asks.now key) }
 {
     let mut found = None;
     for asked in asks {
         if is_same_key(asked.key, key) {
-            found = Some(share_answer(asked.answer.as_ref()));
+            found = Some(share_answer(asked.answer.as_ref())?);
         }
     }
-    found
+    Ok(found)
 }

@@ -5,7 +5,7 @@ ghost use Rattle.cps_state.specs.Keys.{first_state, with_put, overwritten, is_ot
 ghost use Rattle.cps_state.specs.declared.key.Key.{Key};
 
 use crate::answers::{first_control, first_place, value_of};
-use crate::key::{Answer, Key, Put};
+use crate::key::{Answer, Key, Put, share_puts};
 use crate::lookup::Lookup;
 use crate::trace::Trace;
 use cps_expr::{Names, Value};
@@ -16,6 +16,7 @@ use std::collections::HashMap;
 /// What stands at each key between two lines. What always stands is kept apart from the rest.
 #[derive(Drop)]
 pub struct State {
+    alloc: Global,
     control: Answer,
     nominal: Answer,
     others: HashMap<Key, Answer>,
@@ -53,6 +54,7 @@ impl State {
         ensures { ⟦<State as Lookup>⟧.answer result ≡ first_state }
     {
         State {
+            alloc,
             control: Answer::Control(first_control()),
             nominal: Answer::Counter(first_place()),
             others: HashMap::new(alloc),
@@ -64,35 +66,31 @@ impl State {
         ensures ok { OnOk result (⟦<State as Lookup>⟧.answer self.new ≡ overwritten (⟦<State as Lookup>⟧.answer self.old) trace.now.puts) }
         ensures err { OnErr result (⟦<State as Lookup>⟧.answer self.new ≡ ⟦<State as Lookup>⟧.answer self.old) }
     {
-        let puts = trace.puts();
+        let puts = share_puts(self.alloc, trace.puts())?;
         self.others.reserve(puts.len())?;
         self.put_all(puts);
         Ok(())
     }
 
     /// The same where there is room.
-    fn put_all(&mut self, puts: &[Put])
-        requires { length puts.now ≤ hash.spare self.old.others }
-        ensures { ⟦<State as Lookup>⟧.answer self.new ≡ overwritten (⟦<State as Lookup>⟧.answer self.old) puts.now }
+    fn put_all(&mut self, puts: Vec<Put>)
+        requires { length puts.items ≤ hash.spare self.old.others }
+        ensures { ⟦<State as Lookup>⟧.answer self.new ≡ overwritten (⟦<State as Lookup>⟧.answer self.old) puts.items }
     {
         for put in puts {
             self.put(put);
         }
     }
 
-    fn put(&mut self, put: &Put)
+    fn put(&mut self, put: Put)
         requires { 0 < hash.spare self.old.others }
-        ensures answer { ⟦<State as Lookup>⟧.answer self.new ≡ with_put (⟦<State as Lookup>⟧.answer self.old) put.now }
+        ensures answer { ⟦<State as Lookup>⟧.answer self.new ≡ with_put (⟦<State as Lookup>⟧.answer self.old) put }
         ensures room { hash.spare self.old.others ≤ hash.spare self.new.others + 1 }
     {
         match put.key {
-            Key::Control => self.control = put.answer.share(),
-            Key::Counter(None) => self.nominal = put.answer.share(),
-            Key::Counter(Some(block)) => self.put_other(
-                Key::Counter(Some(block)),
-                put.answer.share(),
-            ),
-            Key::Label(name) => self.put_other(Key::Label(name), put.answer.share()),
+            Key::Control => self.control = put.answer,
+            Key::Counter(None) => self.nominal = put.answer,
+            key => self.put_other(key, put.answer),
         }
     }
 
