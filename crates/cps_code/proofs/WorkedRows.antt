@@ -6,21 +6,24 @@ use Rattle.cps_text.specs.ItemInFront.{item_in_front}
 use Rattle.cps_text.specs.Parts.{parts_from, parts_up_to}
 use Rattle.cps_code.specs.declared.filled.Filled.{Filled}
 use Rattle.cps_expr.specs.declared.radix.Radix.TheVariants.{Decimal}
-use Rattle.cps_expr.specs.Expression.{Expression, expression_of}
+use Rattle.cps_expr.specs.Expression.{expression_of}
 use Rattle.cps_expr.specs.Value.{value_in, plain}
+use Rattle.cps_code.specs.declared.hole.Operand.{Operand}
+use Rattle.cps_code.specs.declared.hole.Operand.TheVariants as operand
 use Rattle.cps_code.specs.Form.{filled}
 use Rattle.cps_code.specs.Table.{cp_operations, form_of}
 
 -- the number of an expression where no name is defined and `*` is 3
-abbrev number : Expression → ℤ
-number terms = option_map_or (λ value. value.offset) (value_in (λ name. None) (plain (pos 3)) terms) (pos 0)
+abbrev number : Operand → ℤ
+number (operand.Expression terms) = option_map_or (λ value. value.offset) (value_in (λ name. None) (plain (pos 3)) terms) (pos 0)
+number (operand.Literal word) = pos 0
 
 abbrev out_of_range : ℕ → Option Filled
 out_of_range digits = Some (record { digits = digits; is_truncated = false; is_out_of_range = true })
 
 -- the code of a statement with the values of its expressions
 abbrev code : List ℕ → List ℕ → Option Filled
-code name tail = option_map (λ form. filled form (map (λ hole. number hole.expression) form.holes)) (form_of name tail Decimal)
+code name tail = option_map (λ form. filled form (map (λ hole. number hole.operand) form.holes)) (form_of name tail Decimal)
 
 abbrev is : ℕ → Bool → Option Filled
 is digits truncated = Some (record { digits = digits; is_truncated = truncated; is_out_of_range = false })

@@ -6,6 +6,7 @@ pub mod Slots
 pub mod Value
 pub mod Sum
 pub mod Terms
+pub mod Operand
 pub mod Form
 pub mod Table
 pub mod Operations

@@ -7,6 +7,8 @@ use Rattle.cps_expr.specs.declared.radix.Radix.TheVariants.{Octal}
 use Rattle.cps_expr.specs.Term.{Term}
 use Rattle.cps_code.specs.declared.digits.Digits.{Digits}
 use Rattle.cps_code.specs.declared.hole.HoleKind.TheVariants.{Value, Count}
+use Rattle.cps_code.specs.declared.hole.Operand.{Operand}
+use Rattle.cps_code.specs.declared.hole.Operand.TheVariants.{Expression}
 use Rattle.cps_code.specs.declared.operation.FieldForm.{FieldForm}
 use Rattle.cps_code.specs.declared.operation.FieldForm.TheVariants as field
 use Rattle.cps_code.specs.declared.operation.Forms.{Forms}
@@ -103,11 +105,11 @@ abbrev pub jump_form_of : Radix → Digits → List ℕ → Option Form
 jump_form_of radix digits tail = form_of_rows radix digits jump_forms (operands_in radix tail)
 
 -- four digits and a constant
-abbrev pub long_form : ℕ → List Term → Bool → Form
-long_form front constant forces = record {
+abbrev pub long_form : ℕ → Operand → Bool → Form
+long_form front operand forces = record {
   bits = 30;
   code = front * 2 ^ constant_bits;
-  holes = record { first = 12; width = constant_bits; kind = Value; expression = constant } ∷ [];
+  holes = record { first = 12; width = constant_bits; kind = Value; operand = operand } ∷ [];
   forces_after = forces;
 }
 
@@ -124,6 +126,6 @@ abbrev pub count_form : ℕ → List Term → Form
 count_form front count = record {
   bits = 15;
   code = front * 2 ^ count_bits;
-  holes = record { first = 9; width = count_bits; kind = Count; expression = count } ∷ [];
+  holes = record { first = 9; width = count_bits; kind = Count; operand = Expression count } ∷ [];
   forces_after = false;
 }

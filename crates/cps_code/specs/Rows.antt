@@ -9,6 +9,7 @@ use Rattle.cps_expr.specs.Term.{Term}
 use Rattle.cps_code.specs.declared.digits.Digits.{Digits}
 use Rattle.cps_code.specs.declared.hole.Hole.{Hole}
 use Rattle.cps_code.specs.declared.hole.HoleKind.TheVariants.{Value, Count}
+use Rattle.cps_code.specs.declared.hole.Operand.TheVariants.{Expression}
 use Rattle.cps_code.specs.declared.register.Letter.{Letter}
 use Rattle.cps_code.specs.declared.register.Letter.TheVariants.{A, B, X}
 use Rattle.cps_code.specs.declared.register.RegisterTerm.{RegisterTerm}
@@ -221,7 +222,7 @@ hole_at first expression letter = record {
   first = first;
   width = hole_width (Some letter);
   kind = if is_constant letter then Value else Count;
-  expression = expression;
+  operand = Expression expression;
 }
 
 abbrev pub holes_behind : ℕ → Option ℕ → List Term → List Hole

@@ -6,9 +6,11 @@ ghost use Rattle.cps_code.specs.Rows.{registers_in, found_in_fields, form_in, fo
 ghost use Rattle.cps_code.specs.Operations.{texts, no_sum, row_of_fields, long_form, count_form};
 ghost use Rattle.cps_expr.specs.declared.radix.Radix.TheVariants.{Octal};
 ghost use Rattle.cps_code.specs.Terms.{AreDigits};
+ghost use Rattle.cps_code.specs.declared.hole.Operand.TheVariants.{Expression};
 
 use super::digits::{Digits, octal, read_digits};
 use super::form::CpForm;
+use super::hole::Operand;
 use super::operation::FieldForm;
 use cps_expr::{Expr, ExprFault, Radix, read_expression};
 use cps_text::{Operands, operands};
@@ -88,10 +90,10 @@ fn long_form(
     forces_after: bool,
 ) -> Result<CpForm, ExprFault>
     requires { front < 2 ^ 12 }
-    ensures form { IfOk result (λ form. form ≡ long_form front constant forces_after) }
+    ensures form { IfOk result (λ form. form ≡ long_form front (Expression constant) forces_after) }
     ensures readable { IsErrOf result ExprFault.Unreadable → ⊥ }
 {
-    match CpForm::long(alloc, front, constant, forces_after) {
+    match CpForm::long(alloc, front, Operand::Expression(constant), forces_after) {
         Ok(form) => Ok(form),
         Err(_) => Err(ExprFault::Memory),
     }

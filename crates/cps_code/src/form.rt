@@ -5,7 +5,7 @@ ghost use Rattle.cps_code.specs.Operations.{short_form, long_form, bare_form, co
 
 use super::filled::Filled;
 use super::filling_holes::fill_holes;
-use super::hole::{Hole, HoleKind};
+use super::hole::{Hole, HoleKind, Operand};
 use super::widths::{CONSTANT, COUNT, PARCEL};
 use cps_expr::Expr;
 use std::alloc::{AllocError, Global};
@@ -67,7 +67,7 @@ impl CpForm {
             first: PARCEL - COUNT,
             width: COUNT,
             kind: HoleKind::Count,
-            expression: count,
+            operand: Operand::Expression(count),
         })?;
         Ok(CpForm {
             bits: PARCEL,
@@ -81,18 +81,18 @@ impl CpForm {
     pub(crate) fn long(
         alloc: Global,
         front: u16,
-        constant: Expr,
+        operand: Operand,
         forces_after: bool,
     ) -> Result<CpForm, AllocError>
         requires { front < 2 ^ 12 }
-        ensures { IfOk result (λ form. form ≡ long_form front constant forces_after) }
+        ensures { IfOk result (λ form. form ≡ long_form front operand forces_after) }
     {
         let mut holes = Vec::new(alloc);
         holes.push(Hole {
             first: 2 * PARCEL - CONSTANT,
             width: CONSTANT,
             kind: HoleKind::Value,
-            expression: constant,
+            operand,
         })?;
         Ok(CpForm {
             bits: 2 * PARCEL,

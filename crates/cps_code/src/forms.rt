@@ -2,6 +2,7 @@ ghost use Rattle.std.specs.Prelude.{◌≡◌, ◌<◌, ◌^◌, true, List, [],
 ghost use Rattle.cps_code.specs.Sum.{Sum};
 ghost use Rattle.cps_code.specs.Terms.{AreDigits, AreRegisters, IsKept, is_empty, register_list};
 ghost use Rattle.cps_expr.specs.Term.{Term};
+ghost use Rattle.cps_code.specs.declared.hole.Operand.TheVariants.{Expression};
 ghost use Rattle.cps_code.specs.Rows.{operand_of, operands_in, form_of_rows};
 ghost use Rattle.cps_code.specs.Table.{is_operation, form_of};
 ghost use Rattle.cps_code.specs.Operations.{rows_of, row_of_fields, set_form, set_form_of, jump_form, jump_form_of, long_form, bare_form};
@@ -9,6 +10,7 @@ ghost use Rattle.cps_code.specs.Operations.{rows_of, row_of_fields, set_form, se
 use super::digits::Digits;
 use super::fields::form_of_fields;
 use super::form::CpForm;
+use super::hole::Operand;
 use super::operation::{FieldForm, Forms, named_operation};
 use super::register::{Letter, RegisterTerm};
 use super::set::{code_with_constant, code_without_constant, four_digits};
@@ -155,7 +157,7 @@ fn jump_form_of_sum(alloc: Global, digits: Digits, kept: KeptSum) -> Result<CpFo
 fn jump_front(registers: Registers) -> Option<u16>
     requires { AreRegisters registers }
     ensures front { (digits : Digits) (first : Term) (constant : List Term)
-        → jump_form digits (register_list registers) (first ∷ constant) ≡ option_map (λ front. long_form front (first ∷ constant) true) result }
+        → jump_form digits (register_list registers) (first ∷ constant) ≡ option_map (λ front. long_form front (Expression (first ∷ constant)) true) result }
     ensures bare { (digits : Digits) → jump_form digits (register_list registers) [] ≡ (if is_empty registers then None else option_map bare_form result) }
     ensures small { IfSome result (λ front. front < 4096) }
 {
@@ -180,9 +182,9 @@ fn long_form(
     forces_after: bool,
 ) -> Option<CpForm>
     requires { front < 2 ^ 12 }
-    ensures { IfSome result (λ form. IsSomeAnd constant (λ constant. form ≡ long_form front constant forces_after)) }
+    ensures { IfSome result (λ form. IsSomeAnd constant (λ constant. form ≡ long_form front (Expression constant) forces_after)) }
 {
-    match CpForm::long(alloc, front, constant?, forces_after) {
+    match CpForm::long(alloc, front, Operand::Expression(constant?), forces_after) {
         Ok(form) => Some(form),
         Err(_) => None,
     }

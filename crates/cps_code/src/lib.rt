@@ -23,7 +23,7 @@ pub use filled::Filled;
 pub use filling_holes::{bits_of_value, complement, fill_holes, fits_width};
 pub use form::CpForm;
 pub use forms::{FormFault, cp_form};
-pub use hole::{Hole, HoleKind};
+pub use hole::{Hole, HoleKind, Operand};
 pub use piece::Piece;
 pub use place::{Filling, Force, Place, Placed};
 pub use placing::place_next;

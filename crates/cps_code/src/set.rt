@@ -1,4 +1,5 @@
 ghost use Rattle.cps_expr.specs.Term.{Term};
+ghost use Rattle.cps_code.specs.declared.hole.Operand.TheVariants.{Expression};
 ghost use Rattle.std.specs.Prelude.{◌≡◌, ◌<◌, ◌+◌, ◌*◌, [], ◌∷◌, false, List, IfSome, option_map};
 ghost use Rattle.cps_code.specs.Terms.{IsRegister, AreRegisters, AreDigits, register_list};
 ghost use Rattle.cps_code.specs.Operations.{set_form, set_form_as_it_stands, long_form, short_form};
@@ -12,7 +13,7 @@ pub fn code_with_constant(digits: Digits, registers: Registers) -> Option<u16>
     requires known { AreDigits digits }
     requires digits { AreRegisters registers }
     ensures form { (first : Term) (constant : List Term)
-        → set_form digits (register_list registers) (first ∷ constant) ≡ option_map (λ code. long_form code (first ∷ constant) false) result }
+        → set_form digits (register_list registers) (first ∷ constant) ≡ option_map (λ code. long_form code (Expression (first ∷ constant)) false) result }
     ensures small { IfSome result (λ code. code < 4096) }
 {
     match registers {

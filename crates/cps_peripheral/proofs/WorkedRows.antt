@@ -3,18 +3,21 @@ use Rattle.std.specs.Prelude.{◌≡◌, ℕ, Bool, false, true, List, map, code
 use Rattle.std.specs.Option.{option_map_or}
 use Rattle.cps_text.specs.Parts.{parts_from, parts_up_to}
 use Rattle.cps_expr.specs.declared.radix.Radix.TheVariants.{Decimal}
-use Rattle.cps_expr.specs.Expression.{Expression, expression_of}
+use Rattle.cps_expr.specs.Expression.{expression_of}
 use Rattle.cps_expr.specs.Value.{value_in, plain}
 use Rattle.cps_code.specs.declared.filled.Filled.{Filled}
+use Rattle.cps_code.specs.declared.hole.Operand.{Operand}
+use Rattle.cps_code.specs.declared.hole.Operand.TheVariants as operand
 use Rattle.cps_code.specs.Form.{filled}
 use Rattle.cps_peripheral.specs.Table.{pp_table, form_of}
 
 -- the number of an expression where no name is defined and `*` is 0: that of a target is the distance to it
-abbrev number : Expression → ℤ
-number terms = option_map_or (λ value. value.offset) (value_in (λ name. None) (plain (pos 0)) terms) (pos 0)
+abbrev number : Operand → ℤ
+number (operand.Expression terms) = option_map_or (λ value. value.offset) (value_in (λ name. None) (plain (pos 0)) terms) (pos 0)
+number (operand.Literal word) = pos 0
 
 abbrev code : List ℕ → List ℕ → Option Filled
-code name tail = option_map (λ form. filled form (map (λ hole. number hole.expression) form.holes)) (form_of name tail Decimal)
+code name tail = option_map (λ form. filled form (map (λ hole. number hole.operand) form.holes)) (form_of name tail Decimal)
 
 abbrev is : ℕ → Bool → Option Filled
 is digits truncated = Some (record { digits = digits; is_truncated = truncated; is_out_of_range = false })

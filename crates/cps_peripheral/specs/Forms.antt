@@ -7,6 +7,8 @@ use Rattle.cps_expr.specs.OperandList.{paired, only_one, at_most_one}
 use Rattle.cps_code.specs.declared.hole.Hole.{Hole}
 use Rattle.cps_code.specs.declared.hole.HoleKind.{HoleKind}
 use Rattle.cps_code.specs.declared.hole.HoleKind.TheVariants.{Value, Target}
+use Rattle.cps_code.specs.declared.hole.Operand.{Operand}
+use Rattle.cps_code.specs.declared.hole.Operand.TheVariants as operand
 use Rattle.cps_code.specs.Form.{Form, IsHole, room_of}
 use Rattle.cps_peripheral.specs.declared.layout.Layout.{Layout}
 use Rattle.cps_peripheral.specs.declared.layout.Layout.TheVariants as layout
@@ -28,15 +30,15 @@ two_words number holes = record { bits = 2 * word_bits; code = number * 2 ^ (hal
 
 -- d, the last six bits of the first word
 abbrev pub hole_of_d : HoleKind → Expression → Hole
-hole_of_d kind expression = record { first = half_bits; width = half_bits; kind = kind; expression = expression }
+hole_of_d kind expression = record { first = half_bits; width = half_bits; kind = kind; operand = operand.Expression expression }
 
 -- the eighteen bits behind the operation
-abbrev pub hole_of_constant : Expression → Hole
-hole_of_constant expression = record { first = half_bits; width = half_bits + word_bits; kind = Value; expression = expression }
+abbrev pub hole_of_constant : Operand → Hole
+hole_of_constant operand = record { first = half_bits; width = half_bits + word_bits; kind = Value; operand = operand }
 
 -- m, the second word
-abbrev pub hole_of_m : Expression → Hole
-hole_of_m expression = record { first = word_bits; width = word_bits; kind = Value; expression = expression }
+abbrev pub hole_of_m : Operand → Hole
+hole_of_m operand = record { first = word_bits; width = word_bits; kind = Value; operand = operand }
 
 abbrev pub holes_of_d : Option Expression → List Hole
 holes_of_d None = []
@@ -54,8 +56,8 @@ abbrev pub form_with : Radix → Layout → ℕ → List (List ℕ) → Option F
 form_with radix layout.Unread number texts = Some (one_word number [])
 form_with radix layout.Target number texts = option_map (λ e. one_word number (hole_of_d Target e ∷ [])) (only_one (expression_of radix) texts)
 form_with radix layout.Short number texts = option_map (λ e. one_word number (hole_of_d Value e ∷ [])) (only_one (expression_of radix) texts)
-form_with radix layout.Constant number texts = option_map (λ e. two_words number (hole_of_constant e ∷ [])) (only_one (expression_of radix) texts)
-form_with radix layout.Memory number texts = option_map (λ p. two_words number (hole_of_m p.0 ∷ holes_of_d p.1)) (memory_of radix texts)
+form_with radix layout.Constant number texts = option_map (λ e. two_words number (hole_of_constant (operand.Expression e) ∷ [])) (only_one (expression_of radix) texts)
+form_with radix layout.Memory number texts = option_map (λ p. two_words number (hole_of_m (operand.Expression p.0) ∷ holes_of_d p.1)) (memory_of radix texts)
 
 -- ---- what each form keeps
 

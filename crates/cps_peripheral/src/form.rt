@@ -2,7 +2,7 @@ ghost use Rattle.std.specs.Prelude.{◌≡◌, ◌<◌, ◌^◌, ◌≤◌, [], 
 ghost use Rattle.cps_code.specs.Form.{filled};
 ghost use Rattle.cps_peripheral.specs.Forms.{IsPpForm, one_word, two_words, hole_of_d, hole_of_constant, hole_of_m, holes_of_d};
 
-use cps_code::{Filled, Hole, HoleKind, fill_holes};
+use cps_code::{Filled, Hole, HoleKind, Operand, fill_holes};
 use cps_expr::Expr;
 use std::alloc::{AllocError, Global};
 use std::marker::Model;
@@ -61,7 +61,7 @@ impl PpForm {
             first: HALF,
             width: HALF,
             kind,
-            expression,
+            operand: Operand::Expression(expression),
         })?;
         Ok(PpForm {
             bits: WORD,
@@ -74,17 +74,17 @@ impl PpForm {
     pub(crate) fn constant(
         alloc: Global,
         number: u8,
-        expression: Expr,
+        operand: Operand,
     ) -> Result<PpForm, AllocError>
         requires { number < 64 }
-        ensures { IfOk result (λ form. form ≡ two_words number (hole_of_constant expression ∷ [])) }
+        ensures { IfOk result (λ form. form ≡ two_words number (hole_of_constant operand ∷ [])) }
     {
         let mut holes = Vec::new(alloc);
         holes.push(Hole {
             first: HALF,
             width: HALF + WORD,
             kind: HoleKind::Value,
-            expression,
+            operand,
         })?;
         Ok(PpForm {
             bits: 2 * WORD,
@@ -97,7 +97,7 @@ impl PpForm {
     pub(crate) fn memory(
         alloc: Global,
         number: u8,
-        address: Expr,
+        address: Operand,
         index: Option<Expr>,
     ) -> Result<PpForm, AllocError>
         requires { number < 64 }
@@ -108,14 +108,14 @@ impl PpForm {
             first: WORD,
             width: WORD,
             kind: HoleKind::Value,
-            expression: address,
+            operand: address,
         })?;
         if let Some(index) = index {
             holes.push(Hole {
                 first: HALF,
                 width: HALF,
                 kind: HoleKind::Value,
-                expression: index,
+                operand: Operand::Expression(index),
             })?;
         }
         Ok(PpForm {

@@ -8,7 +8,7 @@ use super::form::PpForm;
 use super::layout::Layout;
 use super::operation::named_operation;
 use super::reads::read_memory;
-use cps_code::{FormFault, HoleKind};
+use cps_code::{FormFault, HoleKind, Operand};
 use cps_expr::{ExprFault, Radix, read_only};
 use std::alloc::{AllocError, Global};
 
@@ -76,11 +76,11 @@ fn read_form(
         }
         Layout::Constant => {
             let constant = read_only(alloc, tail, radix)?;
-            or_memory(PpForm::constant(alloc, number, constant))
+            or_memory(PpForm::constant(alloc, number, Operand::Expression(constant)))
         }
         Layout::Memory => {
             let (address, index) = read_memory(alloc, tail, radix)?;
-            or_memory(PpForm::memory(alloc, number, address, index))
+            or_memory(PpForm::memory(alloc, number, Operand::Expression(address), index))
         }
     }
 }
