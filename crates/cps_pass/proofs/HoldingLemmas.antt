@@ -24,5 +24,5 @@ pub held-end : (names : List Name) (i : ℕ) (held : List Held) (f : State) (s t
     → run (settings_now names next rest) f s ≡ run (next held rest) f t
 held-end names i held f s t past next rest before =
     sym before
-    ∙ ap (λ (xs : List Name). run (settings_now xs (λ later. next (held ++ later)) rest) f t) (drop_all names i past)
+    ∙ ap (λ (xs : List Name). run (settings_now xs (λ later. next (held ++ later)) rest) f t) (drop_all i names past)
     ∙ ap (λ (xs : List Held). run (next xs rest) f t) (append-nil held)
