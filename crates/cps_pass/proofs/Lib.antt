@@ -1,4 +1,5 @@
 pub mod CourseLemmas
+pub mod HoldingLemmas
 pub mod PartLemmas
 pub mod SiteLemmas
 pub mod SizedLemmas

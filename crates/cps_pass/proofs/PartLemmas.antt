@@ -27,13 +27,14 @@ done-then first second f s t u (Err x) does then = tt
 -- a row that none of these is ends the head
 pub obeyed-behind-head : (control : Control) (location : Location) (r : Row)
     → ((name : Name) → r ≡ row.Ident name → ⊥) → (r ≡ row.Abs → ⊥) → (r ≡ row.Periph → ⊥) → ((radix : Radix) → r ≡ row.Base radix → ⊥)
-    → ((terms : Expression) → r ≡ row.Equate terms → ⊥) → (r ≡ row.End → ⊥) → (r ≡ row.Listing → ⊥)
+    → ((terms : Expression) → r ≡ row.Equate terms → ⊥) → ((terms : Expression) → r ≡ row.Set terms → ⊥) → (r ≡ row.End → ⊥) → (r ≡ row.Listing → ⊥)
     → obeyed control location r ≡ (leaving_head control before obeyed_in_body (in_body control) location r)
-obeyed-behind-head control location (row.Ident name) ident abs periph base equate end listing = absurd (ident name refl)
-obeyed-behind-head control location row.Abs ident abs periph base equate end listing = absurd (abs refl)
-obeyed-behind-head control location row.Periph ident abs periph base equate end listing = absurd (periph refl)
-obeyed-behind-head control location (row.Base radix) ident abs periph base equate end listing = absurd (base radix refl)
-obeyed-behind-head control location (row.Equate terms) ident abs periph base equate end listing = absurd (equate terms refl)
-obeyed-behind-head control location row.End ident abs periph base equate end listing = absurd (end refl)
-obeyed-behind-head control location row.Listing ident abs periph base equate end listing = absurd (listing refl)
-obeyed-behind-head control location other ident abs periph base equate end listing = refl
+obeyed-behind-head control location (row.Ident name) ident abs periph base equate set end listing = absurd (ident name refl)
+obeyed-behind-head control location row.Abs ident abs periph base equate set end listing = absurd (abs refl)
+obeyed-behind-head control location row.Periph ident abs periph base equate set end listing = absurd (periph refl)
+obeyed-behind-head control location (row.Base radix) ident abs periph base equate set end listing = absurd (base radix refl)
+obeyed-behind-head control location (row.Equate terms) ident abs periph base equate set end listing = absurd (equate terms refl)
+obeyed-behind-head control location (row.Set terms) ident abs periph base equate set end listing = absurd (set terms refl)
+obeyed-behind-head control location row.End ident abs periph base equate set end listing = absurd (end refl)
+obeyed-behind-head control location row.Listing ident abs periph base equate set end listing = absurd (listing refl)
+obeyed-behind-head control location other ident abs periph base equate set end listing = refl

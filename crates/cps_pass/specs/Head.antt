@@ -26,7 +26,7 @@ putting_control control = put (control_put control)
 abbrev pub entering : Control → Phase → Part
 entering control phase = putting_control (record control { phase = phase })
 
--- ---- leaving the head, where the program is in it: it lasts until the first statement other than IDENT, ABS, PERIPH, BASE, EQU, `=`, TITLE, SPACE, EJECT and LIST
+-- ---- leaving the head, where the program is in it: it lasts until the first statement other than IDENT, ABS, PERIPH, BASE, EQU, `=`, SET, TITLE, SPACE, EJECT and LIST
 
 abbrev pub behind_head : Phase → Phase
 behind_head (Head head) = Body

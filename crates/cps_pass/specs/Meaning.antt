@@ -24,7 +24,7 @@ use Rattle.cps_pass.specs.Head.{in_body, leaving_head, ident, declaration, base}
 use Rattle.cps_pass.specs.Instruction.{instruction, peripheral_instruction}
 use Rattle.cps_pass.specs.Located.{present_flags}
 use Rattle.cps_pass.specs.Reading.{reading_of}
-use Rattle.cps_pass.specs.Symbols.{equate, unread_equate}
+use Rattle.cps_pass.specs.Symbols.{equate, unread_equate, set_symbol, unread_set}
 use Rattle.cps_pass.specs.Reserving.{bss, bssz}
 use Rattle.cps_pass.specs.Use.{use_block, unread_use}
 use Rattle.cps_pass.specs.Words.{con, data_words, dis, unread_words}
@@ -51,7 +51,7 @@ obeyed_in_body control location (row.Con values) = con control location values
 obeyed_in_body control location (row.Data numbers) = data_words control location numbers
 obeyed_in_body control location (row.Vfd fields) = vfd control location fields
 obeyed_in_body control location (row.Dis text) = dis control location text
--- what isn't there yet: SET, the IFs, ELSE, ENDIF, DUP, ENDD, MACRO and ENDM
+-- what isn't there yet: the IFs, ELSE, ENDIF, DUP, ENDD, MACRO and ENDM
 obeyed_in_body control location _ = unknown
 
 -- a statement with its operands
@@ -61,6 +61,7 @@ obeyed control location row.Abs = declaration control location Cp
 obeyed control location row.Periph = declaration control location Pp
 obeyed control location (row.Base radix) = base control location radix
 obeyed control location (row.Equate terms) = equate control location terms
+obeyed control location (row.Set terms) = set_symbol control location terms
 obeyed control location row.End = end control location
 obeyed control location row.Listing = fill (nothing_made (present_flags location))
 obeyed control location other = leaving_head control before obeyed_in_body (in_body control) location other
@@ -83,6 +84,7 @@ abbrev pub unreadable : Control → Location → Operation → Part
 unreadable control location operation.Ident = ident control location None
 unreadable control location operation.Base = unread location
 unreadable control location operation.Equate = unread_equate location
+unreadable control location operation.Set = unread_set location
 unreadable control location other = leaving_head control before unreadable_in_body (in_body control) location other
 
 abbrev pub stated : Control → Location → Stating → Part

@@ -4,9 +4,8 @@ use Rattle.cps_text.specs.declared.name.Name.{Name}
 use Rattle.cps_expr.specs.Value.{Values}
 use Rattle.cps_state.specs.declared.key.Key.TheVariants as key
 use Rattle.cps_state.specs.Course.{Part, ◌before◌, asking, tell}
-use Rattle.cps_state.specs.Keys.{value_of}
 use Rattle.cps_pass.specs.declared.value_now.NameNow.{NameNow}
-use Rattle.cps_pass.specs.ValueNow.{no_values, with_value}
+use Rattle.cps_pass.specs.ValueNow.{no_values, with_value, meant}
 
 -- values, with those of some names
 abbrev pub with_values : List NameNow → Values → Values
@@ -18,4 +17,4 @@ values_in names = with_values names no_values
 
 -- asking the value of a name, which is read
 abbrev pub name_now : Name → (NameNow → Part) → Part
-name_now name next = asking (key.Label name) (λ a. tell name before next (record { name = name; value = value_of a }))
+name_now name next = asking (key.Label name) (λ a. asking (key.Setting name) (λ b. tell name before next (record { name = name; value = meant a b })))

@@ -1,6 +1,8 @@
 -- Placing statements: what all of them share. From the manual's sections on the location field and on forcing upper; what stays pending is our
 -- profile's, and the limit too.
-use Rattle.std.specs.Prelude.{ℕ, ◌*◌, Bool, true, false, nat_lt, List, [], if◌then◌else◌}
+use Rattle.std.specs.Prelude.{ℕ, ◌*◌, Bool, true, false, nat_lt, List, [], ◌∷◌, ◌++◌, flat_map, Option, None, Some, if◌then◌else◌}
+use Rattle.cps_text.specs.declared.name.Name.{Name}
+use Rattle.cps_expr.specs.declared.value.Value.{Value as AValue}
 use Rattle.cps_code.specs.Image.{Piece}
 use Rattle.cps_code.specs.declared.place.Force.{Force}
 use Rattle.cps_code.specs.declared.place.Force.TheVariants.{Free, NewWord, Cancel}
@@ -9,10 +11,11 @@ use Rattle.cps_state.specs.declared.flags.Flags.{Flags}
 use Rattle.cps_state.specs.declared.key.Control.{Control}
 use Rattle.cps_state.specs.declared.key.Key.TheVariants as key
 use Rattle.cps_state.specs.declared.made.Content.{Content}
+use Rattle.cps_state.specs.declared.made.Held.{Held}
 use Rattle.cps_state.specs.Course.{Part, ◌before◌, asking, fill}
-use Rattle.cps_state.specs.Keys.{place_of}
+use Rattle.cps_state.specs.Keys.{place_of, value_of}
 use Rattle.cps_state.specs.Machines.{limit}
-use Rattle.cps_state.specs.Made.{Made, nothing_made, no_flags, end_of}
+use Rattle.cps_state.specs.Made.{Made, nothing_made, no_flags, end_of, content_names}
 use Rattle.cps_pass.specs.declared.placing.Site.{Site}
 use Rattle.cps_pass.specs.declared.reading.Location.{Location}
 use Rattle.cps_pass.specs.declared.reading.Location.TheVariants.{Absent, Plus, Minus, Symbol, NoSymbol}
@@ -64,17 +67,35 @@ unread_flags site = record (placing_flags site) { operand = true }
 abbrev pub far_flags : Site → Flags
 far_flags site = record (placing_flags site) { structure = true }
 
+-- ---- the values that SET gave to the symbols that its contents read
+
+abbrev pub held_of : Name → Option AValue → List Held
+held_of name None = []
+held_of name (Some value) = record { name = name; value = value } ∷ []
+
+-- asking the value that SET has given to a symbol by now
+abbrev pub setting_now : Name → (Option AValue → Part) → Part
+setting_now name next = asking (key.Setting name) (λ a. next (value_of a))
+
+abbrev pub settings_now : List Name → (List Held → Part) → Part
+settings_now [] next = next []
+settings_now (name ∷ names) next = setting_now name (λ value. settings_now names (λ held. next (held_of name value ++ held)))
+
+abbrev pub holding : List Content → (List Held → Part) → Part
+holding contents next = settings_now (flat_map content_names contents) next
+
 -- ---- what it puts and makes
 
 -- contents that only give flags
-abbrev pub only_flagging : Flags → Site → List Piece → ℕ → List Content → Made
-only_flagging flags site filling start contents = record (nothing_made flags) {
+abbrev pub only_flagging : Flags → Site → List Piece → ℕ → List Content → List Held → Made
+only_flagging flags site filling start contents held = record (nothing_made flags) {
   machine = site.machine;
   block = site.block;
   filling = filling;
   start = start;
   contents = contents;
   only_flags = true;
+  held = held;
 }
 
 -- the block goes on at a place, and the symbol gets the address of the statement's first word
@@ -83,21 +104,21 @@ settling site start after is_pending = going_on site.block after is_pending befo
 
 -- One that makes nothing because of its operands: it forces, and its symbol is defined. The flags tell what is wrong with them.
 unfoldable pub unplaced : Flags → Site → ℕ → List Content → Part
-unplaced flags site start contents =
-    settling site start start false before fill (only_flagging flags site (filling_between (position site.place) start) start contents)
+unplaced flags site start contents = holding contents (λ held.
+    settling site start start false before fill (only_flagging flags site (filling_between (position site.place) start) start contents held))
 
 -- with unreadable operands
 abbrev pub unread_from : Site → ℕ → Part
 unread_from site start = unplaced (unread_flags site) site start []
 
 -- One that would pass the machine's words makes nothing; nothing is put.
-abbrev pub too_far : Site → ℕ → List Content → Part
-too_far site start contents = fill (only_flagging (far_flags site) site [] start contents)
+abbrev pub too_far : Site → ℕ → List Content → List Held → Part
+too_far site start contents held = fill (only_flagging (far_flags site) site [] start contents held)
 
 -- contents from a place on up to another
-abbrev pub placed_to : Site → ℕ → List Content → Bool → ℕ → Part
-placed_to site start contents is_pending end =
-    if nat_lt (60 * limit site.machine) end then too_far site start contents
+abbrev pub placed_to : Site → ℕ → List Content → Bool → ℕ → List Held → Part
+placed_to site start contents is_pending end held =
+    if nat_lt (60 * limit site.machine) end then too_far site start contents held
     else settling site start (whole site.machine end) is_pending
     before fill (record (nothing_made (placing_flags site)) {
       machine = site.machine;
@@ -105,8 +126,9 @@ placed_to site start contents is_pending end =
       filling = filling_between (position site.place) start;
       start = start;
       contents = contents;
+      held = held;
     })
 
 -- contents from a place on, one behind the other
 unfoldable pub placed : Site → ℕ → List Content → Bool → Part
-placed site start contents is_pending = placed_to site start contents is_pending (end_of site.machine start contents)
+placed site start contents is_pending = holding contents (placed_to site start contents is_pending (end_of site.machine start contents))

@@ -22,7 +22,7 @@ zeros_for has_zeros words = if has_zeros then words else 0
 -- so many words from the beginning of a word on
 abbrev pub reserved : Bool → Site → ℕ → ℕ → Part
 reserved has_zeros site start words =
-    if nat_lt (limit site.machine) (start / 60 + words) then too_far site start []
+    if nat_lt (limit site.machine) (start / 60 + words) then too_far site start [] []
     else settling site start (start + 60 * words) false
     before fill (record (nothing_made (placing_flags site)) {
       machine = site.machine;

@@ -1,11 +1,14 @@
--- Values in pass one: a name counts if it was defined before. From the manual's sections on symbols and on the two passes.
+-- Values in pass one: a name counts if it was defined before; the value that SET gave it stands before its label. From the manual's sections on symbols
+-- and on the two passes.
 use Rattle.std.specs.Prelude.{List, [], ◌∷◌, pos, Option, None, Some, if◌then◌else◌}
+use Rattle.std.specs.Option.{option_or}
 use Rattle.cps_text.specs.declared.name.Name.{Name}
 use Rattle.cps_expr.specs.declared.value.Value.{Value as AValue}
 use Rattle.cps_expr.specs.Expression.{Expression, names_of, has_counter}
 use Rattle.cps_expr.specs.Value.{Values, plain, same_name, value_in, has_undefined}
 use Rattle.cps_code.specs.Place.{position}
 use Rattle.cps_state.specs.declared.key.Control.{Control}
+use Rattle.cps_state.specs.declared.key.Answer.{Answer}
 use Rattle.cps_state.specs.declared.key.Key.TheVariants as key
 use Rattle.cps_state.specs.Course.{Part, ◌before◌, asking, tell}
 use Rattle.cps_state.specs.Keys.{place_of, value_of}
@@ -24,10 +27,15 @@ no_values name = None
 abbrev pub with_value : Name → Option AValue → Values → Values
 with_value name value values other = if same_name name other then value else values other
 
+-- what a name stands for, by what stands at its label and at its setting
+abbrev pub meant : Option Answer → Option Answer → Option AValue
+meant label setting = option_or (value_of setting) (value_of label)
+
 -- asking the values of names, which are read
 abbrev pub names_now : List Name → (Values → Part) → Part
 names_now [] next = next no_values
-names_now (name ∷ names) next = asking (key.Label name) (λ a. tell name before names_now names (λ values. next (with_value name (value_of a) values)))
+names_now (name ∷ names) next =
+    asking (key.Label name) (λ a. asking (key.Setting name) (λ b. tell name before names_now names (λ values. next (with_value name (meant a b) values))))
 
 -- the value of an expression; a name without a value leaves it undefined
 abbrev pub value_now : Values → AValue → Expression → ValueNow

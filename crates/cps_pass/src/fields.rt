@@ -33,7 +33,7 @@ pub fn vfd<L: Lookup>(
     let site = ask_site(recorder, state, control, location)?;
     let here = here_at(site.block, start_for(site, 0).start);
     let sized = size_fields(alloc, recorder, state, fields, here)?;
-    place_sized(recorder, state, site, sized)
+    place_sized(alloc, recorder, state, site, sized)
 }
 
 /// VFD with unreadable operands.
@@ -117,6 +117,7 @@ fn are_sized(contents: &[Content]) -> bool
 }
 
 fn place_sized<L: Lookup>(
+    alloc: Global,
     recorder: &mut Recorder,
     state: &L,
     site: Site,
@@ -128,8 +129,8 @@ fn place_sized<L: Lookup>(
 {
     let begun = start_for(site, 0);
     if are_sized(&sized.contents) {
-        return place(recorder, state, site, begun, sized.contents, false);
+        return place(alloc, recorder, state, site, begun, sized.contents, false);
     }
     let flags = placing_flags(site).joined(sized.flags);
-    place_nothing(recorder, state, site, begun, flags, sized.contents)
+    place_nothing(alloc, recorder, state, site, begun, flags, sized.contents)
 }

@@ -43,7 +43,7 @@ fn code<L: Lookup>(
     let is_pending = form.forces_after();
     let mut contents = Vec::with_capacity(alloc, 1)?;
     contents.push(Content::Instruction(form))?;
-    place(recorder, state, site, begun, contents, is_pending)
+    place(alloc, recorder, state, site, begun, contents, is_pending)
 }
 
 /// An instruction of a peripheral processor; None where its operands are unreadable.
@@ -77,5 +77,5 @@ fn code_peripheral<L: Lookup>(
     };
     let mut contents = Vec::with_capacity(alloc, 1)?;
     contents.push(Content::Peripheral(form))?;
-    place(recorder, state, site, begun, contents, false)
+    place(alloc, recorder, state, site, begun, contents, false)
 }

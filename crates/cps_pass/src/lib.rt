@@ -4,6 +4,7 @@
 mod blocks;
 mod fields;
 mod head;
+mod holding;
 mod instruction;
 mod located;
 mod making;
@@ -19,7 +20,7 @@ mod value_now;
 mod words;
 
 pub use cps_state::{
-    Answer, Asked, Content, Control, Flags, Head, Item, Key, Lookup, Made, Phase, Put, Shown,
+    Answer, Asked, Content, Control, Flags, Head, Held, Item, Key, Lookup, Made, Phase, Put, Shown,
     State, Tally, Trace, Uses, Work, limit_of, word_bits,
 };
 pub use places::here_at;

@@ -1,6 +1,6 @@
 //! Location fields, and the symbols that they define.
 ghost use Rattle.std.specs.Prelude.{◌≡◌, OnOk, IfOk};
-ghost use Rattle.cps_state.specs.Course.{Does, Hands};
+ghost use Rattle.cps_state.specs.Course.{Does, Hands, telling_if};
 ghost use Rattle.cps_pass.specs.Located as located;
 
 use crate::reading::Location;
@@ -38,6 +38,72 @@ pub fn symbol_in(location: Location) -> Option<Name>
     }
 }
 
+/// What a symbol stands for already.
+#[derive(Clone, Copy, Debug, PartialEq, Eq)]
+pub enum Standing {
+    Free,
+    /// It is a label.
+    Labelled,
+    /// SET gave it a value.
+    Set,
+}
+
+fn has_value(standing: Standing) -> bool
+    ensures { result ≡ located.has_value standing }
+{
+    match standing {
+        Standing::Free => false,
+        Standing::Labelled | Standing::Set => true,
+    }
+}
+
+pub fn is_labelled(standing: Standing) -> bool
+    ensures { result ≡ located.is_labelled standing }
+{
+    match standing {
+        Standing::Labelled => true,
+        Standing::Free | Standing::Set => false,
+    }
+}
+
+fn standing_by(label: Option<Value>, setting: Option<Value>) -> Standing
+    ensures { result ≡ located.standing_by label setting }
+{
+    match (label, setting) {
+        (Some(_), _) => Standing::Labelled,
+        (None, Some(_)) => Standing::Set,
+        (None, None) => Standing::Free,
+    }
+}
+
+/// What a symbol stands for already.
+pub fn ask_standing<L: Lookup>(
+    recorder: &mut Recorder,
+    state: &L,
+    name: Name,
+) -> Result<Standing, AllocError>
+    ensures { IfOk result (λ standing. Hands (located.asking_standing name) standing (L.answer state.now) recorder.old recorder.new) }
+{
+    let label = recorder.ask(state, Key::Label(name))?;
+    let setting = recorder.ask(state, Key::Setting(name))?;
+    Ok(standing_by(value_of(label.as_ref()), value_of(setting.as_ref())))
+}
+
+/// Tells a symbol where something holds.
+pub fn tell_if<L: Lookup>(
+    recorder: &mut Recorder,
+    state: &L,
+    holds: bool,
+    name: Name,
+) -> Result<(), AllocError>
+    ensures { OnOk result (Does (telling_if holds name) (L.answer state.now) recorder.old recorder.new) }
+{
+    if holds {
+        recorder.tell(name)?;
+    }
+    Ok(())
+}
+
 /// Whether the symbol of a location field has a value already; then it counts as read.
 pub fn is_taken<L: Lookup>(
     recorder: &mut Recorder,
@@ -48,11 +114,9 @@ pub fn is_taken<L: Lookup>(
 {
     match symbol_in(location) {
         Some(name) => {
-            let answer = recorder.ask(state, Key::Label(name))?;
-            let is_taken = value_of(answer.as_ref()).is_some();
-            if is_taken {
-                recorder.tell(name)?;
-            }
+            let standing = ask_standing(recorder, state, name)?;
+            let is_taken = has_value(standing);
+            tell_if(recorder, state, is_taken, name)?;
             Ok(is_taken)
         }
         None => Ok(false),

@@ -4,17 +4,18 @@ ghost use Rattle.std.specs.Option.{option_to_list};
 ghost use Rattle.cps_code.specs.Image.{piece_of};
 ghost use Rattle.cps_code.specs.Place.{position};
 ghost use Rattle.cps_state.specs.Course.{Does, Hands, filled};
-ghost use Rattle.cps_state.specs.Made.{width_of, IsContent};
+ghost use Rattle.cps_state.specs.Made.{width_of, IsContent, IsHeld};
 ghost use Rattle.cps_pass.specs.Placing as placing;
 ghost use Rattle.cps_pass.specs.Places.{filling_between};
 ghost use Rattle.cps_pass.specs.Sites.{IsSite, Starts};
 
+use crate::holding::hold;
 use crate::located::{define, is_taken};
 use crate::places::{Begun, begin, go_on, here_at, leave_word, whole};
 use crate::reading::Location;
 use cps_code::{Force, Place};
 use cps_expr::Machine;
-use cps_state::{Content, Control, Flags, Key, Lookup, Made, Recorder, end_of, place_of};
+use cps_state::{Content, Control, Flags, Held, Key, Lookup, Made, Recorder, end_of, place_of};
 use cps_text::Name;
 use std::alloc::{AllocError, Global};
 
@@ -147,6 +148,7 @@ pub fn settle<L: Lookup>(
 /// A placing statement that makes nothing because of its operands; it forces, and its symbol is defined.
 #[tactic(auto, unfolding(crate::specs::Placing::unplaced))]
 pub fn place_nothing<L: Lookup>(
+    alloc: Global,
     recorder: &mut Recorder,
     state: &L,
     site: Site,
@@ -158,6 +160,7 @@ pub fn place_nothing<L: Lookup>(
     requires each { All IsContent contents.items }
     ensures { OnOk result (Does (placing.unplaced flags site begun.start contents.items) (L.answer state.now) recorder.old recorder.new) }
 {
+    let held = hold(alloc, recorder, state, &contents)?;
     settle(recorder, state, site, begun.start, begun.start, false)?;
     recorder.fill(Made::flagging(
         flags,
@@ -166,6 +169,7 @@ pub fn place_nothing<L: Lookup>(
         begun.filling,
         begun.start,
         contents,
+        held,
     ));
     Ok(())
 }
@@ -182,6 +186,7 @@ pub fn place_unread<L: Lookup>(
     ensures { OnOk result (Does (placing.unread_from site begun.start) (L.answer state.now) recorder.old recorder.new) }
 {
     place_nothing(
+        alloc,
         recorder,
         state,
         site,
@@ -192,9 +197,16 @@ pub fn place_unread<L: Lookup>(
 }
 
 /// One that would pass the machine's words makes nothing; nothing is put.
-pub fn pass_limit(recorder: &mut Recorder, site: Site, start: u32, contents: Vec<Content>)
-    requires { All IsContent contents.items }
-    ensures { recorder.new ≡ filled recorder.old (placing.only_flagging (placing.far_flags site) site [] start contents.items) }
+pub fn pass_limit(
+    recorder: &mut Recorder,
+    site: Site,
+    start: u32,
+    contents: Vec<Content>,
+    held: Vec<Held>,
+)
+    requires each { All IsContent contents.items }
+    requires held { All IsHeld held.items }
+    ensures { recorder.new ≡ filled recorder.old (placing.only_flagging (placing.far_flags site) site [] start contents.items held.items) }
 {
     recorder.fill(Made::flagging(
         far_flags(site),
@@ -203,12 +215,14 @@ pub fn pass_limit(recorder: &mut Recorder, site: Site, start: u32, contents: Vec
         None,
         start,
         contents,
+        held,
     ));
 }
 
 /// Contents, one behind the other.
 #[tactic(auto, unfolding(crate::specs::Placing::placed))]
 pub fn place<L: Lookup>(
+    alloc: Global,
     recorder: &mut Recorder,
     state: &L,
     site: Site,
@@ -222,8 +236,9 @@ pub fn place<L: Lookup>(
     requires some { All (λ content. 0 < width_of content) contents.items }
     ensures { OnOk result (Does (placing.placed site begun.start contents.items is_pending) (L.answer state.now) recorder.old recorder.new) }
 {
+    let held = hold(alloc, recorder, state, &contents)?;
     let Some(end) = end_of(site.machine, begun.start, &contents) else {
-        pass_limit(recorder, site, begun.start, contents);
+        pass_limit(recorder, site, begun.start, contents, held);
         return Ok(());
     };
     let after = whole(site.machine, end);
@@ -235,6 +250,7 @@ pub fn place<L: Lookup>(
         begun.filling,
         begun.start,
         contents,
+        held,
     ));
     Ok(())
 }

@@ -65,7 +65,7 @@ fn reserve_by<L: Lookup>(
     let value = value_now(alloc, recorder, state, operand, here)?;
     let Some(words) = plain_number(value) else {
         let flags = no_number_flags(site, value);
-        return place_nothing(recorder, state, site, begun, flags, Vec::new(alloc));
+        return place_nothing(alloc, recorder, state, site, begun, flags, Vec::new(alloc));
     };
     reserve(alloc, recorder, state, site, begun, words, has_zeros)
 }
@@ -85,7 +85,13 @@ fn reserve<L: Lookup>(
 {
     let limit = u64::from(limit_of(site.machine));
     if words > limit || u64::from(begun.start / WORD) + words > limit {
-        pass_limit(recorder, site, begun.start, Vec::new(alloc));
+        pass_limit(
+            recorder,
+            site,
+            begun.start,
+            Vec::new(alloc),
+            Vec::new(alloc),
+        );
         return Ok(());
     }
     let words = words as u32;

@@ -18,7 +18,7 @@ use crate::located::present_flags;
 use crate::making::{flag, unread};
 use crate::reading::{Location, Reading, Stating, read_line};
 use crate::reserving::{bss, bssz};
-use crate::symbols::{equate, unread_equate};
+use crate::symbols::{equate, set_symbol, unread_equate, unread_set};
 use crate::uses::{unread_use, use_block};
 use crate::words::{con, data_words, dis, unread_words};
 use cps_expr::{Machine, Operation, Row};
@@ -199,6 +199,7 @@ fn obey_statement<L: Lookup>(
         Row::Periph => declaration(alloc, recorder, state, control, location, Machine::Pp),
         Row::Base(radix) => base(alloc, recorder, state, control, location, radix),
         Row::Equate(operand) => equate(alloc, recorder, state, control, location, &operand),
+        Row::Set(operand) => set_symbol(alloc, recorder, state, control, location, &operand),
         Row::End => end(alloc, recorder, state, control, location),
         Row::Listing => {
             flag(alloc, recorder, present_flags(location));
@@ -257,6 +258,7 @@ fn flag_unreadable<L: Lookup>(
             Ok(())
         }
         Operation::Equate => unread_equate(alloc, recorder, state, location),
+        Operation::Set => unread_set(alloc, recorder, state, location),
         operation => {
             leave_head(recorder, state, control)?;
             flag_in_body(

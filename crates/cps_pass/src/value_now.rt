@@ -1,4 +1,4 @@
-//! Values in pass one, in which a name counts if it was defined before.
+//! Values in pass one, in which a name counts if it was defined before, and the value that SET gave it stands before its label.
 ghost use Rattle.std.specs.Prelude.{◌≡◌, IfOk};
 ghost use Rattle.cps_state.specs.Course.{Hands};
 ghost use Rattle.cps_pass.specs.ValueNow as now;
@@ -136,10 +136,11 @@ fn name_now<L: Lookup>(
 ) -> Result<NameNow, AllocError>
     ensures { IfOk result (λ value. Hands (name_now name.now) value (L.answer state.now) recorder.old recorder.new) }
 {
-    let answer = recorder.ask(state, Key::Label(*name))?;
+    let label = recorder.ask(state, Key::Label(*name))?;
+    let setting = recorder.ask(state, Key::Setting(*name))?;
     recorder.tell(*name)?;
     Ok(NameNow {
         name: *name,
-        value: value_of(answer.as_ref()),
+        value: value_of(setting.as_ref()).or(value_of(label.as_ref())),
     })
 }

@@ -36,6 +36,7 @@ pub fn unread_words<L: Lookup>(
 }
 
 fn place_words<L: Lookup>(
+    alloc: Global,
     recorder: &mut Recorder,
     state: &L,
     site: Site,
@@ -46,7 +47,15 @@ fn place_words<L: Lookup>(
     requires some { All (λ content. 0 < width_of content) contents.items }
     ensures { OnOk result (Does (meaning.words contents.items site) (L.answer state.now) recorder.old recorder.new) }
 {
-    place(recorder, state, site, word_start(site), contents, false)
+    place(
+        alloc,
+        recorder,
+        state,
+        site,
+        word_start(site),
+        contents,
+        false,
+    )
 }
 
 /// CON: a word for each value.
@@ -62,7 +71,7 @@ pub fn con<L: Lookup>(
 {
     let site = ask_site(recorder, state, control, location)?;
     let contents = value_words(alloc, control.machine, values)?;
-    place_words(recorder, state, site, contents)
+    place_words(alloc, recorder, state, site, contents)
 }
 
 fn value_words(
@@ -96,7 +105,7 @@ pub fn data_words<L: Lookup>(
 {
     let site = ask_site(recorder, state, control, location)?;
     let contents = number_words(alloc, control.machine, numbers)?;
-    place_words(recorder, state, site, contents)
+    place_words(alloc, recorder, state, site, contents)
 }
 
 fn number_words(
@@ -135,7 +144,7 @@ pub fn dis<L: Lookup>(
         }
         DisText::Delimited(text) => {
             let contents = delimited_words(alloc, site.machine, text)?;
-            place_words(recorder, state, site, contents)
+            place_words(alloc, recorder, state, site, contents)
         }
     }
 }
@@ -156,7 +165,7 @@ fn display_counted<L: Lookup>(
     let value = value_now(alloc, recorder, state, count, here)?;
     let Some(count) = between(1, MOST_WORDS, plain_number(value)) else {
         let flags = no_number_flags(site, value);
-        return place_nothing(recorder, state, site, begun, flags, Vec::new(alloc));
+        return place_nothing(alloc, recorder, state, site, begun, flags, Vec::new(alloc));
     };
     let contents = text_words(
         alloc,
@@ -165,7 +174,7 @@ fn display_counted<L: Lookup>(
         usize::from(count),
         text.as_slice(),
     )?;
-    place_words(recorder, state, site, contents)
+    place_words(alloc, recorder, state, site, contents)
 }
 
 /// The characters of a word.

@@ -14,7 +14,7 @@ returns-in_ok-leave_head-in_default g c =
     let new = c.obey_in_body.new.recorder in
     let does : Control → Type 0 = λ control. OnOk c.obey_in_body.result (Does (obeyed_in_body control c.args.location c.args.row) state c.leave_head.new.recorder new) in
     subst (λ (part : Part). OnOk c.obey_in_body.result (Does part state c.args.recorder.now new))
-    (sym (obeyed-behind-head c.args.control c.args.location c.args.row left.not-Ident left.not-Abs left.not-Periph left.not-Base left.not-Equate left.not-End left.not-Listing))
+    (sym (obeyed-behind-head c.args.control c.args.location c.args.row left.not-Ident left.not-Abs left.not-Periph left.not-Base left.not-Equate left.not-Set left.not-End left.not-Listing))
     (done-then (leaving_head c.args.control) (obeyed_in_body (in_body c.args.control) c.args.location c.args.row) state c.args.recorder.now c.leave_head.new.recorder new c.obey_in_body.result
     c.in_ok-leave_head-in_default.ensures
     (subst does c.in_body.ensures c.obey_in_body.ensures))
