@@ -28,7 +28,11 @@ use Rattle.cps_state.specs.Machines.{limit, behind}
 use Rattle.cps_state.specs.Made.{Made, no_flags, width_of, content_names, content_literals}
 use Rattle.cps_final.specs.declared.row.Row.{Row}
 use Rattle.cps_final.specs.Finals.{block, label, literal}
-use Rattle.cps_final.specs.Outcome.{Resolved, address_of, base_in, final_of, values_in, literal_in, Known, known_in, plain_offset, value_at, number_at, expression_flags, operand_number, is_valueless, reads_undefined, number_for, form_number, form_flags, number_of, value_flags, first_address, limit_flags, literal_flags, digits_for, first_digits, second_digits, blank_row, row_at, content_rows, with_contents, statement_row, rows_with, rows_of, pieces_at, zeros_at, placed, content_pieces, contents_of, pieces_of, names_read, names_defined, outcome_of, blocks_shown, AgreeOnMade, AgreeOnNamed}
+use Rattle.cps_final.specs.Values.{Resolved, address_of, base_in, final_of, values_in, literal_in, Known, known_in, plain_offset, value_at, number_at, expression_flags, operand_number, is_valueless, reads_undefined, number_for, form_number, form_flags, number_of, value_flags, first_address}
+use Rattle.cps_final.specs.Rows.{limit_flags, literal_flags, digits_for, first_digits, second_digits, blank_row, row_at, content_rows, with_contents, statement_row, rows_with, rows_of}
+use Rattle.cps_final.specs.Pieces.{pieces_at, zeros_at, placed, content_pieces, contents_of, pieces_of}
+use Rattle.cps_final.specs.Names.{names_read, names_defined}
+use Rattle.cps_final.specs.Outcome.{outcome_of, blocks_shown, AgreeOnMade, AgreeOnNamed}
 
 all-head : {T : Type 0} (P : T → Type 0) (x : T) (xs : List T) → All P (x ∷ xs) → P x
 all-head P x xs each = each 0 x (omega arith)

@@ -19,7 +19,11 @@ use Rattle.cps_code.specs.Image.{Piece}
 use Rattle.cps_state.specs.Made.{Made, no_flags, width_of, end_of, HaveRoom}
 use Rattle.cps_state.proofs.PlaceLemmas.{end-not-before, end-next}
 use Rattle.cps_final.specs.declared.row.Row.{Row}
-use Rattle.cps_final.specs.Outcome.{Resolved, known_in, Known, base_in, first_address, row_at, content_rows, with_contents, blank_row, rows_with, rows_of, pieces_of, later_names, symbol_put, names_read, names_defined, outcome_of, joined_with}
+use Rattle.cps_final.specs.Values.{Resolved, known_in, Known, base_in, first_address}
+use Rattle.cps_final.specs.Rows.{row_at, content_rows, with_contents, blank_row, rows_with, rows_of}
+use Rattle.cps_final.specs.Pieces.{pieces_of}
+use Rattle.cps_final.specs.Names.{later_names, symbol_put, names_read, names_defined}
+use Rattle.cps_final.specs.Outcome.{outcome_of, joined_with}
 use Rattle.cps_final.proofs.BlockLemmas.{same_name-laws}
 use Rattle.cps_final.proofs.GatherLemmas.{distinct-append}
 

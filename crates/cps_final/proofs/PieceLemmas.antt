@@ -13,7 +13,8 @@ use Rattle.cps_state.specs.declared.made.Content.{Content}
 use Rattle.cps_state.specs.Machines.{limit, behind}
 use Rattle.cps_state.specs.Made.{Made, width_of, HaveRoom}
 use Rattle.cps_state.proofs.PlaceLemmas.{end-not-before}
-use Rattle.cps_final.specs.Outcome.{Resolved, known_in, base_in, number_of, first_address, pieces_at, content_pieces}
+use Rattle.cps_final.specs.Values.{Resolved, known_in, base_in, number_of, first_address}
+use Rattle.cps_final.specs.Pieces.{pieces_at, content_pieces}
 
 -- ---- words
 

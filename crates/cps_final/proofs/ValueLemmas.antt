@@ -8,7 +8,7 @@ use Rattle.cps_code.specs.Form.{Form, filled}
 use Rattle.cps_state.specs.declared.flags.Flags.{Flags}
 use Rattle.cps_state.specs.Flags.{joined}
 use Rattle.cps_state.specs.Made.{no_flags}
-use Rattle.cps_final.specs.Outcome.{Known, operand_number, is_valueless, reads_undefined, number_for, numbers_of, operand_flags, form_flags}
+use Rattle.cps_final.specs.Values.{Known, operand_number, is_valueless, reads_undefined, number_for, numbers_of, operand_flags, form_flags}
 
 or_false : (b : Bool) → b ≡ (b || false)
 or_false true = refl

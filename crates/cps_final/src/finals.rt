@@ -5,7 +5,7 @@ ghost use Rattle.cps_expr.specs.Value.{plain, limited, IsInRange};
 ghost use Rattle.cps_state.specs.Keys.{overwritten};
 ghost use Rattle.cps_final.specs.Finals.{first_program, Gathers, machine_of, words_to_named, base_of, based, final_value, label, setting, block as block_named, literal};
 ghost use Rattle.cps_final.specs.Gathering.{grown_by};
-ghost use Rattle.cps_final.specs.Outcome.{address_of, base_in, final_of};
+ghost use Rattle.cps_final.specs.Values.{address_of, base_in, final_of};
 ghost use Rattle.cps_final.specs.Pool.{literals_in};
 ghost use Rattle.indexmap.specs.IndexSet.{insert_all, insert_key, spare};
 

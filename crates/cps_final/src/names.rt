@@ -3,7 +3,7 @@ ghost use Rattle.std.specs.Prelude.{◌≡◌, [], ◌++◌, flat_map, OnOk, IfO
 ghost use Rattle.cps_code.specs.Operand.{operand_names};
 ghost use Rattle.cps_expr.specs.Value.{same_name};
 ghost use Rattle.cps_state.specs.Made.{content_names};
-ghost use Rattle.cps_final.specs.Outcome.{later_names, symbol_put};
+ghost use Rattle.cps_final.specs.Names.{later_names, symbol_put};
 ghost use Rattle.indexmap.specs.IndexSet.{insert_all};
 
 use cps_code::Hole;

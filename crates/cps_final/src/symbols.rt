@@ -1,7 +1,7 @@
 //! What symbols stand for in a statement.
 ghost use Rattle.std.specs.Prelude.{◌≡◌};
 ghost use Rattle.cps_final.specs.Finals.{final_value};
-ghost use Rattle.cps_final.specs.Outcome.{values_in};
+ghost use Rattle.cps_final.specs.Values.{values_in};
 
 use crate::finals::{Finals, Gathered};
 use cps_expr::{Names, Value, is_same_name};
@@ -17,7 +17,7 @@ pub struct Symbols<'a> {
 
 impl Names for Symbols<'_> {
     ghost use Rattle.cps_final.specs.Finals.{final_value};
-    ghost use Rattle.cps_final.specs.Outcome.{values_in};
+    ghost use Rattle.cps_final.specs.Values.{values_in};
 
     ghost value = { λ symbols. values_in (final_value (⟦<Finals as Gathered>⟧.gathered symbols.finals.now)) symbols.held.now };
 

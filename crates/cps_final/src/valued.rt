@@ -5,7 +5,7 @@ ghost use Rattle.cps_code.specs.Value.{IsInRange};
 ghost use Rattle.cps_expr.specs.Value as ranges;
 ghost use Rattle.cps_state.specs.Made.{width_of, IsContent};
 ghost use Rattle.cps_final.specs.Finals.{final_value};
-ghost use Rattle.cps_final.specs.Outcome as outcome;
+ghost use Rattle.cps_final.specs.Values as values;
 
 use crate::finals::{Finals, Gathered};
 use crate::symbols::Symbols;
@@ -41,8 +41,8 @@ pub fn first_address(made: &Made, base: u64) -> u64
 pub fn value_content(content: &Content, made: &Made, finals: &Finals, address: u64) -> Valued
     requires low { address < 2 ^ 62 }
     requires each { IsContent content.now }
-    ensures number { result.number ≡ outcome.number_of (outcome.known_in (final_value (⟦<Finals as Gathered>⟧.gathered finals.now)) made.now) address content.now }
-    ensures flags { result.flags ≡ outcome.value_flags (outcome.known_in (final_value (⟦<Finals as Gathered>⟧.gathered finals.now)) made.now) address content.now }
+    ensures number { result.number ≡ values.number_of (values.known_in (final_value (⟦<Finals as Gathered>⟧.gathered finals.now)) made.now) address content.now }
+    ensures flags { result.flags ≡ values.value_flags (values.known_in (final_value (⟦<Finals as Gathered>⟧.gathered finals.now)) made.now) address content.now }
     ensures fits { result.number < 2 ^ width_of content.now }
 {
     match content {
@@ -65,9 +65,9 @@ fn value_in(width: u8, expression: &Expr, made: &Made, finals: &Finals, address:
     requires low { address < 2 ^ 62 }
     requires some { 0 < width }
     requires few { width ≤ 60 }
-    ensures number { result.number ≡ put_value width (outcome.number_at (outcome.values_in (final_value (⟦<Finals as Gathered>⟧.gathered finals.now)) made.now.held) address expression.now) }
-    ensures flags { result.flags ≡ record (outcome.expression_flags (outcome.values_in (final_value (⟦<Finals as Gathered>⟧.gathered finals.now)) made.now.held) address expression.now)
-        { cut = not (fits_width width (outcome.number_at (outcome.values_in (final_value (⟦<Finals as Gathered>⟧.gathered finals.now)) made.now.held) address expression.now)) } }
+    ensures number { result.number ≡ put_value width (values.number_at (values.values_in (final_value (⟦<Finals as Gathered>⟧.gathered finals.now)) made.now.held) address expression.now) }
+    ensures flags { result.flags ≡ record (values.expression_flags (values.values_in (final_value (⟦<Finals as Gathered>⟧.gathered finals.now)) made.now.held) address expression.now)
+        { cut = not (fits_width width (values.number_at (values.values_in (final_value (⟦<Finals as Gathered>⟧.gathered finals.now)) made.now.held) address expression.now)) } }
     ensures fits { result.number < 2 ^ width }
 {
     let value = value_of(expression, made, finals, address);
@@ -82,8 +82,8 @@ fn value_in(width: u8, expression: &Expr, made: &Made, finals: &Finals, address:
 /// An instruction of the central processor.
 fn value_instruction(form: &CpForm, made: &Made, finals: &Finals, address: u64) -> Valued
     requires { address < 2 ^ 62 }
-    ensures number { result.number ≡ outcome.form_number (outcome.known_in (final_value (⟦<Finals as Gathered>⟧.gathered finals.now)) made.now) address form.now }
-    ensures flags { result.flags ≡ outcome.form_flags (outcome.known_in (final_value (⟦<Finals as Gathered>⟧.gathered finals.now)) made.now) address form.now }
+    ensures number { result.number ≡ values.form_number (values.known_in (final_value (⟦<Finals as Gathered>⟧.gathered finals.now)) made.now) address form.now }
+    ensures flags { result.flags ≡ values.form_flags (values.known_in (final_value (⟦<Finals as Gathered>⟧.gathered finals.now)) made.now) address form.now }
     ensures fits { result.number < 2 ^ form.now.bits }
 {
     match form.holes() {
@@ -99,8 +99,8 @@ fn value_instruction(form: &CpForm, made: &Made, finals: &Finals, address: u64) 
 /// An instruction of a peripheral processor.
 fn value_peripheral(form: &PpForm, made: &Made, finals: &Finals, address: u64) -> Valued
     requires { address < 2 ^ 62 }
-    ensures number { result.number ≡ outcome.form_number (outcome.known_in (final_value (⟦<Finals as Gathered>⟧.gathered finals.now)) made.now) address form.now }
-    ensures flags { result.flags ≡ outcome.form_flags (outcome.known_in (final_value (⟦<Finals as Gathered>⟧.gathered finals.now)) made.now) address form.now }
+    ensures number { result.number ≡ values.form_number (values.known_in (final_value (⟦<Finals as Gathered>⟧.gathered finals.now)) made.now) address form.now }
+    ensures flags { result.flags ≡ values.form_flags (values.known_in (final_value (⟦<Finals as Gathered>⟧.gathered finals.now)) made.now) address form.now }
     ensures fits { result.number < 2 ^ form.now.bits }
 {
     match form.holes() {
@@ -138,8 +138,8 @@ fn valued_form(filled: Filled, flags: Flags) -> Valued
 /// What goes into a hole.
 fn value_hole(hole: &Hole, made: &Made, finals: &Finals, address: u64) -> Counted
     requires { address < 2 ^ 62 }
-    ensures number { result.number ≡ outcome.number_for hole.now.kind address (outcome.operand_number (outcome.known_in (final_value (⟦<Finals as Gathered>⟧.gathered finals.now)) made.now) address hole.now.operand) }
-    ensures flags { result.flags ≡ outcome.operand_flags (outcome.known_in (final_value (⟦<Finals as Gathered>⟧.gathered finals.now)) made.now) address hole.now.operand }
+    ensures number { result.number ≡ values.number_for hole.now.kind address (values.operand_number (values.known_in (final_value (⟦<Finals as Gathered>⟧.gathered finals.now)) made.now) address hole.now.operand) }
+    ensures flags { result.flags ≡ values.operand_flags (values.known_in (final_value (⟦<Finals as Gathered>⟧.gathered finals.now)) made.now) address hole.now.operand }
 {
     let value = value_operand(&hole.operand, made, finals, address);
     match hole.kind {
@@ -154,8 +154,8 @@ fn value_hole(hole: &Hole, made: &Made, finals: &Finals, address: u64) -> Counte
 /// What goes into a hole that takes values: the value of an expression, or the address of a literal.
 fn value_operand(operand: &Operand, made: &Made, finals: &Finals, address: u64) -> Counted
     requires { address < 2 ^ 62 }
-    ensures number { result.number ≡ outcome.operand_number (outcome.known_in (final_value (⟦<Finals as Gathered>⟧.gathered finals.now)) made.now) address operand.now }
-    ensures flags { result.flags ≡ outcome.operand_flags (outcome.known_in (final_value (⟦<Finals as Gathered>⟧.gathered finals.now)) made.now) address operand.now }
+    ensures number { result.number ≡ values.operand_number (values.known_in (final_value (⟦<Finals as Gathered>⟧.gathered finals.now)) made.now) address operand.now }
+    ensures flags { result.flags ≡ values.operand_flags (values.known_in (final_value (⟦<Finals as Gathered>⟧.gathered finals.now)) made.now) address operand.now }
     ensures range { IsInRange result.number }
 {
     match operand {
@@ -170,8 +170,8 @@ fn value_operand(operand: &Operand, made: &Made, finals: &Finals, address: u64) 
 /// The value of an expression in which `*` stands for an address.
 fn value_of(expression: &Expr, made: &Made, finals: &Finals, address: u64) -> Counted
     requires { address < 2 ^ 62 }
-    ensures number { result.number ≡ outcome.number_at (outcome.values_in (final_value (⟦<Finals as Gathered>⟧.gathered finals.now)) made.now.held) address expression.now }
-    ensures flags { result.flags ≡ outcome.expression_flags (outcome.values_in (final_value (⟦<Finals as Gathered>⟧.gathered finals.now)) made.now.held) address expression.now }
+    ensures number { result.number ≡ values.number_at (values.values_in (final_value (⟦<Finals as Gathered>⟧.gathered finals.now)) made.now.held) address expression.now }
+    ensures flags { result.flags ≡ values.expression_flags (values.values_in (final_value (⟦<Finals as Gathered>⟧.gathered finals.now)) made.now.held) address expression.now }
     ensures range { IsInRange result.number }
 {
     let symbols = Symbols {
@@ -192,7 +192,7 @@ fn value_of(expression: &Expr, made: &Made, finals: &Finals, address: u64) -> Co
 /// A plain value as a number; one in a block is none.
 fn plain_offset(value: Option<Value>) -> Option<i64>
     requires { IfSome value ranges.IsInRange }
-    ensures offset { result ≡ outcome.plain_offset value }
+    ensures offset { result ≡ values.plain_offset value }
     ensures range { IfSome result IsInRange }
 {
     match value {

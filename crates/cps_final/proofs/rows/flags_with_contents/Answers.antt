@@ -1,6 +1,6 @@
 use Rattle.std.proofs.Common.{◌≤◌, ◌+◌, ◌/◌, ℕ, length, rules, ap, ◌∙◌}
 use Rattle.cps_final.specs.Finals.{final_value}
-use Rattle.cps_final.specs.Outcome.{known_in, base_in, first_address}
+use Rattle.cps_final.specs.Values.{known_in, base_in, first_address}
 use Rattle.cps_final.specs.contracts.finals.FinalsGathered.TheImpl.{gathered-value}
 use Rattle.cps_final.proofs.OutcomeLemmas.{flags-all}
 use Rattle.cps_final.proofs.rows.flags_with_contents.Goals as goal

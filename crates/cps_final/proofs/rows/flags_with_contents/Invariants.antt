@@ -1,6 +1,7 @@
 use Rattle.std.proofs.Common.{◌≡◌, take}
 use Rattle.cps_final.specs.Finals.{final_value}
-use Rattle.cps_final.specs.Outcome.{known_in, with_contents}
+use Rattle.cps_final.specs.Values.{known_in}
+use Rattle.cps_final.specs.Rows.{with_contents}
 use Rattle.cps_final.specs.contracts.finals.FinalsGathered.TheImpl.{gathered-value}
 use Rattle.cps_final.proofs.rows.flags_with_contents.Given as goal
 

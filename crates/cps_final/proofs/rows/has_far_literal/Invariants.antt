@@ -4,7 +4,7 @@ use Rattle.std.specs.List.{list_any}
 use Rattle.cps_code.specs.Operand.{operand_literals}
 use Rattle.cps_state.specs.Machines.{limit}
 use Rattle.cps_final.specs.Finals.{final_value}
-use Rattle.cps_final.specs.Outcome.{literal_in}
+use Rattle.cps_final.specs.Values.{literal_in}
 use Rattle.cps_final.specs.contracts.finals.FinalsGathered.TheImpl.{gathered-value}
 use Rattle.cps_final.proofs.rows.has_far_literal.Given as goal
 

@@ -1,6 +1,6 @@
 use Rattle.std.proofs.Common.{◌≡◌, drop}
 use Rattle.cps_final.specs.Finals.{final_value}
-use Rattle.cps_final.specs.Outcome.{values_in}
+use Rattle.cps_final.specs.Values.{values_in}
 use Rattle.cps_final.specs.contracts.finals.FinalsGathered.TheImpl.{gathered-value}
 use Rattle.cps_final.proofs.symbols.symbol_value.Given as goal
 

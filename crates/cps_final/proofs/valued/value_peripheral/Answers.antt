@@ -3,7 +3,7 @@ use Rattle.std.proofs.lemmas.Bool.Decides.{nat_tests}
 use Rattle.std.proofs.lemmas.Int.{to_z-of_z}
 use Rattle.cps_code.proofs.HoleLemmas.{two_items}
 use Rattle.cps_final.specs.Finals.{final_value}
-use Rattle.cps_final.specs.Outcome.{known_in}
+use Rattle.cps_final.specs.Values.{known_in}
 use Rattle.cps_final.specs.contracts.finals.FinalsGathered.TheImpl.{gathered-value}
 use Rattle.cps_final.proofs.ValueLemmas.{flags-two}
 use Rattle.cps_final.proofs.valued.value_peripheral.Goals as goal
