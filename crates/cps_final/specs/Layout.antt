@@ -1,6 +1,6 @@
 -- How large the blocks of a source are, and which named ones there are. From the manual's section on blocks; that a block has all words that
 -- its counter passed, those skipped by ORG too, is our profile's.
-use Rattle.std.specs.Prelude.{ℕ, ◌+◌, max, nat_lt, List, [], ◌∷◌, flat_map, Option, None, Some, if◌then◌else◌}
+use Rattle.std.specs.Prelude.{ℕ, ◌+◌, max, nat_lt, List, [], ◌∷◌, flat_map, Option, Some, if◌then◌else◌}
 use Rattle.cps_text.specs.declared.name.Name.{Name}
 use Rattle.cps_expr.specs.declared.machine.Machine.TheVariants.{Cp}
 use Rattle.cps_expr.specs.Value.{same_name}

@@ -2,5 +2,9 @@ pub mod Distinct
 pub mod Finals
 pub mod Gathering
 pub mod Layout
+pub mod Names
 pub mod Outcome
+pub mod Pieces
 pub mod Pool
+pub mod Rows
+pub mod Values

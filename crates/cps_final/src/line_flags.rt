@@ -2,6 +2,7 @@
 ghost use Rattle.std.specs.Prelude.{◌≡◌, false};
 ghost use Rattle.cps_final.specs.Finals.{final_value};
 ghost use Rattle.cps_final.specs.Outcome as outcome;
+ghost use Rattle.cps_final.specs.Rows as shown;
 
 use crate::finals::{Finals, Gathered};
 use crate::rows::{flags_with_contents, row_at, statement_row};
@@ -21,7 +22,7 @@ pub fn flags_under(trace: &Trace, finals: &Finals) -> Flags
 
 /// Flags, and those of a statement's rows.
 fn join_rows(flags: Flags, made: &Made, finals: &Finals) -> Flags
-    ensures { result ≡ outcome.joined_with flags (outcome.rows_of (final_value (⟦<Finals as Gathered>⟧.gathered finals.now)) made.now) }
+    ensures { result ≡ outcome.joined_with flags (shown.rows_of (final_value (⟦<Finals as Gathered>⟧.gathered finals.now)) made.now) }
 {
     if made.contents().is_empty() {
         flags.joined(statement_row(made, finals).flags)
@@ -34,7 +35,7 @@ fn join_rows(flags: Flags, made: &Made, finals: &Finals) -> Flags
 
 fn join_content_rows(flags: Flags, made: &Made, finals: &Finals) -> Flags
     requires { made.now.only_flags ≡ false }
-    ensures { result ≡ outcome.joined_with flags (outcome.content_rows (final_value (⟦<Finals as Gathered>⟧.gathered finals.now)) made.now made.now.flags false made.now.start made.now.contents) }
+    ensures { result ≡ outcome.joined_with flags (shown.content_rows (final_value (⟦<Finals as Gathered>⟧.gathered finals.now)) made.now made.now.flags false made.now.start made.now.contents) }
 {
     let machine = made.machine();
     let base = finals.address_of(made.block());
@@ -45,7 +46,7 @@ fn join_content_rows(flags: Flags, made: &Made, finals: &Finals) -> Flags
     let mut at = made.start();
     for content in made.contents() {
         let address = base + u64::from(at / WORD);
-        let row = row_at(machine, own, is_later, here, address, content, finals);
+        let row = row_at(made, own, is_later, here, address, content, finals);
         flags = flags.joined(row.flags);
         own = Flags::none();
         is_later = true;

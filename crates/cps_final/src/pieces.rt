@@ -3,7 +3,8 @@ ghost use Rattle.std.specs.Prelude.{◌≡◌, [], ◌∷◌, ◌++◌, ◌<◌,
 ghost use Rattle.cps_code.specs.Image.{piece_of};
 ghost use Rattle.cps_expr.specs.Item.{bits_of};
 ghost use Rattle.cps_final.specs.Finals.{final_value};
-ghost use Rattle.cps_final.specs.Outcome as outcome;
+ghost use Rattle.cps_final.specs.Pieces as bits;
+ghost use Rattle.cps_final.specs.Values as values;
 
 use crate::finals::{Finals, Gathered};
 use crate::valued::{first_address, value_content};
@@ -35,15 +36,15 @@ impl Run {
 
     /// How many words it touches.
     fn words(self) -> u8
-        ensures { result ≡ outcome.words_touched self.machine self.at self.width }
+        ensures { result ≡ bits.words_touched self.machine self.at self.width }
     {
         (self.first() + self.width).div_ceil(word_bits(self.machine))
     }
 
     /// Its bits in the word that comes so many words later.
     fn piece_in(self, later: u8) -> Piece
-        requires { later < outcome.words_touched self.machine self.at self.width }
-        ensures { piece_of result ≡ outcome.piece_in self.machine self.at self.width self.number later }
+        requires { later < bits.words_touched self.machine self.at self.width }
+        ensures { piece_of result ≡ bits.piece_in self.machine self.at self.width self.number later }
     {
         let bits = word_bits(self.machine);
         let word = later * bits;
@@ -63,7 +64,7 @@ impl Run {
 
 /// The bits of statements.
 pub fn make_pieces(alloc: Global, items: &[Item], finals: &Finals) -> Result<Vec<Piece>, AllocError>
-    ensures { IfOk result (λ pieces. map piece_of pieces.items ≡ flat_map (λ item. outcome.pieces_of (final_value (⟦<Finals as Gathered>⟧.gathered finals.now)) item.made) items.now) }
+    ensures { IfOk result (λ pieces. map piece_of pieces.items ≡ flat_map (λ item. bits.pieces_of (final_value (⟦<Finals as Gathered>⟧.gathered finals.now)) item.made) items.now) }
 {
     let mut pieces = Vec::new(alloc);
     for item in items {
@@ -73,7 +74,7 @@ pub fn make_pieces(alloc: Global, items: &[Item], finals: &Finals) -> Result<Vec
 }
 
 fn push_pieces(pieces: &mut Vec<Piece>, made: &Made, finals: &Finals) -> Result<(), AllocError>
-    ensures { OnOk result (map piece_of pieces.new.items ≡ map piece_of pieces.old.items ++ outcome.pieces_of (final_value (⟦<Finals as Gathered>⟧.gathered finals.now)) made.now) }
+    ensures { OnOk result (map piece_of pieces.new.items ≡ map piece_of pieces.old.items ++ bits.pieces_of (final_value (⟦<Finals as Gathered>⟧.gathered finals.now)) made.now) }
 {
     let base = finals.address_of(made.block());
     push_filling(pieces, base, made)?;
@@ -88,7 +89,7 @@ fn push_pieces(pieces: &mut Vec<Piece>, made: &Made, finals: &Finals) -> Result<
 /// What fills the bits that were skipped.
 fn push_filling(pieces: &mut Vec<Piece>, base: u64, made: &Made) -> Result<(), AllocError>
     requires { base < 2 ^ 60 }
-    ensures { OnOk result (map piece_of pieces.new.items ≡ map piece_of pieces.old.items ++ flat_map (outcome.placed made.now.machine base) made.now.filling) }
+    ensures { OnOk result (map piece_of pieces.new.items ≡ map piece_of pieces.old.items ++ flat_map (bits.placed made.now.machine base) made.now.filling) }
 {
     match made.filling() {
         Some(piece) => push_placed(pieces, made.machine(), base, piece),
@@ -100,7 +101,7 @@ fn push_filling(pieces: &mut Vec<Piece>, base: u64, made: &Made) -> Result<(), A
 fn push_zeros(pieces: &mut Vec<Piece>, base: u64, made: &Made) -> Result<(), AllocError>
     requires { base < 2 ^ 60 }
     ensures { OnOk result (map piece_of pieces.new.items ≡ map piece_of pieces.old.items
-        ++ flat_map (outcome.placed made.now.machine base) (outcome.zeros_at made.now.machine made.now.start made.now.zeros)) }
+        ++ flat_map (bits.placed made.now.machine base) (bits.zeros_at made.now.machine made.now.start made.now.zeros)) }
 {
     let machine = made.machine();
     if made.zeros() == 0 {
@@ -124,17 +125,17 @@ fn push_contents(
     finals: &Finals,
 ) -> Result<(), AllocError>
     requires low { base < 2 ^ 60 }
-    requires based { base ≡ outcome.base_in (final_value (⟦<Finals as Gathered>⟧.gathered finals.now)) made.now.block }
+    requires based { base ≡ values.base_in (final_value (⟦<Finals as Gathered>⟧.gathered finals.now)) made.now.block }
     requires are_bits { made.now.only_flags ≡ false }
     ensures { OnOk result (map piece_of pieces.new.items ≡ map piece_of pieces.old.items
-        ++ flat_map (outcome.placed made.now.machine base) (outcome.content_pieces (final_value (⟦<Finals as Gathered>⟧.gathered finals.now)) made.now made.now.start made.now.contents)) }
+        ++ flat_map (bits.placed made.now.machine base) (bits.content_pieces (final_value (⟦<Finals as Gathered>⟧.gathered finals.now)) made.now made.now.start made.now.contents)) }
 {
     let machine = made.machine();
     let here = first_address(made, base);
     let mut at = made.start();
     for content in made.contents() {
         let width = content.width();
-        let number = value_content(content, finals, here).number;
+        let number = value_content(content, made, finals, here).number;
         push_run(
             pieces,
             base,
@@ -154,7 +155,7 @@ fn push_contents(
 fn push_run(pieces: &mut Vec<Piece>, base: u64, run: Run) -> Result<(), AllocError>
     requires { base < 2 ^ 60 }
     ensures { OnOk result (map piece_of pieces.new.items ≡ map piece_of pieces.old.items
-        ++ flat_map (outcome.placed run.machine base) (outcome.pieces_at run.machine run.at run.width run.number)) }
+        ++ flat_map (bits.placed run.machine base) (bits.pieces_at run.machine run.at run.width run.number)) }
 {
     for later in 0..run.words() {
         push_placed(pieces, run.machine, base, run.piece_in(later))?;
@@ -171,7 +172,7 @@ fn push_last_word(
 ) -> Result<(), AllocError>
     requires low { base < 2 ^ 60 }
     requires in_word { at % 60 < bits_of machine }
-    ensures { OnOk result (map piece_of pieces.new.items ≡ map piece_of pieces.old.items ++ flat_map (outcome.placed machine base) (outcome.last_word machine at)) }
+    ensures { OnOk result (map piece_of pieces.new.items ≡ map piece_of pieces.old.items ++ flat_map (bits.placed machine base) (bits.last_word machine at)) }
 {
     let used = (at % WORD) as u8;
     if machine == Machine::Cp || used == 0 {
@@ -195,7 +196,7 @@ fn push_placed(
     piece: Piece,
 ) -> Result<(), AllocError>
     requires { base < 2 ^ 60 }
-    ensures { OnOk result (map piece_of pieces.new.items ≡ map piece_of pieces.old.items ++ flat_map (outcome.placed machine base) (piece_of piece ∷ [])) }
+    ensures { OnOk result (map piece_of pieces.new.items ≡ map piece_of pieces.old.items ++ flat_map (bits.placed machine base) (piece_of piece ∷ [])) }
 {
     let limit = limit_of(machine);
     let address = base + u64::from(piece.address);

@@ -1,13 +1,17 @@
 //! The rows of a statement in pass two.
-ghost use Rattle.std.specs.Prelude.{◌≡◌, ◌++◌, ◌≤◌, ◌<◌, ◌^◌, false, flat_map, OnOk, IfOk};
+ghost use Rattle.std.specs.Prelude.{◌≡◌, ◌++◌, ◌≤◌, ◌<◌, ◌^◌, false, nat_le, flat_map, OnOk, IfOk};
+ghost use Rattle.std.specs.List.{list_any};
+ghost use Rattle.cps_code.specs.Operand.{operand_literals};
+ghost use Rattle.cps_state.specs.Machines.{limit};
 ghost use Rattle.cps_state.specs.Made.{IsContent};
 ghost use Rattle.cps_final.specs.Finals.{final_value};
-ghost use Rattle.cps_final.specs.Outcome as outcome;
+ghost use Rattle.cps_final.specs.Rows as shown;
+ghost use Rattle.cps_final.specs.Values as values;
 
 use crate::finals::{Finals, Gathered};
 use crate::row::{Digits, Row};
 use crate::valued::{first_address, value_content};
-use cps_code::complement;
+use cps_code::{Hole, Operand, complement};
 use cps_expr::Machine;
 use cps_state::{Content, Flags, Item, Made, Shown, WORD, behind, limit_of};
 use std::alloc::{AllocError, Global};
@@ -20,7 +24,7 @@ const PERIPHERAL_BITS: u8 = 12;
 
 /// The rows of statements.
 pub fn make_rows(alloc: Global, items: &[Item], finals: &Finals) -> Result<Vec<Row>, AllocError>
-    ensures { IfOk result (λ rows. rows.items ≡ flat_map (λ item. outcome.rows_of (final_value (⟦<Finals as Gathered>⟧.gathered finals.now)) item.made) items.now) }
+    ensures { IfOk result (λ rows. rows.items ≡ flat_map (λ item. shown.rows_of (final_value (⟦<Finals as Gathered>⟧.gathered finals.now)) item.made) items.now) }
 {
     let mut rows = Vec::new(alloc);
     for item in items {
@@ -30,7 +34,7 @@ pub fn make_rows(alloc: Global, items: &[Item], finals: &Finals) -> Result<Vec<R
 }
 
 fn push_rows(rows: &mut Vec<Row>, made: &Made, finals: &Finals) -> Result<(), AllocError>
-    ensures { OnOk result (rows.new.items ≡ rows.old.items ++ outcome.rows_of (final_value (⟦<Finals as Gathered>⟧.gathered finals.now)) made.now) }
+    ensures { OnOk result (rows.new.items ≡ rows.old.items ++ shown.rows_of (final_value (⟦<Finals as Gathered>⟧.gathered finals.now)) made.now) }
 {
     if made.contents().is_empty() {
         rows.push(statement_row(made, finals))?;
@@ -46,7 +50,7 @@ fn push_rows(rows: &mut Vec<Row>, made: &Made, finals: &Finals) -> Result<(), Al
 /// A row for each content.
 fn push_content_rows(rows: &mut Vec<Row>, made: &Made, finals: &Finals) -> Result<(), AllocError>
     requires { made.now.only_flags ≡ false }
-    ensures { OnOk result (rows.new.items ≡ rows.old.items ++ outcome.content_rows (final_value (⟦<Finals as Gathered>⟧.gathered finals.now)) made.now made.now.flags false made.now.start made.now.contents) }
+    ensures { OnOk result (rows.new.items ≡ rows.old.items ++ shown.content_rows (final_value (⟦<Finals as Gathered>⟧.gathered finals.now)) made.now made.now.flags false made.now.start made.now.contents) }
 {
     let machine = made.machine();
     let base = finals.address_of(made.block());
@@ -56,7 +60,7 @@ fn push_content_rows(rows: &mut Vec<Row>, made: &Made, finals: &Finals) -> Resul
     let mut at = made.start();
     for content in made.contents() {
         let address = base + u64::from(at / WORD);
-        rows.push(row_at(machine, flags, is_later, here, address, content, finals))?;
+        rows.push(row_at(made, flags, is_later, here, address, content, finals))?;
         flags = Flags::none();
         is_later = true;
         at = behind(machine, at, content.width());
@@ -66,7 +70,7 @@ fn push_content_rows(rows: &mut Vec<Row>, made: &Made, finals: &Finals) -> Resul
 
 /// The row of a content of the statement that starts in one word, itself in another.
 pub fn row_at(
-    machine: Machine,
+    made: &Made,
     flags: Flags,
     is_later: bool,
     here: u64,
@@ -76,12 +80,14 @@ pub fn row_at(
 ) -> Row
     requires low { here < 2 ^ 62 }
     requires each { IsContent content.now }
-    ensures { result ≡ outcome.row_at (outcome.labels_by (final_value (⟦<Finals as Gathered>⟧.gathered finals.now))) machine flags is_later here address content.now }
+    ensures { result ≡ shown.row_at (values.known_in (final_value (⟦<Finals as Gathered>⟧.gathered finals.now)) made.now) made.now.machine flags is_later here address content.now }
 {
-    let valued = value_content(content, finals, here);
+    let machine = made.machine();
+    let valued = value_content(content, made, finals, here);
     Row {
         flags: flags
             .joined(valued.flags)
+            .joined(literal_flags(machine, content, finals))
             .joined(limit_flags(machine, address)),
         location: Some(address),
         code: Some(first_digits(content, valued.number)),
@@ -92,7 +98,7 @@ pub fn row_at(
 
 /// A row that shows nothing but flags.
 pub fn blank_row(flags: Flags) -> Row
-    ensures { result ≡ outcome.blank_row flags }
+    ensures { result ≡ shown.blank_row flags }
 {
     Row {
         flags,
@@ -105,29 +111,65 @@ pub fn blank_row(flags: Flags) -> Row
 
 /// The flags of a statement, and those that its contents give.
 pub fn flags_with_contents(made: &Made, finals: &Finals) -> Flags
-    ensures { result ≡ outcome.with_contents (outcome.labels_by (final_value (⟦<Finals as Gathered>⟧.gathered finals.now)))
-        (outcome.first_address (final_value (⟦<Finals as Gathered>⟧.gathered finals.now)) made.now) made.now.flags made.now.contents }
+    ensures { result ≡ shown.with_contents (values.known_in (final_value (⟦<Finals as Gathered>⟧.gathered finals.now)) made.now)
+        (values.first_address (final_value (⟦<Finals as Gathered>⟧.gathered finals.now)) made.now) made.now.flags made.now.contents }
 {
     let here = first_address(made, finals.address_of(made.block()));
     let mut flags = made.flags();
     for content in made.contents() {
-        flags = flags.joined(value_content(content, finals, here).flags);
+        flags = flags.joined(value_content(content, made, finals, here).flags);
     }
     flags
 }
 
 /// E at or past the machine's words.
 fn limit_flags(machine: Machine, address: u64) -> Flags
-    ensures { result ≡ outcome.limit_flags machine address }
+    ensures { result ≡ shown.limit_flags machine address }
 {
     let mut flags = Flags::none();
     flags.structure = address >= u64::from(limit_of(machine));
     flags
 }
 
+/// E where a literal stands at or past the machine's words.
+fn literal_flags(machine: Machine, content: &Content, finals: &Finals) -> Flags
+    ensures { result ≡ shown.literal_flags (values.literal_in (final_value (⟦<Finals as Gathered>⟧.gathered finals.now))) machine content.now }
+{
+    let mut flags = Flags::none();
+    flags.structure = match content {
+        Content::Instruction(form) => has_far_literal(machine, form.holes(), finals),
+        Content::Peripheral(form) => has_far_literal(machine, form.holes(), finals),
+        _ => false,
+    };
+    flags
+}
+
+/// Whether one of the literals in holes stands there.
+fn has_far_literal(machine: Machine, holes: &[Hole], finals: &Finals) -> bool
+    ensures { result ≡ list_any (λ word. nat_le (limit machine) (values.literal_in (final_value (⟦<Finals as Gathered>⟧.gathered finals.now)) word))
+        (flat_map (λ hole. operand_literals hole.operand) holes.now) }
+{
+    for hole in holes {
+        if is_far_literal(machine, &hole.operand, finals) {
+            return true;
+        }
+    }
+    false
+}
+
+fn is_far_literal(machine: Machine, operand: &Operand, finals: &Finals) -> bool
+    ensures { result ≡ list_any (λ word. nat_le (limit machine) (values.literal_in (final_value (⟦<Finals as Gathered>⟧.gathered finals.now)) word))
+        (operand_literals operand.now) }
+{
+    match operand {
+        Operand::Expression(_) => false,
+        Operand::Literal(word) => finals.literal_address(*word) >= u64::from(limit_of(machine)),
+    }
+}
+
 /// The row of a statement without contents.
 pub fn statement_row(made: &Made, finals: &Finals) -> Row
-    ensures { result ≡ outcome.statement_row (final_value (⟦<Finals as Gathered>⟧.gathered finals.now)) made.now made.now.shown }
+    ensures { result ≡ shown.statement_row (final_value (⟦<Finals as Gathered>⟧.gathered finals.now)) made.now made.now.shown }
 {
     let mut row = blank_row(made.flags());
     match made.shown() {
@@ -154,7 +196,7 @@ pub fn statement_row(made: &Made, finals: &Finals) -> Row
 /// One digit for each three bits, rounded up.
 fn digits_for(width: u8, number: u64) -> Digits
     requires { width ≤ 60 }
-    ensures { result ≡ outcome.digits_for width number }
+    ensures { result ≡ shown.digits_for width number }
 {
     Digits {
         count: width.div_ceil(3),
@@ -165,7 +207,7 @@ fn digits_for(width: u8, number: u64) -> Digits
 /// The digits of a content; of an instruction whose words are shown apart those of its first word.
 fn first_digits(content: &Content, number: u64) -> Digits
     requires { IsContent content.now }
-    ensures { result ≡ outcome.first_digits content.now number }
+    ensures { result ≡ shown.first_digits content.now number }
 {
     if is_parted(content) {
         digits_for(PERIPHERAL_BITS, number >> PERIPHERAL_BITS)
@@ -176,7 +218,7 @@ fn first_digits(content: &Content, number: u64) -> Digits
 
 /// The digits of the second word, where the words of an instruction are shown apart.
 fn second_digits(content: &Content, number: u64) -> Option<Digits>
-    ensures { result ≡ outcome.second_digits content.now number }
+    ensures { result ≡ shown.second_digits content.now number }
 {
     if is_parted(content) {
         Some(digits_for(PERIPHERAL_BITS, number % (1 << PERIPHERAL_BITS)))
@@ -187,7 +229,7 @@ fn second_digits(content: &Content, number: u64) -> Option<Digits>
 
 /// Whether it is an instruction of two words of a peripheral processor.
 fn is_parted(content: &Content) -> bool
-    ensures { result ≡ outcome.is_parted content.now }
+    ensures { result ≡ shown.is_parted content.now }
 {
     match content {
         Content::Peripheral(form) => form.bits() > PERIPHERAL_BITS,

@@ -1,7 +1,7 @@
 use Rattle.std.proofs.Common.{rules}
 use Rattle.cps_state.specs.declared.item.Item.{Item}
 use Rattle.cps_final.specs.Finals.{final_value}
-use Rattle.cps_final.specs.Outcome.{rows_of}
+use Rattle.cps_final.specs.Rows.{rows_of}
 use Rattle.cps_final.specs.contracts.finals.FinalsGathered.TheImpl.{gathered-value}
 use Rattle.cps_final.proofs.OutcomeLemmas.{item-flags-next}
 use Rattle.cps_final.proofs.line_flags.flags_under.Goals as goal

@@ -1,7 +1,8 @@
 use Rattle.std.proofs.Common.{◌≡◌, drop, flat_map}
 use Rattle.cps_state.specs.Made.{no_flags}
 use Rattle.cps_final.specs.Finals.{final_value}
-use Rattle.cps_final.specs.Outcome.{joined_with, rows_of}
+use Rattle.cps_final.specs.Rows.{rows_of}
+use Rattle.cps_final.specs.Outcome.{joined_with}
 use Rattle.cps_final.specs.contracts.finals.FinalsGathered.TheImpl.{gathered-value}
 use Rattle.cps_final.proofs.line_flags.flags_under.Given as goal
 

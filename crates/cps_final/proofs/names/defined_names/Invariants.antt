@@ -1,7 +1,7 @@
 use Rattle.std.proofs.Common.{◌≡◌, [], take, flat_map}
 use Rattle.cps_expr.specs.Value.{same_name}
 use Rattle.indexmap.specs.IndexSet.{insert_all}
-use Rattle.cps_final.specs.Outcome.{symbol_put}
+use Rattle.cps_final.specs.Names.{symbol_put}
 use Rattle.cps_final.proofs.names.defined_names.Given as goal
 
 abbrev pub invariant-loop-put : goal.invariant-loop-put

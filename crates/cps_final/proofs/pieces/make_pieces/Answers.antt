@@ -1,5 +1,5 @@
 use Rattle.std.proofs.Common.{rules}
-use Rattle.cps_final.specs.Outcome.{pieces_of}
+use Rattle.cps_final.specs.Pieces.{pieces_of}
 use Rattle.cps_final.specs.Finals.{final_value}
 use Rattle.cps_final.specs.contracts.finals.FinalsGathered.TheImpl.{gathered-value}
 use Rattle.cps_state.specs.declared.item.Item.{Item}

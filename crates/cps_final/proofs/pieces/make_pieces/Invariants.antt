@@ -1,7 +1,7 @@
 use Rattle.std.proofs.Common.{◌≡◌, take, map, flat_map}
 use Rattle.cps_code.specs.Image.{piece_of}
 use Rattle.cps_final.specs.Finals.{final_value}
-use Rattle.cps_final.specs.Outcome.{pieces_of}
+use Rattle.cps_final.specs.Pieces.{pieces_of}
 use Rattle.cps_final.specs.contracts.finals.FinalsGathered.TheImpl.{gathered-value}
 use Rattle.cps_final.proofs.pieces.make_pieces.Given as goal
 

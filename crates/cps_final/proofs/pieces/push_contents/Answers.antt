@@ -1,7 +1,7 @@
 use Rattle.std.proofs.Common.{◌<◌, drop, map, length, rules}
 use Rattle.cps_code.specs.Image.{piece_of}
 use Rattle.cps_final.specs.Finals.{final_value}
-use Rattle.cps_final.specs.Outcome.{placed}
+use Rattle.cps_final.specs.Pieces.{placed}
 use Rattle.cps_final.specs.contracts.finals.FinalsGathered.TheImpl.{gathered-value}
 use Rattle.cps_final.proofs.PieceLemmas.{room-low, content-next}
 use Rattle.cps_final.proofs.pieces.push_contents.Goals as goal

@@ -2,7 +2,7 @@ use Rattle.std.proofs.Common.{◌≡◌, ◌++◌, drop, map, flat_map}
 use Rattle.cps_code.specs.Image.{piece_of}
 use Rattle.cps_state.specs.Made.{HaveRoom}
 use Rattle.cps_final.specs.Finals.{final_value}
-use Rattle.cps_final.specs.Outcome.{placed, content_pieces}
+use Rattle.cps_final.specs.Pieces.{placed, content_pieces}
 use Rattle.cps_final.specs.contracts.finals.FinalsGathered.TheImpl.{gathered-value}
 use Rattle.cps_final.proofs.pieces.push_contents.Given as goal
 

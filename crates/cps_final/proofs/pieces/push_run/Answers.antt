@@ -1,6 +1,6 @@
 use Rattle.std.proofs.Common.{map}
 use Rattle.cps_code.specs.Image.{piece_of}
-use Rattle.cps_final.specs.Outcome.{placed, piece_in}
+use Rattle.cps_final.specs.Pieces.{placed, piece_in}
 use Rattle.cps_final.proofs.PieceLemmas.{word-next}
 use Rattle.cps_final.proofs.pieces.push_run.Goals as goal
 

@@ -1,7 +1,7 @@
 use Rattle.std.proofs.Common.{◌≡◌, ◌++◌, map, flat_map}
 use Rattle.std.specs.List.{range_with_len}
 use Rattle.cps_code.specs.Image.{piece_of}
-use Rattle.cps_final.specs.Outcome.{placed, piece_in}
+use Rattle.cps_final.specs.Pieces.{placed, piece_in}
 use Rattle.cps_final.proofs.pieces.push_run.Given as goal
 
 abbrev pub invariant-loop-later : goal.invariant-loop-later

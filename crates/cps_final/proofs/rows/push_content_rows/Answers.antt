@@ -1,6 +1,7 @@
 use Rattle.std.proofs.Common.{◌≡◌, ◌<◌, ◌++◌, false, length, rules, ap, ◌∙◌}
 use Rattle.cps_final.specs.Finals.{final_value}
-use Rattle.cps_final.specs.Outcome.{base_in, content_rows}
+use Rattle.cps_final.specs.Values.{base_in}
+use Rattle.cps_final.specs.Rows.{content_rows}
 use Rattle.cps_final.specs.contracts.finals.FinalsGathered.TheImpl.{gathered-value}
 use Rattle.cps_final.proofs.OutcomeLemmas.{room-first, step, room-next, rows-next}
 use Rattle.cps_final.proofs.rows.push_content_rows.Goals as goal

@@ -2,7 +2,7 @@ use Rattle.std.proofs.Common.{◌≡◌, ◌≤◌, ◌*◌, ◌++◌, false, dr
 use Rattle.cps_state.specs.Machines.{limit}
 use Rattle.cps_state.specs.Made.{end_of}
 use Rattle.cps_final.specs.Finals.{final_value}
-use Rattle.cps_final.specs.Outcome.{content_rows}
+use Rattle.cps_final.specs.Rows.{content_rows}
 use Rattle.cps_final.specs.contracts.finals.FinalsGathered.TheImpl.{gathered-value}
 use Rattle.cps_final.proofs.rows.push_content_rows.Given as goal
 

@@ -1,0 +1,27 @@
+-- The symbols that a line reads, and those that it defines. Our own.
+use Rattle.std.specs.Prelude.{List, [], ◌∷◌, ◌++◌, flat_map}
+use Rattle.cps_text.specs.declared.name.Name.{Name}
+use Rattle.cps_expr.specs.Value.{same_name}
+use Rattle.cps_state.specs.declared.key.Key.{Key}
+use Rattle.cps_state.specs.declared.key.Key.TheVariants as key
+use Rattle.cps_state.specs.Course.{Trace}
+use Rattle.cps_state.specs.Made.{content_names}
+use Rattle.cps_final.specs.Distinct.{distinct}
+
+-- the names that the expressions of a line read later
+abbrev pub later_names : Trace → List Name
+later_names trace = flat_map (λ item. flat_map content_names item.made.contents) trace.items
+
+-- the symbols that a line reads, now or later, each once
+abbrev pub names_read : Trace → List Name
+names_read trace = distinct same_name (trace.reads ++ later_names trace)
+
+-- the symbol whose value a key is
+abbrev pub symbol_put : Key → List Name
+symbol_put (key.Label name) = name ∷ []
+symbol_put (key.Setting name) = name ∷ []
+symbol_put _ = []
+
+-- the symbols that a line defines, each once
+abbrev pub names_defined : Trace → List Name
+names_defined trace = distinct same_name (flat_map (λ p. symbol_put p.key) trace.puts)

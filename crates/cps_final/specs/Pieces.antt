@@ -1,0 +1,67 @@
+-- Pass two: the bits of a statement, at their final addresses. From the manual's section on the two passes; the machine's limit is our profile's.
+use Rattle.std.specs.Prelude.{ℕ, ◌+◌, ◌-◌, ◌*◌, ◌/◌, ◌%◌, ◌^◌, min, max, ◌==◌, nat_lt, List, [], ◌∷◌, ◌++◌, map, flat_map, if◌then◌else◌}
+use Rattle.std.specs.List.{range_with_len}
+use Rattle.cps_expr.specs.declared.machine.Machine.{Machine}
+use Rattle.cps_expr.specs.declared.machine.Machine.TheVariants.{Cp, Pp}
+use Rattle.cps_expr.specs.Item.{bits_of}
+use Rattle.cps_code.specs.Bits.{word_bits}
+use Rattle.cps_code.specs.Image.{Piece}
+use Rattle.cps_state.specs.declared.made.Content.{Content}
+use Rattle.cps_state.specs.Machines.{limit, behind}
+use Rattle.cps_state.specs.Made.{Made, width_of}
+use Rattle.cps_final.specs.Values.{Resolved, base_in, first_address, known_in, number_of}
+
+-- `width` bits of a number from a place on, which may reach into the next words: those of them in the word that comes `later` words behind
+abbrev pub piece_in : Machine → ℕ → ℕ → ℕ → ℕ → Piece
+piece_in machine at width number later =
+    let word = later * bits_of machine in
+    let from = max (at % word_bits) word in
+    let to = min (at % word_bits + width) (word + bits_of machine) in
+    record {
+      address = at / word_bits + later;
+      first = from - word;
+      width = to - from;
+      number = number / 2 ^ (at % word_bits + width - to) % 2 ^ (to - from);
+      times = 1;
+    }
+
+-- how many words they touch
+abbrev pub words_touched : Machine → ℕ → ℕ → ℕ
+words_touched machine at width = (at % word_bits + width + bits_of machine - 1) / bits_of machine
+
+-- all of them, word by word
+abbrev pub pieces_at : Machine → ℕ → ℕ → ℕ → List Piece
+pieces_at machine at width number = map (piece_in machine at width number) (range_with_len 0 (words_touched machine at width))
+
+-- a peripheral processor's word that was begun is filled with zeros
+abbrev pub last_word : Machine → ℕ → List Piece
+last_word Cp at = []
+last_word Pp at =
+    if at % word_bits == 0 then [] else record { address = at / word_bits; first = at % word_bits; width = bits_of Pp - at % word_bits; number = 0; times = 1 } ∷ []
+
+-- so many words of zeros
+abbrev pub zeros_at : Machine → ℕ → ℕ → List Piece
+zeros_at machine at count =
+    if count == 0 then [] else record { address = at / word_bits; first = 0; width = bits_of machine; number = 0; times = count } ∷ []
+
+-- bits of a block at their final address, as far as they lie below the machine's limit
+abbrev pub placed : Machine → ℕ → Piece → List Piece
+placed machine base piece =
+    if nat_lt (base + piece.address) (limit machine)
+    then record piece { address = base + piece.address; times = min piece.times (limit machine - (base + piece.address)) } ∷ []
+    else []
+
+-- the bits of contents from a place on
+abbrev pub content_pieces : Resolved → Made → ℕ → List Content → List Piece
+content_pieces finals made at [] = last_word made.machine at
+content_pieces finals made at (content ∷ contents) =
+    pieces_at made.machine at (width_of content) (number_of (known_in finals made) (first_address finals made) content)
+    ++ content_pieces finals made (behind made.machine at (width_of content)) contents
+
+abbrev pub contents_of : Resolved → Made → List Piece
+contents_of finals made = if made.only_flags then [] else content_pieces finals made made.start made.contents
+
+-- the filling, the zeros, then the contents
+abbrev pub pieces_of : Resolved → Made → List Piece
+pieces_of finals made =
+    flat_map (placed made.machine (base_in finals made.block)) (made.filling ++ zeros_at made.machine made.start made.zeros ++ contents_of finals made)

@@ -1,0 +1,86 @@
+-- Pass two: the rows of a statement. From the manual's section on the listing; the machine's limit is our profile's.
+use Rattle.std.specs.Prelude.{ℕ, ◌+◌, ◌/◌, ◌%◌, ◌^◌, Bool, true, false, nat_le, nat_lt, List, [], ◌∷◌, fold, nat_abs, Option, None, Some, option_map, if◌then◌else◌}
+use Rattle.std.specs.List.{list_any}
+use Rattle.cps_expr.specs.declared.machine.Machine.{Machine}
+use Rattle.cps_expr.specs.declared.machine.Machine.TheVariants.{Pp}
+use Rattle.cps_expr.specs.Item.{bits_of}
+use Rattle.cps_code.specs.Bits.{word_bits}
+use Rattle.cps_code.specs.Form.{complemented}
+use Rattle.cps_state.specs.declared.flags.Flags.{Flags}
+use Rattle.cps_state.specs.declared.made.Content.{Content}
+use Rattle.cps_state.specs.declared.made.Content.TheVariants as content
+use Rattle.cps_state.specs.declared.made.Shown.{Shown}
+use Rattle.cps_state.specs.declared.made.Shown.TheVariants as shown
+use Rattle.cps_state.specs.Flags.{joined}
+use Rattle.cps_state.specs.Machines.{limit, behind}
+use Rattle.cps_state.specs.Made.{Made, no_flags, width_of, content_literals}
+use Rattle.cps_final.specs.declared.row.Row.{Row}
+use Rattle.cps_final.specs.declared.row.Digits.{Digits}
+use Rattle.cps_final.specs.Values.{Resolved, base_in, final_of, first_address, Known, known_in, number_of, value_flags}
+
+-- one digit for each three bits, rounded up
+abbrev pub digits_for : ℕ → ℕ → Digits
+digits_for width number = record { count = (width + 2) / 3; number = number }
+
+-- an instruction of two words of a peripheral processor shows them apart
+abbrev pub is_parted : Content → Bool
+is_parted (content.Peripheral form) = nat_lt (bits_of Pp) form.bits
+is_parted _ = false
+
+abbrev pub first_digits : Content → ℕ → Digits
+first_digits content number =
+    if is_parted content then digits_for (bits_of Pp) (number / 2 ^ bits_of Pp) else digits_for (width_of content) number
+
+abbrev pub second_digits : Content → ℕ → Option Digits
+second_digits content number = if is_parted content then Some (digits_for (bits_of Pp) (number % 2 ^ bits_of Pp)) else None
+
+-- E at or past the machine's words
+abbrev pub limit_flags : Machine → ℕ → Flags
+limit_flags machine address = record no_flags { structure = nat_le (limit machine) address }
+
+-- E where a literal stands there
+abbrev pub literal_flags : (ℕ → ℕ) → Machine → Content → Flags
+literal_flags literals machine content = record no_flags { structure = list_any (λ word. nat_le (limit machine) (literals word)) (content_literals content) }
+
+-- a row that shows nothing but flags
+abbrev pub blank_row : Flags → Row
+blank_row flags = record { flags = flags; location = None; code = None; second = None; is_later = false }
+
+-- the row of a content: its flags, the address of the word in which it begins, and its code
+abbrev pub row_at : Known → Machine → Flags → Bool → ℕ → ℕ → Content → Row
+row_at known machine flags is_later here address content = record {
+  flags = joined (joined (joined flags (value_flags known here content)) (literal_flags known.literals machine content)) (limit_flags machine address);
+  location = Some address;
+  code = Some (first_digits content (number_of known here content));
+  second = second_digits content (number_of known here content);
+  is_later = is_later;
+}
+
+-- a row for each content from a place on; the flags of pass one are on the first
+abbrev pub content_rows : Resolved → Made → Flags → Bool → ℕ → List Content → List Row
+content_rows finals made flags is_later at [] = []
+content_rows finals made flags is_later at (content ∷ contents) =
+    row_at (known_in finals made) made.machine flags is_later (first_address finals made) (base_in finals made.block + at / word_bits) content
+    ∷ content_rows finals made no_flags true (behind made.machine at (width_of content)) contents
+
+-- flags, and those that contents give
+abbrev pub with_contents : Known → ℕ → Flags → List Content → Flags
+with_contents known here flags contents = fold (λ all content. joined all (value_flags known here content)) flags contents
+
+-- the row of a statement without contents
+abbrev pub statement_row : Resolved → Made → Shown → Row
+statement_row finals made shown.Nothing = blank_row made.flags
+statement_row finals made (shown.Value value) =
+    record (blank_row made.flags) { code = option_map (λ v. digits_for word_bits (complemented word_bits v.offset)) (final_of finals value) }
+statement_row finals made (shown.Address value) = record (blank_row made.flags) { location = option_map (λ v. nat_abs v.offset) (final_of finals value) }
+statement_row finals made shown.Start =
+    record (blank_row (joined made.flags (limit_flags made.machine (first_address finals made)))) { location = Some (first_address finals made) }
+
+abbrev pub rows_with : Resolved → Made → List Content → List Row
+rows_with finals made [] = statement_row finals made made.shown ∷ []
+rows_with finals made (content ∷ contents) =
+    if made.only_flags then blank_row (with_contents (known_in finals made) (first_address finals made) made.flags (content ∷ contents)) ∷ []
+    else content_rows finals made made.flags false made.start (content ∷ contents)
+
+abbrev pub rows_of : Resolved → Made → List Row
+rows_of finals made = rows_with finals made made.contents
