@@ -88,6 +88,10 @@ pub front-kept : (kept : Assembled) (lines : List (List ℕ)) (keep : ℕ) (fron
 unfolding assembled_behind
 front-kept kept lines keep front is first = first ∙ ap (λ (a : Assembled). take keep a.traces) is ∙ traces_from-take first_state lines keep
 
+-- traces that are the same, as behind a refusal
+pub same-assembled : (old : Assembled) (traces : List Trace) → traces ≡ old.traces → record { traces = traces; finals = old.finals } ≡ old
+same-assembled old traces same = λ i. record old { traces = same i }
+
 -- later lines behind the first ones of a source
 pub put-behind : (old later : Assembled) (keep : ℕ) (lines more : List (List ℕ)) (traces : List Trace) (finals : Finals)
     → old ≡ assembled_of lines → later ≡ assembled_behind (take keep lines) more → traces ≡ take keep old.traces ++ later.traces

@@ -25,6 +25,9 @@ up_to-join a b old mid new first (count, within, second) = (a + count, omega (ar
 pub up_to-none : (most : ℕ) (old new : Counts) → new ≡ old → IsSteppedUpTo most old new
 up_to-none most old new same = (0, omega arith, same ∙ stepped-none old)
 
+pub up_to-all : (a : ℕ) (old new : Counts) → new ≡ stepped a old → IsSteppedUpTo a old new
+up_to-all a old new steps = (a, omega arith, steps)
+
 pub up_to-more : (a most : ℕ) (old new : Counts) → a ≤ most → IsSteppedUpTo a old new → IsSteppedUpTo most old new
 up_to-more a most old new le (count, within, steps) = (count, omega (arith, within, le), steps)
 

@@ -1,16 +1,36 @@
--- The binary text: the program's name, and each word in octal behind its address. The layout is our profile's.
-use Rattle.std.specs.Prelude.{ℕ, ◌/◌, ◌^◌, List, [], ◌++◌, codes, flat_map, Option, None, Some}
+-- The binary text: the program's name, and each word in octal behind its address. The words are those of all lines, and the literal pool
+-- over them, from the manual's section on literals; the layout is our profile's.
+use Rattle.std.specs.Prelude.{ℕ, ◌/◌, ◌%◌, ◌^◌, List, [], ◌++◌, codes, flat_map, Option, None, Some}
 use Rattle.std.specs.List.{range_with_len}
 use Rattle.cps_text.specs.declared.name.Name.{Name}
 use Rattle.cps_text.specs.Name.{name_text}
 use Rattle.cps_text.specs.Octal.{octal}
 use Rattle.cps_expr.specs.declared.machine.Machine.{Machine}
 use Rattle.cps_expr.specs.declared.machine.Machine.TheVariants.{Cp, Pp}
+use Rattle.cps_expr.specs.Item.{bits_of}
 use Rattle.cps_code.specs.Image.{Piece, packed_word}
 use Rattle.cps_state.specs.Machines.{limit}
-use Rattle.cps_final.specs.Finals.{Finals, finals_of, machine_of}
-use Rattle.cps_final.specs.Outcome.{Outcome}
+use Rattle.cps_final.specs.Finals.{Finals, finals_of, machine_of, final_value, literal}
+use Rattle.cps_final.specs.Outcome.{Outcome, address_of, placed}
 use Rattle.cps_tool.specs.Assembly.{traces_of, outcomes_of, pieces_in}
+
+-- ---- words
+
+-- a literal at its final address, one word of the machine
+abbrev pub literal_piece : Finals → ℕ → List Piece
+literal_piece finals word =
+    placed (machine_of finals) (address_of (final_value finals (literal word)))
+    (record { address = 0; first = 0; width = bits_of (machine_of finals); number = word % 2 ^ bits_of (machine_of finals); times = 1 })
+
+-- the words of the pool
+abbrev pub pool_pieces : Finals → List Piece
+pool_pieces finals = flat_map (literal_piece finals) finals.pool
+
+-- what the lines make, and then the pool
+abbrev pub pieces_under : Finals → List Outcome → List Piece
+pieces_under finals outcomes = pieces_in outcomes ++ pool_pieces finals
+
+-- ---- rows
 
 abbrev pub first_row : Option Name → List ℕ
 first_row None = codes "IDENT\n"
@@ -26,9 +46,11 @@ word_row Pp address (Some word) = octal 4 address ++ codes " " ++ octal 4 (word 
 unfoldable pub rows_below : ℕ → Machine → List Piece → List ℕ
 rows_below count machine pieces = flat_map (λ address. word_row machine address (packed_word pieces address)) (range_with_len 0 count)
 
+-- ---- the text
+
 -- the binary text of what lines make, with these final values
 abbrev pub text_under : Finals → List Outcome → List ℕ
-text_under finals outcomes = first_row finals.program ++ rows_below (limit (machine_of finals)) (machine_of finals) (pieces_in outcomes)
+text_under finals outcomes = first_row finals.program ++ rows_below (limit (machine_of finals)) (machine_of finals) (pieces_under finals outcomes)
 
 -- the binary text of a source
 abbrev pub binary_text : List (List ℕ) → List ℕ

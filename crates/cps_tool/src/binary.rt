@@ -4,14 +4,16 @@ ghost use Rattle.cps_text.specs.Octal.{octal};
 ghost use Rattle.cps_code.specs.Image as image;
 ghost use Rattle.cps_code.specs.Image.{piece_of, ArePacked};
 ghost use Rattle.cps_state.specs.Machines.{limit};
-ghost use Rattle.cps_tool.specs.Assembly.{outcomes_under, pieces_in};
+ghost use Rattle.cps_final.specs.Finals.{final_value, literal};
+ghost use Rattle.cps_final.specs.Outcome.{address_of};
+ghost use Rattle.cps_tool.specs.Assembly.{outcomes_under};
 ghost use Rattle.cps_tool.specs.Making.{Adds};
 ghost use Rattle.cps_tool.specs.Binary as texts;
 
 use cps_code::{Piece, Words};
 use cps_expr::Machine;
 use cps_final::{Finals, Gathered, step_two};
-use cps_pass::{Trace, Work, limit_of};
+use cps_pass::{Trace, Work, limit_of, word_bits};
 use cps_text::{Name, push_octal};
 use std::alloc::{AllocError, Global};
 
@@ -40,9 +42,10 @@ pub fn binary_text(alloc: Global, traces: &[Trace], finals: &Finals) -> Result<V
     Ok(text)
 }
 
-/// The words of lines, where everything that can be named has its final value.
+/// The words of lines and of the literal pool, where everything that can be named has its final value.
 fn make_words(alloc: Global, traces: &[Trace], finals: &Finals) -> Result<Words, AllocError>
-    ensures { IfOk result (λ words. ArePacked (pieces_in (outcomes_under (⟦<Finals as Gathered>⟧.gathered finals.now) traces.now)) words) }
+    ensures { IfOk result (λ words. ArePacked
+        (texts.pieces_under (⟦<Finals as Gathered>⟧.gathered finals.now) (outcomes_under (⟦<Finals as Gathered>⟧.gathered finals.now) traces.now)) words) }
 {
     let mut work = Work::new();
     let mut words = Words::new(alloc);
@@ -50,6 +53,7 @@ fn make_words(alloc: Global, traces: &[Trace], finals: &Finals) -> Result<Words,
         let outcome = step_two(alloc, &mut work, trace, finals)?;
         put_pieces(&mut words, outcome.pieces())?;
     }
+    put_pool(&mut words, finals)?;
     Ok(words)
 }
 
@@ -60,6 +64,45 @@ fn put_pieces(words: &mut Words, pieces: &[Piece]) -> Result<(), AllocError>
         words.deposit(*piece)?;
     }
     Ok(())
+}
+
+/// Puts the literals over what stands.
+fn put_pool(words: &mut Words, finals: &Finals) -> Result<(), AllocError>
+    ensures { OnOk result (Adds (texts.pool_pieces (⟦<Finals as Gathered>⟧.gathered finals.now)) words.old words.new) }
+{
+    for word in finals.pool() {
+        put_literal(words, finals, *word)?;
+    }
+    Ok(())
+}
+
+/// Puts a literal at its final address, if that is below the machine's limit.
+fn put_literal(words: &mut Words, finals: &Finals, word: u64) -> Result<(), AllocError>
+    ensures { OnOk result (Adds (texts.literal_piece (⟦<Finals as Gathered>⟧.gathered finals.now) word) words.old words.new) }
+{
+    let machine = finals.machine();
+    let address = literal_address(finals, word);
+    if address >= u64::from(limit_of(machine)) {
+        return Ok(());
+    }
+    let width = word_bits(machine);
+    words.deposit(Piece {
+        address: address as u32,
+        first: 0,
+        width,
+        number: word % (1 << width),
+        times: 1,
+    })
+}
+
+/// The address of a literal; one that stands nowhere counts as at 0.
+fn literal_address(finals: &Finals, word: u64) -> u64
+    ensures { result ≡ address_of (final_value (⟦<Finals as Gathered>⟧.gathered finals.now) (literal word)) }
+{
+    match finals.literal(word) {
+        Some(address) => address.offset.unsigned_abs(),
+        None => 0,
+    }
 }
 
 fn push_first_row(text: &mut Vec<u8>, program: Option<Name>) -> Result<(), AllocError>

@@ -1,6 +1,6 @@
 use Rattle.std.proofs.Common.{rules, [], ◌++◌, take, length}
 use Rattle.cps_tool.proofs.AssemblyLemmas.{front-kept}
-use Rattle.cps_tool.proofs.WorkLemmas.{up_to-join, on-err}
+use Rattle.cps_tool.proofs.WorkLemmas.{up_to-join, up_to-all, on-err}
 use Rattle.cps_tool.proofs.assembled.Assembled.redo.Goals as goal
 
 pub returns-in_err-take_lines-2-clause-steps_memory : goal.returns-in_err-take_lines-2-clause-steps_memory
@@ -16,3 +16,9 @@ returns-clause-ok c = λ lines is.
 
 pub returns-in_err-put_behind-clause-err : goal.returns-in_err-put_behind-clause-err
 returns-in_err-put_behind-clause-err c = on-err c.from_residual-in_err-put_behind.result c.in_err-put_behind.ensures.err
+
+pub returns-in_err-put_behind-clause-steps_memory : goal.returns-in_err-put_behind-clause-steps_memory
+returns-in_err-put_behind-clause-steps_memory c =
+    let back = length c.args.back.now in
+    on-err c.from_residual-in_err-put_behind.result (up_to-join (length c.args.middle.now) back c.args.work.now c.take_lines.new.work c.take_lines-2.new.work c.in_ok-take_lines.ensures.steps
+    (up_to-all back c.take_lines.new.work c.take_lines-2.new.work c.in_ok-take_lines-2.ensures.steps))
