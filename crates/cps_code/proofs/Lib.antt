@@ -7,6 +7,7 @@ pub mod NumberLemmas
 pub mod SumReading
 pub mod HoleLemmas
 pub mod SetLemmas
+pub mod SummedLemmas
 pub mod NameLemmas
 pub mod FieldLemmas
 pub mod WorkedRows

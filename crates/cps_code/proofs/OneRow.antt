@@ -15,8 +15,9 @@ use Rattle.cps_code.specs.declared.register.RegisterTerm.{RegisterTerm}
 use Rattle.cps_code.specs.Digits.{with_digit, with_character, digits_in}
 use Rattle.cps_code.specs.OneRow.{Fits, Names, OneRowFits, OneIsNamed, RowsStandTogether}
 use Rattle.cps_code.specs.Register.{digit_value}
-use Rattle.cps_code.specs.Rows.{Pattern, RowTerm, Shape, unread, fields, summed, Found, RowForm, Operation, Operands, turned, registers_in, found_behind, found_in_fields, same_bool, same_letter, is_of, digits_of_terms, is_some_list, found_in_sum, found_in, form_found}
-use Rattle.cps_code.specs.Sum.{Sum}
+use Rattle.cps_code.specs.Rows.{Pattern, RowTerm, Shape, unread, fields, summed, Found, RowForm, Operation, Operands, turned, registers_in, found_behind, found_in_fields, same_bool, same_letter, is_of, digits_of_terms, is_constant, only_for, found_in_sum, found_in, form_found}
+use Rattle.cps_code.specs.declared.hole.Operand.{Operand}
+use Rattle.cps_code.specs.Sum.{Summed}
 use Rattle.cps_code.specs.Table.{cp_operations}
 use Rattle.cps_code.proofs.PairLemmas.{no_clash, pairs_apart}
 use Rattle.cps_code.proofs.SetLemmas.{left_true, right_true}
@@ -92,19 +93,19 @@ text-self : (letters : List ℕ) → texts_clash letters letters ≡ true
 text-self [] = refl
 text-self (letter ∷ letters) = both_true _ _ (character-self letter) (text-self letters)
 
--- ---- operands of registers, and an expression behind them
+-- ---- operands of registers, and one for a hole behind them
 
 abbrev registers_clash : List (List ℕ) → List (List ℕ) → Bool
 registers_clash [] others = true
 registers_clash (letters ∷ registers) [] = true
 registers_clash (letters ∷ registers) (other ∷ others) = texts_clash letters other && registers_clash registers others
 
-abbrev expression_count : Bool → ℕ
-expression_count true = 1
-expression_count false = 0
+abbrev hole_count : Option ℕ → ℕ
+hole_count None = 0
+hole_count (Some letter) = 1
 
 abbrev operand_count : Pattern → ℕ
-operand_count pattern = length pattern.registers + expression_count pattern.has_expression
+operand_count pattern = length pattern.registers + hole_count pattern.hole
 
 registers-clash : (behind next : Digits × List (List ℕ) → Option Found) (registers others texts : List (List ℕ)) (digits more : Digits)
     → IsSome (option_and_then behind (registers_in registers texts digits)) → IsSome (option_and_then next (registers_in others texts more)) → registers_clash registers others ≡ true
@@ -116,20 +117,27 @@ registers-clash behind next (letters ∷ registers) (other ∷ others) (text ∷
     let second = found_twice next (registers_in others texts) (digits_in other text more) two in
     both_true _ _ (text-clash letters other text digits more first.1 second.1) (registers-clash behind next registers others texts first.0 second.0 first.2 second.2)
 
-behind-long : (radix : Radix) (has : Bool) (digits : Digits) (texts : List (List ℕ)) → IsSome (found_behind radix has (digits, texts)) → length texts ≡ expression_count has
-behind-long radix true digits [] found = cc
-behind-long radix true digits (text ∷ []) found = refl
-behind-long radix true digits (text ∷ second ∷ texts) found = cc
-behind-long radix false digits [] found = refl
-behind-long radix false digits (text ∷ texts) found = cc
+no_operand : (b : Bool) → IsSome (cond {A = Option Operand} b None None) → ⊥
+no_operand true found = cc
+no_operand false found = cc
 
-fields-long : (radix : Radix) (has : Bool) (registers texts : List (List ℕ)) (digits : Digits)
-    → IsSome (option_and_then (found_behind radix has) (registers_in registers texts digits)) → length texts ≡ length registers + expression_count has
-fields-long radix has [] texts digits found = omega (arith, behind-long radix has digits texts found)
-fields-long radix has (letters ∷ registers) [] digits found = cc
-fields-long radix has (letters ∷ registers) (text ∷ texts) digits found =
-    let first = found_twice (found_behind radix has) (registers_in registers texts) (digits_in letters text digits) found in
-    omega (arith, fields-long radix has registers texts first.0 first.2)
+only-long : (radix : Radix) (letter : ℕ) (texts : List (List ℕ)) → IsSome (only_for radix letter texts) → length texts ≡ 1
+only-long radix letter [] found = absurd (no_operand (is_constant letter) found)
+only-long radix letter (text ∷ []) found = refl
+only-long radix letter (text ∷ second ∷ texts) found = absurd (no_operand (is_constant letter) found)
+
+behind-long : (radix : Radix) (hole : Option ℕ) (digits : Digits) (texts : List (List ℕ)) → IsSome (found_behind radix hole (digits, texts)) → length texts ≡ hole_count hole
+behind-long radix (Some letter) digits texts found = only-long radix letter texts (mapped (λ o. record { digits = digits; operand = Some o }) (only_for radix letter texts) found)
+behind-long radix None digits [] found = refl
+behind-long radix None digits (text ∷ texts) found = cc
+
+fields-long : (radix : Radix) (hole : Option ℕ) (registers texts : List (List ℕ)) (digits : Digits)
+    → IsSome (option_and_then (found_behind radix hole) (registers_in registers texts digits)) → length texts ≡ length registers + hole_count hole
+fields-long radix hole [] texts digits found = omega (arith, behind-long radix hole digits texts found)
+fields-long radix hole (letters ∷ registers) [] digits found = cc
+fields-long radix hole (letters ∷ registers) (text ∷ texts) digits found =
+    let first = found_twice (found_behind radix hole) (registers_in registers texts) (digits_in letters text digits) found in
+    omega (arith, fields-long radix hole registers texts first.0 first.2)
 
 -- ---- sums
 
@@ -225,20 +233,20 @@ either-clash terms others registers (inl one) (inr two) =
     or_right _ _ (terms-clash terms (reverse others) registers one back)
 
 -- a sum with its register terms turned round
-abbrev round : Sum → Sum
+abbrev round : Summed → Summed
 round sum = record { registers = reverse sum.registers; constant = sum.constant }
 
-abbrev found_with : Sum → Digits → Found
-found_with sum digits = record { digits = digits; expression = sum.constant }
+abbrev found_with : Summed → Digits → Found
+found_with sum digits = record { digits = digits; operand = sum.constant }
 
-constant-found : (terms : List RowTerm) (has : Bool) (digits : Digits) (sum : Sum) → IsSome (found_in_sum terms has digits sum)
-    → (same_bool (is_some_list sum.constant) has ≡ true) × AreOf terms sum.registers
+constant-found : (terms : List RowTerm) (has : Bool) (digits : Digits) (sum : Summed) → IsSome (found_in_sum terms has digits sum)
+    → (same_bool (is_some sum.constant) has ≡ true) × AreOf terms sum.registers
 constant-found terms has digits sum found =
-    let first = if_some (same_bool (is_some_list sum.constant) has) (option_map (found_with sum) (digits_of_terms terms sum.registers digits)) found in
+    let first = if_some (same_bool (is_some sum.constant) has) (option_map (found_with sum) (digits_of_terms terms sum.registers digits)) found in
     (first.0, are-of terms sum.registers digits (mapped (found_with sum) (digits_of_terms terms sum.registers digits) first.1))
 
-sum-found : (terms : List RowTerm) (has : Bool) (digits : Digits) (sum : Sum) → IsSome (found_in_sum terms has digits sum) ⊎ IsSome (found_in_sum terms has digits (round sum))
-    → (same_bool (is_some_list sum.constant) has ≡ true) × AreOfEither terms sum.registers
+sum-found : (terms : List RowTerm) (has : Bool) (digits : Digits) (sum : Summed) → IsSome (found_in_sum terms has digits sum) ⊎ IsSome (found_in_sum terms has digits (round sum))
+    → (same_bool (is_some sum.constant) has ≡ true) × AreOfEither terms sum.registers
 sum-found terms has digits sum (inl found) = let first = constant-found terms has digits sum found in (first.0, inl first.1)
 sum-found terms has digits sum (inr found) = let first = constant-found terms has digits (round sum) found in (first.0, inr first.1)
 
@@ -269,12 +277,12 @@ same_bool-swap false false same = refl
 fields-clash : (radix : Radix) (digits : Digits) (texts : List (List ℕ)) (pattern other : Pattern) → IsSome (found_in_fields radix pattern texts digits) → IsSome (found_in_fields radix other texts digits)
     → shapes_clash (fields pattern) (fields other) ≡ true
 fields-clash radix digits texts pattern other one two =
-    let first = fields-long radix pattern.has_expression pattern.registers texts digits one in
-    let second = fields-long radix other.has_expression other.registers texts digits two in
+    let first = fields-long radix pattern.hole pattern.registers texts digits one in
+    let second = fields-long radix other.hole other.registers texts digits two in
     both_true _ _ (same_number _ _ (sym first ∙ second))
-    (registers-clash (found_behind radix pattern.has_expression) (found_behind radix other.has_expression) pattern.registers other.registers texts digits digits one two)
+    (registers-clash (found_behind radix pattern.hole) (found_behind radix other.hole) pattern.registers other.registers texts digits digits one two)
 
-sums-clash : (digits : Digits) (sum : Option Sum) (terms others : List RowTerm) (has constant : Bool)
+sums-clash : (digits : Digits) (sum : Option Summed) (terms others : List RowTerm) (has constant : Bool)
     → IsSome (option_and_then (found_in_sum terms has digits) sum) ⊎ IsSome (option_and_then (found_in_sum terms has digits) (option_map round sum))
     → IsSome (option_and_then (found_in_sum others constant digits) sum) ⊎ IsSome (option_and_then (found_in_sum others constant digits) (option_map round sum))
     → shapes_clash (summed terms has) (summed others constant) ≡ true
@@ -283,7 +291,7 @@ sums-clash digits (Some sum) terms others has constant one two =
     let first = sum-found terms has digits sum one in
     let second = sum-found others constant digits sum two in
     both_true _ _
-    (same_bool-both has constant (is_some_list sum.constant) (same_bool-swap _ has first.0) (same_bool-swap _ constant second.0))
+    (same_bool-both has constant (is_some sum.constant) (same_bool-swap _ has first.0) (same_bool-swap _ constant second.0))
     (either-clash terms others sum.registers first.1 second.1)
 
 shape-clash : (radix : Radix) (digits : Digits) (operands : Operands) (shape other : Shape) → IsFoundIn radix digits operands shape → IsFoundIn radix digits operands other → shapes_clash shape other ≡ true

@@ -3,17 +3,17 @@ use Rattle.std.proofs.Common.{◌≡◌, ℕ, ◌<◌, Bool, true, false, cond, 
 use Rattle.std.proofs.lemmas.List.{length-reverse}
 use Rattle.std.proofs.lemmas.Bool.Decides.{nat_tests}
 use Rattle.std.specs.Option.{option_or}
-use Rattle.std.specs.Prelude.{All, option_map}
+use Rattle.std.specs.Prelude.{All, option_map, is_some}
 use Rattle.std.specs.List.{list_all}
 use Rattle.cps_code.specs.declared.sum.Registers.{Registers}
 use Rattle.cps_code.specs.declared.sum.Registers.TheVariants.{Absent, One, Two}
 use Rattle.cps_code.specs.declared.register.RegisterTerm.{RegisterTerm}
-use Rattle.cps_code.specs.Sum.{Sum}
+use Rattle.cps_code.specs.Sum.{Summed}
 use Rattle.cps_code.specs.Terms.{IsRegister, AreRegisters, register_list}
 use Rattle.cps_expr.specs.declared.radix.Radix.{Radix}
 use Rattle.cps_code.specs.declared.digits.Digits.{Digits}
 use Rattle.cps_code.specs.Digits.{with_digit}
-use Rattle.cps_code.specs.Rows.{Shape, unread, fields, summed, RowForm, RowTerm, Operands, is_some_list, is_of, same_bool, digits_of_terms, form_found, found_in, form_in, form_of_rows}
+use Rattle.cps_code.specs.Rows.{Shape, unread, fields, summed, RowForm, RowTerm, Operands, is_of, same_bool, digits_of_terms, form_found, found_in, form_in, form_of_rows}
 
 pub registers_kept : (registers : Registers) (list : List RegisterTerm) → register_list registers ≡ list → All IsRegister list → AreRegisters registers
 registers_kept Absent list is all = tt
@@ -54,14 +54,14 @@ found-none radix digits texts unread short = cc
 found-none radix digits texts (fields pattern) short = cc
 found-none radix digits texts (summed terms has_constant) short = refl
 
-found-many : (radix : Radix) (digits : Digits) (texts : List (List ℕ)) (sum : Sum) (shape : Shape) → 2 < length sum.registers → is_short_shape shape ≡ true
+found-many : (radix : Radix) (digits : Digits) (texts : List (List ℕ)) (sum : Summed) (shape : Shape) → 2 < length sum.registers → is_short_shape shape ≡ true
     → found_in radix shape (record { texts = texts; sum = Some sum }) digits ≡ None
 found-many radix digits texts sum unread many short = cc
 found-many radix digits texts sum (fields pattern) many short = cc
 found-many radix digits texts sum (summed terms has_constant) many short =
     let fewer : length terms < length sum.registers = grind (arith, nat_tests) in
-    ap (λ found. cond (same_bool (is_some_list sum.constant) has_constant) (option_map (λ ds. record { digits = ds; expression = sum.constant }) found) None) (digits-many terms sum.registers digits fewer)
-    ∙ no_choice (same_bool (is_some_list sum.constant) has_constant)
+    ap (λ found. cond (same_bool (is_some sum.constant) has_constant) (option_map (λ ds. record { digits = ds; operand = sum.constant }) found) None) (digits-many terms sum.registers digits fewer)
+    ∙ no_choice (same_bool (is_some sum.constant) has_constant)
 
 pub left_true : (a b : Bool) → (a && b) ≡ true → a ≡ true
 left_true true b h = refl
@@ -78,14 +78,14 @@ form-none radix digits (row ∷ rows) operands short none =
     ap (λ found. option_or (option_map (form_found row) found) (form_in radix digits rows operands)) (none row.shape (left_true (is_short row) (list_all is_short rows) short))
     ∙ form-none radix digits rows operands (right_true (is_short row) (list_all is_short rows) short) none
 
-pub no_form : (radix : Radix) (digits : Digits) (rows : List RowForm) (texts : List (List ℕ)) (operand : Option Sum) → list_all is_short rows ≡ true
-    → ((sum : Sum) → operand ≡ Some sum → 2 < length sum.registers) → form_of_rows radix digits rows (record { texts = texts; sum = operand }) ≡ None
+pub no_form : (radix : Radix) (digits : Digits) (rows : List RowForm) (texts : List (List ℕ)) (operand : Option Summed) → list_all is_short rows ≡ true
+    → ((sum : Summed) → operand ≡ Some sum → 2 < length sum.registers) → form_of_rows radix digits rows (record { texts = texts; sum = operand }) ≡ None
 no_form radix digits rows texts None short many =
     let none = form-none radix digits rows (record { texts = texts; sum = None }) short (found-none radix digits texts) in
     ap (λ o. option_or o (form_in radix digits rows (record { texts = texts; sum = None }))) none ∙ none
 no_form radix digits rows texts (Some sum) short many =
     let more = many sum refl in
-    let round : Sum = record { registers = reverse sum.registers; constant = sum.constant } in
+    let round : Summed = record { registers = reverse sum.registers; constant = sum.constant } in
     let more' : 2 < length round.registers = omega (arith, length-reverse sum.registers) in
     let none = form-none radix digits rows (record { texts = texts; sum = Some sum }) short (λ shape. found-many radix digits texts sum shape more) in
     let none' = form-none radix digits rows (record { texts = texts; sum = Some round }) short (λ shape. found-many radix digits texts round shape more') in

@@ -1,5 +1,6 @@
 -- The table and the rules for values, computed on worked examples.
-use Rattle.std.specs.Prelude.{◌≡◌, ℕ, Bool, true, false, List, map, codes, ℤ, pos, Option, None, Some, option_map, refl}
+use Rattle.std.specs.Prelude.{◌≡◌, ℕ, Bool, true, false, List, [], ◌∷◌, map, codes, ℤ, pos, Option, None, Some, option_map, refl}
+use Rattle.std.specs.List.{flat_map}
 use Rattle.std.specs.Option.{option_map_or}
 use Rattle.cps_text.specs.Display.{display_characters}
 use Rattle.cps_text.specs.ItemInFront.{item_in_front}
@@ -11,12 +12,20 @@ use Rattle.cps_expr.specs.Value.{value_in, plain}
 use Rattle.cps_code.specs.declared.hole.Operand.{Operand}
 use Rattle.cps_code.specs.declared.hole.Operand.TheVariants as operand
 use Rattle.cps_code.specs.Form.{filled}
+use Rattle.cps_code.specs.Operand.{operand_literals}
 use Rattle.cps_code.specs.Table.{cp_operations, form_of}
 
--- the number of an expression where no name is defined and `*` is 3
+-- the number of an expression where no name is defined and `*` is 3; that of a literal as if its address were 0
 abbrev number : Operand → ℤ
 number (operand.Expression terms) = option_map_or (λ value. value.offset) (value_in (λ name. None) (plain (pos 3)) terms) (pos 0)
 number (operand.Literal word) = pos 0
+
+-- the same of a statement with a literal whose address is 0, and the words of its literals
+abbrev code_and_literals : List ℕ → List ℕ → Option (Filled × List ℕ)
+code_and_literals name tail = option_map (λ form. (filled form (map (λ hole. number hole.operand) form.holes), flat_map (λ hole. operand_literals hole.operand) form.holes)) (form_of name tail Decimal)
+
+abbrev named : ℕ → ℕ → Option (Filled × List ℕ)
+named digits word = Some (record { digits = digits; is_truncated = false; is_out_of_range = false }, word ∷ [])
 
 abbrev out_of_range : ℕ → Option Filled
 out_of_range digits = Some (record { digits = digits; is_truncated = false; is_out_of_range = true })
@@ -108,9 +117,29 @@ no_operand : code (codes "SA1") (codes " B1") ≡ None
 unfolding parts_from parts_up_to expression_of cp_operations
 no_operand = refl
 
-literal : code (codes "SA1") (codes "=3HA B") ≡ None
+literal : code_and_literals (codes "SA1") (codes "=3HA B") ≡ named 0o5110000000 0o01550255555555555555
 unfolding parts_from parts_up_to expression_of cp_operations display_characters item_in_front
 literal = refl
+
+literal_behind_register : code_and_literals (codes "ZR") (codes "X3,=5") ≡ named 0o0303000000 5
+unfolding parts_from parts_up_to expression_of cp_operations display_characters item_in_front
+literal_behind_register = refl
+
+literal_alone_jump : code_and_literals (codes "JP") (codes "=-0") ≡ named 0o0200000000 0o77777777777777777777
+unfolding parts_from parts_up_to expression_of cp_operations display_characters item_in_front
+literal_alone_jump = refl
+
+literal_with_register : code (codes "SA1") (codes "B1+=5") ≡ None
+unfolding parts_from parts_up_to expression_of cp_operations display_characters item_in_front
+literal_with_register = refl
+
+two_items : code (codes "SA1") (codes "=5/2") ≡ None
+unfolding parts_from parts_up_to expression_of cp_operations display_characters item_in_front
+two_items = refl
+
+literal_count : code (codes "LX3") (codes "=6") ≡ None
+unfolding parts_from parts_up_to expression_of cp_operations display_characters item_in_front
+literal_count = refl
 
 zero_branch : code (codes "ZR") (codes "X3,5") ≡ is 0o0303000005 false
 unfolding parts_from parts_up_to expression_of cp_operations

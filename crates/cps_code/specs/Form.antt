@@ -1,7 +1,9 @@
 -- A form: the code of an instruction, with holes for the values that are known later, and how values fill them.
 -- From the machines' reference manuals (the formats of 15 and 30 bits, and of 12 and 24) and the manual's rule for values; what doesn't fit is our profile's.
 use Rattle.std.specs.Prelude.{◌≡◌, ◌⊎◌, ℕ, ◌+◌, ◌-◌, ◌*◌, ◌%◌, ◌^◌, ◌<◌, ◌≤◌, Bool, true, false, ◌||◌, not, nat_lt, ◌&&◌, List, [], ◌∷◌, length, All, ℤ, pos, negsuc, if◌then◌else◌}
+use Rattle.cps_expr.specs.declared.machine.Machine.TheVariants.{Cp}
 use Rattle.cps_code.specs.Bits.{word_bits, parcel_bits}
+use Rattle.cps_code.specs.Operand.{IsOperand}
 use Rattle.cps_code.specs.declared.hole.Hole.{Hole}
 use Rattle.cps_code.specs.declared.hole.HoleKind.{HoleKind}
 use Rattle.cps_code.specs.declared.hole.HoleKind.TheVariants.{Value, Count, Target}
@@ -100,4 +102,5 @@ pub record IsForm (form : Form) : Type 0 where
   pub short : form.bits ≤ 2 * parcel_bits
   pub few : length form.holes ≤ 1
   pub holes : All (IsHole form.bits) form.holes
+  pub operands : All (λ hole. IsOperand Cp hole.operand) form.holes
   pub room : form.code + room_of form.bits form.holes < 2 ^ form.bits

@@ -1,11 +1,14 @@
 -- For the look-up of an operation and the branches on its forms, not part of what a reader believes: the table as the code keeps it.
 use Prim.Native.Char.{code}
-use Rattle.std.specs.Prelude.{ℕ, ◌*◌, ◌^◌, Bool, true, false, ◌==◌, List, [], ◌∷◌, map, filter, slice_index, codes, Option, None, Some}
+use Rattle.std.specs.Prelude.{ℕ, ◌*◌, ◌^◌, Bool, true, false, ◌==◌, List, [], ◌∷◌, map, filter, slice_index, codes, Option, None, Some, option_map, option_and_then}
 use Rattle.std.specs.Borrow.{Bor}
 use Rattle.cps_expr.specs.declared.radix.Radix.{Radix}
 use Rattle.cps_expr.specs.declared.radix.Radix.TheVariants.{Octal}
+use Rattle.cps_expr.specs.declared.machine.Machine.TheVariants.{Cp}
+use Rattle.cps_expr.specs.OperandList.{only_one}
 use Rattle.cps_expr.specs.Term.{Term}
 use Rattle.cps_code.specs.declared.digits.Digits.{Digits}
+use Rattle.cps_code.specs.declared.fields.Found.{Found}
 use Rattle.cps_code.specs.declared.hole.HoleKind.TheVariants.{Value, Count}
 use Rattle.cps_code.specs.declared.hole.Operand.{Operand}
 use Rattle.cps_code.specs.declared.hole.Operand.TheVariants.{Expression}
@@ -16,7 +19,8 @@ use Rattle.cps_code.specs.declared.operation.Forms.TheVariants.{Pass, Stop, SetA
 use Rattle.cps_code.specs.declared.register.RegisterTerm.{RegisterTerm}
 use Rattle.cps_code.specs.Bits.{constant_bits, count_bits}
 use Rattle.cps_code.specs.Form.{Form}
-use Rattle.cps_code.specs.Rows.{RowForm, Operation, Named, Operands, unread, fields, form_in, form_of_rows, operands_in}
+use Rattle.cps_code.specs.Operand.{operand_of}
+use Rattle.cps_code.specs.Rows.{RowForm, Operation, Named, Operands, unread, fields, registers_in, form_in, form_of_rows, operands_in}
 use Rattle.cps_code.specs.Table.{set_rows, jump_rows}
 
 -- ---- the code's rows
@@ -24,18 +28,23 @@ use Rattle.cps_code.specs.Table.{set_rows, jump_rows}
 abbrev pub texts : List (Bor (List ℕ)) → List (List ℕ)
 texts borrowed = map (λ text. text.now) borrowed
 
-abbrev pub field_row : List (List ℕ) → Bool → List ℕ → Option ℕ → Bool → RowForm
-field_row registers has_expression digits hole forces = record {
-  shape = fields (record { registers = registers; has_expression = has_expression });
+abbrev pub field_row : List (List ℕ) → List ℕ → Option ℕ → Bool → RowForm
+field_row registers digits hole forces = record {
+  shape = fields (record { registers = registers; hole = hole });
   code = record { digits = digits; hole = hole };
   forces = forces;
 }
 
+-- the digits of operands of registers, and K behind them
+abbrev pub constant_in : Radix → List (List ℕ) → List (List ℕ) → Digits → Option Found
+constant_in radix registers texts digits =
+    option_and_then (λ left. option_map (λ k. record { digits = left.0; operand = k }) (only_one (operand_of Cp radix) left.1)) (registers_in registers texts digits)
+
 abbrev pub row_of_fields : FieldForm → RowForm
-row_of_fields (field.Short registers digits) = field_row (texts registers.now) false digits.now None false
-row_of_fields (field.Constant registers digits) = field_row (texts registers.now) true digits.now (Some (code "K")) false
-row_of_fields (field.Forcing registers digits) = field_row (texts registers.now) true digits.now (Some (code "K")) true
-row_of_fields (field.Count digits) = field_row [] true digits.now (Some (code "n")) false
+row_of_fields (field.Short registers digits) = field_row (texts registers.now) digits.now None false
+row_of_fields (field.Constant registers digits) = field_row (texts registers.now) digits.now (Some (code "K")) false
+row_of_fields (field.Forcing registers digits) = field_row (texts registers.now) digits.now (Some (code "K")) true
+row_of_fields (field.Count digits) = field_row [] digits.now (Some (code "n")) false
 
 abbrev pub set_forms : List RowForm
 set_forms = map (λ row. row.form) (set_rows [] 0)
@@ -81,15 +90,15 @@ abbrev pub no_sum : List (List ℕ) → Operands
 no_sum operands = record { texts = operands; sum = None }
 
 -- the operands, where no row asks for anything but a sum
-abbrev pub sum_alone : List RegisterTerm → List Term → Operands
+abbrev pub sum_alone : List RegisterTerm → Option Operand → Operands
 sum_alone registers constant = record { texts = []; sum = Some (record { registers = registers; constant = constant }) }
 
 -- the form for these registers and this constant, in the one order or the other
-abbrev pub set_form : Digits → List RegisterTerm → List Term → Option Form
+abbrev pub set_form : Digits → List RegisterTerm → Option Operand → Option Form
 set_form digits registers constant = form_of_rows Octal digits set_forms (sum_alone registers constant)
 
 -- the same in this order alone
-abbrev pub set_form_as_it_stands : Digits → List RegisterTerm → List Term → Option Form
+abbrev pub set_form_as_it_stands : Digits → List RegisterTerm → Option Operand → Option Form
 set_form_as_it_stands digits registers constant = form_in Octal digits set_forms (sum_alone registers constant)
 
 -- the form of a set instruction with this tail
@@ -97,7 +106,7 @@ abbrev pub set_form_of : Radix → Digits → List ℕ → Option Form
 set_form_of radix digits tail = form_of_rows radix digits set_forms (operands_in radix tail)
 
 -- the form of a jump with these registers and this constant
-abbrev pub jump_form : Digits → List RegisterTerm → List Term → Option Form
+abbrev pub jump_form : Digits → List RegisterTerm → Option Operand → Option Form
 jump_form digits registers constant = form_of_rows Octal digits jump_forms (sum_alone registers constant)
 
 -- the form of a jump with this tail

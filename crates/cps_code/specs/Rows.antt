@@ -1,14 +1,15 @@
 -- Rows of a table of instructions: how each is written, what it finds in the operands of a statement, and the form that it has.
 use Prim.Native.Char.{code}
-use Rattle.std.specs.Prelude.{ℕ, ◌+◌, ◌*◌, ◌^◌, Bool, true, false, ◌&&◌, not, ◌==◌, List, [], ◌∷◌, reverse, length, slice_index, bytes_eq, codes, Option, None, Some, option_map, option_and_then, if◌then◌else◌}
+use Rattle.std.specs.Prelude.{ℕ, ◌+◌, ◌*◌, ◌^◌, Bool, true, false, ◌&&◌, not, ◌==◌, List, [], ◌∷◌, reverse, length, slice_index, bytes_eq, codes, Option, None, Some, option_map, option_and_then, is_some, if◌then◌else◌}
 use Rattle.std.specs.Option.{option_or}
 use Rattle.cps_expr.specs.declared.radix.Radix.{Radix}
+use Rattle.cps_expr.specs.declared.machine.Machine.TheVariants.{Cp}
 use Rattle.cps_expr.specs.Expression.{onto_first, expression_of}
 use Rattle.cps_expr.specs.OperandList.{only_one}
-use Rattle.cps_expr.specs.Term.{Term}
 use Rattle.cps_code.specs.declared.digits.Digits.{Digits}
 use Rattle.cps_code.specs.declared.hole.Hole.{Hole}
 use Rattle.cps_code.specs.declared.hole.HoleKind.TheVariants.{Value, Count}
+use Rattle.cps_code.specs.declared.hole.Operand.{Operand}
 use Rattle.cps_code.specs.declared.hole.Operand.TheVariants.{Expression}
 use Rattle.cps_code.specs.declared.register.Letter.{Letter}
 use Rattle.cps_code.specs.declared.register.Letter.TheVariants.{A, B, X}
@@ -17,15 +18,16 @@ use Rattle.cps_text.specs.Operands.{operands_of}
 use Rattle.cps_text.specs.Text.{among}
 use Rattle.cps_code.specs.Bits.{constant_bits, count_bits}
 use Rattle.cps_code.specs.Digits.{first_digit, with_digit, digits_in, octal}
-use Rattle.cps_code.specs.Sum.{Sum, sum_of}
+use Rattle.cps_code.specs.Operand.{operand_of}
+use Rattle.cps_code.specs.Sum.{Summed, summed_of}
 use Rattle.cps_code.specs.Form.{Form}
 
 -- ---- how a row is written
 
--- operands of registers, and behind them one of an expression or none
+-- operands of registers, and behind them one for a hole, told by its letter, or none
 pub record Pattern : Type 0 where
   pub registers : List (List ℕ)
-  pub has_expression : Bool
+  pub hole : Option ℕ
 
 -- a register term of a sum: its sign, its letter, and the letter that stands for its digit
 pub record RowTerm : Type 0 where
@@ -59,7 +61,7 @@ pub record Row : Type 0 where
   pub f : ℕ
   pub form : RowForm
 
--- ---- the texts of a row: K stands for an expression of 18 bits, n for one of a count; they come last
+-- ---- the texts of a row: K stands for an expression or a literal in 18 bits, n for the expression of a count; they come last
 
 abbrev pub is_hole : ℕ → Bool
 is_hole = among (codes "Kn")
@@ -69,10 +71,10 @@ cut_at_commas [] = [] ∷ []
 cut_at_commas (character ∷ text) = if among (codes ",") character then [] ∷ cut_at_commas text else onto_first character (cut_at_commas text)
 
 abbrev pub pattern_of : List (List ℕ) → Pattern
-pattern_of [] = record { registers = []; has_expression = false }
+pattern_of [] = record { registers = []; hole = None }
 pattern_of (text ∷ texts) =
-    if is_hole (slice_index text 0) then record { registers = []; has_expression = true }
-    else record { registers = text ∷ (pattern_of texts).registers; has_expression = (pattern_of texts).has_expression }
+    if is_hole (slice_index text 0) then record { registers = []; hole = Some (slice_index text 0) }
+    else record { registers = text ∷ (pattern_of texts).registers; hole = (pattern_of texts).hole }
 
 abbrev pub code_of : List ℕ → Code
 code_of [] = record { digits = []; hole = None }
@@ -129,17 +131,17 @@ named (o ∷ operations) name =
 
 -- ---- what a row finds in operands
 
--- the operands of a statement, and the sum that the only one writes, if there is one
+-- the operands of a statement, and the registers and the K that the only one writes, if it writes such
 pub record Operands : Type 0 where
   pub texts : List (List ℕ)
-  pub sum : Option Sum
+  pub sum : Option Summed
 
--- the sum that the only operand of a tail writes; None where it writes none, or where there is another number of operands
-abbrev pub operand_of : Radix → List ℕ → Option Sum
-operand_of radix tail = only_one (sum_of radix) (operands_of tail)
+-- what the only operand of a tail writes; None where it writes no registers and no K, or where there is another number of operands
+abbrev pub only_sum : Radix → List ℕ → Option Summed
+only_sum radix tail = only_one (summed_of radix) (operands_of tail)
 
 abbrev pub operands_in : Radix → List ℕ → Operands
-operands_in radix tail = record { texts = operands_of tail; sum = operand_of radix tail }
+operands_in radix tail = record { texts = operands_of tail; sum = only_sum radix tail }
 
 -- the sum with its register terms turned round
 abbrev pub turned : Operands → Operands
@@ -148,10 +150,10 @@ turned operands = record {
   sum = option_map (λ s. record { registers = reverse s.registers; constant = s.constant }) operands.sum;
 }
 
--- the digits, and the expression, [] without one
+-- the digits, and what is put into the hole, if there is one
 pub record Found : Type 0 where
   pub digits : Digits
-  pub expression : List Term
+  pub operand : Option Operand
 
 -- the digits of the operands of registers, and the operands behind them
 abbrev pub registers_in : List (List ℕ) → List (List ℕ) → Digits → Option (Digits × List (List ℕ))
@@ -159,13 +161,20 @@ registers_in [] texts digits = Some (digits, texts)
 registers_in (letters ∷ registers) [] digits = None
 registers_in (letters ∷ registers) (text ∷ texts) digits = option_and_then (registers_in registers texts) (digits_in letters text digits)
 
-abbrev pub found_behind : Radix → Bool → Digits × List (List ℕ) → Option Found
-found_behind radix true left = option_map (λ e. record { digits = left.0; expression = e }) (only_one (expression_of radix) left.1)
-found_behind radix false (digits, []) = Some (record { digits = digits; expression = [] })
-found_behind radix false (digits, text ∷ texts) = None
+abbrev pub is_constant : ℕ → Bool
+is_constant letter = letter == code "K"
+
+-- the only operand, for a hole of this letter: K takes an expression or a literal, n an expression alone
+abbrev pub only_for : Radix → ℕ → List (List ℕ) → Option Operand
+only_for radix letter texts = if is_constant letter then only_one (operand_of Cp radix) texts else option_map Expression (only_one (expression_of radix) texts)
+
+abbrev pub found_behind : Radix → Option ℕ → Digits × List (List ℕ) → Option Found
+found_behind radix (Some letter) left = option_map (λ o. record { digits = left.0; operand = Some o }) (only_for radix letter left.1)
+found_behind radix None (digits, []) = Some (record { digits = digits; operand = None })
+found_behind radix None (digits, text ∷ texts) = None
 
 abbrev pub found_in_fields : Radix → Pattern → List (List ℕ) → Digits → Option Found
-found_in_fields radix pattern texts digits = option_and_then (found_behind radix pattern.has_expression) (registers_in pattern.registers texts digits)
+found_in_fields radix pattern texts digits = option_and_then (found_behind radix pattern.hole) (registers_in pattern.registers texts digits)
 
 abbrev pub same_bool : Bool → Bool → Bool
 same_bool true b = b
@@ -192,42 +201,36 @@ digits_of_terms [] (r ∷ registers) digits = None
 digits_of_terms (t ∷ terms) [] digits = None
 digits_of_terms (t ∷ terms) (r ∷ registers) digits = if is_of t r then digits_of_terms terms registers (with_digit t.digit r.digit digits) else None
 
-abbrev pub is_some_list : List Term → Bool
-is_some_list [] = false
-is_some_list (n ∷ constant) = true
-
-abbrev pub found_in_sum : List RowTerm → Bool → Digits → Sum → Option Found
+abbrev pub found_in_sum : List RowTerm → Bool → Digits → Summed → Option Found
 found_in_sum terms has_constant digits sum =
-    if same_bool (is_some_list sum.constant) has_constant
-    then option_map (λ ds. record { digits = ds; expression = sum.constant }) (digits_of_terms terms sum.registers digits)
+    if same_bool (is_some sum.constant) has_constant
+    then option_map (λ ds. record { digits = ds; operand = sum.constant }) (digits_of_terms terms sum.registers digits)
     else None
 
 -- None: the shape doesn't fit the operands
 abbrev pub found_in : Radix → Shape → Operands → Digits → Option Found
-found_in radix unread operands digits = Some (record { digits = digits; expression = [] })
+found_in radix unread operands digits = Some (record { digits = digits; operand = None })
 found_in radix (fields pattern) operands digits = found_in_fields radix pattern operands.texts digits
 found_in radix (summed terms has_constant) operands digits = option_and_then (found_in_sum terms has_constant digits) operands.sum
 
 -- ---- the form of a row
 
-abbrev pub is_constant : ℕ → Bool
-is_constant letter = letter == code "K"
-
 abbrev pub hole_width : Option ℕ → ℕ
 hole_width None = 0
 hole_width (Some letter) = if is_constant letter then constant_bits else count_bits
 
-abbrev pub hole_at : ℕ → List Term → ℕ → Hole
-hole_at first expression letter = record {
+abbrev pub hole_at : ℕ → Operand → ℕ → Hole
+hole_at first operand letter = record {
   first = first;
   width = hole_width (Some letter);
   kind = if is_constant letter then Value else Count;
-  operand = Expression expression;
+  operand = operand;
 }
 
-abbrev pub holes_behind : ℕ → Option ℕ → List Term → List Hole
-holes_behind first None expression = []
-holes_behind first (Some letter) expression = hole_at first expression letter ∷ []
+abbrev pub holes_behind : ℕ → Option ℕ → Option Operand → List Hole
+holes_behind first None operand = []
+holes_behind first (Some letter) None = []
+holes_behind first (Some letter) (Some operand) = hole_at first operand letter ∷ []
 
 -- a number with room for a hole behind it
 abbrev pub before_hole : Option ℕ → ℕ → ℕ
@@ -238,7 +241,7 @@ abbrev pub form_found : RowForm → Found → Form
 form_found row found = record {
   bits = 3 * length row.code.digits + hole_width row.code.hole;
   code = before_hole row.code.hole (octal found.digits row.code.digits);
-  holes = holes_behind (3 * length row.code.digits) row.code.hole found.expression;
+  holes = holes_behind (3 * length row.code.digits) row.code.hole found.operand;
   forces_after = row.forces;
 }
 

@@ -1,10 +1,15 @@
--- An operand: a sum of signed terms, registers and terms of an expression in any order.
--- From the manual's section on the set instructions; that all terms may stand in any order is our profile's.
+-- An operand of registers and K: a sum of signed terms, registers and terms of an expression in any order, or a literal alone.
+-- From the manual's section on the set instructions; that all terms may stand in any order, and that a literal stands alone, is our profile's.
 use Rattle.std.specs.Prelude.{ℕ, Bool, List, [], ◌∷◌, Option, None, Some, option_map, option_and_then}
+use Rattle.std.specs.Option.{option_or}
 use Rattle.cps_expr.specs.declared.radix.Radix.{Radix}
 use Rattle.cps_code.specs.declared.register.RegisterTerm.{RegisterTerm}
 use Rattle.cps_expr.specs.Expression.{is_minus, signed_texts}
 use Rattle.cps_expr.specs.Term.{Term, term_of}
+use Rattle.cps_expr.specs.declared.machine.Machine.TheVariants.{Cp}
+use Rattle.cps_code.specs.declared.hole.Operand.{Operand}
+use Rattle.cps_code.specs.declared.hole.Operand.TheVariants.{Expression, Literal}
+use Rattle.cps_code.specs.Operand.{literal_of}
 use Rattle.cps_code.specs.Register.{register_of}
 
 -- ---- terms
@@ -47,3 +52,24 @@ sum_of_texts radix (text ∷ texts) = option_and_then (λ term. option_map (with
 -- the sum that a text writes
 abbrev pub sum_of : Radix → List ℕ → Option Sum
 sum_of radix text = sum_of_texts radix (signed_texts text)
+
+-- ---- registers and K
+
+-- the register terms in their order, and K, if there is one
+pub record Summed : Type 0 where
+  pub registers : List RegisterTerm
+  pub constant : Option Operand
+
+abbrev pub constant_of : List Term → Option Operand
+constant_of [] = None
+constant_of (term ∷ terms) = Some (Expression (term ∷ terms))
+
+abbrev pub of_terms : Sum → Summed
+of_terms sum = record { registers = sum.registers; constant = constant_of sum.constant }
+
+abbrev pub of_literal : ℕ → Summed
+of_literal word = record { registers = []; constant = Some (Literal word) }
+
+-- what a text writes: a literal, which is K, or a sum whose other terms are K
+abbrev pub summed_of : Radix → List ℕ → Option Summed
+summed_of radix text = option_or (option_map of_literal (literal_of Cp radix text)) (option_map of_terms (sum_of radix text))

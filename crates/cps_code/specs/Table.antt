@@ -1,5 +1,5 @@
 -- The instructions of the central processor, as the machine's reference manual lists them: operation, operands, code.
--- In them i, j and k stand for the digits of registers, K for an expression of 18 bits and n for one of a count; f is the first
+-- In them i, j and k stand for the digits of registers, K for an expression or a literal in 18 bits and n for the expression of a count; f is the first
 -- digit of a set instruction's code. `unread` reads no operand; `written` reads operands that look like these; `summed` reads one
 -- operand, a sum of these register terms and, where `true` stands, of a K beside them. Behind a `forcing_row` a forcing is pending.
 -- That the terms of a sum may stand in any order is our profile's.

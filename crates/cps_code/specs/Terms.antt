@@ -1,12 +1,13 @@
 -- For the loop over the terms of a sum, not part of what a reader believes: sums of the code, as sums.
-use Rattle.std.specs.Prelude.{◌≡◌, ◌<◌, Bool, true, false, List, [], ◌∷◌, ◌++◌, All, IfSome}
+use Rattle.std.specs.Prelude.{◌≡◌, ◌<◌, Bool, true, false, List, [], ◌∷◌, ◌++◌, All, Some, is_some, IfSome}
 use Rattle.cps_code.specs.declared.register.RegisterTerm.{RegisterTerm}
 use Rattle.cps_code.specs.declared.sum.Registers.{Registers}
 use Rattle.cps_code.specs.declared.sum.Registers.TheVariants.{Absent, One, Two}
 use Rattle.cps_code.specs.declared.sum.KeptSum.{KeptSum}
-use Rattle.cps_code.specs.Sum.{SumTerm, register, other, Sum}
+use Rattle.cps_code.specs.declared.summed.KeptSummed.{KeptSummed}
+use Rattle.cps_expr.specs.Term.{Term}
+use Rattle.cps_code.specs.Sum.{SumTerm, register, other, Sum, Summed}
 use Rattle.cps_code.specs.declared.digits.Digits.{Digits}
-use Rattle.cps_code.specs.Rows.{is_some_list}
 
 -- a term at the end
 abbrev pub pushed : Sum → SumTerm → Sum
@@ -31,12 +32,22 @@ AreRegisters Absent = Unit {0}
 AreRegisters (One first) = IsRegister first
 AreRegisters (Two first second) = IsRegister first × IsRegister second
 
+abbrev pub is_some_list : List Term → Bool
+is_some_list [] = false
+is_some_list (term ∷ terms) = true
+
 -- what the code keeps of a sum: its registers, of which there are two at most, and its constant unless memory was refused
 pub record IsKept (kept : KeptSum) (sum : Sum) : Type 0 where
   pub registers : register_list kept.registers ≡ sum.registers
   pub has_constant : kept.has_constant ≡ is_some_list sum.constant
   pub constant : IfSome kept.constant (λ constant. constant ≡ sum.constant)
   pub digits : All IsRegister sum.registers
+
+-- the same of registers and K
+pub record IsKeptSummed (kept : KeptSummed) (summed : Summed) : Type 0 where
+  pub registers : register_list kept.registers ≡ summed.registers
+  pub has_constant : kept.has_constant ≡ is_some summed.constant
+  pub constant : IfSome kept.constant (λ operand. summed.constant ≡ Some operand)
 
 pub record AreDigits (digits : Digits) : Type 0 where
   pub f : digits.f < 8

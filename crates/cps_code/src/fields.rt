@@ -1,18 +1,20 @@
-ghost use Rattle.std.specs.Prelude.{◌≡◌, ◌<◌, ◌≤◌, ◌^◌, true, false, [], ◌∷◌, map, option_map, IfOk, IfSome, IsErrOf, MatchOption};
+ghost use Rattle.std.specs.Prelude.{◌≡◌, ◌<◌, ◌≤◌, ◌^◌, Some, None, [], ◌∷◌, map, option_map, IfOk, IfSome, IsErrOf, MatchOption};
 ghost use Rattle.cps_expr.specs.Reads.{Reads};
 ghost use Rattle.cps_text.specs.Operands.{operands_of};
 ghost use Rattle.cps_text.specs.OperandsLeft.{operands_left};
 ghost use Rattle.cps_code.specs.Rows.{registers_in, found_in_fields, form_in, form_in_row, form_of_rows, operands_in};
-ghost use Rattle.cps_code.specs.Operations.{texts, no_sum, row_of_fields, long_form, count_form};
+ghost use Rattle.cps_code.specs.Operations.{texts, no_sum, constant_in, row_of_fields, long_form, count_form};
 ghost use Rattle.cps_expr.specs.declared.radix.Radix.TheVariants.{Octal};
 ghost use Rattle.cps_code.specs.Terms.{AreDigits};
-ghost use Rattle.cps_code.specs.declared.hole.Operand.TheVariants.{Expression};
+ghost use Rattle.cps_code.specs.Operand.{IsOperand};
+ghost use Rattle.cps_expr.specs.declared.machine.Machine.TheVariants.{Cp};
 
 use super::digits::{Digits, octal, read_digits};
 use super::form::CpForm;
 use super::hole::Operand;
+use super::literal::read_operand;
 use super::operation::FieldForm;
-use cps_expr::{Expr, ExprFault, Radix, read_expression};
+use cps_expr::{Expr, ExprFault, Machine, Radix, read_only};
 use cps_text::{Operands, operands};
 use std::alloc::Global;
 
@@ -51,6 +53,7 @@ fn first_form(
     Err(ExprFault::Unreadable)
 }
 
+#[tactic(auto, using(crate::proofs::FieldLemmas::constant_found))]
 fn form_of_row(
     alloc: Global,
     row: FieldForm,
@@ -70,15 +73,15 @@ fn form_of_row(
         }
         FieldForm::Constant(registers, code) => {
             let found = read_fields(alloc, registers, digits, tail, radix)?;
-            long_form(alloc, octal(found.digits, code), found.expression, false)
+            long_form(alloc, octal(found.digits, code), found.operand, false)
         }
         FieldForm::Forcing(registers, code) => {
             let found = read_fields(alloc, registers, digits, tail, radix)?;
-            long_form(alloc, octal(found.digits, code), found.expression, true)
+            long_form(alloc, octal(found.digits, code), found.operand, true)
         }
         FieldForm::Count(code) => {
-            let found = read_fields(alloc, &[], digits, tail, radix)?;
-            count_form(alloc, octal(found.digits, code), found.expression)
+            let count = read_only(alloc, tail, radix)?;
+            count_form(alloc, octal(digits, code), count)
         }
     }
 }
@@ -86,14 +89,15 @@ fn form_of_row(
 fn long_form(
     alloc: Global,
     front: u16,
-    constant: Expr,
+    constant: Operand,
     forces_after: bool,
 ) -> Result<CpForm, ExprFault>
-    requires { front < 2 ^ 12 }
-    ensures form { IfOk result (λ form. form ≡ long_form front (Expression constant) forces_after) }
+    requires front { front < 2 ^ 12 }
+    requires fits { IsOperand Cp constant }
+    ensures form { IfOk result (λ form. form ≡ long_form front constant forces_after) }
     ensures readable { IsErrOf result ExprFault.Unreadable → ⊥ }
 {
-    match CpForm::long(alloc, front, Operand::Expression(constant), forces_after) {
+    match CpForm::long(alloc, front, constant, forces_after) {
         Ok(form) => Ok(form),
         Err(_) => Err(ExprFault::Memory),
     }
@@ -113,8 +117,8 @@ fn count_form(alloc: Global, front: u16, count: Expr) -> Result<CpForm, ExprFaul
 /// The digits of the operands, all of registers.
 fn read_registers_alone(registers: &[&[u8]], digits: Digits, tail: &[u8]) -> Option<Digits>
     requires { AreDigits digits }
-    ensures digits { found_in_fields Octal (record { registers = texts registers.now; has_expression = false }) (operands_of tail.now) digits
-        ≡ option_map (λ known. record { digits = known; expression = [] }) result }
+    ensures digits { found_in_fields Octal (record { registers = texts registers.now; hole = None }) (operands_of tail.now) digits
+        ≡ option_map (λ known. record { digits = known; operand = None }) result }
     ensures octal { IfSome result AreDigits }
 {
     let (known, mut left) = read_registers(operands(tail), registers, digits)?;
@@ -127,10 +131,10 @@ fn read_registers_alone(registers: &[&[u8]], digits: Digits, tail: &[u8]) -> Opt
 #[derive(Drop)]
 struct Found {
     digits: Digits,
-    expression: Expr,
+    operand: Operand,
 }
 
-/// The digits of the operands of registers, and the expression behind them.
+/// The digits of the operands of registers, and K behind them.
 fn read_fields(
     alloc: Global,
     registers: &[&[u8]],
@@ -139,20 +143,21 @@ fn read_fields(
     radix: Radix,
 ) -> Result<Found, ExprFault>
     requires { AreDigits digits }
-    ensures found { Reads result (option_map (λ found. record { digits = found.digits; expression = found.expression }) (found_in_fields radix (record { registers = texts registers.now; has_expression = true }) (operands_of tail.now) digits)) }
+    ensures found { Reads result (constant_in radix (texts registers.now) (operands_of tail.now) digits) }
     ensures octal { IfOk result (λ found. AreDigits found.digits) }
+    ensures fits { IfOk result (λ found. IsOperand Cp found.operand) }
 {
     let Some((digits, mut left)) = read_registers(operands(tail), registers, digits) else {
         return Err(ExprFault::Unreadable);
     };
-    let Some(operand) = left.next() else {
+    let Some(text) = left.next() else {
         return Err(ExprFault::Unreadable);
     };
     if left.next().is_some() {
         return Err(ExprFault::Unreadable);
     }
-    let expression = read_expression(alloc, operand, radix)?;
-    Ok(Found { digits, expression })
+    let operand = read_operand(alloc, text, radix, Machine::Cp)?;
+    Ok(Found { digits, operand })
 }
 
 /// The digits of the operands that begin with these of registers, and the operands behind them.

@@ -1,6 +1,8 @@
 ghost use Rattle.std.specs.Prelude.{◌≡◌, ◌<◌, ◌^◌, ◌≤◌, IfOk, length, All};
 ghost use Rattle.cps_code.specs.Bits.{parcel_bits};
 ghost use Rattle.cps_code.specs.Form.{IsForm, filled};
+ghost use Rattle.cps_code.specs.Operand.{IsOperand};
+ghost use Rattle.cps_expr.specs.declared.machine.Machine.TheVariants.{Cp};
 ghost use Rattle.cps_code.specs.Operations.{short_form, long_form, bare_form, count_form};
 
 use super::filled::Filled;
@@ -84,7 +86,8 @@ impl CpForm {
         operand: Operand,
         forces_after: bool,
     ) -> Result<CpForm, AllocError>
-        requires { front < 2 ^ 12 }
+        requires front { front < 2 ^ 12 }
+        requires fits { IsOperand Cp operand }
         ensures { IfOk result (λ form. form ≡ long_form front operand forces_after) }
     {
         let mut holes = Vec::new(alloc);

@@ -1,9 +1,9 @@
-ghost use Rattle.std.specs.Prelude.{◌≡◌, ◌<◌, ◌^◌, true, List, [], ◌∷◌, map, option_map, if◌then◌else◌, ◌↔◌, Some, None, false, length, IfOk, IfSome, IsErrOf, IsSome, IsSomeAnd, IsTrue, MatchOption};
-ghost use Rattle.cps_code.specs.Sum.{Sum};
-ghost use Rattle.cps_code.specs.Terms.{AreDigits, AreRegisters, IsKept, is_empty, register_list};
-ghost use Rattle.cps_expr.specs.Term.{Term};
-ghost use Rattle.cps_code.specs.declared.hole.Operand.TheVariants.{Expression};
-ghost use Rattle.cps_code.specs.Rows.{operand_of, operands_in, form_of_rows};
+ghost use Rattle.std.specs.Prelude.{◌≡◌, ◌<◌, ◌^◌, true, map, option_map, if◌then◌else◌, ◌↔◌, Some, None, false, IfOk, IfSome, IsErrOf, IsSome, IsSomeAnd, IsTrue};
+ghost use Rattle.cps_code.specs.Sum.{Summed};
+ghost use Rattle.cps_code.specs.Terms.{AreDigits, AreRegisters, IsKeptSummed, is_empty, register_list};
+ghost use Rattle.cps_expr.specs.declared.machine.Machine.TheVariants.{Cp};
+ghost use Rattle.cps_code.specs.Operand.{IsOperand};
+ghost use Rattle.cps_code.specs.Rows.{operands_in, form_of_rows};
 ghost use Rattle.cps_code.specs.Table.{is_operation, form_of};
 ghost use Rattle.cps_code.specs.Operations.{rows_of, row_of_fields, set_form, set_form_of, jump_form, jump_form_of, long_form, bare_form};
 
@@ -14,9 +14,9 @@ use super::hole::Operand;
 use super::operation::{FieldForm, Forms, named_operation};
 use super::register::{Letter, RegisterTerm};
 use super::set::{code_with_constant, code_without_constant, four_digits};
-use super::sum::{KeptSum, Registers, read_sum};
-use cps_expr::{Expr, ExprFault, Radix};
-use cps_text::operands;
+use super::sum::Registers;
+use super::summed::{KeptSummed, read_summed};
+use cps_expr::{ExprFault, Radix};
 use std::alloc::Global;
 use thiserror::Error;
 
@@ -100,22 +100,6 @@ fn fields_form(
     }
 }
 
-/// Reads the sum that the only operand of a tail writes. None: it writes none, or has more than two registers, or
-/// there is another number of operands.
-fn read_operand(alloc: Global, tail: &[u8], radix: Radix) -> Option<KeptSum>
-    ensures sum { MatchOption result
-        ((sum : Sum) → operand_of radix tail.now ≡ Some sum → 2 < length sum.registers)
-        (λ kept. (sum : Sum) × (operand_of radix tail.now ≡ Some sum) × IsKept kept sum) }
-    ensures registers { IfSome result (λ kept. AreRegisters kept.registers) }
-{
-    let mut operands = operands(tail);
-    let operand = operands.next()?;
-    if operands.next().is_some() {
-        return None;
-    }
-    read_sum(alloc, operand, radix)
-}
-
 fn jump_form(alloc: Global, digits: Digits, tail: &[u8], radix: Radix) -> Result<CpForm, FormFault>
     requires known { AreDigits digits }
     ensures form { IfOk result (λ form. jump_form_of radix digits tail.now ≡ Some form) }
@@ -123,19 +107,20 @@ fn jump_form(alloc: Global, digits: Digits, tail: &[u8], radix: Radix) -> Result
     ensures unreadable { IsErrOf result FormFault.Unreadable → jump_form_of radix digits tail.now ≡ None }
     ensures memory { IsErrOf result FormFault.Memory → IsSome (jump_form_of radix digits tail.now) }
 {
-    match read_operand(alloc, tail, radix) {
+    match read_summed(alloc, tail, radix) {
         None => Err(FormFault::Unreadable),
         Some(kept) => jump_form_of_sum(alloc, digits, kept),
     }
 }
 
-fn jump_form_of_sum(alloc: Global, digits: Digits, kept: KeptSum) -> Result<CpForm, FormFault>
+fn jump_form_of_sum(alloc: Global, digits: Digits, kept: KeptSummed) -> Result<CpForm, FormFault>
     requires known { AreDigits digits }
     requires registers { AreRegisters kept.registers }
-    ensures form { IfOk result (λ form. (sum : Sum) → IsKept kept sum → jump_form digits sum.registers sum.constant ≡ Some form) }
+    requires fits { IfSome kept.constant (IsOperand Cp) }
+    ensures form { IfOk result (λ form. (summed : Summed) → IsKeptSummed kept summed → jump_form digits summed.registers summed.constant ≡ Some form) }
     ensures no_operation { IsErrOf result FormFault.NoOperation → ⊥ }
-    ensures unreadable { IsErrOf result FormFault.Unreadable → (sum : Sum) → IsKept kept sum → jump_form digits sum.registers sum.constant ≡ None }
-    ensures memory { IsErrOf result FormFault.Memory → (sum : Sum) → IsKept kept sum → IsSome (jump_form digits sum.registers sum.constant) }
+    ensures unreadable { IsErrOf result FormFault.Unreadable → (summed : Summed) → IsKeptSummed kept summed → jump_form digits summed.registers summed.constant ≡ None }
+    ensures memory { IsErrOf result FormFault.Memory → (summed : Summed) → IsKeptSummed kept summed → IsSome (jump_form digits summed.registers summed.constant) }
 {
     let Some(front) = jump_front(kept.registers) else {
         return Err(FormFault::Unreadable);
@@ -156,9 +141,9 @@ fn jump_form_of_sum(alloc: Global, digits: Digits, kept: KeptSum) -> Result<CpFo
 /// The first four digits of a jump to a register, if it is one, and a constant.
 fn jump_front(registers: Registers) -> Option<u16>
     requires { AreRegisters registers }
-    ensures front { (digits : Digits) (first : Term) (constant : List Term)
-        → jump_form digits (register_list registers) (first ∷ constant) ≡ option_map (λ front. long_form front (Expression (first ∷ constant)) true) result }
-    ensures bare { (digits : Digits) → jump_form digits (register_list registers) [] ≡ (if is_empty registers then None else option_map bare_form result) }
+    ensures front { (digits : Digits) (constant : Operand)
+        → jump_form digits (register_list registers) (Some constant) ≡ option_map (λ front. long_form front constant true) result }
+    ensures bare { (digits : Digits) → jump_form digits (register_list registers) None ≡ (if is_empty registers then None else option_map bare_form result) }
     ensures small { IfSome result (λ front. front < 4096) }
 {
     match registers {
@@ -178,13 +163,14 @@ fn jump_front(registers: Registers) -> Option<u16>
 fn long_form(
     alloc: Global,
     front: u16,
-    constant: Option<Expr>,
+    constant: Option<Operand>,
     forces_after: bool,
 ) -> Option<CpForm>
-    requires { front < 2 ^ 12 }
-    ensures { IfSome result (λ form. IsSomeAnd constant (λ constant. form ≡ long_form front (Expression constant) forces_after)) }
+    requires front { front < 2 ^ 12 }
+    requires fits { IfSome constant (IsOperand Cp) }
+    ensures { IfSome result (λ form. IsSomeAnd constant (λ constant. form ≡ long_form front constant forces_after)) }
 {
-    match CpForm::long(alloc, front, Operand::Expression(constant?), forces_after) {
+    match CpForm::long(alloc, front, constant?, forces_after) {
         Ok(form) => Some(form),
         Err(_) => None,
     }
@@ -198,19 +184,20 @@ fn set_form(alloc: Global, digits: Digits, tail: &[u8], radix: Radix) -> Result<
     ensures unreadable { IsErrOf result FormFault.Unreadable → set_form_of radix digits tail.now ≡ None }
     ensures memory { IsErrOf result FormFault.Memory → IsSome (set_form_of radix digits tail.now) }
 {
-    match read_operand(alloc, tail, radix) {
+    match read_summed(alloc, tail, radix) {
         None => Err(FormFault::Unreadable),
         Some(kept) => form_of_sum(alloc, digits, kept),
     }
 }
 
-fn form_of_sum(alloc: Global, digits: Digits, kept: KeptSum) -> Result<CpForm, FormFault>
+fn form_of_sum(alloc: Global, digits: Digits, kept: KeptSummed) -> Result<CpForm, FormFault>
     requires known { AreDigits digits }
     requires registers { AreRegisters kept.registers }
-    ensures form { IfOk result (λ form. (sum : Sum) → IsKept kept sum → set_form digits sum.registers sum.constant ≡ Some form) }
+    requires fits { IfSome kept.constant (IsOperand Cp) }
+    ensures form { IfOk result (λ form. (summed : Summed) → IsKeptSummed kept summed → set_form digits summed.registers summed.constant ≡ Some form) }
     ensures no_operation { IsErrOf result FormFault.NoOperation → ⊥ }
-    ensures unreadable { IsErrOf result FormFault.Unreadable → (sum : Sum) → IsKept kept sum → set_form digits sum.registers sum.constant ≡ None }
-    ensures memory { IsErrOf result FormFault.Memory → (sum : Sum) → IsKept kept sum → IsSome (set_form digits sum.registers sum.constant) }
+    ensures unreadable { IsErrOf result FormFault.Unreadable → (summed : Summed) → IsKeptSummed kept summed → set_form digits summed.registers summed.constant ≡ None }
+    ensures memory { IsErrOf result FormFault.Memory → (summed : Summed) → IsKeptSummed kept summed → IsSome (set_form digits summed.registers summed.constant) }
 {
     if kept.has_constant {
         match code_with_constant(digits, kept.registers) {
@@ -232,7 +219,7 @@ fn form_of_sum(alloc: Global, digits: Digits, kept: KeptSum) -> Result<CpForm, F
 fn short_form(alloc: Global, digits: Digits, registers: Registers) -> Option<CpForm>
     requires known { AreDigits digits }
     requires digits { AreRegisters registers }
-    ensures { set_form digits (register_list registers) [] ≡ result }
+    ensures { set_form digits (register_list registers) None ≡ result }
 {
     match code_without_constant(digits, registers) {
         None => None,

@@ -1,6 +1,5 @@
-ghost use Rattle.cps_expr.specs.Term.{Term};
-ghost use Rattle.cps_code.specs.declared.hole.Operand.TheVariants.{Expression};
-ghost use Rattle.std.specs.Prelude.{◌≡◌, ◌<◌, ◌+◌, ◌*◌, [], ◌∷◌, false, List, IfSome, option_map};
+ghost use Rattle.std.specs.Prelude.{◌≡◌, ◌<◌, ◌+◌, ◌*◌, [], ◌∷◌, Some, None, false, IfSome, option_map};
+ghost use Rattle.cps_code.specs.declared.hole.Operand.{Operand};
 ghost use Rattle.cps_code.specs.Terms.{IsRegister, AreRegisters, AreDigits, register_list};
 ghost use Rattle.cps_code.specs.Operations.{set_form, set_form_as_it_stands, long_form, short_form};
 
@@ -12,8 +11,8 @@ use super::sum::Registers;
 pub fn code_with_constant(digits: Digits, registers: Registers) -> Option<u16>
     requires known { AreDigits digits }
     requires digits { AreRegisters registers }
-    ensures form { (first : Term) (constant : List Term)
-        → set_form digits (register_list registers) (first ∷ constant) ≡ option_map (λ code. long_form code (Expression (first ∷ constant)) false) result }
+    ensures form { (constant : Operand)
+        → set_form digits (register_list registers) (Some constant) ≡ option_map (λ code. long_form code constant false) result }
     ensures small { IfSome result (λ code. code < 4096) }
 {
     match registers {
@@ -47,7 +46,7 @@ pub fn code_with_constant(digits: Digits, registers: Registers) -> Option<u16>
 pub fn code_without_constant(digits: Digits, registers: Registers) -> Option<u16>
     requires known { AreDigits digits }
     requires digits { AreRegisters registers }
-    ensures form { set_form digits (register_list registers) [] ≡ option_map short_form result }
+    ensures form { set_form digits (register_list registers) None ≡ option_map short_form result }
     ensures small { IfSome result (λ code. code < 32768) }
 {
     match registers {
@@ -63,7 +62,7 @@ pub fn code_without_constant(digits: Digits, registers: Registers) -> Option<u16
 fn code_alone(digits: Digits, register: RegisterTerm) -> Option<u16>
     requires known { AreDigits digits }
     requires digit { IsRegister register }
-    ensures form { set_form digits (register ∷ []) [] ≡ option_map short_form result }
+    ensures form { set_form digits (register ∷ []) None ≡ option_map short_form result }
     ensures small { IfSome result (λ code. code < 32768) }
 {
     match register {
@@ -95,7 +94,7 @@ fn code_alone(digits: Digits, register: RegisterTerm) -> Option<u16>
 fn code_of_pair(digits: Digits, j: RegisterTerm, k: RegisterTerm) -> Option<u16>
     requires known { AreDigits digits }
     requires digits { IsRegister j × IsRegister k }
-    ensures form { set_form_as_it_stands digits (j ∷ k ∷ []) [] ≡ option_map short_form result }
+    ensures form { set_form_as_it_stands digits (j ∷ k ∷ []) None ≡ option_map short_form result }
     ensures small { IfSome result (λ code. code < 32768) }
 {
     let second = match (j.letter, j.is_minus, k.letter, k.is_minus) {

@@ -1,3 +1,4 @@
 pub mod RowLemmas
+pub mod ReadLemmas
 pub mod WorkedRows
 pub mod OneRow

@@ -1,6 +1,7 @@
 -- The instructions of a peripheral processor, as the machine's reference manual lists them: operation, operands, the operation's six bits.
 -- Unread: the variable field isn't read, and the other six bits are 0. Target: one operand, whose distance from the instruction is d.
 -- Short: one operand d. Constant: one operand of 18 bits, the last 12 of them in a second word. Memory: `m` or `m,d`, with m as a second word.
+-- A constant and m may be literals.
 use Rattle.std.specs.Prelude.{ℕ, Bool, List, [], ◌∷◌, bytes_eq, codes, Option, None, Some, is_some, option_and_then, if◌then◌else◌}
 use Rattle.cps_expr.specs.declared.radix.Radix.{Radix}
 use Rattle.cps_text.specs.Operands.{operands_of}

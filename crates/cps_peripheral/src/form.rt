@@ -1,5 +1,7 @@
 ghost use Rattle.std.specs.Prelude.{◌≡◌, ◌<◌, ◌^◌, ◌≤◌, [], ◌∷◌, IfOk, length, All};
+ghost use Rattle.cps_expr.specs.declared.machine.Machine.TheVariants.{Pp};
 ghost use Rattle.cps_code.specs.Form.{filled};
+ghost use Rattle.cps_code.specs.Operand.{IsOperand};
 ghost use Rattle.cps_peripheral.specs.Forms.{IsPpForm, one_word, two_words, hole_of_d, hole_of_constant, hole_of_m, holes_of_d};
 
 use cps_code::{Filled, Hole, HoleKind, Operand, fill_holes};
@@ -76,7 +78,8 @@ impl PpForm {
         number: u8,
         operand: Operand,
     ) -> Result<PpForm, AllocError>
-        requires { number < 64 }
+        requires number { number < 64 }
+        requires fits { IsOperand Pp operand }
         ensures { IfOk result (λ form. form ≡ two_words number (hole_of_constant operand ∷ [])) }
     {
         let mut holes = Vec::new(alloc);
@@ -100,7 +103,8 @@ impl PpForm {
         address: Operand,
         index: Option<Expr>,
     ) -> Result<PpForm, AllocError>
-        requires { number < 64 }
+        requires number { number < 64 }
+        requires fits { IsOperand Pp address }
         ensures { IfOk result (λ form. form ≡ two_words number (hole_of_m address ∷ holes_of_d index)) }
     {
         let mut holes = Vec::new(alloc);

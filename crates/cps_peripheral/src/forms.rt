@@ -7,8 +7,8 @@ ghost use Rattle.cps_peripheral.specs.Table.{is_operation, form_of};
 use super::form::PpForm;
 use super::layout::Layout;
 use super::operation::named_operation;
-use super::reads::read_memory;
-use cps_code::{FormFault, HoleKind, Operand};
+use super::reads::{read_constant, read_memory};
+use cps_code::{FormFault, HoleKind};
 use cps_expr::{ExprFault, Radix, read_only};
 use std::alloc::{AllocError, Global};
 
@@ -75,12 +75,12 @@ fn read_form(
             or_memory(PpForm::short(alloc, number, HoleKind::Value, expression))
         }
         Layout::Constant => {
-            let constant = read_only(alloc, tail, radix)?;
-            or_memory(PpForm::constant(alloc, number, Operand::Expression(constant)))
+            let constant = read_constant(alloc, tail, radix)?;
+            or_memory(PpForm::constant(alloc, number, constant))
         }
         Layout::Memory => {
             let (address, index) = read_memory(alloc, tail, radix)?;
-            or_memory(PpForm::memory(alloc, number, Operand::Expression(address), index))
+            or_memory(PpForm::memory(alloc, number, address, index))
         }
     }
 }

@@ -1,10 +1,10 @@
 use Rattle.std.proofs.Common.{refl}
 use Rattle.cps_text.specs.Operands.{operands_of}
 use Rattle.cps_code.specs.Operations.{jump_forms}
-use Rattle.cps_code.specs.Rows.{operand_of}
+use Rattle.cps_code.specs.Rows.{only_sum}
 use Rattle.cps_code.proofs.SetLemmas.{no_form}
 use Rattle.cps_code.proofs.forms.jump_form.Goals as goal
 
 pub returns-in-None-clause-unreadable : goal.returns-in-None-clause-unreadable
 returns-in-None-clause-unreadable c = λ is.
-    no_form c.args.radix c.args.digits jump_forms (operands_of c.args.tail.now) (operand_of c.args.radix c.args.tail.now) refl c.in-None.ensures.sum
+    no_form c.args.radix c.args.digits jump_forms (operands_of c.args.tail.now) (only_sum c.args.radix c.args.tail.now) refl c.in-None.ensures.sum
