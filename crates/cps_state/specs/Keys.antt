@@ -31,6 +31,7 @@ abbrev pub same_key : Key → Key → Bool
 same_key key.Control key.Control = true
 same_key (key.Counter a) (key.Counter b) = same_block a b
 same_key (key.Label a) (key.Label b) = same_name a b
+same_key (key.Setting a) (key.Setting b) = same_name a b
 same_key key.Uses key.Uses = true
 same_key key.Blocks key.Blocks = true
 same_key _ _ = false
@@ -114,3 +115,7 @@ count_of _ = 0
 -- what the labels of a state stand for
 abbrev pub labels_of : State → Values
 labels_of state name = value_of (state (key.Label name))
+
+-- the values that SET gave to symbols of a state
+abbrev pub settings_of : State → Values
+settings_of state name = value_of (state (key.Setting name))

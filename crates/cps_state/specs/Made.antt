@@ -1,20 +1,25 @@
 -- What a statement made in pass one, for pass two. Our own.
-use Rattle.std.specs.Prelude.{ℕ, ◌*◌, ◌%◌, ◌^◌, ◌<◌, ◌≤◌, Bool, false, List, [], ◌∷◌, All, Option, None}
+use Rattle.std.specs.Prelude.{ℕ, ◌*◌, ◌%◌, ◌^◌, ◌<◌, ◌≤◌, Bool, false, List, [], ◌∷◌, flat_map, All, Option, None}
 use Rattle.cps_text.specs.declared.name.Name.{Name}
 use Rattle.cps_expr.specs.declared.machine.Machine.{Machine}
 use Rattle.cps_expr.specs.declared.machine.Machine.TheVariants.{Cp}
+use Rattle.cps_expr.specs.Expression.{names_of}
 use Rattle.cps_expr.specs.Item.{bits_of}
+use Rattle.cps_expr.specs.Value.{IsInRange}
 use Rattle.cps_code.specs.Image.{Piece}
+use Rattle.cps_code.specs.Operand.{operand_names, operand_literals}
 use Rattle.cps_state.specs.declared.flags.Flags.{Flags}
 use Rattle.cps_state.specs.declared.made.Content.{Content}
 use Rattle.cps_state.specs.declared.made.Content.TheVariants.{Instruction, Peripheral, Value, Number, Unsized}
+use Rattle.cps_state.specs.declared.made.Held.{Held}
 use Rattle.cps_state.specs.declared.made.Shown.{Shown}
 use Rattle.cps_state.specs.declared.made.Shown.TheVariants.{Nothing}
 use Rattle.cps_state.specs.Machines.{limit, behind}
 
 -- The flags of pass one; the program's name where the statement gives it; the machine, the block, and what fills the bits that were skipped;
 -- the place where the statement starts, and its contents from there on, one behind the other; so many words of zeros from there on; what else
--- its row shows. With `only_flags`, of a statement that makes nothing, the contents are no bits: they only give flags.
+-- its row shows. With `only_flags`, of a statement that makes nothing, the contents are no bits: they only give flags. `held` are the symbols that its
+-- contents read and that SET had given a value by then, in their order; all others stand for their labels in pass two.
 pub record Made : Type 0 where
   pub flags : Flags
   pub program : Option Name
@@ -26,6 +31,7 @@ pub record Made : Type 0 where
   pub zeros : ℕ
   pub only_flags : Bool
   pub shown : Shown
+  pub held : List Held
 
 -- a statement that does nothing but have flags
 abbrev pub nothing_made : Flags → Made
@@ -40,6 +46,7 @@ nothing_made flags = record {
   zeros = 0;
   only_flags = false;
   shown = Nothing;
+  held = [];
 }
 
 abbrev pub no_flags : Flags
@@ -58,6 +65,24 @@ abbrev pub end_of : Machine → ℕ → List Content → ℕ
 end_of machine at [] = at
 end_of machine at (content ∷ contents) = end_of machine (behind machine at (width_of content)) contents
 
+-- ---- what contents name
+
+-- the symbols that the expressions of a content read
+abbrev pub content_names : Content → List Name
+content_names (Instruction form) = flat_map (λ hole. operand_names hole.operand) form.holes
+content_names (Peripheral form) = flat_map (λ hole. operand_names hole.operand) form.holes
+content_names (Value width terms) = names_of terms
+content_names (Number width number) = []
+content_names (Unsized terms) = names_of terms
+
+-- the words of the literals that it names
+abbrev pub content_literals : Content → List ℕ
+content_literals (Instruction form) = flat_map (λ hole. operand_literals hole.operand) form.holes
+content_literals (Peripheral form) = flat_map (λ hole. operand_literals hole.operand) form.holes
+content_literals (Value width terms) = []
+content_literals (Number width number) = []
+content_literals (Unsized terms) = []
+
 -- ---- what each statement keeps
 
 -- values and numbers have 60 bits at most, and a number fits its bits
@@ -65,6 +90,10 @@ abbrev pub IsContent : Content → Type 0
 IsContent (Value width expression) = (0 < width) × (width ≤ 60)
 IsContent (Number width number) = (0 < width) × (width ≤ 60) × (number < 2 ^ width)
 IsContent _ = Unit {0}
+
+-- a value that is held is in the range of expressions
+abbrev pub IsHeld : Held → Type 0
+IsHeld held = IsInRange held.value
 
 -- contents that are bits stand in words of the machine
 pub record HaveRoom (machine : Machine) (start : ℕ) (contents : List Content) : Type 0 where

@@ -18,6 +18,8 @@ pub enum Key {
     Counter(Option<Name>),
     /// The value of a symbol.
     Label(Name),
+    /// The value that SET gave a symbol.
+    Setting(Name),
     /// The blocks that USE left and may go back to.
     Uses,
     /// How many named blocks USE has begun.
@@ -36,7 +38,7 @@ pub struct Head {
 /// The part of a program.
 #[derive(Clone, Copy, Debug, PartialEq, Eq)]
 pub enum Phase {
-    /// Before the first statement other than IDENT, ABS, PERIPH, BASE, EQU, `=` and the listing operations.
+    /// Before the first statement other than IDENT, ABS, PERIPH, BASE, EQU, `=`, SET and the listing operations.
     Head(Head),
     Body,
     /// Behind END.
@@ -124,6 +126,7 @@ pub fn is_same_key(a: Key, b: Key) -> bool
         (Key::Control, Key::Control) => true,
         (Key::Counter(a), Key::Counter(b)) => is_same_block(a, b),
         (Key::Label(a), Key::Label(b)) => is_same_name(a, b),
+        (Key::Setting(a), Key::Setting(b)) => is_same_name(a, b),
         (Key::Uses, Key::Uses) | (Key::Blocks, Key::Blocks) => true,
         _ => false,
     }

@@ -4,7 +4,7 @@ ghost use Rattle.std.specs.Option.{option_to_list};
 ghost use Rattle.cps_code.specs.Image.{piece_of};
 ghost use Rattle.cps_expr.specs.Item.{bits_of};
 ghost use Rattle.cps_state.specs.Machines.{limit};
-ghost use Rattle.cps_state.specs.Made.{nothing_made, width_of, end_of, IsContent, HaveRoom};
+ghost use Rattle.cps_state.specs.Made.{nothing_made, width_of, end_of, IsContent, IsHeld, HaveRoom};
 
 use crate::flags::Flags;
 use crate::machines::{WORD, behind, limit_of};
@@ -74,6 +74,13 @@ pub enum Shown {
     Start,
 }
 
+/// A symbol that an expression of the statement reads, and the value that SET had given it by then.
+#[derive(Clone, Copy, Debug, PartialEq, Eq)]
+pub struct Held {
+    pub name: Name,
+    pub value: Value,
+}
+
 /// What a statement made, for pass two.
 #[derive(Drop)]
 pub struct Made {
@@ -87,13 +94,14 @@ pub struct Made {
     zeros: u32,
     only_flags: bool,
     shown: Shown,
+    held: Vec<Held>,
 }
 
 impl Model for Made {
     ghost use Rattle.std.specs.Prelude.{◌≡◌, All, false, option_map};
     ghost use Rattle.std.specs.Option.{option_to_list};
     ghost use Rattle.cps_code.specs.Image.{piece_of};
-    ghost use Rattle.cps_state.specs.Made.{Made, IsContent, HaveRoom};
+    ghost use Rattle.cps_state.specs.Made.{Made, IsContent, IsHeld, HaveRoom};
 
     ghost Value = { Made };
 
@@ -108,9 +116,10 @@ impl Model for Made {
       zeros = made.zeros;
       only_flags = made.only_flags;
       shown = made.shown;
+      held = made.held.items;
     } };
 
-    ghost invariant = { λ made. All IsContent made.contents.items × (made.only_flags ≡ false → HaveRoom made.machine made.start made.contents.items) };
+    ghost invariant = { λ made. All IsContent made.contents.items × All IsHeld made.held.items × (made.only_flags ≡ false → HaveRoom made.machine made.start made.contents.items) };
 }
 
 impl Made {
@@ -129,6 +138,7 @@ impl Made {
             zeros: 0,
             only_flags: false,
             shown: Shown::Nothing,
+            held: Vec::new(alloc),
         }
     }
 
@@ -194,6 +204,7 @@ impl Made {
             zeros,
             only_flags: false,
             shown: Shown::Start,
+            held: Vec::new(alloc),
         }
     }
 
@@ -205,10 +216,12 @@ impl Made {
         filling: Option<Piece>,
         start: u32,
         contents: Vec<Content>,
+        held: Vec<Held>,
     ) -> Made
         requires each { All IsContent contents.items }
+        requires held { All IsHeld held.items }
         requires room { HaveRoom machine start contents.items }
-        ensures { result ≡ record (nothing_made flags) { machine = machine; block = block; filling = option_to_list (option_map piece_of filling); start = start; contents = contents.items } }
+        ensures { result ≡ record (nothing_made flags) { machine = machine; block = block; filling = option_to_list (option_map piece_of filling); start = start; contents = contents.items; held = held.items } }
     {
         Made {
             flags,
@@ -221,6 +234,7 @@ impl Made {
             zeros: 0,
             only_flags: false,
             shown: Shown::Nothing,
+            held,
         }
     }
 
@@ -232,9 +246,11 @@ impl Made {
         filling: Option<Piece>,
         start: u32,
         contents: Vec<Content>,
+        held: Vec<Held>,
     ) -> Made
-        requires { All IsContent contents.items }
-        ensures { result ≡ record (nothing_made flags) { machine = machine; block = block; filling = option_to_list (option_map piece_of filling); start = start; contents = contents.items; only_flags = true } }
+        requires each { All IsContent contents.items }
+        requires held { All IsHeld held.items }
+        ensures { result ≡ record (nothing_made flags) { machine = machine; block = block; filling = option_to_list (option_map piece_of filling); start = start; contents = contents.items; only_flags = true; held = held.items } }
     {
         Made {
             flags,
@@ -247,6 +263,7 @@ impl Made {
             zeros: 0,
             only_flags: true,
             shown: Shown::Nothing,
+            held,
         }
     }
 
@@ -320,5 +337,13 @@ impl Made {
         ensures { result ≡ self.now.shown }
     {
         self.shown
+    }
+
+    /// The symbols that the contents read and that SET had given a value by then.
+    pub fn held(&self) -> &[Held]
+        ensures held { result.now ≡ self.now.held }
+        ensures each { All IsHeld self.now.held }
+    {
+        self.held.as_slice()
     }
 }
