@@ -1,30 +1,34 @@
 -- The outcome of a line depends on what its statements name alone.
-use Rattle.std.proofs.Common.{◌≡◌, ℕ, ◌+◌, ◌/◌, Bool, true, false, List, [], ◌∷◌, ◌++◌, flat_map, Option, Some, pos, refl, ap, ◌∙◌, arith}
-use Rattle.std.specs.Prelude.{All, map, is_none, not, unwrap_or, option_map, nat_abs, ℤ, ◌||◌, ◌+ℤ◌, if◌then◌else◌}
+use Rattle.std.proofs.Common.{◌≡◌, ℕ, ◌+◌, ◌/◌, Bool, true, false, List, [], ◌∷◌, ◌++◌, flat_map, Option, Some, pos, get_or, refl, sym, ap, ◌∙◌, arith}
+use Rattle.std.specs.Prelude.{All, map, is_none, not, unwrap_or, option_map, nat_abs, nat_le, filter, ℤ, ◌||◌, ◌+ℤ◌, if◌then◌else◌}
 use Rattle.std.specs.List.{list_any}
 use Rattle.std.proofs.lemmas.List.Elements.{All-nil, All-cons, All-tail}
 use Rattle.cps_text.specs.declared.name.Name.{Name}
 use Rattle.cps_expr.specs.declared.machine.Machine.{Machine}
 use Rattle.cps_expr.specs.declared.value.Value.{Value}
 use Rattle.cps_expr.specs.Expression.{Expression, names_of}
-use Rattle.cps_expr.specs.Value.{Values, AgreeOn, plain, limited, has_undefined}
+use Rattle.cps_expr.specs.Value.{AgreeOn, plain, limited, same_name}
 use Rattle.cps_expr.proofs.ValueAlone.{value-alone, undefined-alone}
 use Rattle.cps_code.specs.Bits.{word_bits}
 use Rattle.cps_code.specs.declared.hole.Hole.{Hole}
+use Rattle.cps_code.specs.declared.hole.Operand.{Operand}
+use Rattle.cps_code.specs.declared.hole.Operand.TheVariants as operand
+use Rattle.cps_code.specs.Operand.{operand_names, operand_literals}
 use Rattle.cps_code.specs.Form.{Form, filled, fits_width, put_value, complemented}
 use Rattle.cps_state.specs.declared.flags.Flags.{Flags}
 use Rattle.cps_state.specs.declared.item.Item.{Item}
 use Rattle.cps_state.specs.declared.made.Content.{Content}
 use Rattle.cps_state.specs.declared.made.Content.TheVariants as content
+use Rattle.cps_state.specs.declared.made.Held.{Held}
 use Rattle.cps_state.specs.declared.made.Shown.{Shown}
 use Rattle.cps_state.specs.declared.made.Shown.TheVariants as shown
 use Rattle.cps_state.specs.Course.{Trace}
 use Rattle.cps_state.specs.Flags.{joined}
-use Rattle.cps_state.specs.Machines.{behind}
-use Rattle.cps_state.specs.Made.{Made, no_flags, width_of}
+use Rattle.cps_state.specs.Machines.{limit, behind}
+use Rattle.cps_state.specs.Made.{Made, no_flags, width_of, content_names, content_literals}
 use Rattle.cps_final.specs.declared.row.Row.{Row}
-use Rattle.cps_final.specs.Finals.{block}
-use Rattle.cps_final.specs.Outcome.{Resolved, labels_by, address_of, base_in, plain_offset, value_at, number_at, number_for, form_number, form_flags, expression_flags, number_of, value_flags, first_address, limit_flags, digits_for, first_digits, second_digits, blank_row, row_at, content_rows, with_contents, final_of, statement_row, rows_with, rows_of, pieces_at, zeros_at, placed, content_pieces, contents_of, pieces_of, content_names, names_read, names_defined, outcome_of, blocks_shown, AgreeOnMade, AgreeOnNamed}
+use Rattle.cps_final.specs.Finals.{block, label, literal}
+use Rattle.cps_final.specs.Outcome.{Resolved, address_of, base_in, final_of, values_in, literal_in, Known, known_in, plain_offset, value_at, number_at, expression_flags, operand_number, is_valueless, reads_undefined, number_for, form_number, form_flags, number_of, value_flags, first_address, limit_flags, literal_flags, digits_for, first_digits, second_digits, blank_row, row_at, content_rows, with_contents, statement_row, rows_with, rows_of, pieces_at, zeros_at, placed, content_pieces, contents_of, pieces_of, names_read, names_defined, outcome_of, blocks_shown, AgreeOnMade, AgreeOnNamed}
 
 all-head : {T : Type 0} (P : T → Type 0) (x : T) (xs : List T) → All P (x ∷ xs) → P x
 all-head P x xs each = each 0 x (omega arith)
@@ -36,163 +40,267 @@ all-split P (x ∷ xs) ys each =
 
 -- ---- numbers and flags
 
-module _ (o f : Values) (here : ℕ) where
+module _ (o f : Known) (here : ℕ) where
   abbrev Same : List Name → Type 0
-  Same names = AgreeOn o f names
+  Same names = AgreeOn o.symbols f.symbols names
+
+  abbrev Stand : List ℕ → Type 0
+  Stand words = All (λ word. o.literals word ≡ f.literals word) words
 
   abbrev names : List Hole → List Name
-  names holes = flat_map (λ hole. names_of hole.expression) holes
+  names holes = flat_map (λ hole. operand_names hole.operand) holes
 
-  parts : (xs ys : List Name) → Same (xs ++ ys) → Same xs × Same ys
-  parts xs ys = all-split (λ (name : Name). o name ≡ f name) xs ys
+  abbrev words : List Hole → List ℕ
+  words holes = flat_map (λ hole. operand_literals hole.operand) holes
 
-  at-same : (terms : Expression) → Same (names_of terms) → value_at o here terms ≡ value_at f here terms
-  at-same terms agree = ap plain_offset (value-alone o f (plain (pos here)) terms agree)
+  names-split : (xs ys : List Name) → Same (xs ++ ys) → Same xs × Same ys
+  names-split xs ys = all-split (λ (name : Name). o.symbols name ≡ f.symbols name) xs ys
 
-  number_at-same : (terms : Expression) → Same (names_of terms) → number_at o here terms ≡ number_at f here terms
+  words-split : (xs ys : List ℕ) → Stand (xs ++ ys) → Stand xs × Stand ys
+  words-split xs ys = all-split (λ (word : ℕ). o.literals word ≡ f.literals word) xs ys
+
+  at-same : (terms : Expression) → Same (names_of terms) → value_at o.symbols here terms ≡ value_at f.symbols here terms
+  at-same terms agree = ap plain_offset (value-alone o.symbols f.symbols (plain (pos here)) terms agree)
+
+  number_at-same : (terms : Expression) → Same (names_of terms) → number_at o.symbols here terms ≡ number_at f.symbols here terms
   number_at-same terms agree = ap (λ (v : Option ℤ). unwrap_or v (pos 0)) (at-same terms agree)
 
-  expression-same : (terms : Expression) → Same (names_of terms) → expression_flags o here terms ≡ expression_flags f here terms
-  expression-same terms agree = λ i. record no_flags { operand = is_none (at-same terms agree i); undefined = undefined-alone o f terms agree i }
+  expression-same : (terms : Expression) → Same (names_of terms) → expression_flags o.symbols here terms ≡ expression_flags f.symbols here terms
+  expression-same terms agree = λ i. record no_flags { operand = is_none (at-same terms agree i); undefined = undefined-alone o.symbols f.symbols terms agree i }
 
-  numbers-same : (holes : List Hole) → Same (names holes)
-      → map (λ hole. number_for hole.kind here (number_at o here hole.expression)) holes ≡ map (λ hole. number_for hole.kind here (number_at f here hole.expression)) holes
-  numbers-same [] agree = refl
-  numbers-same (hole ∷ holes) agree =
-      let split = parts (names_of hole.expression) (names holes) agree in
-      λ i. number_for hole.kind here (number_at-same hole.expression split.0 i) ∷ numbers-same holes split.1 i
+  operand-same : (x : Operand) → Same (operand_names x) → Stand (operand_literals x) → operand_number o here x ≡ operand_number f here x
+  operand-same (operand.Expression terms) agree stand = number_at-same terms agree
+  operand-same (operand.Literal word) agree stand = ap pos (all-head (λ (w : ℕ). o.literals w ≡ f.literals w) word [] stand)
 
-  nones-same : (holes : List Hole) → Same (names holes)
-      → list_any (λ hole. is_none (value_at o here hole.expression)) holes ≡ list_any (λ hole. is_none (value_at f here hole.expression)) holes
-  nones-same [] agree = refl
-  nones-same (hole ∷ holes) agree =
-      let split = parts (names_of hole.expression) (names holes) agree in
-      λ i. is_none (at-same hole.expression split.0 i) || nones-same holes split.1 i
+  valueless-same : (x : Operand) → Same (operand_names x) → is_valueless o here x ≡ is_valueless f here x
+  valueless-same (operand.Expression terms) agree = ap is_none (at-same terms agree)
+  valueless-same (operand.Literal word) agree = refl
 
-  undefined-same : (holes : List Hole) → Same (names holes)
-      → list_any (λ hole. has_undefined o hole.expression) holes ≡ list_any (λ hole. has_undefined f hole.expression) holes
-  undefined-same [] agree = refl
-  undefined-same (hole ∷ holes) agree =
-      let split = parts (names_of hole.expression) (names holes) agree in
-      λ i. undefined-alone o f hole.expression split.0 i || undefined-same holes split.1 i
+  undefined-same : (x : Operand) → Same (operand_names x) → reads_undefined o x ≡ reads_undefined f x
+  undefined-same (operand.Expression terms) agree = undefined-alone o.symbols f.symbols terms agree
+  undefined-same (operand.Literal word) agree = refl
 
-  form_number-same : (form : Form) → Same (names form.holes) → form_number o here form ≡ form_number f here form
-  form_number-same form agree = λ i. (filled form (numbers-same form.holes agree i)).digits
+  numbers-same : (holes : List Hole) → Same (names holes) → Stand (words holes)
+      → map (λ hole. number_for hole.kind here (operand_number o here hole.operand)) holes ≡ map (λ hole. number_for hole.kind here (operand_number f here hole.operand)) holes
+  numbers-same [] agree stand = refl
+  numbers-same (hole ∷ holes) agree stand =
+      let split = names-split (operand_names hole.operand) (names holes) agree in
+      let literals = words-split (operand_literals hole.operand) (words holes) stand in
+      λ i. number_for hole.kind here (operand-same hole.operand split.0 literals.0 i) ∷ numbers-same holes split.1 literals.1 i
 
-  form_flags-same : (form : Form) → Same (names form.holes) → form_flags o here form ≡ form_flags f here form
-  form_flags-same form agree = λ i. record no_flags {
-    operand = nones-same form.holes agree i || (filled form (numbers-same form.holes agree i)).is_out_of_range;
-    cut = (filled form (numbers-same form.holes agree i)).is_truncated;
-    undefined = undefined-same form.holes agree i;
+  any-same : (p q : Operand → Bool) → ((x : Operand) → Same (operand_names x) → p x ≡ q x) → (holes : List Hole) → Same (names holes)
+      → list_any (λ hole. p hole.operand) holes ≡ list_any (λ hole. q hole.operand) holes
+  any-same p q same [] agree = refl
+  any-same p q same (hole ∷ holes) agree =
+      let split = names-split (operand_names hole.operand) (names holes) agree in
+      λ i. same hole.operand split.0 i || any-same p q same holes split.1 i
+
+  form_number-same : (form : Form) → Same (names form.holes) → Stand (words form.holes) → form_number o here form ≡ form_number f here form
+  form_number-same form agree stand = λ i. (filled form (numbers-same form.holes agree stand i)).digits
+
+  form_flags-same : (form : Form) → Same (names form.holes) → Stand (words form.holes) → form_flags o here form ≡ form_flags f here form
+  form_flags-same form agree stand = λ i. record no_flags {
+    operand = any-same (is_valueless o here) (is_valueless f here) valueless-same form.holes agree i || (filled form (numbers-same form.holes agree stand i)).is_out_of_range;
+    cut = (filled form (numbers-same form.holes agree stand i)).is_truncated;
+    undefined = any-same (reads_undefined o) (reads_undefined f) undefined-same form.holes agree i;
   }
 
-  number-same : (c : Content) → Same (content_names c) → number_of o here c ≡ number_of f here c
-  number-same (content.Instruction form) agree = form_number-same form agree
-  number-same (content.Peripheral form) agree = form_number-same form agree
-  number-same (content.Value width terms) agree = ap (put_value width) (number_at-same terms agree)
-  number-same (content.Number width number) agree = refl
-  number-same (content.Unsized terms) agree = refl
+  number-same : (c : Content) → Same (content_names c) → Stand (content_literals c) → number_of o here c ≡ number_of f here c
+  number-same (content.Instruction form) agree stand = form_number-same form agree stand
+  number-same (content.Peripheral form) agree stand = form_number-same form agree stand
+  number-same (content.Value width terms) agree stand = ap (put_value width) (number_at-same terms agree)
+  number-same (content.Number width number) agree stand = refl
+  number-same (content.Unsized terms) agree stand = refl
 
-  flags-same : (c : Content) → Same (content_names c) → value_flags o here c ≡ value_flags f here c
-  flags-same (content.Instruction form) agree = form_flags-same form agree
-  flags-same (content.Peripheral form) agree = form_flags-same form agree
-  flags-same (content.Value width terms) agree =
+  flags-same : (c : Content) → Same (content_names c) → Stand (content_literals c) → value_flags o here c ≡ value_flags f here c
+  flags-same (content.Instruction form) agree stand = form_flags-same form agree stand
+  flags-same (content.Peripheral form) agree stand = form_flags-same form agree stand
+  flags-same (content.Value width terms) agree stand =
       λ i. record (expression-same terms agree i) { cut = not (fits_width width (number_at-same terms agree i)) }
-  flags-same (content.Number width number) agree = refl
-  flags-same (content.Unsized terms) agree = expression-same terms agree
+  flags-same (content.Number width number) agree stand = refl
+  flags-same (content.Unsized terms) agree stand = expression-same terms agree
+
+  far-same : (machine : Machine) (ws : List ℕ) → Stand ws → list_any (λ word. nat_le (limit machine) (o.literals word)) ws ≡ list_any (λ word. nat_le (limit machine) (f.literals word)) ws
+  far-same machine [] stand = refl
+  far-same machine (word ∷ ws) stand =
+      let own = all-head (λ (w : ℕ). o.literals w ≡ f.literals w) word ws stand in
+      let rest = far-same machine ws (All-tail (λ (w : ℕ). o.literals w ≡ f.literals w) word ws stand) in
+      λ i. nat_le (limit machine) (own i) || rest i
+
+  literal_flags-same : (machine : Machine) (c : Content) → Stand (content_literals c) → literal_flags o.literals machine c ≡ literal_flags f.literals machine c
+  literal_flags-same machine c stand = λ i. record no_flags { structure = far-same machine (content_literals c) stand i }
 
   contents-split : (c : Content) (contents : List Content) → Same (flat_map content_names (c ∷ contents)) → Same (content_names c) × Same (flat_map content_names contents)
-  contents-split c contents = parts (content_names c) (flat_map content_names contents)
+  contents-split c contents = names-split (content_names c) (flat_map content_names contents)
 
-  with-same : (flags : Flags) (contents : List Content) → Same (flat_map content_names contents) → with_contents o here flags contents ≡ with_contents f here flags contents
-  with-same flags [] agree = refl
-  with-same flags (c ∷ contents) agree =
+  literals-split : (c : Content) (contents : List Content) → Stand (flat_map content_literals (c ∷ contents)) → Stand (content_literals c) × Stand (flat_map content_literals contents)
+  literals-split c contents = words-split (content_literals c) (flat_map content_literals contents)
+
+  with-same : (flags : Flags) (contents : List Content) → Same (flat_map content_names contents) → Stand (flat_map content_literals contents)
+      → with_contents o here flags contents ≡ with_contents f here flags contents
+  with-same flags [] agree stand = refl
+  with-same flags (c ∷ contents) agree stand =
       let split = contents-split c contents agree in
-      ap (λ (own : Flags). with_contents o here (joined flags own) contents) (flags-same c split.0)
-      ∙ with-same (joined flags (value_flags f here c)) contents split.1
+      let literals = literals-split c contents stand in
+      ap (λ (own : Flags). with_contents o here (joined flags own) contents) (flags-same c split.0 literals.0)
+      ∙ with-same (joined flags (value_flags f here c)) contents split.1 literals.1
 
-  row-same : (machine : Machine) (flags : Flags) (is_later : Bool) (address : ℕ) (c : Content) → Same (content_names c)
+  row-same : (machine : Machine) (flags : Flags) (is_later : Bool) (address : ℕ) (c : Content) → Same (content_names c) → Stand (content_literals c)
       → row_at o machine flags is_later here address c ≡ row_at f machine flags is_later here address c
-  row-same machine flags is_later address c agree = λ i. record {
-    flags = joined (joined flags (flags-same c agree i)) (limit_flags machine address);
+  row-same machine flags is_later address c agree stand = λ i. record {
+    flags = joined (joined (joined flags (flags-same c agree stand i)) (literal_flags-same machine c stand i)) (limit_flags machine address);
     location = Some address;
-    code = Some (first_digits c (number-same c agree i));
-    second = second_digits c (number-same c agree i);
+    code = Some (first_digits c (number-same c agree stand i));
+    second = second_digits c (number-same c agree stand i);
     is_later = is_later;
   }
+
+-- ---- symbols
+
+clash : true ≡ false → ⊥
+clash same = cc
+
+-- what holds of the elements that a test keeps
+kept-first : {T : Type 0} (P : T → Type 0) (q : T → Bool) (x : T) (xs : List T) (b : Bool) → q x ≡ b → All P (if b then x ∷ filter q xs else filter q xs)
+    → (All P (filter q xs) → All (λ y. q y ≡ true → P y) xs) → All (λ y. q y ≡ true → P y) (x ∷ xs)
+kept-first P q x xs true is each rest =
+    All-cons (λ y. q y ≡ true → P y) x xs (λ yes. all-head P x (filter q xs) each) (rest (All-tail P x (filter q xs) each))
+kept-first P q x xs false is each rest = All-cons (λ y. q y ≡ true → P y) x xs (λ yes. absurd (clash (sym yes ∙ is))) (rest each)
+
+all-kept : {T : Type 0} (P : T → Type 0) (q : T → Bool) (xs : List T) → All P (filter q xs) → All (λ x. q x ≡ true → P x) xs
+all-kept P q [] each = All-nil (λ x. q x ≡ true → P x)
+all-kept P q (x ∷ xs) each = kept-first P q x xs (q x) refl each (all-kept P q xs)
+
+all-so : {T : Type 0} (P Q : T → Type 0) → ((x : T) → P x → Q x) → (xs : List T) → All P xs → All Q xs
+all-so P Q so xs each = λ k d lt. so (get_or xs k d) (each k d lt)
+
+abbrev is_held : List Held → Name → Bool
+is_held held name = list_any (λ (h : Held). same_name h.name name) held
+
+abbrev Stands : Resolved → Resolved → Option Name → Type 0
+Stands others finals name = others (block name) ≡ finals (block name)
+
+final-same : (others finals : Resolved) (value : Value) → Stands others finals value.block → final_of others value ≡ final_of finals value
+final-same others finals value agree = ap (λ (b : Option Value). limited (plain (value.offset +ℤ pos (address_of b)))) agree
+
+module _ (others finals : Resolved) (name : Name) where
+  abbrev AgreesFree : List Held → Type 0
+  AgreesFree held = is_held held name ≡ false → others (label name) ≡ finals (label name)
+
+  value-first : (h : Held) (held : List Held) → Stands others finals h.value.block → AgreesFree (h ∷ held)
+      → (AgreesFree held → values_in others held name ≡ values_in finals held name) → (b : Bool) → same_name h.name name ≡ b
+      → (if b then final_of others h.value else values_in others held name) ≡ (if b then final_of finals h.value else values_in finals held name)
+  value-first h held stands agree rest true is = final-same others finals h.value stands
+  value-first h held stands agree rest false is = rest (λ none. agree (ap (λ (b : Bool). b || is_held held name) is ∙ none))
+
+  value-same : (held : List Held) → All (Stands others finals) (map (λ h. h.value.block) held) → AgreesFree held → values_in others held name ≡ values_in finals held name
+  value-same [] stand agree = agree refl
+  value-same (h ∷ held) stand agree =
+      let blocks = map (λ (h : Held). h.value.block) held in
+      value-first h held (all-head (Stands others finals) h.value.block blocks stand) agree
+      (value-same held (All-tail (Stands others finals) h.value.block blocks stand)) (same_name h.name name) refl
+
+-- ways of giving final values that agree on what a statement names give the same values and addresses in it
+module _ (others finals : Resolved) (made : Made) (agree : AgreeOnMade others finals made) where
+  blocks-split : All (Stands others finals) (made.block ∷ blocks_shown made.shown) × All (Stands others finals) (map (λ h. h.value.block) made.held)
+  blocks-split = all-split (Stands others finals) (made.block ∷ blocks_shown made.shown) (map (λ h. h.value.block) made.held) agree.blocks
+
+  symbols-same : AgreeOn (values_in others made.held) (values_in finals made.held) (flat_map content_names made.contents)
+  symbols-same =
+      let read = all-kept (λ (name : Name). others (label name) ≡ finals (label name)) (λ name. not (is_held made.held name)) (flat_map content_names made.contents) agree.labels in
+      all-so (λ name. not (is_held made.held name) ≡ true → others (label name) ≡ finals (label name)) (λ name. values_in others made.held name ≡ values_in finals made.held name)
+      (λ name same. value-same others finals name made.held blocks-split.1 (λ none. same (ap not none))) (flat_map content_names made.contents) read
+
+  literals-same : All (λ word. literal_in others word ≡ literal_in finals word) (flat_map content_literals made.contents)
+  literals-same =
+      all-so (λ word. others (literal word) ≡ finals (literal word)) (λ word. literal_in others word ≡ literal_in finals word) (λ word same. ap address_of same)
+      (flat_map content_literals made.contents) agree.literals
 
 -- ---- rows and bits
 
 module _ (others finals : Resolved) (made : Made) (base : base_in others made.block ≡ base_in finals made.block) where
+  abbrev o : Known
+  o = known_in others made
+
+  abbrev f : Known
+  f = known_in finals made
+
   abbrev Agrees : List Content → Type 0
-  Agrees contents = AgreeOn (labels_by others) (labels_by finals) (flat_map content_names contents)
+  Agrees contents = AgreeOn o.symbols f.symbols (flat_map content_names contents)
+
+  abbrev AllStand : List Content → Type 0
+  AllStand contents = All (λ word. o.literals word ≡ f.literals word) (flat_map content_literals contents)
 
   first-same : first_address others made ≡ first_address finals made
   first-same = ap (λ (n : ℕ). n + made.start / 60) base
 
-  content_rows-same : (flags : Flags) (is_later : Bool) (at : ℕ) (contents : List Content) → Agrees contents
+  content_rows-same : (flags : Flags) (is_later : Bool) (at : ℕ) (contents : List Content) → Agrees contents → AllStand contents
       → content_rows others made flags is_later at contents ≡ content_rows finals made flags is_later at contents
-  content_rows-same flags is_later at [] agree = refl
-  content_rows-same flags is_later at (c ∷ contents) agree =
+  content_rows-same flags is_later at [] agree stand = refl
+  content_rows-same flags is_later at (c ∷ contents) agree stand =
       let here = first_address finals made in
       let next = behind made.machine at (width_of c) in
-      let split = contents-split (labels_by others) (labels_by finals) here c contents agree in
-      let moved : row_at (labels_by others) made.machine flags is_later (first_address others made) (base_in others made.block + at / 60) c
-      ≡ row_at (labels_by others) made.machine flags is_later here (base_in finals made.block + at / 60) c =
-      λ i. row_at (labels_by others) made.machine flags is_later (first-same i) (base i + at / 60) c in
-      let own = moved ∙ row-same (labels_by others) (labels_by finals) here made.machine flags is_later (base_in finals made.block + at / 60) c split.0 in
-      λ i. own i ∷ content_rows-same no_flags true next contents split.1 i
+      let split = contents-split o f here c contents agree in
+      let literals = literals-split o f here c contents stand in
+      let moved : row_at o made.machine flags is_later (first_address others made) (base_in others made.block + at / 60) c
+      ≡ row_at o made.machine flags is_later here (base_in finals made.block + at / 60) c =
+      λ i. row_at o made.machine flags is_later (first-same i) (base i + at / 60) c in
+      let own = moved ∙ row-same o f here made.machine flags is_later (base_in finals made.block + at / 60) c split.0 literals.0 in
+      λ i. own i ∷ content_rows-same no_flags true next contents split.1 literals.1 i
 
-  blank-same : (contents : List Content) → Agrees contents
-      → with_contents (labels_by others) (first_address others made) made.flags contents ≡ with_contents (labels_by finals) (first_address finals made) made.flags contents
-  blank-same contents agree =
-      ap (λ (n : ℕ). with_contents (labels_by others) n made.flags contents) first-same
-      ∙ with-same (labels_by others) (labels_by finals) (first_address finals made) made.flags contents agree
+  blank-same : (contents : List Content) → Agrees contents → AllStand contents
+      → with_contents o (first_address others made) made.flags contents ≡ with_contents f (first_address finals made) made.flags contents
+  blank-same contents agree stand =
+      ap (λ (n : ℕ). with_contents o n made.flags contents) first-same ∙ with-same o f (first_address finals made) made.flags contents agree stand
 
-  bits-same : (at : ℕ) (contents : List Content) → Agrees contents → content_pieces others made at contents ≡ content_pieces finals made at contents
-  bits-same at [] agree = refl
-  bits-same at (c ∷ contents) agree =
+  bits-same : (at : ℕ) (contents : List Content) → Agrees contents → AllStand contents → content_pieces others made at contents ≡ content_pieces finals made at contents
+  bits-same at [] agree stand = refl
+  bits-same at (c ∷ contents) agree stand =
       let here = first_address finals made in
-      let split = contents-split (labels_by others) (labels_by finals) here c contents agree in
-      let number = ap (λ (n : ℕ). number_of (labels_by others) n c) first-same ∙ number-same (labels_by others) (labels_by finals) here c split.0 in
-      λ i. pieces_at made.machine at (width_of c) (number i) ++ bits-same (behind made.machine at (width_of c)) contents split.1 i
+      let split = contents-split o f here c contents agree in
+      let literals = literals-split o f here c contents stand in
+      let number = ap (λ (n : ℕ). number_of o n c) first-same ∙ number-same o f here c split.0 literals.0 in
+      λ i. pieces_at made.machine at (width_of c) (number i) ++ bits-same (behind made.machine at (width_of c)) contents split.1 literals.1 i
 
-  contents_of-same : Agrees made.contents → contents_of others made ≡ contents_of finals made
-  contents_of-same agree = λ i. if made.only_flags then [] else bits-same made.start made.contents agree i
+  contents_of-same : Agrees made.contents → AllStand made.contents → contents_of others made ≡ contents_of finals made
+  contents_of-same agree stand = λ i. if made.only_flags then [] else bits-same made.start made.contents agree stand i
 
-  final-same : (value : Value) → others (block value.block) ≡ finals (block value.block) → final_of others value ≡ final_of finals value
-  final-same value agree = ap (λ (b : Option Value). limited (plain (value.offset +ℤ pos (address_of b)))) agree
-
-  statement-same : (shows : Shown) → All (λ b. others (block b) ≡ finals (block b)) (blocks_shown shows) → statement_row others made shows ≡ statement_row finals made shows
+  statement-same : (shows : Shown) → All (Stands others finals) (blocks_shown shows) → statement_row others made shows ≡ statement_row finals made shows
   statement-same shown.Nothing agree = refl
   statement-same (shown.Value value) agree =
-      let same = final-same value (all-head (λ (b : Option Name). others (block b) ≡ finals (block b)) value.block [] agree) in
+      let same = final-same others finals value (all-head (Stands others finals) value.block [] agree) in
       λ i. record (blank_row made.flags) { code = option_map (λ (v : Value). digits_for word_bits (complemented word_bits v.offset)) (same i) }
   statement-same (shown.Address value) agree =
-      let same = final-same value (all-head (λ (b : Option Name). others (block b) ≡ finals (block b)) value.block [] agree) in
+      let same = final-same others finals value (all-head (Stands others finals) value.block [] agree) in
       λ i. record (blank_row made.flags) { location = option_map (λ (v : Value). nat_abs v.offset) (same i) }
   statement-same shown.Start agree =
       λ i. record (blank_row (joined made.flags (limit_flags made.machine (first-same i)))) { location = Some (first-same i) }
 
 module _ (others finals : Resolved) (made : Made) (agree : AgreeOnMade others finals made) where
-  here-same : base_in others made.block ≡ base_in finals made.block
-  here-same = ap address_of (all-head (λ (b : Option Name). others (block b) ≡ finals (block b)) made.block (blocks_shown made.shown) agree.blocks)
+  own-blocks : All (Stands others finals) (made.block ∷ blocks_shown made.shown)
+  own-blocks = (blocks-split others finals made agree).0
 
-  rows_with-same : (contents : List Content) → AgreeOn (labels_by others) (labels_by finals) (flat_map content_names contents) → rows_with others made contents ≡ rows_with finals made contents
-  rows_with-same [] names =
+  here-same : base_in others made.block ≡ base_in finals made.block
+  here-same = ap address_of (all-head (Stands others finals) made.block (blocks_shown made.shown) own-blocks)
+
+  rows_with-same : (contents : List Content) → Agrees others finals made here-same contents → AllStand others finals made here-same contents
+      → rows_with others made contents ≡ rows_with finals made contents
+  rows_with-same [] names literals =
       ap (λ (r : Row). r ∷ []) (statement-same others finals made here-same made.shown
-      (All-tail (λ (b : Option Name). others (block b) ≡ finals (block b)) made.block (blocks_shown made.shown) agree.blocks))
-  rows_with-same (c ∷ contents) names =
-      λ i. if made.only_flags then blank_row (blank-same others finals made here-same (c ∷ contents) names i) ∷ []
-      else content_rows-same others finals made here-same made.flags false made.start (c ∷ contents) names i
+      (All-tail (Stands others finals) made.block (blocks_shown made.shown) own-blocks))
+  rows_with-same (c ∷ contents) names literals =
+      λ i. if made.only_flags then blank_row (blank-same others finals made here-same (c ∷ contents) names literals i) ∷ []
+      else content_rows-same others finals made here-same made.flags false made.start (c ∷ contents) names literals i
 
   rows-same : rows_of others made ≡ rows_of finals made
-  rows-same = rows_with-same made.contents agree.labels
+  rows-same = rows_with-same made.contents (symbols-same others finals made agree) (literals-same others finals made agree)
 
   pieces-same : pieces_of others made ≡ pieces_of finals made
   pieces-same =
+      let names = symbols-same others finals made agree in
+      let literals = literals-same others finals made agree in
       λ i. flat_map (placed made.machine (here-same i))
-      (made.filling ++ zeros_at made.machine made.start made.zeros ++ contents_of-same others finals made here-same agree.labels i)
+      (made.filling ++ zeros_at made.machine made.start made.zeros ++ contents_of-same others finals made here-same names literals i)
 
 -- ---- a line
 

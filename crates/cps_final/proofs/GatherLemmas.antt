@@ -1,7 +1,7 @@
 -- What is gathered of some lines, and of one line more.
 use Rattle.std.proofs.Common.{◌≡◌, ℕ, Bool, true, false, not, ◌||◌, List, [], ◌∷◌, ◌++◌, filter, Option, None, Some, max, refl, sym, ap, ◌∙◌, append-nil, append_assoc, arith, Result, Ok, Err}
 use Rattle.std.specs.Prelude.{OnOk, OnErr, flat_map, nat_eq, if◌then◌else◌}
-use Rattle.std.specs.Cmp.{IsEquivalence}
+use Rattle.std.specs.Cmp.{IsEquivalence, nat_eq_equiv}
 use Rattle.std.specs.List.{list_any}
 use Rattle.std.specs.Option.{option_or}
 use Rattle.std.proofs.lemmas.Grind.{flat_map-append}
@@ -104,19 +104,15 @@ program-more [] trace = sym (or-none (first_program trace.items))
 program-more (t ∷ traces) trace =
     or-assoc (first_program t.items) (program_of traces) (first_program trace.items) ∙ ap (option_or (first_program t.items)) (program-more traces trace)
 
-no-literals : (items : List Item) → flat_map {A = ℕ} (λ item. []) items ≡ []
-no-literals [] = refl
-no-literals (item ∷ items) = no-literals items
-
-pool-more : (traces : List Trace) (trace : Trace) → pool_of traces ≡ pool_of (traces ++ trace ∷ [])
+pool-more : (traces : List Trace) (trace : Trace) → insert_all nat_eq (pool_of traces) (literals_in trace) ≡ pool_of (traces ++ trace ∷ [])
 pool-more traces trace =
-    ap (distinct nat_eq) (sym (flat_map-append literals_in traces (trace ∷ [])
-    ∙ ap (λ (l : List ℕ). flat_map literals_in traces ++ (l ++ [])) (no-literals trace.items) ∙ append-nil (flat_map literals_in traces)))
+    sym (ap (distinct nat_eq) (flat_map-append literals_in traces (trace ∷ []) ∙ ap (λ (l : List ℕ). flat_map literals_in traces ++ l) (append-nil (literals_in trace)))
+    ∙ distinct-append nat_eq nat_eq_equiv (flat_map literals_in traces) (literals_in trace))
 
 -- ---- all of it
 
 pub gathered-more : (old new : Finals) (trace : Trace)
-    → new.state ≡ overwritten old.state trace.puts → new.layout ≡ grown_by old.layout trace.puts → new.pool ≡ old.pool
+    → new.state ≡ overwritten old.state trace.puts → new.layout ≡ grown_by old.layout trace.puts → new.pool ≡ insert_all nat_eq old.pool (literals_in trace)
     → new.program ≡ option_or old.program (first_program trace.items)
     → (traces : List Trace) → old ≡ finals_of traces → new ≡ finals_of (traces ++ trace ∷ [])
 gathered-more old new trace state layout pool program traces was =
@@ -125,7 +121,7 @@ gathered-more old new trace state layout pool program traces was =
     state ∙ ap (λ (f : Finals). overwritten f.state trace.puts) was ∙ sym (ap (overwritten first_state) puts ∙ overwritten-append first_state (puts_of traces) trace.puts) in
     let layout-now : new.layout ≡ layout_of (puts_of (traces ++ trace ∷ [])) =
     layout ∙ ap (λ (f : Finals). grown_by f.layout trace.puts) was ∙ layout-append (puts_of traces) trace.puts ∙ sym (ap layout_of puts) in
-    let pool-now : new.pool ≡ pool_of (traces ++ trace ∷ []) = pool ∙ ap (λ (f : Finals). f.pool) was ∙ pool-more traces trace in
+    let pool-now : new.pool ≡ pool_of (traces ++ trace ∷ []) = pool ∙ ap (λ (f : Finals). insert_all nat_eq f.pool (literals_in trace)) was ∙ pool-more traces trace in
     let program-now : new.program ≡ program_of (traces ++ trace ∷ []) =
     program ∙ ap (λ (f : Finals). option_or f.program (first_program trace.items)) was ∙ program-more traces trace in
     λ i. record { state = state-now i; layout = layout-now i; pool = pool-now i; program = program-now i }
@@ -138,7 +134,7 @@ on_err (Ok x) p = tt
 on_err (Err e) p = p
 
 pub gathered-ok : {T E : Type 0} (r : Result T E) (old new : Finals) (trace : Trace)
-    → OnOk r (new.state ≡ overwritten old.state trace.puts) → OnOk r (new.layout ≡ grown_by old.layout trace.puts) → OnOk r (new.pool ≡ old.pool)
+    → OnOk r (new.state ≡ overwritten old.state trace.puts) → OnOk r (new.layout ≡ grown_by old.layout trace.puts) → OnOk r (new.pool ≡ insert_all nat_eq old.pool (literals_in trace))
     → OnOk r (new.program ≡ option_or old.program (first_program trace.items))
     → OnOk r ((traces : List Trace) → old ≡ finals_of traces → new ≡ finals_of (traces ++ trace ∷ []))
 gathered-ok (Ok x) old new trace state layout pool program = gathered-more old new trace state layout pool program

@@ -7,7 +7,7 @@ use Rattle.std.proofs.lemmas.List.Sums.{fold-append}
 use Rattle.indexmap.specs.IndexSet.{insert_all}
 use Rattle.cps_text.specs.declared.name.Name.{Name}
 use Rattle.cps_expr.specs.declared.machine.Machine.{Machine}
-use Rattle.cps_expr.specs.Value.{Values, same_name}
+use Rattle.cps_expr.specs.Value.{same_name}
 use Rattle.cps_state.specs.declared.flags.Flags.{Flags}
 use Rattle.cps_state.specs.declared.made.Content.{Content}
 use Rattle.cps_state.specs.declared.item.Item.{Item}
@@ -19,7 +19,7 @@ use Rattle.cps_code.specs.Image.{Piece}
 use Rattle.cps_state.specs.Made.{Made, no_flags, width_of, end_of, HaveRoom}
 use Rattle.cps_state.proofs.PlaceLemmas.{end-not-before, end-next}
 use Rattle.cps_final.specs.declared.row.Row.{Row}
-use Rattle.cps_final.specs.Outcome.{Resolved, labels_by, base_in, first_address, row_at, content_rows, with_contents, blank_row, rows_with, rows_of, pieces_of, later_names, symbol_put, names_read, names_defined, outcome_of, joined_with}
+use Rattle.cps_final.specs.Outcome.{Resolved, known_in, Known, base_in, first_address, row_at, content_rows, with_contents, blank_row, rows_with, rows_of, pieces_of, later_names, symbol_put, names_read, names_defined, outcome_of, joined_with}
 use Rattle.cps_final.proofs.BlockLemmas.{same_name-laws}
 use Rattle.cps_final.proofs.GatherLemmas.{distinct-append}
 
@@ -40,13 +40,13 @@ pub record Step (finals : Resolved) (made : Made) (machine : Machine) (flags : F
   pub within : i < length made.contents
   pub is : content ≡ get_or made.contents i content
   pub moved : next ≡ behind machine at (width_of content)
-  pub shows : row ≡ row_at (labels_by finals) made.machine flags is_later (first_address finals made) (base_in finals made.block + at / 60) content
+  pub shows : row ≡ row_at (known_in finals made) made.machine flags is_later (first_address finals made) (base_in finals made.block + at / 60) content
 
 -- the same from what the code worked out
 pub step : (finals : Resolved) (made : Made) (machine : Machine) (flags : Flags) (is_later : Bool) (base here word at next width i : ℕ) (contents : List Content) (content : Content) (row : Row)
     → machine ≡ made.machine → base ≡ base_in finals made.block → here ≡ base + made.start / 60 → word ≡ at / 60
     → contents ≡ made.contents → i < length contents → content ≡ get_or contents i content → width ≡ width_of content → next ≡ behind machine at width
-    → row ≡ row_at (labels_by finals) machine flags is_later here (base + word) content
+    → row ≡ row_at (known_in finals made) made.machine flags is_later here (base + word) content
     → Step finals made machine flags is_later at next i content row
 step finals made machine flags is_later base here word at next width i contents content row of based starts counts same lt is wide moved shows = record {
   of = of;
@@ -54,7 +54,7 @@ step finals made machine flags is_later base here word at next width i contents 
   is = is ∙ ap (λ (l : List Content). get_or l i content) same;
   moved = moved ∙ ap (behind machine at) wide;
   shows = shows
-      ∙ (λ j. row_at (labels_by finals) (of j) flags is_later ((starts ∙ ap (λ (n : ℕ). n + made.start / 60) based) j) (based j + counts j) content);
+      ∙ (λ j. row_at (known_in finals made) made.machine flags is_later ((starts ∙ ap (λ (n : ℕ). n + made.start / 60) based) j) (based j + counts j) content);
 }
 
 module _ (finals : Resolved) (made : Made) (machine : Machine) (flags : Flags) (is_later : Bool) (at next i : ℕ) (content : Content) (row : Row)
@@ -72,7 +72,7 @@ module _ (finals : Resolved) (made : Made) (machine : Machine) (flags : Flags) (
   rows-more =
       let moved : next ≡ behind made.machine at (width_of content) = so.moved ∙ ap (λ (m : Machine). behind m at (width_of content)) so.of in
       ap (content_rows finals made flags is_later at) (drop_more made.contents i content so.within)
-      ∙ ap (λ (c : Content). row_at (labels_by finals) made.machine flags is_later (first_address finals made) (base_in finals made.block + at / 60) c
+      ∙ ap (λ (c : Content). row_at (known_in finals made) made.machine flags is_later (first_address finals made) (base_in finals made.block + at / 60) c
       ∷ content_rows finals made no_flags true (behind made.machine at (width_of c)) (drop (i + 1) made.contents)) (sym so.is)
       ∙ (λ j. sym so.shows j ∷ content_rows finals made no_flags true (sym moved j) (drop (i + 1) made.contents))
 
@@ -95,17 +95,17 @@ module _ (finals : Resolved) (made : Made) (machine : Machine) (flags : Flags) (
 
 -- the row of contents that only give flags
 pub flags-row : (finals : Resolved) (made : Made) (contents : List Content) → 0 < length contents → made.only_flags ≡ true
-    → rows_with finals made contents ≡ blank_row (with_contents (labels_by finals) (first_address finals made) made.flags contents) ∷ []
+    → rows_with finals made contents ≡ blank_row (with_contents (known_in finals made) (first_address finals made) made.flags contents) ∷ []
 flags-row finals made [] some only = absurd (omega (arith, some))
 flags-row finals made (content ∷ contents) some only =
-    ap (λ (b : Bool). if b then blank_row (with_contents (labels_by finals) (first_address finals made) made.flags (content ∷ contents)) ∷ []
+    ap (λ (b : Bool). if b then blank_row (with_contents (known_in finals made) (first_address finals made) made.flags (content ∷ contents)) ∷ []
     else content_rows finals made made.flags false made.start (content ∷ contents)) only
 
 -- all contents were walked
-pub flags-all : (labels : Values) (here address : ℕ) (flags all : Flags) (contents : List Content) (i : ℕ) → length contents ≤ i → here ≡ address
-    → all ≡ with_contents labels here flags (take i contents) → all ≡ with_contents labels address flags contents
-flags-all labels here address flags all contents i past is so_far =
-    so_far ∙ ap (with_contents labels here flags) (take_all i contents past) ∙ ap (λ (n : ℕ). with_contents labels n flags contents) is
+pub flags-all : (known : Known) (here address : ℕ) (flags all : Flags) (contents : List Content) (i : ℕ) → length contents ≤ i → here ≡ address
+    → all ≡ with_contents known here flags (take i contents) → all ≡ with_contents known address flags contents
+flags-all known here address flags all contents i past is so_far =
+    so_far ∙ ap (with_contents known here flags) (take_all i contents past) ∙ ap (λ (n : ℕ). with_contents known n flags contents) is
 
 -- ---- lists
 

@@ -13,7 +13,7 @@ use Rattle.cps_state.specs.declared.made.Content.{Content}
 use Rattle.cps_state.specs.Machines.{limit, behind}
 use Rattle.cps_state.specs.Made.{Made, width_of, HaveRoom}
 use Rattle.cps_state.proofs.PlaceLemmas.{end-not-before}
-use Rattle.cps_final.specs.Outcome.{Resolved, labels_by, base_in, number_of, first_address, pieces_at, content_pieces}
+use Rattle.cps_final.specs.Outcome.{Resolved, known_in, base_in, number_of, first_address, pieces_at, content_pieces}
 
 -- ---- words
 
@@ -49,7 +49,7 @@ room-low machine at contents room =
 -- the content at an index, with what the code worked out for it: its pieces, and then those behind it
 module _ (finals : Resolved) (made : Made) (machine : Machine) (base here at width number next i : ℕ) (contents : List Content) (content : Content) (of : machine ≡ made.machine)
     (based : base ≡ base_in finals made.block) (starts : here ≡ base + made.start / 60) (same : contents ≡ made.contents) (lt : i < length contents)
-    (is : content ≡ get_or contents i content) (wide : width ≡ width_of content) (counts : number ≡ number_of (labels_by finals) here content) (moved : next ≡ behind machine at width) where
+    (is : content ≡ get_or contents i content) (wide : width ≡ width_of content) (counts : number ≡ number_of (known_in finals made) here content) (moved : next ≡ behind machine at width) where
   within : i < length made.contents
   within = subst (λ (l : List Content). i < length l) same lt
 
@@ -68,8 +68,8 @@ module _ (finals : Resolved) (made : Made) (machine : Machine) (base here at wid
 
   pieces-more : content_pieces finals made at (drop i made.contents) ≡ pieces_at machine at width number ++ content_pieces finals made next (drop (i + 1) made.contents)
   pieces-more =
-      let counted : number ≡ number_of (labels_by finals) (first_address finals made) content =
-      counts ∙ ap (λ (n : ℕ). number_of (labels_by finals) n content) (starts ∙ ap (λ (n : ℕ). n + made.start / 60) based) in
+      let counted : number ≡ number_of (known_in finals made) (first_address finals made) content =
+      counts ∙ ap (λ (n : ℕ). number_of (known_in finals made) n content) (starts ∙ ap (λ (n : ℕ). n + made.start / 60) based) in
       ap (content_pieces finals made at) rest-is
       ∙ (λ j. pieces_at (sym of j) at (sym wide j) (sym counted j) ++ content_pieces finals made (behind (sym of j) at (width_of content)) (drop (i + 1) made.contents))
       ∙ ap (λ (n : ℕ). pieces_at machine at width number ++ content_pieces finals made n (drop (i + 1) made.contents)) (sym moves)

@@ -1,5 +1,5 @@
 -- Final values: what stands behind the last line of a source, with blocks at their final addresses. From the manual's sections on the two
--- passes, on blocks and on literals; a final value beyond the range of expressions is none, as everywhere.
+-- passes, on blocks, on SET and on literals; a final value beyond the range of expressions is none, as everywhere.
 use Rattle.std.specs.Prelude.{◌≡◌, ℕ, ◌+◌, nat_eq, List, [], ◌∷◌, length, take, position, pos, ◌+ℤ◌, Option, None, Some, option_map, option_and_then, unwrap_or}
 use Rattle.std.specs.List.{sum_by}
 use Rattle.std.specs.Option.{option_or}
@@ -10,7 +10,7 @@ use Rattle.cps_expr.specs.Value.{same_name, plain, limited}
 use Rattle.cps_state.specs.declared.item.Item.{Item}
 use Rattle.cps_state.specs.Course.{Trace}
 use Rattle.cps_state.specs.declared.key.Key.TheVariants as key
-use Rattle.cps_state.specs.Keys.{State, first_state, overwritten, labels_of, control_of}
+use Rattle.cps_state.specs.Keys.{State, first_state, overwritten, labels_of, settings_of, control_of}
 use Rattle.cps_final.specs.Layout.{Layout, layout_of, puts_of}
 use Rattle.cps_final.specs.Pool.{pool_of}
 
@@ -72,13 +72,17 @@ pub data Named : Type 0 where
   block : Option Name → Named
   literal : ℕ → Named
 
--- an offset behind the base of its block; where there is no base, behind 0
-abbrev pub based : Finals → Value → Option Value
-based finals value = limited (plain (value.offset +ℤ pos (unwrap_or (base_of finals value.block) 0)))
+-- a value with its block at the address that bases give it
+abbrev pub at_base : (Option Name → ℕ) → Value → Option Value
+at_base bases value = limited (plain (value.offset +ℤ pos (bases value.block)))
 
--- the final value of what is named; no name is set so far
+-- where there is no base, behind 0
+abbrev pub based : Finals → Value → Option Value
+based finals value = at_base (λ block. unwrap_or (base_of finals block) 0) value
+
+-- the final value of what is named: of a label its value, of a symbol that SET gives values the last of them
 abbrev pub final_value : Finals → Named → Option Value
 final_value finals (label name) = option_and_then (based finals) (labels_of finals.state name)
-final_value finals (setting name) = None
+final_value finals (setting name) = option_and_then (based finals) (settings_of finals.state name)
 final_value finals (block name) = option_and_then (λ base. limited (plain (pos base))) (base_of finals name)
 final_value finals (literal word) = option_and_then (λ index. limited (plain (pos (finals.layout.size None + index)))) (position (nat_eq word) finals.pool)

@@ -1,15 +1,18 @@
 //! Final values.
-ghost use Rattle.std.specs.Prelude.{◌≡◌, ◌+◌, ◌<◌, ◌^◌, [], ◌++◌, ◌∷◌, pos, nat_abs, OnOk, OnErr, IfSome};
+ghost use Rattle.std.specs.Prelude.{◌≡◌, ◌+◌, ◌<◌, ◌≤◌, ◌^◌, [], length, nat_abs, nat_eq, OnOk, OnErr, IfSome};
 ghost use Rattle.std.specs.Option.{option_or};
 ghost use Rattle.cps_expr.specs.Value.{plain, limited, IsInRange};
 ghost use Rattle.cps_state.specs.Keys.{overwritten};
 ghost use Rattle.cps_final.specs.Finals.{first_program, Gathers, machine_of, words_to_named, base_of, based, final_value, label, setting, block as block_named, literal};
 ghost use Rattle.cps_final.specs.Gathering.{grown_by};
-ghost use Rattle.cps_final.specs.Outcome.{base_in, final_of};
+ghost use Rattle.cps_final.specs.Outcome.{address_of, base_in, final_of};
+ghost use Rattle.cps_final.specs.Pool.{literals_in};
+ghost use Rattle.indexmap.specs.IndexSet.{insert_all, insert_key, spare};
 
 use crate::blocks::Blocks;
+use crate::literals::list_literals;
 use cps_expr::{Machine, Names, Value};
-use cps_state::{Item, Key, Lookup, State, Trace, control_of};
+use cps_state::{Item, Key, Lookup, State, Trace, control_of, value_of};
 use cps_text::Name;
 use indexmap::IndexSet;
 use std::alloc::{AllocError, Global};
@@ -17,6 +20,7 @@ use std::alloc::{AllocError, Global};
 /// What stands behind the last line of a source: its symbols, where its blocks and literals stand, and its name.
 #[derive(Drop)]
 pub struct Finals {
+    alloc: Global,
     state: State,
     blocks: Blocks,
     pool: IndexSet<u64>,
@@ -41,24 +45,13 @@ impl Gathered for Finals {
     } };
 }
 
-/// The final values of symbols, by their names.
-impl Names for Finals {
-    ghost use Rattle.cps_final.specs.Finals.{final_value};
-    ghost use Rattle.cps_final.specs.Outcome.{labels_by};
-
-    ghost value = { λ finals. labels_by (final_value (⟦<Finals as Gathered>⟧.gathered finals)) };
-
-    fn value_of(&self, name: Name) -> Option<Value> {
-        self.label(name)
-    }
-}
-
 impl Finals {
     /// Of a source without lines. Takes no memory.
     pub(crate) fn new(alloc: Global) -> Finals
         ensures { Gathers (⟦<Finals as Gathered>⟧.gathered result) [] }
     {
         Finals {
+            alloc,
             state: State::first(alloc),
             blocks: Blocks::new(alloc),
             pool: IndexSet::new(alloc),
@@ -66,18 +59,21 @@ impl Finals {
         }
     }
 
-    /// With one more line. No statement so far has a literal, so that the pool stays.
+    /// With one more line. Where there is no memory, nothing changes.
     pub(crate) fn add(&mut self, trace: &Trace) -> Result<(), AllocError>
         ensures state { OnOk result ((⟦<Finals as Gathered>⟧.gathered self.new).state ≡ overwritten (⟦<Finals as Gathered>⟧.gathered self.old).state trace.now.puts) }
         ensures layout { OnOk result ((⟦<Finals as Gathered>⟧.gathered self.new).layout ≡ grown_by (⟦<Finals as Gathered>⟧.gathered self.old).layout trace.now.puts) }
-        ensures pool { OnOk result ((⟦<Finals as Gathered>⟧.gathered self.new).pool ≡ (⟦<Finals as Gathered>⟧.gathered self.old).pool) }
+        ensures pool { OnOk result ((⟦<Finals as Gathered>⟧.gathered self.new).pool ≡ insert_all nat_eq (⟦<Finals as Gathered>⟧.gathered self.old).pool (literals_in trace.now)) }
         ensures program { OnOk result ((⟦<Finals as Gathered>⟧.gathered self.new).program ≡ option_or (⟦<Finals as Gathered>⟧.gathered self.old).program (first_program trace.now.items)) }
         ensures err { OnErr result (⟦<Finals as Gathered>⟧.gathered self.new ≡ ⟦<Finals as Gathered>⟧.gathered self.old) }
     {
         let puts = trace.puts();
+        let literals = list_literals(self.alloc, trace.items())?;
         self.blocks.reserve(puts.len())?;
+        self.pool.reserve(literals.len())?;
         self.state.apply(trace)?;
         self.blocks.put_all(puts);
+        insert_literals(&mut self.pool, &literals);
         self.program = match self.program {
             Some(name) => Some(name),
             None => first_program(trace.items()),
@@ -130,16 +126,18 @@ impl Finals {
         self.based(value)
     }
 
-    /// The last value of a name that SET gives values. No name is set so far.
+    /// The final value of a symbol that SET gives values: the last of them.
     pub fn setting(&self, name: Name) -> Option<Value>
         ensures { result ≡ final_value (⟦<Finals as Gathered>⟧.gathered self.now) (setting name) }
     {
-        None
+        let value = value_of(self.state.ask(&Key::Setting(name)))?;
+        self.based(value)
     }
 
     /// The address of a literal, None for a word that is none.
     pub fn literal(&self, word: u64) -> Option<Value>
-        ensures { result ≡ final_value (⟦<Finals as Gathered>⟧.gathered self.now) (literal word) }
+        ensures literal { result ≡ final_value (⟦<Finals as Gathered>⟧.gathered self.now) (literal word) }
+        ensures range { IfSome result IsInRange }
     {
         let index = self.pool.get_index_of(&word)?;
         plain_in_range(i128::from(self.blocks.size(None)) + index as i128)
@@ -152,6 +150,17 @@ impl Finals {
     {
         match self.base(block) {
             Some(base) => magnitude(base),
+            None => 0,
+        }
+    }
+
+    /// The address of a literal; a word that is none counts as at 0.
+    pub(crate) fn literal_address(&self, word: u64) -> u64
+        ensures address { result ≡ address_of (final_value (⟦<Finals as Gathered>⟧.gathered self.now) (literal word)) }
+        ensures bound { result < 2 ^ 60 }
+    {
+        match self.literal(word) {
+            Some(address) => magnitude(address),
             None => 0,
         }
     }
@@ -193,6 +202,27 @@ impl Finals {
     {
         u128::from(self.blocks.size(None)) + self.pool.len() as u128
     }
+}
+
+/// The pool with more literals, where there is room for them.
+fn insert_literals(pool: &mut IndexSet<u64>, literals: &[u64])
+    requires { length literals.now ≤ spare pool.old }
+    ensures { pool.new.keys ≡ insert_all nat_eq pool.old.keys literals.now }
+{
+    for literal in literals {
+        insert_literal(pool, *literal);
+    }
+}
+
+/// The pool with one more literal, once.
+fn insert_literal(pool: &mut IndexSet<u64>, literal: u64)
+    requires { 0 < spare pool.old }
+    ensures keys { pool.new.keys ≡ insert_key nat_eq pool.old.keys literal }
+    ensures room { spare pool.old ≤ spare pool.new + 1 }
+{
+    let Ok(_) = pool.insert(literal) else {
+        unreachable!();
+    };
 }
 
 /// The first name that statements give the program.

@@ -5,11 +5,13 @@ mod blocks;
 mod finals;
 mod gather;
 mod line_flags;
+mod literals;
 mod names;
 mod outcome;
 mod pieces;
 mod row;
 mod rows;
+mod symbols;
 mod valued;
 
 pub use finals::{Finals, Gathered};

@@ -45,7 +45,7 @@ fn join_content_rows(flags: Flags, made: &Made, finals: &Finals) -> Flags
     let mut at = made.start();
     for content in made.contents() {
         let address = base + u64::from(at / WORD);
-        let row = row_at(machine, own, is_later, here, address, content, finals);
+        let row = row_at(made, own, is_later, here, address, content, finals);
         flags = flags.joined(row.flags);
         own = Flags::none();
         is_later = true;

@@ -1,8 +1,9 @@
 //! The symbols that a line reads, and those that it defines.
 ghost use Rattle.std.specs.Prelude.{◌≡◌, [], ◌++◌, flat_map, OnOk, IfOk};
-ghost use Rattle.cps_expr.specs.Expression.{names_of};
+ghost use Rattle.cps_code.specs.Operand.{operand_names};
 ghost use Rattle.cps_expr.specs.Value.{same_name};
-ghost use Rattle.cps_final.specs.Outcome.{content_names, later_names, symbol_put};
+ghost use Rattle.cps_state.specs.Made.{content_names};
+ghost use Rattle.cps_final.specs.Outcome.{later_names, symbol_put};
 ghost use Rattle.indexmap.specs.IndexSet.{insert_all};
 
 use cps_code::Hole;
@@ -35,10 +36,11 @@ pub fn defined_names(alloc: Global, puts: &[Put]) -> Result<IndexSet<Name>, Allo
 fn insert_symbol(names: &mut IndexSet<Name>, key: Key) -> Result<(), AllocError>
     ensures { OnOk result (names.new.keys ≡ insert_all same_name names.old.keys (symbol_put key)) }
 {
-    if let Key::Label(name) = key {
-        names.insert(name)?;
+    match key {
+        Key::Label(name) => insert_names(names, &[name]),
+        Key::Setting(name) => insert_names(names, &[name]),
+        _ => Ok(()),
     }
-    Ok(())
 }
 
 fn insert_later_names(names: &mut IndexSet<Name>, items: &[Item]) -> Result<(), AllocError>
@@ -72,10 +74,10 @@ fn insert_content_names(names: &mut IndexSet<Name>, content: &Content) -> Result
 }
 
 fn insert_hole_names(names: &mut IndexSet<Name>, holes: &[Hole]) -> Result<(), AllocError>
-    ensures { OnOk result (names.new.keys ≡ insert_all same_name names.old.keys (flat_map (λ hole. names_of hole.expression) holes.now)) }
+    ensures { OnOk result (names.new.keys ≡ insert_all same_name names.old.keys (flat_map (λ hole. operand_names hole.operand) holes.now)) }
 {
     for hole in holes {
-        insert_names(names, hole.expression.names())?;
+        insert_names(names, hole.operand.names())?;
     }
     Ok(())
 }

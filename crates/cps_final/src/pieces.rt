@@ -134,7 +134,7 @@ fn push_contents(
     let mut at = made.start();
     for content in made.contents() {
         let width = content.width();
-        let number = value_content(content, finals, here).number;
+        let number = value_content(content, made, finals, here).number;
         push_run(
             pieces,
             base,

@@ -1,5 +1,8 @@
 //! The rows of a statement in pass two.
-ghost use Rattle.std.specs.Prelude.{◌≡◌, ◌++◌, ◌≤◌, ◌<◌, ◌^◌, false, flat_map, OnOk, IfOk};
+ghost use Rattle.std.specs.Prelude.{◌≡◌, ◌++◌, ◌≤◌, ◌<◌, ◌^◌, false, nat_le, flat_map, OnOk, IfOk};
+ghost use Rattle.std.specs.List.{list_any};
+ghost use Rattle.cps_code.specs.Operand.{operand_literals};
+ghost use Rattle.cps_state.specs.Machines.{limit};
 ghost use Rattle.cps_state.specs.Made.{IsContent};
 ghost use Rattle.cps_final.specs.Finals.{final_value};
 ghost use Rattle.cps_final.specs.Outcome as outcome;
@@ -7,7 +10,7 @@ ghost use Rattle.cps_final.specs.Outcome as outcome;
 use crate::finals::{Finals, Gathered};
 use crate::row::{Digits, Row};
 use crate::valued::{first_address, value_content};
-use cps_code::complement;
+use cps_code::{Hole, Operand, complement};
 use cps_expr::Machine;
 use cps_state::{Content, Flags, Item, Made, Shown, WORD, behind, limit_of};
 use std::alloc::{AllocError, Global};
@@ -56,7 +59,7 @@ fn push_content_rows(rows: &mut Vec<Row>, made: &Made, finals: &Finals) -> Resul
     let mut at = made.start();
     for content in made.contents() {
         let address = base + u64::from(at / WORD);
-        rows.push(row_at(machine, flags, is_later, here, address, content, finals))?;
+        rows.push(row_at(made, flags, is_later, here, address, content, finals))?;
         flags = Flags::none();
         is_later = true;
         at = behind(machine, at, content.width());
@@ -66,7 +69,7 @@ fn push_content_rows(rows: &mut Vec<Row>, made: &Made, finals: &Finals) -> Resul
 
 /// The row of a content of the statement that starts in one word, itself in another.
 pub fn row_at(
-    machine: Machine,
+    made: &Made,
     flags: Flags,
     is_later: bool,
     here: u64,
@@ -76,12 +79,14 @@ pub fn row_at(
 ) -> Row
     requires low { here < 2 ^ 62 }
     requires each { IsContent content.now }
-    ensures { result ≡ outcome.row_at (outcome.labels_by (final_value (⟦<Finals as Gathered>⟧.gathered finals.now))) machine flags is_later here address content.now }
+    ensures { result ≡ outcome.row_at (outcome.known_in (final_value (⟦<Finals as Gathered>⟧.gathered finals.now)) made.now) made.now.machine flags is_later here address content.now }
 {
-    let valued = value_content(content, finals, here);
+    let machine = made.machine();
+    let valued = value_content(content, made, finals, here);
     Row {
         flags: flags
             .joined(valued.flags)
+            .joined(literal_flags(machine, content, finals))
             .joined(limit_flags(machine, address)),
         location: Some(address),
         code: Some(first_digits(content, valued.number)),
@@ -105,13 +110,13 @@ pub fn blank_row(flags: Flags) -> Row
 
 /// The flags of a statement, and those that its contents give.
 pub fn flags_with_contents(made: &Made, finals: &Finals) -> Flags
-    ensures { result ≡ outcome.with_contents (outcome.labels_by (final_value (⟦<Finals as Gathered>⟧.gathered finals.now)))
+    ensures { result ≡ outcome.with_contents (outcome.known_in (final_value (⟦<Finals as Gathered>⟧.gathered finals.now)) made.now)
         (outcome.first_address (final_value (⟦<Finals as Gathered>⟧.gathered finals.now)) made.now) made.now.flags made.now.contents }
 {
     let here = first_address(made, finals.address_of(made.block()));
     let mut flags = made.flags();
     for content in made.contents() {
-        flags = flags.joined(value_content(content, finals, here).flags);
+        flags = flags.joined(value_content(content, made, finals, here).flags);
     }
     flags
 }
@@ -123,6 +128,42 @@ fn limit_flags(machine: Machine, address: u64) -> Flags
     let mut flags = Flags::none();
     flags.structure = address >= u64::from(limit_of(machine));
     flags
+}
+
+/// E where a literal stands at or past the machine's words.
+fn literal_flags(machine: Machine, content: &Content, finals: &Finals) -> Flags
+    ensures { result ≡ outcome.literal_flags (outcome.literal_in (final_value (⟦<Finals as Gathered>⟧.gathered finals.now))) machine content.now }
+{
+    let mut flags = Flags::none();
+    flags.structure = match content {
+        Content::Instruction(form) => has_far_literal(machine, form.holes(), finals),
+        Content::Peripheral(form) => has_far_literal(machine, form.holes(), finals),
+        _ => false,
+    };
+    flags
+}
+
+/// Whether one of the literals in holes stands there.
+fn has_far_literal(machine: Machine, holes: &[Hole], finals: &Finals) -> bool
+    ensures { result ≡ list_any (λ word. nat_le (limit machine) (outcome.literal_in (final_value (⟦<Finals as Gathered>⟧.gathered finals.now)) word))
+        (flat_map (λ hole. operand_literals hole.operand) holes.now) }
+{
+    for hole in holes {
+        if is_far_literal(machine, &hole.operand, finals) {
+            return true;
+        }
+    }
+    false
+}
+
+fn is_far_literal(machine: Machine, operand: &Operand, finals: &Finals) -> bool
+    ensures { result ≡ list_any (λ word. nat_le (limit machine) (outcome.literal_in (final_value (⟦<Finals as Gathered>⟧.gathered finals.now)) word))
+        (operand_literals operand.now) }
+{
+    match operand {
+        Operand::Expression(_) => false,
+        Operand::Literal(word) => finals.literal_address(*word) >= u64::from(limit_of(machine)),
+    }
 }
 
 /// The row of a statement without contents.

@@ -8,7 +8,8 @@ ghost use Rattle.cps_final.specs.Finals.{final_value};
 ghost use Rattle.cps_final.specs.Outcome as outcome;
 
 use crate::finals::{Finals, Gathered};
-use cps_code::{CpForm, Filled, Hole, HoleKind, bits_of_value, fits_width};
+use crate::symbols::Symbols;
+use cps_code::{CpForm, Filled, Hole, HoleKind, Operand, bits_of_value, fits_width};
 use cps_expr::{Expr, Value};
 use cps_peripheral::PpForm;
 use cps_state::{Content, Flags, Made, WORD};
@@ -37,39 +38,39 @@ pub fn first_address(made: &Made, base: u64) -> u64
 }
 
 /// A content in which `*` stands for an address; a value that there is not counts as 0.
-pub fn value_content(content: &Content, finals: &Finals, address: u64) -> Valued
+pub fn value_content(content: &Content, made: &Made, finals: &Finals, address: u64) -> Valued
     requires low { address < 2 ^ 62 }
     requires each { IsContent content.now }
-    ensures number { result.number ≡ outcome.number_of (outcome.labels_by (final_value (⟦<Finals as Gathered>⟧.gathered finals.now))) address content.now }
-    ensures flags { result.flags ≡ outcome.value_flags (outcome.labels_by (final_value (⟦<Finals as Gathered>⟧.gathered finals.now))) address content.now }
+    ensures number { result.number ≡ outcome.number_of (outcome.known_in (final_value (⟦<Finals as Gathered>⟧.gathered finals.now)) made.now) address content.now }
+    ensures flags { result.flags ≡ outcome.value_flags (outcome.known_in (final_value (⟦<Finals as Gathered>⟧.gathered finals.now)) made.now) address content.now }
     ensures fits { result.number < 2 ^ width_of content.now }
 {
     match content {
-        Content::Instruction(form) => value_instruction(form, finals, address),
-        Content::Peripheral(form) => value_peripheral(form, finals, address),
-        Content::Value(width, expression) => value_in(*width, expression, finals, address),
+        Content::Instruction(form) => value_instruction(form, made, finals, address),
+        Content::Peripheral(form) => value_peripheral(form, made, finals, address),
+        Content::Value(width, expression) => value_in(*width, expression, made, finals, address),
         Content::Number(_, number) => Valued {
             number: *number,
             flags: Flags::none(),
         },
         Content::Unsized(expression) => Valued {
             number: 0,
-            flags: value_of(expression, finals, address).flags,
+            flags: value_of(expression, made, finals, address).flags,
         },
     }
 }
 
 /// The value of an expression in so many bits.
-fn value_in(width: u8, expression: &Expr, finals: &Finals, address: u64) -> Valued
+fn value_in(width: u8, expression: &Expr, made: &Made, finals: &Finals, address: u64) -> Valued
     requires low { address < 2 ^ 62 }
     requires some { 0 < width }
     requires few { width ≤ 60 }
-    ensures number { result.number ≡ put_value width (outcome.number_at (outcome.labels_by (final_value (⟦<Finals as Gathered>⟧.gathered finals.now))) address expression.now) }
-    ensures flags { result.flags ≡ record (outcome.expression_flags (outcome.labels_by (final_value (⟦<Finals as Gathered>⟧.gathered finals.now))) address expression.now)
-        { cut = not (fits_width width (outcome.number_at (outcome.labels_by (final_value (⟦<Finals as Gathered>⟧.gathered finals.now))) address expression.now)) } }
+    ensures number { result.number ≡ put_value width (outcome.number_at (outcome.values_in (final_value (⟦<Finals as Gathered>⟧.gathered finals.now)) made.now.held) address expression.now) }
+    ensures flags { result.flags ≡ record (outcome.expression_flags (outcome.values_in (final_value (⟦<Finals as Gathered>⟧.gathered finals.now)) made.now.held) address expression.now)
+        { cut = not (fits_width width (outcome.number_at (outcome.values_in (final_value (⟦<Finals as Gathered>⟧.gathered finals.now)) made.now.held) address expression.now)) } }
     ensures fits { result.number < 2 ^ width }
 {
-    let value = value_of(expression, finals, address);
+    let value = value_of(expression, made, finals, address);
     let mut flags = value.flags;
     flags.cut = !fits_width(value.number, width);
     Valued {
@@ -79,16 +80,16 @@ fn value_in(width: u8, expression: &Expr, finals: &Finals, address: u64) -> Valu
 }
 
 /// An instruction of the central processor.
-fn value_instruction(form: &CpForm, finals: &Finals, address: u64) -> Valued
+fn value_instruction(form: &CpForm, made: &Made, finals: &Finals, address: u64) -> Valued
     requires { address < 2 ^ 62 }
-    ensures number { result.number ≡ outcome.form_number (outcome.labels_by (final_value (⟦<Finals as Gathered>⟧.gathered finals.now))) address form.now }
-    ensures flags { result.flags ≡ outcome.form_flags (outcome.labels_by (final_value (⟦<Finals as Gathered>⟧.gathered finals.now))) address form.now }
+    ensures number { result.number ≡ outcome.form_number (outcome.known_in (final_value (⟦<Finals as Gathered>⟧.gathered finals.now)) made.now) address form.now }
+    ensures flags { result.flags ≡ outcome.form_flags (outcome.known_in (final_value (⟦<Finals as Gathered>⟧.gathered finals.now)) made.now) address form.now }
     ensures fits { result.number < 2 ^ form.now.bits }
 {
     match form.holes() {
         [] => valued_form(form.fill(&[]), Flags::none()),
         [hole] => {
-            let value = value_hole(hole, finals, address);
+            let value = value_hole(hole, made, finals, address);
             valued_form(form.fill(&[value.number]), value.flags)
         }
         _ => unreachable!(),
@@ -96,21 +97,21 @@ fn value_instruction(form: &CpForm, finals: &Finals, address: u64) -> Valued
 }
 
 /// An instruction of a peripheral processor.
-fn value_peripheral(form: &PpForm, finals: &Finals, address: u64) -> Valued
+fn value_peripheral(form: &PpForm, made: &Made, finals: &Finals, address: u64) -> Valued
     requires { address < 2 ^ 62 }
-    ensures number { result.number ≡ outcome.form_number (outcome.labels_by (final_value (⟦<Finals as Gathered>⟧.gathered finals.now))) address form.now }
-    ensures flags { result.flags ≡ outcome.form_flags (outcome.labels_by (final_value (⟦<Finals as Gathered>⟧.gathered finals.now))) address form.now }
+    ensures number { result.number ≡ outcome.form_number (outcome.known_in (final_value (⟦<Finals as Gathered>⟧.gathered finals.now)) made.now) address form.now }
+    ensures flags { result.flags ≡ outcome.form_flags (outcome.known_in (final_value (⟦<Finals as Gathered>⟧.gathered finals.now)) made.now) address form.now }
     ensures fits { result.number < 2 ^ form.now.bits }
 {
     match form.holes() {
         [] => valued_form(form.fill(&[]), Flags::none()),
         [hole] => {
-            let value = value_hole(hole, finals, address);
+            let value = value_hole(hole, made, finals, address);
             valued_form(form.fill(&[value.number]), value.flags)
         }
         [hole, other_hole] => {
-            let value = value_hole(hole, finals, address);
-            let other = value_hole(other_hole, finals, address);
+            let value = value_hole(hole, made, finals, address);
+            let other = value_hole(other_hole, made, finals, address);
             valued_form(
                 form.fill(&[value.number, other.number]),
                 value.flags.joined(other.flags),
@@ -135,12 +136,12 @@ fn valued_form(filled: Filled, flags: Flags) -> Valued
 }
 
 /// What goes into a hole.
-fn value_hole(hole: &Hole, finals: &Finals, address: u64) -> Counted
+fn value_hole(hole: &Hole, made: &Made, finals: &Finals, address: u64) -> Counted
     requires { address < 2 ^ 62 }
-    ensures number { result.number ≡ outcome.number_for hole.now.kind address (outcome.number_at (outcome.labels_by (final_value (⟦<Finals as Gathered>⟧.gathered finals.now))) address hole.now.expression) }
-    ensures flags { result.flags ≡ outcome.expression_flags (outcome.labels_by (final_value (⟦<Finals as Gathered>⟧.gathered finals.now))) address hole.now.expression }
+    ensures number { result.number ≡ outcome.number_for hole.now.kind address (outcome.operand_number (outcome.known_in (final_value (⟦<Finals as Gathered>⟧.gathered finals.now)) made.now) address hole.now.operand) }
+    ensures flags { result.flags ≡ outcome.operand_flags (outcome.known_in (final_value (⟦<Finals as Gathered>⟧.gathered finals.now)) made.now) address hole.now.operand }
 {
-    let value = value_of(&hole.expression, finals, address);
+    let value = value_operand(&hole.operand, made, finals, address);
     match hole.kind {
         HoleKind::Value | HoleKind::Count => value,
         HoleKind::Target => Counted {
@@ -150,14 +151,34 @@ fn value_hole(hole: &Hole, finals: &Finals, address: u64) -> Counted
     }
 }
 
-/// The value of an expression in which `*` stands for an address.
-fn value_of(expression: &Expr, finals: &Finals, address: u64) -> Counted
+/// What goes into a hole that takes values: the value of an expression, or the address of a literal.
+fn value_operand(operand: &Operand, made: &Made, finals: &Finals, address: u64) -> Counted
     requires { address < 2 ^ 62 }
-    ensures number { result.number ≡ outcome.number_at (outcome.labels_by (final_value (⟦<Finals as Gathered>⟧.gathered finals.now))) address expression.now }
-    ensures flags { result.flags ≡ outcome.expression_flags (outcome.labels_by (final_value (⟦<Finals as Gathered>⟧.gathered finals.now))) address expression.now }
+    ensures number { result.number ≡ outcome.operand_number (outcome.known_in (final_value (⟦<Finals as Gathered>⟧.gathered finals.now)) made.now) address operand.now }
+    ensures flags { result.flags ≡ outcome.operand_flags (outcome.known_in (final_value (⟦<Finals as Gathered>⟧.gathered finals.now)) made.now) address operand.now }
     ensures range { IsInRange result.number }
 {
-    let valued = expression.value(finals, Value::plain(address as i64));
+    match operand {
+        Operand::Expression(expression) => value_of(expression, made, finals, address),
+        Operand::Literal(word) => Counted {
+            number: finals.literal_address(*word) as i64,
+            flags: Flags::none(),
+        },
+    }
+}
+
+/// The value of an expression in which `*` stands for an address.
+fn value_of(expression: &Expr, made: &Made, finals: &Finals, address: u64) -> Counted
+    requires { address < 2 ^ 62 }
+    ensures number { result.number ≡ outcome.number_at (outcome.values_in (final_value (⟦<Finals as Gathered>⟧.gathered finals.now)) made.now.held) address expression.now }
+    ensures flags { result.flags ≡ outcome.expression_flags (outcome.values_in (final_value (⟦<Finals as Gathered>⟧.gathered finals.now)) made.now.held) address expression.now }
+    ensures range { IsInRange result.number }
+{
+    let symbols = Symbols {
+        finals,
+        held: made.held(),
+    };
+    let valued = expression.value(&symbols, Value::plain(address as i64));
     let offset = plain_offset(valued.value);
     let mut flags = Flags::none();
     flags.operand = offset.is_none();
