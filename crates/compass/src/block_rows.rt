@@ -116,6 +116,103 @@ fn assembles_blocks(rt: HostRuntime) -> Result<(), Fail> {
     assert_rows(&rt, rt.alloc(), &ROWS)
 }
 
+/// Differences of labels in one block and in two, and other values in a block.
+const DIFFERENCES: [&str; 22] = [
+    "         USE     W",
+    "A        BSS     3",
+    "B        BSS     1",
+    "         USE     V",
+    "C        BSS     1",
+    "         USE     0",
+    "         BSS     B-A",
+    "         CON     B-A,C-B",
+    "D        EQU     C-B",
+    "         BSS     C-B",
+    "         VFD     B-A/1",
+    "         VFD     B/1",
+    "         BSS     B",
+    "         BSS     1+B-A",
+    "         BSS     A-B",
+    "E        EQU     B-A*1",
+    "F        EQU     -A+B",
+    "         DIS     B-A,X",
+    "G        EQU     A+B",
+    "H        EQU     1+A",
+    "I        EQU     H-A",
+    "         CON     H,I",
+];
+
+/// The named block begins at the last word.
+const PAST_LIMIT: [&str; 8] = [
+    "         ORG     131070",
+    "         CON     1",
+    "         USE     W",
+    "         CON     2,3",
+    "A        SA1     A",
+    "         BSS     0",
+    "         ORG     131073",
+    "         ORG     A+131072",
+];
+
+#[test]
+fn values_labels_in_blocks(rt: HostRuntime) -> Result<(), Fail> {
+    const ROWS: [(&[&str], &str, &str); 4] = [
+        (
+            &DIFFERENCES,
+            "flags",
+            "9 A\n10 A\n12 V\n13 A\n15 A\n16 A\n17 A\n19 A\n8 flagged lines\n",
+        ),
+        (
+            &DIFFERENCES,
+            "binary",
+            "IDENT
+000003 00000000000000000003
+000004 00000000000000000001
+000005 10000460004600046000
+000012 30555555555555555555
+000013 55555555555555555555
+000014 55555555555555555555
+000015 00000000000000000020
+000016 00000000000000000001
+",
+        ),
+        (
+            &PAST_LIMIT,
+            "list",
+            "         377776                           1          ORG     131070
+         377776 00000000000000000001      2          CON     1
+                                          3          USE     W
+         377777 00000000000000000002      4          CON     2,3
+E        400000 00000000000000000003
+E        400001 5110400001                5 A        SA1     A
+E        400002                           6          BSS     0
+E                                         7          ORG     131073
+E                                         8          ORG     A+131072
+",
+        ),
+        (
+            &PAST_LIMIT,
+            "binary",
+            "IDENT\n377776 00000000000000000001\n377777 00000000000000000002\n",
+        ),
+    ];
+    assert_rows(&rt, rt.alloc(), &ROWS)
+}
+
+/// A label in a block goes with the size of what stands before the block.
+#[test]
+fn blocks_follow_edits(rt: HostRuntime) -> Result<(), Fail> {
+    assert_replies(
+        &rt,
+        rt.alloc(),
+        0,
+        "a          SA1     BUF\na          USE     WORK\na BUF      BSS     2\ni 1          NO\ni 2          NO\n\
+         binary\ni 3          NO\nbinary\n",
+        "ok 1 lines\nok 2 lines\nok 3 lines\nok 4 lines\nok 5 lines\nIDENT\n000000 51100000014600046000\n\
+         ok 6 lines\nIDENT\n000000 51100000024600046000\n000001 46000460004600046000\n",
+    )
+}
+
 /// A script that enters lines, and the replies to it.
 #[derive(Drop)]
 struct Entered {

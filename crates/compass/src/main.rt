@@ -14,11 +14,15 @@ mod column_rows;
 #[cfg(test)]
 mod devices;
 #[cfg(test)]
+mod literal_rows;
+#[cfg(test)]
 mod peripheral_rows;
 #[cfg(test)]
 mod replies;
 #[cfg(test)]
 mod script_rows;
+#[cfg(test)]
+mod set_rows;
 #[cfg(test)]
 mod source_rows;
 #[cfg(test)]

@@ -2,7 +2,7 @@
 use super::assertions::{assert_row, assert_same};
 use super::same_value::UNDEFINED;
 use cps_code::{
-    CpForm, Filled, Force, FormFault, Piece, Place, Placed, Words, cp_form, place_next,
+    CpForm, Filled, Force, FormFault, Operand, Piece, Place, Placed, Words, cp_form, place_next,
 };
 use cps_expr::{Radix, Value};
 use cps_text::Name;
@@ -14,13 +14,29 @@ fn read(alloc: Global, operation: &[u8], tail: &[u8], radix: Radix) -> Result<Cp
     cp_form(alloc, operation, tail, radix)
 }
 
-/// The code of a form with the values of its expressions, where no name is defined and `*` is 3.
+/// The value of an expression where no name is defined, or a literal's word in place of its address.
+pub fn number_of(operand: &Operand, here: i64) -> Result<i64, Fail> {
+    match operand {
+        Operand::Expression(expression) => {
+            let valued = expression.value(&UNDEFINED, Value::plain(here));
+            let value = valued.value.ok_or("a value")?;
+            Ok(value.offset)
+        }
+        Operand::Literal(word) => {
+            let Ok(number) = i64::try_from(*word) else {
+                return Err(Fail::from("not a word"));
+            };
+            Ok(number)
+        }
+    }
+}
+
+/// The code of a form with its operand's number in its hole, `*` being 3.
 pub fn filled(form: &CpForm) -> Result<Filled, Fail> {
     match form.holes() {
         [] => Ok(form.fill(&[])),
         [hole] => {
-            let valued = hole.expression.value(&UNDEFINED, Value::plain(3));
-            let number = valued.value.ok_or("a value")?.offset;
+            let number = number_of(&hole.operand, 3)?;
             Ok(form.fill(&[number]))
         }
         _ => Err(Fail::from("more than one hole")),
@@ -29,7 +45,7 @@ pub fn filled(form: &CpForm) -> Result<Filled, Fail> {
 
 #[test]
 fn codes_statements(rt: HostRuntime) -> Result<(), Fail> {
-    const ROWS: [(&[u8], &[u8], u64, bool); 22] = [
+    const ROWS: [(&[u8], &[u8], u64, bool); 26] = [
         (b"SA1", b"B1+3", 0o5111000003, false),
         (b"SX6", b"X1", 0o73610, false),
         (b"SA6", b"A1", 0o54610, false),
@@ -52,6 +68,10 @@ fn codes_statements(rt: HostRuntime) -> Result<(), Fail> {
         (b"Sx6", b"-b1", 0o77601, false),
         (b"eQ", b"17b", 0o0400000017, false),
         (b"No", b"1,2", 0o46000, false),
+        (b"SA1", b"=17B", 0o5110000017, false),
+        (b"JP", b"=1RA", 0o0200000001, false),
+        (b"NE", b"B1,B2,=3RA,b", 0o0512015602, false),
+        (b"EQ", b"=r/ a/ X", 0o0400005501, false),
     ];
     for (at, (operation, tail, digits, is_truncated)) in ROWS.iter().enumerate() {
         let form = read(rt.alloc(), operation, tail, Radix::Decimal)?;
@@ -67,7 +87,7 @@ fn codes_statements(rt: HostRuntime) -> Result<(), Fail> {
 
 #[test]
 fn refuses_statements(rt: HostRuntime) -> Result<(), Fail> {
-    const ROWS: [(&[u8], &[u8], Radix, FormFault); 15] = [
+    const ROWS: [(&[u8], &[u8], Radix, FormFault); 16] = [
         (b"XX", b"1", Radix::Decimal, FormFault::NoOperation),
         (b"SA1", b"-X1", Radix::Decimal, FormFault::Unreadable),
         (b"EQ", b"X1", Radix::Decimal, FormFault::Unreadable),
@@ -75,14 +95,15 @@ fn refuses_statements(rt: HostRuntime) -> Result<(), Fail> {
         (b"SA1", b"18", Radix::Octal, FormFault::Unreadable),
         (b"SA1", b"B1*2", Radix::Decimal, FormFault::Unreadable),
         (b"SA1", b"2*B1+1", Radix::Decimal, FormFault::Unreadable),
-        (b"SA1", b"=1", Radix::Decimal, FormFault::Unreadable),
+        (b"SA1", b"=8", Radix::Octal, FormFault::Unreadable),
+        (b"SA1", b"=1+B1", Radix::Decimal, FormFault::Unreadable),
         (b"SA1", b"B1+B2+2*", Radix::Decimal, FormFault::Unreadable),
         (b"xx", b"1", Radix::Decimal, FormFault::NoOperation),
         (b"sa8", b"1", Radix::Decimal, FormFault::NoOperation),
         (b"sa1", b"-x1", Radix::Decimal, FormFault::Unreadable),
         (b"EQ", b"1,2", Radix::Decimal, FormFault::Unreadable),
         (b"EQ", b" 1", Radix::Decimal, FormFault::Unreadable),
-        (b"EQ", b"=3HA B", Radix::Decimal, FormFault::Unreadable),
+        (b"EQ", b"=3HA BC", Radix::Decimal, FormFault::Unreadable),
     ];
     for (at, (operation, tail, radix, fault)) in ROWS.iter().enumerate() {
         let refused = read(rt.alloc(), operation, tail, *radix).err();
@@ -136,13 +157,16 @@ fn gathers_terms(rt: HostRuntime) -> Result<(), Fail> {
     let [hole] = form.holes() else {
         return Err(Fail::from("not one hole"));
     };
+    let Operand::Expression(expression) = &hole.operand else {
+        return Err(Fail::from("not an expression"));
+    };
     let mut names = Vec::new(rt.alloc());
-    for name in hole.expression.names() {
+    for name in expression.names() {
         names.push(name.text())?;
     }
     let want: [&[u8]; 2] = [b"FIRST", b"FIRST"];
     assert_same(&rt, "names", &names.as_slice(), &want.as_slice());
-    let valued = hole.expression.value(&UNDEFINED, Value::plain(3));
+    let valued = expression.value(&UNDEFINED, Value::plain(3));
     let got = (valued.value, valued.undefined);
     assert_same(&rt, "the value", &got, &(Some(Value::plain(-6)), true));
     Ok(())

@@ -3,7 +3,10 @@ use super::assertions::{assert_row, assert_row_text, assert_same};
 use super::given::Given;
 use super::given::Given::{Plain, Within};
 use super::same_value::{SameValue, UNDEFINED};
-use cps_expr::{Expr, ExprFault, Machine, Radix, Value, read_item};
+use cps_expr::{
+    Expr, ExprFault, Machine, Radix, Value, read_expression, read_item, read_last, read_only,
+};
+use cps_text::operands;
 use std::alloc::Global;
 use std::test::Fail;
 
@@ -152,6 +155,49 @@ fn tells_undefined_names(rt: HostRuntime) -> Result<(), Fail> {
     let counted = read(rt.alloc(), b"2*3**", Radix::Decimal)?;
     assert!(rt; counted.has_counter());
     assert!(rt; counted.names().is_empty());
+    Ok(())
+}
+
+/// The value of an expression whose names are undefined, `*` being plain 3.
+fn number(expression: &Expr) -> Option<i64> {
+    let (value, _) = valued(expression, &UNDEFINED, Value::plain(3));
+    value.map(|value| value.offset)
+}
+
+fn number_of_text(alloc: Global, text: &[u8]) -> Result<Option<i64>, ExprFault> {
+    let expression = read_expression(alloc, text, Radix::Decimal)?;
+    Ok(number(&expression))
+}
+
+fn number_of_only(alloc: Global, tail: &[u8]) -> Result<Option<i64>, ExprFault> {
+    let expression = read_only(alloc, tail, Radix::Decimal)?;
+    Ok(number(&expression))
+}
+
+fn number_of_last(alloc: Global, tail: &[u8]) -> Result<Option<i64>, ExprFault> {
+    match read_last(alloc, operands(tail), Radix::Decimal)? {
+        Some(expression) => Ok(number(&expression)),
+        None => Ok(None),
+    }
+}
+
+#[test]
+fn reads_operands(rt: HostRuntime) -> Result<(), Fail> {
+    type Number = Result<Option<i64>, ExprFault>;
+    const BAD: Number = Err(ExprFault::Unreadable);
+    // A tail as a whole text, as the only operand, and as the last operand if there is one.
+    const ROWS: [(&[u8], Number, Number, Number); 5] = [
+        (b"2**", Ok(Some(6)), Ok(Some(6)), Ok(Some(6))),
+        (b"2+1 X", BAD, Ok(Some(3)), Ok(Some(3))),
+        (b"", BAD, BAD, Ok(None)),
+        (b"2,1", BAD, BAD, BAD),
+        (b"B1", BAD, BAD, BAD),
+    ];
+    for (at, (tail, whole, only, last)) in ROWS.iter().enumerate() {
+        assert_row(&rt, at, &number_of_text(rt.alloc(), tail), whole);
+        assert_row(&rt, at, &number_of_only(rt.alloc(), tail), only);
+        assert_row(&rt, at, &number_of_last(rt.alloc(), tail), last);
+    }
     Ok(())
 }
 

@@ -365,3 +365,41 @@ fn cuts_past_the_limit(rt: HostRuntime) -> Result<(), Fail> {
     assert_same(&rt, "the block", &base, &Some(Value::plain(2)));
     Ok(())
 }
+
+/// A literal, and symbols that SET gives values: one of a block that has its address behind the pool.
+static POOLED: [Told; 6] = [
+    (b"         SA1     =5", " 000000 5110000001"),
+    (b"T        SET     7", "  00000000000000000007"),
+    (b"         USE     W", " "),
+    (b"B        BSS     1", " 000002"),
+    (b"T        SET     B+1", "  00000000000000000003"),
+    (b"         SX2     T", " 000003 7120000003"),
+];
+
+static POOLED_BITS: [Bits; 3] = [
+    (0, 0, 30, 0o5110000001, 1),
+    (0, 30, 30, 0o4600046000, 1),
+    (3, 0, 30, 0o7120000003, 1),
+];
+
+#[test]
+fn gathers_literals_and_settings(rt: HostRuntime) -> Result<(), Fail> {
+    const ROWS: [(Asked, Option<i64>); 6] = [
+        (Asked::Literal(5), Some(1)),
+        (Asked::Literal(7), None),
+        (Asked::Setting(b"T"), Some(3)),
+        (Asked::Setting(b"B"), None),
+        (Asked::Label(b"B"), Some(2)),
+        (Asked::Block(b"W"), Some(2)),
+    ];
+    let gather = Gather::new(rt.alloc());
+    let finals = assert_assembled(&rt, rt.alloc(), gather, &POOLED, &POOLED_BITS)?;
+    for (at, (asked, want)) in ROWS.iter().enumerate() {
+        let got = final_value(&finals, *asked)?;
+        let want = want.map(|number| Value::plain(number));
+        assert_row(&rt, at, &got, &want);
+    }
+    let pool: &[u64] = &[5];
+    assert_same(&rt, "the pool", &finals.pool(), &pool);
+    Ok(())
+}

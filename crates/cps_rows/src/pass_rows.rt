@@ -9,6 +9,7 @@ use cps_pass::{
     Answer, Asked, Content, Control, Head, Key, Lookup, Made, Phase, Put, State, Tally, Trace,
     Work, step_one,
 };
+use cps_state::Recorder;
 use cps_text::push_octal;
 use std::alloc::Global;
 use std::process::Abort;
@@ -102,6 +103,10 @@ fn folds_a_program(rt: HostRuntime) -> Result<(), Fail> {
             key: Key::Label(start),
             answer: None,
         },
+        Asked {
+            key: Key::Setting(start),
+            answer: None,
+        },
     ];
     assert_same(&rt, "what is asked", &trace.asks(), &asks.as_slice());
     let puts = [
@@ -152,7 +157,7 @@ fn takes_other_answers_for_the_first(rt: HostRuntime) -> Result<(), Fail> {
         answer: Answer::Control(FIRST),
     };
     let trace = step(rt.alloc(), &mut work, b"L        NO", &late)?;
-    assert_same(&rt, "what is asked", &trace.asks().len(), &3);
+    assert_same(&rt, "what is asked", &trace.asks().len(), &4);
     Ok(())
 }
 
@@ -244,7 +249,8 @@ fn has_asked(trace: &Trace, key: Key) -> bool {
     trace.asks().iter().any(|asked| asked.key == key)
 }
 
-/// Asserts that a line asks the control, the counter in use and the symbols of these letters, and no more.
+/// Asserts that a line asks the control, the counter in use and the symbols of these letters, and no more: of a capital
+/// all that the symbol stands for, of a small letter what SET gave it.
 fn assert_asked(
     rt: &impl Abort,
     alloc: Global,
@@ -256,7 +262,11 @@ fn assert_asked(
     keys.push(Key::Control)?;
     keys.push(Key::Counter(None))?;
     for letter in letters {
-        keys.push(Key::Label(name(&[*letter])?))?;
+        let symbol = name(&[*letter])?;
+        keys.push(Key::Setting(symbol))?;
+        if letter.is_ascii_uppercase() {
+            keys.push(Key::Label(symbol))?;
+        }
     }
     for key in keys.iter() {
         assert!(rt; has_asked(trace, *key), "{key:?} in {at}");
@@ -328,7 +338,7 @@ static CENTRAL: [&'static [u8]; 3] = [b"N        EQU     3", b"         ORG     
 static CENTRAL_CASES: [Case; 10] = [
     (
         b"A        CON     1,B,N",
-        b"A",
+        b"Abn",
         Some(540),
         Some(6),
         " 000006.00 <45 V60 V60 V60",
@@ -342,14 +352,14 @@ static CENTRAL_CASES: [Case; 10] = [
     ),
     (
         b"A        VFD     12/7,N/B",
-        b"AN",
+        b"ANb",
         Some(375),
         Some(6),
         " 000006.00 <45 V12 V03",
     ),
     (
         b"         VFD     61/0,M/1,N/2,576460752303423487+1/B",
-        b"MN",
+        b"MNb",
         Some(315),
         None,
         "AUV 000005.15 U00 U00 V03 U00 flags",
@@ -420,7 +430,7 @@ static PERIPHERAL_CASES: [Case; 8] = [
     ),
     (
         b"         LDN     B",
-        b"",
+        b"b",
         Some(360),
         None,
         " 000005.00 P12",
@@ -441,7 +451,7 @@ static PERIPHERAL_CASES: [Case; 8] = [
     ),
     (
         b"         CON     B,2",
-        b"",
+        b"b",
         Some(420),
         None,
         " 000005.00 V12 V12",
@@ -472,4 +482,68 @@ static PERIPHERAL_CASES: [Case; 8] = [
 #[test]
 fn places_peripheral_words(rt: HostRuntime) -> Result<(), Fail> {
     assert_cases(&rt, rt.alloc(), &PERIPHERAL_LINES, &PERIPHERAL_CASES)
+}
+
+/// The state in which nothing stands but what a line asked, and what always stands.
+fn only_asked(alloc: Global, trace: &Trace) -> Result<State, Fail> {
+    let mut recorder = Recorder::new(alloc);
+    for asked in trace.asks() {
+        if let Some(answer) = &asked.answer {
+            recorder.put(asked.key, answer.share()?)?;
+        }
+    }
+    let mut state = State::first(alloc);
+    state.apply(&recorder.into_trace()?)?;
+    Ok(state)
+}
+
+/// Asserts that two lines of one statement do the same.
+fn assert_same_step(
+    rt: &impl Abort,
+    alloc: Global,
+    at: usize,
+    got: &Trace,
+    want: &Trace,
+) -> Result<(), Fail> {
+    assert_row(rt, at, &got.asks(), &want.asks());
+    assert_row(rt, at, &got.puts(), &want.puts());
+    assert_row(rt, at, &got.reads(), &want.reads());
+    let want = told(alloc, want)?;
+    assert_row_text(rt, at, &told(alloc, got)?, str::from_utf8(&want)?)
+}
+
+/// A line sees nothing of a state but what it asks. A row is a line, and how many keys it asks.
+#[test]
+fn steps_by_what_it_asks(rt: HostRuntime) -> Result<(), Fail> {
+    const BEFORE: [&[u8]; 6] = [
+        b"T        SET     1",
+        b"L        EQU     2",
+        b"         USE     W",
+        b"B        BSS     2",
+        b"         USE     0",
+        b"         NO",
+    ];
+    const ROWS: [(&[u8], usize); 8] = [
+        (b"         USE     V", 5),
+        (b"         USE     W", 4),
+        (b"         USE     *", 3),
+        (b"         USE     W,V", 3),
+        (b"T        SET     B-L+*", 8),
+        (b"L        SET     T", 5),
+        (b"A        CON     T,B+Q,L", 8),
+        (b"         ORG     B+1", 4),
+    ];
+    let mut state = State::first(rt.alloc());
+    let mut work = Work::new();
+    for text in BEFORE {
+        apply(rt.alloc(), &mut work, text, &mut state)?;
+    }
+    for (at, (text, asks)) in ROWS.iter().enumerate() {
+        let trace = step(rt.alloc(), &mut work, text, &state)?;
+        assert_row(&rt, at, &trace.asks().len(), asks);
+        let only = only_asked(rt.alloc(), &trace)?;
+        let again = step(rt.alloc(), &mut work, text, &only)?;
+        assert_same_step(&rt, rt.alloc(), at, &again, &trace)?;
+    }
+    Ok(())
 }

@@ -1,8 +1,8 @@
 //! Each row of the table of a peripheral processor: a target 5 words back, d 12, m 3456 and the constant 123456 octal.
 use super::assertions::assert_row;
-use super::same_value::UNDEFINED;
-use cps_code::{Filled, FormFault, Hole};
-use cps_expr::{Radix, Value};
+use super::code_rows::number_of;
+use cps_code::{Filled, FormFault};
+use cps_expr::Radix;
 use cps_peripheral::{PpForm, pp_form};
 use std::alloc::Global;
 use std::test::Fail;
@@ -49,7 +49,7 @@ static ONE_WORD: [(&'static [u8], &'static [u8], u64); 39] = [
     (b"FAN", b"12B", 0o7612),
 ];
 
-static TWO_WORDS: [(&'static [u8], &'static [u8], u64); 42] = [
+static TWO_WORDS: [(&'static [u8], &'static [u8], u64); 44] = [
     (b"LDC", b"123456B", 0o20123456),
     (b"ADC", b"123456B", 0o21123456),
     (b"LPC", b"123456B", 0o22123456),
@@ -92,25 +92,21 @@ static TWO_WORDS: [(&'static [u8], &'static [u8], u64); 42] = [
     (b"OAM", b"3456B,12B", 0o73123456),
     (b"FNC", b"3456B", 0o77003456),
     (b"FNC", b"3456B,12B", 0o77123456),
+    (b"LDM", b"=5,1", 0o50010005),
+    (b"LDC", b"=1LA", 0o20000100),
 ];
 
-/// The value of a hole's expression, where no name is defined and `*` is 0.
-fn number_of(hole: &Hole) -> Result<i64, Fail> {
-    let valued = hole.expression.value(&UNDEFINED, Value::plain(0));
-    let value = valued.value.ok_or("a value")?;
-    Ok(value.offset)
-}
-
+/// The code of a form with its operands' numbers in its holes, `*` being 0.
 fn filled(form: &PpForm) -> Result<Filled, Fail> {
     match form.holes() {
         [] => Ok(form.fill(&[])),
         [hole] => {
-            let number = number_of(hole)?;
+            let number = number_of(&hole.operand, 0)?;
             Ok(form.fill(&[number]))
         }
         [first, second] => {
-            let number = number_of(first)?;
-            let next = number_of(second)?;
+            let number = number_of(&first.operand, 0)?;
+            let next = number_of(&second.operand, 0)?;
             Ok(form.fill(&[number, next]))
         }
         _ => Err(Fail::from("more than two holes")),
@@ -171,7 +167,7 @@ fn flags_distances(rt: HostRuntime) -> Result<(), Fail> {
 
 #[test]
 fn refuses_peripheral_statements(rt: HostRuntime) -> Result<(), Fail> {
-    const ROWS: [(&[u8], &[u8], FormFault); 8] = [
+    const ROWS: [(&[u8], &[u8], FormFault); 11] = [
         (b"NO", b"", FormFault::NoOperation),
         (b"LDX", b"5", FormFault::NoOperation),
         (b"LD", b"5", FormFault::NoOperation),
@@ -180,6 +176,9 @@ fn refuses_peripheral_statements(rt: HostRuntime) -> Result<(), Fail> {
         (b"LDN", b"X1", FormFault::Unreadable),
         (b"LJM", b"5,", FormFault::Unreadable),
         (b"LJM", b"5,6,7", FormFault::Unreadable),
+        (b"LDN", b"=5", FormFault::Unreadable),
+        (b"LDM", b"5,=5", FormFault::Unreadable),
+        (b"LDC", b"=4096", FormFault::Unreadable),
     ];
     for (at, (operation, tail, fault)) in ROWS.iter().enumerate() {
         let got = read(rt.alloc(), operation, tail).err();
