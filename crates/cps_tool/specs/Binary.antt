@@ -11,7 +11,9 @@ use Rattle.cps_expr.specs.Item.{bits_of}
 use Rattle.cps_code.specs.Image.{Piece, packed_word}
 use Rattle.cps_state.specs.Machines.{limit}
 use Rattle.cps_final.specs.Finals.{Finals, finals_of, machine_of, final_value, literal}
-use Rattle.cps_final.specs.Outcome.{Outcome, address_of, placed}
+use Rattle.cps_final.specs.Values.{address_of}
+use Rattle.cps_final.specs.Pieces.{placed}
+use Rattle.cps_final.specs.Outcome.{Outcome}
 use Rattle.cps_tool.specs.Assembly.{traces_of, outcomes_of, pieces_in}
 
 -- ---- words

@@ -5,7 +5,7 @@ ghost use Rattle.cps_code.specs.Image as image;
 ghost use Rattle.cps_code.specs.Image.{piece_of, ArePacked};
 ghost use Rattle.cps_state.specs.Machines.{limit};
 ghost use Rattle.cps_final.specs.Finals.{final_value, literal};
-ghost use Rattle.cps_final.specs.Outcome.{address_of};
+ghost use Rattle.cps_final.specs.Values.{address_of};
 ghost use Rattle.cps_tool.specs.Assembly.{outcomes_under};
 ghost use Rattle.cps_tool.specs.Making.{Adds};
 ghost use Rattle.cps_tool.specs.Binary as texts;
