@@ -1,5 +1,5 @@
-use Rattle.std.proofs.Common.{rules, ◌∙◌}
-use Rattle.cps_pass.proofs.HoldingLemmas.{held-next, held-end}
+use Rattle.std.proofs.Common.{◌∙◌}
+use Rattle.cps_pass.proofs.HoldingLemmas.{held-next}
 use Rattle.cps_pass.proofs.holding.settings_now.Goals as goal
 
 pub loop-name-preserved : goal.loop-name-preserved
