@@ -4,7 +4,7 @@ use Rattle.cps_state.specs.Course.{Trace}
 use Rattle.cps_state.specs.Made.{Made, content_literals}
 use Rattle.cps_final.specs.Distinct.{distinct}
 
--- the literal words of a statement, also of one that makes nothing but flags
+-- the literal words of a statement, also of one that makes nothing because it would pass the machine's words
 abbrev pub literals_of : Made → List ℕ
 literals_of made = flat_map content_literals made.contents
 

@@ -1,4 +1,5 @@
--- Pass two: the rows of a statement. From the manual's section on the listing; the machine's limit is our profile's.
+-- Pass two: the rows of a statement. From the manual's section on the listing; the flag at the machine's limit, and which columns a row shows, are our
+-- profile's.
 use Rattle.std.specs.Prelude.{ℕ, ◌+◌, ◌/◌, ◌%◌, ◌^◌, Bool, true, false, nat_le, nat_lt, List, [], ◌∷◌, fold, nat_abs, Option, None, Some, option_map, if◌then◌else◌}
 use Rattle.std.specs.List.{list_any}
 use Rattle.cps_expr.specs.declared.machine.Machine.{Machine}
@@ -38,7 +39,7 @@ second_digits content number = if is_parted content then Some (digits_for (bits_
 abbrev pub limit_flags : Machine → ℕ → Flags
 limit_flags machine address = record no_flags { structure = nat_le (limit machine) address }
 
--- E where a literal stands there
+-- E where a literal's word stands at or past them
 abbrev pub literal_flags : (ℕ → ℕ) → Machine → Content → Flags
 literal_flags literals machine content = record no_flags { structure = list_any (λ word. nat_le (limit machine) (literals word)) (content_literals content) }
 

@@ -1,5 +1,5 @@
 -- Pass two: what the contents of a statement give, where everything that can be named has its final value: their numbers and the flags of their values.
--- From the manual's sections on the two passes, on SET and on literals; that a name that is never defined counts as 0 is our profile's.
+-- From the manual's sections on the two passes, on SET and on literals; that a name that is never defined, and what has no value, count as 0 is our profile's.
 use Rattle.std.specs.Prelude.{ℕ, ◌+◌, ◌/◌, Bool, false, ◌||◌, not, List, [], ◌∷◌, map, ℤ, pos, ◌-ℤ◌, nat_abs, Option, None, Some, is_none, unwrap_or, if◌then◌else◌}
 use Rattle.std.specs.List.{list_any}
 use Rattle.cps_text.specs.declared.name.Name.{Name}

@@ -38,14 +38,14 @@ unread location = fill (unread_made location)
 abbrev pub using : Control → Option Name → Part
 using control block = if same_block control.block block then nothing else putting_control (record control { block = block })
 
--- E above the machine's words
+-- E where the machine ends before that address
 abbrev pub moving_to : Control → Location → Place → Option Name → ℕ → Part
 moving_to control location place block address =
     if nat_lt (limit control.machine) address then fill (nothing_made (record (present_flags location) { structure = true }))
     else going_on control.block (place_left place) false before going_on block (60 * address) false before using control block
     before fill (record (left control location place) { shown = shown.Address (record { block = block; offset = pos address }) })
 
--- A where there is none
+-- None: the value is below 0
 abbrev pub moving_by : Control → Location → Place → Option Name → Option ℕ → Part
 moving_by control location place block None = unread location
 moving_by control location place block (Some address) = moving_to control location place block address

@@ -53,7 +53,7 @@ has_value Set = true
 abbrev pub asking_standing : Name → (Standing → Part) → Part
 asking_standing name next = asking (key.Label name) (λ a. asking (key.Setting name) (λ b. next (standing_by (value_of a) (value_of b))))
 
--- asking whether a symbol has a value already, and then it counts as read; where there is no symbol nothing is asked
+-- asking whether a symbol has a value already: one that has counts as read; where there is no symbol nothing is asked
 abbrev pub asking_taken : Option Name → (Bool → Part) → Part
 asking_taken None next = next false
 asking_taken (Some name) next = asking_standing name (λ standing. telling_if (has_value standing) name before next (has_value standing))

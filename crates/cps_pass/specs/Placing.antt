@@ -1,5 +1,5 @@
--- Placing statements: what all of them share. From the manual's sections on the location field and on forcing upper; what stays pending is our
--- profile's, and the limit too.
+-- Placing statements: what all of them share. From the manual's sections on the location field, on forcing upper and on SET; what stays pending, and
+-- the limit, are our profile's.
 use Rattle.std.specs.Prelude.{ℕ, ◌*◌, Bool, true, false, nat_lt, List, [], ◌∷◌, ◌++◌, flat_map, Option, None, Some, if◌then◌else◌}
 use Rattle.cps_text.specs.declared.name.Name.{Name}
 use Rattle.cps_expr.specs.declared.value.Value.{Value as AValue}

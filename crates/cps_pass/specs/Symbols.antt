@@ -51,14 +51,14 @@ unread_equate location = asking_taken (symbol_in location) (λ is_taken. fill (n
 
 -- ---- SET
 
--- a symbol gets a value; one that SET gave a value before is read, and a label keeps its value
+-- a symbol gets a value; where SET changes a value the symbol counts as read, and a label keeps its value
 abbrev pub setting : Option Name → Standing → AValue → Part
 setting None standing value = nothing
 setting (Some name) Free value = putting (key.Setting name) (answer.Value value)
 setting (Some name) Labelled value = nothing
 setting (Some name) Set value = tell name before putting (key.Setting name) (answer.Value value)
 
--- a label counts as read
+-- asking what a symbol stands for already: a label, which SET doesn't change, counts as read; where there is no symbol nothing is asked
 abbrev pub asking_settable : Option Name → (Standing → Part) → Part
 asking_settable None next = next Free
 asking_settable (Some name) next = asking_standing name (λ standing. telling_if (is_labelled standing) name before next standing)

@@ -37,28 +37,30 @@ before_previous (block ∷ uses) = uses
 
 -- ---- what USE does
 
--- a named block begins at word 0, and is counted; None: the block has begun before
+-- a named block that begins is at word 0, and is the last of so many; None: the block has begun before
 abbrev pub beginning : Option Name → Option ℕ → Part
 beginning block None = nothing
 beginning block (Some count) = going_on block 0 false before putting key.Blocks (answer.Count count)
 
--- the word of the block in use is left, these blocks may be gone back to, and another block is in use
+-- the word that was begun is left, these blocks may be gone back to from now on, and another block is in use
 abbrev pub going_to : Control → Location → Place → List (Option Name) → Option ℕ → Option Name → Part
 going_to control location place uses count block =
     going_on control.block (place_left place) false before putting key.Uses (answer.Uses uses) before beginning block count before using control block
     before fill (left control location place)
 
--- E where there are too many
+-- a block that has not begun: E where it would be one too many
 abbrev pub going_to_new : Control → Location → Place → List (Option Name) → Name → ℕ → Part
 going_to_new control location place uses name count =
     if nat_lt count most_blocks then going_to control location place (left_behind control.block uses) (Some (count + 1)) (Some name)
     else fill (nothing_made (record (present_flags location) { structure = true }))
 
+-- a block has begun where its counter stands
 abbrev pub going_to_named : Control → Location → Place → List (Option Name) → Name → Option Answer → Part
 going_to_named control location place uses name a =
     if is_place a then going_to control location place (left_behind control.block uses) None (Some name)
     else asking key.Blocks (λ b. going_to_new control location place uses name (count_of b))
 
+-- `USE *` goes back, and the block that it leaves isn't kept; every other USE may be gone back from
 abbrev pub leaving : Control → Location → Place → List (Option Name) → Block → Part
 leaving control location place uses Nominal = going_to control location place (left_behind control.block uses) None None
 leaving control location place uses Previous = going_to control location place (before_previous uses) None (previous uses)

@@ -1,5 +1,5 @@
--- Values in pass one: a name counts if it was defined before; the value that SET gave it stands before its label. From the manual's sections on symbols
--- and on the two passes.
+-- Values in pass one: a name counts if a line above defined it; a value that SET gave it stands before its label. From the manual's sections on symbols,
+-- on SET and on the two passes.
 use Rattle.std.specs.Prelude.{List, [], ◌∷◌, pos, Option, None, Some, if◌then◌else◌}
 use Rattle.std.specs.Option.{option_or}
 use Rattle.cps_text.specs.declared.name.Name.{Name}

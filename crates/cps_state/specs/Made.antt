@@ -19,7 +19,7 @@ use Rattle.cps_state.specs.Machines.{limit, behind}
 -- The flags of pass one; the program's name where the statement gives it; the machine, the block, and what fills the bits that were skipped;
 -- the place where the statement starts, and its contents from there on, one behind the other; so many words of zeros from there on; what else
 -- its row shows. With `only_flags`, of a statement that makes nothing, the contents are no bits: they only give flags. `held` are the symbols that its
--- contents read and that SET had given a value by then, in their order; all others stand for their labels in pass two.
+-- contents read and to which SET had given a value by then, in their order; all others stand for their labels in pass two.
 pub record Made : Type 0 where
   pub flags : Flags
   pub program : Option Name

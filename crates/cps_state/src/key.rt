@@ -12,7 +12,7 @@ use std::alloc::{AllocError, Global};
 /// A part of the state of an assembly.
 #[derive(Clone, Copy, Debug, PartialEq, Eq, Hash)]
 pub enum Key {
-    /// The part of the program, the base of numbers and the block in use.
+    /// The part of the program, the machine, the base of numbers and the block in use.
     Control,
     /// Where the next word or parcel of a block stands; None is the nominal block.
     Counter(Option<Name>),

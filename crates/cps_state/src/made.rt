@@ -66,7 +66,7 @@ pub fn end_of(machine: Machine, start: u32, contents: &[Content]) -> Option<u32>
 #[derive(Clone, Copy, Debug, PartialEq, Eq)]
 pub enum Shown {
     Nothing,
-    /// EQU and `=`: the value of the operand.
+    /// EQU, `=` and SET: the value of the operand.
     Value(Value),
     /// ORG: the address of the next word.
     Address(Value),
