@@ -40,13 +40,17 @@ same_key _ _ = false
 abbrev pub is_other : Key → Bool
 is_other key.Control = false
 is_other (key.Counter None) = false
+is_other key.Uses = false
+is_other key.Blocks = false
 is_other other = true
 
--- a state with this control, this place of the nominal block, and these other answers
-abbrev pub answers_in : Answer → Answer → State → State
-answers_in control nominal others key.Control = Some control
-answers_in control nominal others (key.Counter None) = Some nominal
-answers_in control nominal others other = others other
+-- a state with this control, this place of the nominal block, these blocks that were left, this count of named blocks, and these other answers
+abbrev pub answers_in : Answer → Answer → Answer → Answer → State → State
+answers_in control nominal uses blocks others key.Control = Some control
+answers_in control nominal uses blocks others (key.Counter None) = Some nominal
+answers_in control nominal uses blocks others key.Uses = Some uses
+answers_in control nominal uses blocks others key.Blocks = Some blocks
+answers_in control nominal uses blocks others other = others other
 
 -- how many of the blocks that USE left are kept
 abbrev pub most_uses : ℕ
@@ -65,6 +69,8 @@ first_place = place_at 0 false
 abbrev pub first_state : State
 first_state key.Control = Some (answer.Control first_control)
 first_state (key.Counter None) = Some (answer.Counter first_place)
+first_state key.Uses = Some (answer.Uses [])
+first_state key.Blocks = Some (answer.Count 0)
 first_state other = None
 
 -- ---- puts

@@ -8,6 +8,7 @@ use crate::answers::{first_control, first_place, value_of};
 use crate::key::{Answer, Key, Put, share_puts};
 use crate::lookup::Lookup;
 use crate::trace::Trace;
+use crate::uses::Uses;
 use cps_expr::{Names, Value};
 use cps_text::Name;
 use std::alloc::{AllocError, Global};
@@ -19,6 +20,8 @@ pub struct State {
     alloc: Global,
     control: Answer,
     nominal: Answer,
+    uses: Answer,
+    blocks: Answer,
     others: HashMap<Key, Answer>,
 }
 
@@ -26,12 +29,14 @@ impl Lookup for State {
     ghost use Rattle.std.specs.HashMap as hash;
     ghost use Rattle.cps_state.specs.Keys.{answers_in};
 
-    ghost answer = { λ state. answers_in state.control state.nominal (hash.get ⟦<Key as PartialEq>⟧.eq state.others) };
+    ghost answer = { λ state. answers_in state.control state.nominal state.uses state.blocks (hash.get ⟦<Key as PartialEq>⟧.eq state.others) };
 
     fn ask(&self, key: &Key) -> Option<&Answer> {
         match key {
             Key::Control => Some(&self.control),
             Key::Counter(None) => Some(&self.nominal),
+            Key::Uses => Some(&self.uses),
+            Key::Blocks => Some(&self.blocks),
             _ => self.others.get(key),
         }
     }
@@ -57,6 +62,8 @@ impl State {
             alloc,
             control: Answer::Control(first_control()),
             nominal: Answer::Counter(first_place()),
+            uses: Answer::Uses(Uses::none()),
+            blocks: Answer::Count(0),
             others: HashMap::new(alloc),
         }
     }
@@ -90,6 +97,8 @@ impl State {
         match put.key {
             Key::Control => self.control = put.answer,
             Key::Counter(None) => self.nominal = put.answer,
+            Key::Uses => self.uses = put.answer,
+            Key::Blocks => self.blocks = put.answer,
             key => self.put_other(key, put.answer),
         }
     }

@@ -1,5 +1,5 @@
 //! The blocks that USE left and may go back to.
-ghost use Rattle.std.specs.Prelude.{◌≡◌, ◌∷◌, take, IfOk};
+ghost use Rattle.std.specs.Prelude.{◌≡◌, [], ◌∷◌, take, IfOk};
 ghost use Rattle.cps_state.specs.Keys.{most_uses};
 
 use cps_text::Name;
@@ -14,17 +14,18 @@ const MOST: usize = 64;
 /// Blocks, the one that was left last in front; None is the nominal block.
 #[derive(Debug, Drop)]
 pub struct Uses {
-    blocks: RcSlice<Option<Name>>,
+    /// None: no blocks.
+    blocks: Option<RcSlice<Option<Name>>>,
 }
 
 impl Model for Uses {
-    ghost use Rattle.std.specs.Prelude.{List, Option};
+    ghost use Rattle.std.specs.Prelude.{List, [], Option, option_map, unwrap_or};
     ghost use Rattle.std.specs.Rc.{rc_slice_items};
     ghost use Rattle.cps_text.specs.declared.name.Name.{Name};
 
     ghost Value = { List (Option Name) };
 
-    ghost view = { λ uses. rc_slice_items uses.blocks };
+    ghost view = { λ uses. unwrap_or (option_map rc_slice_items uses.blocks) [] };
 }
 
 impl PartialEq for Uses {
@@ -37,7 +38,7 @@ impl PartialEq for Uses {
     ghost laws = { lists_per (Prim.search (comparing, rules)) };
 
     fn eq(&self, other: &Uses) -> bool {
-        self.blocks == other.blocks
+        self.as_slice() == other.as_slice()
     }
 }
 
@@ -50,12 +51,21 @@ impl Eq for Uses {
 }
 
 impl Uses {
+    /// No blocks.
+    pub fn none() -> Uses
+        ensures { result ≡ [] }
+    {
+        Uses { blocks: None }
+    }
+
     /// Of these blocks.
     pub fn new(alloc: Global, blocks: &[Option<Name>]) -> Result<Uses, AllocError>
         ensures { IfOk result (λ uses. uses ≡ blocks.now) }
     {
         let blocks = RcSlice::from_slice(alloc, blocks)?;
-        Ok(Uses { blocks })
+        Ok(Uses {
+            blocks: Some(blocks),
+        })
     }
 
     /// A block in front of others, of which the last that there is no room for goes.
@@ -70,22 +80,34 @@ impl Uses {
         blocks.push(block)?;
         blocks.extend_from_slice(first_of(others, MOST - 1))?;
         let blocks = RcSlice::from_vec(blocks)?;
-        Ok(Uses { blocks })
+        Ok(Uses {
+            blocks: Some(blocks),
+        })
     }
 
     /// The same blocks once more. Takes no memory.
     pub fn share(&self) -> Result<Uses, AllocError>
         ensures { IfOk result (λ same. same ≡ self.now) }
     {
-        let blocks = self.blocks.clone()?;
-        Ok(Uses { blocks })
+        match &self.blocks {
+            Some(blocks) => {
+                let blocks = blocks.clone()?;
+                Ok(Uses {
+                    blocks: Some(blocks),
+                })
+            }
+            None => Ok(Uses::none()),
+        }
     }
 
     /// The blocks.
     pub fn as_slice(&self) -> &[Option<Name>]
         ensures { result.now ≡ self.now }
     {
-        self.blocks.as_slice()
+        match &self.blocks {
+            Some(blocks) => blocks.as_slice(),
+            None => &[],
+        }
     }
 }
 
