@@ -18,7 +18,7 @@ use Rattle.cps_pass.specs.declared.value_now.ValueNow.TheVariants.{Undefined, No
 use Rattle.cps_pass.specs.Head.{putting_control, entering}
 use Rattle.cps_pass.specs.Located.{present_flags}
 use Rattle.cps_pass.specs.Numbers.{not_negative}
-use Rattle.cps_pass.specs.Places.{filling_between, place_left, here_at, going_on}
+use Rattle.cps_pass.specs.Places.{filling_between, place_left, here_at, going_on, nothing_in}
 use Rattle.cps_pass.specs.ValueNow.{now}
 
 -- the word of a block is left; what fills it belongs to the statement
@@ -32,6 +32,10 @@ unread_made location = nothing_made (record (present_flags location) { operand =
 abbrev pub unread : Location → Part
 unread location = fill (unread_made location)
 
+-- one that asked where the block in use stands
+abbrev pub unread_in : Control → Location → Part
+unread_in control location = fill (nothing_in control.block (record (present_flags location) { operand = true }))
+
 -- ---- ORG: goes on at an address, in the block of its value
 
 -- another block is in use
@@ -41,18 +45,18 @@ using control block = if same_block control.block block then nothing else puttin
 -- E where the machine ends before that address
 abbrev pub moving_to : Control → Location → Place → Option Name → ℕ → Part
 moving_to control location place block address =
-    if nat_lt (limit control.machine) address then fill (nothing_made (record (present_flags location) { structure = true }))
+    if nat_lt (limit control.machine) address then fill (nothing_in control.block (record (present_flags location) { structure = true }))
     else going_on control.block (place_left place) false before going_on block (60 * address) false before using control block
     before fill (record (left control location place) { shown = shown.Address (record { block = block; offset = pos address }) })
 
 -- None: the value is below 0
 abbrev pub moving_by : Control → Location → Place → Option Name → Option ℕ → Part
-moving_by control location place block None = unread location
+moving_by control location place block None = unread_in control location
 moving_by control location place block (Some address) = moving_to control location place block address
 
 abbrev pub moving : Control → Location → Place → ValueNow → Part
-moving control location place Undefined = fill (nothing_made (record (present_flags location) { undefined = true }))
-moving control location place NoValue = unread location
+moving control location place Undefined = fill (nothing_in control.block (record (present_flags location) { undefined = true }))
+moving control location place NoValue = unread_in control location
 moving control location place (Known value) = moving_by control location place value.block (not_negative value.offset)
 
 -- `*` is the address behind the word that is left
@@ -64,7 +68,7 @@ org control location terms = asking (key.Counter control.block) (λ a. org_from 
 
 -- ORG with an unreadable operand
 abbrev pub unread_org : Control → Location → Part
-unread_org control location = asking (key.Counter control.block) (λ a. unread location)
+unread_org control location = asking (key.Counter control.block) (λ a. unread_in control location)
 
 -- ---- END
 

@@ -12,6 +12,8 @@ use Rattle.cps_state.specs.declared.key.Key.TheVariants as key
 use Rattle.cps_state.specs.declared.key.Answer.TheVariants as answer
 use Rattle.cps_state.specs.declared.key.Put.{Put}
 use Rattle.cps_state.specs.Course.{Part, put}
+use Rattle.cps_state.specs.Made.{Made, nothing_made}
+use Rattle.cps_state.specs.declared.flags.Flags.{Flags}
 
 -- `width` bits of a number behind so many bits
 abbrev pub piece_at : ℕ → ℕ → ℕ → Piece
@@ -44,3 +46,7 @@ place_put block at is_pending = record { key = key.Counter block; answer = answe
 
 abbrev pub going_on : Option Name → ℕ → Bool → Part
 going_on block at is_pending = put (place_put block at is_pending)
+
+-- a statement that asked where its block stands, and that does nothing there but have flags
+abbrev pub nothing_in : Option Name → Flags → Made
+nothing_in block flags = record (nothing_made flags) { block = block }

@@ -11,11 +11,10 @@ use Rattle.cps_state.specs.declared.key.Answer.TheVariants as answer
 use Rattle.cps_state.specs.declared.key.Control.{Control}
 use Rattle.cps_state.specs.Course.{Part, nothing, ◌before◌, asking, putting, fill}
 use Rattle.cps_state.specs.Keys.{most_uses, place_of, is_place, uses_of, count_of}
-use Rattle.cps_state.specs.Made.{nothing_made}
 use Rattle.cps_pass.specs.declared.reading.Location.{Location}
-use Rattle.cps_pass.specs.Blocks.{left, unread, using}
+use Rattle.cps_pass.specs.Blocks.{left, unread_in, using}
 use Rattle.cps_pass.specs.Located.{present_flags}
-use Rattle.cps_pass.specs.Places.{place_left, going_on}
+use Rattle.cps_pass.specs.Places.{place_left, going_on, nothing_in}
 
 -- how many named blocks there may be
 abbrev pub most_blocks : ℕ
@@ -52,7 +51,7 @@ going_to control location place uses count block =
 abbrev pub going_to_new : Control → Location → Place → List (Option Name) → Name → ℕ → Part
 going_to_new control location place uses name count =
     if nat_lt count most_blocks then going_to control location place (left_behind control.block uses) (Some (count + 1)) (Some name)
-    else fill (nothing_made (record (present_flags location) { structure = true }))
+    else fill (nothing_in control.block (record (present_flags location) { structure = true }))
 
 -- a block has begun where its counter stands
 abbrev pub going_to_named : Control → Location → Place → List (Option Name) → Name → Option Answer → Part
@@ -73,4 +72,4 @@ use_block control location block =
 
 -- USE with an unreadable operand
 abbrev pub unread_use : Control → Location → Part
-unread_use control location = asking (key.Counter control.block) (λ a. asking key.Uses (λ b. unread location))
+unread_use control location = asking (key.Counter control.block) (λ a. asking key.Uses (λ b. unread_in control location))

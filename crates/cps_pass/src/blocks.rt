@@ -5,7 +5,7 @@ ghost use Rattle.cps_pass.specs.Blocks as blocks;
 
 use crate::head::{enter, put_control};
 use crate::located::present_flags;
-use crate::making::{flag, unread};
+use crate::making::{flag_in, unread_in};
 use crate::numbers::not_negative;
 use crate::places::{go_on, here_at, leave_word};
 use crate::reading::Location;
@@ -47,7 +47,7 @@ pub fn unread_org<L: Lookup>(
     ensures { OnOk result (Does (blocks.unread_org control location) (L.answer state.now) recorder.old recorder.new) }
 {
     recorder.ask(state, Key::Counter(control.block))?;
-    unread(alloc, recorder, location);
+    unread_in(alloc, recorder, control.block, location);
     Ok(())
 }
 
@@ -67,16 +67,16 @@ fn move_by<L: Lookup>(
         ValueNow::Undefined => {
             let mut flags = present_flags(location);
             flags.undefined = true;
-            flag(alloc, recorder, flags);
+            flag_in(alloc, recorder, control.block, flags);
             Ok(())
         }
         ValueNow::NoValue => {
-            unread(alloc, recorder, location);
+            unread_in(alloc, recorder, control.block, location);
             Ok(())
         }
         ValueNow::Known(value) => match not_negative(value.offset) {
             None => {
-                unread(alloc, recorder, location);
+                unread_in(alloc, recorder, control.block, location);
                 Ok(())
             }
             Some(address) => move_to(
@@ -109,7 +109,7 @@ fn move_to<L: Lookup>(
     let mut flags = present_flags(location);
     if address > u64::from(limit_of(control.machine)) {
         flags.structure = true;
-        flag(alloc, recorder, flags);
+        flag_in(alloc, recorder, control.block, flags);
         return Ok(());
     }
     let left = leave_word(place);

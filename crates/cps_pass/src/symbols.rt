@@ -5,11 +5,12 @@ ghost use Rattle.cps_pass.specs.Symbols as symbols;
 ghost use Rattle.cps_pass.specs.Located.{symbol_in, defining};
 
 use crate::located::{Standing, ask_standing, define, is_labelled, is_taken, symbol_in, tell_if};
-use crate::making::flag;
+use crate::making::{flag, nothing_in};
 use crate::reading::Location;
 use crate::value_now::{ValueNow, value_here};
 use cps_expr::{Expr, Value};
 use cps_state::{Answer, Control, Flags, Key, Lookup, Made, Recorder, Shown};
+use cps_text::Name;
 use std::alloc::{AllocError, Global};
 
 /// The location symbol gets the value of the operand, unless it has one already.
@@ -27,7 +28,8 @@ pub fn equate<L: Lookup>(
     let value = value_here(alloc, recorder, state, control, operand)?;
     define_known(recorder, state, location, is_taken, value)?;
     let flags = equate_flags(location, is_taken);
-    recorder.fill(listing_value(alloc, flags, value));
+    let block = block_asked(control, operand);
+    recorder.fill(listing_value(alloc, block, flags, value));
     Ok(())
 }
 
@@ -62,7 +64,8 @@ pub fn set_symbol<L: Lookup>(
     let value = value_here(alloc, recorder, state, control, operand)?;
     set_known(recorder, state, location, standing, value)?;
     let flags = equate_flags(location, is_labelled(standing));
-    recorder.fill(listing_value(alloc, flags, value));
+    let block = block_asked(control, operand);
+    recorder.fill(listing_value(alloc, block, flags, value));
     Ok(())
 }
 
@@ -161,21 +164,32 @@ fn equate_flags(location: Location, is_taken: bool) -> Flags
     flags
 }
 
+/// The block in use, where `*` stands in the operand.
+fn block_asked(control: Control, operand: &Expr) -> Option<Name>
+    ensures { result ≡ symbols.block_asked control operand.now }
+{
+    if operand.has_counter() {
+        control.block
+    } else {
+        None
+    }
+}
+
 /// The value is listed also where the symbol doesn't get it.
-fn listing_value(alloc: Global, flags: Flags, value: ValueNow) -> Made
-    ensures { result ≡ symbols.listing_value flags value }
+fn listing_value(alloc: Global, block: Option<Name>, flags: Flags, value: ValueNow) -> Made
+    ensures { result ≡ symbols.listing_value block flags value }
 {
     match value {
         ValueNow::Undefined => {
             let mut flags = flags;
             flags.undefined = true;
-            Made::nothing(alloc, flags)
+            nothing_in(alloc, block, flags, Shown::Nothing)
         }
         ValueNow::NoValue => {
             let mut flags = flags;
             flags.operand = true;
-            Made::nothing(alloc, flags)
+            nothing_in(alloc, block, flags, Shown::Nothing)
         }
-        ValueNow::Known(value) => Made::showing(alloc, flags, Shown::Value(value)),
+        ValueNow::Known(value) => nothing_in(alloc, block, flags, Shown::Value(value)),
     }
 }

@@ -6,7 +6,7 @@ ghost use Rattle.cps_pass.specs.Use as use_of;
 
 use crate::blocks::select;
 use crate::located::present_flags;
-use crate::making::{flag, unread};
+use crate::making::{flag_in, unread_in};
 use crate::places::{go_on, leave_word};
 use crate::reading::Location;
 use cps_code::Place;
@@ -35,7 +35,31 @@ pub fn use_block<L: Lookup>(
     let counter = recorder.ask(state, Key::Counter(control.block))?;
     let place = place_of(counter.as_ref(), control.machine);
     let answer = recorder.ask(state, Key::Uses)?;
-    let uses = uses_of(answer.as_ref());
+    leave(
+        alloc,
+        recorder,
+        state,
+        control,
+        location,
+        place,
+        uses_of(answer.as_ref()),
+        block,
+    )
+}
+
+fn leave<L: Lookup>(
+    alloc: Global,
+    recorder: &mut Recorder,
+    state: &L,
+    control: Control,
+    location: Location,
+    place: Place,
+    uses: &[Option<Name>],
+    block: Block,
+) -> Result<(), AllocError>
+    requires { place.word < 2 ^ 26 }
+    ensures { OnOk result (Does (use_of.leaving control location place uses.now block) (L.answer state.now) recorder.old recorder.new) }
+{
     match block {
         Block::Nominal => {
             let left = Uses::with(alloc, control.block, uses)?;
@@ -75,7 +99,7 @@ pub fn unread_use<L: Lookup>(
 {
     recorder.ask(state, Key::Counter(control.block))?;
     recorder.ask(state, Key::Uses)?;
-    unread(alloc, recorder, location);
+    unread_in(alloc, recorder, control.block, location);
     Ok(())
 }
 
@@ -152,7 +176,7 @@ fn go_to_new<L: Lookup>(
     if count >= MOST_BLOCKS {
         let mut flags = present_flags(location);
         flags.structure = true;
-        flag(alloc, recorder, flags);
+        flag_in(alloc, recorder, control.block, flags);
         return Ok(());
     }
     let left = Uses::with(alloc, control.block, uses)?;
