@@ -28,7 +28,7 @@ traces_from state (line ∷ lines) = trace_of line state ∷ traces_from (after 
 abbrev pub traces_of : List (List ℕ) → List Trace
 traces_of lines = traces_from first_state lines
 
--- whether the source ends while a range is open
+-- whether the source ends while a range is open, or lines are skipped
 abbrev pub ends_open : List (List ℕ) → Bool
 ends_open lines = is_open_at_end (finals_of (traces_of lines))
 
