@@ -1,8 +1,8 @@
 //! Reads a script of edits and queries on a source for COMPASS, and writes the replies.
 //!
 //! The script comes on standard input, and the replies go to standard output.
-//! The status is 0, or 1 where a line of the source has a flag at the end, or 2 where a read or a write failed, which is
-//! then said on standard error.
+//! The status is 0, or 1 where at the end a line of the source has a flag or a range is open, or 2 where a read or a write
+//! failed, which is then said on standard error.
 #![tactic(auto)]
 
 #[cfg(test)]
@@ -17,6 +17,8 @@ mod devices;
 mod literal_rows;
 #[cfg(test)]
 mod peripheral_rows;
+#[cfg(test)]
+mod range_rows;
 #[cfg(test)]
 mod replies;
 #[cfg(test)]

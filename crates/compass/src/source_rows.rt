@@ -471,11 +471,12 @@ ok 1 lines\n1 U\n1 flagged lines\n",
     Ok(())
 }
 
-/// A run gives the number of lines that have a flag at its end, before `quit`.
+/// A run gives the number of lines that have a flag at its end, before `quit`. The end of a source where a range is open counts as one.
 #[test]
 fn counts_flagged_lines(rt: HostRuntime) -> Result<(), Fail> {
-    const ROWS: [(&str, u32); 4] = [
+    const ROWS: [(&str, u32); 5] = [
         ("", 0),
+        ("a          IFEQ    1,2\n", 1),
         ("a A\n", 1),
         ("a A\na          NO\na A\nd 1\n", 1),
         ("a A\na B\nquit\nd 1\n", 2),

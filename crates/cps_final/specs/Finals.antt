@@ -1,6 +1,6 @@
 -- Final values: what stands behind the last line of a source, with blocks at their final addresses. From the manual's sections on the two
 -- passes, on blocks, on SET and on literals; a final value beyond the range of expressions is none, as everywhere.
-use Rattle.std.specs.Prelude.{◌≡◌, ℕ, ◌+◌, nat_eq, List, [], ◌∷◌, length, take, position, pos, ◌+ℤ◌, Option, None, Some, option_map, option_and_then, unwrap_or}
+use Rattle.std.specs.Prelude.{◌≡◌, ℕ, ◌+◌, nat_eq, Bool, List, [], ◌∷◌, length, take, position, pos, ◌+ℤ◌, Option, None, Some, option_map, option_and_then, unwrap_or}
 use Rattle.std.specs.List.{sum_by}
 use Rattle.std.specs.Option.{option_or}
 use Rattle.cps_text.specs.declared.name.Name.{Name}
@@ -10,7 +10,7 @@ use Rattle.cps_expr.specs.Value.{same_name, plain, limited}
 use Rattle.cps_state.specs.declared.item.Item.{Item}
 use Rattle.cps_state.specs.Course.{Trace}
 use Rattle.cps_state.specs.declared.key.Key.TheVariants as key
-use Rattle.cps_state.specs.Keys.{State, first_state, overwritten, labels_of, settings_of, control_of}
+use Rattle.cps_state.specs.Keys.{State, first_state, overwritten, labels_of, settings_of, control_of, is_open}
 use Rattle.cps_final.specs.Layout.{Layout, layout_of, puts_of}
 use Rattle.cps_final.specs.Pool.{pool_of}
 
@@ -47,6 +47,10 @@ Gathers finals traces = finals ≡ finals_of traces
 -- the machine of the program
 abbrev pub machine_of : Finals → Machine
 machine_of finals = (control_of (finals.state key.Control)).machine
+
+-- whether a range is open behind the last line, or lines are skipped
+abbrev pub is_open_at_end : Finals → Bool
+is_open_at_end finals = is_open finals.state
 
 -- ---- where blocks and literals stand
 

@@ -3,7 +3,7 @@ ghost use Rattle.std.specs.Prelude.{◌≡◌, ◌+◌, ◌<◌, ◌≤◌, ◌^
 ghost use Rattle.std.specs.Option.{option_or};
 ghost use Rattle.cps_expr.specs.Value.{plain, limited, IsInRange};
 ghost use Rattle.cps_state.specs.Keys.{overwritten};
-ghost use Rattle.cps_final.specs.Finals.{first_program, Gathers, machine_of, words_to_named, base_of, based, final_value, label, setting, block as block_named, literal};
+ghost use Rattle.cps_final.specs.Finals.{first_program, Gathers, machine_of, is_open_at_end, words_to_named, base_of, based, final_value, label, setting, block as block_named, literal};
 ghost use Rattle.cps_final.specs.Gathering.{grown_by};
 ghost use Rattle.cps_final.specs.Values.{address_of, base_in, final_of};
 ghost use Rattle.cps_final.specs.Pool.{literals_in};
@@ -12,7 +12,7 @@ ghost use Rattle.indexmap.specs.IndexSet.{insert_all, insert_key, spare};
 use crate::blocks::Blocks;
 use crate::literals::list_literals;
 use cps_expr::{Machine, Names, Value};
-use cps_state::{Item, Key, Lookup, State, Trace, control_of, value_of};
+use cps_state::{Item, Key, Lookup, State, Trace, control_of, is_open, value_of};
 use cps_text::Name;
 use indexmap::IndexSet;
 use std::alloc::{AllocError, Global};
@@ -93,6 +93,13 @@ impl Finals {
         ensures { result ≡ machine_of (⟦<Finals as Gathered>⟧.gathered self.now) }
     {
         control_of(self.state.ask(&Key::Control)).machine
+    }
+
+    /// Whether a range is open behind the last line, or lines are skipped.
+    pub fn is_open_at_end(&self) -> bool
+        ensures { result ≡ is_open_at_end (⟦<Finals as Gathered>⟧.gathered self.now) }
+    {
+        is_open(&self.state)
     }
 
     /// The program's name: the first that a statement gives.

@@ -1,5 +1,5 @@
 -- The state of an assembly: what each key answers. The counters and the symbols are the manual's; the keys are our own.
-use Rattle.std.specs.Prelude.{ℕ, ◌*◌, Bool, true, false, min, nat_lt, List, [], ◌∷◌, Option, None, Some, if◌then◌else◌}
+use Rattle.std.specs.Prelude.{ℕ, ◌*◌, Bool, true, false, not, ◌||◌, min, nat_lt, List, [], ◌∷◌, Option, None, Some, if◌then◌else◌}
 use Rattle.cps_text.specs.declared.name.Name.{Name}
 use Rattle.cps_expr.specs.declared.machine.Machine.{Machine}
 use Rattle.cps_expr.specs.declared.machine.Machine.TheVariants.{Cp, Pp}
@@ -12,6 +12,9 @@ use Rattle.cps_state.specs.declared.key.Key.{Key}
 use Rattle.cps_state.specs.declared.key.Key.TheVariants as key
 use Rattle.cps_state.specs.declared.key.Phase.TheVariants as phase
 use Rattle.cps_state.specs.declared.key.Control.{Control}
+use Rattle.cps_state.specs.declared.key.Mode.{Mode}
+use Rattle.cps_state.specs.declared.key.Mode.TheVariants.{Normal, SkipLines, SkipRange}
+use Rattle.cps_state.specs.declared.key.Range.{Range}
 use Rattle.cps_state.specs.declared.key.Answer.{Answer}
 use Rattle.cps_state.specs.declared.key.Answer.TheVariants as answer
 use Rattle.cps_state.specs.declared.key.Put.{Put}
@@ -33,6 +36,7 @@ same_key (key.Counter a) (key.Counter b) = same_block a b
 same_key (key.Label a) (key.Label b) = same_name a b
 same_key (key.Setting a) (key.Setting b) = same_name a b
 same_key key.Uses key.Uses = true
+same_key key.Ifs key.Ifs = true
 same_key key.Blocks key.Blocks = true
 same_key _ _ = false
 
@@ -42,25 +46,32 @@ is_other key.Control = false
 is_other (key.Counter None) = false
 is_other key.Uses = false
 is_other key.Blocks = false
+is_other key.Ifs = false
 is_other other = true
 
--- a state with this control, this place of the nominal block, these blocks that were left, this count of named blocks, and these other answers
-abbrev pub answers_in : Answer → Answer → Answer → Answer → State → State
-answers_in control nominal uses blocks others key.Control = Some control
-answers_in control nominal uses blocks others (key.Counter None) = Some nominal
-answers_in control nominal uses blocks others key.Uses = Some uses
-answers_in control nominal uses blocks others key.Blocks = Some blocks
-answers_in control nominal uses blocks others other = others other
+-- a state with this control, this place of the nominal block, these blocks that were left, this count of named blocks, these
+-- open ranges, and these other answers
+abbrev pub answers_in : Answer → Answer → Answer → Answer → Answer → State → State
+answers_in control nominal uses blocks ranges others key.Control = Some control
+answers_in control nominal uses blocks ranges others (key.Counter None) = Some nominal
+answers_in control nominal uses blocks ranges others key.Uses = Some uses
+answers_in control nominal uses blocks ranges others key.Blocks = Some blocks
+answers_in control nominal uses blocks ranges others key.Ifs = Some ranges
+answers_in control nominal uses blocks ranges others other = others other
 
 -- how many of the blocks that USE left are kept
 abbrev pub most_uses : ℕ
 most_uses = 64
 
+-- how many ranges may be open
+abbrev pub most_ranges : ℕ
+most_ranges = 20
+
 -- ---- before the first line
 
--- the program is in its head and for the central processor, numbers are decimal, and the nominal block is in use
+-- the program is in its head and for the central processor, numbers are decimal, the nominal block is in use, and lines are assembled
 abbrev pub first_control : Control
-first_control = record { phase = phase.Head (record { is_named = false; is_declared = false }); machine = Cp; radix = Decimal; block = None }
+first_control = record { phase = phase.Head (record { is_named = false; is_declared = false }); machine = Cp; radix = Decimal; block = None; mode = Normal }
 
 -- a block begins at word 0
 abbrev pub first_place : Place
@@ -71,6 +82,7 @@ first_state key.Control = Some (answer.Control first_control)
 first_state (key.Counter None) = Some (answer.Counter first_place)
 first_state key.Uses = Some (answer.Uses [])
 first_state key.Blocks = Some (answer.Count 0)
+first_state key.Ifs = Some (answer.Ifs [])
 first_state other = None
 
 -- ---- puts
@@ -113,6 +125,11 @@ abbrev pub uses_of : Option Answer → List (Option Name)
 uses_of (Some (answer.Uses blocks)) = blocks
 uses_of _ = []
 
+-- no range is open
+abbrev pub ranges_of : Option Answer → List Range
+ranges_of (Some (answer.Ifs ranges)) = ranges
+ranges_of _ = []
+
 -- none was begun
 abbrev pub count_of : Option Answer → ℕ
 count_of (Some (answer.Count count)) = count
@@ -125,3 +142,19 @@ labels_of state name = value_of (state (key.Label name))
 -- the values that SET gave to symbols of a state
 abbrev pub settings_of : State → Values
 settings_of state name = value_of (state (key.Setting name))
+
+-- ---- the end of a source
+
+-- lines are assembled
+abbrev pub is_normal : Mode → Bool
+is_normal Normal = true
+is_normal (SkipLines count) = false
+is_normal (SkipRange skip) = false
+
+abbrev pub is_no_range : List Range → Bool
+is_no_range [] = true
+is_no_range (range ∷ ranges) = false
+
+-- a range is open, or lines are skipped: a source that ends here is open
+abbrev pub is_open : State → Bool
+is_open state = not (is_normal (control_of (state key.Control)).mode) || not (is_no_range (ranges_of (state key.Ifs)))

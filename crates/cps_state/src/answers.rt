@@ -3,16 +3,17 @@ ghost use Rattle.std.specs.Prelude.{◌≡◌, ◌*◌, ◌≤◌, IfSome};
 ghost use Rattle.std.specs.Option.{option_copied};
 ghost use Rattle.cps_code.specs.Place.{position};
 ghost use Rattle.cps_expr.specs.Value.{IsInRange};
-ghost use Rattle.cps_state.specs.Keys.{first_control, first_place, control_of, place_of, within_limit, value_of, uses_of, count_of, is_place};
+ghost use Rattle.cps_state.specs.Keys.{first_control, first_place, control_of, place_of, within_limit, value_of, uses_of, ranges_of, count_of, is_place, is_normal, is_open};
 ghost use Rattle.cps_state.specs.Machines.{limit};
 
-use crate::key::{Answer, Control, Head, Phase};
+use crate::key::{Answer, Control, Head, Key, Mode, Phase, Range};
+use crate::lookup::Lookup;
 use crate::machines::{WORD, limit_of};
 use cps_code::Place;
 use cps_expr::{Machine, Radix, Value};
 use cps_text::Name;
 
-/// The control before the first line: in the head, for the central processor, decimal, and in the nominal block.
+/// The control before the first line: in the head, for the central processor, decimal, in the nominal block, and assembled.
 pub fn first_control() -> Control
     ensures { result ≡ first_control }
 {
@@ -24,6 +25,7 @@ pub fn first_control() -> Control
         machine: Machine::Cp,
         radix: Radix::Decimal,
         block: None,
+        mode: Mode::Normal,
     }
 }
 
@@ -89,6 +91,16 @@ pub fn uses_of(answer: Option<&Answer>) -> &[Option<Name>]
     }
 }
 
+/// The ranges that are open, the newest in front.
+pub fn ranges_of(answer: Option<&Answer>) -> &[Range]
+    ensures { result.now ≡ ranges_of (option_copied answer.entry) }
+{
+    match answer {
+        Some(Answer::Ifs(ranges)) => ranges.as_slice(),
+        _ => &[],
+    }
+}
+
 /// A count of things.
 pub fn count_of(answer: Option<&Answer>) -> u32
     ensures { result ≡ count_of (option_copied answer.entry) }
@@ -107,4 +119,23 @@ pub fn is_place(answer: Option<&Answer>) -> bool
         Some(Answer::Counter(_)) => true,
         _ => false,
     }
+}
+
+/// Whether lines are assembled.
+pub fn is_normal(mode: Mode) -> bool
+    ensures { result ≡ is_normal mode }
+{
+    match mode {
+        Mode::Normal => true,
+        _ => false,
+    }
+}
+
+/// Whether a range is open or lines are skipped: then the source is open if it ends here.
+pub fn is_open<L: Lookup>(state: &L) -> bool
+    ensures { result ≡ is_open (L.answer state.now) }
+{
+    let control = control_of(state.ask(&Key::Control));
+    let ranges = ranges_of(state.ask(&Key::Ifs));
+    !is_normal(control.mode) || !ranges.is_empty()
 }

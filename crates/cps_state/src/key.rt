@@ -3,7 +3,7 @@ ghost use Rattle.std.specs.Prelude.{◌≡◌, IfOk};
 ghost use Rattle.std.specs.Option.{option_copied};
 ghost use Rattle.cps_state.specs.Keys.{same_block, same_key};
 
-use crate::uses::Uses;
+use crate::stack::Stack;
 use cps_code::Place;
 use cps_expr::{Machine, Radix, Value, is_same_name};
 use cps_text::Name;
@@ -22,6 +22,8 @@ pub enum Key {
     Setting(Name),
     /// The blocks that USE left and may go back to.
     Uses,
+    /// The ranges that are open, whose lines are assembled.
+    Ifs,
     /// How many named blocks USE has begun.
     Blocks,
 }
@@ -45,7 +47,34 @@ pub enum Phase {
     AfterEnd,
 }
 
-/// What holds for the lines to come: the part of the program that they are in, the machine, the base of their numbers, and the block in use.
+/// A range whose lines are skipped, up to its end.
+#[derive(Clone, Copy, Debug, PartialEq, Eq)]
+pub struct Skip {
+    /// How many ranges that began in it are open.
+    pub nested: u32,
+    /// Whether its ELSE takes up assembly.
+    pub may_resume: bool,
+}
+
+/// What is done with the lines to come.
+#[derive(Clone, Copy, Debug, PartialEq, Eq)]
+pub enum Mode {
+    /// They are assembled.
+    Normal,
+    /// So many are skipped.
+    SkipLines(u32),
+    SkipRange(Skip),
+}
+
+/// A range that is open and whose lines are assembled.
+#[derive(Clone, Copy, Debug, PartialEq, Eq)]
+pub enum Range {
+    BeforeElse,
+    BehindElse,
+}
+
+/// What holds for the lines to come: the part of the program that they are in, the machine, the base of their numbers, the block in use, and what
+/// is done with them.
 #[derive(Clone, Copy, Debug, PartialEq, Eq)]
 pub struct Control {
     pub phase: Phase,
@@ -53,6 +82,7 @@ pub struct Control {
     pub radix: Radix,
     /// None: the nominal block.
     pub block: Option<Name>,
+    pub mode: Mode,
 }
 
 /// What stands at a key.
@@ -61,7 +91,10 @@ pub enum Answer {
     Control(Control),
     Counter(Place),
     Value(Value),
-    Uses(Uses),
+    /// The last block in front; None is the nominal block.
+    Uses(Stack<Option<Name>>),
+    /// The newest range in front.
+    Ifs(Stack<Range>),
     Count(u32),
 }
 
@@ -75,6 +108,7 @@ impl Answer {
             Answer::Counter(place) => Ok(Answer::Counter(*place)),
             Answer::Value(value) => Ok(Answer::Value(*value)),
             Answer::Uses(uses) => Ok(Answer::Uses(uses.share()?)),
+            Answer::Ifs(ranges) => Ok(Answer::Ifs(ranges.share()?)),
             Answer::Count(count) => Ok(Answer::Count(*count)),
         }
     }
@@ -127,7 +161,7 @@ pub fn is_same_key(a: Key, b: Key) -> bool
         (Key::Counter(a), Key::Counter(b)) => is_same_block(a, b),
         (Key::Label(a), Key::Label(b)) => is_same_name(a, b),
         (Key::Setting(a), Key::Setting(b)) => is_same_name(a, b),
-        (Key::Uses, Key::Uses) | (Key::Blocks, Key::Blocks) => true,
+        (Key::Uses, Key::Uses) | (Key::Ifs, Key::Ifs) | (Key::Blocks, Key::Blocks) => true,
         _ => false,
     }
 }

@@ -7,8 +7,8 @@ ghost use Rattle.cps_state.specs.declared.key.Key.{Key};
 use crate::answers::{first_control, first_place, value_of};
 use crate::key::{Answer, Key, Put, share_puts};
 use crate::lookup::Lookup;
+use crate::stack::Stack;
 use crate::trace::Trace;
-use crate::uses::Uses;
 use cps_expr::{Names, Value};
 use cps_text::Name;
 use std::alloc::{AllocError, Global};
@@ -22,6 +22,7 @@ pub struct State {
     nominal: Answer,
     uses: Answer,
     blocks: Answer,
+    ranges: Answer,
     others: HashMap<Key, Answer>,
 }
 
@@ -29,7 +30,7 @@ impl Lookup for State {
     ghost use Rattle.std.specs.HashMap as hash;
     ghost use Rattle.cps_state.specs.Keys.{answers_in};
 
-    ghost answer = { λ state. answers_in state.control state.nominal state.uses state.blocks (hash.get ⟦<Key as PartialEq>⟧.eq state.others) };
+    ghost answer = { λ state. answers_in state.control state.nominal state.uses state.blocks state.ranges (hash.get ⟦<Key as PartialEq>⟧.eq state.others) };
 
     fn ask(&self, key: &Key) -> Option<&Answer> {
         match key {
@@ -37,6 +38,7 @@ impl Lookup for State {
             Key::Counter(None) => Some(&self.nominal),
             Key::Uses => Some(&self.uses),
             Key::Blocks => Some(&self.blocks),
+            Key::Ifs => Some(&self.ranges),
             _ => self.others.get(key),
         }
     }
@@ -62,8 +64,9 @@ impl State {
             alloc,
             control: Answer::Control(first_control()),
             nominal: Answer::Counter(first_place()),
-            uses: Answer::Uses(Uses::none()),
+            uses: Answer::Uses(Stack::empty()),
             blocks: Answer::Count(0),
+            ranges: Answer::Ifs(Stack::empty()),
             others: HashMap::new(alloc),
         }
     }
@@ -99,6 +102,7 @@ impl State {
             Key::Counter(None) => self.nominal = put.answer,
             Key::Uses => self.uses = put.answer,
             Key::Blocks => self.blocks = put.answer,
+            Key::Ifs => self.ranges = put.answer,
             key => self.put_other(key, put.answer),
         }
     }

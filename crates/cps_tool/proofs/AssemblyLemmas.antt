@@ -8,10 +8,10 @@ use Rattle.cps_state.specs.Keys.{State, first_state, with_put, overwritten}
 use Rattle.cps_state.specs.Course.{Trace}
 use Rattle.cps_pass.specs.Meaning.{trace_of}
 use Rattle.cps_final.specs.Layout.{puts_of}
-use Rattle.cps_final.specs.Finals.{Finals, finals_of, final_value}
+use Rattle.cps_final.specs.Finals.{Finals, finals_of, final_value, is_open_at_end}
 use Rattle.cps_final.specs.Outcome.{Outcome, outcome_of}
 use Rattle.cps_code.specs.Image.{Piece}
-use Rattle.cps_tool.specs.Assembly.{after, state_after, traces_from, traces_of, outcomes_under, outcomes_of, pieces_in}
+use Rattle.cps_tool.specs.Assembly.{after, state_after, traces_from, traces_of, outcomes_under, outcomes_of, pieces_in, ends_open}
 use Rattle.cps_tool.specs.Assembled.{Assembled, assembled_behind, assembled_of}
 
 -- ---- two parts of a source
@@ -121,6 +121,10 @@ outcomes-kept traces finals kept lines same same-finals is =
 pub finals-kept : (finals : Finals) (kept : Assembled) (lines : List (List ℕ)) → finals ≡ kept.finals → kept ≡ assembled_of lines → finals ≡ finals_of (traces_of lines)
 unfolding assembled_behind
 finals-kept finals kept lines same is = same ∙ ap (λ (a : Assembled). a.finals) is
+
+pub open-kept : (finals : Finals) (kept : Assembled) (lines : List (List ℕ)) → finals ≡ kept.finals → kept ≡ assembled_of lines
+    → is_open_at_end finals ≡ ends_open lines
+open-kept finals kept lines same is = ap is_open_at_end (finals-kept finals kept lines same is)
 
 -- ---- edits
 

@@ -1,12 +1,12 @@
 -- Two-pass assembly of a source. Pass one is a fold over its lines: the state before each line, and what the line asks, puts and
 -- makes there. Pass two gives the rows and the bits of each line, where everything that can be named has the value that it has behind the last line.
 -- From the manual's section on the two passes.
-use Rattle.std.specs.Prelude.{ℕ, List, [], ◌∷◌, map, flat_map}
+use Rattle.std.specs.Prelude.{ℕ, Bool, List, [], ◌∷◌, map, flat_map}
 use Rattle.cps_code.specs.Image.{Piece}
 use Rattle.cps_state.specs.Keys.{State, first_state, overwritten}
 use Rattle.cps_state.specs.Course.{Trace}
 use Rattle.cps_pass.specs.Meaning.{trace_of}
-use Rattle.cps_final.specs.Finals.{Finals, finals_of, final_value}
+use Rattle.cps_final.specs.Finals.{Finals, finals_of, final_value, is_open_at_end}
 use Rattle.cps_final.specs.Outcome.{Outcome, outcome_of}
 
 -- ---- pass one
@@ -27,6 +27,10 @@ traces_from state (line ∷ lines) = trace_of line state ∷ traces_from (after 
 
 abbrev pub traces_of : List (List ℕ) → List Trace
 traces_of lines = traces_from first_state lines
+
+-- whether the source ends while a range is open, or lines are skipped
+abbrev pub ends_open : List (List ℕ) → Bool
+ends_open lines = is_open_at_end (finals_of (traces_of lines))
 
 -- ---- pass two
 

@@ -1,9 +1,10 @@
--- The flags text: the flagged lines with their letters, and how many they are. The layout is our profile's.
+-- The flags text: the flagged lines with their letters, the end if the source ends while a range is open, and how many they are.
+-- The layout is our profile's.
 use Rattle.std.specs.Prelude.{ℕ, ◌+◌, Bool, List, [], ◌∷◌, ◌++◌, codes, decimal, if◌then◌else◌}
 use Rattle.cps_state.specs.declared.flags.Flags.{Flags}
 use Rattle.cps_state.specs.Flags.{has_flag, letters}
 use Rattle.cps_final.specs.Outcome.{Outcome, flags_of}
-use Rattle.cps_tool.specs.Assembly.{outcomes_of}
+use Rattle.cps_tool.specs.Assembly.{outcomes_of, ends_open}
 
 -- the row of a line; no row for a line without a flag
 abbrev pub flag_row : ℕ → Flags → List ℕ
@@ -22,13 +23,22 @@ abbrev pub flagged_in : List Outcome → ℕ
 flagged_in [] = 0
 flagged_in (outcome ∷ outcomes) = count_if (has_flag (flags_of outcome.rows)) + flagged_in outcomes
 
+-- the row of the end
+abbrev pub end_row : Bool → List ℕ
+end_row is_open = if is_open then codes "end E\n" else []
+
+-- how many lines have a flag; the end of a source where a range is open counts as one
+abbrev pub flagged_with : Bool → List Outcome → ℕ
+flagged_with is_open outcomes = flagged_in outcomes + count_if is_open
+
 abbrev pub flagged_lines : List (List ℕ) → ℕ
-flagged_lines lines = flagged_in (outcomes_of lines)
+flagged_lines lines = flagged_with (ends_open lines) (outcomes_of lines)
 
 -- the rows, and the number of flagged lines
-abbrev pub flags_text_in : List Outcome → List ℕ
-flags_text_in outcomes = flag_rows_from 1 outcomes ++ decimal (flagged_in outcomes) ++ codes " flagged lines\n"
+abbrev pub flags_text_in : Bool → List Outcome → List ℕ
+flags_text_in is_open outcomes =
+    flag_rows_from 1 outcomes ++ end_row is_open ++ decimal (flagged_with is_open outcomes) ++ codes " flagged lines\n"
 
 -- the flags text of a source
 abbrev pub flags_text : List (List ℕ) → List ℕ
-flags_text lines = flags_text_in (outcomes_of lines)
+flags_text lines = flags_text_in (ends_open lines) (outcomes_of lines)

@@ -1,4 +1,5 @@
--- The listing: the rows of each statement, with their flags, their addresses and their codes, and beside the first the line as it was given.
+-- The listing: the rows of each statement, with their flags, their addresses and their codes, and beside the first the line as it was given;
+-- and a last row where the source ends while a range is open.
 -- The columns are our profile's. They are counted from 1: flags in 1 to 8, the address in 10 to 15, the code in 17 to 36,
 -- the line's number in 38 to 43, the line from 45 on; columns between are blank, and blanks at the end are cut.
 use Rattle.std.specs.Prelude.{ℕ, ◌+◌, ◌-◌, Bool, List, [], ◌∷◌, ◌++◌, length, replicate, slice_index, codes, decimal, flat_map, Option, None, Some, if◌then◌else◌}
@@ -9,7 +10,7 @@ use Rattle.cps_state.specs.Flags.{letters}
 use Rattle.cps_final.specs.declared.row.Row.{Row}
 use Rattle.cps_final.specs.declared.row.Digits.{Digits}
 use Rattle.cps_final.specs.Outcome.{Outcome}
-use Rattle.cps_tool.specs.Assembly.{outcomes_of}
+use Rattle.cps_tool.specs.Assembly.{outcomes_of, ends_open}
 
 abbrev pub blanks : ℕ → List ℕ
 blanks count = replicate count (slice_index (codes " ") 0)
@@ -62,6 +63,10 @@ listing_from number [] outcomes = []
 listing_from number (line ∷ lines) [] = []
 listing_from number (line ∷ lines) (outcome ∷ outcomes) = line_rows number line outcome.rows ++ listing_from (number + 1) lines outcomes
 
+-- the last row of a source that ends while a range is open: flag E, and from column 45 on what is wrong
+abbrev pub open_row : Bool → List ℕ
+open_row is_open = if is_open then at_left 44 (codes "E") ++ codes "open range at end of source\n" else []
+
 -- the listing of a source
 abbrev pub listing_text : List (List ℕ) → List ℕ
-listing_text lines = listing_from 1 lines (outcomes_of lines)
+listing_text lines = listing_from 1 lines (outcomes_of lines) ++ open_row (ends_open lines)

@@ -1,5 +1,6 @@
 //! The flags text.
 ghost use Rattle.std.specs.Prelude.{◌≡◌, ◌++◌, ◌+◌, ◌≤◌, ℕ, List, OnOk, IfOk, decimal, length};
+ghost use Rattle.cps_final.specs.Finals.{is_open_at_end};
 ghost use Rattle.cps_tool.specs.Assembly.{outcomes_under};
 ghost use Rattle.cps_tool.specs.Flagged as texts;
 
@@ -10,17 +11,28 @@ use std::alloc::{AllocError, Global};
 
 /// The flags text of lines that did this in pass one.
 pub fn flags_text(alloc: Global, traces: &[Trace], finals: &Finals) -> Result<Vec<u8>, AllocError>
-    ensures { IfOk result (λ text. text.items ≡ texts.flags_text_in (outcomes_under (⟦<Finals as Gathered>⟧.gathered finals.now) traces.now)) }
+    ensures { IfOk result (λ text. text.items
+        ≡ texts.flags_text_in (is_open_at_end (⟦<Finals as Gathered>⟧.gathered finals.now)) (outcomes_under (⟦<Finals as Gathered>⟧.gathered finals.now) traces.now)) }
 {
     let mut text = Vec::new(alloc);
     push_rows(&mut text, traces, finals)?;
+    push_end_row(&mut text, finals.is_open_at_end())?;
     push_decimal(&mut text, flagged_lines(traces, finals))?;
     text.extend_from_slice(b" flagged lines\n")?;
     Ok(text)
 }
 
-/// How many of these lines have a flag. Takes no memory.
+/// How many of these lines have a flag, and one more if a range is open behind them. Takes no memory.
 pub fn flagged_lines(traces: &[Trace], finals: &Finals) -> usize
+    ensures count { result
+        ≡ texts.flagged_with (is_open_at_end (⟦<Finals as Gathered>⟧.gathered finals.now)) (outcomes_under (⟦<Finals as Gathered>⟧.gathered finals.now) traces.now) }
+    ensures within { result ≤ length traces.now + 1 }
+{
+    count_flagged(traces, finals) + usize::from(finals.is_open_at_end())
+}
+
+/// How many of these lines have a flag.
+fn count_flagged(traces: &[Trace], finals: &Finals) -> usize
     ensures count { result ≡ texts.flagged_in (outcomes_under (⟦<Finals as Gathered>⟧.gathered finals.now) traces.now) }
     ensures within { result ≤ length traces.now }
 {
@@ -31,6 +43,16 @@ pub fn flagged_lines(traces: &[Trace], finals: &Finals) -> usize
         }
     }
     count
+}
+
+/// The row of the end of a source where a range is open.
+fn push_end_row(text: &mut Vec<u8>, is_open: bool) -> Result<(), AllocError>
+    ensures { OnOk result (text.new.items ≡ text.old.items ++ texts.end_row is_open) }
+{
+    if is_open {
+        text.extend_from_slice(b"end E\n")?;
+    }
+    Ok(())
 }
 
 /// The rows of lines that are numbered from 1.

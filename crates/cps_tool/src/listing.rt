@@ -2,6 +2,7 @@
 ghost use Rattle.std.specs.Prelude.{◌≡◌, ◌++◌, ◌+◌, ◌≤◌, ◌<◌, ℕ, List, [], ◌∷◌, OnOk, IfOk, codes, decimal, length, take, ◌^◌, if◌then◌else◌};
 ghost use Rattle.cps_text.specs.Text.{is_blank};
 ghost use Rattle.cps_state.specs.Flags.{letters};
+ghost use Rattle.cps_final.specs.Finals.{is_open_at_end};
 ghost use Rattle.cps_tool.specs.Assembly.{outcomes_under};
 ghost use Rattle.cps_tool.specs.Listing as texts;
 
@@ -20,6 +21,9 @@ const CODE_COLUMNS: usize = 20;
 
 const NUMBER_COLUMNS: usize = 6;
 
+/// The columns before the line's, with the blanks between.
+const COLUMNS_BEFORE_LINE: usize = 44;
+
 /// The octal digits of an address.
 const ADDRESS_DIGITS: u8 = 6;
 
@@ -31,11 +35,34 @@ pub fn listing_text(
     finals: &Finals,
 ) -> Result<Vec<u8>, AllocError>
     requires { length lines.now ≡ length traces.now }
-    ensures { IfOk result (λ text. text.items ≡ texts.listing_from 1 lines.now (outcomes_under (⟦<Finals as Gathered>⟧.gathered finals.now) traces.now)) }
+    ensures { IfOk result (λ text. text.items
+        ≡ texts.listing_from 1 lines.now (outcomes_under (⟦<Finals as Gathered>⟧.gathered finals.now) traces.now)
+        ++ texts.open_row (is_open_at_end (⟦<Finals as Gathered>⟧.gathered finals.now))) }
 {
     let mut text = Vec::new(alloc);
     push_lines(alloc, &mut text, lines, traces, finals)?;
+    push_open_row(&mut text, finals.is_open_at_end())?;
     Ok(text)
+}
+
+/// The last row of a source that ends while a range is open.
+fn push_open_row(text: &mut Vec<u8>, is_open: bool) -> Result<(), AllocError>
+    ensures { OnOk result (text.new.items ≡ text.old.items ++ texts.open_row is_open) }
+{
+    if is_open {
+        push_end_flag(text)?;
+        text.extend_from_slice(b"open range at end of source\n")?;
+    }
+    Ok(())
+}
+
+/// The flag of the last row, and the columns up to the line's.
+fn push_end_flag(text: &mut Vec<u8>) -> Result<(), AllocError>
+    ensures { OnOk result (text.new.items ≡ text.old.items ++ texts.at_left COLUMNS_BEFORE_LINE (codes "E")) }
+{
+    let before = text.len();
+    text.extend_from_slice(b"E")?;
+    fill_columns(text, before, COLUMNS_BEFORE_LINE)
 }
 
 /// The rows of lines that are numbered from 1.
@@ -129,7 +156,7 @@ fn push_code(
 /// Fills the columns that a text takes from a length on.
 fn fill_columns(text: &mut Vec<u8>, before: usize, columns: usize) -> Result<(), AllocError>
     requires within { before ≤ length text.old.items }
-    requires few { columns ≤ 20 }
+    requires few { columns ≤ 44 }
     ensures { (front content : List ℕ) → text.old.items ≡ front ++ content → before ≡ length front → OnOk result (text.new.items ≡ front ++ texts.at_left columns content) }
 {
     let used = text.len() - before;
@@ -137,7 +164,7 @@ fn fill_columns(text: &mut Vec<u8>, before: usize, columns: usize) -> Result<(),
 }
 
 fn push_blanks(text: &mut Vec<u8>, count: usize) -> Result<(), AllocError>
-    requires { count ≤ 20 }
+    requires { count ≤ 44 }
     ensures { OnOk result (text.new.items ≡ text.old.items ++ texts.blanks count) }
 {
     text.resize(text.len() + count, b' ')

@@ -32,7 +32,7 @@ pub const MOST_READS: u64 = 16_777_216;
 const CHUNK: usize = 512;
 
 /// Reads a script to its `quit` or its end, obeys its commands, and writes the replies. It gives the number of lines
-/// of the source at the end that have a flag.
+/// of the source at the end that have a flag, and one more if a range is open there.
 ///
 /// After a fault the session holds the edits that were made, also the one whose reply failed.
 pub fn run_script<R: Read, W: Write>(

@@ -260,7 +260,7 @@ impl Session {
         flags_text(alloc, self.assembled.traces(), self.assembled.finals())
     }
 
-    /// How many lines of the source have a flag. Takes no memory.
+    /// How many lines of the source have a flag, and one more if it ends while a range is open. Takes no memory.
     pub fn flagged(&self) -> u32
         ensures { result ≡ flagged_lines self.now.lines }
     {

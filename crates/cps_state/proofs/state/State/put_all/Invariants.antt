@@ -9,6 +9,6 @@ abbrev pub invariant-loop-put : goal.invariant-loop-put
 invariant-loop-put l = record {
   count : length l.put-iterator.rest.items ≡ l.put-iterator.rest.len;
   room : length l.put-iterator.rest.items ≤ hash.spare l.self.others;
-  left : overwritten (answers_in l.self.control l.self.nominal l.self.uses l.self.blocks (hash.get (eq-value.it) l.self.others)) l.put-iterator.rest.items
-      ≡ overwritten (answers_in l.fn.self.control l.fn.self.nominal l.fn.self.uses l.fn.self.blocks (hash.get (eq-value.it) l.fn.self.others)) l.fn.puts.items;
+  left : overwritten (answers_in l.self.control l.self.nominal l.self.uses l.self.blocks l.self.ranges (hash.get (eq-value.it) l.self.others)) l.put-iterator.rest.items
+      ≡ overwritten (answers_in l.fn.self.control l.fn.self.nominal l.fn.self.uses l.fn.self.blocks l.fn.self.ranges (hash.get (eq-value.it) l.fn.self.others)) l.fn.puts.items;
 }

@@ -2,8 +2,8 @@ use Rattle.std.proofs.Common.{◌≡◌, ap, length, arith, ◌∙◌}
 use Rattle.cps_final.specs.contracts.finals.FinalsGathered.TheImpl.{gathered-value}
 use Rattle.cps_tool.specs.Assembly.{outcomes_under, outcomes_of}
 use Rattle.cps_tool.specs.Edits.{Source}
-use Rattle.cps_tool.specs.Flagged.{flagged_in, flagged_lines}
-use Rattle.cps_tool.proofs.AssemblyLemmas.{assembled-length, outcomes-kept}
+use Rattle.cps_tool.specs.Flagged.{flagged_with, flagged_lines}
+use Rattle.cps_tool.proofs.AssemblyLemmas.{assembled-length, outcomes-kept, open-kept}
 use Rattle.cps_tool.proofs.session.Session.flagged.Goals as goal
 
 pub overflow_cast-result : goal.overflow_cast-result
@@ -18,4 +18,5 @@ returns c =
     let lines : c.self.inside.lines.items ≡ c.args.self.now.lines = ap (λ (s : Source). s.lines) c.self.view_is in
     let outcomes : outcomes_under (gathered-value.it c.finals.result.now) c.traces.result.now ≡ outcomes_of c.self.inside.lines.items =
     outcomes-kept _ _ _ _ c.traces.ensures c.finals.ensures c.self.invariant.1 in
-    c.flagged_lines.ensures.count ∙ ap flagged_in outcomes ∙ ap flagged_lines lines
+    let is_open = open-kept _ _ _ c.finals.ensures c.self.invariant.1 in
+    c.flagged_lines.ensures.count ∙ (λ i. flagged_with (is_open i) (outcomes i)) ∙ ap flagged_lines lines
