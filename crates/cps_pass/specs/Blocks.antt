@@ -1,21 +1,26 @@
--- ORG and END: both leave the word that was begun. From the manual's descriptions of these statements; that they force is our profile's.
-use Rattle.std.specs.Prelude.{ℕ, ◌*◌, true, false, nat_lt, pos, Option, None, Some, if◌then◌else◌}
+-- ORG and END: both leave the word that was begun. From the manual's descriptions of these statements; that they force, and that END ends ranges, are our profile's.
+use Rattle.std.specs.Prelude.{ℕ, ◌*◌, true, false, not, ◌||◌, nat_lt, List, [], pos, Option, None, Some, if◌then◌else◌}
 use Rattle.cps_text.specs.declared.name.Name.{Name}
 use Rattle.cps_expr.specs.Expression.{Expression}
 use Rattle.cps_code.specs.declared.place.Place.{Place}
 use Rattle.cps_code.specs.Place.{position}
+use Rattle.cps_state.specs.declared.flags.Flags.{Flags}
 use Rattle.cps_state.specs.declared.key.Key.TheVariants as key
+use Rattle.cps_state.specs.declared.key.Answer.TheVariants as answer
 use Rattle.cps_state.specs.declared.key.Control.{Control}
+use Rattle.cps_state.specs.declared.key.Mode.{Mode}
+use Rattle.cps_state.specs.declared.key.Mode.TheVariants.{Normal}
+use Rattle.cps_state.specs.declared.key.Range.{Range}
 use Rattle.cps_state.specs.declared.key.Phase.TheVariants.{AfterEnd}
 use Rattle.cps_state.specs.declared.made.Shown.TheVariants as shown
-use Rattle.cps_state.specs.Course.{Part, nothing, ◌before◌, asking, fill}
-use Rattle.cps_state.specs.Keys.{same_block, place_of}
+use Rattle.cps_state.specs.Course.{Part, nothing, ◌before◌, asking, putting, fill}
+use Rattle.cps_state.specs.Keys.{same_block, place_of, ranges_of, is_normal, is_no_range}
 use Rattle.cps_state.specs.Machines.{limit}
 use Rattle.cps_state.specs.Made.{Made, nothing_made}
 use Rattle.cps_pass.specs.declared.reading.Location.{Location}
 use Rattle.cps_pass.specs.declared.value_now.ValueNow.{ValueNow}
 use Rattle.cps_pass.specs.declared.value_now.ValueNow.TheVariants.{Undefined, NoValue, Known}
-use Rattle.cps_pass.specs.Head.{putting_control, entering}
+use Rattle.cps_pass.specs.Head.{putting_control}
 use Rattle.cps_pass.specs.Located.{present_flags}
 use Rattle.cps_pass.specs.Numbers.{not_negative}
 use Rattle.cps_pass.specs.Places.{filling_between, place_left, here_at, going_on, nothing_in}
@@ -72,9 +77,19 @@ unread_org control location = asking (key.Counter control.block) (λ a. unread_i
 
 -- ---- END
 
-abbrev pub ending : Control → Location → Place → Part
-ending control location place =
-    going_on control.block (place_left place) false before entering control AfterEnd before fill (left control location place)
+-- E where a range is open or lines are skipped
+abbrev pub end_flags : Mode → Location → List Range → Flags
+end_flags mode location ranges = record (present_flags location) { structure = not (is_normal mode) || not (is_no_range ranges) }
+
+abbrev pub behind_end : Control → Control
+behind_end control = record control { phase = AfterEnd; mode = Normal }
+
+-- no range is open any more
+abbrev pub ending : Control → Location → List Range → Place → Part
+ending control location ranges place =
+    going_on control.block (place_left place) false before putting key.Ifs (answer.Ifs []) before putting_control (behind_end control)
+    before fill (record (left control location place) { flags = end_flags control.mode location ranges })
 
 abbrev pub end : Control → Location → Part
-end control location = asking (key.Counter control.block) (λ a. ending control location (place_of control.machine a))
+end control location =
+    asking key.Ifs (λ a. asking (key.Counter control.block) (λ b. ending control location (ranges_of a) (place_of control.machine b)))

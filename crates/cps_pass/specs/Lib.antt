@@ -8,10 +8,12 @@ pub mod NamesNow
 pub mod Numbers
 pub mod Places
 pub mod Placing
+pub mod Ranges
 pub mod Reading
 pub mod Readings
 pub mod Reserving
 pub mod Sites
+pub mod Skipping
 pub mod Symbols
 pub mod Use
 pub mod ValueNow

@@ -1,4 +1,4 @@
--- What a line does in pass one: by what it says, and by the part of the program in which it stands. From the manual's chapter on pseudo instructions.
+-- What a line does in pass one: by what it says, by the part of the program in which it stands, and by whether it is skipped. From the manual's chapter on pseudo instructions.
 use Rattle.std.specs.Prelude.{ℕ, true, List, None, Some}
 use Rattle.cps_text.specs.Card.{LineFields, CommentLine, ContinuedLine, StatementLine, fields_of}
 use Rattle.cps_expr.specs.declared.operation.Operation.{Operation}
@@ -7,6 +7,8 @@ use Rattle.cps_expr.specs.declared.row.Row.{Row}
 use Rattle.cps_expr.specs.declared.row.Row.TheVariants as row
 use Rattle.cps_state.specs.declared.key.Key.TheVariants as key
 use Rattle.cps_state.specs.declared.key.Control.{Control}
+use Rattle.cps_state.specs.declared.key.Mode.{Mode}
+use Rattle.cps_state.specs.declared.key.Mode.TheVariants.{Normal, SkipLines, SkipRange}
 use Rattle.cps_state.specs.declared.key.Phase.{Phase}
 use Rattle.cps_state.specs.declared.key.Phase.TheVariants.{Head, Body, AfterEnd}
 use Rattle.cps_state.specs.Course.{Part, ◌before◌, asking, stop, begin, fill, Trace, run, not_begun, traced}
@@ -23,15 +25,13 @@ use Rattle.cps_pass.specs.Fields.{vfd, unread_vfd}
 use Rattle.cps_pass.specs.Head.{in_body, leaving_head, ident, declaration, base}
 use Rattle.cps_pass.specs.Instruction.{instruction, peripheral_instruction}
 use Rattle.cps_pass.specs.Located.{present_flags}
+use Rattle.cps_pass.specs.Ranges.{if_compared, if_defined, else_of, endif_of}
 use Rattle.cps_pass.specs.Reading.{reading_of}
 use Rattle.cps_pass.specs.Symbols.{equate, unread_equate, set_symbol, unread_set}
 use Rattle.cps_pass.specs.Reserving.{bss, bssz}
+use Rattle.cps_pass.specs.Skipping.{listed, passed_in, passed_line, passed_range}
 use Rattle.cps_pass.specs.Use.{use_block, unread_use}
 use Rattle.cps_pass.specs.Words.{con, data_words, dis, unread_words}
-
--- a line that does nothing
-abbrev pub listed : Part
-listed = fill (nothing_made no_flags)
 
 -- a line without an operation, or with one that isn't there
 abbrev pub unknown : Part
@@ -51,7 +51,11 @@ obeyed_in_body control location (row.Con values) = con control location values
 obeyed_in_body control location (row.Data numbers) = data_words control location numbers
 obeyed_in_body control location (row.Vfd fields) = vfd control location fields
 obeyed_in_body control location (row.Dis text) = dis control location text
--- what isn't there yet: the IFs, ELSE, ENDIF, DUP, ENDD, MACRO and ENDM
+obeyed_in_body control location (row.Compare test) = if_compared control location test
+obeyed_in_body control location (row.If test) = if_defined control location test
+obeyed_in_body control location row.Else = else_of control location
+obeyed_in_body control location row.Endif = endif_of location
+-- what isn't there yet: DUP, ENDD, MACRO and ENDM
 obeyed_in_body control location _ = unknown
 
 -- a statement with its operands
@@ -76,6 +80,8 @@ unreadable_in_body control location operation.Con = unread_words control locatio
 unreadable_in_body control location operation.Data = unread_words control location
 unreadable_in_body control location operation.Vfd = unread_vfd control location
 unreadable_in_body control location operation.Dis = unread_words control location
+unreadable_in_body control location (operation.Compare relation) = unread location
+unreadable_in_body control location operation.If = unread location
 -- what isn't there yet, and what reads no operands
 unreadable_in_body control location _ = unknown
 
@@ -111,10 +117,15 @@ behind_end CommentLine = listed
 behind_end ContinuedLine = misplaced
 behind_end (StatementLine statement) = misplaced
 
--- the machine and the base of numbers decide how a line is read
+-- a line is assembled, or skipped; the machine and the base of numbers decide how one that is assembled is read
+abbrev pub in_mode : Control → Mode → List ℕ → Part
+in_mode control Normal line = before_end control (reading_of control.machine control.radix line)
+in_mode control (SkipLines count) line = passed_line control count (passed_in (fields_of line))
+in_mode control (SkipRange skip) line = passed_range control skip (passed_in (fields_of line))
+
 abbrev pub in_phase : Control → Phase → List ℕ → Part
-in_phase control (Head head) line = before_end control (reading_of control.machine control.radix line)
-in_phase control Body line = before_end control (reading_of control.machine control.radix line)
+in_phase control (Head head) line = in_mode control control.mode line
+in_phase control Body line = in_mode control control.mode line
 in_phase control AfterEnd line = behind_end (fields_of line)
 
 abbrev pub under : Control → List ℕ → Part

@@ -3,7 +3,7 @@ ghost use Rattle.std.specs.Prelude.{◌≡◌, ◌<◌, ◌^◌, OnOk};
 ghost use Rattle.cps_state.specs.Course.{Does};
 ghost use Rattle.cps_pass.specs.Blocks as blocks;
 
-use crate::head::{enter, put_control};
+use crate::head::put_control;
 use crate::located::present_flags;
 use crate::making::{flag_in, unread_in};
 use crate::numbers::not_negative;
@@ -13,7 +13,8 @@ use crate::value_now::{ValueNow, value_now};
 use cps_code::Place;
 use cps_expr::{Expr, Value};
 use cps_state::{
-    Control, Key, Lookup, Made, Phase, Recorder, Shown, WORD, is_same_block, limit_of, place_of,
+    Answer, Control, Flags, Key, Lookup, Made, Mode, Phase, Range, Recorder, Shown, Stack, WORD,
+    is_normal, is_same_block, limit_of, place_of, ranges_of,
 };
 use cps_text::Name;
 use std::alloc::{AllocError, Global};
@@ -146,7 +147,7 @@ pub fn select<L: Lookup>(
     put_control(recorder, Control { block, ..control })
 }
 
-/// END: leaves the word that was begun.
+/// END: leaves the word that was begun. Ranges that are open, and lines that are skipped, end here.
 pub fn end<L: Lookup>(
     alloc: Global,
     recorder: &mut Recorder,
@@ -156,17 +157,38 @@ pub fn end<L: Lookup>(
 ) -> Result<(), AllocError>
     ensures { OnOk result (Does (blocks.end control location) (L.answer state.now) recorder.old recorder.new) }
 {
+    let open = recorder.ask(state, Key::Ifs)?;
     let answer = recorder.ask(state, Key::Counter(control.block))?;
     let left = leave_word(place_of(answer.as_ref(), control.machine));
     go_on(recorder, control.block, left.start, false)?;
-    enter(recorder, control, Phase::AfterEnd)?;
+    recorder.put(Key::Ifs, Answer::Ifs(Stack::new(alloc, &[])?))?;
+    put_control(recorder, behind_end(control))?;
     recorder.fill(Made::leaving(
         alloc,
-        present_flags(location),
+        end_flags(control.mode, location, ranges_of(open.as_ref())),
         control.machine,
         control.block,
         left.filling,
         Shown::Nothing,
     ));
     Ok(())
+}
+
+/// E where a range is open or lines are skipped.
+fn end_flags(mode: Mode, location: Location, ranges: &[Range]) -> Flags
+    ensures { result ≡ blocks.end_flags mode location ranges.now }
+{
+    let mut flags = present_flags(location);
+    flags.structure = !is_normal(mode) || !ranges.is_empty();
+    flags
+}
+
+fn behind_end(control: Control) -> Control
+    ensures { result ≡ blocks.behind_end control }
+{
+    Control {
+        phase: Phase::AfterEnd,
+        mode: Mode::Normal,
+        ..control
+    }
 }

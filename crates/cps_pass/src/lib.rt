@@ -11,8 +11,10 @@ mod making;
 mod numbers;
 mod places;
 mod placing;
+mod ranges;
 mod reading;
 mod reserving;
+mod skipping;
 mod step;
 mod symbols;
 mod uses;
@@ -20,8 +22,8 @@ mod value_now;
 mod words;
 
 pub use cps_state::{
-    Answer, Asked, Content, Control, Flags, Head, Held, Item, Key, Lookup, Made, Phase, Put, Shown,
-    State, Tally, Trace, Uses, Work, limit_of, word_bits,
+    Answer, Asked, Content, Control, Flags, Head, Held, Item, Key, Lookup, Made, Mode, Phase, Put,
+    Range, Shown, Skip, Stack, State, Tally, Trace, Work, is_open, limit_of, word_bits,
 };
 pub use places::here_at;
 pub use step::step_one;

@@ -48,7 +48,7 @@ pub enum Standing {
     Set,
 }
 
-fn has_value(standing: Standing) -> bool
+pub fn has_value(standing: Standing) -> bool
     ensures { result ≡ located.has_value standing }
 {
     match standing {

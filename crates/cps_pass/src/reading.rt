@@ -84,7 +84,7 @@ fn read_card(
     }
 }
 
-fn read_location(field: &[u8]) -> Location
+pub fn read_location(field: &[u8]) -> Location
     ensures { result ≡ location_in field.now }
 {
     if is_text(field, b"") {

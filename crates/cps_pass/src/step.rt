@@ -16,13 +16,17 @@ use crate::head::{base, declaration, ident, in_body, leave_head};
 use crate::instruction::{instruction, peripheral_instruction};
 use crate::located::present_flags;
 use crate::making::{flag, unread};
+use crate::ranges::{close_range, if_compared, if_defined, turn_range};
 use crate::reading::{Location, Reading, Stating, read_line};
 use crate::reserving::{bss, bssz};
+use crate::skipping::{pass_in_range, pass_line, passed_in};
 use crate::symbols::{equate, set_symbol, unread_equate, unread_set};
 use crate::uses::{unread_use, use_block};
 use crate::words::{con, data_words, dis, unread_words};
 use cps_expr::{Machine, Operation, Row};
-use cps_state::{Control, Flags, Key, Lookup, Phase, Recorder, Tally, Trace, Work, control_of};
+use cps_state::{
+    Control, Flags, Key, Lookup, Mode, Phase, Recorder, Tally, Trace, Work, control_of,
+};
 use cps_text::{Fields, Line};
 use std::alloc::{AllocError, Global};
 
@@ -68,9 +72,32 @@ fn take_line<L: Lookup>(
             behind_end(alloc, recorder, state, line.fields());
             Ok(())
         }
-        _ => {
+        _ => take_in_mode(alloc, recorder, state, control, line),
+    }
+}
+
+/// A line before END: it is assembled, or skipped.
+fn take_in_mode<L: Lookup>(
+    alloc: Global,
+    recorder: &mut Recorder,
+    state: &L,
+    control: Control,
+    line: &Line,
+) -> Result<(), AllocError>
+    ensures { OnOk result (Does (meaning.in_mode control control.mode line.now) (L.answer state.now) recorder.old recorder.new) }
+{
+    match control.mode {
+        Mode::Normal => {
             let reading = read_line(alloc, line, control.machine, control.radix)?;
             before_end(alloc, recorder, state, control, reading)
+        }
+        Mode::SkipLines(count) => {
+            let passed = passed_in(line.fields());
+            pass_line(alloc, recorder, state, control, count, passed)
+        }
+        Mode::SkipRange(skip) => {
+            let passed = passed_in(line.fields());
+            pass_in_range(alloc, recorder, state, control, skip, passed)
         }
     }
 }
@@ -233,6 +260,10 @@ fn obey_in_body<L: Lookup>(
         Row::Data(numbers) => data_words(alloc, recorder, state, control, location, &numbers),
         Row::Vfd(fields) => vfd(alloc, recorder, state, control, location, fields),
         Row::Dis(text) => dis(alloc, recorder, state, control, location, &text),
+        Row::Compare(test) => if_compared(alloc, recorder, state, control, location, &test),
+        Row::If(test) => if_defined(alloc, recorder, state, control, location, &test),
+        Row::Else => turn_range(alloc, recorder, state, control, location),
+        Row::Endif => close_range(alloc, recorder, state, location),
         _ => {
             unknown(alloc, recorder);
             Ok(())
@@ -291,6 +322,10 @@ fn flag_in_body<L: Lookup>(
             unread_words(alloc, recorder, state, control, location)
         }
         Operation::Vfd => unread_vfd(alloc, recorder, state, control, location),
+        Operation::Compare(_) | Operation::If => {
+            unread(alloc, recorder, location);
+            Ok(())
+        }
         _ => {
             unknown(alloc, recorder);
             Ok(())

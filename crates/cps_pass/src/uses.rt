@@ -12,8 +12,8 @@ use crate::reading::Location;
 use cps_code::Place;
 use cps_expr::Block;
 use cps_state::{
-    Answer, Control, Key, Lookup, Made, Recorder, Shown, Uses, count_of, is_place, place_of,
-    uses_of,
+    Answer, Control, Key, Lookup, Made, Recorder, Shown, Stack, count_of, is_place, place_of,
+    uses_of, uses_with,
 };
 use cps_text::Name;
 use std::alloc::{AllocError, Global};
@@ -62,13 +62,13 @@ fn leave<L: Lookup>(
 {
     match block {
         Block::Nominal => {
-            let left = Uses::with(alloc, control.block, uses)?;
+            let left = uses_with(alloc, control.block, uses)?;
             go_to(
                 alloc, recorder, state, control, location, place, left, None, None,
             )
         }
         Block::Previous => {
-            let left = Uses::new(alloc, before_previous(uses))?;
+            let left = Stack::new(alloc, before_previous(uses))?;
             go_to(
                 alloc,
                 recorder,
@@ -138,7 +138,7 @@ fn go_to_named<L: Lookup>(
 {
     let answer = recorder.ask(state, Key::Counter(Some(name)))?;
     if is_place(answer.as_ref()) {
-        let left = Uses::with(alloc, control.block, uses)?;
+        let left = uses_with(alloc, control.block, uses)?;
         return go_to(
             alloc,
             recorder,
@@ -179,7 +179,7 @@ fn go_to_new<L: Lookup>(
         flag_in(alloc, recorder, control.block, flags);
         return Ok(());
     }
-    let left = Uses::with(alloc, control.block, uses)?;
+    let left = uses_with(alloc, control.block, uses)?;
     go_to(
         alloc,
         recorder,
@@ -201,7 +201,7 @@ fn go_to<L: Lookup>(
     control: Control,
     location: Location,
     place: Place,
-    uses: Uses,
+    uses: Stack<Option<Name>>,
     count: Option<u32>,
     block: Option<Name>,
 ) -> Result<(), AllocError>
