@@ -6,8 +6,8 @@ use super::given::{line, name};
 use cps_code::Place;
 use cps_expr::{Machine, Radix, Value};
 use cps_pass::{
-    Answer, Asked, Content, Control, Head, Key, Lookup, Made, Phase, Put, State, Tally, Trace,
-    Work, step_one,
+    Answer, Asked, Content, Control, Head, Key, Lookup, Made, Mode, Phase, Put, State, Tally,
+    Trace, Work, step_one,
 };
 use cps_state::Recorder;
 use cps_text::push_octal;
@@ -56,6 +56,7 @@ pub const FIRST: Control = Control {
     machine: Machine::Cp,
     radix: Radix::Decimal,
     block: None,
+    mode: Mode::Normal,
 };
 
 const BODY: Control = Control {
@@ -63,6 +64,7 @@ const BODY: Control = Control {
     machine: Machine::Cp,
     radix: Radix::Decimal,
     block: None,
+    mode: Mode::Normal,
 };
 
 const PERIPHERAL: Control = Control {
@@ -73,6 +75,7 @@ const PERIPHERAL: Control = Control {
     machine: Machine::Pp,
     radix: Radix::Decimal,
     block: None,
+    mode: Mode::Normal,
 };
 
 /// The lines of a program, each in the state behind those before it.
