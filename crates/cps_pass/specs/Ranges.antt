@@ -1,5 +1,6 @@
 -- Conditional assembly: IFEQ and the like, IF, ELSE and ENDIF. From the manual's descriptions of these statements; that a flagged test doesn't hold,
--- how many lines may hang on one, how many ranges may be open, and that ELSE turns a range round only once, are our profile's.
+-- which values don't compare, how many lines may hang on one, how many ranges may be open, and that ELSE turns a range round only once, are our
+-- profile's.
 use Rattle.std.specs.Prelude.{ℕ, ℤ, Bool, true, false, not, nat_eq, nat_le, int_lt, int_le, length, List, [], ◌∷◌, Option, None, Some, if◌then◌else◌}
 use Rattle.std.specs.Ordering.{int_eq}
 use Rattle.cps_expr.specs.declared.operation.Relation.{Relation}
