@@ -14,11 +14,17 @@ mod column_rows;
 #[cfg(test)]
 mod devices;
 #[cfg(test)]
+mod expansion_rows;
+#[cfg(test)]
 mod literal_rows;
+#[cfg(test)]
+mod macro_rows;
 #[cfg(test)]
 mod peripheral_rows;
 #[cfg(test)]
 mod range_rows;
+#[cfg(test)]
+mod repeat_rows;
 #[cfg(test)]
 mod replies;
 #[cfg(test)]

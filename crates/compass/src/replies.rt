@@ -76,3 +76,25 @@ pub fn assert_rows(
     }
     Ok(())
 }
+
+/// Asserts what is replied to the rest of a script that first enters a line and behind it comments, up to a line's number.
+pub fn assert_long_body(
+    rt: &impl Abort,
+    alloc: Global,
+    at: usize,
+    first: &str,
+    number: u32,
+    rest: &str,
+    want: &str,
+) -> Result<(), Fail> {
+    let mut script = String::new(alloc);
+    let mut replies = String::from_str(alloc, "ok 1 lines\n")?;
+    writeln!(script, "a {first}")?;
+    for count in 2..number {
+        script.push_str("a *\n")?;
+        writeln!(replies, "ok {count} lines")?;
+    }
+    script.push_str(rest)?;
+    replies.push_str(want)?;
+    assert_replies(rt, alloc, at, &script, &replies)
+}

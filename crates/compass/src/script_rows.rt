@@ -152,36 +152,48 @@ fn holds_lines(rt: HostRuntime) -> Result<(), Fail> {
     Ok(())
 }
 
+/// Enters a line behind so many others.
+fn insert(
+    rt: &impl Abort,
+    alloc: Global,
+    session: &mut Session,
+    work: &mut Work,
+    after: u32,
+    text: &[u8],
+) -> Result<(), Fail> {
+    let entered = line(alloc, text)?;
+    let done = session.insert(after, entered, work);
+    assert_same(rt, "inserted", &done, &Ok(()));
+    Ok(())
+}
+
+/// Puts a line in place of another.
+fn replace(
+    rt: &impl Abort,
+    alloc: Global,
+    session: &mut Session,
+    work: &mut Work,
+    at: u32,
+    text: &[u8],
+) -> Result<(), Fail> {
+    let entered = line(alloc, text)?;
+    let done = session.replace(at, entered, work);
+    assert_same(rt, "replaced", &done, &Ok(()));
+    Ok(())
+}
+
 /// An edit counts the steps of the lines from the first on that it touches.
 #[test]
 fn counts_steps(rt: HostRuntime) -> Result<(), Fail> {
     let mut session = Session::new(rt.alloc());
     let mut work = Work::new();
     for after in 0..4 {
-        let entered = line(rt.alloc(), b"  NO")?;
-        assert_same(
-            &rt,
-            "entered",
-            &session.insert(after, entered, &mut work),
-            &Ok(()),
-        );
+        insert(&rt, rt.alloc(), &mut session, &mut work, after, b"  NO")?;
     }
     assert_same(&rt, "a step a line", &work.ones(), &4);
-    let first = line(rt.alloc(), b"* one")?;
-    assert_same(
-        &rt,
-        "inserted",
-        &session.insert(1, first, &mut work),
-        &Ok(()),
-    );
+    insert(&rt, rt.alloc(), &mut session, &mut work, 1, b"* one")?;
     assert_same(&rt, "four lines behind the first", &work.ones(), &8);
-    let second = line(rt.alloc(), b"* two")?;
-    assert_same(
-        &rt,
-        "replaced",
-        &session.replace(4, second, &mut work),
-        &Ok(()),
-    );
+    replace(&rt, rt.alloc(), &mut session, &mut work, 4, b"* two")?;
     assert_same(&rt, "lines 4 and 5", &work.ones(), &10);
     assert_same(&rt, "deleted", &session.delete(2, 4, &mut work), &Ok(()));
     assert_same(&rt, "the last line", &work.ones(), &11);

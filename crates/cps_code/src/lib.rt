@@ -27,6 +27,7 @@ pub use form::CpForm;
 pub use forms::{FormFault, cp_form};
 pub use hole::{Hole, HoleKind, Operand};
 pub use literal::read_operand;
+pub use operation::is_operation;
 pub use piece::Piece;
 pub use place::{Filling, Force, Place, Placed};
 pub use placing::place_next;

@@ -1,7 +1,7 @@
 ghost use Rattle.std.specs.Prelude.{◌≡◌, ◌<◌, IfSome, option_map};
 ghost use Rattle.cps_code.specs.Digits.{first_digit};
 ghost use Rattle.cps_code.specs.Rows.{named};
-ghost use Rattle.cps_code.specs.Table.{instruction_named};
+ghost use Rattle.cps_code.specs.Table.{instruction_named, is_operation};
 ghost use Rattle.cps_code.specs.Operations.{first_of, operation_values, named_value};
 ghost use Rattle.cps_code.specs.Terms.{AreDigits};
 
@@ -48,6 +48,13 @@ pub fn named_operation(name: &[u8]) -> Option<(Forms, Digits)>
         None => None,
         Some((first, _rest)) => find_operation(operations_with(capital(first)), name),
     }
+}
+
+/// Whether the central processor has an operation.
+pub fn is_operation(name: &[u8]) -> bool
+    ensures { result ≡ is_operation name.now }
+{
+    named_operation(name).is_some()
 }
 
 fn find_operation(

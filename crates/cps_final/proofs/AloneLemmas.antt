@@ -29,7 +29,7 @@ use Rattle.cps_state.specs.Made.{Made, no_flags, width_of, content_names, conten
 use Rattle.cps_final.specs.declared.row.Row.{Row}
 use Rattle.cps_final.specs.Finals.{block, label, literal}
 use Rattle.cps_final.specs.Values.{Resolved, address_of, base_in, final_of, values_in, literal_in, Known, known_in, plain_offset, value_at, number_at, expression_flags, operand_number, is_valueless, reads_undefined, number_for, form_number, form_flags, number_of, value_flags, first_address}
-use Rattle.cps_final.specs.Rows.{limit_flags, literal_flags, digits_for, first_digits, second_digits, blank_row, row_at, content_rows, with_contents, statement_row, rows_with, rows_of}
+use Rattle.cps_final.specs.Rows.{limit_flags, literal_flags, digits_for, first_digits, second_digits, blank_row, row_at, content_rows, with_contents, statement_row, rows_with, rows_made, row_of, rows_of}
 use Rattle.cps_final.specs.Pieces.{pieces_at, zeros_at, placed, content_pieces, contents_of, pieces_of}
 use Rattle.cps_final.specs.Names.{names_read, names_defined}
 use Rattle.cps_final.specs.Outcome.{outcome_of, blocks_shown, AgreeOnMade, AgreeOnNamed}
@@ -157,6 +157,8 @@ module _ (o f : Known) (here : ℕ) where
     code = Some (first_digits c (number-same c agree stand i));
     second = second_digits c (number-same c agree stand i);
     is_later = is_later;
+    depth = 0;
+    text = [];
   }
 
 -- ---- symbols
@@ -296,7 +298,7 @@ module _ (others finals : Resolved) (made : Made) (agree : AgreeOnMade others fi
       λ i. if made.only_flags then blank_row (blank-same others finals made here-same (c ∷ contents) names literals i) ∷ []
       else content_rows-same others finals made here-same made.flags false made.start (c ∷ contents) names literals i
 
-  rows-same : rows_of others made ≡ rows_of finals made
+  rows-same : rows_made others made ≡ rows_made finals made
   rows-same = rows_with-same made.contents (symbols-same others finals made agree) (literals-same others finals made agree)
 
   pieces-same : pieces_of others made ≡ pieces_of finals made
@@ -309,10 +311,10 @@ module _ (others finals : Resolved) (made : Made) (agree : AgreeOnMade others fi
 -- ---- a line
 
 all-rows-same : (others finals : Resolved) (items : List Item) → All (λ item. AgreeOnMade others finals item.made) items
-    → flat_map (λ item. rows_of others item.made) items ≡ flat_map (λ item. rows_of finals item.made) items
+    → flat_map (rows_of others) items ≡ flat_map (rows_of finals) items
 all-rows-same others finals [] agree = refl
 all-rows-same others finals (item ∷ items) agree =
-    λ i. rows-same others finals item.made (all-head (λ (item : Item). AgreeOnMade others finals item.made) item items agree) i
+    λ i. map (row_of item) (rows-same others finals item.made (all-head (λ (item : Item). AgreeOnMade others finals item.made) item items agree) i)
     ++ all-rows-same others finals items (All-tail (λ (item : Item). AgreeOnMade others finals item.made) item items agree) i
 
 all-pieces-same : (others finals : Resolved) (items : List Item) → All (λ item. AgreeOnMade others finals item.made) items

@@ -1,6 +1,6 @@
 -- Pass two, one content or one statement further.
 use Rattle.std.proofs.Common.{◌≡◌, ℕ, ◌+◌, ◌*◌, ◌/◌, ◌<◌, ◌≤◌, Bool, true, false, List, [], ◌∷◌, ◌++◌, length, get_or, take, drop, flat_map, refl, sym, ap, subst, ◌∙◌, arith, append-nil, append_assoc}
-use Rattle.std.specs.Prelude.{if◌then◌else◌}
+use Rattle.std.specs.Prelude.{map, if◌then◌else◌}
 use Rattle.std.proofs.lemmas.Grind.{flat_map-append}
 use Rattle.std.proofs.lemmas.List.{take_more, take_all, drop_more}
 use Rattle.std.proofs.lemmas.List.Sums.{fold-append}
@@ -20,7 +20,7 @@ use Rattle.cps_state.specs.Made.{Made, no_flags, width_of, end_of, HaveRoom}
 use Rattle.cps_state.proofs.PlaceLemmas.{end-not-before, end-next}
 use Rattle.cps_final.specs.declared.row.Row.{Row}
 use Rattle.cps_final.specs.Values.{Resolved, known_in, Known, base_in, first_address}
-use Rattle.cps_final.specs.Rows.{row_at, content_rows, with_contents, blank_row, rows_with, rows_of}
+use Rattle.cps_final.specs.Rows.{row_at, content_rows, with_contents, blank_row, rows_with, rows_made, row_of, rows_of}
 use Rattle.cps_final.specs.Pieces.{pieces_of}
 use Rattle.cps_final.specs.Names.{later_names, symbol_put, names_read, names_defined}
 use Rattle.cps_final.specs.Outcome.{outcome_of, joined_with}
@@ -80,14 +80,14 @@ module _ (finals : Resolved) (made : Made) (machine : Machine) (flags : Flags) (
       ∷ content_rows finals made no_flags true (behind made.machine at (width_of c)) (drop (i + 1) made.contents)) (sym so.is)
       ∙ (λ j. sym so.shows j ∷ content_rows finals made no_flags true (sym moved j) (drop (i + 1) made.contents))
 
-  pub rows-next : (rows new end : List Row) (next_flags : Flags) → new ≡ rows ++ row ∷ [] → next_flags ≡ no_flags
-      → rows ++ content_rows finals made flags is_later at (drop i made.contents) ≡ end
-      → new ++ content_rows finals made next_flags true next (drop (i + 1) made.contents) ≡ end
-  rows-next rows new end next_flags pushed none so_far =
-      let rest = content_rows finals made no_flags true next (drop (i + 1) made.contents) in
-      ap (λ (f : Flags). new ++ content_rows finals made f true next (drop (i + 1) made.contents)) none
-      ∙ ap (λ (l : List Row). l ++ rest) pushed ∙ append_assoc rows (row ∷ []) rest
-      ∙ sym (ap (λ (l : List Row). rows ++ l) rows-more) ∙ so_far
+  pub rows-next : (item : Item) (rows new end : List Row) (next_flags : Flags) → new ≡ rows ++ row_of item row ∷ [] → next_flags ≡ no_flags
+      → rows ++ map (row_of item) (content_rows finals made flags is_later at (drop i made.contents)) ≡ end
+      → new ++ map (row_of item) (content_rows finals made next_flags true next (drop (i + 1) made.contents)) ≡ end
+  rows-next item rows new end next_flags pushed none so_far =
+      let rest = map (row_of item) (content_rows finals made no_flags true next (drop (i + 1) made.contents)) in
+      ap (λ (f : Flags). new ++ map (row_of item) (content_rows finals made f true next (drop (i + 1) made.contents))) none
+      ∙ ap (λ (l : List Row). l ++ rest) pushed ∙ append_assoc rows (row_of item row ∷ []) rest
+      ∙ sym (ap (λ (l : List Row). rows ++ map (row_of item) l) rows-more) ∙ so_far
 
   pub flags-next : (all new end next_flags : Flags) → new ≡ joined all row.flags → next_flags ≡ no_flags
       → joined_with all (content_rows finals made flags is_later at (drop i made.contents)) ≡ end
@@ -122,7 +122,7 @@ flat_map-more f xs i x lt is =
 -- ---- a line
 
 pub outcome-made : (finals : Resolved) (trace : Trace) (items : List Item) (puts : List Put) (rows : List Row) (pieces : List Piece) (defined read : List Name) → items ≡ trace.items → puts ≡ trace.puts
-    → rows ≡ flat_map (λ item. rows_of finals item.made) items → pieces ≡ flat_map (λ item. pieces_of finals item.made) items
+    → rows ≡ flat_map (rows_of finals) items → pieces ≡ flat_map (λ item. pieces_of finals item.made) items
     → defined ≡ insert_all same_name [] (flat_map (λ p. symbol_put p.key) puts) → read ≡ insert_all same_name [] (trace.reads ++ later_names trace)
     → record { rows = rows; pieces = pieces; defined = defined; read = read } ≡ outcome_of finals trace
 outcome-made finals trace items puts rows pieces defined read is has shows bits defines reads =
@@ -131,7 +131,7 @@ outcome-made finals trace items puts rows pieces defined read is has shows bits 
     ∙ sym (distinct-append same_name same_name-laws [] (flat_map (λ p. symbol_put p.key) trace.puts)) in
     let read-now : read ≡ names_read trace = reads ∙ sym (distinct-append same_name same_name-laws [] (trace.reads ++ later_names trace)) in
     λ i. record {
-      rows = (shows ∙ ap (flat_map (λ (item : Item). rows_of finals item.made)) is) i;
+      rows = (shows ∙ ap (flat_map (rows_of finals)) is) i;
       pieces = (bits ∙ ap (flat_map (λ (item : Item). pieces_of finals item.made)) is) i;
       defined = defined-now i;
       read = read-now i;
@@ -143,6 +143,15 @@ appends-more f xs i x mid new lt is before made = made ∙ ap (λ l. l ++ f x) b
 
 -- ---- flags
 
+-- a row of a statement has the flags that it has without depth and text
+same-flags : (item : Item) (row : Row) → (row_of item row).flags ≡ row.flags
+same-flags item row = elim row.is_later as (λ b. (if b then row else record row { depth = item.depth; text = item.text }).flags ≡ row.flags) [ true ↦ refl | false ↦ refl ]
+
+rows-flags : (item : Item) (flags : Flags) (rows : List Row) → joined_with flags (map (row_of item) rows) ≡ joined_with flags rows
+rows-flags item flags [] = refl
+rows-flags item flags (row ∷ rows) =
+    ap (λ (own : Flags). joined_with (joined flags own) (map (row_of item) rows)) (same-flags item row) ∙ rows-flags item (joined flags row.flags) rows
+
 rows-joined : {X : Type 0} (f : X → List Row) (xs : List X) (i : ℕ) (x : X) (flags : Flags) → i < length xs → x ≡ get_or xs i x
     → joined_with flags (flat_map f (drop i xs)) ≡ joined_with (joined_with flags (f x)) (flat_map f (drop (i + 1) xs))
 rows-joined f xs i x flags lt is =
@@ -150,9 +159,12 @@ rows-joined f xs i x flags lt is =
     ∙ fold-append (λ all (row : Row). joined all row.flags) flags (f (get_or xs i x)) (flat_map f (drop (i + 1) xs))
     ∙ ap (λ y. joined_with (joined_with flags (f y)) (flat_map f (drop (i + 1) xs))) (sym is)
 
-pub item-flags-next : (f : Item → List Row) (items shown : List Item) (i : ℕ) (item : Item) (flags new end : Flags) → items ≡ shown → i < length items → item ≡ get_or items i item
-    → new ≡ joined_with flags (f item) → joined_with flags (flat_map f (drop i shown)) ≡ end → joined_with new (flat_map f (drop (i + 1) shown)) ≡ end
-item-flags-next f items shown i item flags new end same lt is joins so_far =
+pub item-flags-next : (finals : Resolved) (items shown : List Item) (i : ℕ) (item : Item) (flags new end : Flags) → items ≡ shown → i < length items → item ≡ get_or items i item
+    → new ≡ joined_with flags (rows_made finals item.made) → joined_with flags (flat_map (rows_of finals) (drop i shown)) ≡ end
+    → joined_with new (flat_map (rows_of finals) (drop (i + 1) shown)) ≡ end
+item-flags-next finals items shown i item flags new end same lt is joins so_far =
+    let f = rows_of finals in
     let within : i < length shown = subst (λ (l : List Item). i < length l) same lt in
     let is-now : item ≡ get_or shown i item = is ∙ ap (λ (l : List Item). get_or l i item) same in
-    ap (λ (fs : Flags). joined_with fs (flat_map f (drop (i + 1) shown))) joins ∙ sym (rows-joined f shown i item flags within is-now) ∙ so_far
+    let joins-now : new ≡ joined_with flags (rows_of finals item) = joins ∙ sym (rows-flags item flags (rows_made finals item.made)) in
+    ap (λ (fs : Flags). joined_with fs (flat_map f (drop (i + 1) shown))) joins-now ∙ sym (rows-joined f shown i item flags within is-now) ∙ so_far

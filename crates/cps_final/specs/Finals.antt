@@ -48,7 +48,7 @@ Gathers finals traces = finals ≡ finals_of traces
 abbrev pub machine_of : Finals → Machine
 machine_of finals = (control_of (finals.state key.Control)).machine
 
--- whether a range is open behind the last line, or lines are skipped
+-- whether a range is open behind the last line, or lines are skipped or kept
 abbrev pub is_open_at_end : Finals → Bool
 is_open_at_end finals = is_open finals.state
 

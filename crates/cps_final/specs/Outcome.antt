@@ -25,7 +25,7 @@ pub record Outcome : Type 0 where
 
 abbrev pub outcome_of : Resolved → Trace → Outcome
 outcome_of finals trace = record {
-  rows = flat_map (λ item. rows_of finals item.made) trace.items;
+  rows = flat_map (rows_of finals) trace.items;
   pieces = flat_map (λ item. pieces_of finals item.made) trace.items;
   defined = names_defined trace;
   read = names_read trace;

@@ -1,6 +1,6 @@
 -- Pass two: the rows of a statement. From the manual's section on the listing; the flag at the machine's limit, and which columns a row shows, are our
 -- profile's.
-use Rattle.std.specs.Prelude.{ℕ, ◌+◌, ◌/◌, ◌%◌, ◌^◌, Bool, true, false, nat_le, nat_lt, List, [], ◌∷◌, fold, nat_abs, Option, None, Some, option_map, if◌then◌else◌}
+use Rattle.std.specs.Prelude.{ℕ, ◌+◌, ◌/◌, ◌%◌, ◌^◌, Bool, true, false, nat_le, nat_lt, List, [], ◌∷◌, map, fold, nat_abs, Option, None, Some, option_map, if◌then◌else◌}
 use Rattle.std.specs.List.{list_any}
 use Rattle.cps_expr.specs.declared.machine.Machine.{Machine}
 use Rattle.cps_expr.specs.declared.machine.Machine.TheVariants.{Pp}
@@ -8,6 +8,7 @@ use Rattle.cps_expr.specs.Item.{bits_of}
 use Rattle.cps_code.specs.Bits.{word_bits}
 use Rattle.cps_code.specs.Form.{complemented}
 use Rattle.cps_state.specs.declared.flags.Flags.{Flags}
+use Rattle.cps_state.specs.declared.item.Item.{Item}
 use Rattle.cps_state.specs.declared.made.Content.{Content}
 use Rattle.cps_state.specs.declared.made.Content.TheVariants as content
 use Rattle.cps_state.specs.declared.made.Shown.{Shown}
@@ -45,7 +46,7 @@ literal_flags literals machine content = record no_flags { structure = list_any 
 
 -- a row that shows nothing but flags
 abbrev pub blank_row : Flags → Row
-blank_row flags = record { flags = flags; location = None; code = None; second = None; is_later = false }
+blank_row flags = record { flags = flags; location = None; code = None; second = None; is_later = false; depth = 0; text = [] }
 
 -- the row of a content: its flags, the address of the word in which it begins, and its code
 abbrev pub row_at : Known → Machine → Flags → Bool → ℕ → ℕ → Content → Row
@@ -55,6 +56,8 @@ row_at known machine flags is_later here address content = record {
   code = Some (first_digits content (number_of known here content));
   second = second_digits content (number_of known here content);
   is_later = is_later;
+  depth = 0;
+  text = [];
 }
 
 -- a row for each content from a place on; the flags of pass one are on the first
@@ -83,5 +86,13 @@ rows_with finals made (content ∷ contents) =
     if made.only_flags then blank_row (with_contents (known_in finals made) (first_address finals made) made.flags (content ∷ contents)) ∷ []
     else content_rows finals made made.flags false made.start (content ∷ contents)
 
-abbrev pub rows_of : Resolved → Made → List Row
-rows_of finals made = rows_with finals made made.contents
+-- the rows of what a statement made, as in a source line
+abbrev pub rows_made : Resolved → Made → List Row
+rows_made finals made = rows_with finals made made.contents
+
+-- a row of a statement has its depth and its text; later rows have neither
+abbrev pub row_of : Item → Row → Row
+row_of item row = if row.is_later then row else record row { depth = item.depth; text = item.text }
+
+abbrev pub rows_of : Resolved → Item → List Row
+rows_of finals item = map (row_of item) (rows_made finals item.made)

@@ -95,7 +95,7 @@ impl Finals {
         control_of(self.state.ask(&Key::Control)).machine
     }
 
-    /// Whether a range is open behind the last line, or lines are skipped.
+    /// Whether a range is open behind the last line, or lines are skipped or kept.
     pub fn is_open_at_end(&self) -> bool
         ensures { result ≡ is_open_at_end (⟦<Finals as Gathered>⟧.gathered self.now) }
     {

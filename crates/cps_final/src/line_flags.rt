@@ -22,7 +22,7 @@ pub fn flags_under(trace: &Trace, finals: &Finals) -> Flags
 
 /// Flags, and those of a statement's rows.
 fn join_rows(flags: Flags, made: &Made, finals: &Finals) -> Flags
-    ensures { result ≡ outcome.joined_with flags (shown.rows_of (final_value (⟦<Finals as Gathered>⟧.gathered finals.now)) made.now) }
+    ensures { result ≡ outcome.joined_with flags (shown.rows_made (final_value (⟦<Finals as Gathered>⟧.gathered finals.now)) made.now) }
 {
     if made.contents().is_empty() {
         flags.joined(statement_row(made, finals).flags)

@@ -1,5 +1,9 @@
 //! What rows of a listing show.
-use cps_state::Flags;
+ghost use Rattle.std.specs.Prelude.{◌≡◌, IfOk};
+ghost use Rattle.cps_final.specs.Rows as shown;
+
+use cps_state::{Flags, Item, Shared};
+use std::alloc::AllocError;
 
 /// So many octal digits of a number.
 #[derive(Clone, Copy, Debug, PartialEq, Eq)]
@@ -9,7 +13,7 @@ pub struct Digits {
 }
 
 /// What a row of the listing shows of a statement.
-#[derive(Clone, Copy, Debug, PartialEq, Eq)]
+#[derive(Debug, PartialEq, Eq, Drop)]
 pub struct Row {
     pub flags: Flags,
     /// A final address, in words.
@@ -19,4 +23,25 @@ pub struct Row {
     pub second: Option<Digits>,
     /// Whether it is a later row of its statement, which shows neither the line nor its number.
     pub is_later: bool,
+    /// How deep in expansions its statement stands, 0 for a source line and on later rows.
+    pub depth: u8,
+    /// The statement's text, empty for a source line's own statement and on later rows.
+    pub text: Shared<u8>,
+}
+
+impl Row {
+    /// The same row, as one of this statement. Takes no memory.
+    pub(crate) fn of_item(self, item: &Item) -> Result<Row, AllocError>
+        ensures { IfOk result (λ row. row ≡ shown.row_of item.now self) }
+    {
+        if self.is_later {
+            return Ok(self);
+        }
+        let text = item.text.share()?;
+        Ok(Row {
+            depth: item.depth,
+            text,
+            ..self
+        })
+    }
 }

@@ -1,5 +1,5 @@
 //! The rows of a statement in pass two.
-ghost use Rattle.std.specs.Prelude.{◌≡◌, ◌++◌, ◌≤◌, ◌<◌, ◌^◌, false, nat_le, flat_map, OnOk, IfOk};
+ghost use Rattle.std.specs.Prelude.{◌≡◌, ◌++◌, ◌≤◌, ◌<◌, ◌^◌, [], ◌∷◌, false, nat_le, map, flat_map, OnOk, IfOk};
 ghost use Rattle.std.specs.List.{list_any};
 ghost use Rattle.cps_code.specs.Operand.{operand_literals};
 ghost use Rattle.cps_state.specs.Machines.{limit};
@@ -13,7 +13,7 @@ use crate::row::{Digits, Row};
 use crate::valued::{first_address, value_content};
 use cps_code::{Hole, Operand, complement};
 use cps_expr::Machine;
-use cps_state::{Content, Flags, Item, Made, Shown, WORD, behind, limit_of};
+use cps_state::{Content, Flags, Item, Made, Shared, Shown, WORD, behind, limit_of};
 use std::alloc::{AllocError, Global};
 
 /// The bits of a central processor's word.
@@ -24,34 +24,43 @@ const PERIPHERAL_BITS: u8 = 12;
 
 /// The rows of statements.
 pub fn make_rows(alloc: Global, items: &[Item], finals: &Finals) -> Result<Vec<Row>, AllocError>
-    ensures { IfOk result (λ rows. rows.items ≡ flat_map (λ item. shown.rows_of (final_value (⟦<Finals as Gathered>⟧.gathered finals.now)) item.made) items.now) }
+    ensures { IfOk result (λ rows. rows.items ≡ flat_map (shown.rows_of (final_value (⟦<Finals as Gathered>⟧.gathered finals.now))) items.now) }
 {
     let mut rows = Vec::new(alloc);
     for item in items {
-        push_rows(&mut rows, &item.made, finals)?;
+        push_rows(&mut rows, item, finals)?;
     }
     Ok(rows)
 }
 
-fn push_rows(rows: &mut Vec<Row>, made: &Made, finals: &Finals) -> Result<(), AllocError>
-    ensures { OnOk result (rows.new.items ≡ rows.old.items ++ shown.rows_of (final_value (⟦<Finals as Gathered>⟧.gathered finals.now)) made.now) }
+fn push_rows(rows: &mut Vec<Row>, item: &Item, finals: &Finals) -> Result<(), AllocError>
+    ensures { OnOk result (rows.new.items ≡ rows.old.items ++ shown.rows_of (final_value (⟦<Finals as Gathered>⟧.gathered finals.now)) item.now) }
 {
+    let made = &item.made;
     if made.contents().is_empty() {
-        rows.push(statement_row(made, finals))?;
-        Ok(())
+        push_row(rows, item, statement_row(made, finals))
     } else if made.only_flags() {
-        rows.push(blank_row(flags_with_contents(made, finals)))?;
-        Ok(())
+        push_row(rows, item, blank_row(flags_with_contents(made, finals)))
     } else {
-        push_content_rows(rows, made, finals)
+        push_content_rows(rows, item, finals)
     }
 }
 
-/// A row for each content.
-fn push_content_rows(rows: &mut Vec<Row>, made: &Made, finals: &Finals) -> Result<(), AllocError>
-    requires { made.now.only_flags ≡ false }
-    ensures { OnOk result (rows.new.items ≡ rows.old.items ++ shown.content_rows (final_value (⟦<Finals as Gathered>⟧.gathered finals.now)) made.now made.now.flags false made.now.start made.now.contents) }
+/// A row of a statement.
+fn push_row(rows: &mut Vec<Row>, item: &Item, row: Row) -> Result<(), AllocError>
+    ensures { OnOk result (rows.new.items ≡ rows.old.items ++ shown.row_of item.now row ∷ []) }
 {
+    rows.push(row.of_item(item)?)?;
+    Ok(())
+}
+
+/// A row for each content.
+fn push_content_rows(rows: &mut Vec<Row>, item: &Item, finals: &Finals) -> Result<(), AllocError>
+    requires { item.now.made.only_flags ≡ false }
+    ensures { OnOk result (rows.new.items ≡ rows.old.items
+        ++ map (shown.row_of item.now) (shown.content_rows (final_value (⟦<Finals as Gathered>⟧.gathered finals.now)) item.now.made item.now.made.flags false item.now.made.start item.now.made.contents)) }
+{
+    let made = &item.made;
     let machine = made.machine();
     let base = finals.address_of(made.block());
     let here = first_address(made, base);
@@ -60,7 +69,8 @@ fn push_content_rows(rows: &mut Vec<Row>, made: &Made, finals: &Finals) -> Resul
     let mut at = made.start();
     for content in made.contents() {
         let address = base + u64::from(at / WORD);
-        rows.push(row_at(made, flags, is_later, here, address, content, finals))?;
+        let row = row_at(made, flags, is_later, here, address, content, finals);
+        push_row(rows, item, row)?;
         flags = Flags::none();
         is_later = true;
         at = behind(machine, at, content.width());
@@ -93,6 +103,8 @@ pub fn row_at(
         code: Some(first_digits(content, valued.number)),
         second: second_digits(content, valued.number),
         is_later,
+        depth: 0,
+        text: Shared::empty(),
     }
 }
 
@@ -106,6 +118,8 @@ pub fn blank_row(flags: Flags) -> Row
         code: None,
         second: None,
         is_later: false,
+        depth: 0,
+        text: Shared::empty(),
     }
 }
 

@@ -1,7 +1,6 @@
-pub mod CourseLemmas
-pub mod HoldingLemmas
-pub mod PartLemmas
-pub mod SiteLemmas
-pub mod SizedLemmas
+pub mod KeepingLemmas
+pub mod MacroLemmas
+pub mod ScopeLemmas
+pub mod StatementLemmas
 pub mod StepLemmas
-pub mod WordLemmas
+pub mod WalkLemmas

@@ -9,25 +9,23 @@ use Rattle.cps_expr.specs.declared.row.SymbolTest.{SymbolTest}
 use Rattle.cps_expr.specs.declared.row.Comparison.{Comparison}
 use Rattle.cps_expr.specs.Expression.{Expression}
 use Rattle.cps_state.specs.declared.flags.Flags.{Flags}
-use Rattle.cps_state.specs.declared.key.Key.TheVariants as key
-use Rattle.cps_state.specs.declared.key.Answer.TheVariants as answer
 use Rattle.cps_state.specs.declared.key.Control.{Control}
-use Rattle.cps_state.specs.declared.key.Mode.{Mode}
 use Rattle.cps_state.specs.declared.key.Mode.TheVariants.{SkipLines, SkipRange}
 use Rattle.cps_state.specs.declared.key.Range.{Range}
 use Rattle.cps_state.specs.declared.key.Range.TheVariants.{BeforeElse, BehindElse}
-use Rattle.cps_state.specs.Course.{Part, nothing, ◌before◌, asking, putting, tell, fill}
+use Rattle.cps_state.specs.Course.{Part, ◌before◌, tell, fill}
 use Rattle.cps_state.specs.Flags.{joined}
-use Rattle.cps_state.specs.Keys.{most_ranges, ranges_of, same_block}
+use Rattle.cps_state.specs.Keys.{most_ranges, same_block}
 use Rattle.cps_state.specs.Made.{nothing_made, no_flags}
 use Rattle.cps_pass.specs.declared.ranges.Tested.{Tested}
-use Rattle.cps_pass.specs.declared.reading.Location.{Location}
-use Rattle.cps_pass.specs.declared.value_now.ValueNow.{ValueNow}
-use Rattle.cps_pass.specs.declared.value_now.ValueNow.TheVariants.{Undefined, NoValue, Known}
-use Rattle.cps_pass.specs.Head.{putting_control}
-use Rattle.cps_pass.specs.Located.{present_flags, has_value, asking_standing}
-use Rattle.cps_pass.specs.Numbers.{between, plain_number}
-use Rattle.cps_pass.specs.ValueNow.{now_here}
+use Rattle.cps_reading.specs.declared.reading.Location.{Location}
+use Rattle.cps_effect.specs.declared.value_now.ValueNow.{ValueNow}
+use Rattle.cps_effect.specs.declared.value_now.ValueNow.TheVariants.{Undefined, NoValue, Known}
+use Rattle.cps_effect.specs.Located.{present_flags, has_value, asking_standing}
+use Rattle.cps_effect.specs.Numbers.{between, plain_number}
+use Rattle.cps_effect.specs.ValueNow.{now_here}
+use Rattle.cps_pass.specs.declared.scope.Scope.{Scope}
+use Rattle.cps_pass.specs.Scope.{going_by, asking_ranges, putting_ranges}
 
 -- how many lines may hang on an IF
 abbrev pub most_lines : ℕ
@@ -70,10 +68,6 @@ asking_defined test next = asking_standing test.symbol (λ standing. tell test.s
 
 -- ---- what hangs on a test
 
--- what is done with the lines to come
-abbrev pub going_by : Control → Mode → Part
-going_by control mode = putting_control (record control { mode = mode })
-
 -- so many lines: a plain number
 abbrev pub line_count : ValueNow → Option ℕ
 line_count value = between 0 most_lines (plain_number value)
@@ -86,48 +80,48 @@ count_flags NoValue None = record no_flags { operand = true }
 count_flags (Known value) None = record no_flags { operand = true }
 
 -- the lines are skipped where the test doesn't hold
-abbrev pub skipping_lines : Control → Bool → Option ℕ → Part
-skipping_lines control true count = nothing
-skipping_lines control false None = nothing
-skipping_lines control false (Some count) = if nat_eq count 0 then nothing else going_by control (SkipLines count)
+abbrev pub skipping_lines : Control → Scope → Bool → Option ℕ → (Scope → Part) → Part
+skipping_lines control scope true count next = next scope
+skipping_lines control scope false None next = next scope
+skipping_lines control scope false (Some count) next = if nat_eq count 0 then next scope else going_by control scope (SkipLines count) next
 
-abbrev pub counting : Control → Location → Tested → ValueNow → Part
-counting control location test value =
-    skipping_lines control test.holds (line_count value)
-    before fill (nothing_made (joined (present_flags location) (joined test.flags (count_flags value (line_count value)))))
+abbrev pub counting : Control → Scope → Location → Tested → ValueNow → (Scope → Part) → Part
+counting control scope location test value next =
+    skipping_lines control scope test.holds (line_count value)
+    (λ later. fill (nothing_made (joined (present_flags location) (joined test.flags (count_flags value (line_count value))))) before next later)
 
 -- a range whose test holds is open; one whose test doesn't is skipped, to its ELSE or its end
-abbrev pub opened : Control → Bool → List Range → Part
-opened control true ranges = putting key.Ifs (answer.Ifs (BeforeElse ∷ ranges))
-opened control false ranges = going_by control (SkipRange (record { nested = 0; may_resume = true }))
+abbrev pub opened : Control → Scope → Bool → List Range → (Scope → Part) → Part
+opened control scope true ranges next = putting_ranges scope (BeforeElse ∷ ranges) next
+opened control scope false ranges next = going_by control scope (SkipRange (record { nested = 0; may_resume = true })) next
 
 abbrev pub test_flags : Location → Tested → Flags
 test_flags location test = joined (present_flags location) test.flags
 
 -- E where too many are open
-abbrev pub opening : Control → Location → Tested → List Range → Part
-opening control location test ranges =
-    if nat_le most_ranges (length ranges) then fill (nothing_made (record (test_flags location test) { structure = true }))
-    else opened control test.holds ranges before fill (nothing_made (test_flags location test))
+abbrev pub opening : Control → Scope → Location → Tested → List Range → (Scope → Part) → Part
+opening control scope location test ranges next =
+    if nat_le most_ranges (length ranges) then fill (nothing_made (record (test_flags location test) { structure = true })) before next scope
+    else opened control scope test.holds ranges (λ later. fill (nothing_made (test_flags location test)) before next later)
 
 -- lines of a number, or up to ENDIF
-abbrev pub hanging_range : Control → Location → Tested → Part
-hanging_range control location test = asking key.Ifs (λ a. opening control location test (ranges_of a))
+abbrev pub hanging_range : Control → Scope → Location → Tested → (Scope → Part) → Part
+hanging_range control scope location test next = asking_ranges scope (λ ranges. opening control scope location test ranges next)
 
-abbrev pub hanging_lines : Control → Location → Expression → Tested → Part
-hanging_lines control location lines test = now_here control lines (λ value. counting control location test value)
+abbrev pub hanging_lines : Control → Scope → Location → Expression → Tested → (Scope → Part) → Part
+hanging_lines control scope location lines test next = now_here control lines (λ value. counting control scope location test value next)
 
-abbrev pub hanging : Control → Location → Option Expression → Tested → Part
-hanging control location None test = hanging_range control location test
-hanging control location (Some lines) test = hanging_lines control location lines test
+abbrev pub hanging : Control → Scope → Location → Option Expression → Tested → (Scope → Part) → Part
+hanging control scope location None test next = hanging_range control scope location test next
+hanging control scope location (Some lines) test next = hanging_lines control scope location lines test next
 
 -- ---- IFEQ and the like, and IF
 
-abbrev pub if_compared : Control → Location → Comparison → Part
-if_compared control location test = asking_compared control test (hanging control location test.lines)
+abbrev pub if_compared : Control → Scope → Location → Comparison → (Scope → Part) → Part
+if_compared control scope location test next = asking_compared control test (λ tested. hanging control scope location test.lines tested next)
 
-abbrev pub if_defined : Control → Location → SymbolTest → Part
-if_defined control location test = asking_defined test (hanging control location test.lines)
+abbrev pub if_defined : Control → Scope → Location → SymbolTest → (Scope → Part) → Part
+if_defined control scope location test next = asking_defined test (λ tested. hanging control scope location test.lines tested next)
 
 -- ---- ELSE and ENDIF: E where there is no range for them
 
@@ -135,20 +129,20 @@ abbrev pub no_range : Location → Part
 no_range location = fill (nothing_made (record (present_flags location) { structure = true }))
 
 -- the newest range is skipped from here on, to its end
-abbrev pub turned : Control → Location → List Range → Part
-turned control location (BeforeElse ∷ ranges) =
-    putting key.Ifs (answer.Ifs ranges) before going_by control (SkipRange (record { nested = 0; may_resume = false }))
-    before fill (nothing_made (present_flags location))
-turned control location (BehindElse ∷ ranges) = no_range location
-turned control location [] = no_range location
+abbrev pub turned : Control → Scope → Location → List Range → (Scope → Part) → Part
+turned control scope location (BeforeElse ∷ ranges) next =
+    putting_ranges scope ranges (λ within. going_by control within (SkipRange (record { nested = 0; may_resume = false }))
+    (λ later. fill (nothing_made (present_flags location)) before next later))
+turned control scope location (BehindElse ∷ ranges) next = no_range location before next scope
+turned control scope location [] next = no_range location before next scope
 
-abbrev pub else_of : Control → Location → Part
-else_of control location = asking key.Ifs (λ a. turned control location (ranges_of a))
+abbrev pub else_of : Control → Scope → Location → (Scope → Part) → Part
+else_of control scope location next = asking_ranges scope (λ ranges. turned control scope location ranges next)
 
 -- the newest range ends
-abbrev pub closed : Location → List Range → Part
-closed location [] = no_range location
-closed location (range ∷ ranges) = putting key.Ifs (answer.Ifs ranges) before fill (nothing_made (present_flags location))
+abbrev pub closed : Scope → Location → List Range → (Scope → Part) → Part
+closed scope location [] next = no_range location before next scope
+closed scope location (range ∷ ranges) next = putting_ranges scope ranges (λ later. fill (nothing_made (present_flags location)) before next later)
 
-abbrev pub endif_of : Location → Part
-endif_of location = asking key.Ifs (λ a. closed location (ranges_of a))
+abbrev pub endif_of : Scope → Location → (Scope → Part) → Part
+endif_of scope location next = asking_ranges scope (λ ranges. closed scope location ranges next)

@@ -1,51 +1,23 @@
--- Lines that are skipped. From the manual's descriptions of IF, ELSE and ENDIF; that ranges in a skipped one are known by the number of their operands
--- alone, and that END is always obeyed, are our profile's.
-use Rattle.std.specs.Prelude.{ℕ, ◌+◌, ◌-◌, ◌^◌, Bool, true, false, nat_lt, nat_eq, length, List, [], ◌∷◌, Option, None, Some, if◌then◌else◌}
-use Rattle.cps_text.specs.Card.{StatementFields, LineFields, CommentLine, ContinuedLine, StatementLine}
-use Rattle.cps_text.specs.Operands.{operands_of}
-use Rattle.cps_expr.specs.declared.operation.Operation.{Operation}
-use Rattle.cps_expr.specs.declared.operation.Operation.TheVariants as operation
-use Rattle.cps_expr.specs.Operation.{operation_named}
-use Rattle.cps_state.specs.declared.key.Key.TheVariants as key
-use Rattle.cps_state.specs.declared.key.Answer.TheVariants as answer
+-- Lines that are skipped. From the manual's descriptions of IF, ELSE and ENDIF.
+use Rattle.std.specs.Prelude.{ℕ, ◌+◌, ◌-◌, ◌^◌, nat_lt, nat_eq, ◌∷◌, if◌then◌else◌}
 use Rattle.cps_state.specs.declared.key.Control.{Control}
 use Rattle.cps_state.specs.declared.key.Mode.{Mode}
 use Rattle.cps_state.specs.declared.key.Mode.TheVariants.{Normal, SkipLines, SkipRange}
 use Rattle.cps_state.specs.declared.key.Range.TheVariants.{BehindElse}
 use Rattle.cps_state.specs.declared.key.Skip.{Skip}
-use Rattle.cps_state.specs.Course.{Part, nothing, ◌before◌, asking, putting, fill}
-use Rattle.cps_state.specs.Keys.{ranges_of}
+use Rattle.cps_state.specs.Course.{Part, ◌before◌, fill}
 use Rattle.cps_state.specs.Made.{nothing_made, no_flags}
-use Rattle.cps_pass.specs.declared.reading.Location.{Location}
-use Rattle.cps_pass.specs.declared.skipping.Passed.{Passed}
-use Rattle.cps_pass.specs.declared.skipping.Passed.TheVariants.{Begins, Else, Endif, End, Other}
-use Rattle.cps_pass.specs.Blocks.{end}
-use Rattle.cps_pass.specs.Located.{present_flags}
-use Rattle.cps_pass.specs.Ranges.{going_by, no_range}
-use Rattle.cps_pass.specs.Reading.{location_in}
+use Rattle.cps_reading.specs.declared.reading.Location.{Location}
+use Rattle.cps_effect.specs.Located.{present_flags}
+use Rattle.cps_pass.specs.declared.passed.Passed.{Passed}
+use Rattle.cps_pass.specs.declared.passed.Passed.TheVariants.{Begins, Else, Endif}
+use Rattle.cps_pass.specs.declared.scope.Scope.{Scope}
+use Rattle.cps_pass.specs.Ranges.{no_range}
+use Rattle.cps_pass.specs.Scope.{going_by, asking_ranges, putting_ranges}
 
 -- a line that does nothing
 abbrev pub listed : Part
 listed = fill (nothing_made no_flags)
-
--- ---- what is looked at in a line that is skipped
-
--- an IF begins a range, but with the number of lines, its third operand
-abbrev pub begins_range : List ℕ → Bool
-begins_range tail = nat_lt (length (operands_of tail)) 3
-
-abbrev pub passed_by : Option Operation → StatementFields → Passed
-passed_by (Some (operation.Compare relation)) statement = if begins_range statement.tail then Begins else Other
-passed_by (Some operation.If) statement = if begins_range statement.tail then Begins else Other
-passed_by (Some operation.Else) statement = Else (location_in statement.location)
-passed_by (Some operation.Endif) statement = Endif (location_in statement.location)
-passed_by (Some operation.End) statement = End (location_in statement.location)
-passed_by _ statement = Other
-
-abbrev pub passed_in : LineFields → Passed
-passed_in CommentLine = Other
-passed_in ContinuedLine = Other
-passed_in (StatementLine statement) = passed_by (operation_named statement.operation) statement
 
 -- ---- lines of a number
 
@@ -53,9 +25,8 @@ passed_in (StatementLine statement) = passed_by (operation_named statement.opera
 abbrev pub fewer : ℕ → Mode
 fewer count = if nat_lt 1 count then SkipLines (count - 1) else Normal
 
-abbrev pub passed_line : Control → ℕ → Passed → Part
-passed_line control count (End location) = end control location
-passed_line control count passed = going_by control (fewer count) before listed
+abbrev pub passed_line : Control → Scope → ℕ → (Scope → Part) → Part
+passed_line control scope count next = going_by control scope (fewer count) (λ later. listed before next later)
 
 -- ---- a range
 
@@ -64,27 +35,30 @@ abbrev pub most_nested : ℕ
 most_nested = 2 ^ 32 - 1
 
 -- a range begins in it; their count stays at its greatest
-abbrev pub nesting : Control → Skip → Part
-nesting control skip = if nat_lt skip.nested most_nested then going_by control (SkipRange (record skip { nested = skip.nested + 1 })) else nothing
+abbrev pub nesting : Control → Scope → Skip → (Scope → Part) → Part
+nesting control scope skip next =
+    if nat_lt skip.nested most_nested then going_by control scope (SkipRange (record skip { nested = skip.nested + 1 })) (λ later. listed before next later)
+    else listed before next scope
 
 -- its own ELSE takes up assembly; E where that is not the first
-abbrev pub resumed : Control → Skip → Location → Part
-resumed control skip location =
-    if skip.may_resume then asking key.Ifs (λ a. putting key.Ifs (answer.Ifs (BehindElse ∷ ranges_of a)) before going_by control Normal before fill (nothing_made (present_flags location)))
-    else no_range location
+abbrev pub resumed : Control → Scope → Skip → Location → (Scope → Part) → Part
+resumed control scope skip location next =
+    if skip.may_resume
+    then asking_ranges scope (λ ranges. putting_ranges scope (BehindElse ∷ ranges) (λ within. going_by control within Normal
+    (λ later. fill (nothing_made (present_flags location)) before next later)))
+    else no_range location before next scope
 
 -- an ELSE, or an ENDIF, of a range in it or of itself
-abbrev pub passed_else : Control → Skip → Location → Part
-passed_else control skip location = if nat_eq skip.nested 0 then resumed control skip location else listed
+abbrev pub passed_else : Control → Scope → Skip → Location → (Scope → Part) → Part
+passed_else control scope skip location next = if nat_eq skip.nested 0 then resumed control scope skip location next else listed before next scope
 
-abbrev pub passed_endif : Control → Skip → Location → Part
-passed_endif control skip location =
-    if nat_eq skip.nested 0 then going_by control Normal before fill (nothing_made (present_flags location))
-    else going_by control (SkipRange (record skip { nested = skip.nested - 1 })) before listed
+abbrev pub passed_endif : Control → Scope → Skip → Location → (Scope → Part) → Part
+passed_endif control scope skip location next =
+    if nat_eq skip.nested 0 then going_by control scope Normal (λ later. fill (nothing_made (present_flags location)) before next later)
+    else going_by control scope (SkipRange (record skip { nested = skip.nested - 1 })) (λ later. listed before next later)
 
-abbrev pub passed_range : Control → Skip → Passed → Part
-passed_range control skip Begins = nesting control skip before listed
-passed_range control skip (Else location) = passed_else control skip location
-passed_range control skip (Endif location) = passed_endif control skip location
-passed_range control skip (End location) = end control location
-passed_range control skip Other = listed
+abbrev pub passed_range : Control → Scope → Skip → Passed → (Scope → Part) → Part
+passed_range control scope skip Begins next = nesting control scope skip next
+passed_range control scope skip (Else location) next = passed_else control scope skip location next
+passed_range control scope skip (Endif location) next = passed_endif control scope skip location next
+passed_range control scope skip _ next = listed before next scope

@@ -1,29 +1,22 @@
-//! Pass one: what a line asks of the state of an assembly, what it puts there, and what it makes.
+//! Pass one: what a line asks of the state of an assembly, what it puts there, and what it makes, with the statements of its expansion.
 #![tactic(auto)]
 
-mod blocks;
-mod fields;
-mod head;
-mod holding;
-mod instruction;
-mod located;
-mod making;
-mod numbers;
-mod places;
-mod placing;
+mod expansion;
+mod keeping;
+mod macros;
+mod opened;
+mod passed;
 mod ranges;
-mod reading;
-mod reserving;
+mod repeating;
+mod scope;
 mod skipping;
+mod statement;
 mod step;
-mod symbols;
-mod uses;
-mod value_now;
-mod words;
 
+pub use cps_effect::here_at;
 pub use cps_state::{
-    Answer, Asked, Content, Control, Flags, Head, Held, Item, Key, Lookup, Made, Mode, Phase, Put,
-    Range, Shown, Skip, Stack, State, Tally, Trace, Work, is_open, limit_of, word_bits,
+    Answer, Asked, Content, Control, DupBody, Extent, Flags, Head, Held, Item, Kept, Key, Lookup,
+    Macro, MacroBody, Made, Mode, Phase, Put, Range, Shared, Shown, Skip, State, Tally, Trace,
+    Work, is_open, limit_of, word_bits,
 };
-pub use places::here_at;
 pub use step::step_one;

@@ -1,22 +1,17 @@
 //! Conditional assembly: IFEQ and the like, IF, ELSE and ENDIF.
 ghost use Rattle.std.specs.Prelude.{◌≡◌, true, OnOk, IfOk};
-ghost use Rattle.cps_state.specs.Course.{Does, Hands, with_put_made, filled};
+ghost use Rattle.cps_state.specs.Course.{Hands, filled};
 ghost use Rattle.cps_state.specs.Made.{nothing_made};
-ghost use Rattle.cps_pass.specs.Head.{control_put};
-ghost use Rattle.cps_pass.specs.Located.{present_flags};
-ghost use Rattle.cps_pass.specs.Ranges as ranges;
+ghost use Rattle.cps_effect.specs.Located.{present_flags};
+ghost use Rattle.cps_pass.specs.Ranges as meaning;
 
-use crate::head::put_control;
-use crate::located::{ask_standing, has_value, present_flags};
-use crate::making::flag;
-use crate::numbers::plain_number;
-use crate::reading::Location;
-use crate::value_now::{ValueNow, value_here};
-use cps_expr::{Comparison, Expr, Relation, SymbolTest};
-use cps_state::{
-    Answer, Control, Flags, Key, Lookup, Mode, Range, Recorder, Skip, Stack, is_same_block,
-    ranges_of,
+use crate::scope::{Scope, ask_ranges, go_by, put_ranges};
+use cps_effect::{
+    ValueNow, ask_standing, flag, has_value, plain_number, present_flags, value_here,
 };
+use cps_expr::{Comparison, Expr, Relation, SymbolTest};
+use cps_reading::Location;
+use cps_state::{Control, Flags, Lookup, Mode, Range, Recorder, Shared, Skip, is_same_block};
 use std::alloc::{AllocError, Global};
 
 /// How many ranges may be open.
@@ -38,10 +33,11 @@ pub fn if_compared<L: Lookup>(
     recorder: &mut Recorder,
     state: &L,
     control: Control,
+    scope: &mut Scope,
     location: Location,
     test: &Comparison,
 ) -> Result<(), AllocError>
-    ensures { OnOk result (Does (ranges.if_compared control location test.now) (L.answer state.now) recorder.old recorder.new) }
+    ensures { OnOk result (Hands (meaning.if_compared control scope.old location test.now) scope.new (L.answer state.now) recorder.old recorder.new) }
 {
     let tested = ask_compared(alloc, recorder, state, control, test)?;
     hang(
@@ -49,6 +45,7 @@ pub fn if_compared<L: Lookup>(
         recorder,
         state,
         control,
+        scope,
         location,
         &test.lines,
         tested,
@@ -61,10 +58,11 @@ pub fn if_defined<L: Lookup>(
     recorder: &mut Recorder,
     state: &L,
     control: Control,
+    scope: &mut Scope,
     location: Location,
     test: &SymbolTest,
 ) -> Result<(), AllocError>
-    ensures { OnOk result (Does (ranges.if_defined control location test.now) (L.answer state.now) recorder.old recorder.new) }
+    ensures { OnOk result (Hands (meaning.if_defined control scope.old location test.now) scope.new (L.answer state.now) recorder.old recorder.new) }
 {
     let tested = ask_defined(recorder, state, test)?;
     hang(
@@ -72,6 +70,7 @@ pub fn if_defined<L: Lookup>(
         recorder,
         state,
         control,
+        scope,
         location,
         &test.lines,
         tested,
@@ -84,26 +83,45 @@ pub fn turn_range<L: Lookup>(
     recorder: &mut Recorder,
     state: &L,
     control: Control,
+    scope: &mut Scope,
     location: Location,
 ) -> Result<(), AllocError>
-    ensures { OnOk result (Does (ranges.else_of control location) (L.answer state.now) recorder.old recorder.new) }
+    ensures { OnOk result (Hands (meaning.else_of control scope.old location) scope.new (L.answer state.now) recorder.old recorder.new) }
 {
-    let answer = recorder.ask(state, Key::Ifs)?;
-    match ranges_of(answer.as_ref()) {
-        [Range::BeforeElse, others @ ..] => {
-            recorder.put(Key::Ifs, Answer::Ifs(Stack::new(alloc, others)?))?;
-            go_by(
-                recorder,
-                control,
-                Mode::SkipRange(Skip {
-                    nested: 0,
-                    may_resume: false,
-                }),
-            )?;
-            flag(alloc, recorder, present_flags(location));
-        }
-        _ => no_range(alloc, recorder, location),
-    }
+    let ranges = ask_ranges(recorder, state, scope)?;
+    turn(
+        alloc,
+        recorder,
+        state,
+        control,
+        scope,
+        location,
+        ranges.as_slice(),
+    )
+}
+
+fn turn<L: Lookup>(
+    alloc: Global,
+    recorder: &mut Recorder,
+    state: &L,
+    control: Control,
+    scope: &mut Scope,
+    location: Location,
+    ranges: &[Range],
+) -> Result<(), AllocError>
+    ensures { OnOk result (Hands (meaning.turned control scope.old location ranges.now) scope.new (L.answer state.now) recorder.old recorder.new) }
+{
+    let [Range::BeforeElse, others @ ..] = ranges else {
+        no_range(alloc, recorder, location);
+        return Ok(());
+    };
+    put_ranges(recorder, state, scope, Shared::new(alloc, others)?)?;
+    let skip = Skip {
+        nested: 0,
+        may_resume: false,
+    };
+    go_by(recorder, state, control, scope, Mode::SkipRange(skip))?;
+    flag(alloc, recorder, present_flags(location));
     Ok(())
 }
 
@@ -112,18 +130,31 @@ pub fn close_range<L: Lookup>(
     alloc: Global,
     recorder: &mut Recorder,
     state: &L,
+    scope: &mut Scope,
     location: Location,
 ) -> Result<(), AllocError>
-    ensures { OnOk result (Does (ranges.endif_of location) (L.answer state.now) recorder.old recorder.new) }
+    ensures { OnOk result (Hands (meaning.endif_of scope.old location) scope.new (L.answer state.now) recorder.old recorder.new) }
 {
-    let answer = recorder.ask(state, Key::Ifs)?;
-    match ranges_of(answer.as_ref()) {
-        [_, others @ ..] => {
-            recorder.put(Key::Ifs, Answer::Ifs(Stack::new(alloc, others)?))?;
-            flag(alloc, recorder, present_flags(location));
-        }
-        [] => no_range(alloc, recorder, location),
-    }
+    let ranges = ask_ranges(recorder, state, scope)?;
+    close(alloc, recorder, state, scope, location, ranges.as_slice())
+}
+
+fn close<L: Lookup>(
+    alloc: Global,
+    recorder: &mut Recorder,
+    state: &L,
+    scope: &mut Scope,
+    location: Location,
+    ranges: &[Range],
+) -> Result<(), AllocError>
+    ensures { OnOk result (Hands (meaning.closed scope.old location ranges.now) scope.new (L.answer state.now) recorder.old recorder.new) }
+{
+    let [_, others @ ..] = ranges else {
+        no_range(alloc, recorder, location);
+        return Ok(());
+    };
+    put_ranges(recorder, state, scope, Shared::new(alloc, others)?)?;
+    flag(alloc, recorder, present_flags(location));
     Ok(())
 }
 
@@ -136,13 +167,6 @@ pub fn no_range(alloc: Global, recorder: &mut Recorder, location: Location)
     flag(alloc, recorder, flags);
 }
 
-/// What is done with the lines to come.
-pub fn go_by(recorder: &mut Recorder, control: Control, mode: Mode) -> Result<(), AllocError>
-    ensures { OnOk result (recorder.new ≡ with_put_made recorder.old (control_put (record control { mode = mode }))) }
-{
-    put_control(recorder, Control { mode, ..control })
-}
-
 fn ask_compared<L: Lookup>(
     alloc: Global,
     recorder: &mut Recorder,
@@ -150,7 +174,7 @@ fn ask_compared<L: Lookup>(
     control: Control,
     test: &Comparison,
 ) -> Result<Tested, AllocError>
-    ensures { IfOk result (λ tested. Hands (ranges.asking_compared control test.now) tested (L.answer state.now) recorder.old recorder.new) }
+    ensures { IfOk result (λ tested. Hands (meaning.asking_compared control test.now) tested (L.answer state.now) recorder.old recorder.new) }
 {
     let left = value_here(alloc, recorder, state, control, &test.left)?;
     let right = value_here(alloc, recorder, state, control, &test.right)?;
@@ -159,7 +183,7 @@ fn ask_compared<L: Lookup>(
 
 /// Compares two values that are both plain or in one block.
 fn compare(relation: Relation, left: ValueNow, right: ValueNow) -> Tested
-    ensures { result ≡ ranges.compared relation left right }
+    ensures { result ≡ meaning.compared relation left right }
 {
     match (left, right) {
         (ValueNow::Known(left), ValueNow::Known(right)) => {
@@ -184,7 +208,7 @@ fn compare(relation: Relation, left: ValueNow, right: ValueNow) -> Tested
 }
 
 fn relates(relation: Relation, left: i64, right: i64) -> bool
-    ensures { result ≡ ranges.relates relation left right }
+    ensures { result ≡ meaning.relates relation left right }
 {
     match relation {
         Relation::Equal => left == right,
@@ -197,7 +221,7 @@ fn relates(relation: Relation, left: i64, right: i64) -> bool
 }
 
 fn value_flags(value: ValueNow) -> Flags
-    ensures { result ≡ ranges.value_flags value }
+    ensures { result ≡ meaning.value_flags value }
 {
     let mut flags = Flags::none();
     match value {
@@ -213,7 +237,7 @@ fn ask_defined<L: Lookup>(
     state: &L,
     test: &SymbolTest,
 ) -> Result<Tested, AllocError>
-    ensures { IfOk result (λ tested. Hands (ranges.asking_defined test.now) tested (L.answer state.now) recorder.old recorder.new) }
+    ensures { IfOk result (λ tested. Hands (meaning.asking_defined test.now) tested (L.answer state.now) recorder.old recorder.new) }
 {
     let standing = ask_standing(recorder, state, test.symbol)?;
     recorder.tell(test.symbol)?;
@@ -222,7 +246,7 @@ fn ask_defined<L: Lookup>(
 
 /// The symbol has a value, or with `-DEF` has none.
 fn defined(is_defined: bool, has_value: bool) -> Tested
-    ensures { result ≡ ranges.defined is_defined has_value }
+    ensures { result ≡ meaning.defined is_defined has_value }
 {
     Tested {
         holds: if is_defined { has_value } else { !has_value },
@@ -236,15 +260,18 @@ fn hang<L: Lookup>(
     recorder: &mut Recorder,
     state: &L,
     control: Control,
+    scope: &mut Scope,
     location: Location,
     lines: &Option<Expr>,
     test: Tested,
 ) -> Result<(), AllocError>
-    ensures { OnOk result (Does (ranges.hanging control location lines.now test) (L.answer state.now) recorder.old recorder.new) }
+    ensures { OnOk result (Hands (meaning.hanging control scope.old location lines.now test) scope.new (L.answer state.now) recorder.old recorder.new) }
 {
     match lines {
-        Some(lines) => count_lines(alloc, recorder, state, control, location, lines, test),
-        None => open_range(alloc, recorder, state, control, location, test),
+        Some(lines) => count_lines(
+            alloc, recorder, state, control, scope, location, lines, test,
+        ),
+        None => open_range(alloc, recorder, state, control, scope, location, test),
     }
 }
 
@@ -253,14 +280,17 @@ fn count_lines<L: Lookup>(
     recorder: &mut Recorder,
     state: &L,
     control: Control,
+    scope: &mut Scope,
     location: Location,
     lines: &Expr,
     test: Tested,
 ) -> Result<(), AllocError>
-    ensures { OnOk result (Does (ranges.hanging_lines control location lines.now test) (L.answer state.now) recorder.old recorder.new) }
+    ensures { OnOk result (Hands (meaning.hanging_lines control scope.old location lines.now test) scope.new (L.answer state.now) recorder.old recorder.new) }
 {
     let value = value_here(alloc, recorder, state, control, lines)?;
-    count(alloc, recorder, state, control, location, test, value)
+    count(
+        alloc, recorder, state, control, scope, location, test, value,
+    )
 }
 
 fn open_range<L: Lookup>(
@@ -268,14 +298,17 @@ fn open_range<L: Lookup>(
     recorder: &mut Recorder,
     state: &L,
     control: Control,
+    scope: &mut Scope,
     location: Location,
     test: Tested,
 ) -> Result<(), AllocError>
-    ensures { OnOk result (Does (ranges.hanging_range control location test) (L.answer state.now) recorder.old recorder.new) }
+    ensures { OnOk result (Hands (meaning.hanging_range control scope.old location test) scope.new (L.answer state.now) recorder.old recorder.new) }
 {
-    let answer = recorder.ask(state, Key::Ifs)?;
-    let others = ranges_of(answer.as_ref());
-    open(alloc, recorder, state, control, location, test, others)
+    let others = ask_ranges(recorder, state, scope)?;
+    let others = others.as_slice();
+    open(
+        alloc, recorder, state, control, scope, location, test, others,
+    )
 }
 
 /// The number of lines that a test governs.
@@ -284,21 +317,22 @@ fn count<L: Lookup>(
     recorder: &mut Recorder,
     state: &L,
     control: Control,
+    scope: &mut Scope,
     location: Location,
     test: Tested,
     value: ValueNow,
 ) -> Result<(), AllocError>
-    ensures { OnOk result (Does (ranges.counting control location test value) (L.answer state.now) recorder.old recorder.new) }
+    ensures { OnOk result (Hands (meaning.counting control scope.old location test value) scope.new (L.answer state.now) recorder.old recorder.new) }
 {
     let count = line_count(value);
-    skip_lines(recorder, state, control, test.holds, count)?;
+    skip_lines(recorder, state, control, scope, test.holds, count)?;
     let flags = test.flags.joined(count_flags(value, count));
     flag(alloc, recorder, present_flags(location).joined(flags));
     Ok(())
 }
 
 fn line_count(value: ValueNow) -> Option<u32>
-    ensures { result ≡ ranges.line_count value }
+    ensures { result ≡ meaning.line_count value }
 {
     match plain_number(value) {
         Some(count) if count <= MOST_LINES => Some(count as u32),
@@ -306,8 +340,8 @@ fn line_count(value: ValueNow) -> Option<u32>
     }
 }
 
-fn count_flags(value: ValueNow, count: Option<u32>) -> Flags
-    ensures { result ≡ ranges.count_flags value count }
+pub fn count_flags(value: ValueNow, count: Option<u32>) -> Flags
+    ensures { result ≡ meaning.count_flags value count }
 {
     let mut flags = Flags::none();
     match (count, value) {
@@ -323,13 +357,16 @@ fn skip_lines<L: Lookup>(
     recorder: &mut Recorder,
     state: &L,
     control: Control,
+    scope: &mut Scope,
     holds: bool,
     count: Option<u32>,
 ) -> Result<(), AllocError>
-    ensures { OnOk result (Does (ranges.skipping_lines control holds count) (L.answer state.now) recorder.old recorder.new) }
+    ensures { OnOk result (Hands (meaning.skipping_lines control scope.old holds count) scope.new (L.answer state.now) recorder.old recorder.new) }
 {
     match count {
-        Some(count) if !holds && count > 0 => go_by(recorder, control, Mode::SkipLines(count)),
+        Some(count) if !holds && count > 0 => {
+            go_by(recorder, state, control, scope, Mode::SkipLines(count))
+        }
         _ => Ok(()),
     }
 }
@@ -340,11 +377,12 @@ fn open<L: Lookup>(
     recorder: &mut Recorder,
     state: &L,
     control: Control,
+    scope: &mut Scope,
     location: Location,
     test: Tested,
     others: &[Range],
 ) -> Result<(), AllocError>
-    ensures { OnOk result (Does (ranges.opening control location test others.now) (L.answer state.now) recorder.old recorder.new) }
+    ensures { OnOk result (Hands (meaning.opening control scope.old location test others.now) scope.new (L.answer state.now) recorder.old recorder.new) }
 {
     let mut flags = present_flags(location).joined(test.flags);
     if others.len() >= MOST_RANGES {
@@ -352,16 +390,30 @@ fn open<L: Lookup>(
         flag(alloc, recorder, flags);
         return Ok(());
     }
-    if test.holds {
-        let ranges = Stack::with(alloc, Range::BeforeElse, others)?;
-        recorder.put(Key::Ifs, Answer::Ifs(ranges))?;
-    } else {
-        let skip = Skip {
-            nested: 0,
-            may_resume: true,
-        };
-        go_by(recorder, control, Mode::SkipRange(skip))?;
-    }
+    begin_range(alloc, recorder, state, control, scope, test.holds, others)?;
     flag(alloc, recorder, flags);
     Ok(())
+}
+
+/// A range whose test holds is open; one whose test doesn't is skipped.
+fn begin_range<L: Lookup>(
+    alloc: Global,
+    recorder: &mut Recorder,
+    state: &L,
+    control: Control,
+    scope: &mut Scope,
+    holds: bool,
+    others: &[Range],
+) -> Result<(), AllocError>
+    ensures { OnOk result (Hands (meaning.opened control scope.old holds others.now) scope.new (L.answer state.now) recorder.old recorder.new) }
+{
+    if holds {
+        let ranges = Shared::with(alloc, Range::BeforeElse, others)?;
+        return put_ranges(recorder, state, scope, ranges);
+    }
+    let skip = Skip {
+        nested: 0,
+        may_resume: true,
+    };
+    go_by(recorder, state, control, scope, Mode::SkipRange(skip))
 }

@@ -1,56 +1,15 @@
 //! Lines that are skipped.
 ghost use Rattle.std.specs.Prelude.{◌≡◌, OnOk};
-ghost use Rattle.cps_text.specs.CardFields.{fields_value};
-ghost use Rattle.cps_state.specs.Course.{Does};
+ghost use Rattle.cps_state.specs.Course.{Hands};
 ghost use Rattle.cps_pass.specs.Skipping as skipping;
 
-use crate::blocks::end;
-use crate::located::present_flags;
-use crate::making::flag;
-use crate::ranges::{go_by, no_range};
-use crate::reading::{Location, read_location};
-use cps_expr::Operation;
-use cps_state::{
-    Answer, Control, Flags, Key, Lookup, Mode, Range, Recorder, Skip, Stack, ranges_of,
-};
-use cps_text::{Fields, operands};
+use crate::passed::Passed;
+use crate::ranges::no_range;
+use crate::scope::{Scope, ask_ranges, go_by, put_ranges};
+use cps_effect::{flag, present_flags};
+use cps_reading::Location;
+use cps_state::{Control, Flags, Lookup, Mode, Range, Recorder, Shared, Skip};
 use std::alloc::{AllocError, Global};
-
-/// What a line says where lines are skipped.
-#[derive(Clone, Copy, Debug, PartialEq, Eq)]
-pub enum Passed {
-    /// An IF that begins a range.
-    Begins,
-    Else(Location),
-    Endif(Location),
-    End(Location),
-    Other,
-}
-
-/// What is looked at in a line that is skipped.
-pub fn passed_in(fields: Fields<'_>) -> Passed
-    ensures { result ≡ skipping.passed_in (fields_value fields.entry) }
-{
-    let Fields::Statement(statement) = fields else {
-        return Passed::Other;
-    };
-    match Operation::named(statement.operation) {
-        Some(Operation::Compare(_) | Operation::If) if begins_range(statement.tail) => {
-            Passed::Begins
-        }
-        Some(Operation::Else) => Passed::Else(read_location(statement.location)),
-        Some(Operation::Endif) => Passed::Endif(read_location(statement.location)),
-        Some(Operation::End) => Passed::End(read_location(statement.location)),
-        _ => Passed::Other,
-    }
-}
-
-/// An IF of fewer than three operands begins a range.
-fn begins_range(tail: &[u8]) -> bool
-    ensures { result ≡ skipping.begins_range tail.now }
-{
-    operands(tail).count() < 3
-}
 
 /// A line where lines of a number are skipped.
 pub fn pass_line<L: Lookup>(
@@ -58,19 +17,14 @@ pub fn pass_line<L: Lookup>(
     recorder: &mut Recorder,
     state: &L,
     control: Control,
+    scope: &mut Scope,
     count: u32,
-    passed: Passed,
 ) -> Result<(), AllocError>
-    ensures { OnOk result (Does (skipping.passed_line control count passed) (L.answer state.now) recorder.old recorder.new) }
+    ensures { OnOk result (Hands (skipping.passed_line control scope.old count) scope.new (L.answer state.now) recorder.old recorder.new) }
 {
-    match passed {
-        Passed::End(location) => end(alloc, recorder, state, control, location),
-        _ => {
-            go_by(recorder, control, fewer(count))?;
-            flag(alloc, recorder, Flags::none());
-            Ok(())
-        }
-    }
+    go_by(recorder, state, control, scope, fewer(count))?;
+    flag(alloc, recorder, Flags::none());
+    Ok(())
 }
 
 /// One fewer is left; the last one ends them.
@@ -90,21 +44,19 @@ pub fn pass_in_range<L: Lookup>(
     recorder: &mut Recorder,
     state: &L,
     control: Control,
+    scope: &mut Scope,
     skip: Skip,
     passed: Passed,
 ) -> Result<(), AllocError>
-    ensures { OnOk result (Does (skipping.passed_range control skip passed) (L.answer state.now) recorder.old recorder.new) }
+    ensures { OnOk result (Hands (skipping.passed_range control scope.old skip passed) scope.new (L.answer state.now) recorder.old recorder.new) }
 {
     match passed {
-        Passed::Begins => {
-            nest(recorder, state, control, skip)?;
-            flag(alloc, recorder, Flags::none());
-            Ok(())
+        Passed::Begins => nest(alloc, recorder, state, control, scope, skip),
+        Passed::Else(location) => pass_else(alloc, recorder, state, control, scope, skip, location),
+        Passed::Endif(location) => {
+            pass_endif(alloc, recorder, state, control, scope, skip, location)
         }
-        Passed::Else(location) => pass_else(alloc, recorder, state, control, skip, location),
-        Passed::Endif(location) => pass_endif(alloc, recorder, state, control, skip, location),
-        Passed::End(location) => end(alloc, recorder, state, control, location),
-        Passed::Other => {
+        _ => {
             flag(alloc, recorder, Flags::none());
             Ok(())
         }
@@ -113,18 +65,22 @@ pub fn pass_in_range<L: Lookup>(
 
 /// A range begins in the one that is skipped.
 fn nest<L: Lookup>(
+    alloc: Global,
     recorder: &mut Recorder,
     state: &L,
     control: Control,
+    scope: &mut Scope,
     skip: Skip,
 ) -> Result<(), AllocError>
-    ensures { OnOk result (Does (skipping.nesting control skip) (L.answer state.now) recorder.old recorder.new) }
+    ensures { OnOk result (Hands (skipping.nesting control scope.old skip) scope.new (L.answer state.now) recorder.old recorder.new) }
 {
-    if skip.nested == u32::MAX {
-        return Ok(());
+    if skip.nested < u32::MAX {
+        let nested = skip.nested + 1;
+        let mode = Mode::SkipRange(Skip { nested, ..skip });
+        go_by(recorder, state, control, scope, mode)?;
     }
-    let nested = skip.nested + 1;
-    go_by(recorder, control, Mode::SkipRange(Skip { nested, ..skip }))
+    flag(alloc, recorder, Flags::none());
+    Ok(())
 }
 
 /// ELSE of the range that is skipped, or of one in it.
@@ -133,16 +89,17 @@ fn pass_else<L: Lookup>(
     recorder: &mut Recorder,
     state: &L,
     control: Control,
+    scope: &mut Scope,
     skip: Skip,
     location: Location,
 ) -> Result<(), AllocError>
-    ensures { OnOk result (Does (skipping.passed_else control skip location) (L.answer state.now) recorder.old recorder.new) }
+    ensures { OnOk result (Hands (skipping.passed_else control scope.old skip location) scope.new (L.answer state.now) recorder.old recorder.new) }
 {
     if skip.nested > 0 {
         flag(alloc, recorder, Flags::none());
         return Ok(());
     }
-    resume(alloc, recorder, state, control, skip, location)
+    resume(alloc, recorder, state, control, scope, skip, location)
 }
 
 /// Takes up assembly, unless there was an ELSE before.
@@ -151,19 +108,20 @@ fn resume<L: Lookup>(
     recorder: &mut Recorder,
     state: &L,
     control: Control,
+    scope: &mut Scope,
     skip: Skip,
     location: Location,
 ) -> Result<(), AllocError>
-    ensures { OnOk result (Does (skipping.resumed control skip location) (L.answer state.now) recorder.old recorder.new) }
+    ensures { OnOk result (Hands (skipping.resumed control scope.old skip location) scope.new (L.answer state.now) recorder.old recorder.new) }
 {
     if !skip.may_resume {
         no_range(alloc, recorder, location);
         return Ok(());
     }
-    let answer = recorder.ask(state, Key::Ifs)?;
-    let ranges = Stack::with(alloc, Range::BehindElse, ranges_of(answer.as_ref()))?;
-    recorder.put(Key::Ifs, Answer::Ifs(ranges))?;
-    go_by(recorder, control, Mode::Normal)?;
+    let others = ask_ranges(recorder, state, scope)?;
+    let ranges = Shared::with(alloc, Range::BehindElse, others.as_slice())?;
+    put_ranges(recorder, state, scope, ranges)?;
+    go_by(recorder, state, control, scope, Mode::Normal)?;
     flag(alloc, recorder, present_flags(location));
     Ok(())
 }
@@ -174,18 +132,20 @@ fn pass_endif<L: Lookup>(
     recorder: &mut Recorder,
     state: &L,
     control: Control,
+    scope: &mut Scope,
     skip: Skip,
     location: Location,
 ) -> Result<(), AllocError>
-    ensures { OnOk result (Does (skipping.passed_endif control skip location) (L.answer state.now) recorder.old recorder.new) }
+    ensures { OnOk result (Hands (skipping.passed_endif control scope.old skip location) scope.new (L.answer state.now) recorder.old recorder.new) }
 {
     if skip.nested == 0 {
-        go_by(recorder, control, Mode::Normal)?;
+        go_by(recorder, state, control, scope, Mode::Normal)?;
         flag(alloc, recorder, present_flags(location));
         return Ok(());
     }
     let nested = skip.nested - 1;
-    go_by(recorder, control, Mode::SkipRange(Skip { nested, ..skip }))?;
+    let mode = Mode::SkipRange(Skip { nested, ..skip });
+    go_by(recorder, state, control, scope, mode)?;
     flag(alloc, recorder, Flags::none());
     Ok(())
 }

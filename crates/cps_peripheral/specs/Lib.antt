@@ -1,3 +1,4 @@
+pub mod Builtin
 pub mod Forms
 pub mod Table
 pub mod Rows

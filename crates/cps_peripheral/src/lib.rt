@@ -1,6 +1,7 @@
 //! Instruction forms of the peripheral processors.
 #![tactic(auto)]
 
+mod builtin;
 mod form;
 mod forms;
 mod layout;
@@ -8,5 +9,6 @@ mod operation;
 mod reads;
 mod table;
 
+pub use builtin::is_builtin;
 pub use form::PpForm;
 pub use forms::pp_form;

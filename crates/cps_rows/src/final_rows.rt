@@ -5,7 +5,7 @@ use super::pass_rows::{FIRST, SameAnswer};
 use cps_code::Piece;
 use cps_expr::{Machine, Value};
 use cps_final::{Digits, Finals, Gather, Outcome, step_two};
-use cps_pass::{Answer, Control, Trace, Work, step_one};
+use cps_pass::{Answer, Control, Mode, Trace, Work, step_one};
 use cps_text::{Name, push_octal};
 use std::alloc::Global;
 use std::process::Abort;
@@ -36,6 +36,34 @@ fn outcome(
     Ok(outcome)
 }
 
+/// What lines do in pass one, added to what was gathered.
+fn all_added(
+    alloc: Global,
+    work: &mut Work,
+    gather: &mut Gather,
+    program: &[Told],
+) -> Result<Vec<Trace>, Fail> {
+    let mut traces = Vec::new(alloc);
+    for (text, _) in program {
+        traces.push(added(alloc, work, gather, text)?)?;
+    }
+    Ok(traces)
+}
+
+/// What lines make in pass two.
+fn all_made(
+    alloc: Global,
+    work: &mut Work,
+    traces: &[Trace],
+    finals: &Finals,
+) -> Result<Vec<Outcome>, Fail> {
+    let mut outcomes = Vec::new(alloc);
+    for trace in traces {
+        outcomes.push(outcome(alloc, work, trace, finals)?)?;
+    }
+    Ok(outcomes)
+}
+
 /// What lines make behind those that were gathered, and what stands behind them.
 fn assembled(
     alloc: Global,
@@ -44,16 +72,9 @@ fn assembled(
     program: &[Told],
 ) -> Result<(Vec<Outcome>, Finals), Fail> {
     let mut gather = gather;
-    let mut traces = Vec::new(alloc);
-    for (text, _) in program {
-        let trace = added(alloc, work, &mut gather, text)?;
-        traces.push(trace)?;
-    }
+    let traces = all_added(alloc, work, &mut gather, program)?;
     let finals = gather.finish()?;
-    let mut outcomes = Vec::new(alloc);
-    for trace in traces.iter() {
-        outcomes.push(outcome(alloc, work, trace, &finals)?)?;
-    }
+    let outcomes = all_made(alloc, work, &traces, &finals)?;
     Ok((outcomes, finals))
 }
 
@@ -222,6 +243,17 @@ fn assert_names(
     Ok(())
 }
 
+/// What a line makes under the final values of the lines up to it.
+fn made_behind(
+    alloc: Global,
+    work: &mut Work,
+    gather: &mut Gather,
+    text: &[u8],
+) -> Result<Outcome, Fail> {
+    let trace = added(alloc, work, gather, text)?;
+    outcome(alloc, work, &trace, gather.finals())
+}
+
 #[test]
 fn tells_symbols(rt: HostRuntime) -> Result<(), Fail> {
     // A line, the symbols that it defines, and those that it reads.
@@ -242,8 +274,7 @@ fn tells_symbols(rt: HostRuntime) -> Result<(), Fail> {
     let mut work = Work::new();
     let mut gather = Gather::new(rt.alloc());
     for (at, (text, defined, read)) in ROWS.iter().enumerate() {
-        let trace = added(rt.alloc(), &mut work, &mut gather, text)?;
-        let made = outcome(rt.alloc(), &mut work, &trace, gather.finals())?;
+        let made = made_behind(rt.alloc(), &mut work, &mut gather, text)?;
         assert_names(&rt, rt.alloc(), at, &made, defined, read)?;
     }
     Ok(())
@@ -331,10 +362,11 @@ fn makes_peripheral_words(rt: HostRuntime) -> Result<(), Fail> {
 
 /// In the head of a program, with a named block in use.
 fn elsewhere() -> Result<SameAnswer, Fail> {
-    let answer = Answer::Control(Control {
+    let control = Control {
         block: Some(name(b"WORK")?),
         ..FIRST
-    });
+    };
+    let answer = Answer::Control(control, Mode::Normal);
     Ok(SameAnswer { answer })
 }
 

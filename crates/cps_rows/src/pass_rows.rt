@@ -10,7 +10,7 @@ use cps_pass::{
     Trace, Work, step_one,
 };
 use cps_state::Recorder;
-use cps_text::push_octal;
+use cps_text::{Name, push_octal};
 use std::alloc::Global;
 use std::process::Abort;
 use std::test::Fail;
@@ -56,7 +56,6 @@ pub const FIRST: Control = Control {
     machine: Machine::Cp,
     radix: Radix::Decimal,
     block: None,
-    mode: Mode::Normal,
 };
 
 const BODY: Control = Control {
@@ -64,7 +63,6 @@ const BODY: Control = Control {
     machine: Machine::Cp,
     radix: Radix::Decimal,
     block: None,
-    mode: Mode::Normal,
 };
 
 const PERIPHERAL: Control = Control {
@@ -75,7 +73,6 @@ const PERIPHERAL: Control = Control {
     machine: Machine::Pp,
     radix: Radix::Decimal,
     block: None,
-    mode: Mode::Normal,
 };
 
 /// The lines of a program, each in the state behind those before it.
@@ -93,10 +90,20 @@ fn folds_a_program(rt: HostRuntime) -> Result<(), Fail> {
         apply(rt.alloc(), &mut work, text, &mut state)?;
     }
     let trace = apply(rt.alloc(), &mut work, b"START    SA1     B1+3", &mut state)?;
+    assert_labelled(&rt, &trace, start);
+    let trace = step(rt.alloc(), &mut work, b"         EQ      START", &state)?;
+    assert_pending(&rt, &trace);
+    let steps = (work.ones(), work.twos(), work.looked());
+    assert_same(&rt, "steps", &steps, &(5, 0, 0));
+    Ok(())
+}
+
+/// An instruction with a symbol asks its counter and what the symbol stands for already, and puts the counter and the symbol.
+fn assert_labelled(rt: &impl Abort, trace: &Trace, start: Name) {
     let asks = [
         Asked {
             key: Key::Control,
-            answer: Some(Answer::Control(BODY)),
+            answer: Some(Answer::Control(BODY, Mode::Normal)),
         },
         Asked {
             key: Key::Counter(None),
@@ -111,7 +118,7 @@ fn folds_a_program(rt: HostRuntime) -> Result<(), Fail> {
             answer: None,
         },
     ];
-    assert_same(&rt, "what is asked", &trace.asks(), &asks.as_slice());
+    assert_same(rt, "what is asked", &trace.asks(), &asks.as_slice());
     let puts = [
         Put {
             key: Key::Counter(None),
@@ -122,17 +129,17 @@ fn folds_a_program(rt: HostRuntime) -> Result<(), Fail> {
             answer: Answer::Value(Value::plain(0o100)),
         },
     ];
-    assert_same(&rt, "what is put", &trace.puts(), &puts.as_slice());
-    assert_same(&rt, "statements", &trace.items().len(), &1);
-    let trace = step(rt.alloc(), &mut work, b"         EQ      START", &state)?;
+    assert_same(rt, "what is put", &trace.puts(), &puts.as_slice());
+    assert_same(rt, "statements", &trace.items().len(), &1);
+}
+
+/// An instruction that leaves a forcing pending.
+fn assert_pending(rt: &impl Abort, trace: &Trace) {
     let puts = [Put {
         key: Key::Counter(None),
         answer: place(65 * 60, true),
     }];
-    assert_same(&rt, "what stays pending", &trace.puts(), &puts.as_slice());
-    let steps = (work.ones(), work.twos(), work.looked());
-    assert_same(&rt, "steps", &steps, &(5, 0, 0));
-    Ok(())
+    assert_same(rt, "what stays pending", &trace.puts(), &puts.as_slice());
 }
 
 /// An answer of another kind counts as what stands before the first line.
@@ -147,7 +154,7 @@ fn takes_other_answers_for_the_first(rt: HostRuntime) -> Result<(), Fail> {
     let puts = [
         Put {
             key: Key::Control,
-            answer: Answer::Control(BODY),
+            answer: Answer::Control(BODY, Mode::Normal),
         },
         Put {
             key: Key::Counter(None),
@@ -157,7 +164,7 @@ fn takes_other_answers_for_the_first(rt: HostRuntime) -> Result<(), Fail> {
     assert_same(&rt, "what is put", &trace.puts(), &puts.as_slice());
     assert_same(&rt, "steps", &work.ones(), &2);
     let late = SameAnswer {
-        answer: Answer::Control(FIRST),
+        answer: Answer::Control(FIRST, Mode::Normal),
     };
     let trace = step(rt.alloc(), &mut work, b"L        NO", &late)?;
     assert_same(&rt, "what is asked", &trace.asks().len(), &4);
@@ -172,12 +179,12 @@ fn declares_a_machine(rt: HostRuntime) -> Result<(), Fail> {
     let trace = apply(rt.alloc(), &mut work, b"         PERIPH", &mut state)?;
     let asks = [Asked {
         key: Key::Control,
-        answer: Some(Answer::Control(FIRST)),
+        answer: Some(Answer::Control(FIRST, Mode::Normal)),
     }];
     assert_same(&rt, "what is asked", &trace.asks(), &asks.as_slice());
     let puts = [Put {
         key: Key::Control,
-        answer: Answer::Control(PERIPHERAL),
+        answer: Answer::Control(PERIPHERAL, Mode::Normal),
     }];
     assert_same(&rt, "what is put", &trace.puts(), &puts.as_slice());
     let trace = step(rt.alloc(), &mut work, b"         ABS", &state)?;
@@ -496,7 +503,7 @@ fn only_asked(alloc: Global, trace: &Trace) -> Result<State, Fail> {
         }
     }
     let mut state = State::first(alloc);
-    state.apply(&recorder.into_trace()?)?;
+    state.apply(&recorder.into_trace(true)?)?;
     Ok(state)
 }
 

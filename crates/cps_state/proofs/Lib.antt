@@ -1,3 +1,4 @@
 pub mod AskLemmas
+pub mod KnownLemmas
 pub mod PlaceLemmas
 pub mod StateLemmas

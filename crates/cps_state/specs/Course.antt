@@ -1,24 +1,32 @@
--- The course of a line in pass one (our own): it asks keys of the state, puts answers there, begins statements and fills them, and
--- tells the symbols that it reads. The next key follows from the answers so far. What the line itself put or asked before is not asked again.
-use Rattle.std.specs.Prelude.{◌≡◌, ℕ, Bool, List, [], ◌∷◌, ◌++◌, Option, None, Some, option_map, is_some, unwrap_or, if◌then◌else◌}
-use Rattle.std.specs.Option.{option_or, option_to_list}
+-- The course of a line in pass one (our own): it asks keys of the state, puts answers there, fills its statement, begins the statements that it stands
+-- for, and tells the symbols that it reads. The next key follows from the answers so far. What the line itself put or asked before is not asked again.
+use Rattle.std.specs.Prelude.{◌≡◌, ℕ, Bool, true, false, not, ◌||◌, nat_lt, List, [], ◌∷◌, ◌++◌, length, take, filter, Option, None, Some, option_map, is_some, unwrap_or, if◌then◌else◌}
+use Rattle.std.specs.Option.{option_or}
 use Rattle.cps_text.specs.declared.name.Name.{Name}
+use Rattle.cps_state.specs.declared.flags.Flags.{Flags}
 use Rattle.cps_state.specs.declared.key.Key.{Key}
+use Rattle.cps_state.specs.declared.key.Key.TheVariants as key
 use Rattle.cps_state.specs.declared.key.Answer.{Answer}
 use Rattle.cps_state.specs.declared.key.Asked.{Asked}
 use Rattle.cps_state.specs.declared.key.Put.{Put}
 use Rattle.cps_state.specs.declared.item.Item.{Item}
 use Rattle.cps_state.specs.Keys.{State, same_key}
-use Rattle.cps_state.specs.Item.{blank_item, with_made}
-use Rattle.cps_state.specs.Made.{Made}
+use Rattle.cps_state.specs.Item.{blank_item, with_made, with_flags}
+use Rattle.cps_state.specs.Made.{Made, nothing_in, no_flags}
 
 pub data Course : Type 0 where
   stop : Course
   ask : Key → (Option Answer → Course) → Course
   put : Put → Course → Course
-  begin : ℕ → Course → Course
+  -- what the statement that began last made
   fill : Made → Course → Course
+  -- more flags of the statement that began last
+  mark : Flags → Course → Course
   tell : Name → Course → Course
+  -- the line's own statement has put all that it puts
+  settle : Course → Course
+  -- a statement of an expansion begins, at a depth, with a text
+  begin : ℕ → List ℕ → Course → Course
 
 -- ---- parts: what a line does before what comes behind it
 
@@ -43,17 +51,20 @@ putting key answer = put (record { key = key; answer = answer })
 abbrev pub telling_if : Bool → Name → Part
 telling_if holds name = if holds then tell name else nothing
 
--- ---- what a line has done so far: what it asked and put, the statements that are whole, the one that began last, and the symbols that it read
+-- ---- what a line has done so far: what it asked and put, and how many of the puts are its own statement's; the statements that are whole and the one that
+-- began last, at first the line's own; and the symbols that it read
 
 pub record Running : Type 0 where
   pub asks : List Asked
   pub puts : List Put
+  pub settled : ℕ
   pub whole : List Item
-  pub present : Option Item
+  pub present : Item
   pub reads : List Name
 
-abbrev pub not_begun : Running
-not_begun = record { asks = []; puts = []; whole = []; present = None; reads = [] }
+-- a source line stands at depth 0
+abbrev pub started : Running
+started = record { asks = []; puts = []; settled = 0; whole = []; present = blank_item 0 []; reads = [] }
 
 -- the newest put at a key
 abbrev pub last_put : List Put → Key → Option Answer
@@ -66,8 +77,11 @@ last_ask [] k = None
 last_ask (a ∷ asks) k = option_or (last_ask asks k) (if same_key a.key k then Some a.answer else None)
 
 -- what is known of a key: what was put there, else what was asked there
+abbrev pub known_in : List Asked → List Put → Key → Option (Option Answer)
+known_in asks puts k = option_or (option_map Some (last_put puts k)) (last_ask asks k)
+
 abbrev pub known_at : Running → Key → Option (Option Answer)
-known_at running k = option_or (option_map Some (last_put running.puts k)) (last_ask running.asks k)
+known_at running k = known_in running.asks running.puts k
 
 abbrev pub answer_at : State → Running → Key → Option Answer
 answer_at state running k = unwrap_or (known_at running k) (state k)
@@ -80,27 +94,47 @@ with_ask state running k =
 abbrev pub with_put_made : Running → Put → Running
 with_put_made running p = record running { puts = running.puts ++ p ∷ [] }
 
--- the statements that have begun
-abbrev pub items_of : Running → List Item
-items_of running = running.whole ++ option_to_list running.present
-
-abbrev pub begun : Running → ℕ → Running
-begun running depth = record running { whole = items_of running; present = Some (blank_item depth) }
-
 abbrev pub filled : Running → Made → Running
-filled running made = record running { present = option_map (with_made made) running.present }
+filled running made = record running { present = with_made made running.present }
+
+abbrev pub marked : Running → Flags → Running
+marked running flags = record running { present = with_flags flags running.present }
 
 abbrev pub with_read : Running → Name → Running
 with_read running name = record running { reads = running.reads ++ name ∷ [] }
 
--- what a course leaves behind what came before
-abbrev pub run : Course → State → Running → Running
-run stop state running = running
+abbrev pub settled_by : Running → Running
+settled_by running = record running { settled = length running.puts }
+
+-- the statements that have begun
+abbrev pub items_of : Running → List Item
+items_of running = running.whole ++ running.present ∷ []
+
+abbrev pub begun : Running → ℕ → List ℕ → Running
+begun running depth text = record running { whole = items_of running; present = blank_item depth text }
+
+-- no statement stands deeper
+abbrev pub deepest : ℕ
+deepest = 10
+
+-- an expansion has no more statements
+abbrev pub most_statements : ℕ
+most_statements = 2000
+
+-- a statement is too much at such a depth, or behind so many of its line's expansion
+abbrev pub too_much : ℕ → ℕ → Bool
+too_much count depth = nat_lt deepest depth || not (nat_lt count most_statements)
+
+-- what a course leaves behind what came before, and whether all of it was done: it ends before the first statement that is too much
+abbrev pub run : Course → State → Running → Running × Bool
+run stop state running = (running, true)
 run (ask k next) state running = run (next (answer_at state running k)) state (with_ask state running k)
 run (put p rest) state running = run rest state (with_put_made running p)
-run (begin depth rest) state running = run rest state (begun running depth)
 run (fill made rest) state running = run rest state (filled running made)
+run (mark flags rest) state running = run rest state (marked running flags)
 run (tell name rest) state running = run rest state (with_read running name)
+run (settle rest) state running = run rest state (settled_by running)
+run (begin depth text rest) state running = if too_much (length running.whole) depth then (running, false) else run rest state (begun running depth text)
 
 -- in a state a part was done: what had been done became what has been done
 abbrev pub Does : Part → State → Running → Running → Type 0
@@ -109,6 +143,14 @@ Does part state old new = (rest : Course) → run (part rest) state old ≡ run 
 -- the same of a part that hands a value on
 abbrev pub Hands : {T : Type 0} → ((T → Part) → Part) → T → State → Running → Running → Type 0
 Hands {T} part value state old new = (next : T → Part) (rest : Course) → run (part next rest) state old ≡ run (next value rest) state new
+
+-- the same of a part that was done whole, or that came to a statement that is too much
+abbrev pub went : Bool → Course → State → Running → Running × Bool
+went true rest state running = run rest state running
+went false rest state running = (running, false)
+
+abbrev pub Goes : Part → Bool → State → Running → Running → Type 0
+Goes part whole state old new = (rest : Course) → run (part rest) state old ≡ went whole rest state new
 
 -- ---- what a line did
 
@@ -119,8 +161,26 @@ pub record Trace : Type 0 where
   pub items : List Item
   pub reads : List Name
 
-abbrev pub traced : Running → Trace
-traced running = record { asks = running.asks; puts = running.puts; items = items_of running; reads = running.reads }
+-- the first of the statements
+abbrev pub first_item : List Item → Item → Item
+first_item [] present = present
+first_item (item ∷ items) present = item
+
+-- a line that is dropped has E alone, and its own place; of its puts only its own statement's at the control stand, and it reads nothing
+abbrev pub dropped_item : Item → Item
+dropped_item own = with_made (nothing_in own.made.block (record no_flags { structure = true })) (blank_item 0 [])
+
+abbrev pub control_puts : List Put → List Put
+control_puts puts = filter (λ p. same_key p.key key.Control) puts
+
+abbrev pub traced : Running × Bool → Trace
+traced (running, true) = record { asks = running.asks; puts = running.puts; items = items_of running; reads = running.reads }
+traced (running, false) = record {
+  asks = running.asks;
+  puts = control_puts (take running.settled running.puts);
+  items = dropped_item (first_item running.whole running.present) ∷ [];
+  reads = [];
+}
 
 -- each key that was asked has the same answer in another state
 abbrev pub Holds : List Asked → State → Type 0

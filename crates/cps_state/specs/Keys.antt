@@ -1,5 +1,5 @@
 -- The state of an assembly: what each key answers. The counters and the symbols are the manual's; the keys are our own.
-use Rattle.std.specs.Prelude.{ℕ, ◌*◌, Bool, true, false, not, ◌||◌, min, nat_lt, List, [], ◌∷◌, Option, None, Some, if◌then◌else◌}
+use Rattle.std.specs.Prelude.{ℕ, ◌*◌, Bool, true, false, not, ◌||◌, min, nat_lt, nat_eq, List, [], ◌∷◌, Option, None, Some, if◌then◌else◌}
 use Rattle.cps_text.specs.declared.name.Name.{Name}
 use Rattle.cps_expr.specs.declared.machine.Machine.{Machine}
 use Rattle.cps_expr.specs.declared.machine.Machine.TheVariants.{Cp, Pp}
@@ -13,7 +13,8 @@ use Rattle.cps_state.specs.declared.key.Key.TheVariants as key
 use Rattle.cps_state.specs.declared.key.Phase.TheVariants as phase
 use Rattle.cps_state.specs.declared.key.Control.{Control}
 use Rattle.cps_state.specs.declared.key.Mode.{Mode}
-use Rattle.cps_state.specs.declared.key.Mode.TheVariants.{Normal, SkipLines, SkipRange}
+use Rattle.cps_state.specs.declared.key.Mode.TheVariants.{Normal, SkipLines, SkipRange, KeepMacro, KeepDup}
+use Rattle.cps_state.specs.declared.key.Macro.{Macro}
 use Rattle.cps_state.specs.declared.key.Range.{Range}
 use Rattle.cps_state.specs.declared.key.Answer.{Answer}
 use Rattle.cps_state.specs.declared.key.Answer.TheVariants as answer
@@ -35,6 +36,8 @@ same_key key.Control key.Control = true
 same_key (key.Counter a) (key.Counter b) = same_block a b
 same_key (key.Label a) (key.Label b) = same_name a b
 same_key (key.Setting a) (key.Setting b) = same_name a b
+same_key (key.Macro a) (key.Macro b) = same_name a b
+same_key (key.Kept a) (key.Kept b) = nat_eq a b
 same_key key.Uses key.Uses = true
 same_key key.Ifs key.Ifs = true
 same_key key.Blocks key.Blocks = true
@@ -69,16 +72,16 @@ most_ranges = 20
 
 -- ---- before the first line
 
--- the program is in its head and for the central processor, numbers are decimal, the nominal block is in use, and lines are assembled
+-- the program is in its head and for the central processor, numbers are decimal, and the nominal block is in use
 abbrev pub first_control : Control
-first_control = record { phase = phase.Head (record { is_named = false; is_declared = false }); machine = Cp; radix = Decimal; block = None; mode = Normal }
+first_control = record { phase = phase.Head (record { is_named = false; is_declared = false }); machine = Cp; radix = Decimal; block = None }
 
 -- a block begins at word 0
 abbrev pub first_place : Place
 first_place = place_at 0 false
 
 abbrev pub first_state : State
-first_state key.Control = Some (answer.Control first_control)
+first_state key.Control = Some (answer.Control first_control Normal)
 first_state (key.Counter None) = Some (answer.Counter first_place)
 first_state key.Uses = Some (answer.Uses [])
 first_state key.Blocks = Some (answer.Count 0)
@@ -98,8 +101,13 @@ overwritten state (p ∷ puts) = overwritten (with_put state p) puts
 -- ---- what an answer says; one of another kind, or none, says what stands before the first line
 
 abbrev pub control_of : Option Answer → Control
-control_of (Some (answer.Control c)) = c
+control_of (Some (answer.Control c mode)) = c
 control_of _ = first_control
+
+-- lines are assembled
+abbrev pub mode_of : Option Answer → Mode
+mode_of (Some (answer.Control c mode)) = mode
+mode_of _ = Normal
 
 -- a place past the machine's words counts as the first bit behind them; a peripheral processor's has no bit used and nothing pending
 abbrev pub within_limit : Machine → Place → Place
@@ -130,6 +138,16 @@ abbrev pub ranges_of : Option Answer → List Range
 ranges_of (Some (answer.Ifs ranges)) = ranges
 ranges_of _ = []
 
+-- there is no macro
+abbrev pub macro_of : Option Answer → Option Macro
+macro_of (Some (answer.Macro named)) = Some named
+macro_of _ = None
+
+-- an empty line
+abbrev pub text_of : Option Answer → List ℕ
+text_of (Some (answer.Text text)) = text
+text_of _ = []
+
 -- none was begun
 abbrev pub count_of : Option Answer → ℕ
 count_of (Some (answer.Count count)) = count
@@ -150,11 +168,13 @@ abbrev pub is_normal : Mode → Bool
 is_normal Normal = true
 is_normal (SkipLines count) = false
 is_normal (SkipRange skip) = false
+is_normal (KeepMacro body) = false
+is_normal (KeepDup body) = false
 
 abbrev pub is_no_range : List Range → Bool
 is_no_range [] = true
 is_no_range (range ∷ ranges) = false
 
--- a range is open, or lines are skipped: a source that ends here is open
+-- a range is open, or lines are skipped or kept: a source that ends here is open
 abbrev pub is_open : State → Bool
-is_open state = not (is_normal (control_of (state key.Control)).mode) || not (is_no_range (ranges_of (state key.Ifs)))
+is_open state = not (is_normal (mode_of (state key.Control))) || not (is_no_range (ranges_of (state key.Ifs)))

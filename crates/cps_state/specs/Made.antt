@@ -49,6 +49,10 @@ nothing_made flags = record {
   held = [];
 }
 
+-- a statement that asked where its block stands, and that does nothing there but have flags
+abbrev pub nothing_in : Option Name → Flags → Made
+nothing_in block flags = record (nothing_made flags) { block = block }
+
 abbrev pub no_flags : Flags
 no_flags = record { operand = false; twice = false; structure = false; location = false; operation = false; cut = false; undefined = false; width = false }
 

@@ -3,17 +3,18 @@ ghost use Rattle.std.specs.Prelude.{◌≡◌, ◌*◌, ◌≤◌, IfSome};
 ghost use Rattle.std.specs.Option.{option_copied};
 ghost use Rattle.cps_code.specs.Place.{position};
 ghost use Rattle.cps_expr.specs.Value.{IsInRange};
-ghost use Rattle.cps_state.specs.Keys.{first_control, first_place, control_of, place_of, within_limit, value_of, uses_of, ranges_of, count_of, is_place, is_normal, is_open};
+ghost use Rattle.cps_state.specs.Keys.{first_control, first_place, control_of, mode_of, macro_of, text_of, place_of, within_limit, value_of, uses_of, ranges_of, count_of, is_place, is_normal, is_open};
 ghost use Rattle.cps_state.specs.Machines.{limit};
 
-use crate::key::{Answer, Control, Head, Key, Mode, Phase, Range};
+use crate::key::{Answer, Control, Head, Key, Macro, Mode, Phase, Range};
 use crate::lookup::Lookup;
 use crate::machines::{WORD, limit_of};
+use crate::shared::Shared;
 use cps_code::Place;
 use cps_expr::{Machine, Radix, Value};
 use cps_text::Name;
 
-/// The control before the first line: in the head, for the central processor, decimal, in the nominal block, and assembled.
+/// The control before the first line: in the head, for the central processor, decimal, in the nominal block.
 pub fn first_control() -> Control
     ensures { result ≡ first_control }
 {
@@ -25,7 +26,6 @@ pub fn first_control() -> Control
         machine: Machine::Cp,
         radix: Radix::Decimal,
         block: None,
-        mode: Mode::Normal,
     }
 }
 
@@ -40,8 +40,38 @@ pub fn control_of(answer: Option<&Answer>) -> Control
     ensures { result ≡ control_of (option_copied answer.entry) }
 {
     match answer {
-        Some(Answer::Control(control)) => *control,
+        Some(Answer::Control(control, _)) => *control,
         _ => first_control(),
+    }
+}
+
+/// What is done with the lines to come.
+pub fn mode_of(answer: Option<Answer>) -> Mode
+    ensures { result ≡ mode_of answer }
+{
+    match answer {
+        Some(Answer::Control(_, mode)) => mode,
+        _ => Mode::Normal,
+    }
+}
+
+/// A macro, if there is one.
+pub fn macro_of(answer: Option<Answer>) -> Option<Macro>
+    ensures { result ≡ macro_of answer }
+{
+    match answer {
+        Some(Answer::Macro(named)) => Some(named),
+        _ => None,
+    }
+}
+
+/// A line that is kept.
+pub fn text_of(answer: Option<Answer>) -> Shared<u8>
+    ensures { result ≡ text_of answer }
+{
+    match answer {
+        Some(Answer::Text(text)) => text,
+        _ => Shared::empty(),
     }
 }
 
@@ -122,8 +152,8 @@ pub fn is_place(answer: Option<&Answer>) -> bool
 }
 
 /// Whether lines are assembled.
-pub fn is_normal(mode: Mode) -> bool
-    ensures { result ≡ is_normal mode }
+pub fn is_normal(mode: &Mode) -> bool
+    ensures { result ≡ is_normal mode.now }
 {
     match mode {
         Mode::Normal => true,
@@ -131,11 +161,19 @@ pub fn is_normal(mode: Mode) -> bool
     }
 }
 
-/// Whether a range is open or lines are skipped: then the source is open if it ends here.
+fn is_assembled(answer: Option<&Answer>) -> bool
+    ensures { result ≡ is_normal (mode_of (option_copied answer.entry)) }
+{
+    match answer {
+        Some(Answer::Control(_, mode)) => is_normal(mode),
+        _ => true,
+    }
+}
+
+/// Whether a range is open, or lines are skipped or kept: then the source is open if it ends here.
 pub fn is_open<L: Lookup>(state: &L) -> bool
     ensures { result ≡ is_open (L.answer state.now) }
 {
-    let control = control_of(state.ask(&Key::Control));
     let ranges = ranges_of(state.ask(&Key::Ifs));
-    !is_normal(control.mode) || !ranges.is_empty()
+    !is_assembled(state.ask(&Key::Control)) || !ranges.is_empty()
 }

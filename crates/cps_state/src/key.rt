@@ -3,7 +3,7 @@ ghost use Rattle.std.specs.Prelude.{◌≡◌, IfOk};
 ghost use Rattle.std.specs.Option.{option_copied};
 ghost use Rattle.cps_state.specs.Keys.{same_block, same_key};
 
-use crate::stack::Stack;
+use crate::shared::Shared;
 use cps_code::Place;
 use cps_expr::{Machine, Radix, Value, is_same_name};
 use cps_text::Name;
@@ -12,7 +12,7 @@ use std::alloc::{AllocError, Global};
 /// A part of the state of an assembly.
 #[derive(Clone, Copy, Debug, PartialEq, Eq, Hash)]
 pub enum Key {
-    /// The part of the program, the machine, the base of numbers and the block in use.
+    /// The part of the program, the machine, the base of numbers, the block in use, and what is done with the lines to come.
     Control,
     /// Where the next word or parcel of a block stands; None is the nominal block.
     Counter(Option<Name>),
@@ -26,6 +26,10 @@ pub enum Key {
     Ifs,
     /// How many named blocks USE has begun.
     Blocks,
+    /// What a macro stands for.
+    Macro(Name),
+    /// A line that is kept for a macro or for DUP; the first one is 0.
+    Kept(u32),
 }
 
 /// What came in the head of a program.
@@ -56,14 +60,79 @@ pub struct Skip {
     pub may_resume: bool,
 }
 
-/// What is done with the lines to come.
+/// Lines that are kept.
 #[derive(Clone, Copy, Debug, PartialEq, Eq)]
+pub struct Kept {
+    pub lines: u32,
+    /// Whether there were more than a body may have.
+    pub is_over: bool,
+}
+
+/// The body of a macro that is kept, up to ENDM.
+#[derive(Debug, PartialEq, Eq, Drop)]
+pub struct MacroBody {
+    /// None: the definition is dropped at its end.
+    pub name: Option<Name>,
+    pub parameters: Shared<Name>,
+    pub kept: Kept,
+}
+
+/// How far the lines of DUP reach.
+#[derive(Clone, Copy, Debug, PartialEq, Eq)]
+pub enum Extent {
+    /// So many are still to come.
+    Counted(u32),
+    /// Up to ENDD, with so many ranges of other DUPs open.
+    ToEndd(u32),
+}
+
+/// The lines of DUP that are kept.
+#[derive(Clone, Copy, Debug, PartialEq, Eq)]
+pub struct DupBody {
+    /// How often they will be assembled.
+    pub times: u32,
+    pub extent: Extent,
+    pub kept: Kept,
+}
+
+/// What is done with the lines to come.
+#[derive(Debug, PartialEq, Eq, Drop)]
 pub enum Mode {
     /// They are assembled.
     Normal,
     /// So many are skipped.
     SkipLines(u32),
     SkipRange(Skip),
+    KeepMacro(MacroBody),
+    KeepDup(DupBody),
+}
+
+impl Mode {
+    /// The same mode once more. Takes no memory; it is refused only past the most owners of what is shared.
+    pub fn share(&self) -> Result<Mode, AllocError>
+        ensures { IfOk result (λ same. same ≡ self.now) }
+    {
+        match self {
+            Mode::Normal => Ok(Mode::Normal),
+            Mode::SkipLines(count) => Ok(Mode::SkipLines(*count)),
+            Mode::SkipRange(skip) => Ok(Mode::SkipRange(*skip)),
+            Mode::KeepMacro(body) => Ok(Mode::KeepMacro(body.share()?)),
+            Mode::KeepDup(body) => Ok(Mode::KeepDup(*body)),
+        }
+    }
+}
+
+impl MacroBody {
+    /// The same body once more.
+    pub fn share(&self) -> Result<MacroBody, AllocError>
+        ensures { IfOk result (λ same. same ≡ self.now) }
+    {
+        Ok(MacroBody {
+            name: self.name,
+            parameters: self.parameters.share()?,
+            kept: self.kept,
+        })
+    }
 }
 
 /// A range that is open and whose lines are assembled.
@@ -73,8 +142,27 @@ pub enum Range {
     BehindElse,
 }
 
-/// What holds for the lines to come: the part of the program that they are in, the machine, the base of their numbers, the block in use, and what
-/// is done with them.
+/// A macro: its parameters, and the lines of its body.
+#[derive(Debug, PartialEq, Eq, Drop)]
+pub struct Macro {
+    pub parameters: Shared<Name>,
+    pub lines: Shared<Shared<u8>>,
+}
+
+impl Macro {
+    /// The same macro once more. Takes no memory; it is refused only past the most owners of what is shared.
+    pub fn share(&self) -> Result<Macro, AllocError>
+        ensures { IfOk result (λ same. same ≡ self.now) }
+    {
+        Ok(Macro {
+            parameters: self.parameters.share()?,
+            lines: self.lines.share()?,
+        })
+    }
+}
+
+/// What holds for the lines to come that are assembled: the part of the program that they are in, the machine, the base of their numbers and the
+/// block in use.
 #[derive(Clone, Copy, Debug, PartialEq, Eq)]
 pub struct Control {
     pub phase: Phase,
@@ -82,34 +170,38 @@ pub struct Control {
     pub radix: Radix,
     /// None: the nominal block.
     pub block: Option<Name>,
-    pub mode: Mode,
 }
 
 /// What stands at a key.
 #[derive(Debug, PartialEq, Eq, Drop)]
 pub enum Answer {
-    Control(Control),
+    Control(Control, Mode),
     Counter(Place),
     Value(Value),
     /// The last block in front; None is the nominal block.
-    Uses(Stack<Option<Name>>),
+    Uses(Shared<Option<Name>>),
     /// The newest range in front.
-    Ifs(Stack<Range>),
+    Ifs(Shared<Range>),
     Count(u32),
+    Macro(Macro),
+    /// The text of a line.
+    Text(Shared<u8>),
 }
 
 impl Answer {
-    /// The same answer once more. Takes no memory; it is refused only past the most owners of a stack.
+    /// The same answer once more. Takes no memory; it is refused only past the most owners of what is shared.
     pub fn share(&self) -> Result<Answer, AllocError>
         ensures { IfOk result (λ same. same ≡ self.now) }
     {
         match self {
-            Answer::Control(control) => Ok(Answer::Control(*control)),
+            Answer::Control(control, mode) => Ok(Answer::Control(*control, mode.share()?)),
             Answer::Counter(place) => Ok(Answer::Counter(*place)),
             Answer::Value(value) => Ok(Answer::Value(*value)),
             Answer::Uses(uses) => Ok(Answer::Uses(uses.share()?)),
             Answer::Ifs(ranges) => Ok(Answer::Ifs(ranges.share()?)),
             Answer::Count(count) => Ok(Answer::Count(*count)),
+            Answer::Macro(named) => Ok(Answer::Macro(named.share()?)),
+            Answer::Text(text) => Ok(Answer::Text(text.share()?)),
         }
     }
 }
@@ -161,6 +253,8 @@ pub fn is_same_key(a: Key, b: Key) -> bool
         (Key::Counter(a), Key::Counter(b)) => is_same_block(a, b),
         (Key::Label(a), Key::Label(b)) => is_same_name(a, b),
         (Key::Setting(a), Key::Setting(b)) => is_same_name(a, b),
+        (Key::Macro(a), Key::Macro(b)) => is_same_name(a, b),
+        (Key::Kept(a), Key::Kept(b)) => a == b,
         (Key::Uses, Key::Uses) | (Key::Ifs, Key::Ifs) | (Key::Blocks, Key::Blocks) => true,
         _ => false,
     }

@@ -10,25 +10,28 @@ mod machines;
 mod made;
 mod names;
 mod recorder;
-mod stack;
+mod shared;
 mod state;
 mod trace;
 mod uses;
 mod work;
 
 pub use answers::{
-    control_of, count_of, first_control, is_normal, is_open, is_place, place_of, ranges_of,
-    uses_of, value_of,
+    control_of, count_of, first_control, is_normal, is_open, is_place, macro_of, mode_of, place_of,
+    ranges_of, text_of, uses_of, value_of,
 };
 pub use flags::Flags;
 pub use item::Item;
-pub use key::{Answer, Asked, Control, Head, Key, Mode, Phase, Put, Range, Skip, is_same_block};
+pub use key::{
+    Answer, Asked, Control, DupBody, Extent, Head, Kept, Key, Macro, MacroBody, Mode, Phase, Put,
+    Range, Skip, is_same_block,
+};
 pub use lookup::Lookup;
 pub use machines::{WORD, behind, limit_of, word_bits};
 pub use made::{Content, Held, Made, Shown, end_of};
 pub use names::names_in;
-pub use recorder::Recorder;
-pub use stack::Stack;
+pub use recorder::{DEEPEST, Recorder};
+pub use shared::Shared;
 pub use state::State;
 pub use trace::Trace;
 pub use uses::uses_with;

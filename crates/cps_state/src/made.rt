@@ -3,8 +3,9 @@ ghost use Rattle.std.specs.Prelude.{◌≡◌, [], None, Some, true, false, All,
 ghost use Rattle.std.specs.Option.{option_to_list};
 ghost use Rattle.cps_code.specs.Image.{piece_of};
 ghost use Rattle.cps_expr.specs.Item.{bits_of};
+ghost use Rattle.cps_state.specs.Flags.{joined};
 ghost use Rattle.cps_state.specs.Machines.{limit};
-ghost use Rattle.cps_state.specs.Made.{nothing_made, width_of, end_of, IsContent, IsHeld, HaveRoom};
+ghost use Rattle.cps_state.specs.Made.{nothing_made, nothing_in, width_of, end_of, IsContent, IsHeld, HaveRoom};
 
 use crate::flags::Flags;
 use crate::machines::{WORD, behind, limit_of};
@@ -142,6 +143,15 @@ impl Made {
         }
     }
 
+    /// Of a statement that asked where its block stands, and does nothing there but have flags.
+    pub fn nothing_in(alloc: Global, block: Option<Name>, flags: Flags) -> Made
+        ensures { result ≡ nothing_in block flags }
+    {
+        let mut made = Made::nothing(alloc, flags);
+        made.block = block;
+        made
+    }
+
     /// Of a statement that names the program.
     pub fn naming(alloc: Global, flags: Flags, name: Name) -> Made
         ensures { result ≡ record (nothing_made flags) { program = Some name } }
@@ -265,6 +275,13 @@ impl Made {
             shown: Shown::Nothing,
             held,
         }
+    }
+
+    /// More flags.
+    pub fn mark(&mut self, flags: Flags)
+        ensures { self.new ≡ record self.old { flags = joined self.old.flags flags } }
+    {
+        self.flags = self.flags.joined(flags);
     }
 
     /// The flags of pass one.

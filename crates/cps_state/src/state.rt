@@ -5,9 +5,9 @@ ghost use Rattle.cps_state.specs.Keys.{first_state, with_put, overwritten, is_ot
 ghost use Rattle.cps_state.specs.declared.key.Key.{Key};
 
 use crate::answers::{first_control, first_place, value_of};
-use crate::key::{Answer, Key, Put, share_puts};
+use crate::key::{Answer, Key, Mode, Put, share_puts};
 use crate::lookup::Lookup;
-use crate::stack::Stack;
+use crate::shared::Shared;
 use crate::trace::Trace;
 use cps_expr::{Names, Value};
 use cps_text::Name;
@@ -62,11 +62,11 @@ impl State {
     {
         State {
             alloc,
-            control: Answer::Control(first_control()),
+            control: Answer::Control(first_control(), Mode::Normal),
             nominal: Answer::Counter(first_place()),
-            uses: Answer::Uses(Stack::empty()),
+            uses: Answer::Uses(Shared::empty()),
             blocks: Answer::Count(0),
-            ranges: Answer::Ifs(Stack::empty()),
+            ranges: Answer::Ifs(Shared::empty()),
             others: HashMap::new(alloc),
         }
     }

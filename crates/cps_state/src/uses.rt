@@ -2,7 +2,7 @@
 ghost use Rattle.std.specs.Prelude.{◌≡◌, ◌∷◌, take, IfOk};
 ghost use Rattle.cps_state.specs.Keys.{most_uses};
 
-use crate::stack::Stack;
+use crate::shared::Shared;
 use cps_text::Name;
 use std::alloc::{AllocError, Global};
 
@@ -14,10 +14,10 @@ pub fn uses_with(
     alloc: Global,
     block: Option<Name>,
     others: &[Option<Name>],
-) -> Result<Stack<Option<Name>>, AllocError>
+) -> Result<Shared<Option<Name>>, AllocError>
     ensures { IfOk result (λ uses. uses ≡ take most_uses (block ∷ others.now)) }
 {
-    Stack::with(alloc, block, first_of(others, MOST - 1))
+    Shared::with(alloc, block, first_of(others, MOST - 1))
 }
 
 /// So many blocks, or all where there are no more.

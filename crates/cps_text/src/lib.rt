@@ -19,7 +19,7 @@ mod run;
 mod tail;
 
 pub use argument_list::{ArgFault, arguments};
-pub use card::{Fields, StatementFields};
+pub use card::{Fields, StatementFields, read_fields};
 pub use character::{capital, display};
 pub use counted::Counted;
 pub use data_item::{CP_CHARACTERS, PP_CHARACTERS, Side, TextItem};

@@ -5,7 +5,7 @@ use Rattle.std.specs.Prelude.{ℕ, Bool, List, [], ◌∷◌, map, flat_map}
 use Rattle.cps_code.specs.Image.{Piece}
 use Rattle.cps_state.specs.Keys.{State, first_state, overwritten}
 use Rattle.cps_state.specs.Course.{Trace}
-use Rattle.cps_pass.specs.Meaning.{trace_of}
+use Rattle.cps_pass.specs.Expansion.{trace_of}
 use Rattle.cps_final.specs.Finals.{Finals, finals_of, final_value, is_open_at_end}
 use Rattle.cps_final.specs.Outcome.{Outcome, outcome_of}
 
@@ -28,7 +28,7 @@ traces_from state (line ∷ lines) = trace_of line state ∷ traces_from (after 
 abbrev pub traces_of : List (List ℕ) → List Trace
 traces_of lines = traces_from first_state lines
 
--- whether the source ends while a range is open, or lines are skipped
+-- whether the source ends while a range is open, or lines are skipped or kept
 abbrev pub ends_open : List (List ℕ) → Bool
 ends_open lines = is_open_at_end (finals_of (traces_of lines))
 

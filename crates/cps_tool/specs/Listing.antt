@@ -1,12 +1,14 @@
--- The listing: the rows of each statement, with their flags, their addresses and their codes, and beside the first the line as it was given;
--- and a last row where the source ends while a range is open.
+-- The listing: the rows of each statement, with their flags, their addresses and their codes, and beside the first the line as it was given, or the text
+-- of a statement of an expansion; and a last row where the source ends while a range is open.
 -- The columns are our profile's. They are counted from 1: flags in 1 to 8, the address in 10 to 15, the code in 17 to 36,
--- the line's number in 38 to 43, the line from 45 on; columns between are blank, and blanks at the end are cut.
-use Rattle.std.specs.Prelude.{ℕ, ◌+◌, ◌-◌, Bool, List, [], ◌∷◌, ◌++◌, length, replicate, slice_index, codes, decimal, flat_map, Option, None, Some, if◌then◌else◌}
+-- the line's number in 38 to 43, or `+` in 43 for a statement of an expansion, the line or the text from 45 on; columns between are blank, and blanks at
+-- the end are cut.
+use Rattle.std.specs.Prelude.{ℕ, ◌+◌, ◌-◌, ◌==◌, Bool, List, [], ◌∷◌, ◌++◌, length, take, replicate, slice_index, codes, decimal, flat_map, Option, None, Some, if◌then◌else◌}
 use Rattle.std.specs.List.{list_all}
 use Rattle.cps_text.specs.Text.{is_blank}
 use Rattle.cps_text.specs.Octal.{octal}
 use Rattle.cps_state.specs.Flags.{letters}
+use Rattle.cps_pass.specs.Meaning.{most_columns}
 use Rattle.cps_final.specs.declared.row.Row.{Row}
 use Rattle.cps_final.specs.declared.row.Digits.{Digits}
 use Rattle.cps_final.specs.Outcome.{Outcome}
@@ -46,12 +48,20 @@ row_columns row =
     at_left 8 (letters row.flags) ++ codes " " ++ at_left 6 (address_text row.location) ++ codes " "
     ++ at_left 20 (code_text row.code ++ second_text row.second) ++ codes " "
 
--- a line behind its number; later rows of a statement show neither
-abbrev pub numbered : Bool → ℕ → List ℕ → List ℕ
-numbered is_later number line = if is_later then [] else at_right 6 (decimal number) ++ codes " " ++ line
+-- a line stands behind its number, a statement of an expansion behind `+`; of its text no more is shown than a statement may have columns
+abbrev pub number_shown : ℕ → ℕ → List ℕ
+number_shown depth number = if depth == 0 then decimal number else codes "+"
+
+abbrev pub text_shown : ℕ → List ℕ → List ℕ → List ℕ
+text_shown depth line text = if depth == 0 then line else take most_columns text
+
+-- later rows of a statement show neither
+abbrev pub numbered : ℕ → List ℕ → Row → List ℕ
+numbered number line row =
+    if row.is_later then [] else at_right 6 (number_shown row.depth number) ++ codes " " ++ text_shown row.depth line row.text
 
 abbrev pub listing_row : ℕ → List ℕ → Row → List ℕ
-listing_row number line row = trimmed (row_columns row ++ numbered row.is_later number line) ++ codes "\n"
+listing_row number line row = trimmed (row_columns row ++ numbered number line row) ++ codes "\n"
 
 -- the rows of a line
 abbrev pub line_rows : ℕ → List ℕ → List Row → List ℕ

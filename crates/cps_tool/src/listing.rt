@@ -24,6 +24,9 @@ const NUMBER_COLUMNS: usize = 6;
 /// The columns before the line's, with the blanks between.
 const COLUMNS_BEFORE_LINE: usize = 44;
 
+/// The most columns that a statement's text takes.
+const TEXT_COLUMNS: usize = 90;
+
 /// The octal digits of an address.
 const ADDRESS_DIGITS: u8 = 6;
 
@@ -88,25 +91,25 @@ fn push_line(text: &mut Vec<u8>, number: usize, line: &[u8], rows: &[Row]) -> Re
     ensures { OnOk result (text.new.items ≡ text.old.items ++ texts.line_rows number line.now rows.now) }
 {
     for row in rows {
-        push_row(text, number, line, *row)?;
+        push_row(text, number, line, row)?;
     }
     Ok(())
 }
 
-fn push_row(text: &mut Vec<u8>, number: usize, line: &[u8], row: Row) -> Result<(), AllocError>
-    ensures { OnOk result (text.new.items ≡ text.old.items ++ texts.listing_row number line.now row) }
+fn push_row(text: &mut Vec<u8>, number: usize, line: &[u8], row: &Row) -> Result<(), AllocError>
+    ensures { OnOk result (text.new.items ≡ text.old.items ++ texts.listing_row number line.now row.now) }
 {
     let before = text.len();
     push_columns(text, row)?;
-    push_numbered(text, row.is_later, number, line)?;
+    push_numbered(text, number, line, row)?;
     cut_blanks(text, before);
     text.push(b'\n')?;
     Ok(())
 }
 
 /// The columns of the flags, the address and the code, each with a blank behind it.
-fn push_columns(text: &mut Vec<u8>, row: Row) -> Result<(), AllocError>
-    ensures { OnOk result (text.new.items ≡ text.old.items ++ texts.row_columns row) }
+fn push_columns(text: &mut Vec<u8>, row: &Row) -> Result<(), AllocError>
+    ensures { OnOk result (text.new.items ≡ text.old.items ++ texts.row_columns row.now) }
 {
     push_flags(text, row.flags)?;
     text.push(b' ')?;
@@ -170,31 +173,51 @@ fn push_blanks(text: &mut Vec<u8>, count: usize) -> Result<(), AllocError>
     text.resize(text.len() + count, b' ')
 }
 
-/// A line behind its number, which later rows of a statement don't show.
+/// A line behind its number, or a statement of an expansion behind `+`. Later rows of a statement show neither.
 fn push_numbered(
     text: &mut Vec<u8>,
-    is_later: bool,
     number: usize,
     line: &[u8],
+    row: &Row,
 ) -> Result<(), AllocError>
-    ensures { OnOk result (text.new.items ≡ text.old.items ++ texts.numbered is_later number line.now) }
+    ensures { OnOk result (text.new.items ≡ text.old.items ++ texts.numbered number line.now row.now) }
 {
-    if is_later {
+    if row.is_later {
         return Ok(());
     }
-    push_number(text, number)?;
+    push_number(text, row.depth, number)?;
     text.push(b' ')?;
-    text.extend_from_slice(line)
+    text.extend_from_slice(text_shown(row, line))
 }
 
-/// A line's number, at the right of its columns.
-fn push_number(text: &mut Vec<u8>, number: usize) -> Result<(), AllocError>
-    ensures { OnOk result (text.new.items ≡ text.old.items ++ texts.at_right NUMBER_COLUMNS (decimal number)) }
+/// The line of a row, or so much of its statement's text as a statement may have columns.
+fn text_shown<'a>(row: &'a Row, line: &'a [u8]) -> &'a [u8]
+    ensures { result.now ≡ texts.text_shown row.now.depth line.now row.now.text }
 {
-    let mut buffer = Buffer::new();
-    let digits = buffer.format(number).as_bytes();
-    push_blanks(text, NUMBER_COLUMNS.saturating_sub(digits.len()))?;
-    text.extend_from_slice(digits)
+    if row.depth == 0 {
+        return line;
+    }
+    let text = row.text.as_slice();
+    &text[..TEXT_COLUMNS.min(text.len())]
+}
+
+/// A line's number, or `+` for a statement of an expansion, at the right of its columns.
+fn push_number(text: &mut Vec<u8>, depth: u8, number: usize) -> Result<(), AllocError>
+    ensures { OnOk result (text.new.items ≡ text.old.items ++ texts.at_right NUMBER_COLUMNS (texts.number_shown depth number)) }
+{
+    if depth == 0 {
+        push_at_right(text, Buffer::new().format(number).as_bytes())
+    } else {
+        push_at_right(text, b"+")
+    }
+}
+
+/// A text at the right of the number's columns.
+fn push_at_right(text: &mut Vec<u8>, shown: &[u8]) -> Result<(), AllocError>
+    ensures { OnOk result (text.new.items ≡ text.old.items ++ texts.at_right NUMBER_COLUMNS shown.now) }
+{
+    push_blanks(text, NUMBER_COLUMNS.saturating_sub(shown.len()))?;
+    text.extend_from_slice(shown)
 }
 
 /// Cuts the blanks at the end of a row that begins at a length.

@@ -8,5 +8,5 @@ use Rattle.cps_final.proofs.line_flags.flags_under.Given as goal
 
 abbrev pub invariant-loop-item : goal.invariant-loop-item
 invariant-loop-item l =
-    joined_with l.flags (flat_map (λ item. rows_of (final_value (gathered-value.it l.finals)) item.made) (drop l.item-index l.trace.items))
-    ≡ joined_with no_flags (flat_map (λ item. rows_of (final_value (gathered-value.it l.finals)) item.made) l.trace.items)
+    joined_with l.flags (flat_map (rows_of (final_value (gathered-value.it l.finals))) (drop l.item-index l.trace.items))
+    ≡ joined_with no_flags (flat_map (rows_of (final_value (gathered-value.it l.finals))) l.trace.items)

@@ -5,4 +5,4 @@ use Rattle.cps_final.specs.contracts.finals.FinalsGathered.TheImpl.{gathered-val
 use Rattle.cps_final.proofs.rows.make_rows.Given as goal
 
 abbrev pub invariant-loop-item : goal.invariant-loop-item
-invariant-loop-item l = l.rows.items ≡ flat_map (λ item. rows_of (final_value (gathered-value.it l.finals)) item.made) (take l.item-index l.items)
+invariant-loop-item l = l.rows.items ≡ flat_map (rows_of (final_value (gathered-value.it l.finals))) (take l.item-index l.items)

@@ -1,7 +1,7 @@
 use Rattle.std.proofs.Common.{sym, ap, ◌∙◌}
 use Rattle.cps_state.specs.Course.{Running, ◌before◌, tell, run}
 use Rattle.cps_pass.specs.declared.ranges.Tested.{Tested}
-use Rattle.cps_pass.specs.Located.{has_value}
+use Rattle.cps_effect.specs.Located.{has_value}
 use Rattle.cps_pass.specs.Ranges.{defined}
 use Rattle.cps_pass.proofs.ranges.ask_defined.Goals as goal
 

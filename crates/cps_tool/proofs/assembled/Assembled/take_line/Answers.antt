@@ -1,5 +1,5 @@
 use Rattle.std.proofs.Common.{rules, ap, ◌∙◌}
-use Rattle.cps_pass.specs.Meaning.{trace_of}
+use Rattle.cps_pass.specs.Expansion.{trace_of}
 use Rattle.cps_tool.proofs.AssemblyLemmas.{line-behind}
 use Rattle.cps_tool.proofs.WorkLemmas.{on-err}
 use Rattle.cps_tool.proofs.assembled.Assembled.take_line.Goals as goal

@@ -1,0 +1,16 @@
+pub mod Blocks
+pub mod Fields
+pub mod Head
+pub mod Instruction
+pub mod Located
+pub mod NamesNow
+pub mod Numbers
+pub mod Places
+pub mod Placing
+pub mod Reserving
+pub mod Sites
+pub mod Statements
+pub mod Symbols
+pub mod Use
+pub mod ValueNow
+pub mod Words

@@ -1,0 +1,30 @@
+//! What the statements do that neither skip lines nor keep nor open them: what each asks of the state of an assembly, what it puts there, and what it makes.
+#![tactic(auto)]
+
+mod blocks;
+mod fields;
+mod head;
+mod holding;
+mod instructions;
+mod located;
+mod making;
+mod numbers;
+mod places;
+mod placing;
+mod reserving;
+mod statements;
+mod symbols;
+mod uses;
+mod value_now;
+mod words;
+
+pub use blocks::end;
+pub use head::{in_body, leave_head};
+pub use instructions::{instruction, peripheral_instruction};
+pub use located::{Standing, ask_standing, has_value, present_flags};
+pub use making::{flag, flag_in, unread};
+pub use numbers::{not_negative, plain_number};
+pub use places::{Begun, here_at};
+pub use placing::{Site, ask_site, placing_flags, settle, word_start};
+pub use statements::{flag_unreadable, obey};
+pub use value_now::{ValueNow, value_here};

@@ -1,0 +1,4 @@
+pub mod AloneLemmas
+pub mod FewLemmas
+pub mod ListLemmas
+pub mod OnceLemmas

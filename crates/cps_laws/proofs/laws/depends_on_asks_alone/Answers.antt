@@ -1,0 +1,5 @@
+use Rattle.cps_laws.proofs.AloneLemmas.{trace-same}
+use Rattle.cps_laws.proofs.laws.depends_on_asks_alone.Goals as goal
+
+pub returns : goal.returns
+returns c = trace-same

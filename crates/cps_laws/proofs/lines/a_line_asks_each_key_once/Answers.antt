@@ -1,0 +1,6 @@
+use Rattle.cps_laws.specs.LineLaws.{line_course}
+use Rattle.cps_laws.proofs.OnceLemmas.{asks-once}
+use Rattle.cps_laws.proofs.lines.a_line_asks_each_key_once.Goals as goal
+
+pub returns : goal.returns
+returns c = λ line state. asks-once (line_course line) state

@@ -1,0 +1,3 @@
+pub mod CourseLaws
+pub mod Listed
+pub mod LineLaws

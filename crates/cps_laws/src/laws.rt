@@ -1,0 +1,27 @@
+//! What the definitions of an expansion say, in the words of whole lists.
+ghost use Rattle.cps_laws.specs.CourseLaws.{TraceIsOfTheList, ItemsAreTheList, ItemsAreFew, DependsOnAsksAlone, AsksEachKeyOnce};
+
+/// What a line does follows from the list of its statements.
+pub fn trace_is_of_the_list()
+    ensures { TraceIsOfTheList }
+{}
+
+/// The items of a line that isn't dropped are its own and those of the list.
+pub fn items_are_the_list()
+    ensures { ItemsAreTheList }
+{}
+
+/// A line has at most its own item and 2,000 others, none deeper than 10.
+pub fn items_are_few()
+    ensures { ItemsAreFew }
+{}
+
+/// A line does the same in two states that agree on what it asked.
+pub fn depends_on_asks_alone()
+    ensures { DependsOnAsksAlone }
+{}
+
+/// A line asks each key once, however many statements it stands for.
+pub fn asks_each_key_once()
+    ensures { AsksEachKeyOnce }
+{}

@@ -1,0 +1,5 @@
+//! What the definitions of an expansion say, in the words of whole lists: laws alone, and nothing that runs.
+#![tactic(auto)]
+
+pub mod laws;
+pub mod lines;

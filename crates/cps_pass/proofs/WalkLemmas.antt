@@ -1,0 +1,130 @@
+-- The statements of an expansion, one more.
+use Rattle.std.proofs.Common.{◌≡◌, refl, sym, ap, ◌∙◌, ℕ, zero, suc, ◌+◌, ◌-◌, ◌<◌, ◌≤◌, List, [], ◌∷◌, ◌++◌, Option, Some, None, true, false, Bool, length, get_or, drop, arith}
+use Rattle.std.proofs.lemmas.List.{drop_more}
+use Rattle.cps_state.specs.Course.{Course, stop, begin, settle, Part, ◌before◌, nothing, Running, run, started, settled_by, went, Does, Goes}
+use Rattle.cps_state.specs.Keys.{State}
+use Rattle.cps_pass.specs.declared.opened.Opened.{Opened}
+use Rattle.cps_pass.specs.declared.scope.Scope.{Scope}
+use Rattle.cps_pass.specs.declared.scope.Scope.TheVariants.{Source, Expansion}
+use Rattle.cps_pass.specs.Expansion.{ended, walk, body, too_deep, line_part, Walks}
+use Rattle.cps_pass.specs.Keeping.{repeated}
+use Rattle.cps_pass.specs.Meaning.{statement}
+use Rattle.cps_pass.specs.Opened.{lines_of}
+use Rattle.cps_pass.specs.Own.{begun}
+use Rattle.cps_pass.specs.Taking.{HandsOn}
+
+-- a statement, and then those behind it
+pub walked : (nested : ℕ → List (List ℕ) → Part) (depth : ℕ) (texts : List (List ℕ)) (i : ℕ) (text : List ℕ) (scope later : Scope) (opened : List (List ℕ)) (whole : Bool) (f : State) (s t u v : Running)
+    → i < length texts → text ≡ get_or texts i text
+    → Goes (begin depth text) true f s t
+    → HandsOn (statement scope text) later opened f t u
+    → Goes (nested (depth + 1) opened) whole f u v
+    → (next : Scope → Part) (rest : Course) → run (walk nested depth scope (drop i texts) next rest) f s ≡ went whole (walk nested depth later (drop (i + 1) texts) next rest) f v
+walked nested depth texts i text scope later opened whole f s t u v lt is begins obeys nests next rest =
+    let behind : List (List ℕ) = drop (i + 1) texts in
+    ap (λ xs. run (walk nested depth scope xs next rest) f s) (drop_more texts i text lt)
+    ∙ ap (λ (x : List ℕ). run (walk nested depth scope (x ∷ behind) next rest) f s) (sym is)
+    ∙ begins (statement scope text (λ after lines. nested (depth + 1) lines before walk nested depth after behind next) rest)
+    ∙ obeys (λ after lines. nested (depth + 1) lines before walk nested depth after behind next) rest
+    ∙ nests (walk nested depth later behind next rest)
+
+-- a statement that is too much
+pub cut : (nested : ℕ → List (List ℕ) → Part) (depth : ℕ) (texts : List (List ℕ)) (i : ℕ) (text : List ℕ) (scope : Scope) (f : State) (s t : Running)
+    → i < length texts → text ≡ get_or texts i text
+    → Goes (begin depth text) false f s t
+    → (next : Scope → Part) (rest : Course) → run (walk nested depth scope (drop i texts) next rest) f s ≡ (t, false)
+cut nested depth texts i text scope f s t lt is begins next rest =
+    let behind : List (List ℕ) = drop (i + 1) texts in
+    ap (λ xs. run (walk nested depth scope xs next rest) f s) (drop_more texts i text lt)
+    ∙ ap (λ (x : List ℕ). run (walk nested depth scope (x ∷ behind) next rest) f s) (sym is)
+    ∙ begins (statement scope text (λ after lines. nested (depth + 1) lines before walk nested depth after behind next) rest)
+
+-- an expansion without statements
+pub body-empty : (n depth : ℕ) → body n depth [] ≡ nothing
+unfolding body
+body-empty zero depth = refl
+body-empty (suc n) depth = refl
+
+pub body-next : (n depth : ℕ) (texts : List (List ℕ)) → body (suc n) depth texts ≡ walk (body n) depth (Expansion begun) texts ended
+unfolding body
+body-next n depth texts = refl
+
+-- statements, and then others
+pub walk-append : (nested : ℕ → List (List ℕ) → Part) (depth : ℕ) (xs ys : List (List ℕ)) (next : Scope → Part) (scope : Scope)
+    → walk nested depth scope (xs ++ ys) next ≡ walk nested depth scope xs (λ later. walk nested depth later ys next)
+walk-append nested depth [] ys next scope = refl
+walk-append nested depth (text ∷ xs) ys next scope =
+    ap (λ (g : Scope → Part). λ (rest : Course). begin depth text (statement scope text (λ later opened. nested (depth + 1) opened before g later) rest)) (λ i later. walk-append nested depth xs ys next later i)
+
+-- what a part did, by how it ended
+pub goes-as : (part : Part) (w b : Bool) (f : State) (s t : Running) → w ≡ b → Goes part w f s t → Goes part b f s t
+goes-as part w b f s t same goes rest = goes rest ∙ ap (λ x. went x rest f t) same
+
+pub begins-as : (depth : ℕ) (shared text : List ℕ) (w b : Bool) (f : State) (s t : Running) → shared ≡ text → w ≡ b → Goes (begin depth shared) w f s t → Goes (begin depth text) b f s t
+begins-as depth shared text w b f s t same so goes rest =
+    ap (λ (x : List ℕ). run (begin depth x rest) f s) (sym same) ∙ goes-as (begin depth shared) w b f s t so goes rest
+
+pub obeys-as : (scope later : Scope) (slice text : List ℕ) (opened : List (List ℕ)) (f : State) (s t : Running) → slice ≡ text
+    → HandsOn (statement scope slice) later opened f s t → HandsOn (statement scope text) later opened f s t
+obeys-as scope later slice text opened f s t same hands behind rest = ap (λ (x : List ℕ). run (statement scope x behind rest) f s) (sym same) ∙ hands behind rest
+
+pub walks-as : (nested : ℕ → List (List ℕ) → Part) (depth : ℕ) (scope later : Scope) (slice texts : List (List ℕ)) (w b : Bool) (f : State) (s t : Running) → slice ≡ texts → w ≡ b
+    → Walks (walk nested depth scope slice) w later f s t → Walks (walk nested depth scope texts) b later f s t
+walks-as nested depth scope later slice texts w b f s t same so walks next rest =
+    ap (λ (xs : List (List ℕ)). run (walk nested depth scope xs next rest) f s) (sym same) ∙ walks next rest ∙ ap (λ x. went x (next later rest) f t) so
+
+-- what a statement opened
+pub opened-some : (n p depth : ℕ) (o : Option Opened) (x : Opened) (w b : Bool) (f : State) (s t : Running) → o ≡ Some x → n ≡ p → w ≡ b
+    → Goes (body n depth (repeated x.times x.lines.items)) w f s t → Goes (body p depth (lines_of o)) b f s t
+opened-some n p depth o x w b f s t some same so goes rest =
+    ap (λ q. run (body p depth (lines_of q) rest) f s) some
+    ∙ ap (λ m. run (body m depth (repeated x.times x.lines.items) rest) f s) (sym same)
+    ∙ goes-as (body n depth (repeated x.times x.lines.items)) w b f s t so goes rest
+
+pub opened-none : (p depth : ℕ) (o : Option Opened) (f : State) (s : Running) → o ≡ None → Goes (body p depth (lines_of o)) true f s s
+opened-none p depth o f s none rest =
+    ap (λ q. run (body p depth (lines_of q) rest) f s) none ∙ ap (λ (part : Part). run (part rest) f s) (body-empty p depth)
+
+-- a turn, and then the others
+repeated-next : (n i : ℕ) (texts : List (List ℕ)) → i < n → repeated (n - i) texts ≡ texts ++ repeated (n - (i + 1)) texts
+repeated-next n i texts lt =
+    let e : n - i ≡ suc (n - (i + 1)) = omega arith in
+    ap (λ k. repeated k texts) e
+
+pub turned : (nested : ℕ → List (List ℕ) → Part) (depth n i : ℕ) (texts : List (List ℕ)) (scope later : Scope) (whole : Bool) (f : State) (s t : Running) → i < n
+    → Walks (walk nested depth scope texts) whole later f s t
+    → (next : Scope → Part) (rest : Course) → run (walk nested depth scope (repeated (n - i) texts) next rest) f s ≡ went whole (walk nested depth later (repeated (n - (i + 1)) texts) next rest) f t
+turned nested depth n i texts scope later whole f s t lt walks next rest =
+    ap (λ xs. run (walk nested depth scope xs next rest) f s) (repeated-next n i texts lt)
+    ∙ ap (λ (part : Part). run (part rest) f s) (walk-append nested depth texts (repeated (n - (i + 1)) texts) next scope)
+    ∙ walks (λ after. walk nested depth after (repeated (n - (i + 1)) texts) next) rest
+
+-- all turns
+body-of : (depth : ℕ) (texts : List (List ℕ)) → depth ≤ too_deep → body (too_deep + 1 - depth) depth texts ≡ walk (body (too_deep - depth)) depth (Expansion begun) texts ended
+body-of depth texts le =
+    let e : too_deep + 1 - depth ≡ suc (too_deep - depth) = omega arith in
+    ap (λ n. body n depth texts) e ∙ body-next (too_deep - depth) depth texts
+
+pub body-as : (depth : ℕ) (texts : List (List ℕ)) (f : State) (s : Running) → depth ≤ too_deep → (rest : Course)
+    → run (body (too_deep + 1 - depth) depth texts rest) f s ≡ run (walk (body (too_deep - depth)) depth (Expansion begun) texts ended rest) f s
+body-as depth texts f s le rest = ap (λ (part : Part). run (part rest) f s) (body-of depth texts le)
+
+-- no turn is left
+pub no-turn : (nested : ℕ → List (List ℕ) → Part) (depth n i : ℕ) (texts : List (List ℕ)) (scope : Scope) (f : State) (s : Running) → n ≤ i
+    → (next : Scope → Part) (rest : Course) → run (walk nested depth scope (repeated (n - i) texts) next rest) f s ≡ run (next scope rest) f s
+no-turn nested depth n i texts scope f s le next rest =
+    let e : n - i ≡ 0 = omega arith in
+    ap (λ k. run (walk nested depth scope (repeated k texts) next rest) f s) e
+
+at-end : (whole : Bool) (f : State) (t : Running) → went whole stop f t ≡ (t, whole)
+at-end true f t = refl
+at-end false f t = refl
+
+-- a line, by what its statement opened
+pub lined : (text : List ℕ) (later : Scope) (o : Option Opened) (whole : Bool) (f : State) (s u t : Running) → HandsOn (statement Source text) later (lines_of o) f started s
+    → u ≡ settled_by s → Goes (body too_deep 1 (lines_of o)) whole f u t → run (line_part text stop) f started ≡ (t, whole)
+lined text later o whole f s u t hands settled goes =
+    hands (λ after opened. settle before body too_deep 1 opened) stop
+    ∙ ap (λ (r : Running). run (body too_deep 1 (lines_of o) stop) f r) (sym settled)
+    ∙ goes stop
+    ∙ at-end whole f t

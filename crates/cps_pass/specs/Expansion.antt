@@ -1,0 +1,57 @@
+-- What a source line does in pass one: its own statement, and the statements that it opens. From the manual's descriptions of DUP and of macro calls; how
+-- deep expansions may stand, and how many statements a line may stand for, are our profile's.
+use Rattle.std.specs.Prelude.{◌≡◌, ℕ, zero, suc, ◌+◌, Bool, true, false, List, [], ◌∷◌, if◌then◌else◌}
+use Rattle.cps_state.specs.declared.key.Mode.{Mode}
+use Rattle.cps_state.specs.declared.key.Mode.TheVariants.{KeepDup}
+use Rattle.cps_state.specs.Course.{Course, stop, begin, mark, settle, Part, ◌before◌, nothing, Running, run, started, deepest, Trace, traced, went}
+use Rattle.cps_state.specs.Keys.{State}
+use Rattle.cps_state.specs.Made.{no_flags}
+use Rattle.cps_pass.specs.declared.scope.Scope.{Scope}
+use Rattle.cps_pass.specs.declared.scope.Scope.TheVariants.{Source, Expansion}
+use Rattle.cps_pass.specs.Meaning.{statement}
+use Rattle.cps_pass.specs.Own.{Own, begun}
+
+-- ---- the end of an expansion
+
+abbrev pub is_dup_body : Mode → Bool
+is_dup_body (KeepDup body) = true
+is_dup_body _ = false
+
+abbrev pub keeps_lines : Scope → Bool
+keeps_lines Source = false
+keeps_lines (Expansion own) = is_dup_body own.mode
+
+-- a body of DUP that is open ends with the expansion: E on its last statement
+abbrev pub ended : Scope → Part
+ended scope = if keeps_lines scope then mark (record no_flags { structure = true }) else nothing
+
+-- ---- statements one behind the other, each followed by those that it opens, one deeper
+
+abbrev pub walk : (ℕ → List (List ℕ) → Part) → ℕ → Scope → List (List ℕ) → (Scope → Part) → Part
+walk nested depth scope [] next = next scope
+walk nested depth scope (text ∷ texts) next =
+    begin depth text before statement scope text (λ later opened. nested (depth + 1) opened before walk nested depth later texts next)
+
+-- the statements of an expansion at a depth, where so many depths are looked at; it begins with no open range, and lines are assembled
+unfoldable pub body : ℕ → ℕ → List (List ℕ) → Part
+body zero depth texts rest = rest
+body (suc depths) depth texts rest = walk (body depths) depth (Expansion begun) texts ended rest
+
+-- the first depth that is too deep: what stands below is not looked at
+abbrev pub too_deep : ℕ
+too_deep = deepest + 1
+
+-- ---- a source line
+
+abbrev pub line_part : List ℕ → Part
+line_part text = statement Source text (λ later opened. settle before body too_deep 1 opened)
+
+-- what a line asks, puts and makes in a state
+abbrev pub trace_of : List ℕ → State → Trace
+trace_of line state = traced (run (line_part line stop) state started)
+
+-- ---- what the functions of an expansion do
+
+-- statements were done whole, and hand on where they stand by then, or came to one that is too much
+abbrev pub Walks : ((Scope → Part) → Part) → Bool → Scope → State → Running → Running → Type 0
+Walks part whole scope state old new = (next : Scope → Part) (rest : Course) → run (part next rest) state old ≡ went whole (next scope rest) state new

@@ -1,7 +1,0 @@
-use Rattle.std.proofs.Common.{◌≡◌, drop}
-use Rattle.std.specs.Option.{option_or}
-use Rattle.cps_state.specs.Course.{last_put}
-use Rattle.cps_state.proofs.recorder.last_put.Given as goal
-
-abbrev pub invariant-loop-put : goal.invariant-loop-put
-invariant-loop-put l = option_or (last_put (drop l.put-index l.puts) l.key) l.found ≡ last_put l.puts l.key
