@@ -152,54 +152,53 @@ fn holds_lines(rt: HostRuntime) -> Result<(), Fail> {
     Ok(())
 }
 
-/// Enters a line behind so many others.
-fn insert(
-    rt: &impl Abort,
+/// An edit of a session: of the lines behind a number, at one, or from one to another.
+enum Edit {
+    Insert(u32, &'static [u8]),
+    Replace(u32, &'static [u8]),
+    Delete(u32, u32),
+}
+
+/// What comes of an edit.
+fn carry_out(
     alloc: Global,
     session: &mut Session,
     work: &mut Work,
-    after: u32,
-    text: &[u8],
-) -> Result<(), Fail> {
-    let entered = line(alloc, text)?;
-    let done = session.insert(after, entered, work);
-    assert_same(rt, "inserted", &done, &Ok(()));
-    Ok(())
+    edit: &Edit,
+) -> Result<Result<(), EditFault>, Fail> {
+    match edit {
+        Edit::Insert(after, text) => {
+            let entered = line(alloc, text)?;
+            Ok(session.insert(*after, entered, work))
+        }
+        Edit::Replace(at, text) => {
+            let entered = line(alloc, text)?;
+            Ok(session.replace(*at, entered, work))
+        }
+        Edit::Delete(first, last) => Ok(session.delete(*first, *last, work)),
+    }
 }
 
-/// Puts a line in place of another.
-fn replace(
-    rt: &impl Abort,
-    alloc: Global,
-    session: &mut Session,
-    work: &mut Work,
-    at: u32,
-    text: &[u8],
-) -> Result<(), Fail> {
-    let entered = line(alloc, text)?;
-    let done = session.replace(at, entered, work);
-    assert_same(rt, "replaced", &done, &Ok(()));
-    Ok(())
-}
-
-/// An edit counts the steps of the lines from the first on that it touches.
+/// An edit counts the steps of the lines from the first on that it touches; a refused one counts none.
 #[test]
 fn counts_steps(rt: HostRuntime) -> Result<(), Fail> {
+    const ROWS: [(Edit, Result<(), EditFault>, u64); 8] = [
+        (Edit::Insert(0, b"  NO"), Ok(()), 1),
+        (Edit::Insert(1, b"  NO"), Ok(()), 2),
+        (Edit::Insert(2, b"  NO"), Ok(()), 3),
+        (Edit::Insert(3, b"  NO"), Ok(()), 4),
+        (Edit::Insert(1, b"* one"), Ok(()), 8),
+        (Edit::Replace(4, b"* two"), Ok(()), 10),
+        (Edit::Delete(2, 4), Ok(()), 11),
+        (Edit::Delete(2, 4), Err(EditFault::NoSuchLine), 11),
+    ];
     let mut session = Session::new(rt.alloc());
     let mut work = Work::new();
-    for after in 0..4 {
-        insert(&rt, rt.alloc(), &mut session, &mut work, after, b"  NO")?;
+    for (entered, want, steps) in ROWS.iter() {
+        let done = carry_out(rt.alloc(), &mut session, &mut work, entered)?;
+        assert_same(&rt, "what came of it", &done, want);
+        assert_same(&rt, "the steps so far", &work.ones(), steps);
     }
-    assert_same(&rt, "a step a line", &work.ones(), &4);
-    insert(&rt, rt.alloc(), &mut session, &mut work, 1, b"* one")?;
-    assert_same(&rt, "four lines behind the first", &work.ones(), &8);
-    replace(&rt, rt.alloc(), &mut session, &mut work, 4, b"* two")?;
-    assert_same(&rt, "lines 4 and 5", &work.ones(), &10);
-    assert_same(&rt, "deleted", &session.delete(2, 4, &mut work), &Ok(()));
-    assert_same(&rt, "the last line", &work.ones(), &11);
-    let refused = session.delete(2, 4, &mut work);
-    assert_same(&rt, "refused", &refused, &Err(EditFault::NoSuchLine));
-    assert_same(&rt, "no step", &work.ones(), &11);
     let binary = "IDENT\n000000 46000460000000000000\n";
     assert_binary(&rt, rt.alloc(), &session, binary)
 }
