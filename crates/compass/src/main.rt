@@ -34,6 +34,8 @@ mod set_rows;
 #[cfg(test)]
 mod source_rows;
 #[cfg(test)]
+mod symbol_rows;
+#[cfg(test)]
 mod word_rows;
 
 use cps_text::Counted;

@@ -1,6 +1,7 @@
 //! Scripts and the replies to them.
 use super::assertions::{assert_bytes, assert_same};
 use super::replies::assert_replies;
+use cps_list::Part;
 use cps_pass::Work;
 use cps_text::Line;
 use cps_tool::{EditFault, Session};
@@ -27,7 +28,7 @@ fn answers_commands(rt: HostRuntime) -> Result<(), Fail> {
         ("i  5\n", "refused 5 bad command\n"),
         ("list \n", "refused 5 bad command\n"),
         ("Flags\n", "refused 5 bad command\n"),
-        ("symbols\n", "refused 5 bad command\n"),
+        ("symbol\n", "refused 5 bad command\n"),
         ("i 5\n", "refused 1 no such line\n"),
         ("r 1\n", "refused 1 no such line\n"),
         ("d\n", "refused 5 bad command\n"),
@@ -94,7 +95,12 @@ fn assert_binary(
     session: &Session,
     want: &str,
 ) -> Result<(), Fail> {
-    assert_bytes(rt, "the binary text", &session.binary(alloc)?, want)
+    assert_bytes(
+        rt,
+        "the binary text",
+        &session.text(alloc, Part::Binary)?,
+        want,
+    )
 }
 
 fn assert_listing(
@@ -103,11 +109,21 @@ fn assert_listing(
     session: &Session,
     want: &str,
 ) -> Result<(), Fail> {
-    assert_bytes(rt, "the listing", &session.listing(alloc)?, want)
+    assert_bytes(
+        rt,
+        "the listing",
+        &session.text(alloc, Part::Listing)?,
+        want,
+    )
 }
 
 fn assert_flags(rt: &impl Abort, alloc: Global, session: &Session, want: &str) -> Result<(), Fail> {
-    assert_bytes(rt, "the flags text", &session.flags(alloc)?, want)
+    assert_bytes(
+        rt,
+        "the flags text",
+        &session.text(alloc, Part::Flags)?,
+        want,
+    )
 }
 
 /// Asserts what a line of a source is, None where there is none.

@@ -5,6 +5,4 @@ pub mod NumberLemmas
 pub mod OrderLemmas
 pub mod ProgressLemmas
 pub mod RangeLemmas
-pub mod RowLemmas
-pub mod TextLemmas
 pub mod WorkLemmas

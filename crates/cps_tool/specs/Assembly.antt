@@ -1,13 +1,13 @@
 -- Two-pass assembly of a source. Pass one is a fold over its lines: the state before each line, and what the line asks, puts and
 -- makes there. Pass two gives the rows and the bits of each line, where everything that can be named has the value that it has behind the last line.
 -- From the manual's section on the two passes.
-use Rattle.std.specs.Prelude.{ℕ, Bool, List, [], ◌∷◌, map, flat_map}
-use Rattle.cps_code.specs.Image.{Piece}
+use Rattle.std.specs.Prelude.{ℕ, Bool, List, [], ◌∷◌, map}
 use Rattle.cps_state.specs.Keys.{State, first_state, overwritten}
 use Rattle.cps_state.specs.Course.{Trace}
 use Rattle.cps_pass.specs.Expansion.{trace_of}
 use Rattle.cps_final.specs.Finals.{Finals, finals_of, final_value, is_open_at_end}
 use Rattle.cps_final.specs.Outcome.{Outcome, outcome_of}
+use Rattle.cps_list.specs.Assembly.{Assembly}
 
 -- ---- pass one
 
@@ -42,6 +42,11 @@ outcomes_under finals traces = map (outcome_of (final_value finals)) traces
 abbrev pub outcomes_of : List (List ℕ) → List Outcome
 outcomes_of lines = outcomes_under (finals_of (traces_of lines)) (traces_of lines)
 
--- all bits of some lines, in order
-abbrev pub pieces_in : List Outcome → List Piece
-pieces_in outcomes = flat_map (λ outcome. outcome.pieces) outcomes
+-- a source that is assembled
+abbrev pub assembly_of : List (List ℕ) → Assembly
+assembly_of lines = record {
+  lines = lines;
+  outcomes = outcomes_of lines;
+  finals = finals_of (traces_of lines);
+  is_open = ends_open lines;
+}

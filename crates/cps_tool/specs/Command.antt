@@ -2,7 +2,7 @@
 use Rattle.std.specs.Prelude.{◌≡◌, ℕ, ◌<◌, ◌≤◌, Bool, true, false, IsTrue, List, [], ◌++◌, length, codes, ◌⊎◌, bytes_eq}
 use Rattle.std.specs.Str.Parse.{AllDigits, digits_value}
 use Rattle.cps_tool.specs.declared.command.Command.{Command}
-use Rattle.cps_tool.specs.declared.command.Command.TheVariants.{Append, Insert, Replace, Delete, Listing, Binary, Flags, Quit}
+use Rattle.cps_tool.specs.declared.command.Command.TheVariants.{Append, Insert, Replace, Delete, Listing, Binary, Symbols, Flags, Quit}
 
 -- what a command asks: a text at the end of the source, behind a line or in place of one, to delete lines, one of the texts,
 -- or the script's end
@@ -13,6 +13,7 @@ pub data Order : Type 0 where
   delete : ℕ → ℕ → Order
   list : Order
   binary : Order
+  symbols : Order
   flags : Order
   quit : Order
 
@@ -24,6 +25,7 @@ order_of (Replace at text) = replace at text.now
 order_of (Delete first last) = delete first last
 order_of Listing = list
 order_of Binary = binary
+order_of Symbols = symbols
 order_of Flags = flags
 order_of Quit = quit
 
@@ -61,6 +63,7 @@ is_quit_order (replace at text) = false
 is_quit_order (delete first last) = false
 is_quit_order list = false
 is_quit_order binary = false
+is_quit_order symbols = false
 is_quit_order flags = false
 is_quit_order quit = true
 
@@ -75,5 +78,6 @@ Spells line (delete first last) =
     (length line ≤ longest_command) × (bytes : List ℕ) × (line ≡ codes "d " ++ bytes) × IsRange bytes first last
 Spells line list = (length line ≤ longest_command) × (line ≡ codes "list")
 Spells line binary = (length line ≤ longest_command) × (line ≡ codes "binary")
+Spells line symbols = (length line ≤ longest_command) × (line ≡ codes "symbols")
 Spells line flags = (length line ≤ longest_command) × (line ≡ codes "flags")
 Spells line quit = (length line ≤ longest_command) × IsTrue (is_quit line)

@@ -2,9 +2,6 @@ pub mod Edits
 pub mod Lines
 pub mod Assembly
 pub mod Assembled
-pub mod Making
-pub mod Binary
-pub mod Listing
 pub mod Flagged
 pub mod Command
 pub mod Reply

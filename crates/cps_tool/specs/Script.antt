@@ -3,10 +3,12 @@ use Rattle.std.specs.Prelude.{◌≡◌, ℕ, Bool, true, false, not, List, [], 
 use Rattle.std.specs.List.{list_all}
 use Rattle.std.specs.Io.KnownBytes.{IsAtEnd}
 use Rattle.cps_tool.specs.declared.reply.Refusal.TheVariants as refusals
-use Rattle.cps_tool.specs.Binary.{binary_text}
-use Rattle.cps_tool.specs.Listing.{listing_text}
-use Rattle.cps_tool.specs.Flagged.{flags_text}
-use Rattle.cps_tool.specs.Command.{Order, append, insert, replace, delete, list, binary, flags, quit, Spells, is_quit}
+use Rattle.cps_list.specs.Listing.{listing_text}
+use Rattle.cps_list.specs.Binary.{binary_text}
+use Rattle.cps_list.specs.Symbols.{symbols_text}
+use Rattle.cps_list.specs.Flagged.{flags_text}
+use Rattle.cps_tool.specs.Assembly.{assembly_of}
+use Rattle.cps_tool.specs.Command.{Order, append, insert, replace, delete, list, binary, symbols, flags, quit, Spells, is_quit}
 use Rattle.cps_tool.specs.Edits.{Inserted, Replaced, Deleted}
 use Rattle.cps_tool.specs.Lines.{Splits, without_return, last_line}
 use Rattle.cps_tool.specs.Reply.{Response, accepted, refused, shown, reply_text}
@@ -23,9 +25,10 @@ Obeys old (append text) response new = Inserted old (length old) text response n
 Obeys old (insert after text) response new = Inserted old after text response new
 Obeys old (replace at text) response new = Replaced old at text response new
 Obeys old (delete first last) response new = Deleted old first last response new
-Obeys old list response new = Queried old (listing_text old) response new
-Obeys old binary response new = Queried old (binary_text old) response new
-Obeys old flags response new = Queried old (flags_text old) response new
+Obeys old list response new = Queried old (listing_text (assembly_of old)) response new
+Obeys old binary response new = Queried old (binary_text (assembly_of old)) response new
+Obeys old symbols response new = Queried old (symbols_text (assembly_of old)) response new
+Obeys old flags response new = Queried old (flags_text (assembly_of old)) response new
 Obeys old quit response new = ⊥
 
 -- a command line was answered; one that spells no order is refused

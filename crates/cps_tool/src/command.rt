@@ -1,7 +1,7 @@
 //! The commands of a script.
 ghost use Rattle.std.specs.Prelude.{◌≡◌, ℕ, ◌<◌, ◌≤◌, List, false, length, IfOk, IfSome, IfNone, MatchResult, MatchOption};
 ghost use Rattle.std.specs.List.{before_first, after_first, position_from};
-ghost use Rattle.cps_tool.specs.Command.{Order, append, insert, replace, delete, list, binary, flags, Spells, IsNumber, IsNumbered, IsRange, is_quit, is_quit_order, order_of};
+ghost use Rattle.cps_tool.specs.Command.{Order, append, insert, replace, delete, list, binary, symbols, flags, Spells, IsNumber, IsNumbered, IsRange, is_quit, is_quit_order, order_of};
 ghost use Rattle.cps_text.specs.Text.{is_blank};
 
 use thiserror::Error;
@@ -34,6 +34,8 @@ pub enum Command<'a> {
     Listing,
     /// To write the binary text.
     Binary,
+    /// To write the cross-reference of the symbols.
+    Symbols,
     /// To write the flagged lines.
     Flags,
     /// To end the script.
@@ -74,12 +76,14 @@ fn read_plain(line: &[u8]) -> Option<Command<'_>>
     ensures no_append { IfNone result ((text : List ℕ) → Spells line.now (append text) → ⊥) }
     ensures no_list { IfNone result (Spells line.now list → ⊥) }
     ensures no_binary { IfNone result (Spells line.now binary → ⊥) }
+    ensures no_symbols { IfNone result (Spells line.now symbols → ⊥) }
     ensures no_flags { IfNone result (Spells line.now flags → ⊥) }
     ensures no_quit { IfNone result (is_quit line.now ≡ false) }
 {
     match line {
         b"list" => Some(Command::Listing),
         b"binary" => Some(Command::Binary),
+        b"symbols" => Some(Command::Symbols),
         b"flags" => Some(Command::Flags),
         b"quit" => Some(Command::Quit),
         b"a" => Some(Command::Append(&[])),

@@ -2,10 +2,9 @@
 #![tactic(auto)]
 
 mod assembled;
-mod binary;
 mod command;
 mod flagged;
-mod listing;
+mod pages;
 mod reply;
 mod replying;
 mod script;
@@ -14,6 +13,7 @@ mod session;
 mod writing;
 
 pub use command::{Command, ScriptFault};
+pub use pages::Pages;
 pub use script::run_script;
 pub use session::{EditFault, Session};
 pub use writing::RunFault;

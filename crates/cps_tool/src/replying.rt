@@ -13,6 +13,7 @@ use super::reply::{Refusal, Reply};
 use super::session::{EditFault, Session};
 use super::writing::{RunFault, write_text};
 use arrayvec::ArrayString;
+use cps_list::Part;
 use cps_pass::Work;
 use cps_text::{Counted, Line, LineFault};
 use itoa::Buffer;
@@ -31,9 +32,10 @@ pub fn obey(alloc: Global, line: &[u8], session: &mut Session) -> Option<Reply>
         Ok(Command::Insert(after, text)) => Some(insert_text(alloc, after, text, session)),
         Ok(Command::Replace(at, text)) => Some(replace_text(alloc, at, text, session)),
         Ok(Command::Delete(first, last)) => Some(delete_lines(first, last, session)),
-        Ok(Command::Listing) => Some(show(session.listing(alloc))),
-        Ok(Command::Binary) => Some(show(session.binary(alloc))),
-        Ok(Command::Flags) => Some(show(session.flags(alloc))),
+        Ok(Command::Listing) => Some(show(session.text(alloc, Part::Listing))),
+        Ok(Command::Binary) => Some(show(session.text(alloc, Part::Binary))),
+        Ok(Command::Symbols) => Some(show(session.text(alloc, Part::Symbols))),
+        Ok(Command::Flags) => Some(show(session.text(alloc, Part::Flags))),
         Ok(Command::Quit) => None,
     }
 }

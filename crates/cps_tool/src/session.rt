@@ -1,14 +1,14 @@
 //! A source that is edited line by line.
 ghost use Rattle.std.specs.Prelude.{◌≡◌, ◌+◌, ◌-◌, ◌<◌, ◌≤◌, ◌↔◌, [], ◌++◌, length, insert, take, drop, slice_get, slice_set, Some, IsTrue, IsOk, IsSome, IfSome, OnOk, OnErr, IfOk, IsErrOf};
-ghost use Rattle.cps_tool.specs.Binary.{binary_text};
-ghost use Rattle.cps_tool.specs.Listing.{listing_text};
-ghost use Rattle.cps_tool.specs.Flagged.{flags_text, flagged_lines};
+ghost use Rattle.cps_list.specs.Texts.{text_of};
+ghost use Rattle.cps_tool.specs.Assembly.{assembly_of};
+ghost use Rattle.cps_tool.specs.Flagged.{flagged_lines};
 ghost use Rattle.cps_tool.specs.Edits.{HasLine, LacksLine, HasLines, LacksLines, without_lines, StepsOfEdit};
 
 use super::assembled::{Assembled, Keeps};
-use super::binary::binary_text;
-use super::flagged::{flagged_lines, flags_text};
-use super::listing::listing_text;
+use super::flagged::flagged_lines;
+use super::pages::Pages;
+use cps_list::{Part, make_text};
 use cps_pass::Work;
 use cps_text::Line;
 use std::alloc::{AllocError, Global};
@@ -234,18 +234,11 @@ impl Session {
         Ok(())
     }
 
-    /// The binary text of the source.
-    pub fn binary(&self, alloc: Global) -> Result<Vec<u8>, AllocError>
-        ensures { IfOk result (λ text. text.items ≡ binary_text self.now.lines) }
+    /// What the texts of the source are written from.
+    pub fn view(&self, alloc: Global) -> Result<Pages<'_>, AllocError>
+        ensures { IfOk result (λ pages. pages ≡ assembly_of self.now.lines) }
     {
-        binary_text(alloc, self.assembled.traces(), self.assembled.finals())
-    }
-
-    /// The listing of the source.
-    pub fn listing(&self, alloc: Global) -> Result<Vec<u8>, AllocError>
-        ensures { IfOk result (λ text. text.items ≡ listing_text self.now.lines) }
-    {
-        listing_text(
+        Pages::new(
             alloc,
             &self.lines,
             self.assembled.traces(),
@@ -253,11 +246,12 @@ impl Session {
         )
     }
 
-    /// The flags text of the source.
-    pub fn flags(&self, alloc: Global) -> Result<Vec<u8>, AllocError>
-        ensures { IfOk result (λ text. text.items ≡ flags_text self.now.lines) }
+    /// A text of the source.
+    pub fn text(&self, alloc: Global, part: Part) -> Result<Vec<u8>, AllocError>
+        ensures { IfOk result (λ text. text.items ≡ text_of part (assembly_of self.now.lines)) }
     {
-        flags_text(alloc, self.assembled.traces(), self.assembled.finals())
+        let pages = self.view(alloc)?;
+        make_text(alloc, &pages, part)
     }
 
     /// How many lines of the source have a flag, and one more if it ends while a range is open. Takes no memory.

@@ -27,13 +27,8 @@ pub fn write_text<W: Write>(writer: &mut Counted<W>, text: &[u8]) -> Result<(), 
     ensures failed { OnErr result (FailsOnce writer.old writer.new) }
     ensures failures { OnOk result (failures_of writer.new ≡ failures_of writer.old) }
 {
-    let mut done = 0;
-    while done < text.len() {
-        let (_, rest) = text.split_at(done);
-        let Some(count) = writer.write(rest) else {
-            return Err(RunFault::WriteFault);
-        };
-        done += count;
+    match cps_list::write_text(writer, text) {
+        Ok(()) => Ok(()),
+        Err(_) => Err(RunFault::WriteFault),
     }
-    Ok(())
 }

@@ -1,0 +1,172 @@
+-- The first symbol of mentions that stand in the order of their names, and those behind it.
+use Rattle.std.proofs.Common.{◌≡◌, ℕ, zero, suc, ◌+◌, ◌≤◌, Bool, true, false, cond, ◌||◌, refl, sym, ap, subst, ◌∙◌, List, [], ◌∷◌, ◌++◌, length, take, drop, arith, append-nil}
+use Rattle.std.specs.Prelude.{map, flat_map}
+use Rattle.std.specs.declared.cmp.Ordering.{Ordering}
+use Rattle.std.specs.declared.cmp.Ordering.TheVariants.{Less, Equal, Greater}
+use Rattle.std.specs.List.{list_any, prefix_len}
+use Rattle.std.specs.Ordering.{is_lt, is_eq, eq_by_cmp}
+use Rattle.std.specs.Cmp.{Equal-is, tied_itself}
+use Rattle.std.specs.FinMap as map
+use Rattle.std.specs.FinMap.{entries, entries-insert}
+use Rattle.std.specs.FinMap.Entries.{by_order}
+use Rattle.std.specs.FinSet.{FinSet, insert, from_list, items, contains, contains-items, contains-insert, contains-from_list, same_set}
+use Rattle.cps_text.specs.declared.name.Name.{Name}
+use Rattle.cps_expr.specs.Value.{same_name}
+use Rattle.cps_final.specs.Finals.{Finals}
+use Rattle.cps_list.specs.declared.mention.Mention.{Mention}
+use Rattle.cps_list.specs.Symbols.{mentions_of, name_order, symbol_set, symbols_in, row_of, symbol_rows}
+use Rattle.cps_list.proofs.OrderLemmas.{name_total, name_is, same-is, same-itself, same-not, same-tied, above-tied, Rising, Above, NotBelow, above-first}
+
+-- ---- the mentions of the first name, and those behind them
+
+abbrev is_of : Name → Mention → Bool
+is_of n m = same_name m.name n
+
+abbrev pub leading : Name → List Mention → List Mention
+leading n [] = []
+leading n (m ∷ ms) = cond (same_name m.name n) (m ∷ leading n ms) []
+
+abbrev pub behind : Name → List Mention → List Mention
+behind n [] = []
+behind n (m ∷ ms) = cond (same_name m.name n) (behind n ms) (m ∷ ms)
+
+pub take-leading : (n : Name) (ms : List Mention) → take (prefix_len (is_of n) ms) ms ≡ leading n ms
+take-leading n [] = refl
+take-leading n (m ∷ ms) = elim (same_name m.name n) as (λ b. take (cond b (1 + prefix_len (is_of n) ms) 0) (m ∷ ms) ≡ cond b (m ∷ leading n ms) []) [
+  | true ↦ ap (λ l. m ∷ l) (take-leading n ms)
+  | false ↦ refl
+]
+
+pub drop-leading : (n : Name) (ms : List Mention) → drop (prefix_len (is_of n) ms) ms ≡ behind n ms
+drop-leading n [] = refl
+drop-leading n (m ∷ ms) = elim (same_name m.name n) as (λ b. drop (cond b (1 + prefix_len (is_of n) ms) 0) (m ∷ ms) ≡ cond b (behind n ms) (m ∷ ms)) [
+  | true ↦ drop-leading n ms
+  | false ↦ refl
+]
+
+pub rising-behind : (n : Name) (ms : List Mention) → Rising ms → Rising (behind n ms)
+rising-behind n [] rising = tt
+rising-behind n (m ∷ ms) rising = elim (same_name m.name n) as (λ b. Rising (cond b (behind n ms) (m ∷ ms))) [
+  | true ↦ rising-behind n ms rising.1
+  | false ↦ rising
+]
+
+-- the names behind are above
+above-behind : (n : Name) (ms : List Mention) → NotBelow n ms → Rising ms → Above n (behind n ms)
+above-behind n [] first rising = tt
+above-behind n (m ∷ ms) first rising = elim (same_name m.name n) as (λ b. same_name m.name n ≡ b → Above n (cond b (behind n ms) (m ∷ ms))) [
+  | true ↦ λ same. above-behind n ms (subst (λ a. NotBelow a ms) (same-is m.name n same) rising.0) rising.1
+  | false ↦ λ other. above-first n m ms first other rising
+] refl
+
+-- ---- the mentions of names
+
+none-above : (n : Name) (ms : List Mention) → Above n ms → mentions_of n ms ≡ []
+none-above n [] above = refl
+none-above n (m ∷ ms) above =
+    ap (λ b. cond b (m ∷ mentions_of n ms) (mentions_of n ms)) (same-not n m.name above.0) ∙ none-above n ms above.1
+
+-- those of the first name lead
+mentions-first : (n : Name) (ms : List Mention) → NotBelow n ms → Rising ms → mentions_of n ms ≡ leading n ms
+mentions-first n [] first rising = refl
+mentions-first n (m ∷ ms) first rising =
+    elim (same_name m.name n) as (λ b. same_name m.name n ≡ b → cond b (m ∷ mentions_of n ms) (mentions_of n ms) ≡ cond b (m ∷ leading n ms) []) [
+      | true ↦ λ same. ap (λ l. m ∷ l) (mentions-first n ms (subst (λ a. NotBelow a ms) (same-is m.name n same) rising.0) rising.1)
+      | false ↦ λ other. none-above n ms (above-first n m ms first other rising).1
+    ] refl
+
+-- those of a name above stand behind
+mentions-above : (n x : Name) (ms : List Mention) → name_order n x ≡ Less → mentions_of x ms ≡ mentions_of x (behind n ms)
+mentions-above n x [] above = refl
+mentions-above n x (m ∷ ms) above =
+    elim (same_name m.name n) as (λ b. same_name m.name n ≡ b → mentions_of x (m ∷ ms) ≡ mentions_of x (cond b (behind n ms) (m ∷ ms))) [
+      | true ↦ λ same.
+          let other : same_name m.name x ≡ false = same-tied m.name x ∙ ap is_eq (ap (λ a. name_order a x) (same-is m.name n same) ∙ above) in
+          ap (λ b. cond b (m ∷ mentions_of x ms) (mentions_of x ms)) other ∙ mentions-above n x ms above
+      | false ↦ λ other. refl
+    ] refl
+
+-- ---- the set of names
+
+or-same : (a b : Bool) → (a || (a || b)) ≡ (a || b)
+or-same true b = refl
+or-same false b = refl
+
+names-behind : (n q : Name) (ms : List Mention)
+    → (eq_by_cmp name_order q n || list_any (eq_by_cmp name_order q) (map (λ m. m.name) ms))
+    ≡ (eq_by_cmp name_order q n || list_any (eq_by_cmp name_order q) (map (λ m. m.name) (behind n ms)))
+names-behind n q [] = refl
+names-behind n q (m ∷ ms) =
+    let is = eq_by_cmp name_order q in
+    elim (same_name m.name n) as (λ b. same_name m.name n ≡ b → (is n || (is m.name || list_any is (map (λ m. m.name) ms)))
+    ≡ (is n || list_any is (map (λ m. m.name) (cond b (behind n ms) (m ∷ ms))))) [
+      | true ↦ λ same. ap (λ a. is n || (is a || list_any is (map (λ m. m.name) ms))) (same-is m.name n same) ∙ or-same (is n) _ ∙ names-behind n q ms
+      | false ↦ λ other. refl
+    ] refl
+
+set-first : (m : Mention) (ms : List Mention) → symbol_set (m ∷ ms) ≡ insert (symbol_set (behind m.name ms)) m.name
+set-first m ms = same_set name_total name_is (symbol_set (m ∷ ms)) (insert (symbol_set (behind m.name ms)) m.name) (λ q.
+    contains-from_list name_total (map (λ m. m.name) (m ∷ ms)) q
+    ∙ names-behind m.name q ms
+    ∙ ap (λ b. eq_by_cmp name_order q m.name || b) (sym (contains-from_list name_total (map (λ m. m.name) (behind m.name ms)) q))
+    ∙ sym (contains-insert name_total (symbol_set (behind m.name ms)) m.name q))
+
+-- a name that ties with one of some names above is above
+above-any : (n x : Name) (ms : List Mention) → Above n ms → list_any (eq_by_cmp name_order x) (map (λ m. m.name) ms) ≡ true → name_order n x ≡ Less
+above-any n x [] above any = cc
+above-any n x (m ∷ ms) above any =
+    elim (eq_by_cmp name_order x m.name) as (λ b. eq_by_cmp name_order x m.name ≡ b → (b || list_any (eq_by_cmp name_order x) (map (λ m. m.name) ms)) ≡ true → name_order n x ≡ Less) [
+      | true ↦ λ tied _. above-tied n x m.name ((Equal-is (name_order x m.name)).0 tied) above.0
+      | false ↦ λ _ later. above-any n x ms above.1 later
+    ] refl any
+
+-- a name below all of a set comes first
+first-of : (s : FinSet name_order) (n : Name) → ((x : Name) → list_any (eq_by_cmp name_order x) (items s) ≡ true → name_order n x ≡ Less)
+    → items (insert s n) ≡ n ∷ items s
+unfolding insert items
+first-of s n below =
+    ap (λ (es : List (Name × Unit {0})). map (λ e. e.0) es) (entries-insert name_total s n tt ∙ front (entries s) below)
+  where
+    front : (es : List (Name × Unit {0})) → ((x : Name) → list_any (eq_by_cmp name_order x) (map (λ e. e.0) es) ≡ true → name_order n x ≡ Less)
+        → map.put name_order n tt es ≡ (n, tt) ∷ es
+    front [] below = refl
+    front (e ∷ es) below =
+        let is : name_order n e.0 ≡ Less = below e.0 (ap (λ b. b || list_any (eq_by_cmp name_order e.0) (map (λ e. e.0) es)) (ap is_eq (tied_itself name_total e.0))) in
+        ap (λ r. by_order r ((n, tt) ∷ e ∷ es) ((e.0, tt) ∷ es) (e ∷ map.put name_order n tt es)) is
+
+-- ---- rows
+
+or-true : (a : Bool) → (a || true) ≡ true
+or-true true = refl
+or-true false = refl
+
+rows-alike : (f g : Name → List ℕ) (names : List Name) → ((x : Name) → list_any (eq_by_cmp name_order x) names ≡ true → f x ≡ g x) → flat_map f names ≡ flat_map g names
+rows-alike f g [] same = refl
+rows-alike f g (n ∷ names) same =
+    let here = same n (ap (λ b. b || list_any (eq_by_cmp name_order n) names) (ap is_eq (tied_itself name_total n))) in
+    (λ i. here i ++ flat_map f names)
+    ∙ ap (λ rows. g n ++ rows) (rows-alike f g names (λ x any. same x (ap (λ b. eq_by_cmp name_order x n || b) any ∙ or-true _)))
+
+-- the row of the first name, and the rows of those behind it
+pub rows-first : (finals : Finals) (m : Mention) (ms : List Mention) → Rising (m ∷ ms)
+    → symbol_rows finals (m ∷ ms) ≡ row_of finals m.name (leading m.name (m ∷ ms)) ++ symbol_rows finals (behind m.name ms)
+rows-first finals m ms rising =
+    let n = m.name in
+    let later = behind n ms in
+    let above : Above n later = above-behind n ms rising.0 rising.1 in
+    let all_above : (x : Name) → list_any (eq_by_cmp name_order x) (items (symbol_set later)) ≡ true → name_order n x ≡ Less = λ x any.
+    above-any n x later above (sym (contains-from_list name_total (map (λ m. m.name) later) x) ∙ contains-items (symbol_set later) x ∙ any) in
+    let names : symbols_in (m ∷ ms) ≡ n ∷ symbols_in later = ap items (set-first m ms) ∙ first-of (symbol_set later) n all_above in
+    let same = same-itself n in
+    let group : mentions_of n (m ∷ ms) ≡ leading n (m ∷ ms) =
+    ap (λ b. cond b (m ∷ mentions_of n ms) (mentions_of n ms)) same ∙ ap (λ l. m ∷ l) (mentions-first n ms rising.0 rising.1)
+    ∙ sym (ap (λ b. cond b (m ∷ leading n ms) []) same) in
+    let skip : behind n (m ∷ ms) ≡ later = ap (λ b. cond b later (m ∷ ms)) same in
+    ap (flat_map (λ x. row_of finals x (mentions_of x (m ∷ ms)))) names
+    ∙ (λ i. row_of finals n (group i) ++ flat_map (λ x. row_of finals x (mentions_of x (m ∷ ms))) (symbols_in later))
+    ∙ ap (λ rows. row_of finals n (leading n (m ∷ ms)) ++ rows) (rows-alike _ _ (symbols_in later) (λ x any.
+    ap (row_of finals x) (mentions-above n x (m ∷ ms) (all_above x any) ∙ ap (mentions_of x) skip)))
+
+-- what stands behind the first name, counted from the first mention on
+pub behind-first : (m : Mention) (ms : List Mention) → behind m.name (m ∷ ms) ≡ behind m.name ms
+behind-first m ms = ap (λ b. cond b (behind m.name ms) (m ∷ ms)) (same-itself m.name)

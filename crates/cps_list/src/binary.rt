@@ -1,0 +1,163 @@
+//! The binary text.
+ghost use Rattle.std.specs.Prelude.{◌≡◌, ◌++◌, ℕ, IfOk, OnOk, List, Option, map, codes};
+ghost use Rattle.cps_text.specs.Octal.{octal};
+ghost use Rattle.cps_code.specs.Image as image;
+ghost use Rattle.cps_code.specs.Image.{piece_of, ArePacked};
+ghost use Rattle.cps_state.specs.Machines.{limit};
+ghost use Rattle.cps_final.specs.Finals.{final_value, literal};
+ghost use Rattle.cps_final.specs.Values.{address_of};
+ghost use Rattle.cps_list.specs.Making.{Adds};
+ghost use Rattle.cps_list.specs.Binary as texts;
+
+use crate::view::View;
+use cps_code::{Piece, Words};
+use cps_expr::Machine;
+use cps_final::{Finals, Gathered};
+use cps_state::{limit_of, word_bits};
+use cps_text::{Name, push_octal};
+use std::alloc::{AllocError, Global};
+
+/// The octal digits of an address and of a word of the central processor.
+const CP_ADDRESS_DIGITS: u8 = 6;
+
+const CP_WORD_DIGITS: u8 = 20;
+
+/// The octal digits of an address and of a word of a peripheral processor.
+const PP_ADDRESS_DIGITS: u8 = 4;
+
+const PP_WORD_DIGITS: u8 = 4;
+
+/// The bits of a word that are behind those of a peripheral processor.
+const BITS_BEHIND: u32 = 48;
+
+/// The binary text of a source.
+pub fn push_binary<V: View>(alloc: Global, text: &mut Vec<u8>, view: &V) -> Result<(), AllocError>
+    ensures { OnOk result (text.new.items ≡ text.old.items ++ texts.binary_text (V.assembly view.now)) }
+{
+    let words = make_words(alloc, view)?;
+    let finals = view.finals();
+    push_first_row(text, finals.program())?;
+    push_rows(text, finals.machine(), &words)
+}
+
+/// The words of all lines and of the literal pool.
+fn make_words<V: View>(alloc: Global, view: &V) -> Result<Words, AllocError>
+    ensures { IfOk result (λ words. ArePacked (texts.pieces_of (V.assembly view.now)) words) }
+{
+    let mut words = Words::new(alloc);
+    for before in 0..view.count() {
+        let Some(outcome) = view.outcome(before + 1) else {
+            unreachable!();
+        };
+        put_pieces(&mut words, outcome.pieces())?;
+    }
+    put_pool(&mut words, view.finals())?;
+    Ok(words)
+}
+
+fn put_pieces(words: &mut Words, pieces: &[Piece]) -> Result<(), AllocError>
+    ensures { OnOk result (Adds (map piece_of pieces.now) words.old words.new) }
+{
+    for piece in pieces {
+        words.deposit(*piece)?;
+    }
+    Ok(())
+}
+
+/// Puts the literals over what stands.
+fn put_pool(words: &mut Words, finals: &Finals) -> Result<(), AllocError>
+    ensures { OnOk result (Adds (texts.pool_pieces (⟦<Finals as Gathered>⟧.gathered finals.now)) words.old words.new) }
+{
+    for word in finals.pool() {
+        put_literal(words, finals, *word)?;
+    }
+    Ok(())
+}
+
+/// Puts a literal at its final address, if that is below the machine's limit.
+fn put_literal(words: &mut Words, finals: &Finals, word: u64) -> Result<(), AllocError>
+    ensures { OnOk result (Adds (texts.literal_piece (⟦<Finals as Gathered>⟧.gathered finals.now) word) words.old words.new) }
+{
+    let machine = finals.machine();
+    let address = literal_address(finals, word);
+    if address >= u64::from(limit_of(machine)) {
+        return Ok(());
+    }
+    let width = word_bits(machine);
+    words.deposit(Piece {
+        address: address as u32,
+        first: 0,
+        width,
+        number: word % (1 << width),
+        times: 1,
+    })
+}
+
+/// The address of a literal; one that stands nowhere counts as at 0.
+fn literal_address(finals: &Finals, word: u64) -> u64
+    ensures { result ≡ address_of (final_value (⟦<Finals as Gathered>⟧.gathered finals.now) (literal word)) }
+{
+    match finals.literal(word) {
+        Some(address) => address.offset.unsigned_abs(),
+        None => 0,
+    }
+}
+
+fn push_first_row(text: &mut Vec<u8>, program: Option<Name>) -> Result<(), AllocError>
+    ensures { OnOk result (text.new.items ≡ text.old.items ++ texts.first_row program) }
+{
+    text.extend_from_slice(b"IDENT")?;
+    if let Some(name) = program {
+        text.push(b' ')?;
+        text.extend_from_slice(name.text())?;
+    }
+    text.push(b'\n')?;
+    Ok(())
+}
+
+fn push_rows(text: &mut Vec<u8>, machine: Machine, words: &Words) -> Result<(), AllocError>
+    ensures { (pieces : List image.Piece) → ArePacked pieces words.now
+        → OnOk result (text.new.items ≡ text.old.items ++ texts.rows_below (limit machine) machine pieces) }
+{
+    for address in 0..limit_of(machine) {
+        push_row(text, machine, address, words.get(address))?;
+    }
+    Ok(())
+}
+
+fn push_row(
+    text: &mut Vec<u8>,
+    machine: Machine,
+    address: u32,
+    word: Option<u64>,
+) -> Result<(), AllocError>
+    ensures { OnOk result (text.new.items ≡ text.old.items ++ texts.word_row machine address word) }
+{
+    let Some(word) = word else {
+        return Ok(());
+    };
+    match machine {
+        Machine::Cp => push_numbers(text, address, CP_ADDRESS_DIGITS, word, CP_WORD_DIGITS),
+        Machine::Pp => {
+            let own = word >> BITS_BEHIND;
+            push_numbers(text, address, PP_ADDRESS_DIGITS, own, PP_WORD_DIGITS)
+        }
+    }
+}
+
+/// An address and a word, each with so many digits.
+fn push_numbers(
+    text: &mut Vec<u8>,
+    address: u32,
+    address_digits: u8,
+    word: u64,
+    word_digits: u8,
+) -> Result<(), AllocError>
+    ensures { OnOk result (text.new.items ≡ text.old.items ++ (octal address_digits address ++ codes " " ++ octal word_digits word ++ codes "\n")) }
+{
+    push_octal(text, u64::from(address), address_digits)?;
+    text.push(b' ')?;
+    push_octal(text, word, word_digits)?;
+    text.push(b'\n')?;
+    Ok(())
+}

@@ -1,0 +1,20 @@
+//! The four texts of an assembled source: the listing, the binary text, the cross-reference of its symbols, and its flagged lines.
+#![tactic(auto)]
+
+mod binary;
+mod columns;
+mod flagged;
+mod listing;
+mod mention;
+mod part;
+mod symbols;
+mod view;
+mod writing;
+
+pub use mention::Mention;
+pub use part::{
+    Part, make_text, write_all_parts, write_binary, write_flags, write_listing, write_part,
+    write_symbols,
+};
+pub use view::View;
+pub use writing::{ListFault, write_text};

@@ -1,0 +1,61 @@
+//! The lines on which symbols stand.
+ghost use Rattle.std.specs.Prelude.{◌≡◌, ◌++◌, ◌<◌, ◌^◌, IfOk, OnOk, map, true, false};
+ghost use Rattle.cps_list.specs.Symbols as texts;
+
+use crate::view::View;
+use cps_final::Outcome;
+use cps_text::Name;
+use std::alloc::{AllocError, Global};
+
+/// A symbol on a line, which defines it or reads it.
+#[derive(Clone, Copy, Debug, PartialEq, Eq)]
+pub struct Mention {
+    pub name: Name,
+    /// The number of the line.
+    pub line: u32,
+    pub is_definition: bool,
+}
+
+/// The symbols that lines define and read, in the order of the lines.
+pub fn list_mentions<V: View>(alloc: Global, view: &V) -> Result<Vec<Mention>, AllocError>
+    ensures { IfOk result (λ mentions. mentions.items ≡ texts.mentions_from 1 (V.assembly view.now).outcomes) }
+{
+    let mut mentions = Vec::new(alloc);
+    for before in 0..view.count() {
+        let Some(outcome) = view.outcome(before + 1) else {
+            unreachable!();
+        };
+        push_mentions(&mut mentions, before + 1, outcome)?;
+    }
+    Ok(mentions)
+}
+
+/// The symbols that a line defines, and those that it reads.
+fn push_mentions(
+    mentions: &mut Vec<Mention>,
+    line: u32,
+    outcome: &Outcome,
+) -> Result<(), AllocError>
+    ensures { OnOk result (mentions.new.items ≡ mentions.old.items ++ texts.mentions_on line outcome.now) }
+{
+    push_names(mentions, outcome.names_defined(), line, true)?;
+    push_names(mentions, outcome.names_read(), line, false)
+}
+
+fn push_names(
+    mentions: &mut Vec<Mention>,
+    names: &[Name],
+    line: u32,
+    is_definition: bool,
+) -> Result<(), AllocError>
+    ensures { OnOk result (mentions.new.items ≡ mentions.old.items ++ map (λ name. record { name = name; line = line; is_definition = is_definition }) names.now) }
+{
+    for name in names {
+        mentions.push(Mention {
+            name: *name,
+            line,
+            is_definition,
+        })?;
+    }
+    Ok(())
+}
