@@ -1,6 +1,6 @@
 -- The order of names, and lists of mentions in it.
-use Rattle.std.proofs.Common.{◌≡◌, ℕ, zero, suc, ◌+◌, ◌<◌, ◌≤◌, Bool, true, false, not, ◌&&◌, ◌||◌, ⊤, refl, sym, ap, ◌∙◌, List, [], ◌∷◌, length, get_or, arith}
-use Rattle.std.specs.Prelude.{map, filter}
+use Rattle.std.proofs.Common.{◌≡◌, ℕ, zero, suc, ◌+◌, ◌<◌, ◌≤◌, Bool, true, false, true≢false, not, ◌&&◌, ◌||◌, refl, sym, ap, ◌∙◌, List, [], ◌∷◌, length, get_or, arith}
+use Rattle.std.specs.Prelude.{⊤, map, filter, flat_map, Option, None, Some, is_some}
 use Rattle.std.specs.declared.cmp.Ordering.{Ordering}
 use Rattle.std.specs.declared.cmp.Ordering.TheVariants.{Less, Equal, Greater}
 use Rattle.std.specs.List.{list_any}
@@ -8,8 +8,9 @@ use Rattle.std.specs.List.Sorted.{IsPermutation, IsSortedByKey, IsStableByKey}
 use Rattle.std.specs.Ordering.{is_lt, is_eq, ordering_reverse, eq_by_cmp, nat_cmp}
 use Rattle.std.specs.Cmp.{IsTotalOrder, Equal-is, unsigned_ties, on_total, tied_back, tied_itself, alike_right}
 use Rattle.std.specs.Cmp.Lexicographic.{nat_list_cmp_total, lists_ties}
-use Rattle.std.specs.FinSet.{FinSet, IsAntisymmetric, nat_cmp-IsAntisymmetric, slice_cmp-IsAntisymmetric, from_list, items, contains, contains-from_list, same_set}
-use Rattle.std.proofs.lemmas.List.Sorted.{list_any-IsPermutation, IsPermutation-map}
+use Rattle.std.specs.FinMap.{FinMap, IsAntisymmetric, nat_cmp-IsAntisymmetric, slice_cmp-IsAntisymmetric, keys, find, get-from_entries, same_map}
+use Rattle.std.specs.FinMap.Entries.{is_some-find}
+use Rattle.std.proofs.lemmas.List.Sorted.{list_any-IsPermutation}
 use Rattle.cps_text.specs.declared.name.Name.{Name}
 use Rattle.cps_expr.specs.Value.{same_name}
 use Rattle.cps_final.specs.Finals.{Finals}
@@ -58,15 +59,33 @@ mention_of name = record { name = name; line = 0; is_definition = false }
 
 mentions-stable : (xs ys : List Mention) → IsStableByKey (λ (m : Mention). m.name) name_order xs ys → (n : Name) → mentions_of n ys ≡ mentions_of n xs
 mentions-stable xs ys stable n =
-    (λ i. filter (λ (m : Mention). ties-same n m.name (~ i)) ys) ∙ stable (mention_of n) ∙ (λ i. filter (λ (m : Mention). ties-same n m.name i) xs)
+    (λ i. filter (λ (m : Mention). sym (ties-same n m.name) i) ys) ∙ stable (mention_of n) ∙ (λ i. filter (λ (m : Mention). ties-same n m.name i) xs)
+
+-- ---- the set of the symbols
+
+abbrev pub entry : Mention → Name × Unit {0}
+entry m = (m.name, tt)
+
+-- nothing stands beside a symbol, so that it is there is all that can be found
+same-found : (a b : Option (Unit {0})) → is_some a ≡ is_some b → a ≡ b
+same-found None None same = refl
+same-found None (Some y) same = absurd (true≢false (sym same))
+same-found (Some x) None same = absurd (true≢false same)
+same-found (Some x) (Some y) same = refl
+
+pub any-entry : (q : Name) (ms : List Mention) → list_any (eq_by_cmp name_order q) (map (λ (e : Name × Unit {0}). e.0) (map entry ms)) ≡ list_any (λ (m : Mention). eq_by_cmp name_order q m.name) ms
+any-entry q [] = refl
+any-entry q (m ∷ ms) = ap (λ b. eq_by_cmp name_order q m.name || b) (any-entry q ms)
+
+pub found-any : (q : Name) (ms : List Mention) → is_some (find name_order q (map entry ms)) ≡ list_any (λ (m : Mention). eq_by_cmp name_order q m.name) ms
+found-any q ms = is_some-find name_order q (map entry ms) ∙ any-entry q ms
 
 symbols-moved : (xs ys : List Mention) → IsPermutation xs ys → symbols_in ys ≡ symbols_in xs
 symbols-moved xs ys moved =
-    let name : Mention → Name = λ m. m.name in
-    ap items (same_set name_total name_is (symbol_set ys) (symbol_set xs) (λ q.
-    contains-from_list name_total (map name ys) q
-    ∙ sym (list_any-IsPermutation (eq_by_cmp name_order q) (map name xs) (map name ys) (IsPermutation-map name xs ys moved))
-    ∙ sym (contains-from_list name_total (map name xs) q)))
+    ap keys (same_map name_total name_is (symbol_set ys) (symbol_set xs) (λ q.
+    get-from_entries name_total (map entry ys) q
+    ∙ same-found _ _ (found-any q ys ∙ sym (list_any-IsPermutation (λ (m : Mention). eq_by_cmp name_order q m.name) xs ys moved) ∙ sym (found-any q xs))
+    ∙ sym (get-from_entries name_total (map entry xs) q)))
 
 -- the rows are the same
 pub rows-sorted : (finals : Finals) (xs ys : List Mention) → IsPermutation xs ys → IsStableByKey (λ (m : Mention). m.name) name_order xs ys

@@ -1,21 +1,19 @@
 -- The first symbol of mentions that stand in the order of their names, and those behind it.
-use Rattle.std.proofs.Common.{◌≡◌, ℕ, zero, suc, ◌+◌, ◌≤◌, Bool, true, false, cond, ◌||◌, refl, sym, ap, subst, ◌∙◌, List, [], ◌∷◌, ◌++◌, length, take, drop, arith, append-nil}
-use Rattle.std.specs.Prelude.{map, flat_map}
+use Rattle.std.proofs.Common.{◌≡◌, ℕ, zero, suc, ◌+◌, ◌≤◌, Bool, true, false, true≢false, cond, ◌||◌, refl, sym, ap, subst, ◌∙◌, List, [], ◌∷◌, ◌++◌, length, take, drop, arith, append-nil}
+use Rattle.std.specs.Prelude.{map, flat_map, Option, None, Some, is_some}
 use Rattle.std.specs.declared.cmp.Ordering.{Ordering}
 use Rattle.std.specs.declared.cmp.Ordering.TheVariants.{Less, Equal, Greater}
 use Rattle.std.specs.List.{list_any, prefix_len}
 use Rattle.std.specs.Ordering.{is_lt, is_eq, eq_by_cmp}
 use Rattle.std.specs.Cmp.{Equal-is, tied_itself}
-use Rattle.std.specs.FinMap as map
-use Rattle.std.specs.FinMap.{entries, entries-insert}
+use Rattle.std.specs.FinMap.{FinMap, entries, insert, entries-insert, get-insert, get-from_entries, contains_key-keys, keys, find, put, same_map}
 use Rattle.std.specs.FinMap.Entries.{by_order}
-use Rattle.std.specs.FinSet.{FinSet, insert, from_list, items, contains, contains-items, contains-insert, contains-from_list, same_set}
 use Rattle.cps_text.specs.declared.name.Name.{Name}
 use Rattle.cps_expr.specs.Value.{same_name}
 use Rattle.cps_final.specs.Finals.{Finals}
 use Rattle.cps_list.specs.declared.mention.Mention.{Mention}
 use Rattle.cps_list.specs.Symbols.{mentions_of, name_order, symbol_set, symbols_in, row_of, symbol_rows}
-use Rattle.cps_list.proofs.OrderLemmas.{name_total, name_is, same-is, same-itself, same-not, same-tied, above-tied, Rising, Above, NotBelow, above-first}
+use Rattle.cps_list.proofs.OrderLemmas.{name_total, name_is, entry, found-any, same-is, same-itself, same-not, same-tied, above-tied, Rising, Above, NotBelow, above-first}
 
 -- ---- the mentions of the first name, and those behind them
 
@@ -30,17 +28,20 @@ abbrev pub behind : Name → List Mention → List Mention
 behind n [] = []
 behind n (m ∷ ms) = cond (same_name m.name n) (behind n ms) (m ∷ ms)
 
+one-more : (n : ℕ) → 1 + n ≡ suc n
+one-more n = omega arith
+
 pub take-leading : (n : Name) (ms : List Mention) → take (prefix_len (is_of n) ms) ms ≡ leading n ms
 take-leading n [] = refl
 take-leading n (m ∷ ms) = elim (same_name m.name n) as (λ b. take (cond b (1 + prefix_len (is_of n) ms) 0) (m ∷ ms) ≡ cond b (m ∷ leading n ms) []) [
-  | true ↦ ap (λ l. m ∷ l) (take-leading n ms)
+  | true ↦ ap (λ k. take k (m ∷ ms)) (one-more (prefix_len (is_of n) ms)) ∙ ap (λ l. m ∷ l) (take-leading n ms)
   | false ↦ refl
 ]
 
 pub drop-leading : (n : Name) (ms : List Mention) → drop (prefix_len (is_of n) ms) ms ≡ behind n ms
 drop-leading n [] = refl
 drop-leading n (m ∷ ms) = elim (same_name m.name n) as (λ b. drop (cond b (1 + prefix_len (is_of n) ms) 0) (m ∷ ms) ≡ cond b (behind n ms) (m ∷ ms)) [
-  | true ↦ drop-leading n ms
+  | true ↦ ap (λ k. drop k (m ∷ ms)) (one-more (prefix_len (is_of n) ms)) ∙ drop-leading n ms
   | false ↦ refl
 ]
 
@@ -88,51 +89,49 @@ mentions-above n x (m ∷ ms) above =
 
 -- ---- the set of names
 
-or-same : (a b : Bool) → (a || (a || b)) ≡ (a || b)
-or-same true b = refl
-or-same false b = refl
+shadowed : {A : Type 0} (b : Bool) (x y : A) → cond b x (cond b x y) ≡ cond b x y
+shadowed true x y = refl
+shadowed false x y = refl
 
-names-behind : (n q : Name) (ms : List Mention)
-    → (eq_by_cmp name_order q n || list_any (eq_by_cmp name_order q) (map (λ m. m.name) ms))
-    ≡ (eq_by_cmp name_order q n || list_any (eq_by_cmp name_order q) (map (λ m. m.name) (behind n ms)))
-names-behind n q [] = refl
-names-behind n q (m ∷ ms) =
+found-behind : (n q : Name) (ms : List Mention)
+    → cond (eq_by_cmp name_order q n) (Some tt) (find name_order q (map entry ms)) ≡ cond (eq_by_cmp name_order q n) (Some tt) (find name_order q (map entry (behind n ms)))
+found-behind n q [] = refl
+found-behind n q (m ∷ ms) =
     let is = eq_by_cmp name_order q in
-    elim (same_name m.name n) as (λ b. same_name m.name n ≡ b → (is n || (is m.name || list_any is (map (λ m. m.name) ms)))
-    ≡ (is n || list_any is (map (λ m. m.name) (cond b (behind n ms) (m ∷ ms))))) [
-      | true ↦ λ same. ap (λ a. is n || (is a || list_any is (map (λ m. m.name) ms))) (same-is m.name n same) ∙ or-same (is n) _ ∙ names-behind n q ms
+    elim (same_name m.name n) as (λ b. same_name m.name n ≡ b → cond (is n) (Some tt) (cond (is m.name) (Some tt) (find name_order q (map entry ms)))
+    ≡ cond (is n) (Some tt) (find name_order q (map entry (cond b (behind n ms) (m ∷ ms))))) [
+      | true ↦ λ same. ap (λ a. cond (is n) (Some tt) (cond (is a) (Some tt) (find name_order q (map entry ms)))) (same-is m.name n same)
+        ∙ shadowed (is n) (Some tt) (find name_order q (map entry ms)) ∙ found-behind n q ms
       | false ↦ λ other. refl
     ] refl
 
-set-first : (m : Mention) (ms : List Mention) → symbol_set (m ∷ ms) ≡ insert (symbol_set (behind m.name ms)) m.name
-set-first m ms = same_set name_total name_is (symbol_set (m ∷ ms)) (insert (symbol_set (behind m.name ms)) m.name) (λ q.
-    contains-from_list name_total (map (λ m. m.name) (m ∷ ms)) q
-    ∙ names-behind m.name q ms
-    ∙ ap (λ b. eq_by_cmp name_order q m.name || b) (sym (contains-from_list name_total (map (λ m. m.name) (behind m.name ms)) q))
-    ∙ sym (contains-insert name_total (symbol_set (behind m.name ms)) m.name q))
+set-first : (m : Mention) (ms : List Mention) → symbol_set (m ∷ ms) ≡ insert (symbol_set (behind m.name ms)) m.name tt
+set-first m ms = same_map name_total name_is (symbol_set (m ∷ ms)) (insert (symbol_set (behind m.name ms)) m.name tt) (λ q.
+    get-from_entries name_total (map entry (m ∷ ms)) q
+    ∙ found-behind m.name q ms
+    ∙ ap (cond (eq_by_cmp name_order q m.name) (Some tt)) (sym (get-from_entries name_total (map entry (behind m.name ms)) q))
+    ∙ sym (get-insert name_total (symbol_set (behind m.name ms)) m.name tt q))
 
 -- a name that ties with one of some names above is above
-above-any : (n x : Name) (ms : List Mention) → Above n ms → list_any (eq_by_cmp name_order x) (map (λ m. m.name) ms) ≡ true → name_order n x ≡ Less
-above-any n x [] above any = cc
+above-any : (n x : Name) (ms : List Mention) → Above n ms → list_any (λ (m : Mention). eq_by_cmp name_order x m.name) ms ≡ true → name_order n x ≡ Less
+above-any n x [] above any = absurd (true≢false (sym any))
 above-any n x (m ∷ ms) above any =
-    elim (eq_by_cmp name_order x m.name) as (λ b. eq_by_cmp name_order x m.name ≡ b → (b || list_any (eq_by_cmp name_order x) (map (λ m. m.name) ms)) ≡ true → name_order n x ≡ Less) [
+    elim (eq_by_cmp name_order x m.name) as (λ b. eq_by_cmp name_order x m.name ≡ b → (b || list_any (λ (m : Mention). eq_by_cmp name_order x m.name) ms) ≡ true → name_order n x ≡ Less) [
       | true ↦ λ tied _. above-tied n x m.name ((Equal-is (name_order x m.name)).0 tied) above.0
       | false ↦ λ _ later. above-any n x ms above.1 later
     ] refl any
 
 -- a name below all of a set comes first
-first-of : (s : FinSet name_order) (n : Name) → ((x : Name) → list_any (eq_by_cmp name_order x) (items s) ≡ true → name_order n x ≡ Less)
-    → items (insert s n) ≡ n ∷ items s
-unfolding insert items
-first-of s n below =
-    ap (λ (es : List (Name × Unit {0})). map (λ e. e.0) es) (entries-insert name_total s n tt ∙ front (entries s) below)
-  where
-    front : (es : List (Name × Unit {0})) → ((x : Name) → list_any (eq_by_cmp name_order x) (map (λ e. e.0) es) ≡ true → name_order n x ≡ Less)
-        → map.put name_order n tt es ≡ (n, tt) ∷ es
-    front [] below = refl
-    front (e ∷ es) below =
-        let is : name_order n e.0 ≡ Less = below e.0 (ap (λ b. b || list_any (eq_by_cmp name_order e.0) (map (λ e. e.0) es)) (ap is_eq (tied_itself name_total e.0))) in
-        ap (λ r. by_order r ((n, tt) ∷ e ∷ es) ((e.0, tt) ∷ es) (e ∷ map.put name_order n tt es)) is
+first-entry : (n : Name) (es : List (Name × Unit {0})) → ((x : Name) → list_any (eq_by_cmp name_order x) (map (λ (e : Name × Unit {0}). e.0) es) ≡ true → name_order n x ≡ Less)
+    → put name_order n tt es ≡ (n, tt) ∷ es
+first-entry n [] below = refl
+first-entry n (e ∷ es) below =
+    let is : name_order n e.0 ≡ Less = below e.0 (ap (λ b. b || list_any (eq_by_cmp name_order e.0) (map (λ (e : Name × Unit {0}). e.0) es)) (ap is_eq (tied_itself name_total e.0))) in
+    ap (λ r. by_order r ((n, tt) ∷ e ∷ es) ((e.0, tt) ∷ es) (e ∷ put name_order n tt es)) is
+
+first-of : (s : FinMap name_order (Unit {0})) (n : Name) → ((x : Name) → list_any (eq_by_cmp name_order x) (keys s) ≡ true → name_order n x ≡ Less)
+    → keys (insert s n tt) ≡ n ∷ keys s
+first-of s n below = ap (map (λ (e : Name × Unit {0}). e.0)) (entries-insert name_total s n tt ∙ first-entry n (entries s) below)
 
 -- ---- rows
 
@@ -154,9 +153,9 @@ rows-first finals m ms rising =
     let n = m.name in
     let later = behind n ms in
     let above : Above n later = above-behind n ms rising.0 rising.1 in
-    let all_above : (x : Name) → list_any (eq_by_cmp name_order x) (items (symbol_set later)) ≡ true → name_order n x ≡ Less = λ x any.
-    above-any n x later above (sym (contains-from_list name_total (map (λ m. m.name) later) x) ∙ contains-items (symbol_set later) x ∙ any) in
-    let names : symbols_in (m ∷ ms) ≡ n ∷ symbols_in later = ap items (set-first m ms) ∙ first-of (symbol_set later) n all_above in
+    let all_above : (x : Name) → list_any (eq_by_cmp name_order x) (symbols_in later) ≡ true → name_order n x ≡ Less = λ x any.
+    above-any n x later above (sym (found-any x later) ∙ sym (ap is_some (get-from_entries name_total (map entry later) x)) ∙ contains_key-keys (symbol_set later) x ∙ any) in
+    let names : symbols_in (m ∷ ms) ≡ n ∷ symbols_in later = ap keys (set-first m ms) ∙ first-of (symbol_set later) n all_above in
     let same = same-itself n in
     let group : mentions_of n (m ∷ ms) ≡ leading n (m ∷ ms) =
     ap (λ b. cond b (m ∷ mentions_of n ms) (mentions_of n ms)) same ∙ ap (λ l. m ∷ l) (mentions-first n ms rising.0 rising.1)

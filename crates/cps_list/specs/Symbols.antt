@@ -1,7 +1,7 @@
 -- The cross-reference: each symbol that a line defines or reads, in the order of its characters, with its final value and its lines.
 -- From the manual's symbolic reference table; the layout is our profile's.
 use Rattle.std.specs.Prelude.{ℕ, ◌+◌, Bool, true, false, not, List, [], ◌∷◌, ◌++◌, map, flat_map, filter, find, codes, decimal, Option, None, Some, if◌then◌else◌}
-use Rattle.std.specs.FinSet.{FinSet, from_list, items}
+use Rattle.std.specs.FinMap.{FinMap, from_entries, keys}
 use Rattle.std.specs.Option.{option_or, option_map_or}
 use Rattle.std.specs.Cmp.Lexicographic.{slice_cmp}
 use Rattle.std.specs.Ordering.{nat_cmp}
@@ -42,13 +42,13 @@ mentions_of name mentions = filter (λ mention. same_name mention.name name) men
 abbrev pub name_order : Name → Name → Ordering
 name_order a b = slice_cmp nat_cmp a.bytes b.bytes
 
--- the symbols that are mentioned, as a set
-abbrev pub symbol_set : List Mention → FinSet name_order
-symbol_set mentions = from_list (map (λ mention. mention.name) mentions)
+-- the symbols that are mentioned, as a finite map with nothing beside each
+abbrev pub symbol_set : List Mention → FinMap name_order (Unit {0})
+symbol_set mentions = from_entries (map (λ mention. (mention.name, tt)) mentions)
 
 -- each once, in their order
 abbrev pub symbols_in : List Mention → List Name
-symbols_in mentions = items (symbol_set mentions)
+symbols_in mentions = keys (symbol_set mentions)
 
 -- ---- rows
 

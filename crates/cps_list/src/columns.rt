@@ -1,6 +1,6 @@
 //! Rows of columns.
 ghost use Rattle.std.specs.Prelude.{◌≡◌, ◌++◌, ◌≤◌, ℕ, List, OnOk, length, decimal};
-ghost use Rattle.cps_list.specs.Columns as columns;
+ghost use Rattle.cps_list.specs.Columns as laid;
 
 use itoa::Buffer;
 use std::alloc::AllocError;
@@ -9,7 +9,7 @@ use std::alloc::AllocError;
 pub fn fill_columns(text: &mut Vec<u8>, before: usize, columns: usize) -> Result<(), AllocError>
     requires within { before ≤ length text.old.items }
     requires few { columns ≤ 44 }
-    ensures { (front row : List ℕ) → text.old.items ≡ front ++ row → before ≡ length front → OnOk result (text.new.items ≡ front ++ columns.at_left columns row) }
+    ensures { (front row : List ℕ) → text.old.items ≡ front ++ row → before ≡ length front → OnOk result (text.new.items ≡ front ++ laid.at_left columns row) }
 {
     let used = text.len() - before;
     push_blanks(text, columns.saturating_sub(used))
@@ -17,7 +17,7 @@ pub fn fill_columns(text: &mut Vec<u8>, before: usize, columns: usize) -> Result
 
 fn push_blanks(text: &mut Vec<u8>, count: usize) -> Result<(), AllocError>
     requires { count ≤ 44 }
-    ensures { OnOk result (text.new.items ≡ text.old.items ++ columns.blanks count) }
+    ensures { OnOk result (text.new.items ≡ text.old.items ++ laid.blanks count) }
 {
     text.resize(text.len() + count, b' ')
 }
@@ -25,7 +25,7 @@ fn push_blanks(text: &mut Vec<u8>, count: usize) -> Result<(), AllocError>
 /// A text at the right of so many columns.
 pub fn push_at_right(text: &mut Vec<u8>, width: usize, shown: &[u8]) -> Result<(), AllocError>
     requires { width ≤ 44 }
-    ensures { OnOk result (text.new.items ≡ text.old.items ++ columns.at_right width shown.now) }
+    ensures { OnOk result (text.new.items ≡ text.old.items ++ laid.at_right width shown.now) }
 {
     push_blanks(text, width.saturating_sub(shown.len()))?;
     text.extend_from_slice(shown)
@@ -33,7 +33,7 @@ pub fn push_at_right(text: &mut Vec<u8>, width: usize, shown: &[u8]) -> Result<(
 
 /// The last so many characters of a text.
 pub fn last_of(count: usize, text: &[u8]) -> &[u8]
-    ensures { result.now ≡ columns.last_of count text.now }
+    ensures { result.now ≡ laid.last_of count text.now }
 {
     &text[text.len().saturating_sub(count)..]
 }
