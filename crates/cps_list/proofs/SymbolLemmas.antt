@@ -1,23 +1,27 @@
 -- The first symbol of mentions that stand in the order of their names, and those behind it.
-use Rattle.std.proofs.Common.{◌≡◌, ℕ, zero, suc, ◌+◌, ◌≤◌, Bool, true, false, true≢false, cond, ◌||◌, refl, sym, ap, subst, ◌∙◌, List, [], ◌∷◌, ◌++◌, length, take, drop, arith, append-nil}
-use Rattle.std.specs.Prelude.{map, flat_map, Option, None, Some, is_some}
+use Rattle.std.proofs.Common.{◌≡◌, ℕ, zero, suc, ◌+◌, ◌≤◌, Bool, true, false, true≢false, cond, ◌||◌, refl, sym, ap, subst, ◌∙◌, List, [], ◌∷◌, ◌++◌, length, get_or, take, drop, ◌<◌, arith}
+use Rattle.std.specs.Prelude.{map, flat_map, Option, None, Some, is_some, slice_get}
 use Rattle.std.specs.declared.cmp.Ordering.{Ordering}
 use Rattle.std.specs.declared.cmp.Ordering.TheVariants.{Less, Equal, Greater}
-use Rattle.std.specs.List.{list_any, prefix_len}
+use Rattle.std.specs.List.{list_any, prefix_len, find as find_first}
+use Rattle.std.specs.Option.{option_map_or}
+use Rattle.std.proofs.lemmas.List.{at_drop_more}
+use Rattle.std.proofs.lemmas.List.Sums.{prefix_len-le-length}
+use Rattle.std.proofs.lemmas.Option.{same_Some}
 use Rattle.std.specs.Ordering.{is_lt, is_eq, eq_by_cmp}
 use Rattle.std.specs.Cmp.{Equal-is, tied_itself}
-use Rattle.std.specs.FinMap.{FinMap, entries, insert, entries-insert, get-insert, get-from_entries, contains_key-keys, keys, find, put, same_map}
+use Rattle.std.specs.FinMap.{FinMap, entries, insert, entries-insert, get-insert, get-from_entries, contains_key-keys, keys, find, put, same_map, len-entries, len-empty}
 use Rattle.std.specs.FinMap.Entries.{by_order}
 use Rattle.cps_text.specs.declared.name.Name.{Name}
 use Rattle.cps_expr.specs.Value.{same_name}
 use Rattle.cps_final.specs.Finals.{Finals}
 use Rattle.cps_list.specs.declared.mention.Mention.{Mention}
-use Rattle.cps_list.specs.Symbols.{mentions_of, name_order, symbol_set, symbols_in, row_of, symbol_rows}
+use Rattle.cps_list.specs.Symbols.{mentions_of, name_order, symbol_set, symbols_in, row_of, symbol_rows, defining_line}
 use Rattle.cps_list.proofs.OrderLemmas.{name_total, name_is, entry, found-any, same-is, same-itself, same-not, same-tied, above-tied, Rising, Above, NotBelow, above-first}
 
 -- ---- the mentions of the first name, and those behind them
 
-abbrev is_of : Name → Mention → Bool
+abbrev pub is_of : Name → Mention → Bool
 is_of n m = same_name m.name n
 
 abbrev pub leading : Name → List Mention → List Mention
@@ -101,7 +105,7 @@ found-behind n q (m ∷ ms) =
     elim (same_name m.name n) as (λ b. same_name m.name n ≡ b → cond (is n) (Some tt) (cond (is m.name) (Some tt) (find name_order q (map entry ms)))
     ≡ cond (is n) (Some tt) (find name_order q (map entry (cond b (behind n ms) (m ∷ ms))))) [
       | true ↦ λ same. ap (λ a. cond (is n) (Some tt) (cond (is a) (Some tt) (find name_order q (map entry ms)))) (same-is m.name n same)
-        ∙ shadowed (is n) (Some tt) (find name_order q (map entry ms)) ∙ found-behind n q ms
+          ∙ shadowed (is n) (Some tt) (find name_order q (map entry ms)) ∙ found-behind n q ms
       | false ↦ λ other. refl
     ] refl
 
@@ -169,3 +173,58 @@ rows-first finals m ms rising =
 -- what stands behind the first name, counted from the first mention on
 pub behind-first : (m : Mention) (ms : List Mention) → behind m.name (m ∷ ms) ≡ behind m.name ms
 behind-first m ms = ap (λ b. cond b (behind m.name ms) (m ∷ ms)) (same-itself m.name)
+
+-- ---- walks over the mentions of one symbol
+
+pub defining-here : (ms : List Mention) (i : ℕ) (d : Mention) → i < length ms → (get_or ms i d).is_definition ≡ true → defining_line (drop i ms) ≡ (get_or ms i d).line
+defining-here ms i d lt is =
+    at_drop_more defining_line ms i d lt
+    ∙ ap (λ b. option_map_or (λ (m : Mention). m.line) (cond b (Some (get_or ms i d)) (find_first (λ (m : Mention). m.is_definition) (drop (i + 1) ms))) 0) is
+
+pub defining-later : (ms : List Mention) (i : ℕ) (d : Mention) → i < length ms → (get_or ms i d).is_definition ≡ false → defining_line (drop i ms) ≡ defining_line (drop (i + 1) ms)
+defining-later ms i d lt is =
+    at_drop_more defining_line ms i d lt
+    ∙ ap (λ b. option_map_or (λ (m : Mention). m.line) (cond b (Some (get_or ms i d)) (find_first (λ (m : Mention). m.is_definition) (drop (i + 1) ms))) 0) is
+
+pub prefix-here : (n : Name) (ms : List Mention) (i : ℕ) (d : Mention) → i < length ms → same_name (get_or ms i d).name n ≡ false → prefix_len (is_of n) (drop i ms) ≡ 0
+prefix-here n ms i d lt is = at_drop_more (prefix_len (is_of n)) ms i d lt ∙ ap (λ b. cond b (1 + prefix_len (is_of n) (drop (i + 1) ms)) 0) is
+
+pub prefix-later : (n : Name) (ms : List Mention) (i : ℕ) (d : Mention) → i < length ms → same_name (get_or ms i d).name n ≡ true
+    → prefix_len (is_of n) (drop i ms) ≡ 1 + prefix_len (is_of n) (drop (i + 1) ms)
+prefix-later n ms i d lt is = at_drop_more (prefix_len (is_of n)) ms i d lt ∙ ap (λ b. cond b (1 + prefix_len (is_of n) (drop (i + 1) ms)) 0) is
+
+-- ---- the first symbol, as it is cut off
+
+pub group-some : (rest : List Mention) (m : Mention) → Some m ≡ slice_get rest 0 → 1 ≤ prefix_len (is_of m.name) rest
+group-some [] m is = absurd (true≢false (ap is_some is))
+group-some (x ∷ ms) m is =
+    let same : same_name x.name m.name ≡ true = ap (λ (a : Mention). same_name x.name a.name) (same_Some m x is) ∙ same-itself x.name in
+    subst (λ b. 1 ≤ cond b (1 + prefix_len (is_of m.name) ms) 0) (sym same) (omega arith)
+
+pub group-within : (rest : List Mention) (n : Name) → prefix_len (is_of n) rest ≤ length rest
+group-within rest n = prefix_len-le-length (is_of n) rest
+
+pub rising-drop : (rest : List Mention) (n : Name) → Rising rest → Rising (drop (prefix_len (is_of n) rest) rest)
+rising-drop rest n rising = subst Rising (sym (drop-leading n rest)) (rising-behind n rest rising)
+
+pub group-first : (finals : Finals) (rest : List Mention) (m : Mention) → Some m ≡ slice_get rest 0 → Rising rest
+    → symbol_rows finals rest ≡ row_of finals m.name (take (prefix_len (is_of m.name) rest) rest) ++ symbol_rows finals (drop (prefix_len (is_of m.name) rest) rest)
+group-first finals [] m is rising = absurd (true≢false (ap is_some is))
+group-first finals (x ∷ ms) m is rising =
+    let rest = x ∷ ms in
+    rows-first finals x ms rising
+    ∙ (λ i. row_of finals x.name (sym (take-leading x.name rest) i) ++ symbol_rows finals ((sym (behind-first x ms) ∙ sym (drop-leading x.name rest)) i))
+    ∙ ap (λ (a : Mention). row_of finals a.name (take (prefix_len (is_of a.name) rest) rest) ++ symbol_rows finals (drop (prefix_len (is_of a.name) rest) rest)) (sym (same_Some m x is))
+
+no_entries : {A : Type 0} (es : List A) → length es ≡ 0 → es ≡ []
+no_entries [] is = refl
+no_entries (e ∷ es) is = absurd (omega arith)
+
+pub rows-none : (finals : Finals) → symbol_rows finals [] ≡ []
+rows-none finals =
+    let none = no_entries (entries (symbol_set [])) (sym (len-entries (symbol_set [])) ∙ len-empty name_order (Unit {0})) in
+    ap (λ (es : List (Name × Unit {0})). flat_map (λ n. row_of finals n (mentions_of n [])) (map (λ (e : Name × Unit {0}). e.0) es)) none
+
+pub all-cut : (rest : List Mention) → None ≡ slice_get rest 0 → rest ≡ []
+all-cut [] is = refl
+all-cut (m ∷ ms) is = absurd (true≢false (sym (ap is_some is)))

@@ -31,8 +31,11 @@ flagged_with is_open outcomes = flagged_in outcomes + count_if is_open
 abbrev pub end_row : Bool → List ℕ
 end_row is_open = if is_open then codes "end E\n" else []
 
+-- the row of their number
+abbrev pub count_row : ℕ → List ℕ
+count_row count = decimal count ++ codes " flagged lines\n"
+
 -- the rows, and the number of flagged lines
 abbrev pub flags_text : Assembly → List ℕ
 flags_text assembly =
-    flag_rows_from 1 assembly.outcomes ++ end_row assembly.is_open
-    ++ decimal (flagged_with assembly.is_open assembly.outcomes) ++ codes " flagged lines\n"
+    flag_rows_from 1 assembly.outcomes ++ end_row assembly.is_open ++ count_row (flagged_with assembly.is_open assembly.outcomes)

@@ -9,7 +9,8 @@ use std::alloc::AllocError;
 pub fn fill_columns(text: &mut Vec<u8>, before: usize, columns: usize) -> Result<(), AllocError>
     requires within { before ≤ length text.old.items }
     requires few { columns ≤ 44 }
-    ensures { (front row : List ℕ) → text.old.items ≡ front ++ row → before ≡ length front → OnOk result (text.new.items ≡ front ++ laid.at_left columns row) }
+    ensures row { (front row : List ℕ) → text.old.items ≡ front ++ row → before ≡ length front → OnOk result (text.new.items ≡ front ++ laid.at_left columns row) }
+    ensures grows { OnOk result (length text.old.items ≤ length text.new.items) }
 {
     let used = text.len() - before;
     push_blanks(text, columns.saturating_sub(used))

@@ -1,5 +1,6 @@
 //! The flags text.
-ghost use Rattle.std.specs.Prelude.{◌≡◌, ◌++◌, ◌+◌, ◌≤◌, OnOk, decimal, length};
+ghost use Rattle.std.specs.Prelude.{◌≡◌, ◌++◌, ◌+◌, ◌<◌, ◌≤◌, ◌^◌, OnOk, decimal};
+ghost use Rattle.cps_state.specs.Flags.{has_flag};
 ghost use Rattle.cps_list.specs.Flagged as texts;
 
 use crate::columns::push_decimal;
@@ -13,23 +14,47 @@ pub fn push_flagged<V: View>(text: &mut Vec<u8>, view: &V) -> Result<(), AllocEr
 {
     push_rows(text, view)?;
     push_end_row(text, view.open_at_end())?;
-    push_decimal(text, count_flagged(view) + u64::from(view.open_at_end()))?;
-    text.extend_from_slice(b" flagged lines\n")
+    push_count(text, with_end(count_flagged(view), view.open_at_end()))?;
+    Ok(())
+}
+
+fn push_count(text: &mut Vec<u8>, count: u64) -> Result<(), AllocError>
+    ensures { OnOk result (text.new.items ≡ text.old.items ++ texts.count_row count) }
+{
+    push_decimal(text, count)?;
+    text.extend_from_slice(b" flagged lines\n")?;
+    Ok(())
 }
 
 /// How many lines have a flag.
 fn count_flagged<V: View>(view: &V) -> u64
     ensures count { result ≡ texts.flagged_in (V.assembly view.now).outcomes }
-    ensures within { result ≤ length (V.assembly view.now).outcomes }
+    ensures within { result < 2 ^ 32 }
 {
     let mut count = 0;
     for before in 0..view.count() {
         let Some(outcome) = view.outcome(before + 1) else {
             unreachable!();
         };
-        count += u64::from(outcome.flags().has_flag());
+        count += count_of(outcome.flags());
     }
     count
+}
+
+/// One for a line with flags.
+fn count_of(flags: Flags) -> u64
+    ensures count { result ≡ texts.count_if (has_flag flags) }
+    ensures one { result ≤ 1 }
+{
+    if flags.has_flag() { 1 } else { 0 }
+}
+
+/// One more where a range is open at the end.
+fn with_end(count: u64, is_open: bool) -> u64
+    requires { count < 2 ^ 32 }
+    ensures { result ≡ count + texts.count_if is_open }
+{
+    if is_open { count + 1 } else { count }
 }
 
 /// The rows of flagged lines.

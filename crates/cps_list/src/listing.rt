@@ -1,7 +1,7 @@
 //! The listing.
 ghost use Rattle.std.specs.Prelude.{◌≡◌, ◌++◌, ◌+◌, ◌≤◌, ◌<◌, ℕ, List, [], ◌∷◌, OnOk, codes, length, take, ◌^◌, if◌then◌else◌};
 ghost use Rattle.cps_text.specs.Text.{is_blank};
-ghost use Rattle.cps_list.specs.Columns.{with_columns, with_column, at_right};
+ghost use Rattle.cps_list.specs.Columns.{with_columns, with_column, at_right, laid_out};
 ghost use Rattle.cps_list.specs.Listing as texts;
 
 use crate::columns::{fill_columns, last_of, push_at_right};
@@ -134,7 +134,8 @@ fn push_statement(
 
 /// The last digits of a line's number, or `+` for a statement of an expansion, at the right of the number's columns.
 fn push_number(text: &mut Vec<u8>, depth: u8, number: u32) -> Result<(), AllocError>
-    ensures { OnOk result (text.new.items ≡ text.old.items ++ at_right NUMBER_COLUMNS (texts.number_text depth number)) }
+    ensures number { OnOk result (text.new.items ≡ text.old.items ++ at_right NUMBER_COLUMNS (texts.number_text depth number)) }
+    ensures grows { OnOk result (length text.old.items ≤ length text.new.items) }
 {
     if depth > 0 {
         return push_at_right(text, NUMBER_COLUMNS, b"+");
@@ -159,13 +160,21 @@ fn text_shown<'a>(row: &'a Row, line: &'a [u8]) -> &'a [u8]
 fn push_open_row(text: &mut Vec<u8>, is_open: bool) -> Result<(), AllocError>
     ensures { OnOk result (text.new.items ≡ text.old.items ++ texts.open_row is_open) }
 {
-    if !is_open {
-        return Ok(());
+    if is_open {
+        push_open_columns(text)?;
+        text.push(b'\n')?;
     }
+    Ok(())
+}
+
+fn push_open_columns(text: &mut Vec<u8>) -> Result<(), AllocError>
+    ensures { OnOk result (text.new.items ≡ text.old.items ++ laid_out texts.open_columns) }
+{
     let before = text.len();
     text.push(b'E')?;
     fill_columns(text, before, BEFORE_LINE)?;
-    text.extend_from_slice(b"open range at end of source\n")
+    text.extend_from_slice(b"open range at end of source")?;
+    Ok(())
 }
 
 /// Cuts the blanks at the end of a row that begins at a length.

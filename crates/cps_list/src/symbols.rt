@@ -29,7 +29,8 @@ pub fn push_symbols<V: View>(alloc: Global, text: &mut Vec<u8>, view: &V) -> Res
 {
     let mut mentions = list_mentions(alloc, view)?;
     mentions.sort_by_key(|mention| mention.name)?;
-    push_rows(text, &mentions, view.finals())
+    push_rows(text, &mentions, view.finals())?;
+    Ok(())
 }
 
 /// The rows of symbols that are mentioned, where their mentions stand in the order of the symbols.
