@@ -10,8 +10,7 @@ use Rattle.cps_pass.specs.Expansion.{trace_of}
 use Rattle.cps_final.specs.Layout.{puts_of}
 use Rattle.cps_final.specs.Finals.{Finals, finals_of, final_value, is_open_at_end}
 use Rattle.cps_final.specs.Outcome.{Outcome, outcome_of}
-use Rattle.cps_code.specs.Image.{Piece}
-use Rattle.cps_tool.specs.Assembly.{after, state_after, traces_from, traces_of, outcomes_under, outcomes_of, pieces_in, ends_open}
+use Rattle.cps_tool.specs.Assembly.{after, state_after, traces_from, traces_of, outcomes_under, outcomes_of, ends_open}
 use Rattle.cps_tool.specs.Assembled.{Assembled, assembled_behind, assembled_of}
 
 -- ---- two parts of a source
@@ -160,16 +159,3 @@ lines-next kept before old lines i line lt is assembled =
 pub lines-all : (kept : Assembled) (before old lines : List (List ℕ)) (i : ℕ) → length lines ≤ i → kept ≡ assembled_behind before (old ++ take i lines)
     → kept ≡ assembled_behind before (old ++ lines)
 lines-all kept before old lines i past assembled = assembled ∙ ap (λ ls. assembled_behind before (old ++ ls)) (take_all i lines past)
-
--- ---- the bits of one line more
-
-pub pieces-more : (finals : Finals) (traces : List Trace) (i : ℕ) (trace : Trace) (more : List Piece) → i < length traces → trace ≡ get_or traces i trace
-    → more ≡ (outcome_of (final_value finals) trace).pieces
-    → pieces_in (outcomes_under finals (take i traces)) ++ more ≡ pieces_in (outcomes_under finals (take (i + 1) traces))
-pieces-more finals traces i trace more lt is made =
-    let f : Trace → Outcome = outcome_of (final_value finals) in
-    let front = map f (take i traces) in
-    ap (λ (l : List Piece). pieces_in front ++ l) (made ∙ sym (append-nil (f trace).pieces))
-    ∙ sym (flat_map-append (λ (o : Outcome). o.pieces) front (f trace ∷ []))
-    ∙ ap pieces_in (sym (map-append f (take i traces) (trace ∷ [])))
-    ∙ ap (λ (l : List Trace). pieces_in (map f l)) (ap (λ (t : Trace). take i traces ++ t ∷ []) is ∙ sym (take_more traces i trace lt))

@@ -2,7 +2,7 @@
 use Rattle.std.proofs.Common.{◌≡◌, ℕ, ◌==◌, if◌then◌else◌, ⊎_elim, List, [], ◌++◌, drop, get_or, codes, refl, sym, ap, subst, ◌∙◌}
 use Rattle.std.specs.List.{after_first}
 use Rattle.std.proofs.lemmas.Slice.Eq.{bytes_eq-Decides}
-use Rattle.cps_tool.specs.Command.{Order, append, insert, replace, delete, list, binary, flags, quit, Spells, IsNumbered, IsRange}
+use Rattle.cps_tool.specs.Command.{Order, append, insert, replace, delete, list, binary, symbols, flags, quit, Spells, IsNumbered, IsRange}
 use Rattle.cps_text.specs.Text.{is_blank}
 use Rattle.cps_tool.proofs.NumberLemmas.{number_in, number_is, text_behind}
 use Rattle.cps_tool.proofs.RangeLemmas.{last_in, first_is, last_is}
@@ -15,6 +15,7 @@ letter_of (replace at text) = 114
 letter_of (delete first last) = 100
 letter_of list = 108
 letter_of binary = 98
+letter_of symbols = 115
 letter_of flags = 102
 letter_of quit = 113
 
@@ -31,6 +32,7 @@ begins line (replace at text) spells = ap first_of spells.2
 begins line (delete first last) spells = ap first_of spells.2
 begins line list spells = ap first_of spells.1
 begins line binary spells = ap first_of spells.1
+begins line symbols spells = ap first_of spells.1
 begins line flags spells = ap first_of spells.1
 begins line quit spells = ap first_of ((bytes_eq-Decides line (codes "quit")).0 spells.1)
 
@@ -44,7 +46,8 @@ order_by letter rest =
     else (if letter == 100 then delete (number_in rest) (last_in (after_first is_blank rest) (number_in rest))
     else (if letter == 108 then list
     else (if letter == 98 then binary
-    else (if letter == 102 then flags else quit))))))
+    else (if letter == 115 then symbols
+    else (if letter == 102 then flags else quit)))))))
 
 -- the text of an `a` is what stands behind its blank
 text_of : (line text : List ℕ) → Spells line (append text) → text ≡ drop 2 line
@@ -73,6 +76,7 @@ by_letter line (delete first last) spells =
     ap (λ n. delete n last) (first_is (drop 2 line) first last range) ∙ ap (delete (number_in (drop 2 line))) (last_is (drop 2 line) first last range)
 by_letter line list spells = refl
 by_letter line binary spells = refl
+by_letter line symbols spells = refl
 by_letter line flags spells = refl
 by_letter line quit spells = refl
 

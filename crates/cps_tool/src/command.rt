@@ -61,6 +61,9 @@ impl<'a> Command<'a> {
         if let Some(command) = read_delete(line) {
             return Ok(command);
         }
+        if let Some(command) = read_query(line) {
+            return Ok(command);
+        }
         match read_plain(line) {
             Some(command) => Ok(command),
             None => Err(ScriptFault::BadCommand),
@@ -68,26 +71,37 @@ impl<'a> Command<'a> {
     }
 }
 
-/// The command of a line that has no number, None where the line spells another or none.
+/// The command that ends a script or enters a text behind the last line, None where the line spells another or none.
 fn read_plain(line: &[u8]) -> Option<Command<'_>>
     requires { length line.now ≤ LONGEST_COMMAND }
     ensures order { IfSome result (λ command. Spells line.now (order_of command)) }
     ensures quit { IfSome result (λ command. is_quit line.now ≡ is_quit_order (order_of command)) }
     ensures no_append { IfNone result ((text : List ℕ) → Spells line.now (append text) → ⊥) }
+    ensures no_quit { IfNone result (is_quit line.now ≡ false) }
+{
+    match line {
+        b"quit" => Some(Command::Quit),
+        b"a" => Some(Command::Append(&[])),
+        [b'a', b' ', text @ ..] => Some(Command::Append(text)),
+        _ => None,
+    }
+}
+
+/// The command to write a text, None where the line spells another or none.
+fn read_query(line: &[u8]) -> Option<Command<'_>>
+    requires { length line.now ≤ LONGEST_COMMAND }
+    ensures order { IfSome result (λ command. Spells line.now (order_of command)) }
+    ensures quit { IfSome result (λ command. is_quit line.now ≡ is_quit_order (order_of command)) }
     ensures no_list { IfNone result (Spells line.now list → ⊥) }
     ensures no_binary { IfNone result (Spells line.now binary → ⊥) }
     ensures no_symbols { IfNone result (Spells line.now symbols → ⊥) }
     ensures no_flags { IfNone result (Spells line.now flags → ⊥) }
-    ensures no_quit { IfNone result (is_quit line.now ≡ false) }
 {
     match line {
         b"list" => Some(Command::Listing),
         b"binary" => Some(Command::Binary),
         b"symbols" => Some(Command::Symbols),
         b"flags" => Some(Command::Flags),
-        b"quit" => Some(Command::Quit),
-        b"a" => Some(Command::Append(&[])),
-        [b'a', b' ', text @ ..] => Some(Command::Append(text)),
         _ => None,
     }
 }

@@ -8,7 +8,7 @@ ghost use Rattle.cps_tool.specs.Edits.{HasLine, LacksLine, HasLines, LacksLines,
 use super::assembled::{Assembled, Keeps};
 use super::flagged::flagged_lines;
 use super::pages::Pages;
-use cps_list::{Part, make_text};
+use cps_list::{Part, View, make_text};
 use cps_pass::Work;
 use cps_text::Line;
 use std::alloc::{AllocError, Global};
@@ -235,8 +235,8 @@ impl Session {
     }
 
     /// What the texts of the source are written from.
-    pub fn view(&self, alloc: Global) -> Result<Pages<'_>, AllocError>
-        ensures { IfOk result (λ pages. pages ≡ assembly_of self.now.lines) }
+    pub fn view<'a>(&'a self, alloc: Global) -> Result<Pages<'a>, AllocError>
+        ensures { IfOk result (λ pages. ⟦<Pages<'a> as View>⟧.assembly pages ≡ assembly_of self.now.lines) }
     {
         Pages::new(
             alloc,

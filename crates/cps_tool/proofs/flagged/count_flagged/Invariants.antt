@@ -1,7 +1,7 @@
 use Rattle.std.proofs.Common.{◌≡◌, ◌≤◌, ◌+◌, drop}
 use Rattle.cps_final.specs.contracts.finals.FinalsGathered.TheImpl.{gathered-value}
 use Rattle.cps_tool.specs.Assembly.{outcomes_under}
-use Rattle.cps_tool.specs.Flagged.{flagged_in}
+use Rattle.cps_list.specs.Flagged.{flagged_in}
 use Rattle.cps_tool.proofs.flagged.count_flagged.Given as goal
 
 abbrev pub invariant-loop-trace : goal.invariant-loop-trace

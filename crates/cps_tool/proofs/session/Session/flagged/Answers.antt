@@ -2,7 +2,8 @@ use Rattle.std.proofs.Common.{◌≡◌, ap, length, arith, ◌∙◌}
 use Rattle.cps_final.specs.contracts.finals.FinalsGathered.TheImpl.{gathered-value}
 use Rattle.cps_tool.specs.Assembly.{outcomes_under, outcomes_of}
 use Rattle.cps_tool.specs.Edits.{Source}
-use Rattle.cps_tool.specs.Flagged.{flagged_with, flagged_lines}
+use Rattle.cps_list.specs.Flagged.{flagged_with}
+use Rattle.cps_tool.specs.Flagged.{flagged_lines}
 use Rattle.cps_tool.proofs.AssemblyLemmas.{assembled-length, outcomes-kept, open-kept}
 use Rattle.cps_tool.proofs.session.Session.flagged.Goals as goal
 
