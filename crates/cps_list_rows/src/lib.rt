@@ -4,8 +4,6 @@
 #[cfg(test)]
 mod assertions;
 #[cfg(test)]
-mod long;
-#[cfg(test)]
 mod plain;
 #[cfg(test)]
 mod text_rows;

@@ -1,13 +1,10 @@
 //! The four texts of sources.
 use super::assertions::{assert_row_text, assert_same};
-use super::long::Repeated;
-use super::plain::Plain;
-use cps_final::{Gather, step_two};
+use super::plain::{Plain, Repeated};
 use cps_list::{
-    ListFault, Part, View, write_all_parts, write_binary, write_flags, write_listing, write_symbols,
+    Part, View, write_all_parts, write_binary, write_flags, write_listing, write_symbols,
 };
-use cps_pass::{Work, step_one};
-use cps_text::{Counted, Line};
+use cps_text::Counted;
 use std::alloc::Global;
 use std::process::Abort;
 use std::test::Fail;
@@ -46,13 +43,14 @@ pub const FLAGS: &str = "0 flagged lines\n";
 /// Writes a part of a source.
 fn written(alloc: Global, view: &impl View, part: Part) -> Result<Vec<u8>, Fail> {
     let mut writer = Counted::new(Vec::new(alloc));
-    match part {
-        Part::Listing => write_listing(alloc, view, &mut writer)?,
-        Part::Binary => write_binary(alloc, view, &mut writer)?,
-        Part::Symbols => write_symbols(alloc, view, &mut writer)?,
-        Part::Flags => write_flags(alloc, view, &mut writer)?,
-        Part::All => write_all_parts(alloc, view, &mut writer)?,
-    }
+    let done = match part {
+        Part::Listing => write_listing(alloc, view, &mut writer),
+        Part::Binary => write_binary(alloc, view, &mut writer),
+        Part::Symbols => write_symbols(alloc, view, &mut writer),
+        Part::Flags => write_flags(alloc, view, &mut writer),
+        Part::All => write_all_parts(alloc, view, &mut writer),
+    };
+    done?;
     Ok(writer.into_inner())
 }
 
@@ -176,21 +174,13 @@ end E
 /// Of a line's number the last six digits stand.
 #[test]
 fn cuts_numbers(rt: HostRuntime) -> Result<(), Fail> {
-    let alloc = rt.alloc();
-    let line = Line::new(alloc, b"*")?;
-    let mut gather = Gather::new(alloc);
-    let trace = step_one(alloc, &mut Work::new(), &line, gather.state())?;
-    gather.add(&trace)?;
-    let finals = gather.finish()?;
-    let outcome = step_two(alloc, &mut Work::new(), &trace, &finals)?;
-    let times = 1_000_002;
-    let view = Repeated {
-        line,
-        outcome,
-        finals,
-        times,
-    };
-    let got = written(alloc, &view, Part::Listing)?;
-    assert_same(&rt, "bytes", &got.len(), &46_000_092);
-    Ok(())
+    let view = Repeated::new(rt.alloc(), "*", 1_000_001)?;
+    let got = written(rt.alloc(), &view, Part::Listing)?;
+    assert_same(&rt, "bytes", &got.len(), &46_000_046);
+    let last = "                                     999999 *
+                                     000000 *
+                                     000001 *
+";
+    let (_, tail) = got.split_at(got.len().saturating_sub(last.len()));
+    assert_row_text(&rt, 0, tail, last)
 }
