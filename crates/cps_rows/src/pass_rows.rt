@@ -75,24 +75,52 @@ const PERIPHERAL: Control = Control {
     block: None,
 };
 
+const HEAD: [&[u8]; 3] = [
+    b"         IDENT   T1",
+    b"         ABS",
+    b"         ORG     100B",
+];
+
+/// The state behind the first lines of a program.
+fn behind_head(alloc: Global, work: &mut Work) -> Result<State, Fail> {
+    let mut state = State::first(alloc);
+    for text in &HEAD {
+        apply(alloc, work, text, &mut state)?;
+    }
+    Ok(state)
+}
+
+/// Steps through a line with a symbol.
+fn apply_labelled(
+    rt: &impl Abort,
+    alloc: Global,
+    work: &mut Work,
+    state: &mut State,
+) -> Result<(), Fail> {
+    let trace = apply(alloc, work, b"START    SA1     B1+3", state)?;
+    assert_labelled(rt, &trace, name(b"START")?);
+    Ok(())
+}
+
+/// Steps through a line that leaves a forcing pending.
+fn step_pending(
+    rt: &impl Abort,
+    alloc: Global,
+    work: &mut Work,
+    state: &State,
+) -> Result<(), Fail> {
+    let trace = step(alloc, work, b"         EQ      START", state)?;
+    assert_pending(rt, &trace);
+    Ok(())
+}
+
 /// The lines of a program, each in the state behind those before it.
 #[test]
 fn folds_a_program(rt: HostRuntime) -> Result<(), Fail> {
-    let start = name(b"START")?;
-    let mut state = State::first(rt.alloc());
     let mut work = Work::new();
-    let head: [&[u8]; 3] = [
-        b"         IDENT   T1",
-        b"         ABS",
-        b"         ORG     100B",
-    ];
-    for text in head {
-        apply(rt.alloc(), &mut work, text, &mut state)?;
-    }
-    let trace = apply(rt.alloc(), &mut work, b"START    SA1     B1+3", &mut state)?;
-    assert_labelled(&rt, &trace, start);
-    let trace = step(rt.alloc(), &mut work, b"         EQ      START", &state)?;
-    assert_pending(&rt, &trace);
+    let mut state = behind_head(rt.alloc(), &mut work)?;
+    apply_labelled(&rt, rt.alloc(), &mut work, &mut state)?;
+    step_pending(&rt, rt.alloc(), &mut work, &state)?;
     let steps = (work.ones(), work.twos(), work.looked());
     assert_same(&rt, "steps", &steps, &(5, 0, 0));
     Ok(())
