@@ -73,7 +73,7 @@ impl Assembled {
         requires few { length lines.now ≤ MOST_LINES }
         ensures { IfOk result (λ pages. ⟦<Pages<'a> as View>⟧.assembly pages ≡ assembly_of lines.now) }
     {
-        Pages::new(alloc, lines, &self.traces, self.gather.finals())
+        Pages::new(alloc, lines, self.traces.as_slice(), self.gather.finals())
     }
 
     /// How many of the lines have a flag, and one more if a range is open behind them. Takes no memory.
@@ -81,7 +81,7 @@ impl Assembled {
         requires { length (⟦<Assembled as Keeps>⟧.assembled self.now).traces ≤ MOST_LINES }
         ensures { (lines : List (List ℕ)) → ⟦<Assembled as Keeps>⟧.assembled self.now ≡ assembled_of lines → result ≡ flagged_in lines }
     {
-        flagged_lines(&self.traces, self.gather.finals()) as u32
+        flagged_lines(self.traces.as_slice(), self.gather.finals()) as u32
     }
 
     /// Takes the next line; after a refusal nothing is changed.

@@ -40,7 +40,7 @@ pub fn run_script<R: Read, W: Write>(
     session: &mut Session,
 ) -> Result<u32, RunFault>
     ensures run { RunsScript R.remaining W.contents session.old.lines session.new.lines result reader.old reader.new writer.old writer.new }
-    ensures whole_input { OnOk result (IfSome (R.remaining (inner_of reader.old)) (λ input. (text : List ℕ) (work : Counts)
+    ensures whole_input { OnOk result ((work : Counts) × IfSome (R.remaining (inner_of reader.old)) (λ input. (text : List ℕ)
         × Script (beginning session.old.lines) input text (at session.new.lines work)
         × Appends (W.contents (inner_of writer.old)) (W.contents (inner_of writer.new)) text)) }
     ensures reads { calls_of reader.new ≤ calls_of reader.old + MOST_READS }

@@ -1,7 +1,8 @@
 //! A call of the program, by its words.
-ghost use Rattle.std.specs.Prelude.{◌≡◌, ◌⊎◌, Some, None, map};
-ghost use Rattle.cps_tool.specs.CommandLine.{status_of, Calls, IsUnread};
-ghost use Rattle.cps_tool.specs.Request.{request_of};
+ghost use Rattle.std.specs.Prelude.{◌≡◌, ◌⊎◌, map};
+ghost use Rattle.cps_tool.specs.CommandLine.{status_with, Calls, Serves};
+ghost use Rattle.cps_tool.specs.Request.{answer_of};
+ghost use Rattle.cps_tool.specs.declared.request.Request.TheVariants as requests;
 
 use super::request::{Request, Unread, read_words};
 use super::script::run_script;
@@ -30,6 +31,7 @@ pub fn run_words<'a, R: Read, W: Write, E: Write>(
     writer: &mut Counted<W>,
     errors: &mut Counted<E>,
 ) -> u8
+    ensures { Serves R.remaining W.contents (answer_of (map (λ word. word.now) words.now)) result reader.old reader.new writer.old writer.new }
 {
     match read_words(alloc, words) {
         Ok(Request::Batch(part)) => run_batch(alloc, reader, writer, errors, part),
@@ -47,6 +49,7 @@ fn run_batch<R: Read, W: Write, E: Write>(
     errors: &mut Counted<E>,
     part: Part,
 ) -> u8
+    ensures { Calls R.remaining W.contents (requests.Batch part) result reader.old reader.new writer.old writer.new }
 {
     match batch(alloc, reader, writer, part) {
         Ok(count) => status_of_count(count),
@@ -60,6 +63,7 @@ fn run_session<R: Read, W: Write, E: Write>(
     writer: &mut Counted<W>,
     errors: &mut Counted<E>,
 ) -> u8
+    ensures { Calls R.remaining W.contents requests.Session result reader.old reader.new writer.old writer.new }
 {
     let mut session = Session::new(alloc);
     match run_script(alloc, reader, writer, &mut session) {
@@ -68,7 +72,9 @@ fn run_session<R: Read, W: Write, E: Write>(
     }
 }
 
+/// The status after a run without a fault.
 fn status_of_count(count: u32) -> u8
+    ensures { result ≡ status_with count }
 {
     if count == 0 { CLEAN } else { FLAGGED }
 }
@@ -79,6 +85,7 @@ fn tell<W: Write, E: Write>(
     errors: &mut Counted<E>,
     text: &str,
 ) -> u8
+    ensures { (result ≡ CLEAN) ⊎ (result ≡ FAULTY) }
 {
     match write_text(writer, text.as_bytes()) {
         Ok(()) => CLEAN,
@@ -88,6 +95,7 @@ fn tell<W: Write, E: Write>(
 
 /// Tells a fault of the run, on a line of its own.
 fn complain_of<E: Write, F: Display + Drop>(errors: &mut Counted<E>, fault: F) -> u8
+    ensures { result ≡ FAULTY }
 {
     let mut text: ArrayString<64> = ArrayString::new();
     let _ = writeln!(text, "{fault}");
@@ -96,6 +104,7 @@ fn complain_of<E: Write, F: Display + Drop>(errors: &mut Counted<E>, fault: F) -
 
 /// Tells what is wrong. Where that can't be written, nothing more is done.
 fn complain<E: Write>(errors: &mut Counted<E>, text: &str) -> u8
+    ensures { result ≡ FAULTY }
 {
     let _ = write_text(errors, text.as_bytes());
     FAULTY
