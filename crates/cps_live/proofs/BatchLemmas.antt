@@ -2,14 +2,20 @@
 use Rattle.std.proofs.Common.{◌≡◌, ℕ, ◌+◌, ◌<◌, ◌≤◌, List, [], ◌∷◌, ◌++◌, map, length, eqb, refl, sym, ap, subst, ◌∙◌, arith, append_assoc, append-nil, length-append, false}
 use Rattle.std.proofs.lemmas.List.{map-append}
 use Rattle.std.proofs.lemmas.List.Elements.{All-nil, All-push}
+use Rattle.std.specs.Prelude.{Option, Result, Ok, Err}
+use Rattle.std.specs.Io.KnownBytes.{Consumes}
+use Rattle.cps_text.specs.declared.counted.Counted.{Counted}
+use Rattle.cps_text.specs.Counted.{inner_of}
 use Rattle.cps_text.specs.Line.{IsLine}
+use Rattle.cps_list.specs.declared.part.Part.{Part}
 use Rattle.cps_live.specs.declared.begun_line.BegunLine.{BegunLine}
 use Rattle.cps_live.specs.declared.fault.BatchFault.{BatchFault}
+use Rattle.cps_live.specs.declared.fault.BatchFault.TheVariants as faults
 use Rattle.cps_live.specs.declared.input.Input.{Input}
-use Rattle.cps_live.specs.declared.intake.Intake.{Intake}
-use Rattle.cps_live.specs.Batch.{IsSource, IsWrong, IsFirstWrong}
+use Rattle.cps_live.specs.Batch.{IsSource, IsWrong, IsFirstWrong, Refuses, IsReadWhole, Assembles, RunsBatch}
 use Rattle.cps_live.specs.BegunLine.{IsBegun}
 use Rattle.cps_live.specs.Input.{IsIntake, HasCome}
+use Rattle.cps_live.specs.Reads.{EndsEarly}
 use Rattle.cps_live.specs.Lines.{HasText, newline, without_return, last_line, lines_of}
 use Rattle.cps_live.proofs.SplitLemmas.{splits-none, splits-line, splits-byte}
 
@@ -98,3 +104,49 @@ text-unended input taken come some = record {
   splits = come.splits;
   all = sym (ap (λ ls. map without_return come.lines ++ ls) (last_line-some come.rest some));
 }
+
+-- ---- a run
+
+-- the lines of an input that are not assembled
+pub refused : {W : Type 0} (contents : W → Option (List ℕ)) (part : Part) (fault : BatchFault) (lines : List (List ℕ)) (writer : Counted W)
+    → Refuses fault lines → Assembles contents part (Err fault) lines writer writer
+refused contents part (faults.LineTooLong at) lines writer why = (why, refl)
+refused contents part (faults.BadCharacter at) lines writer why = (why, refl)
+refused contents part faults.TooManyLines lines writer why = (why, refl)
+refused contents part faults.Memory lines writer why = (why, refl)
+refused contents part faults.ReadFault lines writer why = absurd why
+refused contents part faults.WriteFault lines writer why = absurd why
+
+-- an input that was read to its end
+pub runs : {R W : Type 0} (remaining : R → Option (List ℕ)) (contents : W → Option (List ℕ)) (part : Part) (result : Result ℕ BatchFault)
+    (reader reader' : Counted R) (writer writer' : Counted W) (lines : List (List ℕ)) → IsReadWhole remaining reader reader' lines
+    → Assembles contents part result lines writer writer' → RunsBatch remaining contents part result reader reader' writer writer'
+runs remaining contents part (Ok count) reader reader' writer writer' lines whole done = (lines, whole, done)
+runs remaining contents part (Err (faults.LineTooLong at)) reader reader' writer writer' lines whole done = (lines, whole, done)
+runs remaining contents part (Err (faults.BadCharacter at)) reader reader' writer writer' lines whole done = (lines, whole, done)
+runs remaining contents part (Err faults.TooManyLines) reader reader' writer writer' lines whole done = (lines, whole, done)
+runs remaining contents part (Err faults.Memory) reader reader' writer writer' lines whole done = (lines, whole, done)
+runs remaining contents part (Err faults.ReadFault) reader reader' writer writer' lines whole done = absurd done.0
+runs remaining contents part (Err faults.WriteFault) reader reader' writer writer' lines whole done = (lines, whole, done)
+
+-- an input that was not
+pub runs-early : {R W : Type 0} (remaining : R → Option (List ℕ)) (contents : W → Option (List ℕ)) (part : Part) (fault : BatchFault)
+    (reader reader' : Counted R) (writer : Counted W) (taken : List ℕ) → fault ≡ faults.ReadFault
+    → Consumes (remaining (inner_of reader)) (remaining (inner_of reader')) taken → EndsEarly reader reader' taken
+    → RunsBatch remaining contents part (Err fault) reader reader' writer writer
+runs-early remaining contents part fault reader reader' writer taken is consumes early =
+    subst (λ f. RunsBatch remaining contents part (Err f) reader reader' writer writer) (sym is) (taken, consumes, early, refl)
+
+-- ---- how many lines have come
+
+pub kept-few : (kept lines : List (List ℕ)) → (kept ≡ lines) × IsSource lines → length kept ≤ 9999
+kept-few kept lines come =
+    let same = ap length come.0 in
+    let few = come.1.few in
+    omega arith
+
+pub refused-few : (count : ℕ) (lines : List (List ℕ)) → (count ≡ length lines) × IsSource lines → count ≤ 9999
+refused-few count lines come =
+    let same = come.0 in
+    let few = come.1.few in
+    omega arith

@@ -57,18 +57,21 @@ pub record IsReadWhole {R : Type 0} (remaining : R → Option (List ℕ)) (old n
   pub unfailed : failures_of new ≡ failures_of old
   pub text : HasText bytes lines
 
--- What a run of batch assembly does, by its result. The input is read to its end, and its lines decide: the text of the part is written and
--- the flagged lines are counted; or a front of the text is written, where a write failed; or nothing is written. Where the input could not be
--- read to its end nothing is written either.
+-- What is done with the lines of an input, by the result: the text of the part is written and the flagged lines are counted; or a front of the
+-- text is written, where a write failed; or nothing is written.
+abbrev pub Assembles : {W : Type 0} → (W → Option (List ℕ)) → Part → Result ℕ BatchFault → List (List ℕ) → Counted W → Counted W → Type 0
+Assembles contents part (Ok count) lines old new =
+    IsSource lines × (count ≡ flagged_lines lines) × Appends (contents (inner_of old)) (contents (inner_of new)) (text_of part (assembly_of lines))
+    × (failures_of new ≡ failures_of old)
+Assembles contents part (Err faults.WriteFault) lines old new =
+    IsSource lines × ((front back : List ℕ) × (text_of part (assembly_of lines) ≡ front ++ back) × Appends (contents (inner_of old)) (contents (inner_of new)) front)
+    × FailsOnce old new
+Assembles contents part (Err fault) lines old new = Refuses fault lines × (new ≡ old)
+
+-- What a run of batch assembly does, by its result. The input is read to its end, and then its lines decide. Where it can't be read to its end
+-- nothing is written.
 abbrev pub RunsBatch : {R W : Type 0} → (R → Option (List ℕ)) → (W → Option (List ℕ)) → Part → Result ℕ BatchFault → Counted R → Counted R → Counted W → Counted W → Type 0
-RunsBatch remaining contents part (Ok count) reader reader' writer writer' =
-    (lines : List (List ℕ)) × IsReadWhole remaining reader reader' lines × IsSource lines × (count ≡ flagged_lines lines)
-    × Appends (contents (inner_of writer)) (contents (inner_of writer')) (text_of part (assembly_of lines)) × (failures_of writer' ≡ failures_of writer)
-RunsBatch remaining contents part (Err faults.WriteFault) reader reader' writer writer' =
-    (lines : List (List ℕ)) × IsReadWhole remaining reader reader' lines × IsSource lines
-    × ((front back : List ℕ) × (text_of part (assembly_of lines) ≡ front ++ back) × Appends (contents (inner_of writer)) (contents (inner_of writer')) front)
-    × FailsOnce writer writer'
 RunsBatch remaining contents part (Err faults.ReadFault) reader reader' writer writer' =
     (taken : List ℕ) × Consumes (remaining (inner_of reader)) (remaining (inner_of reader')) taken × EndsEarly reader reader' taken × (writer' ≡ writer)
-RunsBatch remaining contents part (Err fault) reader reader' writer writer' =
-    (lines : List (List ℕ)) × IsReadWhole remaining reader reader' lines × Refuses fault lines × (writer' ≡ writer)
+RunsBatch remaining contents part result reader reader' writer writer' =
+    (lines : List (List ℕ)) × IsReadWhole remaining reader reader' lines × Assembles contents part result lines writer writer'

@@ -1,12 +1,13 @@
 //! A source that is read whole, assembled, and shown in one of its texts.
-ghost use Rattle.std.specs.Prelude.{◌≡◌, ℕ, List, [], ◌≤◌, ◌+◌, ◌⊎◌, length, ◌++◌, IfOk, OnOk, OnErr, IsErrOf};
-ghost use Rattle.std.specs.Io.KnownBytes.{Appends, Consumes, IsAtEnd};
-ghost use Rattle.cps_text.specs.Counted.{inner_of, calls_of, failures_of, FailsOnce, LastReadGave};
+ghost use Rattle.std.specs.Prelude.{◌≡◌, ℕ, List, [], ◌≤◌, ◌+◌, length, IfOk, OnOk, OnErr, IsErrOf};
+ghost use Rattle.std.specs.Io.KnownBytes.{Consumes, IsAtEnd};
+ghost use Rattle.cps_text.specs.Counted.{inner_of, calls_of, failures_of, LastReadGave};
 ghost use Rattle.cps_list.specs.Texts.{text_of};
 ghost use Rattle.cps_live.specs.Assembly.{assembly_of};
-ghost use Rattle.cps_live.specs.Batch.{RunsBatch};
+ghost use Rattle.cps_live.specs.Batch.{Assembles, IsSource, RunsBatch};
 ghost use Rattle.cps_live.specs.Flagged.{flagged_lines};
 ghost use Rattle.cps_live.specs.Input.{HasCome};
+ghost use Rattle.cps_live.specs.Lines.{HasText};
 ghost use Rattle.cps_live.specs.Reads.{EndsEarly};
 
 use super::assembled::Assembled;
@@ -38,9 +39,10 @@ pub fn batch<R: Read, W: Write>(
     ensures reads { calls_of reader.new ≤ calls_of reader.old + MOST_READS }
 {
     let mut input = Input::new(alloc);
-    read_all(alloc, reader, &mut input)?;
-    let lines = input.finish(alloc)?;
-    write_source(alloc, &lines, writer, part)
+    match read_all(alloc, reader, &mut input) {
+        Ok(()) => write_input(alloc, input, writer, part),
+        Err(fault) => Err(fault),
+    }
 }
 
 /// Reads an input to its end.
@@ -71,6 +73,22 @@ fn read_all<R: Read>(
     Err(BatchFault::ReadFault)
 }
 
+/// Writes a text of the lines that have come.
+fn write_input<W: Write>(
+    alloc: Global,
+    input: Input,
+    writer: &mut Counted<W>,
+    part: Part,
+) -> Result<u32, BatchFault>
+    requires { (taken : List ℕ) × HasCome input taken }
+    ensures { (taken : List ℕ) → HasCome input taken → (lines : List (List ℕ)) × HasText taken lines × Assembles W.contents part result lines writer.old writer.new }
+{
+    match input.finish(alloc) {
+        Ok(lines) => write_source(alloc, &lines, writer, part),
+        Err(fault) => Err(fault),
+    }
+}
+
 /// Writes a text of a source. It gives the number of flagged lines.
 fn write_source<W: Write>(
     alloc: Global,
@@ -78,14 +96,8 @@ fn write_source<W: Write>(
     writer: &mut Counted<W>,
     part: Part,
 ) -> Result<u32, BatchFault>
-    requires { length lines.now ≤ MOST_LINES }
-    ensures count { IfOk result (λ count. count ≡ flagged_lines lines.now) }
-    ensures memory { OnErr result (IsErrOf result BatchFault.WriteFault ⊎ (IsErrOf result BatchFault.Memory × (writer.new ≡ writer.old))) }
-    ensures ok { OnOk result (Appends (W.contents (inner_of writer.old)) (W.contents (inner_of writer.new)) (text_of part (assembly_of lines.now))
-        × (failures_of writer.new ≡ failures_of writer.old)) }
-    ensures write_fault { IsErrOf result BatchFault.WriteFault →
-        ((front back : List ℕ) × (text_of part (assembly_of lines.now) ≡ front ++ back) × Appends (W.contents (inner_of writer.old)) (W.contents (inner_of writer.new)) front)
-        × FailsOnce writer.old writer.new }
+    requires { IsSource lines.now }
+    ensures { Assembles W.contents part result lines.now writer.old writer.new }
 {
     let Ok((text, flagged)) = make_part(alloc, lines, part) else {
         return Err(BatchFault::Memory);
