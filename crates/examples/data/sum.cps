@@ -2,39 +2,60 @@
           ABS
           ORG     100B
 *
-*         THE MAIN PROGRAM ADDS A TABLE, AND STOPS WITH THE SUM
-*         IN X6. WHERE IT IS NOT 60, IT STOPS AT BAD.
+*         A PROGRAM OF THE CENTRAL PROCESSOR. IT ADDS UP TWO TABLES
+*         AND STOPS WITH THE SUMS IN SUM1 AND SUM2. WHERE THE FIRST
+*         SUM IS NOT 60 IT STOPS WITH A MESSAGE IN X5.
 *
-PLUS      MACRO   I,J,K                    (XI) = (XJ) + (XK)
+*         PLUS    ADDS INTEGERS, (XI) = (XJ) + (XK).
+*
+PLUS      MACRO   I,J,K
           IX_I     X_J+X_K
           ENDM
 *
-START     SB1     1                        (B1) = 1, AS EVERYWHERE
+*         TOTAL   PUTS THE SUM OF A TABLE INTO A WORD OF MEMORY.
+*
+TOTAL     MACRO   TABLE,LENGTH,WORD
           SB2     TABLE
-          SB3     TABLEL
+          SB3     LENGTH
           RJ      SUM
-          SA6     RESULT
-          SA2     =60                      A LITERAL
-          IX7     X6-X2
-          NZ      X7,BAD
+          SA6     WORD
+          ENDM
+*
+*         THE MAIN PROGRAM.
+*
+START     SB1     1                        (B1) = 1 THROUGHOUT
+          TOTAL   TENS,TENSL,SUM1
+          TOTAL   OTHERS,OTHERSL,SUM2
+          SA1     SUM1
+          SA2     =60                      A LITERAL, A NUMBER
+          IX3     X1-X2
+          NZ      X3,BAD
+          PS                               STOP
+BAD       SA5     =8LBAD SUM.              A LITERAL, CHARACTERS
           PS
-BAD       PS
 *
-*         SUM     ADDS THE WORDS OF A TABLE.
+*         SUM     ADDS UP A TABLE.
 *
-*         ENTRY   (B2) = ITS FIRST WORD, (B3) = HOW MANY THERE ARE.
-*         EXIT    (X6) = THE SUM.
+*         ENTRY   (B2) = ADDRESS OF ITS FIRST WORD
+*                 (B3) = NUMBER OF ITS WORDS
+*         EXIT    (X6) = THE SUM
+*         USES    A4, B2, B3, X4, X6
 *
 SUM       PS                               ENTRY AND EXIT
-          MX6     0
-LOOP      SA1     B2
+          MX6     0                        (X6) = 0
+LOOP      ZR      B3,SUM                   RETURN IF NO WORD IS LEFT
+          SA4     B2                       (X4) = THE NEXT WORD
           SB2     B2+B1
-          PLUS    6,6,1
           SB3     B3-B1
-          NZ      B3,LOOP
-          EQ      SUM
+          PLUS    6,6,4
+          EQ      LOOP
 *
-TABLE     DATA    10,20,30
-TABLEL    EQU     *-TABLE
-RESULT    BSS     1
+*         THE TABLES.
+*
+TENS      DATA    10,20,30
+TENSL     EQU     *-TENS
+OTHERS    DATA    1000000,-1,777B,0
+OTHERSL   EQU     *-OTHERS
+SUM1      BSS     1
+SUM2      BSS     1
           END
