@@ -58,7 +58,7 @@ impl Intake {
 /// These lines and one more, None where more bytes came than are kept of a line.
 fn keep(alloc: Global, lines: Vec<Line>, text: Option<&[u8]>) -> Intake
     requires { length lines.items ≤ MOST_LINES }
-    ensures { (line : List ℕ) → MatchOption text (LONGEST_KEPT < length line) (λ text. text.now ≡ line) → IsSource lines.items → IsIntake result (lines.items ++ line ∷ []) }
+    ensures { (line : List ℕ) → MatchOption text.entry (LONGEST_KEPT < length line) (λ text. text.now ≡ line) → IsSource lines.items → IsIntake result (lines.items ++ line ∷ []) }
 {
     let number = lines.len() as u32 + 1;
     let Some(text) = text else {
@@ -87,7 +87,7 @@ fn push_line(alloc: Global, lines: Vec<Line>, number: u32, text: &[u8]) -> Intak
 /// One line more than so many, None where more bytes came than are kept of a line.
 fn count_on(count: u32, text: Option<&[u8]>) -> Intake
     requires { count ≤ MOST_LINES }
-    ensures { (lines : List (List ℕ)) (line : List ℕ) → MatchOption text (LONGEST_KEPT < length line) (λ text. text.now ≡ line) → count ≡ length lines → IsSource lines → IsIntake result (lines ++ line ∷ []) }
+    ensures { (lines : List (List ℕ)) (line : List ℕ) → MatchOption text.entry (LONGEST_KEPT < length line) (λ text. text.now ≡ line) → count ≡ length lines → IsSource lines → IsIntake result (lines ++ line ∷ []) }
 {
     let number = count + 1;
     let Some(text) = text else {

@@ -2,7 +2,7 @@
 #![tactic(auto)]
 
 mod assembled;
-mod batch;
+mod assembling;
 mod begun_line;
 mod fault;
 mod flagged;
@@ -11,7 +11,7 @@ mod intake;
 mod pages;
 mod session;
 
-pub use batch::{MOST_READS, batch};
+pub use assembling::{MOST_READS, batch};
 pub use begun_line::BegunLine;
 pub use fault::BatchFault;
 pub use pages::Pages;

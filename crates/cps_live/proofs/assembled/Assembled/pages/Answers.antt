@@ -1,4 +1,4 @@
-use Rattle.std.proofs.Common.{◌≡◌, sym, subst, rules}
+use Rattle.std.proofs.Common.{◌≡◌, sym, ap, length, subst, ◌∙◌, rules}
 use Rattle.std.specs.Prelude.{IfOk}
 use Rattle.cps_list.specs.Assembly.{Assembly}
 use Rattle.cps_live.specs.contracts.pages.PagesView.TheImpl.{assembly-value}
@@ -6,7 +6,9 @@ use Rattle.cps_live.proofs.AssemblyLemmas.{assembled-length, outcomes-kept, fina
 use Rattle.cps_live.proofs.assembled.Assembled.pages.Goals as goal
 
 pub new-requires-clause-each : goal.new-requires-clause-each
-new-requires-clause-each c = sym (assembled-length _ c.args.lines.now c.requires.kept)
+new-requires-clause-each c =
+    let same : c.as_slice.result.now ≡ c.args.self.now.traces.items = search rules in
+    sym (ap length same ∙ assembled-length _ c.args.lines.now c.requires.kept)
 
 pub returns : goal.returns
 returns c =

@@ -4,7 +4,7 @@ use Rattle.std.proofs.KnownBytes.{Consumes-nil, Consumes-trans}
 use Rattle.std.proofs.lemmas.Bool.Decides.{nat_tests}
 use Rattle.cps_text.specs.Counted.{inner_of, calls_of}
 use Rattle.cps_live.proofs.ReadLemmas.{counted, longer, taken_length, reads_gave}
-use Rattle.cps_live.proofs.batch.read_all.Goals as goal
+use Rattle.cps_live.proofs.assembling.read_all.Goals as goal
 
 pub loop-init : goal.loop-init
 loop-init g c = ([], Consumes-nil _, c.requires, inl (refl, refl), omega arith, refl)

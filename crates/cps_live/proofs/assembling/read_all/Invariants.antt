@@ -2,7 +2,7 @@ use Rattle.std.proofs.Common.{◌≡◌, ◌≤◌, ◌⊎◌, List, ℕ, length
 use Rattle.std.specs.Io.KnownBytes.{Consumes}
 use Rattle.cps_text.specs.Counted.{inner_of, calls_of, failures_of, raised_by}
 use Rattle.cps_live.specs.Input.{HasCome}
-use Rattle.cps_live.proofs.batch.read_all.Given as goal
+use Rattle.cps_live.proofs.assembling.read_all.Given as goal
 
 abbrev pub invariant-loop : goal.invariant-loop
 invariant-loop g l =
