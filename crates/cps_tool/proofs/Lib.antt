@@ -3,3 +3,8 @@ pub mod NumberLemmas
 pub mod OrderLemmas
 pub mod ProgressLemmas
 pub mod RangeLemmas
+pub mod MetLemmas
+pub mod AlikeLemmas
+pub mod RequestLemmas
+pub mod RequestRows
+pub mod ServesLemmas

@@ -9,16 +9,19 @@ use Rattle.std.proofs.lemmas.List.{map-append}
 use Rattle.std.proofs.lemmas.Grind.{flat_map-append}
 use Rattle.std.proofs.lemmas.Bool.Decides.{nat_tests}
 use Rattle.cps_live.specs.declared.begun_line.BegunLine.{BegunLine}
+use Rattle.cps_state.specs.Work.{Counts, no_work}
+use Rattle.cps_text.specs.declared.counted.Counted.{Counted}
 use Rattle.cps_tool.specs.declared.writing.RunFault.{RunFault}
+use Rattle.cps_tool.specs.declared.writing.RunFault.TheVariants as faults
 use Rattle.cps_tool.specs.declared.script.Flow.{Flow}
 use Rattle.cps_tool.specs.declared.script.Flow.TheVariants.{GoesOn, Ends}
 use Rattle.cps_live.specs.BegunLine.{IsBegun}
 use Rattle.cps_tool.specs.Command.{is_quit}
-use Rattle.cps_tool.specs.Edits.{Standing}
+use Rattle.cps_tool.specs.Edits.{Standing, at, beginning}
 use Rattle.cps_live.proofs.SplitLemmas.{both, left_true, right_true, splits-none, splits-line, splits-byte, split_of}
 use Rattle.cps_live.specs.Lines.{Splits, without_return, last_line, has_no_newline, newline}
 use Rattle.cps_tool.specs.Reply.{Response, reply_text}
-use Rattle.cps_tool.specs.Script.{Run, Script, FrontOfScript, LinesOfScript, IsAnswered, HasQuit, LacksQuit, IsReadToEnd, AreAnswered, goes_on, command_lines, before_quit}
+use Rattle.cps_tool.specs.Script.{Run, RunsScript, Script, FrontOfScript, LinesOfScript, IsAnswered, HasQuit, LacksQuit, IsReadToEnd, AreAnswered, goes_on, command_lines, before_quit}
 use Rattle.cps_tool.specs.Progress.{MatchFlow, Progress, Takes, Finishes}
 
 -- ---- running lines
@@ -266,6 +269,10 @@ finishes-fault fault line old new before after some answer = λ start taken text
 pub progress-none : (line : BegunLine) (start : Standing) → IsBegun line [] → Progress start [] line [] start
 progress-none line start empty = record { lines = []; rest = []; splits = splits-none; begun = empty; going = refl; run = (refl, refl) }
 
+-- before the first line
+pub progress-from : (line : BegunLine) (source : List (List ℕ)) (work : Counts) → work ≡ no_work → IsBegun line [] → Progress (beginning source) [] line [] (at source work)
+progress-from line source work none empty = subst (λ w. Progress (beginning source) [] line [] (at source w)) (sym none) (progress-none line (beginning source) empty)
+
 pub progress-lines : (start : Standing) (taken : List ℕ) (line : BegunLine) (text : List ℕ) (now : Standing) → Progress start taken line text now → LinesOfScript start taken text now
 progress-lines start taken line text now so_far = record { lines = so_far.lines; rest = so_far.rest; splits = so_far.splits; going = so_far.going; run = so_far.run }
 
@@ -395,3 +402,12 @@ pub takes-failed : (fault : RunFault) (a b : BegunLine) (old new : Standing) (be
 takes-failed fault a b old new before after front back first = λ start taken text so_far.
     let f = first start taken text so_far in
     (f.0, f.1, f.2, λ more last left. rw (← append_assoc taken front back, append_assoc (taken ++ front) back more) (f.3 (back ++ more) last left))
+
+-- ---- a run
+
+-- a fault that is no read fault
+pub runs-failed : {R W : Type 0} (remaining : R → Option (List ℕ)) (contents : W → Option (List ℕ)) (old new : List (List ℕ)) (fault : RunFault)
+    (reader reader' : Counted R) (writer writer' : Counted W) → (fault ≡ faults.ReadFault → ⊥)
+    → RunsScript remaining contents old new (Err faults.WriteFault) reader reader' writer writer' → RunsScript remaining contents old new (Err fault) reader reader' writer writer'
+runs-failed remaining contents old new faults.ReadFault reader reader' writer writer' other run = absurd (other refl)
+runs-failed remaining contents old new faults.WriteFault reader reader' writer writer' other run = run

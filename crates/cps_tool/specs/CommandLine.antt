@@ -27,7 +27,7 @@ abbrev pub Calls : {R W : Type 0} → (R → Option (List ℕ)) → (W → Optio
 Calls remaining contents (Batch part) status reader reader' writer writer' =
     (result : Result ℕ BatchFault) × (status ≡ status_of result) × RunsBatch remaining contents part result reader reader' writer writer'
 Calls remaining contents Session status reader reader' writer writer' =
-    (result : Result ℕ RunFault) (source : List (List ℕ)) × (status ≡ status_of result) × RunsScript remaining contents [] source result reader reader' writer writer'
+    (result : Result ℕ RunFault) × (source : List (List ℕ)) × (status ≡ status_of result) × RunsScript remaining contents [] source result reader reader' writer writer'
 
 -- What a call does, by what its words are answered: what they ask is done; or the help or the version is told; or they are refused. Nothing is
 -- read where they ask nothing. Memory may be refused at any words.

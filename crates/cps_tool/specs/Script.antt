@@ -140,16 +140,16 @@ AreAnswered old bytes text = (said more : List ℕ) × (mid : Standing) × Lines
 -- the replies to some first lines stand there, the last one in part.
 abbrev pub RunsScript : {R W : Type 0} → (R → Option (List ℕ)) → (W → Option (List ℕ)) → List (List ℕ) → List (List ℕ) → Result ℕ RunFault → Counted R → Counted R → Counted W → Counted W → Type 0
 RunsScript remaining contents old new (Ok count) reader reader' writer writer' =
-    (before last text : List ℕ) (work : Counts) × Consumes (remaining (inner_of reader)) (remaining (inner_of reader')) (before ++ last)
+    (before last text : List ℕ) × (work : Counts) × Consumes (remaining (inner_of reader)) (remaining (inner_of reader')) (before ++ last)
     × Script (beginning old) (before ++ last) text (at new work) × Appends (contents (inner_of writer)) (contents (inner_of writer')) text
     × LastReadGave reader reader' before last × IsReadToEnd before last (remaining (inner_of reader'))
     × (count ≡ flagged_lines new) × (failures_of reader' ≡ failures_of reader) × (failures_of writer' ≡ failures_of writer)
 RunsScript remaining contents old new (Err faults.ReadFault) reader reader' writer writer' =
-    (taken text : List ℕ) (work : Counts) × Consumes (remaining (inner_of reader)) (remaining (inner_of reader')) taken
+    (taken text : List ℕ) × (work : Counts) × Consumes (remaining (inner_of reader)) (remaining (inner_of reader')) taken
     × LinesOfScript (beginning old) taken text (at new work) × Appends (contents (inner_of writer)) (contents (inner_of writer')) text
     × EndsEarly reader reader' taken × (failures_of writer' ≡ failures_of writer)
 RunsScript remaining contents old new (Err faults.WriteFault) reader reader' writer writer' =
-    (before last text unsaid : List ℕ) (work : Counts) × Consumes (remaining (inner_of reader)) (remaining (inner_of reader')) (before ++ last)
+    (before last text unsaid : List ℕ) × (work : Counts) × Consumes (remaining (inner_of reader)) (remaining (inner_of reader')) (before ++ last)
     × FrontOfScript (beginning old) (before ++ last) last (remaining (inner_of reader')) text unsaid (at new work)
     × Appends (contents (inner_of writer)) (contents (inner_of writer')) text
     × LastReadGave reader reader' before last × AreAnswered (beginning old) before text

@@ -21,12 +21,7 @@ use std::alloc::{AllocError, Global};
 use std::io::Write;
 
 /// The reply to a line of a script, None to the one that ends it.
-pub fn obey(
-    alloc: Global,
-    line: &[u8],
-    session: &mut Session,
-    work: &mut Work,
-) -> Option<Reply>
+pub fn obey(alloc: Global, line: &[u8], session: &mut Session, work: &mut Work) -> Option<Reply>
     ensures { MatchOption result
         ((is_quit line.now ≡ true) × (at session.new.lines work.new ≡ at session.old.lines work.old))
         (λ reply. (is_quit line.now ≡ false) × IsAnswered (at session.old.lines work.old) line.now (meaning_of reply) (at session.new.lines work.new)) }

@@ -1,9 +1,10 @@
 //! The words of a call of the program, and what they ask.
-ghost use Rattle.std.specs.Prelude.{◌≡◌, ◌⊎◌, IfOk, IfErr, Some, None, false, option_map};
-ghost use Rattle.clap.specs.Words.{app_of, fields_of, found_of, kind_of, rows_of, rule_of, subcommand_rows_of};
+ghost use Rattle.std.specs.Prelude.{◌≡◌, ◌⊎◌, IfOk, IfErr, Some, None, false};
+ghost use Rattle.clap.specs.Words.{app_of, kind_of, rule_of, subcommand_rows_of};
 ghost use Rattle.clap.specs.Simple.{shape_of};
 ghost use Rattle.clap.specs.Walk.{texts};
-ghost use Rattle.cps_tool.specs.Request.{IsMet, IsWrong, MaySay, Says, batch_shape, compass, part_named, part_rule, part_word, request_from, request_of, session_shape};
+ghost use Rattle.clap.specs.declared.builder.command.Command.TheViews.{out-Command};
+ghost use Rattle.cps_tool.specs.Request.{IsAnswer, IsMet, IsUntold, Says, batch_shape, compass, part_named, part_rule, request_from, request_of, session_shape};
 
 use clap::error::ErrorKind;
 use clap::{Arg, ArgMatches, Command, Error};
@@ -15,50 +16,52 @@ const VERSION: &str = "0.9.0";
 const ABOUT: &str = "A cross-assembler for COMPASS Version 3 of the CDC 6000 series";
 
 const MORE: &str = "\
-Standard input holds what the command reads, and what it writes goes to standard
-output.
+A source (batch) or a script (session) is read from standard input, and what is
+asked for is written to standard output. 'compass COMMAND --help' says more.
 
 Exit status:
-  0  no line of the source is flagged
-  1  a line of the source is flagged
-  2  there was a fault, which is said on standard error";
+  0  no line is flagged
+  1  a line is flagged
+  2  a fault, which is said on standard error";
 
-const BATCH_ABOUT: &str = "Assemble the source on standard input";
+const BATCH_ABOUT: &str = "Assemble a source";
 
 const BATCH_MORE: &str = "\
-PART, which is written to standard output:
+The source is read from standard input, and its PART is written to standard
+output:
   listing  the listing
-  binary   the octal words by address
-  symbols  the symbol table with references
-  flags    the flagged lines and their count
+  binary   the octal words, by address
+  symbols  the symbol table, with references
+  flags    the flagged lines, and their count
   all      these four, in this order
 
 Exit status:
-  0  no line of the source is flagged
-  1  a line of the source is flagged
-  2  there was a fault, which is said on standard error";
+  0  no line is flagged
+  1  a line is flagged
+  2  a fault, which is said on standard error";
 
-const SESSION_ABOUT: &str = "Edit and assemble a source by the script on standard input";
+const SESSION_ABOUT: &str = "Edit a source line by line, and ask for its texts";
 
 const SESSION_MORE: &str = "\
-The script has a command on each line, and the source has no line at first:
-  a TEXT    enter TEXT behind the last line
-  i N TEXT  enter TEXT behind line N, or in front where N is 0
-  r N TEXT  put TEXT in place of line N
-  d N [M]   delete line N, or the lines from N to M
+A script is read from standard input, a command on each line. The reply to each
+is written to standard output before the next line is read:
+  a TEXT    append TEXT behind the last line
+  i N TEXT  insert TEXT behind line N, 0 for the front
+  r N TEXT  replace line N by TEXT
+  d N [M]   delete line N, or lines N to M
   list      write the listing
-  binary    write the octal words by address
-  symbols   write the symbol table with references
-  flags     write the flagged lines and their count
-  work      write the steps of both passes at the latest edit
-  quit      end, as the end of the script does
-Each is answered on standard output before the next is read: an edit by the
-number of lines, a text by itself, and a refused command by the cause.
+  binary    write the octal words, by address
+  symbols   write the symbol table, with references
+  flags     write the flagged lines, and their count
+  work      write the steps of each pass at the latest edit
+  quit      end the session, as the end of the script does
+An edit is answered by 'ok' and the number of lines, and a command that is
+refused by the cause.
 
 Exit status:
-  0  no line of the source is flagged at the end
-  1  a line of the source is flagged at the end
-  2  there was a fault, which is said on standard error";
+  0  at the end no line is flagged
+  1  at the end a line is flagged
+  2  a fault, which is said on standard error";
 
 /// What a call of the program asks.
 #[derive(Clone, Copy, Debug, PartialEq, Eq)]
@@ -85,7 +88,8 @@ pub fn read_words<'a>(alloc: Global, words: &'a [&'a str]) -> Result<Request, Un
     ensures asked { IfOk result (λ request. request_of (texts words.now) ≡ Some request) }
     // A call that asks something fails only where memory was refused.
     ensures unread { IfErr result (λ unread. (unread ≡ Unread.Memory) ⊎ (request_of (texts words.now) ≡ None)) }
-    ensures said { IfErr result (MaySay (texts words.now)) }
+    // What is said is what is answered.
+    ensures said { IfErr result (IsAnswer (texts words.now)) }
 {
     let Ok(command) = compass_command(alloc) else {
         return Err(Unread::Memory);
@@ -113,7 +117,7 @@ fn compass_command<'a>(alloc: Global) -> Result<Command<'a>, AllocError>
 
 fn batch_command<'a>(alloc: Global) -> Result<Command<'a>, AllocError>
     ensures shape { IfOk result (λ command. shape_of command ≡ batch_shape) }
-    ensures local { IfOk result (λ command. (fields_of command).has_globals ≡ false) }
+    ensures local { IfOk result (λ command. (out-Command command).has_globals ≡ false) }
 {
     let command = Command::new(alloc, "batch")
         .about(BATCH_ABOUT)
@@ -134,7 +138,7 @@ fn part_argument<'a>(alloc: Global) -> Arg<'a>
 
 fn session_command<'a>(alloc: Global) -> Command<'a>
     ensures shape { shape_of result ≡ session_shape }
-    ensures local { (fields_of result).has_globals ≡ false }
+    ensures local { (out-Command result).has_globals ≡ false }
 {
     Command::new(alloc, "session")
         .about(SESSION_ABOUT)
@@ -146,7 +150,7 @@ fn read_matches(alloc: Global, matches: &ArgMatches<'_>) -> Result<Request, Unre
     requires { IsMet (subcommand_rows_of matches.now) }
     ensures asked { IfOk result (λ request. request_from (subcommand_rows_of matches.now) ≡ Some request) }
     ensures unread { IfErr result (λ unread. (unread ≡ Unread.Memory) ⊎ (request_from (subcommand_rows_of matches.now) ≡ None)) }
-    ensures wrong { IfErr result IsWrong }
+    ensures untold { IfErr result IsUntold }
 {
     let Some(batch) = matches.subcommand_matches("batch") else {
         return Ok(Request::Session);
@@ -174,9 +178,11 @@ fn read_part(word: &str) -> Option<Part>
 
 /// What is said of a word that names no part.
 fn say_no_part(alloc: Global, word: &str) -> Unread
-    ensures { IsWrong result }
+    ensures { IsUntold result }
 {
-    let text = format!(in alloc; "error: invalid value '{word}' for '--part <PART>'\n  [possible values: listing, binary, symbols, flags, all]\n\nFor more information, try '--help'.\n");
+    let text = format!(in alloc;
+        "error: invalid value '{word}' for '--part <PART>'\n  [possible values: listing, binary, symbols, flags, all]\n\nFor more information, try '--help'.\n"
+    );
     match text {
         Ok(text) => Unread::Wrong(text),
         Err(_) => Unread::Memory,
@@ -187,16 +193,12 @@ fn say_no_part(alloc: Global, word: &str) -> Unread
 fn say(alloc: Global, error: &Error) -> Unread
     ensures { Says (kind_of error.now) result }
 {
-    let kind = error.kind();
-    if kind == ErrorKind::OutOfMemory {
-        return Unread::Memory;
-    }
     let Ok(text) = error.to_string(alloc) else {
         return Unread::Memory;
     };
-    if error.use_stderr() {
-        Unread::Wrong(text)
-    } else {
-        Unread::Told(text)
+    match error.kind() {
+        ErrorKind::OutOfMemory => Unread::Memory,
+        ErrorKind::DisplayHelp | ErrorKind::DisplayVersion => Unread::Told(text),
+        _ => Unread::Wrong(text),
     }
 }

@@ -58,7 +58,14 @@ pub fn run_script<R: Read, W: Write>(
                 Err(fault) => Err(fault),
             };
         }
-        match take_bytes(alloc, &chunk[..count], &mut line, writer, session, &mut work) {
+        match take_bytes(
+            alloc,
+            &chunk[..count],
+            &mut line,
+            writer,
+            session,
+            &mut work,
+        ) {
             Ok(Flow::GoesOn) => {}
             Ok(Flow::Ends) => return Ok(session.flagged()),
             Err(fault) => return Err(fault),

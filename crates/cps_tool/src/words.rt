@@ -1,5 +1,6 @@
 //! A call of the program, by its words.
-ghost use Rattle.std.specs.Prelude.{◌≡◌, ◌⊎◌, map};
+ghost use Rattle.std.specs.Prelude.{◌≡◌, ◌⊎◌};
+ghost use Rattle.clap.specs.Walk.{texts};
 ghost use Rattle.cps_tool.specs.CommandLine.{status_with, Calls, Serves};
 ghost use Rattle.cps_tool.specs.Request.{answer_of};
 ghost use Rattle.cps_tool.specs.declared.request.Request.TheVariants as requests;
@@ -16,7 +17,9 @@ use std::fmt::{Display, Write as _};
 use std::io::{Read, Write};
 
 const CLEAN: u8 = 0;
+
 const FLAGGED: u8 = 1;
+
 const FAULTY: u8 = 2;
 
 /// Does what the words of a call ask, the first of which is the program's name: batch assembly of a source, or the
@@ -31,7 +34,7 @@ pub fn run_words<'a, R: Read, W: Write, E: Write>(
     writer: &mut Counted<W>,
     errors: &mut Counted<E>,
 ) -> u8
-    ensures { Serves R.remaining W.contents (answer_of (map (λ word. word.now) words.now)) result reader.old reader.new writer.old writer.new }
+    ensures { Serves R.remaining W.contents (answer_of (texts words.now)) result reader.old reader.new writer.old writer.new }
 {
     match read_words(alloc, words) {
         Ok(Request::Batch(part)) => run_batch(alloc, reader, writer, errors, part),
@@ -80,11 +83,7 @@ fn status_of_count(count: u32) -> u8
 }
 
 /// Writes what was asked for.
-fn tell<W: Write, E: Write>(
-    writer: &mut Counted<W>,
-    errors: &mut Counted<E>,
-    text: &str,
-) -> u8
+fn tell<W: Write, E: Write>(writer: &mut Counted<W>, errors: &mut Counted<E>, text: &str) -> u8
     ensures { (result ≡ CLEAN) ⊎ (result ≡ FAULTY) }
 {
     match write_text(writer, text.as_bytes()) {

@@ -9,14 +9,5 @@ returns-in-Ok g c = (
   c.run_script.new.session.lines,
   c.status_of_count.ensures,
   subst (λ (source : List (List ℕ)). RunsScript g.R.Read.remaining g.W.Write.contents source c.run_script.new.session.lines (Ok c.in-Ok.count) c.args.reader.now c.run_script.new.reader c.args.writer.now c.run_script.new.writer)
-      c.new.ensures c.in-Ok.ensures.run,
-)
-
-pub returns-in-Err : goal.returns-in-Err
-returns-in-Err g c = (
-  Err c.in-Err.fault,
-  c.run_script.new.session.lines,
-  c.complain_of.ensures,
-  subst (λ (source : List (List ℕ)). RunsScript g.R.Read.remaining g.W.Write.contents source c.run_script.new.session.lines (Err c.in-Err.fault) c.args.reader.now c.run_script.new.reader c.args.writer.now c.run_script.new.writer)
-      c.new.ensures c.in-Err.ensures.run,
+      c.new-session.ensures c.in-Ok.ensures.run,
 )
