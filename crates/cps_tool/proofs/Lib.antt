@@ -7,4 +7,3 @@ pub mod MetLemmas
 pub mod AlikeLemmas
 pub mod RequestLemmas
 pub mod RequestRows
-pub mod ServesLemmas

@@ -21,7 +21,7 @@ asked for is written to standard output. 'compass COMMAND --help' says more.
 
 Exit status:
   0  no line is flagged
-  1  a line is flagged
+  1  a line is flagged, or a range is open at the end
   2  a fault, which is said on standard error";
 
 const BATCH_ABOUT: &str = "Assemble a source";
@@ -30,14 +30,14 @@ const BATCH_MORE: &str = "\
 The source is read from standard input, and its PART is written to standard
 output:
   listing  the listing
-  binary   the octal words, by address
-  symbols  the symbol table, with references
+  binary   the binary text: octal words by address
+  symbols  the cross-reference of the symbols
   flags    the flagged lines, and their count
   all      these four, in this order
 
 Exit status:
   0  no line is flagged
-  1  a line is flagged
+  1  a line is flagged, or a range is open at the end
   2  a fault, which is said on standard error";
 
 const SESSION_ABOUT: &str = "Edit a source line by line, and ask for its texts";
@@ -50,8 +50,8 @@ is written to standard output before the next line is read:
   r N TEXT  replace line N by TEXT
   d N [M]   delete line N, or lines N to M
   list      write the listing
-  binary    write the octal words, by address
-  symbols   write the symbol table, with references
+  binary    write the binary text: octal words by address
+  symbols   write the cross-reference of the symbols
   flags     write the flagged lines, and their count
   work      write the steps of each pass at the latest edit
   quit      end the session, as the end of the script does
@@ -60,7 +60,7 @@ refused by the cause.
 
 Exit status:
   0  at the end no line is flagged
-  1  at the end a line is flagged
+  1  at the end a line is flagged, or a range is open
   2  a fault, which is said on standard error";
 
 /// What a call of the program asks.
