@@ -1,7 +1,8 @@
 //! Readers and writers that are slow or fail, and what a script's run does with them.
 use super::assertions::assert_same;
+use cps_live::Session;
 use cps_text::Counted;
-use cps_tool::{RunFault, Session, run_script};
+use cps_tool::{RunFault, run_script};
 use std::cell::Cell;
 use std::io;
 use std::io::{ErrorKind, Read, Write};

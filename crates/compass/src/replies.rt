@@ -1,7 +1,8 @@
 //! Running scripts on an empty source.
 use super::devices::{SlowReader, SlowWriter};
+use cps_live::Session;
 use cps_text::Counted;
-use cps_tool::{Session, run_script};
+use cps_tool::run_script;
 use std::alloc::Global;
 use std::process::Abort;
 use std::test::Fail;

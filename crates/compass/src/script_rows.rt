@@ -2,9 +2,9 @@
 use super::assertions::{assert_bytes, assert_same};
 use super::replies::assert_replies;
 use cps_list::Part;
+use cps_live::{EditFault, Session};
 use cps_pass::Work;
 use cps_text::Line;
-use cps_tool::{EditFault, Session};
 use std::alloc::Global;
 use std::process::Abort;
 use std::test::Fail;

@@ -1,8 +1,9 @@
 //! Sources, and the texts that are written of them.
 use super::assertions::assert_same;
 use super::replies::{assert_replies, assert_text};
+use cps_live::Session;
 use cps_text::Counted;
-use cps_tool::{Session, run_script};
+use cps_tool::run_script;
 use std::test::Fail;
 
 /// A whole program.

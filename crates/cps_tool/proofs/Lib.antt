@@ -1,8 +1,9 @@
-pub mod AssemblyLemmas
-pub mod BegunLemmas
 pub mod CommandLemmas
 pub mod NumberLemmas
 pub mod OrderLemmas
 pub mod ProgressLemmas
 pub mod RangeLemmas
-pub mod WorkLemmas
+pub mod MetLemmas
+pub mod AlikeLemmas
+pub mod RequestLemmas
+pub mod RequestRows

@@ -2,7 +2,7 @@
 use Rattle.std.proofs.Common.{◌≡◌, ℕ, ◌==◌, if◌then◌else◌, ⊎_elim, List, [], ◌++◌, drop, get_or, codes, refl, sym, ap, subst, ◌∙◌}
 use Rattle.std.specs.List.{after_first}
 use Rattle.std.proofs.lemmas.Slice.Eq.{bytes_eq-Decides}
-use Rattle.cps_tool.specs.Command.{Order, append, insert, replace, delete, list, binary, symbols, flags, quit, Spells, IsNumbered, IsRange}
+use Rattle.cps_tool.specs.Command.{Order, append, insert, replace, delete, list, binary, symbols, flags, work, quit, Spells, IsNumbered, IsRange}
 use Rattle.cps_text.specs.Text.{is_blank}
 use Rattle.cps_tool.proofs.NumberLemmas.{number_in, number_is, text_behind}
 use Rattle.cps_tool.proofs.RangeLemmas.{last_in, first_is, last_is}
@@ -17,6 +17,7 @@ letter_of list = 108
 letter_of binary = 98
 letter_of symbols = 115
 letter_of flags = 102
+letter_of work = 119
 letter_of quit = 113
 
 abbrev first_of : List ℕ → ℕ
@@ -34,6 +35,7 @@ begins line list spells = ap first_of spells.1
 begins line binary spells = ap first_of spells.1
 begins line symbols spells = ap first_of spells.1
 begins line flags spells = ap first_of spells.1
+begins line work spells = ap first_of spells.1
 begins line quit spells = ap first_of ((bytes_eq-Decides line (codes "quit")).0 spells.1)
 
 -- ---- the order that a line can spell, from its letter and what stands behind two bytes
@@ -47,7 +49,8 @@ order_by letter rest =
     else (if letter == 108 then list
     else (if letter == 98 then binary
     else (if letter == 115 then symbols
-    else (if letter == 102 then flags else quit)))))))
+    else (if letter == 102 then flags
+    else (if letter == 119 then work else quit))))))))
 
 -- the text of an `a` is what stands behind its blank
 text_of : (line text : List ℕ) → Spells line (append text) → text ≡ drop 2 line
@@ -78,6 +81,7 @@ by_letter line list spells = refl
 by_letter line binary spells = refl
 by_letter line symbols spells = refl
 by_letter line flags spells = refl
+by_letter line work spells = refl
 by_letter line quit spells = refl
 
 order_is : (line : List ℕ) (order : Order) → Spells line order → order ≡ order_by (first_of line) (drop 2 line)

@@ -8,110 +8,29 @@ use Rattle.std.proofs.lemmas.List.Folds.{list_all-append}
 use Rattle.std.proofs.lemmas.List.{map-append}
 use Rattle.std.proofs.lemmas.Grind.{flat_map-append}
 use Rattle.std.proofs.lemmas.Bool.Decides.{nat_tests}
-use Rattle.cps_tool.specs.declared.script_line.ScriptLine.{ScriptLine}
+use Rattle.cps_live.specs.declared.begun_line.BegunLine.{BegunLine}
+use Rattle.cps_state.specs.Work.{Counts, no_work}
+use Rattle.cps_text.specs.declared.counted.Counted.{Counted}
 use Rattle.cps_tool.specs.declared.writing.RunFault.{RunFault}
+use Rattle.cps_tool.specs.declared.writing.RunFault.TheVariants as faults
 use Rattle.cps_tool.specs.declared.script.Flow.{Flow}
 use Rattle.cps_tool.specs.declared.script.Flow.TheVariants.{GoesOn, Ends}
-use Rattle.cps_tool.specs.ScriptLine.{IsBegun}
+use Rattle.cps_live.specs.BegunLine.{IsBegun}
 use Rattle.cps_tool.specs.Command.{is_quit}
-use Rattle.cps_tool.specs.Lines.{Splits, without_return, last_line, has_no_newline, newline}
+use Rattle.cps_tool.specs.Edits.{Standing, at, beginning}
+use Rattle.cps_live.proofs.SplitLemmas.{both, left_true, right_true, splits-none, splits-line, splits-byte, split_of}
+use Rattle.cps_live.specs.Lines.{Splits, without_return, last_line, has_no_newline, newline}
 use Rattle.cps_tool.specs.Reply.{Response, reply_text}
-use Rattle.cps_tool.specs.Script.{Run, Script, FrontOfScript, LinesOfScript, IsAnswered, HasQuit, LacksQuit, IsReadToEnd, AreAnswered, goes_on, command_lines, before_quit}
+use Rattle.cps_tool.specs.Script.{Run, RunsScript, Script, FrontOfScript, LinesOfScript, IsAnswered, HasQuit, LacksQuit, IsReadToEnd, AreAnswered, goes_on, command_lines, before_quit}
 use Rattle.cps_tool.specs.Progress.{MatchFlow, Progress, Takes, Finishes}
 
--- ---- cutting at newlines
-
-abbrev ended : List ℕ → List ℕ
-ended line = line ++ newline ∷ []
-
-both : (a b : Bool) → a ≡ true → b ≡ true → (a && b) ≡ true
-both a b p q = rw (p, q) refl
-
-left_true : (a b : Bool) → (a && b) ≡ true → a ≡ true
-left_true true b h = refl
-left_true false b h = cc
+-- ---- running lines
 
 and_false : (a : Bool) → (a && false) ≡ false
 and_false true = refl
 and_false false = refl
 
-right_true : (a b : Bool) → (a && b) ≡ true → b ≡ true
-right_true true b h = h
-right_true false b h = cc
-
-pub splits-none : Splits [] [] []
-splits-none = record { whole = refl; each = refl; last = refl }
-
--- a newline ends the line that has begun
-pub splits-line : (taken more : List ℕ) (lines later : List (List ℕ)) (rest last : List ℕ) → Splits taken lines rest → Splits more later last
-    → Splits (taken ++ newline ∷ more) (lines ++ rest ∷ later) last
-splits-line taken more lines later rest last front back = record {
-  whole =
-      let f = front.whole in let b = back.whole in
-      let joined : flat_map ended (lines ++ rest ∷ later) ≡ flat_map ended lines ++ flat_map ended (rest ∷ later) = flat_map-append ended lines (rest ∷ later) in
-      rw (joined, f, b) (simp append_assoc);
-  each = list_all-append has_no_newline lines (rest ∷ later) ∙ both (list_all has_no_newline lines) (list_all has_no_newline (rest ∷ later)) front.each
-      (both (has_no_newline rest) (list_all has_no_newline later) front.last back.each);
-  last = back.last;
-}
-
-pub splits-byte : (taken : List ℕ) (lines : List (List ℕ)) (rest : List ℕ) (byte : ℕ) → Splits taken lines rest → eqb byte newline ≡ false
-    → Splits (taken ++ byte ∷ []) lines (rest ++ byte ∷ [])
-splits-byte taken lines rest byte so_far other = record {
-  whole = ap (λ b. b ++ byte ∷ []) so_far.whole ∙ append_assoc (flat_map ended lines) rest (byte ∷ []);
-  each = so_far.each;
-  last = list_all-append (λ b. not (eqb b newline)) rest (byte ∷ []) ∙ both (has_no_newline rest) (not (eqb byte newline) && true) so_far.last (rw other refl);
-}
-
-pub record Split (bytes : List ℕ) : Type 0 where
-  pub lines : List (List ℕ)
-  pub rest : List ℕ
-  pub splits : Splits bytes lines rest
-
-split_onto : (byte : ℕ) (bytes : List ℕ) (lines : List (List ℕ)) (rest : List ℕ) → eqb byte newline ≡ false → Splits bytes lines rest → Split (byte ∷ bytes)
-split_onto byte bytes [] rest other splits = record {
-  lines = [];
-  rest = byte ∷ rest;
-  splits = record {
-    whole = ap (λ b. byte ∷ b) splits.whole;
-    each = refl;
-    last = both (not (eqb byte newline)) (has_no_newline rest) (rw other refl) splits.last;
-  };
-}
-split_onto byte bytes (line ∷ lines) rest other splits = record {
-  lines = (byte ∷ line) ∷ lines;
-  rest = rest;
-  splits = record {
-    whole = ap (λ b. byte ∷ b) splits.whole;
-    each = both (has_no_newline (byte ∷ line)) (list_all has_no_newline lines)
-        (both (not (eqb byte newline)) (has_no_newline line) (rw other refl) (left_true (has_no_newline line) (list_all has_no_newline lines) splits.each))
-        (right_true (has_no_newline line) (list_all has_no_newline lines) splits.each);
-    last = splits.last;
-  };
-}
-
-split_front : (byte : ℕ) (bytes : List ℕ) (test : Bool) → eqb byte newline ≡ test → Split bytes → Split (byte ∷ bytes)
-split_front byte bytes true is split =
-    let same : byte ≡ newline = grind (arith, nat_tests) in
-    record {
-      lines = [] ∷ split.lines;
-      rest = split.rest;
-      splits = record {
-        whole = let w = split.splits.whole in rw (same, ← w) refl;
-        each = split.splits.each;
-        last = split.splits.last;
-      };
-    }
-split_front byte bytes false is split = split_onto byte bytes split.lines split.rest is split.splits
-
--- each text can be cut
-pub split_of : (bytes : List ℕ) → Split bytes
-split_of [] = record { lines = []; rest = []; splits = splits-none }
-split_of (byte ∷ bytes) = split_front byte bytes (eqb byte newline) refl (split_of bytes)
-
--- ---- running lines
-
-pub run-more : (lines : List (List ℕ)) (start mid new : List (List ℕ)) (text line : List ℕ) (response : Response) → Run start lines text mid → IsAnswered mid line response new
+pub run-more : (lines : List (List ℕ)) (start mid new : Standing) (text line : List ℕ) (response : Response) → Run start lines text mid → IsAnswered mid line response new
     → Run start (lines ++ line ∷ []) (text ++ reply_text response) new
 run-more [] start mid new text line response run answer =
     let none = run.0 in let same = run.1 in
@@ -146,10 +65,10 @@ whole_run lines going = ap before_quit (sym (append-nil (map without_return line
 
 -- ---- taking bytes
 
-pub takes-none : (line : ScriptLine) (now : List (List ℕ)) (before : Option (List ℕ)) → Takes (Ok GoesOn) line line now now before before []
+pub takes-none : (line : BegunLine) (now : Standing) (before : Option (List ℕ)) → Takes (Ok GoesOn) line line now now before before []
 takes-none line now before = λ start taken text so_far. ([], Appends-nil before, rw (append-nil, append-nil) so_far)
 
-pub takes-byte : (line new : ScriptLine) (now : List (List ℕ)) (before : Option (List ℕ)) (byte : ℕ) → eqb byte newline ≡ false
+pub takes-byte : (line new : BegunLine) (now : Standing) (before : Option (List ℕ)) (byte : ℕ) → eqb byte newline ≡ false
     → ((begun : List ℕ) → IsBegun line begun → IsBegun new (begun ++ byte ∷ [])) → Takes (Ok GoesOn) line new now now before before (byte ∷ [])
 takes-byte line new now before byte other push = λ start taken text so_far. (
   [],
@@ -164,7 +83,7 @@ takes-byte line new now before byte other push = λ start taken text so_far. (
   }),
 )
 
-pub takes-line : (line fresh : ScriptLine) (old new : List (List ℕ)) (before after : Option (List ℕ)) → IsBegun fresh []
+pub takes-line : (line fresh : BegunLine) (old new : Standing) (before after : Option (List ℕ)) → IsBegun fresh []
     → ((begun : List ℕ) → IsBegun line begun → (is_quit (without_return begun) ≡ false) × (response : Response) × IsAnswered old (without_return begun) response new × Appends before after (reply_text response))
     → Takes (Ok GoesOn) line fresh old new before after (newline ∷ [])
 takes-line line fresh old new before after empty answer = λ start taken text so_far.
@@ -198,7 +117,7 @@ quit_ends lines later rest here =
     rw (map-append without_return lines (rest ∷ later), list_all-append goes_on (map without_return lines) (map without_return (rest ∷ later)), here)
     (and_false (list_all goes_on (map without_return lines)))
 
-pub takes-quit : (line fresh : ScriptLine) (old new : List (List ℕ)) (before after : Option (List ℕ))
+pub takes-quit : (line fresh : BegunLine) (old new : Standing) (before after : Option (List ℕ))
     → ((begun : List ℕ) → IsBegun line begun → (is_quit (without_return begun) ≡ true) × (new ≡ old) × Appends before after [])
     → Takes (Ok Ends) line fresh old new before after (newline ∷ [])
 takes-quit line fresh old new before after answer = λ start taken text so_far.
@@ -219,7 +138,7 @@ takes-quit line fresh old new before after answer = λ start taken text so_far.
           ),
     )
 
-pub takes-answered : (flow : Flow) (line fresh : ScriptLine) (old new : List (List ℕ)) (before after : Option (List ℕ)) → IsBegun fresh []
+pub takes-answered : (flow : Flow) (line fresh : BegunLine) (old new : Standing) (before after : Option (List ℕ)) → IsBegun fresh []
     → ((begun : List ℕ) → IsBegun line begun → MatchFlow flow
     ((is_quit (without_return begun) ≡ false) × (response : Response) × IsAnswered old (without_return begun) response new × Appends before after (reply_text response))
     ((is_quit (without_return begun) ≡ true) × (new ≡ old) × Appends before after []))
@@ -227,7 +146,7 @@ pub takes-answered : (flow : Flow) (line fresh : ScriptLine) (old new : List (Li
 takes-answered GoesOn line fresh old new before after empty answer = takes-line line fresh old new before after empty answer
 takes-answered Ends line fresh old new before after empty answer = takes-quit line fresh old new before after answer
 
-pub takes-fault : (fault : RunFault) (line fresh : ScriptLine) (old new : List (List ℕ)) (before after : Option (List ℕ))
+pub takes-fault : (fault : RunFault) (line fresh : BegunLine) (old new : Standing) (before after : Option (List ℕ))
     → ((begun : List ℕ) → IsBegun line begun → (is_quit (without_return begun) ≡ false) × (response : Response) × IsAnswered old (without_return begun) response new
     × (front back : List ℕ) × (reply_text response ≡ front ++ back) × Appends before after front)
     → Takes (Err fault) line fresh old new before after (newline ∷ [])
@@ -263,7 +182,7 @@ last_line-some : (rest : List ℕ) → (rest ≡ [] → ⊥) → last_line rest 
 last_line-some [] some = absurd (some refl)
 last_line-some (b ∷ bytes) some = refl
 
-pub finishes-empty : (line : ScriptLine) (now : List (List ℕ)) (before : Option (List ℕ)) → ((begun : List ℕ) → IsBegun line begun → begun ≡ []) → Finishes (Ok tt) line now now before before
+pub finishes-empty : (line : BegunLine) (now : Standing) (before : Option (List ℕ)) → ((begun : List ℕ) → IsBegun line begun → begun ≡ []) → Finishes (Ok tt) line now now before before
 finishes-empty line now before empty = λ start taken text so_far.
     let none : last_line so_far.rest ≡ [] = ap last_line (empty so_far.rest so_far.begun) in
     let whole : command_lines so_far.lines so_far.rest ≡ map without_return so_far.lines
@@ -278,7 +197,7 @@ finishes-empty line now before empty = λ start taken text so_far.
       },
     )
 
-pub finishes-line : (flow : Flow) (line : ScriptLine) (old new : List (List ℕ)) (before after : Option (List ℕ)) → ((begun : List ℕ) → IsBegun line begun → begun ≡ [] → ⊥)
+pub finishes-line : (flow : Flow) (line : BegunLine) (old new : Standing) (before after : Option (List ℕ)) → ((begun : List ℕ) → IsBegun line begun → begun ≡ [] → ⊥)
     → ((begun : List ℕ) → IsBegun line begun → MatchFlow flow
     ((is_quit (without_return begun) ≡ false) × (response : Response) × IsAnswered old (without_return begun) response new × Appends before after (reply_text response))
     ((is_quit (without_return begun) ≡ true) × (new ≡ old) × Appends before after []))
@@ -315,7 +234,7 @@ finishes-line Ends line old new before after some answer = λ start taken text s
       },
     )
 
-pub finishes-fault : (fault : RunFault) (line : ScriptLine) (old new : List (List ℕ)) (before after : Option (List ℕ)) → ((begun : List ℕ) → IsBegun line begun → begun ≡ [] → ⊥)
+pub finishes-fault : (fault : RunFault) (line : BegunLine) (old new : Standing) (before after : Option (List ℕ)) → ((begun : List ℕ) → IsBegun line begun → begun ≡ [] → ⊥)
     → ((begun : List ℕ) → IsBegun line begun → (is_quit (without_return begun) ≡ false) × (response : Response) × IsAnswered old (without_return begun) response new
     × (front back : List ℕ) × (reply_text response ≡ front ++ back) × Appends before after front)
     → Finishes (Err fault) line old new before after
@@ -347,26 +266,30 @@ finishes-fault fault line old new before after some answer = λ start taken text
 
 -- ---- from the first byte to the last
 
-pub progress-none : (line : ScriptLine) (start : List (List ℕ)) → IsBegun line [] → Progress start [] line [] start
+pub progress-none : (line : BegunLine) (start : Standing) → IsBegun line [] → Progress start [] line [] start
 progress-none line start empty = record { lines = []; rest = []; splits = splits-none; begun = empty; going = refl; run = (refl, refl) }
 
-pub progress-lines : (start : List (List ℕ)) (taken : List ℕ) (line : ScriptLine) (text : List ℕ) (now : List (List ℕ)) → Progress start taken line text now → LinesOfScript start taken text now
+-- before the first line
+pub progress-from : (line : BegunLine) (source : List (List ℕ)) (work : Counts) → work ≡ no_work → IsBegun line [] → Progress (beginning source) [] line [] (at source work)
+progress-from line source work none empty = subst (λ w. Progress (beginning source) [] line [] (at source w)) (sym none) (progress-none line (beginning source) empty)
+
+pub progress-lines : (start : Standing) (taken : List ℕ) (line : BegunLine) (text : List ℕ) (now : Standing) → Progress start taken line text now → LinesOfScript start taken text now
 progress-lines start taken line text now so_far = record { lines = so_far.lines; rest = so_far.rest; splits = so_far.splits; going = so_far.going; run = so_far.run }
 
-pub progress-lacks : (start : List (List ℕ)) (taken : List ℕ) (line : ScriptLine) (text : List ℕ) (now : List (List ℕ)) → Progress start taken line text now → LacksQuit taken
+pub progress-lacks : (start : Standing) (taken : List ℕ) (line : BegunLine) (text : List ℕ) (now : Standing) → Progress start taken line text now → LacksQuit taken
 progress-lacks start taken line text now so_far = (so_far.lines, so_far.rest, so_far.splits, so_far.going)
 
 -- what a run says of what it took, and of its reads
-abbrev pub RunSays : (List ℕ → List ℕ → Type 0) → List (List ℕ) → List (List ℕ) → Option (List ℕ) → Option (List ℕ) → Option (List ℕ) → Option (List ℕ) → Type 0
+abbrev pub RunSays : (List ℕ → List ℕ → Type 0) → Standing → Standing → Option (List ℕ) → Option (List ℕ) → Option (List ℕ) → Option (List ℕ) → Type 0
 RunSays Reads start new input left output after =
     (before last text : List ℕ) × Consumes input left (before ++ last) × Script start (before ++ last) text new × Appends output after text
     × Reads before last × IsReadToEnd before last left
 
 -- what a run says of the whole input
-abbrev pub WholeSays : List (List ℕ) → List (List ℕ) → Option (List ℕ) → Option (List ℕ) → Option (List ℕ) → Type 0
+abbrev pub WholeSays : Standing → Standing → Option (List ℕ) → Option (List ℕ) → Option (List ℕ) → Type 0
 WholeSays start new input before after = IfSome input (λ bytes. (text : List ℕ) × Script start bytes text new × Appends before after text)
 
-pub finished-ok : (Reads : List ℕ → List ℕ → Type 0) (line : ScriptLine) (start old new : List (List ℕ)) (input left before between after : Option (List ℕ)) (taken text : List ℕ)
+pub finished-ok : (Reads : List ℕ → List ℕ → Type 0) (line : BegunLine) (start old new : Standing) (input left before between after : Option (List ℕ)) (taken text : List ℕ)
     → Progress start taken line text old → Consumes input left taken → IsAtEnd left → Appends before between text → Reads taken []
     → Finishes (Ok tt) line old new between after → RunSays Reads start new input left before after
 finished-ok Reads line start old new input left before between after taken text so_far consumed end appends reads finishes =
@@ -381,7 +304,7 @@ finished-ok Reads line start old new input left before between after taken text 
       (progress-lacks start taken line text old so_far, inl (refl, end)),
     )
 
-pub finished-whole : (line : ScriptLine) (start old new : List (List ℕ)) (input left before between after : Option (List ℕ)) (taken text : List ℕ)
+pub finished-whole : (line : BegunLine) (start old new : Standing) (input left before between after : Option (List ℕ)) (taken text : List ℕ)
     → Progress start taken line text old → Consumes input left taken → IsAtEnd left → Appends before between text
     → Finishes (Ok tt) line old new between after → WholeSays start new input before after
 finished-whole line start old new None left before between after taken text so_far consumed end appends finishes = tt
@@ -390,14 +313,14 @@ finished-whole line start old new (Some xs) (Some ys) before between after taken
     let f = finishes start taken text so_far in
     (text ++ f.0, rw (consumed, end, append-nil) f.2, Appends-trans before between after text f.0 appends f.1)
 
-pub ended-ok : (Reads : List ℕ → List ℕ → Type 0) (start new : List (List ℕ)) (input left before after : Option (List ℕ)) (taken bytes text : List ℕ) → Consumes input left (taken ++ bytes)
+pub ended-ok : (Reads : List ℕ → List ℕ → Type 0) (start new : Standing) (input left before after : Option (List ℕ)) (taken bytes text : List ℕ) → Consumes input left (taken ++ bytes)
     → Appends before after text → LacksQuit taken → Reads taken bytes
     → ((more : List ℕ) → Script start (taken ++ bytes ++ more) text new × HasQuit (taken ++ bytes ++ more)) → RunSays Reads start new input left before after
 ended-ok Reads start new input left before after taken bytes text consumed appends lacks reads ends =
     let e = rw append-nil at (ends []) in
     (taken, bytes, text, consumed, e.0, appends, reads, (lacks, inr e.1))
 
-pub ended-whole : (start new : List (List ℕ)) (input left before after : Option (List ℕ)) (taken bytes text : List ℕ) → Consumes input left (taken ++ bytes)
+pub ended-whole : (start new : Standing) (input left before after : Option (List ℕ)) (taken bytes text : List ℕ) → Consumes input left (taken ++ bytes)
     → Appends before after text
     → ((more : List ℕ) → Script start (taken ++ bytes ++ more) text new × HasQuit (taken ++ bytes ++ more)) → WholeSays start new input before after
 ended-whole start new None left before after taken bytes text consumed appends ends = tt
@@ -406,17 +329,17 @@ ended-whole start new (Some xs) (Some ys) before after taken bytes text consumed
     let e = ends ys in (text, rw consumed e.0, appends)
 
 -- what a run says that a failed write ended
-abbrev pub FaultSays : (List ℕ → List ℕ → Type 0) → List (List ℕ) → List (List ℕ) → Option (List ℕ) → Option (List ℕ) → Option (List ℕ) → Option (List ℕ) → Type 0
+abbrev pub FaultSays : (List ℕ → List ℕ → Type 0) → Standing → Standing → Option (List ℕ) → Option (List ℕ) → Option (List ℕ) → Option (List ℕ) → Type 0
 FaultSays Reads start new input left output after =
     (before last text unsaid : List ℕ) × Consumes input left (before ++ last) × FrontOfScript start (before ++ last) last left text unsaid new
     × Appends output after text × Reads before last × AreAnswered start before text
 
 -- the replies so far stand before what is added to them
-answered-before : (start : List (List ℕ)) (taken : List ℕ) (line : ScriptLine) (text added : List ℕ) (now : List (List ℕ))
+answered-before : (start : Standing) (taken : List ℕ) (line : BegunLine) (text added : List ℕ) (now : Standing)
     → Progress start taken line text now → AreAnswered start taken (text ++ added)
 answered-before start taken line text added now so_far = (text, added, now, progress-lines start taken line text now so_far, refl)
 
-pub finished-fault : (Reads : List ℕ → List ℕ → Type 0) (fault : RunFault) (line : ScriptLine) (start old new : List (List ℕ)) (input left before between after : Option (List ℕ)) (taken text : List ℕ)
+pub finished-fault : (Reads : List ℕ → List ℕ → Type 0) (fault : RunFault) (line : BegunLine) (start old new : Standing) (input left before between after : Option (List ℕ)) (taken text : List ℕ)
     → Progress start taken line text old → Consumes input left taken → IsAtEnd left → Appends before between text → Reads taken []
     → Finishes (Err fault) line old new between after → FaultSays Reads start new input left before after
 finished-fault Reads fault line start old new input left before between after taken text so_far consumed end appends reads finishes =
@@ -432,7 +355,7 @@ finished-fault Reads fault line start old new input left before between after ta
       answered-before start taken line text f.0 old so_far,
     )
 
-pub failed-fault : (Reads : List ℕ → List ℕ → Type 0) (fault : RunFault) (line next : ScriptLine) (start old new : List (List ℕ)) (input left before between after : Option (List ℕ)) (taken bytes text : List ℕ)
+pub failed-fault : (Reads : List ℕ → List ℕ → Type 0) (fault : RunFault) (line next : BegunLine) (start old new : Standing) (input left before between after : Option (List ℕ)) (taken bytes text : List ℕ)
     → Progress start taken line text old → Consumes input left (taken ++ bytes) → Appends before between text → Reads taken bytes
     → Takes (Err fault) line next old new between after bytes → FaultSays Reads start new input left before after
 failed-fault Reads fault line next start old new input left before between after taken bytes text so_far consumed appends reads takes =
@@ -451,11 +374,11 @@ failed-fault Reads fault line next start old new input left before between after
 -- ---- taking further bytes
 
 -- where a flow is one of the two
-pub takes-as : (flow same : Flow) (a b : ScriptLine) (old new : List (List ℕ)) (before after : Option (List ℕ)) (bytes : List ℕ) → flow ≡ same
+pub takes-as : (flow same : Flow) (a b : BegunLine) (old new : Standing) (before after : Option (List ℕ)) (bytes : List ℕ) → flow ≡ same
     → Takes (Ok flow) a b old new before after bytes → Takes (Ok same) a b old new before after bytes
 takes-as flow same a b old new before after bytes is takes = let P : Flow → Type 0 = λ f. Takes (Ok f) a b old new before after bytes in subst P is takes
 
-pub takes-then : (result : Result Flow RunFault) (a b c : ScriptLine) (old mid new : List (List ℕ)) (before between after : Option (List ℕ)) (front back : List ℕ)
+pub takes-then : (result : Result Flow RunFault) (a b c : BegunLine) (old mid new : Standing) (before between after : Option (List ℕ)) (front back : List ℕ)
     → Takes (Ok GoesOn) a b old mid before between front → Takes result b c mid new between after back → Takes result a c old new before after (front ++ back)
 takes-then (Ok GoesOn) a b c old mid new before between after front back first second = λ start taken text so_far.
     let f = first start taken text so_far in
@@ -470,12 +393,21 @@ takes-then (Err fault) a b c old mid new before between after front back first s
     let s = second start (taken ++ front) (text ++ f.0) f.2 in
     (f.0 ++ s.0, s.1, Appends-trans before between after f.0 s.0 f.1 s.2, λ more last left. rw (← append_assoc taken front back, ← append_assoc text f.0 s.0) (s.3 more last left))
 
-pub takes-ended : (a b : ScriptLine) (old new : List (List ℕ)) (before after : Option (List ℕ)) (front back : List ℕ) → Takes (Ok Ends) a b old new before after front → Takes (Ok Ends) a b old new before after (front ++ back)
+pub takes-ended : (a b : BegunLine) (old new : Standing) (before after : Option (List ℕ)) (front back : List ℕ) → Takes (Ok Ends) a b old new before after front → Takes (Ok Ends) a b old new before after (front ++ back)
 takes-ended a b old new before after front back first = λ start taken text so_far.
     let f = first start taken text so_far in
     (f.0, f.1, λ more. rw (← append_assoc taken front back, append_assoc (taken ++ front) back more) (f.2 (back ++ more)))
 
-pub takes-failed : (fault : RunFault) (a b : ScriptLine) (old new : List (List ℕ)) (before after : Option (List ℕ)) (front back : List ℕ) → Takes (Err fault) a b old new before after front → Takes (Err fault) a b old new before after (front ++ back)
+pub takes-failed : (fault : RunFault) (a b : BegunLine) (old new : Standing) (before after : Option (List ℕ)) (front back : List ℕ) → Takes (Err fault) a b old new before after front → Takes (Err fault) a b old new before after (front ++ back)
 takes-failed fault a b old new before after front back first = λ start taken text so_far.
     let f = first start taken text so_far in
     (f.0, f.1, f.2, λ more last left. rw (← append_assoc taken front back, append_assoc (taken ++ front) back more) (f.3 (back ++ more) last left))
+
+-- ---- a run
+
+-- a fault that is no read fault
+pub runs-failed : {R W : Type 0} (remaining : R → Option (List ℕ)) (contents : W → Option (List ℕ)) (old new : List (List ℕ)) (fault : RunFault)
+    (reader reader' : Counted R) (writer writer' : Counted W) → (fault ≡ faults.ReadFault → ⊥)
+    → RunsScript remaining contents old new (Err faults.WriteFault) reader reader' writer writer' → RunsScript remaining contents old new (Err fault) reader reader' writer writer'
+runs-failed remaining contents old new faults.ReadFault reader reader' writer writer' other run = absurd (other refl)
+runs-failed remaining contents old new faults.WriteFault reader reader' writer writer' other run = run

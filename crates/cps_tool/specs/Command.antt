@@ -2,10 +2,10 @@
 use Rattle.std.specs.Prelude.{◌≡◌, ℕ, ◌<◌, ◌≤◌, Bool, true, false, IsTrue, List, [], ◌++◌, length, codes, ◌⊎◌, bytes_eq}
 use Rattle.std.specs.Str.Parse.{AllDigits, digits_value}
 use Rattle.cps_tool.specs.declared.command.Command.{Command}
-use Rattle.cps_tool.specs.declared.command.Command.TheVariants.{Append, Insert, Replace, Delete, Listing, Binary, Symbols, Flags, Quit}
+use Rattle.cps_tool.specs.declared.command.Command.TheVariants.{Append, Insert, Replace, Delete, Listing, Binary, Symbols, Flags, Work, Quit}
 
 -- what a command asks: a text at the end of the source, behind a line or in place of one, to delete lines, one of the texts,
--- or the script's end
+-- the steps of the latest edit, or the script's end
 pub data Order : Type 0 where
   append : List ℕ → Order
   insert : ℕ → List ℕ → Order
@@ -15,6 +15,7 @@ pub data Order : Type 0 where
   binary : Order
   symbols : Order
   flags : Order
+  work : Order
   quit : Order
 
 -- what a command of the code asks
@@ -27,6 +28,7 @@ order_of Listing = list
 order_of Binary = binary
 order_of Symbols = symbols
 order_of Flags = flags
+order_of Work = work
 order_of Quit = quit
 
 -- the most bytes that a command has
@@ -65,6 +67,7 @@ is_quit_order list = false
 is_quit_order binary = false
 is_quit_order symbols = false
 is_quit_order flags = false
+is_quit_order work = false
 is_quit_order quit = true
 
 -- the bytes of a command that gives an order
@@ -80,4 +83,5 @@ Spells line list = (length line ≤ longest_command) × (line ≡ codes "list")
 Spells line binary = (length line ≤ longest_command) × (line ≡ codes "binary")
 Spells line symbols = (length line ≤ longest_command) × (line ≡ codes "symbols")
 Spells line flags = (length line ≤ longest_command) × (line ≡ codes "flags")
+Spells line work = (length line ≤ longest_command) × (line ≡ codes "work")
 Spells line quit = (length line ≤ longest_command) × IsTrue (is_quit line)

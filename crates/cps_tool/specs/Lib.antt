@@ -1,14 +1,7 @@
 pub mod Edits
-pub mod Lines
-pub mod Assembly
-pub mod Assembled
-pub mod Flagged
 pub mod Command
 pub mod Reply
 pub mod Script
-pub mod ScriptLine
 pub mod Progress
-pub use Rattle.cps_code.specs.Form
-pub use Rattle.cps_code.specs.Image
-pub use Rattle.cps_code.specs.Place
-pub use Rattle.cps_code.specs.Table
+pub mod Request
+pub mod CommandLine

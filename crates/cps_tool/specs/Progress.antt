@@ -5,18 +5,19 @@ use Rattle.std.specs.Io.KnownBytes.{Appends}
 use Rattle.cps_tool.specs.declared.script.Flow.{Flow}
 use Rattle.cps_tool.specs.declared.script.Flow.TheVariants.{GoesOn, Ends}
 use Rattle.cps_tool.specs.declared.writing.RunFault.{RunFault}
-use Rattle.cps_tool.specs.declared.script_line.ScriptLine.{ScriptLine}
-use Rattle.cps_tool.specs.Lines.{Splits, without_return}
+use Rattle.cps_live.specs.declared.begun_line.BegunLine.{BegunLine}
+use Rattle.cps_live.specs.Lines.{Splits, without_return}
+use Rattle.cps_tool.specs.Edits.{Standing}
 use Rattle.cps_tool.specs.Script.{Run, Script, FrontOfScript, IsInputEnd, HasQuit, goes_on}
-use Rattle.cps_tool.specs.ScriptLine.{IsBegun}
+use Rattle.cps_live.specs.BegunLine.{IsBegun}
 
 -- one fact where a script goes on, and another where it ends
 abbrev pub MatchFlow : Flow → Type 0 → Type 0 → Type 0
 MatchFlow GoesOn on ended = on
 MatchFlow Ends on ended = ended
 
--- From a source, the lines that end in the bytes taken were answered by a text. A last line has begun.
-pub record Progress (start : List (List ℕ)) (taken : List ℕ) (line : ScriptLine) (text : List ℕ) (now : List (List ℕ)) : Type 0 where
+-- From where a script began, the lines that end in the bytes taken were answered by a text. A last line has begun.
+pub record Progress (start : Standing) (taken : List ℕ) (line : BegunLine) (text : List ℕ) (now : Standing) : Type 0 where
   pub lines : List (List ℕ)
   pub rest : List ℕ
   pub splits : Splits taken lines rest
@@ -26,9 +27,9 @@ pub record Progress (start : List (List ℕ)) (taken : List ℕ) (line : ScriptL
 
 -- What taking further bytes comes to. Where the script goes on, it has come so much further; where it ends, no later byte matters;
 -- where a write failed, the last line's reply was written in part.
-abbrev pub Takes : Result Flow RunFault → ScriptLine → ScriptLine → List (List ℕ) → List (List ℕ) → Option (List ℕ) → Option (List ℕ) → List ℕ → Type 0
+abbrev pub Takes : Result Flow RunFault → BegunLine → BegunLine → Standing → Standing → Option (List ℕ) → Option (List ℕ) → List ℕ → Type 0
 Takes result old_line new_line old new before after bytes =
-    (start : List (List ℕ)) (taken text : List ℕ) → Progress start taken old_line text old → MatchResult result
+    (start : Standing) (taken text : List ℕ) → Progress start taken old_line text old → MatchResult result
     (λ flow. (added : List ℕ) × Appends before after added × MatchFlow flow
     (Progress start (taken ++ bytes) new_line (text ++ added) new)
     ((more : List ℕ) → Script start (taken ++ bytes ++ more) (text ++ added) new × HasQuit (taken ++ bytes ++ more)))
@@ -36,9 +37,9 @@ Takes result old_line new_line old new before after bytes =
     × ((more last : List ℕ) (left : Option (List ℕ)) → FrontOfScript start (taken ++ bytes ++ more) last left (text ++ added) unsaid new))
 
 -- What the end of the bytes comes to: the line that has begun is answered as well.
-abbrev pub Finishes : Result (Unit {0}) RunFault → ScriptLine → List (List ℕ) → List (List ℕ) → Option (List ℕ) → Option (List ℕ) → Type 0
+abbrev pub Finishes : Result (Unit {0}) RunFault → BegunLine → Standing → Standing → Option (List ℕ) → Option (List ℕ) → Type 0
 Finishes result line old new before after =
-    (start : List (List ℕ)) (taken text : List ℕ) → Progress start taken line text old → MatchResult result
+    (start : Standing) (taken text : List ℕ) → Progress start taken line text old → MatchResult result
     (λ _. (added : List ℕ) × Appends before after added × Script start taken (text ++ added) new)
     (λ _. (added unsaid : List ℕ) × Appends before after added
     × ((last : List ℕ) (left : Option (List ℕ)) → IsInputEnd last left → FrontOfScript start taken last left (text ++ added) unsaid new))

@@ -1,47 +1,56 @@
 -- What a script writes, and the source after it. Our own.
-use Rattle.std.specs.Prelude.{◌≡◌, ℕ, Bool, true, false, not, List, [], ◌∷◌, ◌++◌, map, length, ◌⊎◌, Option, if◌then◌else◌}
+use Rattle.std.specs.Prelude.{◌≡◌, ℕ, Bool, true, false, not, List, [], ◌∷◌, ◌++◌, map, length, ◌⊎◌, Option, Result, Ok, Err, if◌then◌else◌}
 use Rattle.std.specs.List.{list_all}
-use Rattle.std.specs.Io.KnownBytes.{IsAtEnd}
+use Rattle.std.specs.Io.KnownBytes.{Appends, Consumes, IsAtEnd}
+use Rattle.cps_text.specs.declared.counted.Counted.{Counted}
+use Rattle.cps_text.specs.Counted.{inner_of, failures_of, FailsOnce, LastReadGave}
+use Rattle.cps_state.specs.Work.{Counts}
 use Rattle.cps_tool.specs.declared.reply.Refusal.TheVariants as refusals
 use Rattle.cps_list.specs.Listing.{listing_text}
 use Rattle.cps_list.specs.Binary.{binary_text}
 use Rattle.cps_list.specs.Symbols.{symbols_text}
 use Rattle.cps_list.specs.Flagged.{flags_text}
-use Rattle.cps_tool.specs.Assembly.{assembly_of}
-use Rattle.cps_tool.specs.Command.{Order, append, insert, replace, delete, list, binary, symbols, flags, quit, Spells, is_quit}
-use Rattle.cps_tool.specs.Edits.{Inserted, Replaced, Deleted}
-use Rattle.cps_tool.specs.Lines.{Splits, without_return, last_line}
-use Rattle.cps_tool.specs.Reply.{Response, accepted, refused, shown, reply_text}
+use Rattle.cps_live.specs.Assembly.{assembly_of}
+use Rattle.cps_live.specs.Flagged.{flagged_lines}
+use Rattle.cps_live.specs.Reads.{EndsEarly}
+use Rattle.cps_live.specs.Lines.{Splits, without_return, last_line, lines_of}
+use Rattle.cps_tool.specs.Command.{Order, append, insert, replace, delete, list, binary, symbols, flags, work, quit, Spells, is_quit}
+use Rattle.cps_tool.specs.declared.writing.RunFault.{RunFault}
+use Rattle.cps_tool.specs.declared.writing.RunFault.TheVariants as faults
+use Rattle.cps_tool.specs.Edits.{Standing, at, beginning, Inserted, Replaced, Deleted}
+use Rattle.cps_tool.specs.Reply.{Response, accepted, refused, shown, worked, reply_text}
 
--- a query was answered: its text is shown whole, or memory was refused; the source stays the same
-abbrev pub Queried : List (List ℕ) → List ℕ → Response → List (List ℕ) → Type 0
+-- a query was answered: its text is shown whole, or memory was refused; nothing is changed
+abbrev pub Queried : Standing → List ℕ → Response → Standing → Type 0
 Queried old text (accepted count) new = ⊥
 Queried old text (refused refusal) new = (refusal ≡ refusals.NoMemory) × (new ≡ old)
 Queried old text (shown bytes) new = (bytes ≡ text) × (new ≡ old)
+Queried old text (worked counts) new = ⊥
 
 -- an order was answered; the end of a script is not
-abbrev pub Obeys : List (List ℕ) → Order → Response → List (List ℕ) → Type 0
-Obeys old (append text) response new = Inserted old (length old) text response new
-Obeys old (insert after text) response new = Inserted old after text response new
-Obeys old (replace at text) response new = Replaced old at text response new
-Obeys old (delete first last) response new = Deleted old first last response new
-Obeys old list response new = Queried old (listing_text (assembly_of old)) response new
-Obeys old binary response new = Queried old (binary_text (assembly_of old)) response new
-Obeys old symbols response new = Queried old (symbols_text (assembly_of old)) response new
-Obeys old flags response new = Queried old (flags_text (assembly_of old)) response new
+abbrev pub Obeys : Standing → Order → Response → Standing → Type 0
+Obeys old (append text) response new = Inserted old.source (length old.source) text response new
+Obeys old (insert after text) response new = Inserted old.source after text response new
+Obeys old (replace at text) response new = Replaced old.source at text response new
+Obeys old (delete first last) response new = Deleted old.source first last response new
+Obeys old list response new = Queried old (listing_text (assembly_of old.source)) response new
+Obeys old binary response new = Queried old (binary_text (assembly_of old.source)) response new
+Obeys old symbols response new = Queried old (symbols_text (assembly_of old.source)) response new
+Obeys old flags response new = Queried old (flags_text (assembly_of old.source)) response new
+Obeys old work response new = (response ≡ worked old.work) × (new ≡ old)
 Obeys old quit response new = ⊥
 
 -- a command line was answered; one that spells no order is refused
-abbrev pub IsAnswered : List (List ℕ) → List ℕ → Response → List (List ℕ) → Type 0
+abbrev pub IsAnswered : Standing → List ℕ → Response → Standing → Type 0
 IsAnswered old line response new =
     ((order : Order) × Spells line order × Obeys old order response new)
     ⊎ (((order : Order) → Spells line order → ⊥) × (response ≡ refused refusals.BadCommand) × (new ≡ old))
 
--- what command lines may write, one after another, and the source after them
-abbrev pub Run : List (List ℕ) → List (List ℕ) → List ℕ → List (List ℕ) → Type 0
+-- what command lines may write, one after another, and where the script stands behind them
+abbrev pub Run : Standing → List (List ℕ) → List ℕ → Standing → Type 0
 Run old [] text new = (text ≡ []) × (new ≡ old)
 Run old (line ∷ lines) text new =
-    (response : Response) × (mid : List (List ℕ)) × (later : List ℕ)
+    (response : Response) × (mid : Standing) × (later : List ℕ)
     × IsAnswered old line response mid × Run mid lines later new × (text ≡ reply_text response ++ later)
 
 -- a command line does not end the script
@@ -55,17 +64,17 @@ before_quit (line ∷ lines) = if is_quit line then [] else line ∷ before_quit
 
 -- the command lines of a script that was cut into lines, up to the one that ends it
 abbrev pub command_lines : List (List ℕ) → List ℕ → List (List ℕ)
-command_lines lines rest = before_quit (map without_return lines ++ last_line rest)
+command_lines lines rest = before_quit (lines_of lines rest)
 
--- what a script's bytes may write, and the source after it
-pub record Script (old : List (List ℕ)) (bytes text : List ℕ) (new : List (List ℕ)) : Type 0 where
+-- what a script's bytes may write, and where it stands behind them
+pub record Script (old : Standing) (bytes text : List ℕ) (new : Standing) : Type 0 where
   pub lines : List (List ℕ)
   pub rest : List ℕ
   pub splits : Splits bytes lines rest
   pub run : Run old (command_lines lines rest) text new
 
--- what the lines that a newline ends may write, none of which ends the script, and the source after them
-pub record LinesOfScript (old : List (List ℕ)) (bytes text : List ℕ) (new : List (List ℕ)) : Type 0 where
+-- what the lines that a newline ends may write, none of which ends the script, and where it stands behind them
+pub record LinesOfScript (old : Standing) (bytes text : List ℕ) (new : Standing) : Type 0 where
   pub lines : List (List ℕ)
   pub rest : List ℕ
   pub splits : Splits bytes lines rest
@@ -102,7 +111,7 @@ HaveCome lines rest last left commands =
 -- The first command lines that have come were answered, none of which ends the script; `last` are the bytes of the last read, and `left` are
 -- those to come. The replies to the earlier lines stand in `text`, and behind them a front of the reply to the final one; `unsaid` is the
 -- rest of it.
-pub record FrontOfScript (old : List (List ℕ)) (bytes last : List ℕ) (left : Option (List ℕ)) (text unsaid : List ℕ) (new : List (List ℕ)) : Type 0 where
+pub record FrontOfScript (old : Standing) (bytes last : List ℕ) (left : Option (List ℕ)) (text unsaid : List ℕ) (new : Standing) : Type 0 where
   pub lines : List (List ℕ)
   pub rest : List ℕ
   pub splits : Splits bytes lines rest
@@ -112,7 +121,7 @@ pub record FrontOfScript (old : List (List ℕ)) (bytes last : List ℕ) (left :
   pub commands : HaveCome lines rest last left (earlier ++ final ∷ later)
   pub going : list_all goes_on (earlier ++ final ∷ []) ≡ true
   pub replies : List ℕ
-  pub mid : List (List ℕ)
+  pub mid : Standing
   pub run : Run old earlier replies mid
   pub response : Response
   pub answers : IsAnswered mid final response new
@@ -121,5 +130,27 @@ pub record FrontOfScript (old : List (List ℕ)) (bytes last : List ℕ) (left :
   pub cut : reply_text response ≡ front ++ unsaid
 
 -- the replies to the lines that newlines ended in these bytes stand whole in a text
-abbrev pub AreAnswered : List (List ℕ) → List ℕ → List ℕ → Type 0
-AreAnswered old bytes text = (said more : List ℕ) × (mid : List (List ℕ)) × LinesOfScript old bytes said mid × (text ≡ said ++ more)
+abbrev pub AreAnswered : Standing → List ℕ → List ℕ → Type 0
+AreAnswered old bytes text = (said more : List ℕ) × (mid : Standing) × LinesOfScript old bytes said mid × (text ≡ said ++ more)
+
+-- ---- a run
+
+-- What a run of a script does, by its result: `old` is the source before it and `new` the source after it.
+-- What is written is a text that the script may write. After a read fault it is a text of the lines that a newline ended; after a failed write
+-- the replies to some first lines stand there, the last one in part.
+abbrev pub RunsScript : {R W : Type 0} → (R → Option (List ℕ)) → (W → Option (List ℕ)) → List (List ℕ) → List (List ℕ) → Result ℕ RunFault → Counted R → Counted R → Counted W → Counted W → Type 0
+RunsScript remaining contents old new (Ok count) reader reader' writer writer' =
+    (before last text : List ℕ) × (work : Counts) × Consumes (remaining (inner_of reader)) (remaining (inner_of reader')) (before ++ last)
+    × Script (beginning old) (before ++ last) text (at new work) × Appends (contents (inner_of writer)) (contents (inner_of writer')) text
+    × LastReadGave reader reader' before last × IsReadToEnd before last (remaining (inner_of reader'))
+    × (count ≡ flagged_lines new) × (failures_of reader' ≡ failures_of reader) × (failures_of writer' ≡ failures_of writer)
+RunsScript remaining contents old new (Err faults.ReadFault) reader reader' writer writer' =
+    (taken text : List ℕ) × (work : Counts) × Consumes (remaining (inner_of reader)) (remaining (inner_of reader')) taken
+    × LinesOfScript (beginning old) taken text (at new work) × Appends (contents (inner_of writer)) (contents (inner_of writer')) text
+    × EndsEarly reader reader' taken × (failures_of writer' ≡ failures_of writer)
+RunsScript remaining contents old new (Err faults.WriteFault) reader reader' writer writer' =
+    (before last text unsaid : List ℕ) × (work : Counts) × Consumes (remaining (inner_of reader)) (remaining (inner_of reader')) (before ++ last)
+    × FrontOfScript (beginning old) (before ++ last) last (remaining (inner_of reader')) text unsaid (at new work)
+    × Appends (contents (inner_of writer)) (contents (inner_of writer')) text
+    × LastReadGave reader reader' before last × AreAnswered (beginning old) before text
+    × FailsOnce writer writer' × (failures_of reader' ≡ failures_of reader)

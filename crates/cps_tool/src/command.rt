@@ -1,7 +1,7 @@
 //! The commands of a script.
 ghost use Rattle.std.specs.Prelude.{◌≡◌, ℕ, ◌<◌, ◌≤◌, List, false, length, IfOk, IfSome, IfNone, MatchResult, MatchOption};
 ghost use Rattle.std.specs.List.{before_first, after_first, position_from};
-ghost use Rattle.cps_tool.specs.Command.{Order, append, insert, replace, delete, list, binary, symbols, flags, Spells, IsNumber, IsNumbered, IsRange, is_quit, is_quit_order, order_of};
+ghost use Rattle.cps_tool.specs.Command.{Order, append, insert, replace, delete, list, binary, symbols, flags, work, Spells, IsNumber, IsNumbered, IsRange, is_quit, is_quit_order, order_of};
 ghost use Rattle.cps_text.specs.Text.{is_blank};
 
 use thiserror::Error;
@@ -38,6 +38,8 @@ pub enum Command<'a> {
     Symbols,
     /// To write the flagged lines.
     Flags,
+    /// To write how many steps the latest edit took.
+    Work,
     /// To end the script.
     Quit,
 }
@@ -87,7 +89,7 @@ fn read_plain(line: &[u8]) -> Option<Command<'_>>
     }
 }
 
-/// The command to write a text, None where the line spells another or none.
+/// The command to write a text or the steps of an edit, None where the line spells another or none.
 fn read_query(line: &[u8]) -> Option<Command<'_>>
     requires { length line.now ≤ LONGEST_COMMAND }
     ensures order { IfSome result (λ command. Spells line.now (order_of command)) }
@@ -96,12 +98,14 @@ fn read_query(line: &[u8]) -> Option<Command<'_>>
     ensures no_binary { IfNone result (Spells line.now binary → ⊥) }
     ensures no_symbols { IfNone result (Spells line.now symbols → ⊥) }
     ensures no_flags { IfNone result (Spells line.now flags → ⊥) }
+    ensures no_work { IfNone result (Spells line.now work → ⊥) }
 {
     match line {
         b"list" => Some(Command::Listing),
         b"binary" => Some(Command::Binary),
         b"symbols" => Some(Command::Symbols),
         b"flags" => Some(Command::Flags),
+        b"work" => Some(Command::Work),
         _ => None,
     }
 }

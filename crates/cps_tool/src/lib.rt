@@ -1,19 +1,16 @@
-//! The assembly of a source, and a session on one: a script of edits and queries comes in, and the replies go out.
+//! What the program does: a script of edits and queries, and a call of the program by its words.
 #![tactic(auto)]
 
-mod assembled;
 mod command;
-mod flagged;
-mod pages;
 mod reply;
 mod replying;
+mod request;
 mod script;
-mod script_line;
-mod session;
+mod words;
 mod writing;
 
 pub use command::{Command, ScriptFault};
-pub use pages::Pages;
+pub use request::{Request, Unread, read_words};
 pub use script::run_script;
-pub use session::{EditFault, Session};
+pub use words::run_words;
 pub use writing::RunFault;

@@ -1,5 +1,7 @@
 //! Replies to the lines of a script.
 
+use cps_pass::Work;
+
 /// Why a line of a script is refused.
 #[derive(Clone, Copy, Debug, PartialEq, Eq)]
 pub enum Refusal {
@@ -26,4 +28,6 @@ pub enum Reply {
     Refused(Refusal),
     /// The text that was asked for.
     Shown(Vec<u8>),
+    /// The steps that the latest edit took.
+    Worked(Work),
 }

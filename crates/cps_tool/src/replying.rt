@@ -3,17 +3,17 @@ ghost use Rattle.std.specs.Prelude.{◌≡◌, ℕ, List, ◌++◌, false, true,
 ghost use Rattle.std.specs.Io.KnownBytes.{Appends};
 ghost use Rattle.cps_tool.specs.Command.{is_quit};
 ghost use Rattle.cps_text.specs.Counted.{inner_of, failures_of, FailsOnce};
-ghost use Rattle.cps_tool.specs.Edits.{Inserted, Replaced, Deleted};
-ghost use Rattle.cps_tool.specs.Reply.{meaning_of, shown, refused, refusal_of, reply_text, refusal_text};
+ghost use Rattle.cps_tool.specs.Edits.{Inserted, Replaced, Deleted, at};
+ghost use Rattle.cps_tool.specs.Reply.{meaning_of, shown, refused, worked, refusal_of, reply_text, refusal_text};
 ghost use Rattle.cps_tool.specs.declared.reply.Refusal.TheVariants.{NoMemory};
 ghost use Rattle.cps_tool.specs.Script.{IsAnswered};
 
 use super::command::Command;
 use super::reply::{Refusal, Reply};
-use super::session::{EditFault, Session};
 use super::writing::{RunFault, write_text};
 use arrayvec::ArrayString;
 use cps_list::Part;
+use cps_live::{EditFault, Session};
 use cps_pass::Work;
 use cps_text::{Counted, Line, LineFault};
 use itoa::Buffer;
@@ -21,21 +21,22 @@ use std::alloc::{AllocError, Global};
 use std::io::Write;
 
 /// The reply to a line of a script, None to the one that ends it.
-pub fn obey(alloc: Global, line: &[u8], session: &mut Session) -> Option<Reply>
+pub fn obey(alloc: Global, line: &[u8], session: &mut Session, work: &mut Work) -> Option<Reply>
     ensures { MatchOption result
-        ((is_quit line.now ≡ true) × (session.new.lines ≡ session.old.lines))
-        (λ reply. (is_quit line.now ≡ false) × IsAnswered session.old.lines line.now (meaning_of reply) session.new.lines) }
+        ((is_quit line.now ≡ true) × (at session.new.lines work.new ≡ at session.old.lines work.old))
+        (λ reply. (is_quit line.now ≡ false) × IsAnswered (at session.old.lines work.old) line.now (meaning_of reply) (at session.new.lines work.new)) }
 {
     match Command::read(line) {
         Err(_) => Some(Reply::Refused(Refusal::BadCommand)),
-        Ok(Command::Append(text)) => Some(insert_text(alloc, session.count(), text, session)),
-        Ok(Command::Insert(after, text)) => Some(insert_text(alloc, after, text, session)),
-        Ok(Command::Replace(at, text)) => Some(replace_text(alloc, at, text, session)),
-        Ok(Command::Delete(first, last)) => Some(delete_lines(first, last, session)),
+        Ok(Command::Append(text)) => Some(insert_text(alloc, session.count(), text, session, work)),
+        Ok(Command::Insert(after, text)) => Some(insert_text(alloc, after, text, session, work)),
+        Ok(Command::Replace(at, text)) => Some(replace_text(alloc, at, text, session, work)),
+        Ok(Command::Delete(first, last)) => Some(delete_lines(first, last, session, work)),
         Ok(Command::Listing) => Some(show(session.text(alloc, Part::Listing))),
         Ok(Command::Binary) => Some(show(session.text(alloc, Part::Binary))),
         Ok(Command::Symbols) => Some(show(session.text(alloc, Part::Symbols))),
         Ok(Command::Flags) => Some(show(session.text(alloc, Part::Flags))),
+        Ok(Command::Work) => Some(Reply::Worked(*work)),
         Ok(Command::Quit) => None,
     }
 }
@@ -51,9 +52,16 @@ fn show(text: Result<Vec<u8>, AllocError>) -> Reply
 }
 
 /// Inserts a text behind line `after`, 0 for the front.
-fn insert_text(alloc: Global, after: u32, text: &[u8], session: &mut Session) -> Reply
-    ensures { Inserted session.old.lines after text.now (meaning_of result) session.new.lines }
+fn insert_text(
+    alloc: Global,
+    after: u32,
+    text: &[u8],
+    session: &mut Session,
+    work: &mut Work,
+) -> Reply
+    ensures { Inserted session.old.lines after text.now (meaning_of result) (at session.new.lines work.new) }
 {
+    *work = Work::new();
     if after > session.count() {
         return Reply::Refused(Refusal::NoSuchLine);
     }
@@ -64,17 +72,24 @@ fn insert_text(alloc: Global, after: u32, text: &[u8], session: &mut Session) ->
         Err(LineFault::Memory) if session.is_full() => return Reply::Refused(Refusal::TooManyLines),
         Err(LineFault::Memory) => return Reply::Refused(Refusal::NoMemory),
     };
-    match session.insert(after, line, &mut Work::new()) {
+    match session.insert(after, line, work) {
         Ok(()) => Reply::Accepted(session.count()),
         Err(fault) => Reply::Refused(refusal_of_edit(fault)),
     }
 }
 
-/// Puts a text in place of line `at`, where lines count from 1.
-fn replace_text(alloc: Global, at: u32, text: &[u8], session: &mut Session) -> Reply
-    ensures { Replaced session.old.lines at text.now (meaning_of result) session.new.lines }
+/// Puts a text in place of a line, where lines count from 1.
+fn replace_text(
+    alloc: Global,
+    line_number: u32,
+    text: &[u8],
+    session: &mut Session,
+    work: &mut Work,
+) -> Reply
+    ensures { Replaced session.old.lines line_number text.now (meaning_of result) (at session.new.lines work.new) }
 {
-    if at == 0 || at > session.count() {
+    *work = Work::new();
+    if line_number == 0 || line_number > session.count() {
         return Reply::Refused(Refusal::NoSuchLine);
     }
     let line = match Line::new(alloc, text) {
@@ -83,17 +98,18 @@ fn replace_text(alloc: Global, at: u32, text: &[u8], session: &mut Session) -> R
         Err(LineFault::BadCharacter) => return Reply::Refused(Refusal::BadCharacter),
         Err(LineFault::Memory) => return Reply::Refused(Refusal::NoMemory),
     };
-    match session.replace(at, line, &mut Work::new()) {
+    match session.replace(line_number, line, work) {
         Ok(()) => Reply::Accepted(session.count()),
         Err(fault) => Reply::Refused(refusal_of_edit(fault)),
     }
 }
 
 /// Deletes the lines from `first` to `last`, where lines count from 1.
-fn delete_lines(first: u32, last: u32, session: &mut Session) -> Reply
-    ensures { Deleted session.old.lines first last (meaning_of result) session.new.lines }
+fn delete_lines(first: u32, last: u32, session: &mut Session, work: &mut Work) -> Reply
+    ensures { Deleted session.old.lines first last (meaning_of result) (at session.new.lines work.new) }
 {
-    match session.delete(first, last, &mut Work::new()) {
+    *work = Work::new();
+    match session.delete(first, last, work) {
         Ok(()) => Reply::Accepted(session.count()),
         Err(fault) => Reply::Refused(refusal_of_edit(fault)),
     }
@@ -122,6 +138,7 @@ pub fn write_reply<W: Write>(writer: &mut Counted<W>, reply: &Reply) -> Result<(
         Reply::Accepted(count) => write_text(writer, accepted_text(*count).as_bytes()),
         Reply::Refused(refusal) => write_text(writer, text_of_refusal(*refusal)),
         Reply::Shown(text) => write_text(writer, text),
+        Reply::Worked(work) => write_text(writer, worked_text(work).as_bytes()),
     }
 }
 
@@ -132,6 +149,18 @@ fn accepted_text(count: u32) -> ArrayString<40>
     text.push_str("ok ");
     text.push_str(Buffer::new().format(count));
     text.push_str(" lines\n");
+    text
+}
+
+fn worked_text(work: &Work) -> ArrayString<64>
+    ensures { result.bytes ≡ reply_text (worked work.now) }
+{
+    let mut text = ArrayString::new();
+    text.push_str("ones ");
+    text.push_str(Buffer::new().format(work.ones()));
+    text.push_str(" twos ");
+    text.push_str(Buffer::new().format(work.twos()));
+    text.push_str("\n");
     text
 }
 

@@ -21,5 +21,5 @@ returns-in-Some-read_query-clause-only c = only_order c.args.line.now (order_of 
 pub returns-in-None-clause-order : goal.returns-in-None-clause-order
 returns-in-None-clause-order c = no_order c.args.line.now c.in-None.ensures.no_append
     c.in_default.ensures.order c.in_default-read_replace.ensures.order c.in_default-read_delete.ensures.order
-    c.in_default-read_query.ensures.no_list c.in_default-read_query.ensures.no_binary c.in_default-read_query.ensures.no_symbols c.in_default-read_query.ensures.no_flags
+    c.in_default-read_query.ensures.no_list c.in_default-read_query.ensures.no_binary c.in_default-read_query.ensures.no_symbols c.in_default-read_query.ensures.no_flags c.in_default-read_query.ensures.no_work
     c.in-None.ensures.no_quit

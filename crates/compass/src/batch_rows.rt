@@ -1,0 +1,179 @@
+//! Sources that are read whole.
+use super::assertions::{assert_bytes, assert_same};
+use super::devices::{SlowReader, SlowWriter};
+use cps_list::Part;
+use cps_live::{BatchFault, batch};
+use cps_text::Counted;
+use std::alloc::Global;
+use std::process::Abort;
+use std::test::Fail;
+
+/// Asserts what batch assembly answers and writes, however the source is read.
+fn assert_batch(
+    rt: &impl Abort,
+    alloc: Global,
+    source: &[u8],
+    part: Part,
+    want: Result<u32, BatchFault>,
+    text: &str,
+) -> Result<(), Fail> {
+    let mut reader = Counted::new(source);
+    let mut writer = Counted::new(Vec::new(alloc));
+    let end = batch(alloc, &mut reader, &mut writer, part);
+    assert_same(rt, "the end", &end, &want);
+    assert_bytes(rt, "the text", &writer.into_inner(), text)?;
+    let mut reader = Counted::new(SlowReader {
+        rest: source,
+        fails: false,
+    });
+    let mut writer = Counted::new(Vec::new(alloc));
+    let end = batch(alloc, &mut reader, &mut writer, part);
+    assert_same(rt, "the end, byte by byte", &end, &want);
+    assert_bytes(rt, "the text, byte by byte", &writer.into_inner(), text)
+}
+
+/// The lines that bytes are: what they stand for is told by the words of their binary text.
+#[test]
+fn cuts_lines(rt: HostRuntime) -> Result<(), Fail> {
+    const ONE: &str = "IDENT\n000000 46000000000000000000\n";
+    const ROWS: [(&[u8], &str); 9] = [
+        (b"  NO", ONE),
+        (b"  NO\r\n", ONE),
+        (b"  NO\n", ONE),
+        (b"  NO\n\n", ONE),
+        (b"  NO\r", ONE),
+        (b"\r\n  NO\n\r", ONE),
+        (b"", "IDENT\n"),
+        (b"\n", "IDENT\n"),
+        (b"  NO\n  NO", "IDENT\n000000 46000460000000000000\n"),
+    ];
+    for (source, want) in ROWS.iter() {
+        assert_batch(&rt, rt.alloc(), source, Part::Binary, Ok(0), want)?;
+    }
+    Ok(())
+}
+
+/// How many rows the listing has: a lone carriage return is an empty line.
+#[test]
+fn counts_last_lines(rt: HostRuntime) -> Result<(), Fail> {
+    const ROW: &str = "                                          1\n";
+    const ROWS: [(&[u8], &str); 4] = [(b"", ""), (b"\n", ROW), (b"\r", ROW), (b"\r\n", ROW)];
+    for (source, want) in ROWS.iter() {
+        assert_batch(&rt, rt.alloc(), source, Part::Listing, Ok(0), want)?;
+    }
+    Ok(())
+}
+
+/// The first line that no source may have decides, and of one line its length before its characters.
+#[test]
+fn tells_the_first_wrong_line(rt: HostRuntime) -> Result<(), Fail> {
+    // The bytes of the first three lines.
+    const LONG: [u8; 91] = [b'X'; 91];
+    const ROWS: [([&[u8]; 3], BatchFault); 6] = [
+        ([&LONG, b"`", b""], BatchFault::LineTooLong(1)),
+        ([b"", b"A`", &LONG], BatchFault::BadCharacter(2)),
+        ([b"A", b"\t", b"{"], BatchFault::BadCharacter(2)),
+        ([b"A", b"B", &LONG], BatchFault::LineTooLong(3)),
+        ([b"A", b"B", b"\r\r"], BatchFault::BadCharacter(3)),
+        ([b"A", b"B", b"\xff"], BatchFault::BadCharacter(3)),
+    ];
+    for (lines, want) in ROWS.iter() {
+        let mut source = Vec::new(rt.alloc());
+        for line in lines.iter() {
+            source.extend_from_slice(line)?;
+            source.push(b'\n')?;
+        }
+        assert_batch(&rt, rt.alloc(), &source, Part::All, Err(*want), "")?;
+    }
+    Ok(())
+}
+
+/// Asserts what a source of so many empty lines and a last line gives.
+fn assert_long(
+    rt: &impl Abort,
+    alloc: Global,
+    count: u32,
+    last: &[u8],
+    want: Result<u32, BatchFault>,
+    text: &str,
+) -> Result<(), Fail> {
+    let mut source = Vec::new(alloc);
+    for _ in 0..count {
+        source.push(b'\n')?;
+    }
+    source.extend_from_slice(last)?;
+    assert_batch(rt, alloc, &source, Part::Flags, want, text)
+}
+
+#[test]
+fn limits_the_lines(rt: HostRuntime) -> Result<(), Fail> {
+    let flagged = "9999 O\n1 flagged lines\n";
+    assert_long(&rt, rt.alloc(), 9_998, b"A", Ok(1), flagged)?;
+    let many = Err(BatchFault::TooManyLines);
+    assert_long(&rt, rt.alloc(), 9_999, b"A", many, "")?;
+    assert_long(&rt, rt.alloc(), 10_000, b"~", many, "")?;
+    let bad = Err(BatchFault::BadCharacter(10_000));
+    assert_long(&rt, rt.alloc(), 9_999, b"~", bad, "")
+}
+
+/// A line that is far too long is told like any other.
+#[test]
+fn measures_long_lines(rt: HostRuntime) -> Result<(), Fail> {
+    const ROWS: [(usize, &[u8], Result<u32, BatchFault>); 6] = [
+        (90, b"", Ok(0)),
+        (90, b"\r", Ok(0)),
+        (91, b"", Err(BatchFault::LineTooLong(1))),
+        (200, b"", Err(BatchFault::LineTooLong(1))),
+        (200, b"\r\n", Err(BatchFault::LineTooLong(1))),
+        (1_000, b"`\n", Err(BatchFault::LineTooLong(1))),
+    ];
+    for (count, end, want) in ROWS.iter() {
+        let mut source = Vec::new(rt.alloc());
+        for _ in 0..*count {
+            source.push(b'*')?;
+        }
+        source.extend_from_slice(end)?;
+        let text = if want.is_ok() {
+            "0 flagged lines\n"
+        } else {
+            ""
+        };
+        assert_batch(&rt, rt.alloc(), &source, Part::Flags, *want, text)?;
+    }
+    Ok(())
+}
+
+/// A failed read goes before a wrong line, and nothing is written.
+#[test]
+fn tells_a_failed_read(rt: HostRuntime) -> Result<(), Fail> {
+    let mut reader = Counted::new(SlowReader {
+        rest: b"`\n",
+        fails: true,
+    });
+    let mut writer = Counted::new(Vec::new(rt.alloc()));
+    let end = batch(rt.alloc(), &mut reader, &mut writer, Part::All);
+    assert_same(&rt, "the end", &end, &Err(BatchFault::ReadFault));
+    assert_same(&rt, "calls", &reader.calls(), &3);
+    assert_same(&rt, "failures", &reader.failures(), &1);
+    assert_same(&rt, "writes", &writer.calls(), &0);
+    Ok(())
+}
+
+/// At each write in turn: a front of the text stands, and the failed device is not tried again.
+#[test]
+fn tells_a_failed_write(rt: HostRuntime) -> Result<(), Fail> {
+    let whole = b"2 O\n1 flagged lines\n".as_slice();
+    for room in 0..20 {
+        let mut reader = Counted::new(b"*\nA".as_slice());
+        let mut writer = Counted::new(SlowWriter {
+            taken: Vec::new(rt.alloc()),
+            room,
+        });
+        let end = batch(rt.alloc(), &mut reader, &mut writer, Part::Flags);
+        assert_same(&rt, "the end", &end, &Err(BatchFault::WriteFault));
+        assert_same(&rt, "failures", &writer.failures(), &1);
+        let taken = writer.into_inner().taken;
+        assert_same(&rt, "what is taken", &taken.as_slice(), &&whole[..room]);
+    }
+    Ok(())
+}

@@ -1,0 +1,7 @@
+use Rattle.std.proofs.Common.{take}
+use Rattle.cps_final.specs.Finals.{Gathers}
+use Rattle.cps_final.specs.contracts.gather.GatherGathered.TheImpl.{gathered-value}
+use Rattle.cps_live.proofs.assembled.Assembled.behind.Given as goal
+
+abbrev pub invariant-loop-trace : goal.invariant-loop-trace
+invariant-loop-trace l = Gathers (gathered-value.it l.gather) (take l.trace-index l.front)

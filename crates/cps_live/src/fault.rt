@@ -1,0 +1,26 @@
+//! Why a source that is read whole is not assembled, or its texts not written.
+
+use thiserror::Error;
+
+/// Why batch assembly ends without its texts. A line's number counts from 1.
+#[derive(Clone, Copy, Debug, PartialEq, Eq, Error)]
+pub enum BatchFault {
+    /// A read failed, or the input had not ended after 16,777,216 reads.
+    #[error("read fault")]
+    ReadFault,
+    /// That line has more than 90 bytes.
+    #[error("line {0}: line too long")]
+    LineTooLong(u32),
+    /// That line has a byte that no line may have.
+    #[error("line {0}: bad character")]
+    BadCharacter(u32),
+    /// There is a 10,000th line.
+    #[error("too many lines")]
+    TooManyLines,
+    /// Nothing is wrong with the source, and there was no memory.
+    #[error("no memory")]
+    Memory,
+    /// A write failed, or took none of the bytes it was given.
+    #[error("write fault")]
+    WriteFault,
+}

@@ -1,0 +1,68 @@
+//! A source, as its bytes come.
+ghost use Rattle.std.specs.Prelude.{◌≡◌, ℕ, List, [], ◌∷◌, ◌++◌, MatchResult};
+ghost use Rattle.cps_live.specs.Batch.{IsSource, Refuses};
+ghost use Rattle.cps_live.specs.Input.{HasCome};
+ghost use Rattle.cps_live.specs.Lines.{HasText};
+
+use super::begun_line::BegunLine;
+use super::fault::BatchFault;
+use super::intake::Intake;
+use cps_text::Line;
+use std::alloc::Global;
+use std::mem::replace;
+
+/// A source of which some bytes have come: the lines that a newline ended, and the line behind them.
+#[derive(Drop)]
+pub struct Input {
+    pub intake: Intake,
+    pub begun: BegunLine,
+}
+
+impl Input {
+    /// A source of which no byte has come.
+    pub fn new(alloc: Global) -> Input
+        ensures { HasCome result [] }
+    {
+        Input {
+            intake: Intake::new(alloc),
+            begun: BegunLine::new(),
+        }
+    }
+
+    /// Takes the next bytes.
+    pub fn take_bytes(&mut self, alloc: Global, bytes: &[u8])
+        requires { (taken : List ℕ) × HasCome self.old taken }
+        ensures { (taken : List ℕ) → HasCome self.old taken → HasCome self.new (taken ++ bytes.now) }
+    {
+        for byte in bytes {
+            self.take_byte(alloc, *byte);
+        }
+    }
+
+    fn take_byte(&mut self, alloc: Global, byte: u8)
+        requires { (taken : List ℕ) × HasCome self.old taken }
+        ensures { (taken : List ℕ) → HasCome self.old taken → HasCome self.new (taken ++ byte ∷ []) }
+    {
+        if byte != b'\n' {
+            self.begun.push(byte);
+            return;
+        }
+        let intake = replace(&mut self.intake, Intake::Refused(0));
+        self.intake = intake.with_line(alloc, &self.begun);
+        self.begun = BegunLine::new();
+    }
+
+    /// The lines, if a source may have them and there was memory, where no byte is to come. A last line without a
+    /// newline counts if it has a byte.
+    pub fn finish(self, alloc: Global) -> Result<Vec<Line>, BatchFault>
+        requires { (taken : List ℕ) × HasCome self taken }
+        ensures { (taken : List ℕ) → HasCome self taken → (source : List (List ℕ)) × HasText taken source
+            × MatchResult result (λ lines. (lines.items ≡ source) × IsSource source) (λ fault. Refuses fault source) }
+    {
+        let Input { intake, begun } = self;
+        if begun.is_empty() {
+            return intake.into_lines();
+        }
+        intake.with_line(alloc, &begun).into_lines()
+    }
+}

@@ -1,0 +1,38 @@
+-- What a call of the program does, and the status that it ends with. Our own.
+use Rattle.std.specs.Prelude.{◌≡◌, ℕ, ◌⊎◌, List, [], Option, Some, Result, Ok, Err, if◌then◌else◌, ◌==◌}
+use Rattle.cps_text.specs.declared.counted.Counted.{Counted}
+use Rattle.cps_live.specs.declared.fault.BatchFault.{BatchFault}
+use Rattle.cps_live.specs.Batch.{RunsBatch}
+use Rattle.cps_tool.specs.declared.request.Request.{Request}
+use Rattle.cps_tool.specs.declared.request.Request.TheVariants.{Batch, Session}
+use Rattle.cps_tool.specs.declared.writing.RunFault.{RunFault}
+use Rattle.cps_tool.specs.Request.{Answer, asks, tells, refuses}
+use Rattle.cps_tool.specs.Script.{RunsScript}
+
+-- the status with so many flagged lines
+abbrev pub status_with : ℕ → ℕ
+status_with count = if count == 0 then 0 else 1
+
+-- 2 after a fault, else 1 where a line is flagged, else 0
+abbrev pub status_of : {F : Type 0} → Result ℕ F → ℕ
+status_of (Ok count) = status_with count
+status_of (Err fault) = 2
+
+-- nothing was done: the words are wrong, or there was no memory to read them
+abbrev pub IsUndone : {R W : Type 0} → ℕ → Counted R → Counted R → Counted W → Counted W → Type 0
+IsUndone status reader reader' writer writer' = (status ≡ 2) × (reader' ≡ reader) × (writer' ≡ writer)
+
+-- what is done that the words ask: batch assembly, or the script of a session that begins with no line
+abbrev pub Calls : {R W : Type 0} → (R → Option (List ℕ)) → (W → Option (List ℕ)) → Request → ℕ → Counted R → Counted R → Counted W → Counted W → Type 0
+Calls remaining contents (Batch part) status reader reader' writer writer' =
+    (result : Result ℕ BatchFault) × (status ≡ status_of result) × RunsBatch remaining contents part result reader reader' writer writer'
+Calls remaining contents Session status reader reader' writer writer' =
+    (result : Result ℕ RunFault) × (source : List (List ℕ)) × (status ≡ status_of result) × RunsScript remaining contents [] source result reader reader' writer writer'
+
+-- What a call does, by what its words are answered: what they ask is done; or the help or the version is told; or they are refused. Nothing is
+-- read where they ask nothing. Memory may be refused at any words.
+abbrev pub Serves : {R W : Type 0} → (R → Option (List ℕ)) → (W → Option (List ℕ)) → Answer → ℕ → Counted R → Counted R → Counted W → Counted W → Type 0
+Serves remaining contents (asks request) status reader reader' writer writer' =
+    IsUndone status reader reader' writer writer' ⊎ Calls remaining contents request status reader reader' writer writer'
+Serves remaining contents tells status reader reader' writer writer' = (reader' ≡ reader) × ((status ≡ 0) ⊎ (status ≡ 2))
+Serves remaining contents refuses status reader reader' writer writer' = IsUndone status reader reader' writer writer'
