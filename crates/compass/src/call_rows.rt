@@ -40,7 +40,7 @@ fn assert_call(
     assert_bytes(rt, "what is told", &got.told, told)
 }
 
-const PROGRAM: &str = "         IDENT   T1
+pub const PROGRAM: &str = "         IDENT   T1
          ABS
          ORG     100B
 START    SA1     B1+3
@@ -50,7 +50,7 @@ START    SA1     B1+3
          END
 ";
 
-const LISTING: &str = "                                          1          IDENT   T1
+pub const LISTING: &str = "                                          1          IDENT   T1
                                           2          ABS
          000100                           3          ORG     100B
          000100 5111000003                4 START    SA1     B1+3
@@ -60,11 +60,11 @@ const LISTING: &str = "                                          1          IDEN
                                           8          END
 ";
 
-const BINARY: &str = "IDENT T1\n000100 51110000037361054610\n000101 04000001004600046000\n";
+pub const BINARY: &str = "IDENT T1\n000100 51110000037361054610\n000101 04000001004600046000\n";
 
-const SYMBOLS: &str = "START    00000000000000000100 4 7\n";
+pub const SYMBOLS: &str = "START    00000000000000000100 4 7\n";
 
-const FLAGS: &str = "0 flagged lines\n";
+pub const FLAGS: &str = "0 flagged lines\n";
 
 #[test]
 fn writes_each_part(rt: HostRuntime) -> Result<(), Fail> {

@@ -11,37 +11,15 @@ mod assertions;
 #[cfg(test)]
 mod batch_rows;
 #[cfg(test)]
-mod block_rows;
-#[cfg(test)]
 mod call_rows;
-#[cfg(test)]
-mod column_rows;
 #[cfg(test)]
 mod devices;
 #[cfg(test)]
-mod expansion_rows;
-#[cfg(test)]
-mod literal_rows;
-#[cfg(test)]
-mod macro_rows;
-#[cfg(test)]
-mod peripheral_rows;
-#[cfg(test)]
-mod range_rows;
-#[cfg(test)]
-mod repeat_rows;
+mod part_rows;
 #[cfg(test)]
 mod replies;
 #[cfg(test)]
 mod script_rows;
-#[cfg(test)]
-mod set_rows;
-#[cfg(test)]
-mod source_rows;
-#[cfg(test)]
-mod symbol_rows;
-#[cfg(test)]
-mod word_rows;
 
 use cps_text::Counted;
 use cps_tool::run_words;

@@ -46,38 +46,6 @@ pub fn assert_replies(
     Ok(())
 }
 
-/// Asserts what a query writes of a source whose lines are appended one by one.
-pub fn assert_text(
-    rt: &impl Abort,
-    alloc: Global,
-    at: usize,
-    source: &[&str],
-    query: &str,
-    want: &str,
-) -> Result<(), Fail> {
-    let mut script = String::new(alloc);
-    let mut replies = String::new(alloc);
-    for (before, line) in source.iter().enumerate() {
-        writeln!(script, "a {line}")?;
-        writeln!(replies, "ok {} lines", before + 1)?;
-    }
-    writeln!(script, "{query}")?;
-    replies.push_str(want)?;
-    assert_replies(rt, alloc, at, &script, &replies)
-}
-
-/// Asserts what queries write of sources: each row is a source, a query and the text.
-pub fn assert_rows(
-    rt: &impl Abort,
-    alloc: Global,
-    rows: &[(&[&str], &str, &str)],
-) -> Result<(), Fail> {
-    for (at, (source, query, want)) in rows.iter().enumerate() {
-        assert_text(rt, alloc, at, source, query, want)?;
-    }
-    Ok(())
-}
-
 /// Asserts what is replied to the rest of a script that first enters a line and behind it comments, up to a line's number.
 pub fn assert_long_body(
     rt: &impl Abort,

@@ -1,10 +1,11 @@
 //! Scripts and the replies to them.
 use super::assertions::{assert_bytes, assert_same};
-use super::replies::assert_replies;
+use super::replies::{assert_long_body, assert_replies};
 use cps_list::Part;
 use cps_live::{EditFault, Session};
 use cps_pass::Work;
-use cps_text::Line;
+use cps_text::{Counted, Line};
+use cps_tool::run_script;
 use std::alloc::Global;
 use std::process::Abort;
 use std::test::Fail;
@@ -219,41 +220,71 @@ fn counts_steps(rt: HostRuntime) -> Result<(), Fail> {
     assert_binary(&rt, rt.alloc(), &session, binary)
 }
 
+/// A run gives the number of lines that have a flag at its end, before `quit`. The end of a source where a range is open counts as one.
 #[test]
-fn edits_lines(rt: HostRuntime) -> Result<(), Fail> {
-    const ROWS: [(&str, &str); 6] = [
+fn counts_flagged_lines(rt: HostRuntime) -> Result<(), Fail> {
+    const ROWS: [(&str, u32); 5] = [
+        ("", 0),
+        ("a          IFEQ    1,2\n", 1),
+        ("a A\n", 1),
+        ("a A\na          NO\na A\nd 1\n", 1),
+        ("a A\na B\nquit\nd 1\n", 2),
+    ];
+    for (script, want) in ROWS.iter() {
+        let mut reader = Counted::new(script.as_bytes());
+        let mut writer = Counted::new(Vec::new(rt.alloc()));
+        let mut session = Session::new(rt.alloc());
+        let count = run_script(rt.alloc(), &mut reader, &mut writer, &mut session)?;
+        assert_same(&rt, script, &count, want);
+        assert_same(&rt, script, &session.flagged(), want);
+    }
+    Ok(())
+}
+
+/// A body has at most 500 lines, and a MACRO that isn't kept is none of them.
+#[test]
+fn limits_bodies(rt: HostRuntime) -> Result<(), Fail> {
+    const MACRO: &str =
+        "a          CON     1\na N        MACRO\na          ENDM\na          M\nflags\nbinary\n";
+    const DUP: &str = "a          CON     1\na          ENDD\nflags\nbinary\n";
+    const COUNTED: &str = "a          CON     1\nflags\nbinary\n";
+    const ROWS: [(&str, u32, &str, &str); 5] = [
         (
-            "binary\nd 1\nbinary\n",
-            "IDENT\nrefused 1 no such line\nIDENT\n",
+            "M        MACRO",
+            501,
+            MACRO,
+            "ok 501 lines\nok 502 lines\nok 503 lines\nok 504 lines\n502 E\n1 flagged lines\n\
+             IDENT\n000000 00000000000000000001\n",
         ),
         (
-            "a   NO\nr 1 \t\nr 2 \t\nr 0 X\nbinary\n",
-            "ok 1 lines\nrefused 3 bad character\nrefused 1 no such line\nrefused 1 no such line\n\
-             IDENT\n000000 46000000000000000000\n",
+            "M        MACRO",
+            502,
+            MACRO,
+            "ok 502 lines\nok 503 lines\nok 504 lines\nok 505 lines\n502 E\n503 E\n504 E\n505 O\n4 flagged lines\nIDENT\n",
         ),
         (
-            "a   NO\nd 1 2\nd 1 0\nbinary\n",
-            "ok 1 lines\nrefused 1 no such line\nrefused 1 no such line\n\
-             IDENT\n000000 46000000000000000000\n",
+            "         DUP     2",
+            501,
+            DUP,
+            "ok 501 lines\nok 502 lines\n0 flagged lines\n\
+             IDENT\n000000 00000000000000000001\n000001 00000000000000000001\n",
         ),
         (
-            "a   NO\nr 1\nbinary\nr 1          SX1     X2\nbinary\n",
-            "ok 1 lines\nok 1 lines\nIDENT\nok 1 lines\nIDENT\n000000 73120000000000000000\n",
+            "         DUP     2",
+            502,
+            DUP,
+            "ok 502 lines\nok 503 lines\n502 E\n503 E\n2 flagged lines\nIDENT\n",
         ),
         (
-            "a          EQ      0\na          SX1     X2\na          END\nr 1          SA1     B1+3\nbinary\n\
-             d 1\nbinary\n",
-            "ok 1 lines\nok 2 lines\nok 3 lines\nok 3 lines\nIDENT\n000000 51110000037312046000\n\
-             ok 2 lines\nIDENT\n000000 73120460004600046000\n",
-        ),
-        (
-            "a * 1\na * 2\na   NO\na * 4\nd 1 2\nbinary\nd 00001 2\nbinary\n",
-            "ok 1 lines\nok 2 lines\nok 3 lines\nok 4 lines\nok 2 lines\n\
-             IDENT\n000000 46000000000000000000\nok 0 lines\nIDENT\n",
+            "         DUP     2,500",
+            501,
+            COUNTED,
+            "ok 501 lines\n0 flagged lines\n\
+             IDENT\n000000 00000000000000000001\n000001 00000000000000000001\n",
         ),
     ];
-    for (at, (script, want)) in ROWS.iter().enumerate() {
-        assert_replies(&rt, rt.alloc(), at, script, want)?;
+    for (at, (first, number, rest, want)) in ROWS.iter().enumerate() {
+        assert_long_body(&rt, rt.alloc(), at, first, *number, rest, want)?;
     }
     Ok(())
 }

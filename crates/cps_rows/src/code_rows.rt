@@ -5,7 +5,6 @@ use cps_code::{
     CpForm, Filled, Force, FormFault, Operand, Piece, Place, Placed, Words, cp_form, place_next,
 };
 use cps_expr::{Radix, Value};
-use cps_text::Name;
 use std::alloc::Global;
 use std::process::Abort;
 use std::test::Fail;
@@ -109,66 +108,6 @@ fn refuses_statements(rt: HostRuntime) -> Result<(), Fail> {
         let refused = read(rt.alloc(), operation, tail, *radix).err();
         assert_row(&rt, at, &refused, &Some(*fault));
     }
-    Ok(())
-}
-
-#[test]
-fn reads_octal_numbers(rt: HostRuntime) -> Result<(), Fail> {
-    let form = read(rt.alloc(), b"SA1", b"17", Radix::Octal)?;
-    assert_same(&rt, "digits", &filled(&form)?.digits, &0o5110000017);
-    Ok(())
-}
-
-#[test]
-fn forces_behind_a_jump(rt: HostRuntime) -> Result<(), Fail> {
-    let jump = read(rt.alloc(), b"EQ", b"0", Radix::Decimal)?;
-    let pass = read(rt.alloc(), b"NO", b"", Radix::Decimal)?;
-    assert!(rt; jump.forces_after());
-    assert!(rt; !pass.forces_after());
-    Ok(())
-}
-
-#[test]
-fn reads_names(rt: HostRuntime) -> Result<(), Fail> {
-    const ROWS: [(&[u8], Option<&[u8]>); 11] = [
-        (b"START", Some(b"START")),
-        (b"loop", Some(b"LOOP")),
-        (b"ABCDEFGH", Some(b"ABCDEFGH")),
-        (b"ABCDEFGHI", None),
-        (b"", None),
-        (b"X1", None),
-        (b"x1", None),
-        (b"X8", Some(b"X8")),
-        (b".A=9", Some(b".A=9")),
-        (b"=A", None),
-        (b"9A", None),
-    ];
-    for (at, (text, want)) in ROWS.iter().enumerate() {
-        let name = Name::read(text);
-        assert_row(&rt, at, &name.as_ref().map(|name| name.text()), want);
-    }
-    Ok(())
-}
-
-#[test]
-fn gathers_terms(rt: HostRuntime) -> Result<(), Fail> {
-    let tail = b"first-2*3+B1-first/7";
-    let form = read(rt.alloc(), b"SA1", tail, Radix::Decimal)?;
-    let [hole] = form.holes() else {
-        return Err(Fail::from("not one hole"));
-    };
-    let Operand::Expression(expression) = &hole.operand else {
-        return Err(Fail::from("not an expression"));
-    };
-    let mut names = Vec::new(rt.alloc());
-    for name in expression.names() {
-        names.push(name.text())?;
-    }
-    let want: [&[u8]; 2] = [b"FIRST", b"FIRST"];
-    assert_same(&rt, "names", &names.as_slice(), &want.as_slice());
-    let valued = expression.value(&UNDEFINED, Value::plain(3));
-    let got = (valued.value, valued.undefined);
-    assert_same(&rt, "the value", &got, &(Some(Value::plain(-6)), true));
     Ok(())
 }
 

@@ -4,17 +4,11 @@
 #[cfg(test)]
 mod assertions;
 #[cfg(test)]
-mod central_rows;
-#[cfg(test)]
 mod code_rows;
 #[cfg(test)]
 mod expression_rows;
 #[cfg(test)]
-mod final_rows;
-#[cfg(test)]
 mod given;
-#[cfg(test)]
-mod pass_rows;
 #[cfg(test)]
 mod peripheral_rows;
 #[cfg(test)]

@@ -1,42 +1,9 @@
-//! Operands, the text of macros, characters and fields.
+//! The text of macros, characters and fields.
 use super::assertions::{assert_row, assert_row_text, assert_same};
 use super::given::{line, name};
-use cps_text::{ArgFault, Fields, arguments, display, insert_text, operands, push_octal};
+use cps_text::{ArgFault, Fields, arguments, display, insert_text, push_octal};
 use std::alloc::Global;
 use std::test::Fail;
-
-/// The operands of a tail, each with a bar behind it.
-fn joined_operands(alloc: Global, tail: &[u8]) -> Result<Vec<u8>, Fail> {
-    let mut text = Vec::new(alloc);
-    for operand in operands(tail) {
-        text.extend_from_slice(operand)?;
-        text.push(b'|')?;
-    }
-    Ok(text)
-}
-
-#[test]
-fn parts_operands(rt: HostRuntime) -> Result<(), Fail> {
-    const ROWS: [(&str, &str); 12] = [
-        ("", ""),
-        (" A", ""),
-        ("A,,B", "A||B|"),
-        ("A,", "A||"),
-        ("A B,C", "A|"),
-        ("=3HA B,C", "=3HA B|C|"),
-        ("=03LA,B,C", "=03LA,B|C|"),
-        ("=l*A, B*X,C", "=l*A, B*X|C|"),
-        ("A=3HA B", "A=3HA|"),
-        ("=3HA", "=3HA|"),
-        ("=11HABCDEFGHIJ,KX,C", "=11HABCDEFGHIJ|KX|C|"),
-        ("=L**,C", "=L**|C|"),
-    ];
-    for (at, (tail, want)) in ROWS.iter().enumerate() {
-        let text = joined_operands(rt.alloc(), tail.as_bytes())?;
-        assert_row_text(&rt, at, &text, want)?;
-    }
-    Ok(())
-}
 
 /// The arguments of a tail, each with a bar behind it.
 fn joined_arguments(alloc: Global, tail: &[u8]) -> Result<Vec<u8>, Fail> {
