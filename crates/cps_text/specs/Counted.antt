@@ -1,5 +1,5 @@
 -- A counted reader or writer: what it holds, and its counts.
-use Rattle.std.specs.Prelude.{◌≡◌, ℕ, ◌+◌, ◌-◌, ◌^◌, ◌≤◌, min, List, length, Option, None, Some}
+use Rattle.std.specs.Prelude.{◌≡◌, ℕ, ◌+◌, ◌-◌, ◌^◌, ◌≤◌, min, zero, suc, List, length, Option, None, Some}
 use Rattle.cps_text.specs.declared.counted.Counted.{Counted}
 
 -- the reader or writer itself
@@ -18,6 +18,10 @@ calls_of counted = counted.calls
 abbrev pub moved_of : {T : Type 0} → Counted T → ℕ
 moved_of counted = counted.moved
 
+-- how many of its calls gave or took no byte
+abbrev pub idle_of : {T : Type 0} → Counted T → ℕ
+idle_of counted = counted.idle
+
 -- a count after some more, up to the greatest value
 abbrev pub raised_by : ℕ → ℕ → ℕ
 raised_by more count = min (count + more) (2 ^ 64 - 1)
@@ -31,10 +35,17 @@ abbrev pub raised_on_none : {T : Type 0} → Option T → ℕ → ℕ
 raised_on_none None count = raised count
 raised_on_none (Some x) count = count
 
+-- one more where a call moved no byte
+abbrev pub raised_on_zero : ℕ → ℕ → ℕ
+raised_on_zero zero count = raised count
+raised_on_zero (suc moved) count = count
+
 -- from one moment to another one call failed, and the last call gave or took no byte
 abbrev pub FailsOnce : {T : Type 0} → Counted T → Counted T → Type 0
 FailsOnce old new = (failures_of new ≡ raised (failures_of old)) × (moved_of new ≡ 0)
 
--- from one moment to another a reader gave `before`, at least a byte a call, and then at one more call `last`
+-- From one moment to another a reader gave `before`, at least a byte a call, and then at one more call `last`. So no call gave nothing but
+-- the last one, where `last` is empty.
 abbrev pub LastReadGave : {T : Type 0} → Counted T → Counted T → List ℕ → List ℕ → Type 0
-LastReadGave old new before last = (calls_of new ≤ calls_of old + length before + 1) × (length last ≡ moved_of new)
+LastReadGave old new before last =
+    (calls_of new ≤ calls_of old + length before + 1) × (length last ≡ moved_of new) × (idle_of new ≡ raised_on_zero (length last) (idle_of old))

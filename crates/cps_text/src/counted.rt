@@ -1,7 +1,7 @@
 //! Readers and writers whose calls are counted.
 ghost use Rattle.std.specs.Prelude.{◌≡◌, ◌+◌, ◌<◌, ◌≤◌, ◌⊎◌, ◌↔◌, IsNone, IfSome, IsErr, MatchOption, MatchResult, unwrap_or, take, length};
 ghost use Rattle.std.specs.Io.KnownBytes.{Keeps, Appends, Consumes, IsAtEnd};
-ghost use Rattle.cps_text.specs.Counted.{inner_of, failures_of, calls_of, moved_of, raised, raised_on_none};
+ghost use Rattle.cps_text.specs.Counted.{inner_of, failures_of, calls_of, moved_of, idle_of, raised, raised_on_none, raised_on_zero};
 
 use std::io;
 use std::io::{Read, Write};
@@ -13,6 +13,7 @@ pub struct Counted<T> {
     failures: u64,
     calls: u64,
     moved: usize,
+    idle: u64,
 }
 
 impl<T> Counted<T> {
@@ -22,12 +23,14 @@ impl<T> Counted<T> {
         ensures failures { failures_of result ≡ 0 }
         ensures calls { calls_of result ≡ 0 }
         ensures moved { moved_of result ≡ 0 }
+        ensures idle { idle_of result ≡ 0 }
     {
         Counted {
             inner,
             failures: 0,
             calls: 0,
             moved: 0,
+            idle: 0,
         }
     }
 
@@ -52,6 +55,13 @@ impl<T> Counted<T> {
         self.moved
     }
 
+    /// How many calls gave or took no byte: those that failed, and a reader's at its end.
+    pub fn idle(&self) -> u64
+        ensures { result ≡ idle_of self.now }
+    {
+        self.idle
+    }
+
     /// The reader or writer itself.
     pub fn into_inner(self) -> T
         ensures { result ≡ inner_of self }
@@ -66,6 +76,7 @@ impl<T> Counted<T> {
         ensures failures { failures_of self.new ≡ raised_on_none moved (failures_of self.old) }
         ensures calls { calls_of self.new ≡ raised (calls_of self.old) }
         ensures moved { moved_of self.new ≡ unwrap_or moved 0 }
+        ensures idle { idle_of self.new ≡ raised_on_zero (moved_of self.new) (idle_of self.old) }
     {
         self.calls = self.calls.saturating_add(1);
         match moved {
@@ -74,6 +85,9 @@ impl<T> Counted<T> {
                 self.failures = self.failures.saturating_add(1);
                 self.moved = 0;
             }
+        }
+        if self.moved == 0 {
+            self.idle = self.idle.saturating_add(1);
         }
     }
 }
@@ -89,6 +103,7 @@ impl<R: Read> Counted<R> {
         ensures failures { failures_of self.new ≡ raised_on_none result (failures_of self.old) }
         ensures calls { calls_of self.new ≡ raised (calls_of self.old) }
         ensures moved { moved_of self.new ≡ unwrap_or result 0 }
+        ensures idle { idle_of self.new ≡ raised_on_zero (moved_of self.new) (idle_of self.old) }
     {
         let given = count_given(self.inner.read(buf));
         self.count_call(given);
@@ -107,6 +122,7 @@ impl<W: Write> Counted<W> {
         ensures failures { failures_of self.new ≡ raised_on_none result (failures_of self.old) }
         ensures calls { calls_of self.new ≡ raised (calls_of self.old) }
         ensures moved { moved_of self.new ≡ unwrap_or result 0 }
+        ensures idle { idle_of self.new ≡ raised_on_zero (moved_of self.new) (idle_of self.old) }
     {
         let taken = count_taken(self.inner.write(buf), buf.len());
         self.count_call(taken);
