@@ -1,7 +1,7 @@
 -- Reading an input. Our own.
 use Rattle.std.specs.Prelude.{◌≡◌, ℕ, ◌≤◌, ◌⊎◌, List, [], length}
 use Rattle.cps_text.specs.declared.counted.Counted.{Counted}
-use Rattle.cps_text.specs.Counted.{calls_of, failures_of, raised_by, FailsOnce, LastReadGave}
+use Rattle.cps_text.specs.Counted.{calls_of, failures_of, idle_of, raised_by, FailsOnce, LastReadGave}
 
 -- the most reads of an input
 abbrev pub most_reads : ℕ
@@ -11,4 +11,4 @@ most_reads = 16777216
 abbrev pub EndsEarly : {R : Type 0} → Counted R → Counted R → List ℕ → Type 0
 EndsEarly old new taken =
     (FailsOnce old new × LastReadGave old new taken [])
-    ⊎ ((failures_of new ≡ failures_of old) × (most_reads ≤ length taken) × (calls_of new ≡ raised_by most_reads (calls_of old)))
+    ⊎ ((failures_of new ≡ failures_of old) × (most_reads ≤ length taken) × (calls_of new ≡ raised_by most_reads (calls_of old)) × (idle_of new ≡ idle_of old))
