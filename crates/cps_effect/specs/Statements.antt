@@ -1,13 +1,13 @@
 -- Statements that neither skip lines nor keep nor open them, by what they say. From the manual's chapter on pseudo instructions.
-use Rattle.std.specs.Prelude.{None, Some}
+use Rattle.std.specs.Prelude.{true, None, Some}
 use Rattle.cps_expr.specs.declared.machine.Machine.TheVariants.{Cp, Pp}
 use Rattle.cps_expr.specs.declared.operation.Operation.{Operation}
 use Rattle.cps_expr.specs.declared.operation.Operation.TheVariants as operation
 use Rattle.cps_expr.specs.declared.row.Row.{Row}
 use Rattle.cps_expr.specs.declared.row.Row.TheVariants as row
 use Rattle.cps_state.specs.declared.key.Control.{Control}
-use Rattle.cps_state.specs.Course.{Part, ◌before◌, nothing, fill}
-use Rattle.cps_state.specs.Made.{nothing_made}
+use Rattle.cps_state.specs.Course.{Part, ◌before◌, fill}
+use Rattle.cps_state.specs.Made.{nothing_made, no_flags}
 use Rattle.cps_reading.specs.declared.reading.Location.{Location}
 use Rattle.cps_effect.specs.Blocks.{org, unread, unread_org}
 use Rattle.cps_effect.specs.Fields.{vfd, unread_vfd}
@@ -18,7 +18,11 @@ use Rattle.cps_effect.specs.Symbols.{equate, unread_equate, set_symbol, unread_s
 use Rattle.cps_effect.specs.Use.{use_block, unread_use}
 use Rattle.cps_effect.specs.Words.{con, data_words, dis, unread_words}
 
--- what ends the head, with its operands; what skips, keeps or opens lines does nothing here
+-- a statement without an operation, or with one that isn't there
+abbrev pub unknown : Part
+unknown = fill (nothing_made (record no_flags { operation = true }))
+
+-- what ends the head, with its operands; no other row is obeyed here, and so each has the flag of an operation that isn't there
 abbrev pub obeyed_in_body : Control → Location → Row → Part
 obeyed_in_body control location (row.Org terms) = org control location terms
 obeyed_in_body control location (row.Use block) = use_block control location block
@@ -28,7 +32,7 @@ obeyed_in_body control location (row.Con values) = con control location values
 obeyed_in_body control location (row.Data numbers) = data_words control location numbers
 obeyed_in_body control location (row.Vfd fields) = vfd control location fields
 obeyed_in_body control location (row.Dis text) = dis control location text
-obeyed_in_body control location _ = nothing
+obeyed_in_body control location _ = unknown
 
 -- a statement with its operands
 abbrev pub obeyed : Control → Location → Row → Part

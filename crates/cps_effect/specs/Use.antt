@@ -1,6 +1,6 @@
 -- USE: another block. From the manual's description of this statement; that it forces, how many blocks there may be, and how many of those that were
 -- left are kept, are our profile's.
-use Rattle.std.specs.Prelude.{ℕ, ◌+◌, true, false, nat_lt, take, List, [], ◌∷◌, Option, None, Some, if◌then◌else◌}
+use Rattle.std.specs.Prelude.{ℕ, ◌+◌, Bool, true, false, ◌||◌, nat_lt, take, List, [], ◌∷◌, Option, None, Some, if◌then◌else◌}
 use Rattle.cps_text.specs.declared.name.Name.{Name}
 use Rattle.cps_expr.specs.declared.row.Block.{Block}
 use Rattle.cps_expr.specs.declared.row.Block.TheVariants.{Nominal, Previous, Named}
@@ -10,7 +10,7 @@ use Rattle.cps_state.specs.declared.key.Answer.{Answer}
 use Rattle.cps_state.specs.declared.key.Answer.TheVariants as answer
 use Rattle.cps_state.specs.declared.key.Control.{Control}
 use Rattle.cps_state.specs.Course.{Part, nothing, ◌before◌, asking, putting, fill}
-use Rattle.cps_state.specs.Keys.{most_uses, place_of, is_place, uses_of, count_of}
+use Rattle.cps_state.specs.Keys.{most_uses, same_block, place_of, is_place, uses_of, count_of}
 use Rattle.cps_reading.specs.declared.reading.Location.{Location}
 use Rattle.cps_effect.specs.Blocks.{left, unread_in, using}
 use Rattle.cps_effect.specs.Located.{present_flags}
@@ -54,10 +54,13 @@ going_to_new control location place uses name count =
     if nat_lt count most_blocks then going_to control location place (left_behind control.block uses) (Some (count + 1)) (Some name)
     else fill (nothing_in control.block (record (present_flags location) { structure = true }))
 
--- a block has begun where its counter stands
+-- a block has begun where it is in use, or its counter stands; in use it stands at word 0 where no counter does
+abbrev pub has_begun : Option Name → Name → Option Answer → Bool
+has_begun present name a = same_block present (Some name) || is_place a
+
 abbrev pub going_to_named : Control → Location → Place → List (Option Name) → Name → Option Answer → Part
 going_to_named control location place uses name a =
-    if is_place a then going_to control location place (left_behind control.block uses) None (Some name)
+    if has_begun control.block name a then going_to control location place (left_behind control.block uses) None (Some name)
     else asking key.Blocks (λ b. going_to_new control location place uses name (count_of b))
 
 -- `USE *` goes back, and the block that it leaves isn't kept; every other USE may be gone back from

@@ -22,7 +22,7 @@ pub use blocks::end;
 pub use head::{in_body, leave_head};
 pub use instructions::{instruction, peripheral_instruction};
 pub use located::{Standing, ask_standing, has_value, present_flags};
-pub use making::{flag, flag_in, unread};
+pub use making::{flag, flag_in, unknown, unread};
 pub use numbers::{not_negative, plain_number};
 pub use places::{Begun, here_at};
 pub use placing::{Site, ask_site, placing_flags, settle, word_start};

@@ -1,7 +1,7 @@
 //! Statements that make nothing but flags.
 ghost use Rattle.std.specs.Prelude.{◌≡◌, true};
 ghost use Rattle.cps_state.specs.Course.{filled};
-ghost use Rattle.cps_state.specs.Made.{nothing_made};
+ghost use Rattle.cps_state.specs.Made.{nothing_made, no_flags};
 ghost use Rattle.cps_effect.specs.Blocks.{unread_made};
 ghost use Rattle.cps_effect.specs.Located.{present_flags};
 ghost use Rattle.cps_state.specs.Made.{nothing_in};
@@ -18,6 +18,15 @@ pub fn flag(alloc: Global, recorder: &mut Recorder, flags: Flags)
     ensures { recorder.new ≡ filled recorder.old (nothing_made flags) }
 {
     recorder.fill(Made::nothing(alloc, flags));
+}
+
+/// A statement without an operation, or with one that isn't there.
+pub fn unknown(alloc: Global, recorder: &mut Recorder)
+    ensures { recorder.new ≡ filled recorder.old (nothing_made (record no_flags { operation = true })) }
+{
+    let mut flags = Flags::none();
+    flags.operation = true;
+    flag(alloc, recorder, flags);
 }
 
 /// A statement that takes no location field, with unreadable operands.

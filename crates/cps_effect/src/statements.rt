@@ -8,7 +8,7 @@ use crate::blocks::{org, unread_org};
 use crate::fields::{unread_vfd, vfd};
 use crate::head::{base, declaration, ident, in_body, leave_head};
 use crate::located::present_flags;
-use crate::making::{flag, unread};
+use crate::making::{flag, unknown, unread};
 use crate::reserving::{bss, bssz};
 use crate::symbols::{equate, set_symbol, unread_equate, unread_set};
 use crate::uses::{unread_use, use_block};
@@ -69,7 +69,10 @@ fn obey_in_body<L: Lookup>(
         Row::Data(numbers) => data_words(alloc, recorder, state, control, location, &numbers),
         Row::Vfd(fields) => vfd(alloc, recorder, state, control, location, fields),
         Row::Dis(text) => dis(alloc, recorder, state, control, location, &text),
-        _ => Ok(()),
+        _ => {
+            unknown(alloc, recorder);
+            Ok(())
+        }
     }
 }
 

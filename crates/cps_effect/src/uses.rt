@@ -12,8 +12,8 @@ use cps_code::Place;
 use cps_expr::Block;
 use cps_reading::Location;
 use cps_state::{
-    Answer, Control, Key, Lookup, Made, Recorder, Shared, Shown, count_of, is_place, place_of,
-    uses_of, uses_with,
+    Answer, Control, Key, Lookup, Made, Recorder, Shared, Shown, count_of, is_place, is_same_block,
+    place_of, uses_of, uses_with,
 };
 use cps_text::Name;
 use std::alloc::{AllocError, Global};
@@ -123,6 +123,13 @@ fn before_previous(uses: &[Option<Name>]) -> &[Option<Name>]
     }
 }
 
+/// Whether a named block has begun: it is in use, or its counter stands.
+fn has_begun(present: Option<Name>, name: Name, answer: Option<&Answer>) -> bool
+    ensures { result ≡ use_of.has_begun present name (option_copied answer.entry) }
+{
+    is_same_block(present, Some(name)) || is_place(answer)
+}
+
 fn go_to_named<L: Lookup>(
     alloc: Global,
     recorder: &mut Recorder,
@@ -137,7 +144,7 @@ fn go_to_named<L: Lookup>(
     ensures { OnOk result (Does (use_of.leaving control location place uses.now (Block.Named name)) (L.answer state.now) recorder.old recorder.new) }
 {
     let answer = recorder.ask(state, Key::Counter(Some(name)))?;
-    if is_place(answer.as_ref()) {
+    if has_begun(control.block, name, answer.as_ref()) {
         let left = uses_with(alloc, control.block, uses)?;
         return go_to(
             alloc,

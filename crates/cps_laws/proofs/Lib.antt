@@ -1,4 +1,1 @@
-pub mod AloneLemmas
-pub mod FewLemmas
 pub mod ListLemmas
-pub mod OnceLemmas

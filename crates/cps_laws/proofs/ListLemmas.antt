@@ -68,14 +68,6 @@ or-true : (b : Bool) → b || true ≡ true
 or-true true = refl
 or-true false = refl
 
-pub or-left : (a b : Bool) → a || b ≡ false → a ≡ false
-or-left false b none = refl
-or-left true b none = none
-
-pub or-right : (a b : Bool) → a || b ≡ false → b ≡ false
-or-right false b none = none
-or-right true b none = absurd cc
-
 below-most : (n : ℕ) → nat_lt n most_statements ≡ true → n + 1 ≤ most_statements
 below-most n lt = omega (arith, ltb-true n most_statements lt)
 
@@ -128,9 +120,6 @@ by-list course f =
     ap (λ r. traced r) (run-listed course f started 0 refl
     ∙ ap (λ n. (reached n course f started, not (drops 0 entries))) (fits-is 0 entries (omega arith))
     ∙ ap (λ over. (reached (allowed entries) course f started, not over)) (drops-first entries))
-
-pub dropped : (course : Course) (f : State) → is_dropped (expansion course f) ≡ true → trace_in course f ≡ traced (reached (allowed (expansion course f)) course f started, false)
-dropped course f is = by-list course f ∙ ap (λ over. traced (reached (allowed (expansion course f)) course f started, not over)) is
 
 -- ---- a list that isn't dropped
 

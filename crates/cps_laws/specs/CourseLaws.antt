@@ -1,10 +1,9 @@
 -- What holds of each line, whatever its course is. Our own.
-use Rattle.std.specs.Prelude.{◌≡◌, ◌≤◌, ◌+◌, false, nat_lt, List, [], ◌∷◌, length, map, filter}
-use Rattle.std.specs.List.{All, AllPairs}
-use Rattle.cps_state.specs.declared.key.Asked.{Asked}
+use Rattle.std.specs.Prelude.{◌≡◌, false, [], ◌∷◌, map}
 use Rattle.cps_state.specs.declared.item.Item.{Item}
-use Rattle.cps_state.specs.Course.{Course, deepest, most_statements, Holds}
-use Rattle.cps_state.specs.Keys.{State, same_key}
+use Rattle.cps_state.specs.Course.{Course, Holds}
+use Rattle.cps_state.specs.Keys.{State}
+use Rattle.cps_pass.specs.Bounded.{AreFew, EachOnce}
 use Rattle.cps_laws.specs.Listed.{Entry, expansion, is_dropped, trace_in, trace_by_list}
 
 -- ---- the list of its statements
@@ -28,17 +27,6 @@ ItemsAreTheList = (course : Course) (state : State)
 
 -- ---- how many items there are
 
--- the items of expansions
-abbrev pub below_the_line : List Item → List Item
-below_the_line items = filter (λ item. nat_lt 0 item.depth) items
-
--- with the line's own statement there is one more at most than an expansion may have; of those that stand in expansions there are no more than that, and
--- none is too deep
-pub record AreFew (items : List Item) : Type 0 where
-  pub all : length items ≤ most_statements + 1
-  pub expanded : length (below_the_line items) ≤ most_statements
-  pub shallow : All (λ item. item.depth ≤ deepest) items
-
 abbrev pub ItemsAreFew : Type 0
 ItemsAreFew = (course : Course) (state : State) → AreFew (trace_in course state).items
 
@@ -47,10 +35,6 @@ ItemsAreFew = (course : Course) (state : State) → AreFew (trace_in course stat
 -- a line does the same in two states that agree on what it asked
 abbrev pub DependsOnAsksAlone : Type 0
 DependsOnAsksAlone = (course : Course) (state other : State) → Holds (trace_in course state).asks other → trace_in course other ≡ trace_in course state
-
--- no two asks of a line are of one key
-abbrev pub EachOnce : List Asked → Type 0
-EachOnce asks = AllPairs (λ earlier later. same_key earlier.key later.key ≡ false) asks
 
 abbrev pub AsksEachKeyOnce : Type 0
 AsksEachKeyOnce = (course : Course) (state : State) → EachOnce (trace_in course state).asks

@@ -2,8 +2,9 @@
 use Rattle.std.specs.Prelude.{◌≡◌, ℕ, false, List, ◌∷◌, map}
 use Rattle.cps_state.specs.Course.{Course, stop, Holds}
 use Rattle.cps_state.specs.Keys.{State}
+use Rattle.cps_pass.specs.Bounded.{AreFew, EachOnce}
 use Rattle.cps_pass.specs.Expansion.{line_part, trace_of}
-use Rattle.cps_laws.specs.CourseLaws.{entry_of, own_entry, AreFew, EachOnce}
+use Rattle.cps_laws.specs.CourseLaws.{entry_of, own_entry}
 use Rattle.cps_laws.specs.Listed.{Entry, expansion, is_dropped, trace_by_list}
 
 -- what a source line does before nothing else

@@ -1,17 +1,15 @@
 -- A line does the same in two states that agree on what it asked.
-use Rattle.std.proofs.Common.{◌≡◌, ℕ, List, Bool, true, false, sym, ap, subst, ◌∙◌}
+use Rattle.std.proofs.Common.{◌≡◌, refl, sym, ap, subst, Bool, true, false, List}
 use Rattle.cps_state.specs.declared.key.Asked.{Asked}
-use Rattle.cps_state.specs.Course.{stop, started, Trace, Running, run, traced, Holds}
+use Rattle.cps_state.specs.Course.{Course, Running, run, started, traced, Holds}
 use Rattle.cps_state.specs.Keys.{State}
 use Rattle.cps_state.proofs.AskLemmas.{run-same}
-use Rattle.cps_pass.specs.Expansion.{line_part, trace_of}
 
 -- a line that is dropped has asked the same
-traced-asks : (r : Running × Bool) (g : State) → Holds (traced r).asks g → Holds r.0.asks g
-traced-asks (running, true) g held = held
-traced-asks (running, false) g held = held
+pub same-asks : (r : Running × Bool) → r.0.asks ≡ (traced r).asks
+same-asks (running, true) = refl
+same-asks (running, false) = refl
 
-pub trace-same : (line : List ℕ) (f g : State) (trace : Trace) → trace ≡ trace_of line f → Holds trace.asks g → trace ≡ trace_of line g
-trace-same line f g trace is held =
-    let P : Trace → Type 0 = λ t. Holds t.asks g in
-    is ∙ ap (λ (r : Running × Bool). traced r) (sym (run-same (line_part line stop) f g started (traced-asks (run (line_part line stop) f started) g (subst P is held))))
+pub trace-same : (course : Course) (f g : State) → Holds (traced (run course f started)).asks g → traced (run course g started) ≡ traced (run course f started)
+trace-same course f g held =
+    ap (λ (r : Running × Bool). traced r) (run-same course f g started (subst (λ (asks : List Asked). Holds asks g) (sym (same-asks (run course f started))) held))

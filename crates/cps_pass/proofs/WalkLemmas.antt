@@ -1,7 +1,7 @@
 -- The statements of an expansion, one more.
 use Rattle.std.proofs.Common.{◌≡◌, refl, sym, ap, ◌∙◌, ℕ, zero, suc, ◌+◌, ◌-◌, ◌<◌, ◌≤◌, List, [], ◌∷◌, ◌++◌, Option, Some, None, true, false, Bool, length, get_or, drop, arith}
 use Rattle.std.proofs.lemmas.List.{drop_more}
-use Rattle.cps_state.specs.Course.{Course, stop, begin, settle, Part, ◌before◌, nothing, Running, run, started, settled_by, went, Does, Goes}
+use Rattle.cps_state.specs.Course.{Course, stop, begin, settle, Part, ◌before◌, nothing, Running, run, started, settled_by, went, Goes}
 use Rattle.cps_state.specs.Keys.{State}
 use Rattle.cps_pass.specs.declared.opened.Opened.{Opened}
 use Rattle.cps_pass.specs.declared.scope.Scope.{Scope}

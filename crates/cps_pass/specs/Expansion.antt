@@ -9,7 +9,7 @@ use Rattle.cps_state.specs.Made.{no_flags}
 use Rattle.cps_pass.specs.declared.scope.Scope.{Scope}
 use Rattle.cps_pass.specs.declared.scope.Scope.TheVariants.{Source, Expansion}
 use Rattle.cps_pass.specs.Meaning.{statement}
-use Rattle.cps_pass.specs.Own.{Own, begun}
+use Rattle.cps_pass.specs.Own.{begun}
 
 -- ---- the end of an expansion
 

@@ -1,6 +1,6 @@
 -- Lines that are kept: the body of a macro, and the lines of DUP. From the manual's descriptions of DUP, ENDD, MACRO and ENDM; that uncounted DUPs are
 -- matched by the number of their operands alone, and how long a body may be, are our profile's.
-use Rattle.std.specs.Prelude.{ℕ, zero, suc, ◌+◌, ◌-◌, ◌^◌, Bool, true, false, ◌&&◌, nat_lt, nat_le, nat_eq, List, [], ◌∷◌, ◌++◌, Option, None, Some, if◌then◌else◌}
+use Rattle.std.specs.Prelude.{ℕ, zero, suc, ◌+◌, ◌-◌, ◌^◌, Bool, true, false, ◌&&◌, ◌||◌, nat_lt, nat_le, nat_eq, List, [], ◌∷◌, ◌++◌, Option, None, Some, if◌then◌else◌}
 use Rattle.cps_text.specs.declared.name.Name.{Name}
 use Rattle.cps_state.specs.declared.flags.Flags.{Flags}
 use Rattle.cps_state.specs.declared.key.Key.TheVariants as key
@@ -50,7 +50,11 @@ more kept = record kept { lines = kept.lines + 1 }
 abbrev pub over : Kept → Kept
 over kept = record kept { is_over = true }
 
--- a body with lines past the most is dropped, with E
+-- a body is too long where lines past the most came, or where more than the most are counted, which no source leads to
+abbrev pub is_too_long : Kept → Bool
+is_too_long kept = kept.is_over || nat_lt most_body kept.lines
+
+-- a body that is too long is dropped, with E
 abbrev pub dropping_body : Control → Scope → Flags → (Scope → Part) → Part
 dropping_body control scope flags next = ending_body control scope (λ later. fill (nothing_made (record flags { structure = true })) before next later)
 
@@ -80,7 +84,7 @@ closing_macro control scope body location next = defining_macro control scope bo
 -- ENDM: E where there were too many lines
 abbrev pub ending_macro : Control → Scope → MacroBody → Location → (Scope → Part) → Part
 ending_macro control scope body location next =
-    if body.kept.is_over then dropping_body control scope (present_flags location) next else closing_macro control scope body location next
+    if is_too_long body.kept then dropping_body control scope (present_flags location) next else closing_macro control scope body location next
 
 -- MACRO in a body is not kept
 abbrev pub passed_macro : Control → Scope → MacroBody → List ℕ → Passed → (Scope → Part) → Part
@@ -121,7 +125,7 @@ opening_lines control scope body flags last behind =
 -- E and none where there were too many
 abbrev pub closing : Control → Scope → DupBody → Flags → List (List ℕ) → Behind → Part
 closing control scope body flags last behind =
-    if body.kept.is_over then dropping_body control scope flags (λ later. behind later []) else opening_lines control scope body flags last behind
+    if is_too_long body.kept then dropping_body control scope flags (λ later. behind later []) else opening_lines control scope body flags last behind
 
 -- the last of a number of lines closes the body, and is one of it
 abbrev pub counted_line : Control → Scope → DupBody → ℕ → List ℕ → Behind → Part

@@ -1,3 +1,4 @@
+pub mod Bounded
 pub mod Expansion
 pub mod Keeping
 pub mod Macros

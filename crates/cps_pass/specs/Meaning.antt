@@ -25,6 +25,7 @@ use Rattle.cps_reading.specs.Reading.{location_in, stating_in}
 use Rattle.cps_effect.specs.Blocks.{end}
 use Rattle.cps_effect.specs.Head.{in_body, leaving_head}
 use Rattle.cps_effect.specs.Instruction.{instruction, peripheral_instruction}
+use Rattle.cps_effect.specs.Statements.{unknown}
 use Rattle.cps_effect.specs.Statements as plain
 use Rattle.cps_pass.specs.declared.scope.Scope.{Scope}
 use Rattle.cps_pass.specs.declared.scope.Scope.TheVariants.{Source, Expansion}
@@ -35,10 +36,6 @@ use Rattle.cps_pass.specs.Ranges.{if_compared, if_defined, else_of, endif_of}
 use Rattle.cps_pass.specs.Repeating.{dup, nothing_kept}
 use Rattle.cps_pass.specs.Scope.{mode_in}
 use Rattle.cps_pass.specs.Skipping.{listed, passed_line, passed_range}
-
--- a statement without an operation, or with one that isn't there
-abbrev pub unknown : Part
-unknown = fill (nothing_made (record no_flags { operation = true }))
 
 -- a statement that may not stand where it stands has E alone
 abbrev pub misplaced : Part

@@ -52,6 +52,13 @@ fn over(kept: Kept) -> Kept
     }
 }
 
+/// Whether lines past the most came, or more than the most are counted, which no source leads to.
+fn is_too_long(kept: Kept) -> bool
+    ensures { result ≡ keeping.is_too_long kept }
+{
+    kept.is_over || kept.lines > MOST_BODY
+}
+
 /// A line that isn't kept has E alone.
 fn flag_over(alloc: Global, recorder: &mut Recorder)
     ensures { recorder.new ≡ filled recorder.old (nothing_made keeping.over_flags) }
@@ -101,7 +108,7 @@ fn keep_line<L: Lookup>(
     Ok(())
 }
 
-/// A body with lines past the most.
+/// A body that is too long.
 fn drop_body<L: Lookup>(
     alloc: Global,
     recorder: &mut Recorder,
@@ -188,7 +195,7 @@ fn end_macro<L: Lookup>(
 ) -> Result<(), AllocError>
     ensures { OnOk result (Hands (keeping.ending_macro control scope.old body location) scope.new (L.answer state.now) recorder.old recorder.new) }
 {
-    if body.kept.is_over {
+    if is_too_long(body.kept) {
         return drop_body(
             alloc,
             recorder,
@@ -441,7 +448,7 @@ fn close<L: Lookup>(
 ) -> Result<Option<Opened>, AllocError>
     ensures { IfOk result (λ opened. HandsOn (keeping.closing control scope.old body flags (option_to_list last)) scope.new (lines_of opened) (L.answer state.now) recorder.old recorder.new) }
 {
-    if body.kept.is_over {
+    if is_too_long(body.kept) {
         drop_body(alloc, recorder, state, control, scope, flags)?;
         return Ok(None);
     }
@@ -463,10 +470,17 @@ fn open_lines<L: Lookup>(
     let lines = take_body(alloc, recorder, state, control, scope, body.kept.lines)?;
     let lines = with_last(lines, last)?;
     flag(alloc, recorder, flags);
-    Ok(Some(Opened {
-        lines,
-        times: body.times,
-    }))
+    Ok(open(lines, body.times))
+}
+
+/// Lines that are opened so many times. Where there are none, nothing is opened, however often.
+fn open(lines: Vec<Shared<u8>>, times: u32) -> Option<Opened>
+    ensures { lines_of result ≡ keeping.repeated times lines.items }
+{
+    if lines.is_empty() {
+        return None;
+    }
+    Some(Opened { lines, times })
 }
 
 fn with_last(

@@ -22,7 +22,7 @@ use crate::scope::{Scope, mode_in};
 use crate::skipping::{pass_in_range, pass_line};
 use cps_effect::{
     end, flag, flag_in, flag_unreadable, in_body, instruction, leave_head, obey,
-    peripheral_instruction,
+    peripheral_instruction, unknown,
 };
 use cps_expr::{Operation, Row};
 use cps_reading::{Location, Stating, read_location, read_stating};
@@ -439,14 +439,5 @@ fn misplaced(alloc: Global, recorder: &mut Recorder)
 {
     let mut flags = Flags::none();
     flags.structure = true;
-    flag(alloc, recorder, flags);
-}
-
-/// A statement without an operation, or with one that isn't there.
-fn unknown(alloc: Global, recorder: &mut Recorder)
-    ensures { recorder.new ≡ filled recorder.old (nothing_made (record no_flags { operation = true })) }
-{
-    let mut flags = Flags::none();
-    flags.operation = true;
     flag(alloc, recorder, flags);
 }

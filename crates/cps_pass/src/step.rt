@@ -4,6 +4,7 @@ ghost use Rattle.cps_state.specs.Course.{Holds};
 ghost use Rattle.cps_state.specs.Keys as keys;
 ghost use Rattle.cps_state.specs.Work.{raised};
 ghost use Rattle.cps_state.specs.declared.work.Tally.TheVariants as tally;
+ghost use Rattle.cps_pass.specs.Bounded.{AreFew, EachOnce};
 ghost use Rattle.cps_pass.specs.Expansion as expansion;
 
 use crate::expansion::trace_line;
@@ -22,6 +23,10 @@ pub fn step_one<L: Lookup>(
     ensures trace { IfOk result (λ trace. trace ≡ expansion.trace_of line.now (L.answer state.now)) }
     // The line does the same in each state that agrees on what it asked.
     ensures asks_alone { IfOk result (λ trace. (other : keys.State) → Holds trace.asks other → trace ≡ expansion.trace_of line.now other) }
+    // It has at most 2,000 statements besides the line's own, and none deeper than 10.
+    ensures few { IfOk result (λ trace. AreFew trace.items) }
+    // It asks each key once.
+    ensures once { IfOk result (λ trace. EachOnce trace.asks) }
     ensures ones { work.new ≡ raised tally.Ones work.old }
 {
     work.raise(Tally::Ones);

@@ -1,4 +1,4 @@
-use Rattle.cps_laws.proofs.AloneLemmas.{trace-same}
+use Rattle.cps_pass.proofs.StepLemmas.{trace-same}
 use Rattle.cps_laws.proofs.laws.depends_on_asks_alone.Goals as goal
 
 pub returns : goal.returns

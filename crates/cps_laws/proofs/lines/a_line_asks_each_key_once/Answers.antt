@@ -1,5 +1,5 @@
 use Rattle.cps_laws.specs.LineLaws.{line_course}
-use Rattle.cps_laws.proofs.OnceLemmas.{asks-once}
+use Rattle.cps_pass.proofs.OnceLemmas.{asks-once}
 use Rattle.cps_laws.proofs.lines.a_line_asks_each_key_once.Goals as goal
 
 pub returns : goal.returns

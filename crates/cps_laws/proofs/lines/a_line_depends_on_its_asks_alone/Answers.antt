@@ -1,5 +1,5 @@
 use Rattle.cps_laws.specs.LineLaws.{line_course}
-use Rattle.cps_laws.proofs.AloneLemmas.{trace-same}
+use Rattle.cps_pass.proofs.StepLemmas.{trace-same}
 use Rattle.cps_laws.proofs.lines.a_line_depends_on_its_asks_alone.Goals as goal
 
 pub returns : goal.returns

@@ -1,4 +1,4 @@
-use Rattle.std.proofs.Common.{rules, arith, ◌≡◌, ◌+◌, ◌-◌, ◌<◌, ◌≤◌, sym, ◌∙◌, List, ℕ, true, false}
+use Rattle.std.proofs.Common.{rules, arith, ◌+◌, ◌-◌, sym, ◌∙◌, true, false}
 use Rattle.cps_state.specs.Course.{begin, Goes}
 use Rattle.cps_pass.specs.Expansion.{walk, body, ended, too_deep, Walks}
 use Rattle.cps_pass.specs.Keeping.{repeated}

@@ -1,4 +1,4 @@
-use Rattle.std.proofs.Common.{◌≡◌, ◌+◌, ◌-◌, ◌*◌, ◌≤◌, drop}
+use Rattle.std.proofs.Common.{◌≡◌, ◌+◌, ◌-◌, ◌*◌, drop}
 use Rattle.cps_state.specs.Course.{Part, Course, run}
 use Rattle.cps_pass.specs.declared.scope.Scope.{Scope}
 use Rattle.cps_pass.specs.declared.scope.Scope.TheVariants.{Expansion}

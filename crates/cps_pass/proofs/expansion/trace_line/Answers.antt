@@ -1,4 +1,4 @@
-use Rattle.std.proofs.Common.{rules, ◌≡◌, ◌+◌, ◌-◌, sym, subst, refl, true, Bool}
+use Rattle.std.proofs.Common.{◌≡◌, ◌+◌, ◌-◌, sym, subst, refl, true, Bool}
 use Rattle.std.specs.Prelude.{IfOk}
 use Rattle.cps_state.specs.Course.{Running, run, started, stop, traced}
 use Rattle.cps_pass.specs.declared.scope.Scope.TheVariants.{Source}

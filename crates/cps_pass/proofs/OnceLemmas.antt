@@ -6,11 +6,10 @@ use Rattle.std.proofs.lemmas.List.Quantifiers.{all_pairs_push}
 use Rattle.cps_state.specs.declared.key.Key.{Key}
 use Rattle.cps_state.specs.declared.key.Answer.{Answer}
 use Rattle.cps_state.specs.declared.key.Asked.{Asked}
-use Rattle.cps_state.specs.Course.{Course, stop, ask, put, fill, mark, tell, settle, begin, Running, run, started, last_put, last_ask, known_at, answer_at, with_ask, with_put_made, filled, marked, with_read, settled_by, begun, too_much}
+use Rattle.cps_state.specs.Course.{Course, stop, ask, put, fill, mark, tell, settle, begin, Running, run, started, last_put, last_ask, known_at, answer_at, with_ask, with_put_made, filled, marked, with_read, settled_by, begun, too_much, traced}
 use Rattle.cps_state.specs.Keys.{State, same_key}
-use Rattle.cps_laws.specs.Listed.{trace_in}
-use Rattle.cps_laws.specs.CourseLaws.{EachOnce}
-use Rattle.cps_laws.proofs.AloneLemmas.{same-asks}
+use Rattle.cps_pass.specs.Bounded.{EachOnce}
+use Rattle.cps_pass.proofs.StepLemmas.{same-asks}
 
 -- a key without an ask differs from each that was asked
 no-ask-behind : (o : Option (Option Answer)) (b : Bool) (a : Option Answer) → option_or o (if b then Some a else None) ≡ None → (o ≡ None) × (b ≡ false)
@@ -65,5 +64,5 @@ once-run (begin depth text rest) f t once =
 none-once : EachOnce []
 none-once i j d lt in_list = absurd (omega arith)
 
-pub asks-once : (course : Course) (f : State) → EachOnce (trace_in course f).asks
+pub asks-once : (course : Course) (f : State) → EachOnce (traced (run course f started)).asks
 asks-once course f = subst (λ (asks : List Asked). EachOnce asks) (same-asks (run course f started)) (once-run course f started none-once)
