@@ -87,13 +87,28 @@ fn assert_text(rt: &impl Abort, alloc: Global, session: &Session, part: Part, wa
 fn assert_edits(rt: &impl Abort, alloc: Global, rows: &[Row], texts: [&str; 3]) {
     let mut session = Session::new(alloc);
     let mut work = Work::new();
+    assert_rows(rt, alloc, &mut session, &mut work, rows);
+    assert_texts(rt, alloc, &session, texts);
+    drop(session);
+}
+
+fn assert_rows(
+    rt: &impl Abort,
+    alloc: Global,
+    session: &mut Session,
+    work: &mut Work,
+    rows: &[Row],
+) {
     for row in rows.iter() {
-        assert_edit(rt, alloc, &mut session, &mut work, row);
+        assert_edit(rt, alloc, session, work, row);
     }
+}
+
+fn assert_texts(rt: &impl Abort, alloc: Global, session: &Session, texts: [&str; 3]) {
     let [listing, binary, flags] = texts;
-    assert_text(rt, alloc, &session, Part::Listing, listing);
-    assert_text(rt, alloc, &session, Part::Binary, binary);
-    assert_text(rt, alloc, &session, Part::Flags, flags);
+    assert_text(rt, alloc, session, Part::Listing, listing);
+    assert_text(rt, alloc, session, Part::Binary, binary);
+    assert_text(rt, alloc, session, Part::Flags, flags);
 }
 
 const CLEAN: &str = "0 flagged lines\n";

@@ -68,34 +68,46 @@ fn listed<'a>(lines: &'a [Line], outcomes: &'a [Outcome], finals: &'a Finals) ->
     })
 }
 
-/// Adds a line and what it does in pass one, and says whether there was memory.
-fn add_line(
+/// Takes a line and what it does in pass one. Where there is no memory it is missing.
+fn take_line(
     alloc: Global,
     lines: &mut Vec<Line>,
     traces: &mut Vec<Trace>,
     gather: &mut Gather,
     text: &str,
-) -> bool {
+) {
     let Ok(line) = Line::new(alloc, text.as_bytes()) else {
-        return false;
+        return;
     };
-    match step_one(alloc, &mut Work::new(), &line, gather.state()) {
-        Ok(trace) => {
-            gather.add(&trace).is_ok() && traces.push(trace).is_ok() && lines.push(line).is_ok()
+    if let Ok(trace) = step_one(alloc, &mut Work::new(), &line, gather.state()) {
+        let _ = gather.add(&trace);
+        drop(traces.push(trace));
+    }
+    drop(lines.push(line));
+}
+
+fn take_source(
+    alloc: Global,
+    lines: &mut Vec<Line>,
+    traces: &mut Vec<Trace>,
+    gather: &mut Gather,
+    source: &str,
+) {
+    for text in source.lines() {
+        take_line(alloc, lines, traces, gather, text);
+    }
+}
+
+/// What pass two makes of each line. Where there is no memory it is missing.
+fn take_outcomes(alloc: Global, outcomes: &mut Vec<Outcome>, traces: &[Trace], finals: &Finals) {
+    for trace in traces {
+        if let Ok(outcome) = step_two(alloc, &mut Work::new(), trace, finals) {
+            drop(outcomes.push(outcome));
         }
-        Err(_) => false,
     }
 }
 
-/// Adds what pass two makes of a line, and says whether there was memory.
-fn add_outcome(alloc: Global, outcomes: &mut Vec<Outcome>, trace: &Trace, finals: &Finals) -> bool {
-    match step_two(alloc, &mut Work::new(), trace, finals) {
-        Ok(outcome) => outcomes.push(outcome).is_ok(),
-        Err(_) => false,
-    }
-}
-
-/// Writes a part of a source's texts from a list.
+/// Writes a part of a source's texts from a list. What it holds is dropped by calls, whose proofs stand once.
 pub fn write_list<W: Write>(
     alloc: Global,
     source: &str,
@@ -105,16 +117,39 @@ pub fn write_list<W: Write>(
     let mut lines = Vec::new(alloc);
     let mut traces = Vec::new(alloc);
     let mut gather = Gather::new(alloc);
-    let mut is_made = true;
-    for text in source.lines() {
-        is_made = add_line(alloc, &mut lines, &mut traces, &mut gather, text) && is_made;
-    }
+    take_source(alloc, &mut lines, &mut traces, &mut gather, source);
+    let done = write_traces(alloc, &lines, &traces, gather.finals(), part, writer);
+    drop(lines);
+    drop(traces);
+    drop(gather);
+    done
+}
+
+fn write_traces<W: Write>(
+    alloc: Global,
+    lines: &[Line],
+    traces: &[Trace],
+    finals: &Finals,
+    part: Part,
+    writer: &mut Counted<W>,
+) -> Result<(), ListFault> {
     let mut outcomes = Vec::new(alloc);
-    for trace in &traces {
-        is_made = add_outcome(alloc, &mut outcomes, trace, gather.finals()) && is_made;
-    }
-    match listed(&lines, &outcomes, gather.finals()) {
-        Some(list) if is_made => write_view(alloc, &list, part, writer),
-        _ => Err(ListFault::Memory),
+    take_outcomes(alloc, &mut outcomes, traces, finals);
+    let done = write_outcomes(alloc, lines, &outcomes, finals, part, writer);
+    drop(outcomes);
+    done
+}
+
+fn write_outcomes<W: Write>(
+    alloc: Global,
+    lines: &[Line],
+    outcomes: &[Outcome],
+    finals: &Finals,
+    part: Part,
+    writer: &mut Counted<W>,
+) -> Result<(), ListFault> {
+    match listed(lines, outcomes, finals) {
+        Some(list) => write_view(alloc, &list, part, writer),
+        None => Err(ListFault::Memory),
     }
 }

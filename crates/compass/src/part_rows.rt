@@ -29,13 +29,16 @@ pub fn write_view<V: View, W: Write>(
     }
 }
 
-/// Enters a line after the last one.
-fn enter(alloc: Global, session: &mut Session, text: &str) -> bool {
-    match Line::new(alloc, text.as_bytes()) {
-        Ok(line) => session
-            .insert(session.count(), line, &mut Work::new())
-            .is_ok(),
-        Err(_) => false,
+/// Enters a line after the last one. Where there is no memory it is missing.
+fn enter(alloc: Global, session: &mut Session, text: &str) {
+    if let Ok(line) = Line::new(alloc, text.as_bytes()) {
+        let _ = session.insert(session.count(), line, &mut Work::new());
+    }
+}
+
+fn enter_source(alloc: Global, session: &mut Session, source: &str) {
+    for text in source.lines() {
+        enter(alloc, session, text);
     }
 }
 
@@ -47,13 +50,25 @@ fn write_session<W: Write>(
     writer: &mut Counted<W>,
 ) -> Result<(), ListFault> {
     let mut session = Session::new(alloc);
-    let mut is_entered = true;
-    for text in source.lines() {
-        is_entered = enter(alloc, &mut session, text) && is_entered;
-    }
+    enter_source(alloc, &mut session, source);
+    let done = write_viewed(alloc, &session, part, writer);
+    drop(session);
+    done
+}
+
+fn write_viewed<W: Write>(
+    alloc: Global,
+    session: &Session,
+    part: Part,
+    writer: &mut Counted<W>,
+) -> Result<(), ListFault> {
     match session.view(alloc) {
-        Ok(view) if is_entered => write_view(alloc, &view, part, writer),
-        _ => Err(ListFault::Memory),
+        Ok(view) => {
+            let done = write_view(alloc, &view, part, writer);
+            drop(view);
+            done
+        }
+        Err(_) => Err(ListFault::Memory),
     }
 }
 

@@ -1,4 +1,5 @@
 //! Pass one of a source, line by line: the state before the first line, what each line puts there, and what it asks.
+//! What a function holds is dropped by calls, whose proofs stand once.
 ghost use Rattle.std.specs.Prelude.{◌≡◌};
 
 use super::assertions::assert_same;
@@ -34,17 +35,32 @@ fn keep(few: &mut Few, asked: &Asked) -> bool {
     }
 }
 
+fn keep_all(few: &mut Few, asks: &[Asked]) -> bool {
+    let mut is_kept = true;
+    for asked in asks {
+        is_kept = keep(few, asked) && is_kept;
+    }
+    is_kept
+}
+
 /// Whether a line does the same where nothing stands but what it asked.
 fn does_the_same(alloc: Global, line: &Line, trace: &Trace) -> bool {
     let mut few = Few {
         answers: HashMap::new(alloc),
     };
-    let mut is_kept = true;
-    for asked in trace.asks() {
-        is_kept = keep(&mut few, asked) && is_kept;
-    }
-    match step_one(alloc, &mut Work::new(), line, &few) {
-        Ok(again) => is_kept && is_same_trace(&again, trace),
+    let is_same = keep_all(&mut few, trace.asks()) && does_so_in(alloc, line, &few, trace);
+    drop(few);
+    is_same
+}
+
+/// Whether a line does this in a state.
+fn does_so_in(alloc: Global, line: &Line, few: &Few, want: &Trace) -> bool {
+    match step_one(alloc, &mut Work::new(), line, few) {
+        Ok(trace) => {
+            let is_same = is_same_trace(&trace, want);
+            drop(trace);
+            is_same
+        }
         Err(_) => false,
     }
 }
@@ -72,7 +88,12 @@ fn is_same_item(one: &Item, other: &Item) -> bool {
 /// Takes a line in a state, which is then that after the line. Whether it did the same where only what it asked stood.
 fn take(alloc: Global, state: &mut State, line: &Line) -> bool {
     match step_one(alloc, &mut Work::new(), line, state) {
-        Ok(trace) => does_the_same(alloc, line, &trace) && state.apply(&trace).is_ok(),
+        Ok(trace) => {
+            let is_same = does_the_same(alloc, line, &trace);
+            let is_applied = state.apply(&trace).is_ok();
+            drop(trace);
+            is_same && is_applied
+        }
         Err(_) => false,
     }
 }
@@ -82,6 +103,14 @@ fn take_text(alloc: Global, state: &mut State, text: &str) -> bool {
         Ok(line) => take(alloc, state, &line),
         Err(_) => false,
     }
+}
+
+fn take_all(alloc: Global, state: &mut State, lines: &[&str]) -> bool {
+    let mut is_alike = true;
+    for text in lines {
+        is_alike = take_text(alloc, state, text) && is_alike;
+    }
+    is_alike
 }
 
 /// What stands after some lines.
@@ -98,15 +127,14 @@ struct Reached {
 /// Pass one of lines, one after another, and what stands then.
 fn pass_one(alloc: Global, lines: &[&str], symbol: &[u8]) -> Reached {
     let mut state = State::first(alloc);
-    let mut is_alike = true;
-    for text in lines {
-        is_alike = take_text(alloc, &mut state, text) && is_alike;
-    }
-    Reached {
+    let is_alike = take_all(alloc, &mut state, lines);
+    let reached = Reached {
         is_alike,
         value: value_in(&state, symbol),
         place: place_in(&state),
-    }
+    };
+    drop(state);
+    reached
 }
 
 fn value_in(state: &State, symbol: &[u8]) -> Option<i64> {

@@ -27,12 +27,14 @@ pub fn run<R: Read, W: Write>(
 ) -> Ran {
     let mut session = Session::new(alloc);
     let end = run_script(alloc, reader, writer, &mut session);
-    Ran {
+    let ran = Ran {
         end,
         count: session.count(),
         first: first_byte(&session),
         flagged: session.flagged(),
-    }
+    };
+    drop(session);
+    ran
 }
 
 fn first_byte(session: &Session) -> Option<u8> {
