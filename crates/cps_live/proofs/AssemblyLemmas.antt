@@ -1,15 +1,12 @@
 -- Parts of a source in pass one.
 use Rattle.std.proofs.Common.{◌≡◌, ℕ, zero, suc, ◌+◌, ◌<◌, ◌≤◌, refl, sym, ap, subst, ◌∙◌, List, [], ◌∷◌, ◌++◌, append_assoc, append-nil, length, get_or, take, drop, set, arith}
-use Rattle.std.specs.Prelude.{map}
-use Rattle.std.proofs.lemmas.Grind.{flat_map-append}
-use Rattle.std.proofs.lemmas.List.{take_more, take_all, set_split, map-append}
+use Rattle.std.proofs.lemmas.List.{take_more, take_all, set_split}
 use Rattle.cps_state.specs.declared.key.Put.{Put}
 use Rattle.cps_state.specs.Keys.{State, first_state, with_put, overwritten}
 use Rattle.cps_state.specs.Course.{Trace}
 use Rattle.cps_pass.specs.Expansion.{trace_of}
 use Rattle.cps_final.specs.Layout.{puts_of}
-use Rattle.cps_final.specs.Finals.{Finals, finals_of, final_value, is_open_at_end}
-use Rattle.cps_final.specs.Outcome.{Outcome, outcome_of}
+use Rattle.cps_final.specs.Finals.{Finals, finals_of, is_open_at_end}
 use Rattle.cps_live.specs.Assembly.{after, state_after, traces_from, traces_of, outcomes_under, outcomes_of, ends_open}
 use Rattle.cps_live.specs.Assembled.{Assembled, assembled_behind, assembled_of}
 
@@ -43,6 +40,15 @@ puts-state s [] = refl
 puts-state s (l ∷ lines) = overwritten-append s (trace_of l s).puts (puts_of (traces_from (after s l) lines)) ∙ puts-state (after s l) lines
 
 -- ---- what is kept
+
+-- of no line
+pub empty-traces : (kept : Assembled) → kept ≡ assembled_of [] → kept.traces ≡ []
+unfolding assembled_behind
+empty-traces kept is = ap (λ (a : Assembled). a.traces) is
+
+pub empty-finals : (kept : Assembled) → kept ≡ assembled_of [] → kept.finals ≡ finals_of []
+unfolding assembled_behind
+empty-finals kept is = ap (λ (a : Assembled). a.finals) is
 
 -- no line behind others
 pub none-behind : (traces : List Trace) (done : Finals) (front : List Trace) (before : List (List ℕ)) → traces ≡ [] → done ≡ finals_of front → front ≡ traces_of before

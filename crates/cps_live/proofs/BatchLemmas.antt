@@ -1,5 +1,5 @@
 -- Lines of a source that come one after another, by their bytes.
-use Rattle.std.proofs.Common.{◌≡◌, ℕ, ◌+◌, ◌<◌, ◌≤◌, List, [], ◌∷◌, ◌++◌, map, length, eqb, refl, sym, ap, subst, ◌∙◌, arith, append_assoc, append-nil, length-append, false}
+use Rattle.std.proofs.Common.{◌≡◌, ℕ, ◌+◌, ◌≤◌, List, [], ◌∷◌, ◌++◌, map, length, eqb, refl, sym, ap, subst, ◌∙◌, arith, append_assoc, append-nil, length-append, false}
 use Rattle.std.proofs.lemmas.List.{map-append}
 use Rattle.std.proofs.lemmas.List.Elements.{All-nil, All-push}
 use Rattle.std.specs.Prelude.{Option, Result, Ok, Err}
@@ -8,7 +8,6 @@ use Rattle.cps_text.specs.declared.counted.Counted.{Counted}
 use Rattle.cps_text.specs.Counted.{inner_of}
 use Rattle.cps_text.specs.Line.{IsLine}
 use Rattle.cps_list.specs.declared.part.Part.{Part}
-use Rattle.cps_live.specs.declared.begun_line.BegunLine.{BegunLine}
 use Rattle.cps_live.specs.declared.fault.BatchFault.{BatchFault}
 use Rattle.cps_live.specs.declared.fault.BatchFault.TheVariants as faults
 use Rattle.cps_live.specs.declared.input.Input.{Input}

@@ -1,5 +1,7 @@
 //! What is kept of a source.
-ghost use Rattle.std.specs.Prelude.{◌≡◌, ◌≤◌, ◌+◌, ℕ, [], ◌∷◌, ◌++◌, List, IfOk, OnOk, OnErr, length, take};
+ghost use Rattle.std.specs.Prelude.{◌≡◌, ◌≤◌, ◌<◌, ◌+◌, ℕ, [], ◌∷◌, ◌++◌, List, IfOk, OnOk, OnErr, length, take, vec_len, vec_capacity};
+ghost use Rattle.cps_state.specs.Course.{Trace};
+ghost use Rattle.cps_final.specs.Finals.{Gathers};
 ghost use Rattle.cps_state.specs.declared.work.Tally.TheVariants.{Ones};
 ghost use Rattle.cps_state.specs.Work.{raised, stepped, IsSteppedUpTo};
 ghost use Rattle.cps_live.specs.Assembly.{traces_of, assembly_of};
@@ -14,12 +16,21 @@ use cps_list::View;
 use cps_pass::{Trace, Work, step_one};
 use cps_text::Line;
 use std::alloc::{AllocError, Global};
+use std::mem::swap;
 
 /// What lines of a source do in pass one, and what was gathered of them and of those before them.
-#[derive(Drop)]
 pub struct Assembled {
     traces: Vec<Trace>,
     gather: Gather,
+}
+
+// Written out: a derived drop is proved anew, with all that it goes through, at each place where a value is dropped.
+impl Drop for Assembled {
+    fn drop(self) {
+        let Assembled { traces, gather } = self;
+        drop(traces);
+        drop(gather);
+    }
 }
 
 /// What is kept of a source, for contracts.
@@ -48,14 +59,11 @@ impl Assembled {
     fn behind(alloc: Global, front: &[Trace]) -> Result<Assembled, AllocError>
         ensures { IfOk result (λ assembled. (before : List (List ℕ)) → front.now ≡ traces_of before → ⟦<Assembled as Keeps>⟧.assembled assembled ≡ assembled_behind before []) }
     {
-        let mut gather = Gather::new(alloc);
+        let mut assembled = Assembled::new(alloc);
         for trace in front {
-            gather.add(trace)?;
+            assembled.gather.add(trace)?;
         }
-        Ok(Assembled {
-            traces: Vec::new(alloc),
-            gather,
-        })
+        Ok(assembled)
     }
 
     /// Of these lines.
@@ -96,12 +104,27 @@ impl Assembled {
         ensures step { work.new ≡ raised Ones work.old }
     {
         let trace = step_one(alloc, work, line, self.gather.state())?;
+        match self.gather_next(&trace) {
+            Ok(()) => {
+                self.traces.push_reserved(trace);
+                Ok(())
+            }
+            Err(refused) => {
+                drop(trace);
+                Err(refused)
+            }
+        }
+    }
+
+    /// Gathers of the next trace, and makes room for it; after a refusal nothing is changed.
+    fn gather_next(&mut self, trace: &Trace) -> Result<(), AllocError>
+        ensures traces { self.new.traces.items ≡ self.old.traces.items }
+        ensures room { OnOk result (vec_len self.new.traces < vec_capacity self.new.traces) }
+        ensures ok { OnOk result ((done : List Trace) → Gathers (⟦<Gather as Gathered>⟧.gathered self.old.gather) done → Gathers (⟦<Gather as Gathered>⟧.gathered self.new.gather) (done ++ trace.now ∷ [])) }
+        ensures err { OnErr result (⟦<Gather as Gathered>⟧.gathered self.new.gather ≡ ⟦<Gather as Gathered>⟧.gathered self.old.gather) }
+    {
         self.traces.reserve(1)?;
-        self.gather.add(&trace)?;
-        let Ok(_) = self.traces.push(trace) else {
-            unreachable!();
-        };
-        Ok(())
+        self.gather.add(trace)
     }
 
     /// Takes the next lines.
@@ -156,7 +179,7 @@ impl Assembled {
         let Ok(_) = self.traces.append(&mut later.traces) else {
             unreachable!();
         };
-        self.gather = later.gather;
+        swap(&mut self.gather, &mut later.gather);
         Ok(())
     }
 }

@@ -36,11 +36,23 @@ pub enum EditFault {
 ///
 /// What its lines do in pass one is kept. An edit makes that anew from the first line on that it touches, before it is
 /// accepted, and counts these steps in the caller's work.
-#[derive(Drop)]
 pub struct Session {
     alloc: Global,
     lines: Vec<Line>,
     assembled: Assembled,
+}
+
+// Written out, as that of what is kept: what holds a session drops it by a call.
+impl Drop for Session {
+    fn drop(self) {
+        let Session {
+            alloc: _,
+            lines,
+            assembled,
+        } = self;
+        drop(lines);
+        drop(assembled);
+    }
 }
 
 impl Model for Session {

@@ -17,12 +17,12 @@ use Rattle.cps_tool.specs.declared.script.Flow.{Flow}
 use Rattle.cps_tool.specs.declared.script.Flow.TheVariants.{GoesOn, Ends}
 use Rattle.cps_live.specs.BegunLine.{IsBegun}
 use Rattle.cps_tool.specs.Command.{is_quit}
-use Rattle.cps_tool.specs.Edits.{Standing, at, beginning}
+use Rattle.cps_tool.specs.EditReplies.{Standing, at, beginning}
 use Rattle.cps_live.proofs.SplitLemmas.{both, left_true, right_true, splits-none, splits-line, splits-byte, split_of}
 use Rattle.cps_live.specs.Lines.{Splits, without_return, last_line, has_no_newline, newline}
 use Rattle.cps_tool.specs.Reply.{Response, reply_text}
 use Rattle.cps_tool.specs.Script.{Run, RunsScript, Script, FrontOfScript, LinesOfScript, IsAnswered, HasQuit, LacksQuit, IsReadToEnd, AreAnswered, goes_on, command_lines, before_quit}
-use Rattle.cps_tool.specs.Progress.{MatchFlow, Progress, Takes, Finishes}
+use Rattle.cps_tool.specs.Progress.{MatchFlow, IsReplied, IsPartlyReplied, IsLast, Progress, Takes, Finishes}
 
 -- ---- running lines
 
@@ -84,7 +84,7 @@ takes-byte line new now before byte other push = λ start taken text so_far. (
 )
 
 pub takes-line : (line fresh : BegunLine) (old new : Standing) (before after : Option (List ℕ)) → IsBegun fresh []
-    → ((begun : List ℕ) → IsBegun line begun → (is_quit (without_return begun) ≡ false) × (response : Response) × IsAnswered old (without_return begun) response new × Appends before after (reply_text response))
+    → ((begun : List ℕ) → IsBegun line begun → IsReplied (without_return begun) old new before after)
     → Takes (Ok GoesOn) line fresh old new before after (newline ∷ [])
 takes-line line fresh old new before after empty answer = λ start taken text so_far.
     let a = answer so_far.rest so_far.begun in (
@@ -118,7 +118,7 @@ quit_ends lines later rest here =
     (and_false (list_all goes_on (map without_return lines)))
 
 pub takes-quit : (line fresh : BegunLine) (old new : Standing) (before after : Option (List ℕ))
-    → ((begun : List ℕ) → IsBegun line begun → (is_quit (without_return begun) ≡ true) × (new ≡ old) × Appends before after [])
+    → ((begun : List ℕ) → IsBegun line begun → IsLast (without_return begun) old new before after)
     → Takes (Ok Ends) line fresh old new before after (newline ∷ [])
 takes-quit line fresh old new before after answer = λ start taken text so_far.
     let a = answer so_far.rest so_far.begun in
@@ -140,22 +140,21 @@ takes-quit line fresh old new before after answer = λ start taken text so_far.
 
 pub takes-answered : (flow : Flow) (line fresh : BegunLine) (old new : Standing) (before after : Option (List ℕ)) → IsBegun fresh []
     → ((begun : List ℕ) → IsBegun line begun → MatchFlow flow
-    ((is_quit (without_return begun) ≡ false) × (response : Response) × IsAnswered old (without_return begun) response new × Appends before after (reply_text response))
-    ((is_quit (without_return begun) ≡ true) × (new ≡ old) × Appends before after []))
+    (IsReplied (without_return begun) old new before after) (IsLast (without_return begun) old new before after))
     → Takes (Ok flow) line fresh old new before after (newline ∷ [])
 takes-answered GoesOn line fresh old new before after empty answer = takes-line line fresh old new before after empty answer
 takes-answered Ends line fresh old new before after empty answer = takes-quit line fresh old new before after answer
 
 pub takes-fault : (fault : RunFault) (line fresh : BegunLine) (old new : Standing) (before after : Option (List ℕ))
-    → ((begun : List ℕ) → IsBegun line begun → (is_quit (without_return begun) ≡ false) × (response : Response) × IsAnswered old (without_return begun) response new
-    × (front back : List ℕ) × (reply_text response ≡ front ++ back) × Appends before after front)
+    → ((begun : List ℕ) → IsBegun line begun → IsPartlyReplied (without_return begun) old new before after)
     → Takes (Err fault) line fresh old new before after (newline ∷ [])
 takes-fault fault line fresh old new before after answer = λ start taken text so_far.
     let a = answer so_far.rest so_far.begun in
-    let cut = a.5 in (
-      a.3,
-      a.4,
-      a.6,
+    let w = a.3 in
+    let cut = w.2 in (
+      w.0,
+      w.1,
+      w.3,
       λ more last left. let split = split_of more in record {
         lines = so_far.lines ++ so_far.rest ∷ split.lines;
         rest = split.rest;
@@ -170,7 +169,7 @@ takes-fault fault line fresh old new before after answer = λ start taken text s
         run = so_far.run;
         response = a.1;
         answers = a.2;
-        front = a.3;
+        front = w.0;
         written = refl;
         cut = cut;
       },
@@ -199,8 +198,7 @@ finishes-empty line now before empty = λ start taken text so_far.
 
 pub finishes-line : (flow : Flow) (line : BegunLine) (old new : Standing) (before after : Option (List ℕ)) → ((begun : List ℕ) → IsBegun line begun → begun ≡ [] → ⊥)
     → ((begun : List ℕ) → IsBegun line begun → MatchFlow flow
-    ((is_quit (without_return begun) ≡ false) × (response : Response) × IsAnswered old (without_return begun) response new × Appends before after (reply_text response))
-    ((is_quit (without_return begun) ≡ true) × (new ≡ old) × Appends before after []))
+    (IsReplied (without_return begun) old new before after) (IsLast (without_return begun) old new before after))
     → Finishes (Ok tt) line old new before after
 finishes-line GoesOn line old new before after some answer = λ start taken text so_far.
     let a = answer so_far.rest so_far.begun in
@@ -235,15 +233,15 @@ finishes-line Ends line old new before after some answer = λ start taken text s
     )
 
 pub finishes-fault : (fault : RunFault) (line : BegunLine) (old new : Standing) (before after : Option (List ℕ)) → ((begun : List ℕ) → IsBegun line begun → begun ≡ [] → ⊥)
-    → ((begun : List ℕ) → IsBegun line begun → (is_quit (without_return begun) ≡ false) × (response : Response) × IsAnswered old (without_return begun) response new
-    × (front back : List ℕ) × (reply_text response ≡ front ++ back) × Appends before after front)
+    → ((begun : List ℕ) → IsBegun line begun → IsPartlyReplied (without_return begun) old new before after)
     → Finishes (Err fault) line old new before after
 finishes-fault fault line old new before after some answer = λ start taken text so_far.
     let a = answer so_far.rest so_far.begun in
-    let cut = a.5 in (
-      a.3,
-      a.4,
-      a.6,
+    let w = a.3 in
+    let cut = w.2 in (
+      w.0,
+      w.1,
+      w.3,
       λ last left end. record {
         lines = so_far.lines;
         rest = so_far.rest;
@@ -258,7 +256,7 @@ finishes-fault fault line old new before after some answer = λ start taken text
         run = so_far.run;
         response = a.1;
         answers = a.2;
-        front = a.3;
+        front = w.0;
         written = refl;
         cut = cut;
       },

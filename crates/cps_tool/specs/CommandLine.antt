@@ -1,6 +1,7 @@
 -- What a call of the program does, and the status that it ends with. Our own.
 use Rattle.std.specs.Prelude.{◌≡◌, ℕ, ◌⊎◌, List, [], Option, Some, Result, Ok, Err, if◌then◌else◌, ◌==◌}
 use Rattle.cps_text.specs.declared.counted.Counted.{Counted}
+use Rattle.cps_text.specs.Counted.{failures_of, FailsOnce}
 use Rattle.cps_live.specs.declared.fault.BatchFault.{BatchFault}
 use Rattle.cps_live.specs.Batch.{RunsBatch}
 use Rattle.cps_tool.specs.declared.request.Request.{Request}
@@ -8,6 +9,7 @@ use Rattle.cps_tool.specs.declared.request.Request.TheVariants.{Batch, Session}
 use Rattle.cps_tool.specs.declared.writing.RunFault.{RunFault}
 use Rattle.cps_tool.specs.Request.{Answer, asks, tells, refuses}
 use Rattle.cps_tool.specs.Script.{RunsScript}
+use Rattle.cps_tool.specs.Written.{IsWritten, IsFrontWritten}
 
 -- the status with so many flagged lines
 abbrev pub status_with : ℕ → ℕ
@@ -29,10 +31,22 @@ Calls remaining contents (Batch part) status reader reader' writer writer' =
 Calls remaining contents Session status reader reader' writer writer' =
     (result : Result ℕ RunFault) × (source : List (List ℕ)) × (status ≡ status_of result) × RunsScript remaining contents [] source result reader reader' writer writer'
 
+-- The help or the version was told: the writer took the whole of a text, and no write failed; or it took a front of one, where a write failed.
+abbrev pub Tells : {W : Type 0} → (W → Option (List ℕ)) → ℕ → Counted W → Counted W → Type 0
+Tells contents status writer writer' = (text : List ℕ) × (
+    ((status ≡ 0) × IsWritten contents writer writer' text × (failures_of writer' ≡ failures_of writer))
+    ⊎ ((status ≡ 2) × IsFrontWritten contents writer writer' text × FailsOnce writer writer')
+    )
+
 -- What a call does, by what its words are answered: what they ask is done; or the help or the version is told; or they are refused. Nothing is
 -- read where they ask nothing. Memory may be refused at any words.
 abbrev pub Serves : {R W : Type 0} → (R → Option (List ℕ)) → (W → Option (List ℕ)) → Answer → ℕ → Counted R → Counted R → Counted W → Counted W → Type 0
 Serves remaining contents (asks request) status reader reader' writer writer' =
     IsUndone status reader reader' writer writer' ⊎ Calls remaining contents request status reader reader' writer writer'
-Serves remaining contents tells status reader reader' writer writer' = (reader' ≡ reader) × ((status ≡ 0) ⊎ (status ≡ 2))
+Serves remaining contents tells status reader reader' writer writer' =
+    IsUndone status reader reader' writer writer' ⊎ ((reader' ≡ reader) × Tells contents status writer writer')
 Serves remaining contents refuses status reader reader' writer writer' = IsUndone status reader reader' writer writer'
+
+-- nothing is said of a call that ends with another status than 2
+abbrev pub IsQuiet : {E : Type 0} → ℕ → Counted E → Counted E → Type 0
+IsQuiet status errors errors' = (status ≡ 2) ⊎ (errors' ≡ errors)

@@ -1,6 +1,7 @@
-pub mod Edits
+pub mod EditReplies
 pub mod Command
 pub mod Reply
+pub mod Written
 pub mod Script
 pub mod Progress
 pub mod Request

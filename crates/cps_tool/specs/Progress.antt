@@ -1,5 +1,5 @@
 -- For the loop over a script's bytes, not part of what a reader believes: how far a script has come.
-use Rattle.std.specs.Prelude.{◌≡◌, ℕ, true, List, ◌++◌, map, Option, Result, MatchResult}
+use Rattle.std.specs.Prelude.{◌≡◌, ℕ, true, false, List, [], ◌++◌, map, Option, Result, MatchResult}
 use Rattle.std.specs.List.{list_all}
 use Rattle.std.specs.Io.KnownBytes.{Appends}
 use Rattle.cps_tool.specs.declared.script.Flow.{Flow}
@@ -7,14 +7,37 @@ use Rattle.cps_tool.specs.declared.script.Flow.TheVariants.{GoesOn, Ends}
 use Rattle.cps_tool.specs.declared.writing.RunFault.{RunFault}
 use Rattle.cps_live.specs.declared.begun_line.BegunLine.{BegunLine}
 use Rattle.cps_live.specs.Lines.{Splits, without_return}
-use Rattle.cps_tool.specs.Edits.{Standing}
-use Rattle.cps_tool.specs.Script.{Run, Script, FrontOfScript, IsInputEnd, HasQuit, goes_on}
+use Rattle.cps_tool.specs.EditReplies.{Standing}
+use Rattle.cps_tool.specs.Command.{is_quit}
+use Rattle.cps_tool.specs.Reply.{Response, reply_text}
+use Rattle.cps_tool.specs.Script.{IsAnswered, Run, Script, FrontOfScript, IsInputEnd, HasQuit, goes_on}
+use Rattle.cps_tool.specs.Written.{AppendsFront}
 use Rattle.cps_live.specs.BegunLine.{IsBegun}
 
 -- one fact where a script goes on, and another where it ends
 abbrev pub MatchFlow : Flow → Type 0 → Type 0 → Type 0
 MatchFlow GoesOn on ended = on
 MatchFlow Ends on ended = ended
+
+-- a command line that does not end the script was answered, and its reply written
+abbrev pub IsReplied : List ℕ → Standing → Standing → Option (List ℕ) → Option (List ℕ) → Type 0
+IsReplied line old new before after =
+    (is_quit line ≡ false) × (response : Response) × IsAnswered old line response new × Appends before after (reply_text response)
+
+-- a command line that does not end the script was answered, and a front of its reply written
+abbrev pub IsPartlyReplied : List ℕ → Standing → Standing → Option (List ℕ) → Option (List ℕ) → Type 0
+IsPartlyReplied line old new before after =
+    (is_quit line ≡ false) × (response : Response) × IsAnswered old line response new × AppendsFront before after (reply_text response)
+
+-- a command line ends the script, and nothing is done
+abbrev pub IsLast : List ℕ → Standing → Standing → Option (List ℕ) → Option (List ℕ) → Type 0
+IsLast line old new before after = (is_quit line ≡ true) × (new ≡ old) × Appends before after []
+
+-- what a command line that has come makes of a script
+abbrev pub Answers : Result Flow RunFault → List ℕ → Standing → Standing → Option (List ℕ) → Option (List ℕ) → Type 0
+Answers result line old new before after = MatchResult result
+    (λ flow. MatchFlow flow (IsReplied line old new before after) (IsLast line old new before after))
+    (λ _. IsPartlyReplied line old new before after)
 
 -- From where a script began, the lines that end in the bytes taken were answered by a text. A last line has begun.
 pub record Progress (start : Standing) (taken : List ℕ) (line : BegunLine) (text : List ℕ) (now : Standing) : Type 0 where

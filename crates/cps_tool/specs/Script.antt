@@ -1,7 +1,7 @@
 -- What a script writes, and the source after it. Our own.
 use Rattle.std.specs.Prelude.{◌≡◌, ℕ, Bool, true, false, not, List, [], ◌∷◌, ◌++◌, map, length, ◌⊎◌, Option, Result, Ok, Err, if◌then◌else◌}
 use Rattle.std.specs.List.{list_all}
-use Rattle.std.specs.Io.KnownBytes.{Appends, Consumes, IsAtEnd}
+use Rattle.std.specs.Io.KnownBytes.{Consumes, IsAtEnd}
 use Rattle.cps_text.specs.declared.counted.Counted.{Counted}
 use Rattle.cps_text.specs.Counted.{inner_of, failures_of, FailsOnce, LastReadGave}
 use Rattle.cps_state.specs.Work.{Counts}
@@ -17,8 +17,9 @@ use Rattle.cps_live.specs.Lines.{Splits, without_return, last_line, lines_of}
 use Rattle.cps_tool.specs.Command.{Order, append, insert, replace, delete, list, binary, symbols, flags, work, quit, Spells, is_quit}
 use Rattle.cps_tool.specs.declared.writing.RunFault.{RunFault}
 use Rattle.cps_tool.specs.declared.writing.RunFault.TheVariants as faults
-use Rattle.cps_tool.specs.Edits.{Standing, at, beginning, Inserted, Replaced, Deleted}
+use Rattle.cps_tool.specs.EditReplies.{Standing, at, beginning, Inserted, Replaced, Deleted}
 use Rattle.cps_tool.specs.Reply.{Response, accepted, refused, shown, worked, reply_text}
+use Rattle.cps_tool.specs.Written.{IsWritten}
 
 -- a query was answered: its text is shown whole, or memory was refused; nothing is changed
 abbrev pub Queried : Standing → List ℕ → Response → Standing → Type 0
@@ -46,7 +47,7 @@ IsAnswered old line response new =
     ((order : Order) × Spells line order × Obeys old order response new)
     ⊎ (((order : Order) → Spells line order → ⊥) × (response ≡ refused refusals.BadCommand) × (new ≡ old))
 
--- what command lines may write, one after another, and where the script stands behind them
+-- what command lines may write, one after another, and where the script stands after them
 abbrev pub Run : Standing → List (List ℕ) → List ℕ → Standing → Type 0
 Run old [] text new = (text ≡ []) × (new ≡ old)
 Run old (line ∷ lines) text new =
@@ -66,14 +67,14 @@ before_quit (line ∷ lines) = if is_quit line then [] else line ∷ before_quit
 abbrev pub command_lines : List (List ℕ) → List ℕ → List (List ℕ)
 command_lines lines rest = before_quit (lines_of lines rest)
 
--- what a script's bytes may write, and where it stands behind them
+-- what a script's bytes may write, and where it stands after them
 pub record Script (old : Standing) (bytes text : List ℕ) (new : Standing) : Type 0 where
   pub lines : List (List ℕ)
   pub rest : List ℕ
   pub splits : Splits bytes lines rest
   pub run : Run old (command_lines lines rest) text new
 
--- what the lines that a newline ends may write, none of which ends the script, and where it stands behind them
+-- what the lines that a newline ends may write, none of which ends the script, and where it stands after them
 pub record LinesOfScript (old : Standing) (bytes text : List ℕ) (new : Standing) : Type 0 where
   pub lines : List (List ℕ)
   pub rest : List ℕ
@@ -109,7 +110,7 @@ HaveCome lines rest last left commands =
     ⊎ (IsInputEnd last left × (commands ≡ map without_return lines ++ last_line rest))
 
 -- The first command lines that have come were answered, none of which ends the script; `last` are the bytes of the last read, and `left` are
--- those to come. The replies to the earlier lines stand in `text`, and behind them a front of the reply to the final one; `unsaid` is the
+-- those to come. The replies to the earlier lines stand in `text`, and after them a front of the reply to the final one; `unsaid` is the
 -- rest of it.
 pub record FrontOfScript (old : Standing) (bytes last : List ℕ) (left : Option (List ℕ)) (text unsaid : List ℕ) (new : Standing) : Type 0 where
   pub lines : List (List ℕ)
@@ -135,22 +136,51 @@ AreAnswered old bytes text = (said more : List ℕ) × (mid : Standing) × Lines
 
 -- ---- a run
 
--- What a run of a script does, by its result: `old` is the source before it and `new` the source after it.
--- What is written is a text that the script may write. After a read fault it is a text of the lines that a newline ended; after a failed write
--- the replies to some first lines stand there, the last one in part.
+-- A script was read to its end, and what was written is a text that it may write: `before` are the bytes before the last read, and `last` those
+-- that it gave. The flagged lines of the source after it are counted.
+pub record RanToEnd {R W : Type 0} (remaining : R → Option (List ℕ)) (contents : W → Option (List ℕ)) (old new : List (List ℕ)) (count : ℕ) (reader reader' : Counted R) (writer writer' : Counted W) : Type 0 where
+  pub before : List ℕ
+  pub last : List ℕ
+  pub text : List ℕ
+  pub work : Counts
+  pub given : Consumes (remaining (inner_of reader)) (remaining (inner_of reader')) (before ++ last)
+  pub replies : Script (beginning old) (before ++ last) text (at new work)
+  pub written : IsWritten contents writer writer' text
+  pub reads : LastReadGave reader reader' before last
+  pub ended : IsReadToEnd before last (remaining (inner_of reader'))
+  pub flagged : count ≡ flagged_lines new
+  pub read_unfailed : failures_of reader' ≡ failures_of reader
+  pub write_unfailed : failures_of writer' ≡ failures_of writer
+
+-- Reading ended before the script did. What was written is a text of the lines that a newline ended.
+pub record StoppedAtRead {R W : Type 0} (remaining : R → Option (List ℕ)) (contents : W → Option (List ℕ)) (old new : List (List ℕ)) (reader reader' : Counted R) (writer writer' : Counted W) : Type 0 where
+  pub taken : List ℕ
+  pub text : List ℕ
+  pub work : Counts
+  pub given : Consumes (remaining (inner_of reader)) (remaining (inner_of reader')) taken
+  pub replies : LinesOfScript (beginning old) taken text (at new work)
+  pub written : IsWritten contents writer writer' text
+  pub early : EndsEarly reader reader' taken
+  pub write_unfailed : failures_of writer' ≡ failures_of writer
+
+-- A write failed. The replies to some first lines stand there, the last one in part, and no reply is left out to a line that a newline ended before
+-- the last read.
+pub record StoppedAtWrite {R W : Type 0} (remaining : R → Option (List ℕ)) (contents : W → Option (List ℕ)) (old new : List (List ℕ)) (reader reader' : Counted R) (writer writer' : Counted W) : Type 0 where
+  pub before : List ℕ
+  pub last : List ℕ
+  pub text : List ℕ
+  pub unsaid : List ℕ
+  pub work : Counts
+  pub given : Consumes (remaining (inner_of reader)) (remaining (inner_of reader')) (before ++ last)
+  pub replies : FrontOfScript (beginning old) (before ++ last) last (remaining (inner_of reader')) text unsaid (at new work)
+  pub written : IsWritten contents writer writer' text
+  pub reads : LastReadGave reader reader' before last
+  pub answered : AreAnswered (beginning old) before text
+  pub failed : FailsOnce writer writer'
+  pub read_unfailed : failures_of reader' ≡ failures_of reader
+
+-- what a run of a script does, by its result: `old` is the source before it and `new` the source after it
 abbrev pub RunsScript : {R W : Type 0} → (R → Option (List ℕ)) → (W → Option (List ℕ)) → List (List ℕ) → List (List ℕ) → Result ℕ RunFault → Counted R → Counted R → Counted W → Counted W → Type 0
-RunsScript remaining contents old new (Ok count) reader reader' writer writer' =
-    (before last text : List ℕ) × (work : Counts) × Consumes (remaining (inner_of reader)) (remaining (inner_of reader')) (before ++ last)
-    × Script (beginning old) (before ++ last) text (at new work) × Appends (contents (inner_of writer)) (contents (inner_of writer')) text
-    × LastReadGave reader reader' before last × IsReadToEnd before last (remaining (inner_of reader'))
-    × (count ≡ flagged_lines new) × (failures_of reader' ≡ failures_of reader) × (failures_of writer' ≡ failures_of writer)
-RunsScript remaining contents old new (Err faults.ReadFault) reader reader' writer writer' =
-    (taken text : List ℕ) × (work : Counts) × Consumes (remaining (inner_of reader)) (remaining (inner_of reader')) taken
-    × LinesOfScript (beginning old) taken text (at new work) × Appends (contents (inner_of writer)) (contents (inner_of writer')) text
-    × EndsEarly reader reader' taken × (failures_of writer' ≡ failures_of writer)
-RunsScript remaining contents old new (Err faults.WriteFault) reader reader' writer writer' =
-    (before last text unsaid : List ℕ) × (work : Counts) × Consumes (remaining (inner_of reader)) (remaining (inner_of reader')) (before ++ last)
-    × FrontOfScript (beginning old) (before ++ last) last (remaining (inner_of reader')) text unsaid (at new work)
-    × Appends (contents (inner_of writer)) (contents (inner_of writer')) text
-    × LastReadGave reader reader' before last × AreAnswered (beginning old) before text
-    × FailsOnce writer writer' × (failures_of reader' ≡ failures_of reader)
+RunsScript remaining contents old new (Ok count) reader reader' writer writer' = RanToEnd remaining contents old new count reader reader' writer writer'
+RunsScript remaining contents old new (Err faults.ReadFault) reader reader' writer writer' = StoppedAtRead remaining contents old new reader reader' writer writer'
+RunsScript remaining contents old new (Err faults.WriteFault) reader reader' writer writer' = StoppedAtWrite remaining contents old new reader reader' writer writer'

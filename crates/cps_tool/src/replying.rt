@@ -1,16 +1,17 @@
 //! Obeying the commands of a script, and writing the replies.
-ghost use Rattle.std.specs.Prelude.{◌≡◌, ℕ, List, ◌++◌, false, true, MatchOption, MatchResult, OnOk, OnErr, IsErrOf, codes, decimal};
-ghost use Rattle.std.specs.Io.KnownBytes.{Appends};
+ghost use Rattle.std.specs.Prelude.{◌≡◌, ◌++◌, false, true, MatchOption, MatchResult, OnOk, OnErr, IsErrOf, codes, decimal};
 ghost use Rattle.cps_tool.specs.Command.{is_quit};
-ghost use Rattle.cps_text.specs.Counted.{inner_of, failures_of, FailsOnce};
-ghost use Rattle.cps_tool.specs.Edits.{Inserted, Replaced, Deleted, at};
+ghost use Rattle.cps_text.specs.Counted.{failures_of, FailsOnce};
+ghost use Rattle.cps_text.specs.Line.{IsLine};
+ghost use Rattle.cps_tool.specs.EditReplies.{IsNoLine, Inserted, Replaced, Deleted, at};
 ghost use Rattle.cps_tool.specs.Reply.{meaning_of, shown, refused, worked, refusal_of, reply_text, refusal_text};
 ghost use Rattle.cps_tool.specs.declared.reply.Refusal.TheVariants.{NoMemory};
 ghost use Rattle.cps_tool.specs.Script.{IsAnswered};
+ghost use Rattle.cps_tool.specs.Written.{IsWritten, IsFrontWritten};
 
 use super::command::Command;
 use super::reply::{Refusal, Reply};
-use super::writing::{RunFault, write_text};
+use super::writing::{RunFault, write_bytes};
 use arrayvec::ArrayString;
 use cps_list::Part;
 use cps_live::{EditFault, Session};
@@ -28,9 +29,9 @@ pub fn obey(alloc: Global, line: &[u8], session: &mut Session, work: &mut Work) 
 {
     match Command::read(line) {
         Err(_) => Some(Reply::Refused(Refusal::BadCommand)),
-        Ok(Command::Append(text)) => Some(insert_text(alloc, session.count(), text, session, work)),
-        Ok(Command::Insert(after, text)) => Some(insert_text(alloc, after, text, session, work)),
-        Ok(Command::Replace(at, text)) => Some(replace_text(alloc, at, text, session, work)),
+        Ok(Command::Append(text)) => Some(insert_line(alloc, session.count(), text, session, work)),
+        Ok(Command::Insert(after, text)) => Some(insert_line(alloc, after, text, session, work)),
+        Ok(Command::Replace(at, text)) => Some(replace_line(alloc, at, text, session, work)),
         Ok(Command::Delete(first, last)) => Some(delete_lines(first, last, session, work)),
         Ok(Command::Listing) => Some(show(session.text(alloc, Part::Listing))),
         Ok(Command::Binary) => Some(show(session.text(alloc, Part::Binary))),
@@ -51,8 +52,8 @@ fn show(text: Result<Vec<u8>, AllocError>) -> Reply
     }
 }
 
-/// Inserts a text behind line `after`, 0 for the front.
-fn insert_text(
+/// Inserts a text after the line of that number, 0 for the front. A text that is refused takes no memory.
+fn insert_line(
     alloc: Global,
     after: u32,
     text: &[u8],
@@ -65,12 +66,14 @@ fn insert_text(
     if after > session.count() {
         return Reply::Refused(Refusal::NoSuchLine);
     }
-    let line = match Line::new(alloc, text) {
-        Ok(line) => line,
-        Err(LineFault::LineTooLong) => return Reply::Refused(Refusal::LineTooLong),
-        Err(LineFault::BadCharacter) => return Reply::Refused(Refusal::BadCharacter),
-        Err(LineFault::Memory) if session.is_full() => return Reply::Refused(Refusal::TooManyLines),
-        Err(LineFault::Memory) => return Reply::Refused(Refusal::NoMemory),
+    if let Some(refusal) = refusal_of_text(text) {
+        return Reply::Refused(refusal);
+    }
+    if session.is_full() {
+        return Reply::Refused(Refusal::TooManyLines);
+    }
+    let Ok(line) = Line::new(alloc, text) else {
+        return Reply::Refused(Refusal::NoMemory);
     };
     match session.insert(after, line, work) {
         Ok(()) => Reply::Accepted(session.count()),
@@ -78,8 +81,20 @@ fn insert_text(
     }
 }
 
+/// Why a text is no line, None where it is one. Takes no memory.
+fn refusal_of_text(text: &[u8]) -> Option<Refusal>
+    ensures { MatchOption result (IsLine text.now) (IsNoLine text.now) }
+{
+    match Line::check(text) {
+        Ok(()) => None,
+        Err(LineFault::LineTooLong) => Some(Refusal::LineTooLong),
+        Err(LineFault::BadCharacter) => Some(Refusal::BadCharacter),
+        Err(LineFault::Memory) => Some(Refusal::NoMemory),
+    }
+}
+
 /// Puts a text in place of a line, where lines count from 1.
-fn replace_text(
+fn replace_line(
     alloc: Global,
     line_number: u32,
     text: &[u8],
@@ -92,11 +107,11 @@ fn replace_text(
     if line_number == 0 || line_number > session.count() {
         return Reply::Refused(Refusal::NoSuchLine);
     }
-    let line = match Line::new(alloc, text) {
-        Ok(line) => line,
-        Err(LineFault::LineTooLong) => return Reply::Refused(Refusal::LineTooLong),
-        Err(LineFault::BadCharacter) => return Reply::Refused(Refusal::BadCharacter),
-        Err(LineFault::Memory) => return Reply::Refused(Refusal::NoMemory),
+    if let Some(refusal) = refusal_of_text(text) {
+        return Reply::Refused(refusal);
+    }
+    let Ok(line) = Line::new(alloc, text) else {
+        return Reply::Refused(Refusal::NoMemory);
     };
     match session.replace(line_number, line, work) {
         Ok(()) => Reply::Accepted(session.count()),
@@ -127,18 +142,17 @@ fn refusal_of_edit(fault: EditFault) -> Refusal
 
 /// Writes a reply, or a front of it where a write fails.
 pub fn write_reply<W: Write>(writer: &mut Counted<W>, reply: &Reply) -> Result<(), RunFault>
-    ensures ok { OnOk result (Appends (W.contents (inner_of writer.old)) (W.contents (inner_of writer.new)) (reply_text (meaning_of reply.now))) }
-    ensures err { OnErr result ((front back : List ℕ) × (reply_text (meaning_of reply.now) ≡ front ++ back)
-        × Appends (W.contents (inner_of writer.old)) (W.contents (inner_of writer.new)) front) }
+    ensures ok { OnOk result (IsWritten W.contents writer.old writer.new (reply_text (meaning_of reply.now))) }
+    ensures err { OnErr result (IsFrontWritten W.contents writer.old writer.new (reply_text (meaning_of reply.now))) }
     ensures fault { IsErrOf result RunFault.ReadFault → ⊥ }
     ensures failed { OnErr result (FailsOnce writer.old writer.new) }
     ensures failures { OnOk result (failures_of writer.new ≡ failures_of writer.old) }
 {
     match reply {
-        Reply::Accepted(count) => write_text(writer, accepted_text(*count).as_bytes()),
-        Reply::Refused(refusal) => write_text(writer, text_of_refusal(*refusal)),
-        Reply::Shown(text) => write_text(writer, text),
-        Reply::Worked(work) => write_text(writer, worked_text(work).as_bytes()),
+        Reply::Accepted(count) => write_bytes(writer, accepted_text(*count).as_bytes()),
+        Reply::Refused(refusal) => write_bytes(writer, text_of_refusal(*refusal)),
+        Reply::Shown(text) => write_bytes(writer, text),
+        Reply::Worked(work) => write_bytes(writer, worked_text(work).as_bytes()),
     }
 }
 

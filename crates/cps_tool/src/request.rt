@@ -45,8 +45,8 @@ const SESSION_ABOUT: &str = "Edit a source line by line, and ask for its texts";
 const SESSION_MORE: &str = "\
 A script is read from standard input, a command on each line. The reply to each
 is written to standard output before the next line is read:
-  a TEXT    append TEXT behind the last line
-  i N TEXT  insert TEXT behind line N, 0 for the front
+  a TEXT    append TEXT after the last line
+  i N TEXT  insert TEXT after line N, 0 for the front
   r N TEXT  replace line N by TEXT
   d N [M]   delete line N, or lines N to M
   list      write the listing
@@ -56,7 +56,7 @@ is written to standard output before the next line is read:
   work      write the steps of each pass at the latest edit
   quit      end the session, as the end of the script does
 An edit is answered by 'ok' and the number of lines, and a command that is
-refused by the cause.
+refused by the cause. Bytes that were read along with 'quit' are dropped.
 
 Exit status:
   0  at the end no line is flagged

@@ -1,15 +1,15 @@
 //! Running a script.
-ghost use Rattle.std.specs.Prelude.{◌≡◌, ℕ, List, [], ◌++◌, ◌∷◌, false, true, OnOk, OnErr, IfSome, IsErrOf, MatchResult, MatchOption, ◌≤◌, ◌+◌};
-ghost use Rattle.std.specs.Io.KnownBytes.{Appends};
+ghost use Rattle.std.specs.Prelude.{◌≡◌, ℕ, List, [], ◌∷◌, false, true, OnOk, OnErr, IfSome, IsErrOf, MatchOption, ◌≤◌, ◌+◌};
 ghost use Rattle.cps_tool.specs.Command.{is_quit};
 ghost use Rattle.cps_text.specs.Counted.{inner_of, calls_of, failures_of, FailsOnce};
 ghost use Rattle.cps_state.specs.Work.{Counts};
 ghost use Rattle.cps_live.specs.BegunLine.{IsBegun};
 ghost use Rattle.cps_live.specs.Lines.{without_return};
-ghost use Rattle.cps_tool.specs.Edits.{at, beginning};
-ghost use Rattle.cps_tool.specs.Progress.{MatchFlow, Takes, Finishes};
-ghost use Rattle.cps_tool.specs.Reply.{Response, meaning_of, reply_text};
+ghost use Rattle.cps_tool.specs.EditReplies.{at, beginning};
+ghost use Rattle.cps_tool.specs.Progress.{Answers, Takes, Finishes};
+ghost use Rattle.cps_tool.specs.Reply.{meaning_of};
 ghost use Rattle.cps_tool.specs.Script.{Script, RunsScript, IsAnswered};
+ghost use Rattle.cps_tool.specs.Written.{IsWritten};
 
 use super::reply::{Refusal, Reply};
 use super::replying::{obey, write_reply};
@@ -42,7 +42,7 @@ pub fn run_script<R: Read, W: Write>(
     ensures run { RunsScript R.remaining W.contents session.old.lines session.new.lines result reader.old reader.new writer.old writer.new }
     ensures whole_input { OnOk result ((work : Counts) × IfSome (R.remaining (inner_of reader.old)) (λ input. (text : List ℕ)
         × Script (beginning session.old.lines) input text (at session.new.lines work)
-        × Appends (W.contents (inner_of writer.old)) (W.contents (inner_of writer.new)) text)) }
+        × IsWritten W.contents writer.old writer.new text)) }
     ensures reads { calls_of reader.new ≤ calls_of reader.old + MOST_READS }
 {
     let mut line = BegunLine::new();
@@ -105,15 +105,8 @@ pub fn answer_line<W: Write>(
     session: &mut Session,
     work: &mut Work,
 ) -> Result<Flow, RunFault>
-    ensures answer { (begun : List ℕ) → IsBegun line.now begun → MatchResult result
-        (λ flow. MatchFlow flow
-        ((is_quit (without_return begun) ≡ false) × (response : Response) × IsAnswered (at session.old.lines work.old) (without_return begun) response (at session.new.lines work.new)
-        × Appends (W.contents (inner_of writer.old)) (W.contents (inner_of writer.new)) (reply_text response))
-        ((is_quit (without_return begun) ≡ true) × (at session.new.lines work.new ≡ at session.old.lines work.old)
-        × Appends (W.contents (inner_of writer.old)) (W.contents (inner_of writer.new)) []))
-        (λ _. (is_quit (without_return begun) ≡ false) × (response : Response) × IsAnswered (at session.old.lines work.old) (without_return begun) response (at session.new.lines work.new)
-        × (front back : List ℕ) × (reply_text response ≡ front ++ back)
-        × Appends (W.contents (inner_of writer.old)) (W.contents (inner_of writer.new)) front) }
+    ensures answer { (begun : List ℕ) → IsBegun line.now begun → Answers result (without_return begun) (at session.old.lines work.old) (at session.new.lines work.new)
+        (W.contents (inner_of writer.old)) (W.contents (inner_of writer.new)) }
     ensures fault { IsErrOf result RunFault.ReadFault → ⊥ }
     ensures failed { OnErr result (FailsOnce writer.old writer.new) }
     ensures failures { OnOk result (failures_of writer.new ≡ failures_of writer.old) }

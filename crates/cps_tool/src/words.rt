@@ -1,13 +1,13 @@
 //! A call of the program, by its words.
-ghost use Rattle.std.specs.Prelude.{◌≡◌, ◌⊎◌};
+ghost use Rattle.std.specs.Prelude.{◌≡◌};
 ghost use Rattle.clap.specs.Walk.{texts};
-ghost use Rattle.cps_tool.specs.CommandLine.{status_with, Calls, Serves};
+ghost use Rattle.cps_tool.specs.CommandLine.{status_with, Calls, Serves, Tells, IsQuiet};
 ghost use Rattle.cps_tool.specs.Request.{answer_of};
 ghost use Rattle.cps_tool.specs.declared.request.Request.TheVariants as requests;
 
 use super::request::{Request, Unread, read_words};
 use super::script::run_script;
-use super::writing::write_text;
+use super::writing::write_bytes;
 use arrayvec::ArrayString;
 use cps_list::Part;
 use cps_live::{Session, batch};
@@ -24,9 +24,10 @@ const FAULTY: u8 = 2;
 
 /// Does what the words of a call ask, the first of which is the program's name: batch assembly of a source, or the
 /// script of a session. The status is 0, or 1 where at the end a line of the source is flagged, or 2 after a fault,
-/// which is told to `errors`.
+/// which is told to `errors`. With another status nothing is written to `errors`.
 ///
-/// Help and version, where they are asked for, go to `writer` with status 0. Wrong words are told to `errors`.
+/// Help and version, where they are asked for, go to `writer`, with status 0 where it takes them whole. Wrong words are
+/// told to `errors`.
 pub fn run_words<'a, R: Read, W: Write, E: Write>(
     alloc: Global,
     words: &'a [&'a str],
@@ -34,7 +35,8 @@ pub fn run_words<'a, R: Read, W: Write, E: Write>(
     writer: &mut Counted<W>,
     errors: &mut Counted<E>,
 ) -> u8
-    ensures { Serves R.remaining W.contents (answer_of (texts words.now)) result reader.old reader.new writer.old writer.new }
+    ensures serves { Serves R.remaining W.contents (answer_of (texts words.now)) result reader.old reader.new writer.old writer.new }
+    ensures quiet { IsQuiet result errors.old errors.new }
 {
     match read_words(alloc, words) {
         Ok(Request::Batch(part)) => run_batch(alloc, reader, writer, errors, part),
@@ -52,7 +54,8 @@ fn run_batch<R: Read, W: Write, E: Write>(
     errors: &mut Counted<E>,
     part: Part,
 ) -> u8
-    ensures { Calls R.remaining W.contents (requests.Batch part) result reader.old reader.new writer.old writer.new }
+    ensures calls { Calls R.remaining W.contents (requests.Batch part) result reader.old reader.new writer.old writer.new }
+    ensures quiet { IsQuiet result errors.old errors.new }
 {
     match batch(alloc, reader, writer, part) {
         Ok(count) => status_of_count(count),
@@ -66,7 +69,8 @@ fn run_session<R: Read, W: Write, E: Write>(
     writer: &mut Counted<W>,
     errors: &mut Counted<E>,
 ) -> u8
-    ensures { Calls R.remaining W.contents requests.Session result reader.old reader.new writer.old writer.new }
+    ensures calls { Calls R.remaining W.contents requests.Session result reader.old reader.new writer.old writer.new }
+    ensures quiet { IsQuiet result errors.old errors.new }
 {
     let mut session = Session::new(alloc);
     match run_script(alloc, reader, writer, &mut session) {
@@ -84,9 +88,10 @@ fn status_of_count(count: u32) -> u8
 
 /// Writes what was asked for.
 fn tell<W: Write, E: Write>(writer: &mut Counted<W>, errors: &mut Counted<E>, text: &str) -> u8
-    ensures { (result ≡ CLEAN) ⊎ (result ≡ FAULTY) }
+    ensures tells { Tells W.contents result writer.old writer.new }
+    ensures quiet { IsQuiet result errors.old errors.new }
 {
-    match write_text(writer, text.as_bytes()) {
+    match write_bytes(writer, text.as_bytes()) {
         Ok(()) => CLEAN,
         Err(fault) => complain_of(errors, fault),
     }
@@ -105,6 +110,6 @@ fn complain_of<E: Write, F: Display + Drop>(errors: &mut Counted<E>, fault: F) -
 fn complain<E: Write>(errors: &mut Counted<E>, text: &str) -> u8
     ensures { result ≡ FAULTY }
 {
-    let _ = write_text(errors, text.as_bytes());
+    let _ = write_bytes(errors, text.as_bytes());
     FAULTY
 }

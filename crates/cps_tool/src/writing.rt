@@ -1,8 +1,9 @@
 //! Writing a text.
-ghost use Rattle.std.specs.Prelude.{◌≡◌, ℕ, List, ◌++◌, ◌<◌, OnOk, OnErr, IsErrOf};
-ghost use Rattle.std.specs.Io.KnownBytes.{Appends};
-ghost use Rattle.cps_text.specs.Counted.{inner_of, failures_of, FailsOnce};
+ghost use Rattle.std.specs.Prelude.{◌≡◌, OnOk, OnErr, IsErrOf};
+ghost use Rattle.cps_text.specs.Counted.{failures_of, FailsOnce};
+ghost use Rattle.cps_tool.specs.Written.{IsWritten, IsFrontWritten};
 
+use cps_list::write_text;
 use cps_text::Counted;
 use std::io::Write;
 use thiserror::Error;
@@ -19,15 +20,14 @@ pub enum RunFault {
 }
 
 /// Writes all of a text, or a front of it where a write fails.
-pub fn write_text<W: Write>(writer: &mut Counted<W>, text: &[u8]) -> Result<(), RunFault>
-    ensures ok { OnOk result (Appends (W.contents (inner_of writer.old)) (W.contents (inner_of writer.new)) text.now) }
-    ensures err { OnErr result ((front back : List ℕ) × (text.now ≡ front ++ back)
-        × Appends (W.contents (inner_of writer.old)) (W.contents (inner_of writer.new)) front) }
+pub fn write_bytes<W: Write>(writer: &mut Counted<W>, text: &[u8]) -> Result<(), RunFault>
+    ensures ok { OnOk result (IsWritten W.contents writer.old writer.new text.now) }
+    ensures err { OnErr result (IsFrontWritten W.contents writer.old writer.new text.now) }
     ensures fault { IsErrOf result RunFault.ReadFault → ⊥ }
     ensures failed { OnErr result (FailsOnce writer.old writer.new) }
     ensures failures { OnOk result (failures_of writer.new ≡ failures_of writer.old) }
 {
-    match cps_list::write_text(writer, text) {
+    match write_text(writer, text) {
         Ok(()) => Ok(()),
         Err(_) => Err(RunFault::WriteFault),
     }

@@ -3,8 +3,8 @@ use Rattle.std.specs.Prelude.{Ok, Err}
 use Rattle.cps_tool.specs.Script.{RunsScript}
 use Rattle.cps_tool.proofs.words.run_session.Goals as goal
 
-pub returns-in-Ok : goal.returns-in-Ok
-returns-in-Ok g c = (
+pub returns-in-Ok-clause-calls : goal.returns-in-Ok-clause-calls
+returns-in-Ok-clause-calls g c = (
   Ok c.in-Ok.count,
   c.run_script.new.session.lines,
   c.status_of_count.ensures,

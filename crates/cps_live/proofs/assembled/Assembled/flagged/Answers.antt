@@ -1,5 +1,4 @@
-use Rattle.std.proofs.Common.{◌≡◌, rules, arith, ◌∙◌}
-use Rattle.cps_final.specs.contracts.finals.FinalsGathered.TheImpl.{gathered-value}
+use Rattle.std.proofs.Common.{rules, arith, ◌∙◌}
 use Rattle.cps_list.specs.Flagged.{flagged_with}
 use Rattle.cps_live.proofs.AssemblyLemmas.{outcomes-kept, open-kept}
 use Rattle.cps_live.proofs.assembled.Assembled.flagged.Goals as goal

@@ -1,4 +1,4 @@
-use Rattle.std.proofs.Common.{◌≡◌, ap, length, arith, ◌∙◌}
+use Rattle.std.proofs.Common.{ap, arith, ◌∙◌}
 use Rattle.cps_live.specs.Edits.{Source}
 use Rattle.cps_live.specs.Flagged.{flagged_lines}
 use Rattle.cps_live.proofs.AssemblyLemmas.{assembled-length}

@@ -35,9 +35,18 @@ abbrev pub StepsOfRefused : Refusal → ℕ → Counts → Type 0
 StepsOfRefused refusals.NoMemory steps work = IsSteppedUpTo steps no_work work
 StepsOfRefused refusal steps work = work ≡ no_work
 
+-- why a text is no line
+abbrev pub IsNoLine : List ℕ → Refusal → Type 0
+IsNoLine text refusals.NoSuchLine = ⊥
+IsNoLine text refusals.LineTooLong = longest_line < length text
+IsNoLine text refusals.BadCharacter = HasBadCharacter text
+IsNoLine text refusals.TooManyLines = ⊥
+IsNoLine text refusals.BadCommand = ⊥
+IsNoLine text refusals.NoMemory = ⊥
+
 -- ---- insertion
 
--- Why a text is not inserted behind line `after`, 0 for the front. Want of memory comes only where nothing else is wrong.
+-- Why a text is not inserted after the line of number `after`, 0 for the front. Want of memory comes only where nothing else is wrong.
 abbrev pub IsNotInserted : List (List ℕ) → ℕ → List ℕ → Refusal → Type 0
 IsNotInserted source after text refusals.NoSuchLine = length source < after
 IsNotInserted source after text refusals.LineTooLong = (after ≤ length source) × (longest_line < length text)

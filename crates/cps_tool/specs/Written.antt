@@ -1,0 +1,17 @@
+-- What a writer took of a text. Our own.
+use Rattle.std.specs.Prelude.{◌≡◌, ℕ, List, ◌++◌, Option}
+use Rattle.std.specs.Io.KnownBytes.{Appends}
+use Rattle.cps_text.specs.declared.counted.Counted.{Counted}
+use Rattle.cps_text.specs.Counted.{inner_of}
+
+-- a front of a text was taken
+abbrev pub AppendsFront : Option (List ℕ) → Option (List ℕ) → List ℕ → Type 0
+AppendsFront before after text = (front back : List ℕ) × (text ≡ front ++ back) × Appends before after front
+
+-- from one moment to another a counted writer took a text
+abbrev pub IsWritten : {W : Type 0} → (W → Option (List ℕ)) → Counted W → Counted W → List ℕ → Type 0
+IsWritten contents old new text = Appends (contents (inner_of old)) (contents (inner_of new)) text
+
+-- from one moment to another a counted writer took a front of a text
+abbrev pub IsFrontWritten : {W : Type 0} → (W → Option (List ℕ)) → Counted W → Counted W → List ℕ → Type 0
+IsFrontWritten contents old new text = AppendsFront (contents (inner_of old)) (contents (inner_of new)) text
