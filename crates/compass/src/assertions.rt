@@ -1,7 +1,6 @@
 //! Assertions for whose proofs a caller doesn't pay again.
 use std::fmt::Debug;
 use std::process::Abort;
-use std::test::Fail;
 
 /// Asserts that two values are the same.
 pub fn assert_same<T: PartialEq + Debug>(rt: &impl Abort, what: &str, got: &T, want: &T) {
@@ -9,7 +8,11 @@ pub fn assert_same<T: PartialEq + Debug>(rt: &impl Abort, what: &str, got: &T, w
 }
 
 /// Asserts that a text is what is wanted.
-pub fn assert_bytes(rt: &impl Abort, what: &str, got: &[u8], want: &str) -> Result<(), Fail> {
-    assert_eq!(rt; str::from_utf8(got)?, want, "{what}");
-    Ok(())
+pub fn assert_bytes(rt: &impl Abort, what: &str, got: &[u8], want: &str) {
+    assert_eq!(rt; str::from_utf8(got).ok(), Some(want), "{what}");
+}
+
+/// Asserts that the text that a row of a table gives is what is wanted.
+pub fn assert_row(rt: &impl Abort, at: usize, what: &str, got: &[u8], want: &str) {
+    assert_eq!(rt; str::from_utf8(got).ok(), Some(want), "row {at}, {what}");
 }

@@ -1,10 +1,11 @@
 //! Sources that are read whole.
 use super::assertions::{assert_bytes, assert_same};
-use super::devices::{SlowReader, SlowWriter};
+use super::devices::{Resuming, SlowReader, SlowWriter};
+use super::running::{Written, assemble, assemble_byte_by_byte, assemble_from};
 use cps_list::Part;
 use cps_live::{BatchFault, batch};
 use cps_text::Counted;
-use std::alloc::Global;
+use std::alloc::{AllocError, Global};
 use std::process::Abort;
 use std::test::Fail;
 
@@ -16,25 +17,27 @@ fn assert_batch(
     part: Part,
     want: Result<u32, BatchFault>,
     text: &str,
-) -> Result<(), Fail> {
-    let mut reader = Counted::new(source);
-    let mut writer = Counted::new(Vec::new(alloc));
-    let end = batch(alloc, &mut reader, &mut writer, part);
-    assert_same(rt, "the end", &end, &want);
-    assert_bytes(rt, "the text", &writer.into_inner(), text)?;
-    let mut reader = Counted::new(SlowReader {
-        rest: source,
-        fails: false,
-    });
-    let mut writer = Counted::new(Vec::new(alloc));
-    let end = batch(alloc, &mut reader, &mut writer, part);
-    assert_same(rt, "the end, byte by byte", &end, &want);
-    assert_bytes(rt, "the text, byte by byte", &writer.into_inner(), text)
+) {
+    let whole = assemble(alloc, source, part);
+    assert_written(rt, "at once", &whole, want, text);
+    let pieces = assemble_byte_by_byte(alloc, source, part);
+    assert_written(rt, "byte by byte", &pieces, want, text);
+}
+
+fn assert_written(
+    rt: &impl Abort,
+    how: &str,
+    got: &Written,
+    want: Result<u32, BatchFault>,
+    text: &str,
+) {
+    assert_same(rt, how, &got.end, &want);
+    assert_bytes(rt, how, &got.text, text);
 }
 
 /// The lines that bytes are: what they stand for is told by the words of their binary text.
 #[test]
-fn cuts_lines(rt: HostRuntime) -> Result<(), Fail> {
+fn cuts_lines(rt: HostRuntime) {
     const ONE: &str = "IDENT\n000000 46000000000000000000\n";
     const ROWS: [(&[u8], &str); 9] = [
         (b"  NO", ONE),
@@ -48,20 +51,18 @@ fn cuts_lines(rt: HostRuntime) -> Result<(), Fail> {
         (b"  NO\n  NO", "IDENT\n000000 46000460000000000000\n"),
     ];
     for (source, want) in ROWS.iter() {
-        assert_batch(&rt, rt.alloc(), source, Part::Binary, Ok(0), want)?;
+        assert_batch(&rt, rt.alloc(), source, Part::Binary, Ok(0), want);
     }
-    Ok(())
 }
 
 /// How many rows the listing has: a lone carriage return is an empty line.
 #[test]
-fn counts_last_lines(rt: HostRuntime) -> Result<(), Fail> {
+fn counts_last_lines(rt: HostRuntime) {
     const ROW: &str = "                                          1\n";
     const ROWS: [(&[u8], &str); 4] = [(b"", ""), (b"\n", ROW), (b"\r", ROW), (b"\r\n", ROW)];
     for (source, want) in ROWS.iter() {
-        assert_batch(&rt, rt.alloc(), source, Part::Listing, Ok(0), want)?;
+        assert_batch(&rt, rt.alloc(), source, Part::Listing, Ok(0), want);
     }
-    Ok(())
 }
 
 /// The first line that no source may have decides, and of one line its length before its characters.
@@ -83,37 +84,35 @@ fn tells_the_first_wrong_line(rt: HostRuntime) -> Result<(), Fail> {
             source.extend_from_slice(line)?;
             source.push(b'\n')?;
         }
-        assert_batch(&rt, rt.alloc(), &source, Part::All, Err(*want), "")?;
+        assert_batch(&rt, rt.alloc(), &source, Part::All, Err(*want), "");
     }
     Ok(())
 }
 
-/// Asserts what a source of so many empty lines and a last line gives.
-fn assert_long(
-    rt: &impl Abort,
-    alloc: Global,
-    count: u32,
-    last: &[u8],
-    want: Result<u32, BatchFault>,
-    text: &str,
-) -> Result<(), Fail> {
+/// So many empty lines and a last line.
+pub fn long_source(alloc: Global, count: u32, last: &[u8]) -> Result<Vec<u8>, AllocError> {
     let mut source = Vec::new(alloc);
     for _ in 0..count {
         source.push(b'\n')?;
     }
     source.extend_from_slice(last)?;
-    assert_batch(rt, alloc, &source, Part::Flags, want, text)
+    Ok(source)
 }
 
 #[test]
 fn limits_the_lines(rt: HostRuntime) -> Result<(), Fail> {
-    let flagged = "9999 O\n1 flagged lines\n";
-    assert_long(&rt, rt.alloc(), 9_998, b"A", Ok(1), flagged)?;
-    let many = Err(BatchFault::TooManyLines);
-    assert_long(&rt, rt.alloc(), 9_999, b"A", many, "")?;
-    assert_long(&rt, rt.alloc(), 10_000, b"~", many, "")?;
-    let bad = Err(BatchFault::BadCharacter(10_000));
-    assert_long(&rt, rt.alloc(), 9_999, b"~", bad, "")
+    const FLAGGED: &str = "9999 O\n1 flagged lines\n";
+    const ROWS: [(u32, &[u8], Result<u32, BatchFault>, &str); 4] = [
+        (9_998, b"A", Ok(1), FLAGGED),
+        (9_999, b"A", Err(BatchFault::TooManyLines), ""),
+        (10_000, b"~", Err(BatchFault::TooManyLines), ""),
+        (9_999, b"~", Err(BatchFault::BadCharacter(10_000)), ""),
+    ];
+    for (count, last, want, text) in ROWS.iter() {
+        let source = long_source(rt.alloc(), *count, last)?;
+        assert_batch(&rt, rt.alloc(), &source, Part::Flags, *want, text);
+    }
+    Ok(())
 }
 
 /// A line that is far too long is told like any other.
@@ -138,14 +137,14 @@ fn measures_long_lines(rt: HostRuntime) -> Result<(), Fail> {
         } else {
             ""
         };
-        assert_batch(&rt, rt.alloc(), &source, Part::Flags, *want, text)?;
+        assert_batch(&rt, rt.alloc(), &source, Part::Flags, *want, text);
     }
     Ok(())
 }
 
 /// A failed read goes before a wrong line, and nothing is written.
 #[test]
-fn tells_a_failed_read(rt: HostRuntime) -> Result<(), Fail> {
+fn tells_a_failed_read(rt: HostRuntime) {
     let mut reader = Counted::new(SlowReader {
         rest: b"`\n",
         fails: true,
@@ -155,25 +154,43 @@ fn tells_a_failed_read(rt: HostRuntime) -> Result<(), Fail> {
     assert_same(&rt, "the end", &end, &Err(BatchFault::ReadFault));
     assert_same(&rt, "calls", &reader.calls(), &3);
     assert_same(&rt, "failures", &reader.failures(), &1);
+    assert_same(&rt, "idle calls", &reader.idle(), &1);
     assert_same(&rt, "writes", &writer.calls(), &0);
-    Ok(())
+}
+
+/// At the end of the input nothing more is read, whatever would come.
+#[test]
+fn reads_nothing_after_the_end(rt: HostRuntime) {
+    let mut reader = Counted::new(Resuming {
+        text: b"  NO\n",
+        has_given: false,
+    });
+    let got = assemble_from(rt.alloc(), &mut reader, Part::Binary);
+    let want = "IDENT\n000000 46000000000000000000\n";
+    assert_written(&rt, "the text", &got, Ok(0), want);
+    assert_same(&rt, "calls", &reader.calls(), &2);
+    assert_same(&rt, "idle calls", &reader.idle(), &1);
+}
+
+/// Assembles a source where a writer has that much room.
+fn assert_failed_write(rt: &impl Abort, alloc: Global, room: usize, want: &[u8]) {
+    let mut reader = Counted::new(b"*\nA".as_slice());
+    let mut writer = Counted::new(SlowWriter {
+        taken: Vec::new(alloc),
+        room,
+    });
+    let end = batch(alloc, &mut reader, &mut writer, Part::Flags);
+    assert_same(rt, "the end", &end, &Err(BatchFault::WriteFault));
+    assert_same(rt, "failures", &writer.failures(), &1);
+    let taken = writer.into_inner().taken;
+    assert_same(rt, "what is taken", &taken.as_slice(), &want);
 }
 
 /// At each write in turn: a front of the text stands, and the failed device is not tried again.
 #[test]
-fn tells_a_failed_write(rt: HostRuntime) -> Result<(), Fail> {
+fn tells_a_failed_write(rt: HostRuntime) {
     let whole = b"2 O\n1 flagged lines\n".as_slice();
     for room in 0..20 {
-        let mut reader = Counted::new(b"*\nA".as_slice());
-        let mut writer = Counted::new(SlowWriter {
-            taken: Vec::new(rt.alloc()),
-            room,
-        });
-        let end = batch(rt.alloc(), &mut reader, &mut writer, Part::Flags);
-        assert_same(&rt, "the end", &end, &Err(BatchFault::WriteFault));
-        assert_same(&rt, "failures", &writer.failures(), &1);
-        let taken = writer.into_inner().taken;
-        assert_same(&rt, "what is taken", &taken.as_slice(), &&whole[..room]);
+        assert_failed_write(&rt, rt.alloc(), room, &whole[..room]);
     }
-    Ok(())
 }

@@ -1,11 +1,12 @@
 //! Calls of the program, by their words.
 use super::assertions::{assert_bytes, assert_same};
-use super::devices::SlowWriter;
+use super::batch_rows::long_source;
+use super::devices::{SlowReader, SlowWriter};
 use cps_text::Counted;
 use cps_tool::run_words;
-use std::alloc::Global;
+use std::alloc::{AllocError, Global};
+use std::io::Read;
 use std::process::Abort;
-use std::test::Fail;
 
 /// What a call gives: its status, and what is written and told.
 #[derive(Drop)]
@@ -16,10 +17,13 @@ struct Ending {
 }
 
 fn call(alloc: Global, words: &[&str], input: &[u8]) -> Ending {
-    let mut reader = Counted::new(input);
+    call_with(alloc, words, &mut Counted::new(input))
+}
+
+fn call_with<R: Read>(alloc: Global, words: &[&str], reader: &mut Counted<R>) -> Ending {
     let mut writer = Counted::new(Vec::new(alloc));
     let mut errors = Counted::new(Vec::new(alloc));
-    let status = run_words(alloc, words, &mut reader, &mut writer, &mut errors);
+    let status = run_words(alloc, words, reader, &mut writer, &mut errors);
     Ending {
         status,
         written: writer.into_inner(),
@@ -28,16 +32,10 @@ fn call(alloc: Global, words: &[&str], input: &[u8]) -> Ending {
 }
 
 /// Asserts the status of a call, and what is written and told.
-fn assert_call(
-    rt: &impl Abort,
-    got: &Ending,
-    status: u8,
-    written: &str,
-    told: &str,
-) -> Result<(), Fail> {
+fn assert_call(rt: &impl Abort, got: &Ending, status: u8, written: &str, told: &str) {
     assert_same(rt, "the status", &got.status, &status);
-    assert_bytes(rt, "what is written", &got.written, written)?;
-    assert_bytes(rt, "what is told", &got.told, told)
+    assert_bytes(rt, "what is written", &got.written, written);
+    assert_bytes(rt, "what is told", &got.told, told);
 }
 
 pub const PROGRAM: &str = "         IDENT   T1
@@ -67,7 +65,7 @@ pub const SYMBOLS: &str = "START    00000000000000000100 4 7\n";
 pub const FLAGS: &str = "0 flagged lines\n";
 
 #[test]
-fn writes_each_part(rt: HostRuntime) -> Result<(), Fail> {
+fn writes_each_part(rt: HostRuntime) -> Result<(), AllocError> {
     const ROWS: [(&str, &str); 4] = [
         ("listing", LISTING),
         ("binary", BINARY),
@@ -77,18 +75,19 @@ fn writes_each_part(rt: HostRuntime) -> Result<(), Fail> {
     for (part, want) in ROWS.iter() {
         let words = ["compass", "batch", "--part", *part];
         let got = call(rt.alloc(), &words, PROGRAM.as_bytes());
-        assert_call(&rt, &got, 0, want, "")?;
+        assert_call(&rt, &got, 0, want, "");
     }
     let whole = format!(in rt.alloc(); "{LISTING}{BINARY}{SYMBOLS}{FLAGS}")?;
-    let got = call(rt.alloc(), &["compass", "batch"], PROGRAM.as_bytes());
-    assert_call(&rt, &got, 0, &whole, "")?;
-    let words = ["compass", "batch", "--part=all"];
-    let got = call(rt.alloc(), &words, PROGRAM.as_bytes());
-    assert_call(&rt, &got, 0, &whole, "")
+    const ALL: [&[&str]; 2] = [&["compass", "batch"], &["compass", "batch", "--part=all"]];
+    for words in ALL.iter() {
+        let got = call(rt.alloc(), words, PROGRAM.as_bytes());
+        assert_call(&rt, &got, 0, &whole, "");
+    }
+    Ok(())
 }
 
 #[test]
-fn ends_with_a_status(rt: HostRuntime) -> Result<(), Fail> {
+fn ends_with_a_status(rt: HostRuntime) {
     const LONG: [u8; 91] = [b'X'; 91];
     const ROWS: [(&[u8], u8, &str, &str); 5] = [
         (
@@ -104,13 +103,34 @@ fn ends_with_a_status(rt: HostRuntime) -> Result<(), Fail> {
     ];
     for (input, status, written, told) in ROWS.iter() {
         let got = call(rt.alloc(), &["compass", "batch", "--part", "flags"], input);
-        assert_call(&rt, &got, *status, written, told)?;
+        assert_call(&rt, &got, *status, written, told);
     }
-    Ok(())
 }
 
 #[test]
-fn runs_scripts(rt: HostRuntime) -> Result<(), Fail> {
+fn tells_too_many_lines(rt: HostRuntime) -> Result<(), AllocError> {
+    let source = long_source(rt.alloc(), 9_999, b"A")?;
+    let got = call(rt.alloc(), &["compass", "batch"], &source);
+    assert_call(&rt, &got, 2, "", "too many lines\n");
+    Ok(())
+}
+
+/// A read that fails: of a script the replies up to there stand, of a source nothing is written.
+#[test]
+fn tells_failed_reads(rt: HostRuntime) {
+    const ROWS: [(&str, &str); 2] = [("session", "ok 1 lines\n"), ("batch", "")];
+    for (word, written) in ROWS.iter() {
+        let mut reader = Counted::new(SlowReader {
+            rest: b"a\nb",
+            fails: true,
+        });
+        let got = call_with(rt.alloc(), &["compass", *word], &mut reader);
+        assert_call(&rt, &got, 2, written, "read fault\n");
+    }
+}
+
+#[test]
+fn runs_scripts(rt: HostRuntime) {
     const ROWS: [(&[u8], u8, &str); 3] = [
         (b"a   NO\nflags\n", 0, "ok 1 lines\n0 flagged lines\n"),
         (b"a A\nquit\n", 1, "ok 1 lines\n"),
@@ -118,34 +138,85 @@ fn runs_scripts(rt: HostRuntime) -> Result<(), Fail> {
     ];
     for (input, status, written) in ROWS.iter() {
         let got = call(rt.alloc(), &["compass", "session"], input);
-        assert_call(&rt, &got, *status, written, "")?;
+        assert_call(&rt, &got, *status, written, "");
     }
-    Ok(())
 }
 
 /// Wrong words are told, and nothing is read or written.
 #[test]
-fn refuses_wrong_words(rt: HostRuntime) -> Result<(), Fail> {
-    const ROWS: [&[&str]; 6] = [
-        &["compass"],
-        &["compass", "other"],
-        &["compass", "batch", "--part", "other"],
-        &["compass", "batch", "--part"],
-        &["compass", "batch", "--wide"],
-        &["compass", "session", "name"],
+fn refuses_wrong_words(rt: HostRuntime) {
+    const ROWS: [(&[&str], &str); 6] = [
+        (
+            &["compass"],
+            "error: 'compass' requires a subcommand but one was not provided
+  [subcommands: batch, session]
+
+Usage: compass <COMMAND>
+
+For more information, try '--help'.
+",
+        ),
+        (
+            &["compass", "other"],
+            "error: unrecognized subcommand 'other'
+
+Usage: compass <COMMAND>
+
+For more information, try '--help'.
+",
+        ),
+        (
+            &["compass", "batch", "--part", "other"],
+            "error: invalid value 'other' for '--part <PART>'
+  [possible values: listing, binary, symbols, flags, all]
+
+For more information, try '--help'.
+",
+        ),
+        (
+            &["compass", "batch", "--part"],
+            "error: a value is required for '--part <PART>' but none was supplied
+
+For more information, try '--help'.
+",
+        ),
+        (
+            &["compass", "batch", "--wide"],
+            "error: unexpected argument '--wide' found
+
+Usage: compass batch [OPTIONS]
+
+For more information, try '--help'.
+",
+        ),
+        (
+            &["compass", "session", "name"],
+            "error: unexpected argument 'name' found
+
+Usage: compass session
+
+For more information, try '--help'.
+",
+        ),
     ];
-    for words in ROWS.iter() {
-        let got = call(rt.alloc(), words, b"a A\n");
-        assert_same(&rt, "the status", &got.status, &2);
-        assert_bytes(&rt, "what is written", &got.written, "")?;
-        assert_same(&rt, "told", &got.told.starts_with(b"error: "), &true);
+    for (words, told) in ROWS.iter() {
+        let mut reader = Counted::new(b"a A\n".as_slice());
+        let got = call_with(rt.alloc(), words, &mut reader);
+        assert_call(&rt, &got, 2, "", told);
+        assert_same(&rt, "reads", &reader.calls(), &0);
     }
-    Ok(())
+}
+
+/// Asserts that a text has a part, and no line of more than 80 columns.
+fn assert_help(rt: &impl Abort, text: &str, has: &str) {
+    assert_same(rt, has, &text.contains(has), &true);
+    let is_wide = text.lines().any(|line| line.len() > 80);
+    assert_same(rt, "lines above 80 columns", &is_wide, &false);
 }
 
 /// Help and version are written, in lines of 80 columns at most.
 #[test]
-fn tells_help(rt: HostRuntime) -> Result<(), Fail> {
+fn tells_help(rt: HostRuntime) {
     const ROWS: [(&[&str], &str); 4] = [
         (&["compass", "--help"], "Usage: compass <COMMAND>"),
         (
@@ -156,20 +227,36 @@ fn tells_help(rt: HostRuntime) -> Result<(), Fail> {
         (&["compass", "--version"], "compass "),
     ];
     for (words, has) in ROWS.iter() {
-        let got = call(rt.alloc(), words, b"a A\n");
+        let mut reader = Counted::new(b"a A\n".as_slice());
+        let got = call_with(rt.alloc(), words, &mut reader);
         assert_same(&rt, "the status", &got.status, &0);
-        assert_bytes(&rt, "what is told", &got.told, "")?;
-        let text = str::from_utf8(&got.written)?;
-        assert_same(&rt, has, &text.contains(*has), &true);
-        let wide = text.lines().any(|line| line.len() > 80);
-        assert_same(&rt, "lines above 80 columns", &wide, &false);
+        assert_bytes(&rt, "what is told", &got.told, "");
+        assert_same(&rt, "reads", &reader.calls(), &0);
+        assert_help(&rt, str::from_utf8(&got.written).unwrap_or(""), has);
     }
-    Ok(())
+}
+
+/// Asserts what is told of a call whose writer takes nothing, where the error writer has that much room.
+fn assert_told(rt: &impl Abort, alloc: Global, words: &[&str], room: usize, told: &str) {
+    let mut reader = Counted::new(b"a A\n".as_slice());
+    let mut writer = Counted::new(full(alloc, 0));
+    let mut errors = Counted::new(full(alloc, room));
+    let status = run_words(alloc, words, &mut reader, &mut writer, &mut errors);
+    assert_same(rt, "the status", &status, &2);
+    assert_bytes(rt, "what is told", &errors.into_inner().taken, told);
+}
+
+/// A writer that is full after so many bytes.
+fn full(alloc: Global, room: usize) -> SlowWriter {
+    SlowWriter {
+        taken: Vec::new(alloc),
+        room,
+    }
 }
 
 /// Where help can't be written that is told; where nothing can be told the status is still 2.
 #[test]
-fn tells_failed_writes(rt: HostRuntime) -> Result<(), Fail> {
+fn tells_failed_writes(rt: HostRuntime) {
     const ROWS: [(&[&str], usize, &str); 5] = [
         (&["compass", "--help"], 99, "write fault\n"),
         (&["compass", "--help"], 5, "write"),
@@ -178,18 +265,6 @@ fn tells_failed_writes(rt: HostRuntime) -> Result<(), Fail> {
         (&["compass", "other"], 0, ""),
     ];
     for (words, room, told) in ROWS.iter() {
-        let mut reader = Counted::new(b"a A\n".as_slice());
-        let mut writer = Counted::new(SlowWriter {
-            taken: Vec::new(rt.alloc()),
-            room: 0,
-        });
-        let mut errors = Counted::new(SlowWriter {
-            taken: Vec::new(rt.alloc()),
-            room: *room,
-        });
-        let status = run_words(rt.alloc(), words, &mut reader, &mut writer, &mut errors);
-        assert_same(&rt, "the status", &status, &2);
-        assert_bytes(&rt, "what is told", &errors.into_inner().taken, told)?;
+        assert_told(&rt, rt.alloc(), words, *room, told);
     }
-    Ok(())
 }

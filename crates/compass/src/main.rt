@@ -15,9 +15,19 @@ mod call_rows;
 #[cfg(test)]
 mod devices;
 #[cfg(test)]
+mod edit_rows;
+#[cfg(test)]
+mod list;
+#[cfg(test)]
 mod part_rows;
 #[cfg(test)]
+mod pass_rows;
+#[cfg(test)]
 mod replies;
+#[cfg(test)]
+mod run_rows;
+#[cfg(test)]
+mod running;
 #[cfg(test)]
 mod script_rows;
 

@@ -1,86 +1,141 @@
-//! The texts of a session's view, one by one and all at once.
-use super::assertions::{assert_bytes, assert_same};
+//! The texts of a view, one by one and all at once: of a session's, and of a plain list.
+use super::assertions::{assert_row, assert_same};
 use super::call_rows::{BINARY, FLAGS, LISTING, PROGRAM, SYMBOLS};
 use super::devices::SlowWriter;
+use super::list::write_list;
 use cps_list::{
     ListFault, Part, View, write_all_parts, write_binary, write_flags, write_listing, write_symbols,
 };
 use cps_live::Session;
 use cps_pass::Work;
 use cps_text::{Counted, Line};
-use std::alloc::Global;
-use std::test::Fail;
+use std::alloc::{AllocError, Global};
+use std::io::Write;
+use std::process::Abort;
 
-/// A session into which a source was entered.
-fn entered(alloc: Global, source: &str) -> Result<Session, Fail> {
-    let mut session = Session::new(alloc);
-    let mut work = Work::new();
-    for text in source.lines() {
-        let line = Line::new(alloc, text.as_bytes())?;
-        session.insert(session.count(), line, &mut work)?;
+/// Writes a part of a view's texts.
+pub fn write_view<V: View, W: Write>(
+    alloc: Global,
+    view: &V,
+    part: Part,
+    writer: &mut Counted<W>,
+) -> Result<(), ListFault> {
+    match part {
+        Part::Listing => write_listing(alloc, view, writer),
+        Part::Binary => write_binary(alloc, view, writer),
+        Part::Symbols => write_symbols(alloc, view, writer),
+        Part::Flags => write_flags(alloc, view, writer),
+        Part::All => write_all_parts(alloc, view, writer),
     }
-    Ok(session)
 }
 
-fn written(alloc: Global, view: &impl View, part: Part) -> Result<Vec<u8>, Fail> {
+/// Enters a line after the last one. Where there is no memory it is missing.
+fn enter(alloc: Global, session: &mut Session, text: &str) {
+    if let Ok(line) = Line::new(alloc, text.as_bytes()) {
+        let _ = session.insert(session.count(), line, &mut Work::new());
+    }
+}
+
+fn enter_source(alloc: Global, session: &mut Session, source: &str) {
+    for text in source.lines() {
+        enter(alloc, session, text);
+    }
+}
+
+/// Writes a part of a source's texts from the view of a session.
+fn write_session<W: Write>(
+    alloc: Global,
+    source: &str,
+    part: Part,
+    writer: &mut Counted<W>,
+) -> Result<(), ListFault> {
+    let mut session = Session::new(alloc);
+    enter_source(alloc, &mut session, source);
+    let done = write_viewed(alloc, &session, part, writer);
+    drop(session);
+    done
+}
+
+fn write_viewed<W: Write>(
+    alloc: Global,
+    session: &Session,
+    part: Part,
+    writer: &mut Counted<W>,
+) -> Result<(), ListFault> {
+    match session.view(alloc) {
+        Ok(view) => {
+            let done = write_view(alloc, &view, part, writer);
+            drop(view);
+            done
+        }
+        Err(_) => Err(ListFault::Memory),
+    }
+}
+
+/// Asserts what is written of a source, from a session and from a list.
+fn assert_part(rt: &impl Abort, alloc: Global, at: usize, part: Part, want: &str) {
     let mut writer = Counted::new(Vec::new(alloc));
-    let done = match part {
-        Part::Listing => write_listing(alloc, view, &mut writer),
-        Part::Binary => write_binary(alloc, view, &mut writer),
-        Part::Symbols => write_symbols(alloc, view, &mut writer),
-        Part::Flags => write_flags(alloc, view, &mut writer),
-        Part::All => write_all_parts(alloc, view, &mut writer),
-    };
-    done?;
-    Ok(writer.into_inner())
+    let done = write_session(alloc, PROGRAM, part, &mut writer);
+    assert_same(rt, "the answer", &done, &Ok(()));
+    assert_row(rt, at, "of a session", &writer.into_inner(), want);
+    let mut writer = Counted::new(Vec::new(alloc));
+    let done = write_list(alloc, PROGRAM, part, &mut writer);
+    assert_same(rt, "the answer", &done, &Ok(()));
+    assert_row(rt, at, "of a list", &writer.into_inner(), want);
 }
 
 #[test]
-fn writes_parts(rt: HostRuntime) -> Result<(), Fail> {
+fn writes_parts(rt: HostRuntime) -> Result<(), AllocError> {
     const ROWS: [(Part, &str); 4] = [
         (Part::Listing, LISTING),
         (Part::Binary, BINARY),
         (Part::Symbols, SYMBOLS),
         (Part::Flags, FLAGS),
     ];
-    let session = entered(rt.alloc(), PROGRAM)?;
-    let view = session.view(rt.alloc())?;
-    for (part, want) in ROWS.iter() {
-        let got = written(rt.alloc(), &view, *part)?;
-        assert_bytes(&rt, "a part", &got, want)?;
+    for (at, (part, want)) in ROWS.iter().enumerate() {
+        assert_part(&rt, rt.alloc(), at, *part, want);
     }
     let whole = format!(in rt.alloc(); "{LISTING}{BINARY}{SYMBOLS}{FLAGS}")?;
-    let got = written(rt.alloc(), &view, Part::All)?;
-    assert_bytes(&rt, "all parts", &got, &whole)
+    assert_part(&rt, rt.alloc(), 4, Part::All, &whole);
+    Ok(())
 }
 
-/// A failure at each call in turn: what was taken is a front of the texts, and nothing is written behind it.
+/// Writes all parts of a session where a writer has that much room.
+fn assert_failed_write(rt: &impl Abort, alloc: Global, room: usize, whole: &str) {
+    let mut writer = Counted::new(SlowWriter {
+        taken: Vec::new(alloc),
+        room,
+    });
+    let done = write_session(alloc, "  PERIPH\nA STD 1", Part::All, &mut writer);
+    let fails = room < whole.len();
+    let want = if fails {
+        Err(ListFault::WriteFault)
+    } else {
+        Ok(())
+    };
+    assert_same(rt, "the answer", &done, &want);
+    let calls = (room as u64).saturating_add(u64::from(fails));
+    assert_same(rt, "calls", &writer.calls(), &calls);
+    let taken = writer.into_inner().taken;
+    assert_same(rt, "taken", &taken.as_slice(), &front(whole, room));
+}
+
+fn front(whole: &str, room: usize) -> &[u8] {
+    let (front, _) = whole.as_bytes().split_at(room.min(whole.len()));
+    front
+}
+
+/// A failure at each call in turn: what was taken is a front of the texts, and nothing is written after it.
 #[test]
-fn stops_at_a_failed_write(rt: HostRuntime) -> Result<(), Fail> {
-    let session = entered(rt.alloc(), "A NO")?;
-    let view = session.view(rt.alloc())?;
-    let whole = "         000000 46000                     1 A NO
+fn stops_at_a_failed_write(rt: HostRuntime) {
+    let whole = "                                          1   PERIPH
+         000000 3401                      2 A STD 1
 IDENT
-000000 46000000000000000000
-A        00000000000000000000 1
+0000 3401
+A        00000000000000000000 2
 0 flagged lines
 ";
     for room in 0..=whole.len() {
-        let mut writer = Counted::new(SlowWriter {
-            taken: Vec::new(rt.alloc()),
-            room,
-        });
-        let done = write_all_parts(rt.alloc(), &view, &mut writer);
-        let want = if room < whole.len() {
-            Err(ListFault::WriteFault)
-        } else {
-            Ok(())
-        };
-        assert_same(&rt, "the answer", &done, &want);
-        let calls = room as u64 + u64::from(room < whole.len());
-        assert_same(&rt, "calls", &writer.calls(), &calls);
-        let taken = writer.into_inner().taken;
-        assert_same(&rt, "taken", &taken.as_slice(), &&whole.as_bytes()[..room]);
+        assert_failed_write(&rt, rt.alloc(), room, whole);
     }
-    Ok(())
 }

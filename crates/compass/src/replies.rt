@@ -1,69 +1,44 @@
-//! Running scripts on an empty source.
-use super::devices::{SlowReader, SlowWriter};
-use cps_live::Session;
-use cps_text::Counted;
-use cps_tool::run_script;
-use std::alloc::Global;
+//! What is replied to scripts.
+use super::assertions::{assert_row, assert_same};
+use super::running::{Replied, run_at_once, run_byte_by_byte};
+use std::alloc::{AllocError, Global};
 use std::process::Abort;
-use std::test::Fail;
-
-/// The replies to a script that is read and written at once.
-fn replies(alloc: Global, script: &[u8]) -> Result<Vec<u8>, Fail> {
-    let mut reader = Counted::new(script);
-    let mut writer = Counted::new(Vec::new(alloc));
-    let mut session = Session::new(alloc);
-    run_script(alloc, &mut reader, &mut writer, &mut session)?;
-    Ok(writer.into_inner())
-}
-
-/// The replies to a script that is read and written a byte a call.
-fn replies_byte_by_byte(alloc: Global, script: &[u8]) -> Result<Vec<u8>, Fail> {
-    let mut reader = Counted::new(SlowReader {
-        rest: script,
-        fails: false,
-    });
-    let mut writer = Counted::new(SlowWriter {
-        taken: Vec::new(alloc),
-        room: usize::MAX,
-    });
-    let mut session = Session::new(alloc);
-    run_script(alloc, &mut reader, &mut writer, &mut session)?;
-    Ok(writer.into_inner().taken)
-}
 
 /// Asserts what is replied to a script, however it is read and written.
-pub fn assert_replies(
-    rt: &impl Abort,
-    alloc: Global,
-    at: usize,
-    script: &str,
-    want: &str,
-) -> Result<(), Fail> {
-    let whole = replies(alloc, script.as_bytes())?;
-    assert_eq!(rt; str::from_utf8(&whole)?, want, "row {at}");
-    let pieces = replies_byte_by_byte(alloc, script.as_bytes())?;
-    assert_eq!(rt; str::from_utf8(&pieces)?, want, "row {at}, byte by byte");
-    Ok(())
+pub fn assert_replies(rt: &impl Abort, alloc: Global, at: usize, script: &str, want: &str) {
+    let script = script.as_bytes();
+    assert_replied(rt, at, "at once", &run_at_once(alloc, script), want);
+    let pieces = run_byte_by_byte(alloc, script);
+    assert_replied(rt, at, "byte by byte", &pieces, want);
 }
 
-/// Asserts what is replied to the rest of a script that first enters a line and behind it comments, up to a line's number.
-pub fn assert_long_body(
-    rt: &impl Abort,
+fn assert_replied(rt: &impl Abort, at: usize, how: &str, got: &Replied, want: &str) {
+    assert_row(rt, at, how, &got.text, want);
+    assert_same(rt, how, &got.ran.end, &Ok(got.ran.flagged));
+}
+
+/// A script that first enters a line and then comments, up to a line's number, and goes on with a rest.
+pub fn long_script(
     alloc: Global,
-    at: usize,
     first: &str,
     number: u32,
     rest: &str,
-    want: &str,
-) -> Result<(), Fail> {
+) -> Result<String, AllocError> {
     let mut script = String::new(alloc);
-    let mut replies = String::from_str(alloc, "ok 1 lines\n")?;
     writeln!(script, "a {first}")?;
-    for count in 2..number {
+    for _ in 2..number {
         script.push_str("a *\n")?;
-        writeln!(replies, "ok {count} lines")?;
     }
     script.push_str(rest)?;
-    replies.push_str(want)?;
-    assert_replies(rt, alloc, at, &script, &replies)
+    Ok(script)
+}
+
+/// The replies to lines that are entered after the last one, each before a line's number, and a rest.
+pub fn long_replies(alloc: Global, number: u32, rest: &str) -> Result<String, AllocError> {
+    let mut replies = String::new(alloc);
+    for count in 1..number {
+        writeln!(replies, "ok {count} lines")?;
+    }
+    replies.push_str(rest)?;
+    Ok(replies)
 }

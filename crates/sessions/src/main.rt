@@ -8,10 +8,11 @@ use std::process::ExitCode;
 use transcript::Transcript;
 
 /// The files, each of one subject.
-const NAMES: [&str; 15] = [
+const NAMES: [&str; 16] = [
     "blocks",
     "central",
     "columns",
+    "commands",
     "edits",
     "expansions",
     "literals",
@@ -56,5 +57,11 @@ fn check(rt: &HostRuntime, session: &str) -> anyhow::Result<()> {
     for line in lines {
         transcript.add(line)?;
     }
-    transcript.check(rt, title)
+    let replied = transcript.run();
+    if !transcript.is_replied(&replied) {
+        let told = str::from_utf8(&replied.text).unwrap_or("");
+        rt.eprintln(format_args!("{title}\n{told}"))?;
+        anyhow::bail!("other replies than in the transcript");
+    }
+    Ok(())
 }

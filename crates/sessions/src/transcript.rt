@@ -1,10 +1,9 @@
 //! A session as its file has it: what it shows, what is entered, and the replies.
-use cps_live::Session;
 use cps_text::Counted;
-use cps_tool::run_script;
+use cps_tool::run_words;
 use std::alloc::Global;
 
-/// `* ` stands before what a session shows, which goes on behind `- `; `|` before a line that is entered behind the last
+/// `* ` stands before what a session shows, which goes on after `- `; `|` before a line that is entered after the last
 /// one, whose reply `ok N lines` isn't written down; `>` before any other line of the script. The rest are replies; a
 /// blank line says nothing.
 #[derive(Drop)]
@@ -13,6 +12,13 @@ pub struct Transcript {
     script: String,
     replies: String,
     entered: u32,
+}
+
+/// What came of a script: the status of its run, and the replies.
+#[derive(Drop)]
+pub struct Replied {
+    pub status: u8,
+    pub text: Vec<u8>,
 }
 
 impl Transcript {
@@ -25,7 +31,7 @@ impl Transcript {
         }
     }
 
-    /// Adds a line behind the first.
+    /// Adds a line after the first.
     pub fn add(&mut self, line: &str) -> anyhow::Result<()> {
         if let Some(source) = line.strip_prefix("|") {
             self.entered = self.entered.saturating_add(1);
@@ -39,18 +45,21 @@ impl Transcript {
         Ok(())
     }
 
-    /// Runs the script from a source without a line, and compares the replies.
-    pub fn check(&self, rt: &HostRuntime, title: &str) -> anyhow::Result<()> {
+    /// Runs the script from a source without a line.
+    pub fn run(&self) -> Replied {
         let mut reader = Counted::new(self.script.as_bytes());
         let mut writer = Counted::new(Vec::new(self.alloc));
-        let mut session = Session::new(self.alloc);
-        run_script(self.alloc, &mut reader, &mut writer, &mut session)?;
-        let replies = writer.into_inner();
-        let replies = str::from_utf8(&replies)?;
-        if replies != self.replies.as_str() {
-            rt.eprintln(format_args!("{title}\n{replies}"))?;
-            anyhow::bail!("other replies than in the transcript");
+        let mut errors = Counted::new(Vec::new(self.alloc));
+        let words = ["compass", "session"];
+        let status = run_words(self.alloc, &words, &mut reader, &mut writer, &mut errors);
+        Replied {
+            status,
+            text: writer.into_inner(),
         }
-        Ok(())
+    }
+
+    /// Whether the replies are those of the transcript, and the run had no fault.
+    pub fn is_replied(&self, replied: &Replied) -> bool {
+        replied.status < 2 && replied.text.as_slice() == self.replies.as_bytes()
     }
 }

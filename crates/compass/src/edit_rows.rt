@@ -1,0 +1,164 @@
+//! Edits of a session.
+use super::assertions::{assert_bytes, assert_same};
+use cps_list::Part;
+use cps_live::{EditFault, Session};
+use cps_pass::Work;
+use cps_text::Line;
+use std::alloc::Global;
+use std::process::Abort;
+
+/// An edit of a session: of the lines after a number, at one, or from one to another.
+enum Edit {
+    Insert(u32, &'static [u8]),
+    Replace(u32, &'static [u8]),
+    Delete(u32, u32),
+}
+
+/// What comes of an edit. A text that is no line counts as one for which there is no memory.
+fn carry_out(
+    alloc: Global,
+    session: &mut Session,
+    work: &mut Work,
+    edit: &Edit,
+) -> Result<(), EditFault> {
+    match edit {
+        Edit::Insert(after, text) => insert(alloc, session, work, *after, text),
+        Edit::Replace(at, text) => replace(alloc, session, work, *at, text),
+        Edit::Delete(first, last) => session.delete(*first, *last, work),
+    }
+}
+
+fn insert(
+    alloc: Global,
+    session: &mut Session,
+    work: &mut Work,
+    after: u32,
+    text: &[u8],
+) -> Result<(), EditFault> {
+    match Line::new(alloc, text) {
+        Ok(line) => session.insert(after, line, work),
+        Err(_) => Err(EditFault::Memory),
+    }
+}
+
+fn replace(
+    alloc: Global,
+    session: &mut Session,
+    work: &mut Work,
+    at: u32,
+    text: &[u8],
+) -> Result<(), EditFault> {
+    match Line::new(alloc, text) {
+        Ok(line) => session.replace(at, line, work),
+        Err(_) => Err(EditFault::Memory),
+    }
+}
+
+/// An edit, what comes of it, and then the number of lines, the first of them, and the steps of pass one so far.
+type Row = (Edit, Result<(), EditFault>, u32, Option<&'static [u8]>, u64);
+
+/// Asserts what comes of an edit.
+fn assert_edit(rt: &impl Abort, alloc: Global, session: &mut Session, work: &mut Work, row: &Row) {
+    let (edit, end, count, first, ones) = row;
+    let done = carry_out(alloc, session, work, edit);
+    assert_same(rt, "what came of it", &done, end);
+    assert_same(rt, "lines", &session.count(), count);
+    assert_line(rt, session, 0, None);
+    assert_line(rt, session, 1, *first);
+    assert_line(rt, session, count.saturating_add(1), None);
+    assert_same(rt, "steps of pass one", &work.ones(), ones);
+    assert_same(rt, "steps of pass two", &work.twos(), &0);
+}
+
+/// Asserts what a line of a source is, None where there is none.
+fn assert_line(rt: &impl Abort, session: &Session, n: u32, want: Option<&[u8]>) {
+    assert_eq!(rt; session.line(n).map(|line| line.bytes()), want, "line {n}");
+}
+
+fn assert_text(rt: &impl Abort, alloc: Global, session: &Session, part: Part, want: &str) {
+    let text = match session.text(alloc, part) {
+        Ok(text) => text,
+        Err(_) => Vec::new(alloc),
+    };
+    assert_bytes(rt, "a text", &text, want);
+}
+
+/// Asserts what edits of a session do, one after another, and then its listing, binary text and flags text.
+fn assert_edits(rt: &impl Abort, alloc: Global, rows: &[Row], texts: [&str; 3]) {
+    let mut session = Session::new(alloc);
+    let mut work = Work::new();
+    assert_rows(rt, alloc, &mut session, &mut work, rows);
+    assert_texts(rt, alloc, &session, texts);
+    drop(session);
+}
+
+fn assert_rows(
+    rt: &impl Abort,
+    alloc: Global,
+    session: &mut Session,
+    work: &mut Work,
+    rows: &[Row],
+) {
+    for row in rows.iter() {
+        assert_edit(rt, alloc, session, work, row);
+    }
+}
+
+fn assert_texts(rt: &impl Abort, alloc: Global, session: &Session, texts: [&str; 3]) {
+    let [listing, binary, flags] = texts;
+    assert_text(rt, alloc, session, Part::Listing, listing);
+    assert_text(rt, alloc, session, Part::Binary, binary);
+    assert_text(rt, alloc, session, Part::Flags, flags);
+}
+
+const CLEAN: &str = "0 flagged lines\n";
+
+#[test]
+fn holds_lines(rt: HostRuntime) {
+    const ENTERED: Row = (Edit::Insert(0, b"  NO"), Ok(()), 1, Some(b"  NO"), 1);
+    const NONE: [Row; 0] = [];
+    const ONE: [Row; 1] = [ENTERED];
+    const ALL: [Row; 4] = [
+        ENTERED,
+        (Edit::Replace(1, b"* none"), Ok(()), 1, Some(b"* none"), 2),
+        (
+            Edit::Delete(1, 2),
+            Err(EditFault::NoSuchLine),
+            1,
+            Some(b"* none"),
+            2,
+        ),
+        (Edit::Delete(1, 1), Ok(()), 0, None, 2),
+    ];
+    let empty = ["", "IDENT\n", CLEAN];
+    assert_edits(&rt, rt.alloc(), &NONE, empty);
+    let entered = [
+        "         000000 46000                     1   NO\n",
+        "IDENT\n000000 46000000000000000000\n",
+        CLEAN,
+    ];
+    assert_edits(&rt, rt.alloc(), &ONE, entered);
+    assert_edits(&rt, rt.alloc(), &ALL, empty);
+}
+
+/// An edit counts the steps of pass one of the lines from the first on that it touches, and none of pass two; a refused
+/// one counts none.
+#[test]
+fn counts_steps(rt: HostRuntime) {
+    const FIRST: Option<&[u8]> = Some(b"  NO");
+    const ROWS: [Row; 8] = [
+        (Edit::Insert(0, b"  NO"), Ok(()), 1, FIRST, 1),
+        (Edit::Insert(1, b"  NO"), Ok(()), 2, FIRST, 2),
+        (Edit::Insert(2, b"  NO"), Ok(()), 3, FIRST, 3),
+        (Edit::Insert(3, b"  NO"), Ok(()), 4, FIRST, 4),
+        (Edit::Insert(1, b"* one"), Ok(()), 5, FIRST, 8),
+        (Edit::Replace(4, b"* two"), Ok(()), 5, FIRST, 10),
+        (Edit::Delete(2, 4), Ok(()), 2, FIRST, 11),
+        (Edit::Delete(2, 4), Err(EditFault::NoSuchLine), 2, FIRST, 11),
+    ];
+    let listing = "         000000 46000                     1   NO
+         000000 46000                     2   NO
+";
+    let binary = "IDENT\n000000 46000460000000000000\n";
+    assert_edits(&rt, rt.alloc(), &ROWS, [listing, binary, CLEAN]);
+}
