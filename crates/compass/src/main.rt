@@ -33,29 +33,45 @@ mod script_rows;
 
 use cps_text::Counted;
 use cps_tool::run_words;
+use std::io::ErrorKind;
 use std::process::ExitCode;
 use std::{env, io};
 
+const NO_MEMORY: &str = "no memory";
+
+const NOT_UTF8: &str = "error: a word of the call is not UTF-8";
+
 fn main(rt: HostRuntime) -> ExitCode {
     match call(&rt) {
-        Some(status) => ExitCode::from(status),
-        None => {
-            let _ = rt.eprintln("no memory");
+        Ok(status) => ExitCode::from(status),
+        Err(fault) => {
+            let _ = rt.eprintln(fault);
             ExitCode::from(2)
         }
     }
 }
 
-/// Does what the words of the call ask, None where there is no memory for the words.
-fn call(rt: &HostRuntime) -> Option<u8> {
-    let words: Vec<String> = env::args(rt).ok()?.collect(rt.alloc()).ok()?;
-    let words: Vec<&str> = words
+/// Does what the words of the call ask. An error is what is told where there are no words to be had.
+fn call(rt: &HostRuntime) -> Result<u8, &'static str> {
+    let words = read_call(rt)?;
+    let Ok(words) = words
         .iter()
         .map(|word| word.as_str())
-        .collect(rt.alloc())
-        .ok()?;
+        .collect::<Vec<&str>>(rt.alloc())
+    else {
+        return Err(NO_MEMORY);
+    };
     let mut reader = Counted::new(rt.reader());
     let mut writer = Counted::new(io::writer(rt));
     let mut errors = Counted::new(rt.stderr());
-    Some(run_words(rt.alloc(), &words, &mut reader, &mut writer, &mut errors))
+    Ok(run_words(rt.alloc(), &words, &mut reader, &mut writer, &mut errors))
+}
+
+/// The words of the call.
+fn read_call(rt: &HostRuntime) -> Result<Vec<String>, &'static str> {
+    match env::args(rt) {
+        Ok(words) => words.collect(rt.alloc()).map_err(|_| NO_MEMORY),
+        Err(error) if error.kind() == ErrorKind::InvalidData => Err(NOT_UTF8),
+        Err(_) => Err(NO_MEMORY),
+    }
 }
