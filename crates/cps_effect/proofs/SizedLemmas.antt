@@ -5,7 +5,8 @@ use Rattle.cps_expr.specs.declared.value.Value.{Value}
 use Rattle.cps_expr.specs.Expression.{Expression}
 use Rattle.cps_state.specs.declared.flags.Flags.{Flags}
 use Rattle.cps_state.specs.declared.made.Content.{Content}
-use Rattle.cps_state.specs.Course.{Course, Part, Running, Hands, run}
+use Rattle.cps_state.specs.Course.{Course, Part}
+use Rattle.cps_state.specs.Line.{Line, Hands, runs}
 use Rattle.cps_state.specs.Flags.{joined}
 use Rattle.cps_state.specs.Keys.{State}
 use Rattle.cps_state.specs.Made.{no_flags}
@@ -41,17 +42,17 @@ one-behind contents flags value width sized = λ i. record {
   flags = joined-assoc flags (width_flags width (width_in width)) sized.flags i;
 }
 
-pub fields-next : (field : Field) (left fields : List Field) (here : Value) (contents more : List Content) (flags all : Flags) (width : ValueNow) (f : State) (s t : Running)
+pub fields-next : {S : Type 0} (field : Field) (left fields : List Field) (here : Value) (contents more : List Content) (flags all : Flags) (width : ValueNow) (f : S → State) (s t : Line S)
     → left ≡ field ∷ fields → more ≡ contents ++ field_with field.value (width_in width) ∷ [] → all ≡ joined flags (width_flags width (width_in width))
     → Hands (now field.width here) width f s t
     → (next : Sized → Part) (rest : Course)
-    → run (sizing fields here (λ sized. next (behind_sized more all sized)) rest) f t ≡ run (sizing left here (λ sized. next (behind_sized contents flags sized)) rest) f s
+    → runs (sizing fields here (λ sized. next (behind_sized more all sized)) rest) f t ≡ runs (sizing left here (λ sized. next (behind_sized contents flags sized)) rest) f s
 fields-next field left fields here contents more flags all width f s t splits pushed joins gives next rest =
-    ap (λ (cs : List Content). run (sizing fields here (λ sized. next (behind_sized cs all sized)) rest) f t) pushed
-    ∙ ap (λ (fs : Flags). run (sizing fields here (λ sized. next (behind_sized (contents ++ field_with field.value (width_in width) ∷ []) fs sized)) rest) f t) joins
-    ∙ ap (λ (k : Sized → Part). run (sizing fields here k rest) f t) (λ j sized. next (one-behind contents flags field.value width sized j))
+    ap (λ (cs : List Content). runs (sizing fields here (λ sized. next (behind_sized cs all sized)) rest) f t) pushed
+    ∙ ap (λ (fs : Flags). runs (sizing fields here (λ sized. next (behind_sized (contents ++ field_with field.value (width_in width) ∷ []) fs sized)) rest) f t) joins
+    ∙ ap (λ (k : Sized → Part). runs (sizing fields here k rest) f t) (λ j sized. next (one-behind contents flags field.value width sized j))
     ∙ sym (gives (λ w. sizing fields here (λ sized. next (behind_sized contents flags (with_field field.value w sized)))) rest)
-    ∙ ap (λ (l : List Field). run (sizing l here (λ sized. next (behind_sized contents flags sized)) rest) f s) (sym splits)
+    ∙ ap (λ (l : List Field). runs (sizing l here (λ sized. next (behind_sized contents flags sized)) rest) f s) (sym splits)
 
 or-none : (a : Bool) → (a || false) ≡ a
 or-none true = refl
@@ -69,9 +70,9 @@ joined-none flags = λ i. record {
   width = or-none flags.width i;
 }
 
-pub fields-end : (left fields : List Field) (here : Value) (contents : List Content) (flags : Flags) (f : State) (s t : Running) → length left ≡ 0
-    → (next : Sized → Part) (rest : Course) → run (sizing left here (λ sized. next (behind_sized contents flags sized)) rest) f t ≡ run (sizing fields here next rest) f s
-    → run (sizing fields here next rest) f s ≡ run (next (record { contents = contents; flags = flags }) rest) f t
+pub fields-end : {S : Type 0} (left fields : List Field) (here : Value) (contents : List Content) (flags : Flags) (f : S → State) (s t : Line S) → length left ≡ 0
+    → (next : Sized → Part) (rest : Course) → runs (sizing left here (λ sized. next (behind_sized contents flags sized)) rest) f t ≡ runs (sizing fields here next rest) f s
+    → runs (sizing fields here next rest) f s ≡ runs (next (record { contents = contents; flags = flags }) rest) f t
 fields-end [] fields here contents flags f s t none next rest before =
-    sym before ∙ (λ i. run (next (record { contents = append-nil contents i; flags = joined-none flags i }) rest) f t)
+    sym before ∙ (λ i. runs (next (record { contents = append-nil contents i; flags = joined-none flags i }) rest) f t)
 fields-end (field ∷ left) fields here contents flags f s t none next rest before = absurd (suc-ne-zero (length left) none)

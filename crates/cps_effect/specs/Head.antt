@@ -1,5 +1,5 @@
 -- The head of a program: IDENT, ABS, PERIPH and BASE. From the manual's descriptions of these statements; what ends the head is our profile's.
-use Rattle.std.specs.Prelude.{Bool, true, false, Option, None, Some, is_none, if◌then◌else◌}
+use Rattle.std.specs.Prelude.{Bool, true, false, not, ◌||◌, Option, None, Some, is_none, if◌then◌else◌}
 use Rattle.cps_text.specs.declared.name.Name.{Name}
 use Rattle.cps_expr.specs.declared.machine.Machine.{Machine}
 use Rattle.cps_expr.specs.declared.radix.Radix.{Radix}
@@ -16,6 +16,7 @@ use Rattle.cps_state.specs.Course.{Part, nothing, ◌before◌, put, fill}
 use Rattle.cps_state.specs.Made.{nothing_made, no_flags}
 use Rattle.cps_reading.specs.declared.reading.Location.{Location}
 use Rattle.cps_effect.specs.Located.{is_present, present_flags}
+use Rattle.cps_effect.specs.Making.{flagged}
 
 -- what holds for the lines to come, which are assembled
 abbrev pub control_put : Control → Put
@@ -28,7 +29,7 @@ putting_control control = put (control_put control)
 abbrev pub entering : Control → Phase → Part
 entering control phase = putting_control (record control { phase = phase })
 
--- ---- leaving the head, where the program is in it: it lasts until the first statement other than IDENT, ABS, PERIPH, BASE, EQU, `=`, SET, TITLE, SPACE, EJECT and LIST
+-- ---- leaving the head, where the program is in it
 
 abbrev pub behind_head : Phase → Phase
 behind_head (Head head) = Body
@@ -44,8 +45,10 @@ is_in_head (Head head) = true
 is_in_head Body = false
 is_in_head AfterEnd = false
 
-abbrev pub leaving_head : Control → Part
-leaving_head control = if is_in_head control.phase then putting_control (in_body control) else nothing
+-- the control that holds for a statement: the head ends, unless the statement stays in it
+abbrev pub leaving_head : Bool → Control → (Control → Part) → Part
+leaving_head stays control next =
+    if stays || not (is_in_head control.phase) then next control else putting_control (in_body control) before next (in_body control)
 
 -- ---- IDENT, and ABS or PERIPH: the first of each, in the head
 
@@ -66,9 +69,9 @@ ident_flags phase location name = record no_flags { operand = is_none name; stru
 
 -- None: the operand is unreadable
 abbrev pub ident : Control → Location → Option Name → Part
-ident control location None = fill (nothing_made (ident_flags control.phase location None))
+ident control location None = flagged (ident_flags control.phase location None)
 ident control location (Some name) =
-    if is_late_name control.phase then fill (nothing_made (ident_flags control.phase location (Some name)))
+    if is_late_name control.phase then flagged (ident_flags control.phase location (Some name))
     else entering control (with_name control.phase) before fill (record (nothing_made (ident_flags control.phase location (Some name))) { program = Some name })
 
 -- a declaration comes too late: there is one already, or the head has ended
@@ -93,7 +96,7 @@ declaring control machine =
 
 -- ABS is for the central processor, PERIPH for a peripheral one
 abbrev pub declaration : Control → Location → Machine → Part
-declaration control location machine = declaring control machine before fill (nothing_made (declaration_flags control.phase location))
+declaration control location machine = declaring control machine before flagged (declaration_flags control.phase location)
 
 -- ---- BASE: the base of numbers that no letter marks
 
@@ -107,4 +110,4 @@ abbrev pub rebasing : Control → Radix → Part
 rebasing control radix = if same_radix control.radix radix then nothing else putting_control (record control { radix = radix })
 
 abbrev pub base : Control → Location → Radix → Part
-base control location radix = rebasing control radix before fill (nothing_made (present_flags location))
+base control location radix = rebasing control radix before flagged (present_flags location)

@@ -3,6 +3,7 @@ pub mod Fields
 pub mod Head
 pub mod Instruction
 pub mod Located
+pub mod Making
 pub mod NamesNow
 pub mod Numbers
 pub mod Places

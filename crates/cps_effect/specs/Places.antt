@@ -8,10 +8,12 @@ use Rattle.cps_code.specs.declared.place.Filling.{Filling}
 use Rattle.cps_code.specs.declared.place.Place.{Place}
 use Rattle.cps_code.specs.Image.{Piece}
 use Rattle.cps_code.specs.Place.{position, place_at, start_of, skipped}
+use Rattle.cps_state.specs.declared.key.Control.{Control}
 use Rattle.cps_state.specs.declared.key.Key.TheVariants as key
 use Rattle.cps_state.specs.declared.key.Answer.TheVariants as answer
 use Rattle.cps_state.specs.declared.key.Put.{Put}
-use Rattle.cps_state.specs.Course.{Part, put}
+use Rattle.cps_state.specs.Course.{Part, ◌before◌, asking, put, stand}
+use Rattle.cps_state.specs.Keys.{place_of}
 
 -- `width` bits of a number behind so many bits
 abbrev pub piece_at : ℕ → ℕ → ℕ → Piece
@@ -37,6 +39,10 @@ whole Pp at = 60 * ((at + 59) / 60)
 -- `*` is the address of the word in which a place is
 abbrev pub here_at : Option Name → ℕ → AValue
 here_at block at = record { block = block; offset = pos (at / 60) }
+
+-- asking where the block in use stands: the statement has its place there
+abbrev pub asking_place : Control → (Place → Part) → Part
+asking_place control next = asking (key.Counter control.block) (λ a. stand control.block before next (place_of control.machine a))
 
 -- a block goes on behind so many bits
 abbrev pub place_put : Option Name → ℕ → Bool → Put

@@ -13,20 +13,20 @@ use Rattle.cps_state.specs.declared.key.Key.TheVariants as key
 use Rattle.cps_state.specs.declared.made.Content.{Content}
 use Rattle.cps_state.specs.declared.made.Held.{Held}
 use Rattle.cps_state.specs.Course.{Part, ◌before◌, asking, fill}
-use Rattle.cps_state.specs.Keys.{place_of, value_of}
+use Rattle.cps_state.specs.Keys.{value_of}
 use Rattle.cps_state.specs.Machines.{limit}
 use Rattle.cps_state.specs.Made.{Made, nothing_made, no_flags, end_of, content_names}
 use Rattle.cps_effect.specs.declared.placing.Site.{Site}
 use Rattle.cps_reading.specs.declared.reading.Location.{Location}
 use Rattle.cps_reading.specs.declared.reading.Location.TheVariants.{Absent, Plus, Minus, Symbol, NoSymbol}
 use Rattle.cps_effect.specs.Located.{symbol_in, asking_taken, defining}
-use Rattle.cps_effect.specs.Places.{filling_between, whole, place_left, here_at, going_on}
+use Rattle.cps_effect.specs.Places.{filling_between, whole, place_left, here_at, going_on, asking_place}
 
 -- what a placing statement asks: the place in the block in use, and whether its symbol has a value already
 abbrev pub asking_site : Control → Location → (Site → Part) → Part
 asking_site control location next =
-    asking (key.Counter control.block) (λ a. asking_taken (symbol_in location) (λ is_taken.
-    next (record { machine = control.machine; block = control.block; place = place_of control.machine a; location = location; is_taken = is_taken })))
+    asking_place control (λ place. asking_taken (symbol_in location) (λ is_taken.
+    next (record { machine = control.machine; block = control.block; place = place; location = location; is_taken = is_taken })))
 
 -- ---- where it starts
 
@@ -90,7 +90,6 @@ holding contents next = settings_now (flat_map content_names contents) next
 abbrev pub only_flagging : Flags → Site → List Piece → ℕ → List Content → List Held → Made
 only_flagging flags site filling start contents held = record (nothing_made flags) {
   machine = site.machine;
-  block = site.block;
   filling = filling;
   start = start;
   contents = contents;
@@ -122,7 +121,6 @@ placed_to site start contents is_pending end held =
     else settling site start (whole site.machine end) is_pending
     before fill (record (nothing_made (placing_flags site)) {
       machine = site.machine;
-      block = site.block;
       filling = filling_between (position site.place) start;
       start = start;
       contents = contents;

@@ -26,7 +26,6 @@ reserved has_zeros site start words =
     else settling site start (start + 60 * words) false
     before fill (record (nothing_made (placing_flags site)) {
       machine = site.machine;
-      block = site.block;
       filling = filling_between (position site.place) start;
       start = start;
       zeros = zeros_for has_zeros words;

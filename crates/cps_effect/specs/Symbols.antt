@@ -3,7 +3,7 @@
 use Rattle.std.specs.Prelude.{Bool, true, Option, None, Some, is_none, if◌then◌else◌}
 use Rattle.cps_text.specs.declared.name.Name.{Name}
 use Rattle.cps_expr.specs.declared.value.Value.{Value as AValue}
-use Rattle.cps_expr.specs.Expression.{Expression, has_counter}
+use Rattle.cps_expr.specs.Expression.{Expression}
 use Rattle.cps_state.specs.declared.flags.Flags.{Flags}
 use Rattle.cps_state.specs.declared.key.Answer.TheVariants as answer
 use Rattle.cps_state.specs.declared.key.Control.{Control}
@@ -17,7 +17,7 @@ use Rattle.cps_reading.specs.declared.reading.Location.{Location}
 use Rattle.cps_effect.specs.declared.value_now.ValueNow.{ValueNow}
 use Rattle.cps_effect.specs.declared.value_now.ValueNow.TheVariants.{Undefined, NoValue, Known}
 use Rattle.cps_effect.specs.Located.{symbol_in, is_labelled, asking_standing, asking_taken, defining}
-use Rattle.cps_state.specs.Made.{nothing_in}
+use Rattle.cps_effect.specs.Making.{flagged}
 use Rattle.cps_effect.specs.ValueNow.{now_here}
 
 -- ---- what both make
@@ -26,14 +26,10 @@ abbrev pub equate_flags : Location → Bool → Flags
 equate_flags location is_taken = record no_flags { location = is_none (symbol_in location); twice = is_taken }
 
 -- a value is listed also where the symbol doesn't get it
-abbrev pub listing_value : Option Name → Flags → ValueNow → Made
-listing_value block flags Undefined = nothing_in block (record flags { undefined = true })
-listing_value block flags NoValue = nothing_in block (record flags { operand = true })
-listing_value block flags (Known value) = record (nothing_in block flags) { shown = shown.Value value }
-
--- the block in use, where `*` stands in the operand
-abbrev pub block_asked : Control → Expression → Option Name
-block_asked control terms = if has_counter terms then control.block else None
+abbrev pub listing_value : Flags → ValueNow → Made
+listing_value flags Undefined = nothing_made (record flags { undefined = true })
+listing_value flags NoValue = nothing_made (record flags { operand = true })
+listing_value flags (Known value) = record (nothing_made flags) { shown = shown.Value value }
 
 -- what is done with a value, where there is one
 abbrev pub with_known : ValueNow → (AValue → Part) → Part
@@ -43,16 +39,16 @@ with_known (Known value) next = next value
 
 -- ---- EQU and `=`
 
-abbrev pub equate_to : Option Name → Location → Bool → ValueNow → Part
-equate_to block location is_taken value =
-    with_known value (defining (symbol_in location) is_taken) before fill (listing_value block (equate_flags location is_taken) value)
+abbrev pub equate_to : Location → Bool → ValueNow → Part
+equate_to location is_taken value =
+    with_known value (defining (symbol_in location) is_taken) before fill (listing_value (equate_flags location is_taken) value)
 
 abbrev pub equate : Control → Location → Expression → Part
-equate control location terms = asking_taken (symbol_in location) (λ is_taken. now_here control terms (λ value. equate_to (block_asked control terms) location is_taken value))
+equate control location terms = asking_taken (symbol_in location) (λ is_taken. now_here control terms (λ value. equate_to location is_taken value))
 
 -- EQU with an unreadable operand
 abbrev pub unread_equate : Location → Part
-unread_equate location = asking_taken (symbol_in location) (λ is_taken. fill (nothing_made (record (equate_flags location is_taken) { operand = true })))
+unread_equate location = asking_taken (symbol_in location) (λ is_taken. flagged (record (equate_flags location is_taken) { operand = true }))
 
 -- ---- SET
 
@@ -68,14 +64,14 @@ abbrev pub asking_settable : Option Name → (Standing → Part) → Part
 asking_settable None next = next Free
 asking_settable (Some name) next = asking_standing name (λ standing. telling_if (is_labelled standing) name before next standing)
 
-abbrev pub set_to : Option Name → Location → Standing → ValueNow → Part
-set_to block location standing value =
-    with_known value (setting (symbol_in location) standing) before fill (listing_value block (equate_flags location (is_labelled standing)) value)
+abbrev pub set_to : Location → Standing → ValueNow → Part
+set_to location standing value =
+    with_known value (setting (symbol_in location) standing) before fill (listing_value (equate_flags location (is_labelled standing)) value)
 
 abbrev pub set_symbol : Control → Location → Expression → Part
-set_symbol control location terms = asking_settable (symbol_in location) (λ standing. now_here control terms (λ value. set_to (block_asked control terms) location standing value))
+set_symbol control location terms = asking_settable (symbol_in location) (λ standing. now_here control terms (λ value. set_to location standing value))
 
 -- SET with an unreadable operand
 abbrev pub unread_set : Location → Part
 unread_set location =
-    asking_settable (symbol_in location) (λ standing. fill (nothing_made (record (equate_flags location (is_labelled standing)) { operand = true })))
+    asking_settable (symbol_in location) (λ standing. flagged (record (equate_flags location (is_labelled standing)) { operand = true }))

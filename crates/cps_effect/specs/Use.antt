@@ -10,12 +10,11 @@ use Rattle.cps_state.specs.declared.key.Answer.{Answer}
 use Rattle.cps_state.specs.declared.key.Answer.TheVariants as answer
 use Rattle.cps_state.specs.declared.key.Control.{Control}
 use Rattle.cps_state.specs.Course.{Part, nothing, ◌before◌, asking, putting, fill}
-use Rattle.cps_state.specs.Keys.{most_uses, same_block, place_of, is_place, uses_of, count_of}
+use Rattle.cps_state.specs.Keys.{most_uses, same_block, is_place, uses_of, count_of}
 use Rattle.cps_reading.specs.declared.reading.Location.{Location}
-use Rattle.cps_effect.specs.Blocks.{left, unread_in, using}
-use Rattle.cps_effect.specs.Located.{present_flags}
-use Rattle.cps_effect.specs.Places.{place_left, going_on}
-use Rattle.cps_state.specs.Made.{nothing_in}
+use Rattle.cps_effect.specs.Blocks.{left, using}
+use Rattle.cps_effect.specs.Making.{unmatched, unread}
+use Rattle.cps_effect.specs.Places.{place_left, going_on, asking_place}
 
 -- how many named blocks there may be
 abbrev pub most_blocks : ℕ
@@ -52,7 +51,7 @@ going_to control location place uses count block =
 abbrev pub going_to_new : Control → Location → Place → List (Option Name) → Name → ℕ → Part
 going_to_new control location place uses name count =
     if nat_lt count most_blocks then going_to control location place (left_behind control.block uses) (Some (count + 1)) (Some name)
-    else fill (nothing_in control.block (record (present_flags location) { structure = true }))
+    else unmatched location
 
 -- a block has begun where it is in use, or its counter stands; in use it stands at word 0 where no counter does
 abbrev pub has_begun : Option Name → Name → Option Answer → Bool
@@ -72,8 +71,8 @@ leaving control location place uses (Named name) =
 
 abbrev pub use_block : Control → Location → Block → Part
 use_block control location block =
-    asking (key.Counter control.block) (λ a. asking key.Uses (λ b. leaving control location (place_of control.machine a) (uses_of b) block))
+    asking_place control (λ place. asking key.Uses (λ b. leaving control location place (uses_of b) block))
 
 -- USE with an unreadable operand
 abbrev pub unread_use : Control → Location → Part
-unread_use control location = asking (key.Counter control.block) (λ a. asking key.Uses (λ b. unread_in control location))
+unread_use control location = asking_place control (λ place. asking key.Uses (λ b. unread location))

@@ -11,10 +11,10 @@ use Rattle.cps_state.specs.declared.key.Control.{Control}
 use Rattle.cps_state.specs.declared.key.Answer.{Answer}
 use Rattle.cps_state.specs.declared.key.Key.TheVariants as key
 use Rattle.cps_state.specs.Course.{Part, ◌before◌, asking, tell}
-use Rattle.cps_state.specs.Keys.{place_of, value_of}
+use Rattle.cps_state.specs.Keys.{value_of}
 use Rattle.cps_effect.specs.declared.value_now.ValueNow.{ValueNow}
 use Rattle.cps_effect.specs.declared.value_now.ValueNow.TheVariants.{Undefined, NoValue, Known}
-use Rattle.cps_effect.specs.Places.{here_at}
+use Rattle.cps_effect.specs.Places.{here_at, asking_place}
 
 abbrev pub known_or_none : Option AValue → ValueNow
 known_or_none None = NoValue
@@ -45,10 +45,10 @@ value_now values here terms = if has_undefined values terms then Undefined else 
 abbrev pub now : Expression → AValue → (ValueNow → Part) → Part
 now terms here next = names_now (names_of terms) (λ values. next (value_now values here terms))
 
--- asking what `*` is, if it stands in an expression: the present word of the block in use, begun or not
+-- asking what `*` is, if it stands in an expression: the present word of the block in use, begun or not. Then the statement has its place there.
 abbrev pub asking_here : Control → Expression → (AValue → Part) → Part
 asking_here control terms next =
-    if has_counter terms then asking (key.Counter control.block) (λ a. next (here_at control.block (position (place_of control.machine a)))) else next (plain (pos 0))
+    if has_counter terms then asking_place control (λ place. next (here_at control.block (position place))) else next (plain (pos 0))
 
 -- asking the value of an expression in which `*` is the present word
 abbrev pub now_here : Control → Expression → (ValueNow → Part) → Part

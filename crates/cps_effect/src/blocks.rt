@@ -1,131 +1,105 @@
 //! ORG and END: both leave the word that was begun.
 ghost use Rattle.std.specs.Prelude.{◌≡◌, ◌<◌, ◌^◌, OnOk};
-ghost use Rattle.cps_state.specs.Course.{Does};
+ghost use Rattle.cps_state.specs.Line.{Does};
 ghost use Rattle.cps_effect.specs.Blocks as blocks;
 
+use crate::front::Front;
 use crate::head::put_control;
 use crate::located::present_flags;
-use crate::making::{flag_in, unread_in};
+use crate::making::{flag, unmatched, unread};
 use crate::numbers::not_negative;
-use crate::places::{go_on, here_at, leave_word};
+use crate::places::{go_on, here_at, leave_word, stand};
 use crate::value_now::{ValueNow, value_now};
 use cps_code::Place;
 use cps_expr::{Expr, Value};
 use cps_reading::Location;
 use cps_state::{
-    Answer, Control, Flags, Key, Lookup, Made, Mode, Phase, Range, Recorder, Shared, Shown, WORD,
-    is_normal, is_same_block, limit_of, place_of, ranges_of,
+    Answer, Control, Flags, Key, Lookup, Made, Mode, Phase, Recorder, Shared, Shown, WORD,
+    is_no_range, is_normal, is_same_block, limit_of,
 };
 use cps_text::Name;
-use std::alloc::{AllocError, Global};
+use std::alloc::AllocError;
 
 /// ORG: leaves the word that was begun, and goes on at an address.
 pub fn org<L: Lookup>(
-    alloc: Global,
-    recorder: &mut Recorder,
-    state: &L,
-    control: Control,
-    location: Location,
+    recorder: &mut Recorder<'_, L>,
+    front: Front,
     operand: &Expr,
 ) -> Result<(), AllocError>
-    ensures { OnOk result (Does (blocks.org control location operand.now) (L.answer state.now) recorder.old recorder.new) }
+    ensures { OnOk result (Does (blocks.org front.control front.location operand.now) L.answer recorder.old recorder.new) }
 {
-    let answer = recorder.ask(state, Key::Counter(control.block))?;
-    let place = place_of(answer.as_ref(), control.machine);
-    let here = here_at(control.block, leave_word(place).start);
-    let value = value_now(alloc, recorder, state, operand, here)?;
-    move_by(alloc, recorder, state, control, location, place, value)
+    let place = stand(recorder, front.control)?;
+    let here = here_at(front.control.block, leave_word(place).start);
+    let value = value_now(recorder, operand, here)?;
+    move_by(recorder, front, place, value)
 }
 
 /// ORG with an unreadable operand.
-pub fn unread_org<L: Lookup>(
-    alloc: Global,
-    recorder: &mut Recorder,
-    state: &L,
-    control: Control,
-    location: Location,
-) -> Result<(), AllocError>
-    ensures { OnOk result (Does (blocks.unread_org control location) (L.answer state.now) recorder.old recorder.new) }
+pub fn unread_org<L: Lookup>(recorder: &mut Recorder<'_, L>, front: Front) -> Result<(), AllocError>
+    ensures { OnOk result (Does (blocks.unread_org front.control front.location) L.answer recorder.old recorder.new) }
 {
-    recorder.ask(state, Key::Counter(control.block))?;
-    unread_in(alloc, recorder, control.block, location);
+    stand(recorder, front.control)?;
+    unread(recorder, front.location);
     Ok(())
 }
 
 fn move_by<L: Lookup>(
-    alloc: Global,
-    recorder: &mut Recorder,
-    state: &L,
-    control: Control,
-    location: Location,
+    recorder: &mut Recorder<'_, L>,
+    front: Front,
     place: Place,
     value: ValueNow,
 ) -> Result<(), AllocError>
     requires { place.word < 2 ^ 26 }
-    ensures { OnOk result (Does (blocks.moving control location place value) (L.answer state.now) recorder.old recorder.new) }
+    ensures { OnOk result (Does (blocks.moving front.control front.location place value) L.answer recorder.old recorder.new) }
 {
     match value {
         ValueNow::Undefined => {
-            let mut flags = present_flags(location);
+            let mut flags = present_flags(front.location);
             flags.undefined = true;
-            flag_in(alloc, recorder, control.block, flags);
+            flag(recorder, flags);
             Ok(())
         }
         ValueNow::NoValue => {
-            unread_in(alloc, recorder, control.block, location);
+            unread(recorder, front.location);
             Ok(())
         }
         ValueNow::Known(value) => match not_negative(value.offset) {
             None => {
-                unread_in(alloc, recorder, control.block, location);
+                unread(recorder, front.location);
                 Ok(())
             }
-            Some(address) => move_to(
-                alloc,
-                recorder,
-                state,
-                control,
-                location,
-                place,
-                value.block,
-                address,
-            ),
+            Some(address) => move_to(recorder, front, place, value.block, address),
         },
     }
 }
 
 fn move_to<L: Lookup>(
-    alloc: Global,
-    recorder: &mut Recorder,
-    state: &L,
-    control: Control,
-    location: Location,
+    recorder: &mut Recorder<'_, L>,
+    front: Front,
     place: Place,
     block: Option<Name>,
     address: u64,
 ) -> Result<(), AllocError>
     requires { place.word < 2 ^ 26 }
-    ensures { OnOk result (Does (blocks.moving_to control location place block address) (L.answer state.now) recorder.old recorder.new) }
+    ensures { OnOk result (Does (blocks.moving_to front.control front.location place block address) L.answer recorder.old recorder.new) }
 {
-    let mut flags = present_flags(location);
-    if address > u64::from(limit_of(control.machine)) {
-        flags.structure = true;
-        flag_in(alloc, recorder, control.block, flags);
+    let alloc = recorder.alloc();
+    if address > u64::from(limit_of(front.control.machine)) {
+        unmatched(recorder, front.location);
         return Ok(());
     }
     let left = leave_word(place);
-    go_on(recorder, control.block, left.start, false)?;
+    go_on(recorder, front.control.block, left.start, false)?;
     go_on(recorder, block, WORD * address as u32, false)?;
-    select(recorder, state, control, block)?;
+    select(recorder, front.control, block)?;
     let shown = Shown::Address(Value {
         block,
         offset: address as i64,
     });
     recorder.fill(Made::leaving(
         alloc,
-        flags,
-        control.machine,
-        control.block,
+        present_flags(front.location),
+        front.control.machine,
         left.filling,
         shown,
     ));
@@ -134,12 +108,11 @@ fn move_to<L: Lookup>(
 
 /// Another block is in use.
 pub fn select<L: Lookup>(
-    recorder: &mut Recorder,
-    state: &L,
+    recorder: &mut Recorder<'_, L>,
     control: Control,
     block: Option<Name>,
 ) -> Result<(), AllocError>
-    ensures { OnOk result (Does (blocks.using control block) (L.answer state.now) recorder.old recorder.new) }
+    ensures { OnOk result (Does (blocks.using control block) L.answer recorder.old recorder.new) }
 {
     if is_same_block(control.block, block) {
         return Ok(());
@@ -149,26 +122,23 @@ pub fn select<L: Lookup>(
 
 /// END: leaves the word that was begun. Ranges that are open, and lines that are skipped or kept, end here.
 pub fn end<L: Lookup>(
-    alloc: Global,
-    recorder: &mut Recorder,
-    state: &L,
-    control: Control,
+    recorder: &mut Recorder<'_, L>,
+    front: Front,
     mode: &Mode,
-    location: Location,
 ) -> Result<(), AllocError>
-    ensures { OnOk result (Does (blocks.end control mode.now location) (L.answer state.now) recorder.old recorder.new) }
+    ensures { OnOk result (Does (blocks.end front.control mode.now front.location) L.answer recorder.old recorder.new) }
 {
-    let open = recorder.ask(state, Key::Ifs)?;
-    let answer = recorder.ask(state, Key::Counter(control.block))?;
-    let left = leave_word(place_of(answer.as_ref(), control.machine));
-    go_on(recorder, control.block, left.start, false)?;
+    let alloc = recorder.alloc();
+    let ranges = recorder.note(Key::Ifs)?;
+    let is_closed = is_no_range(recorder.answer(ranges));
+    let left = leave_word(stand(recorder, front.control)?);
+    go_on(recorder, front.control.block, left.start, false)?;
     recorder.put(Key::Ifs, Answer::Ifs(Shared::empty()))?;
-    put_control(recorder, behind_end(control))?;
+    put_control(recorder, behind_end(front.control))?;
     recorder.fill(Made::leaving(
         alloc,
-        end_flags(mode, location, ranges_of(open.as_ref())),
-        control.machine,
-        control.block,
+        end_flags(mode, front.location, is_closed),
+        front.control.machine,
         left.filling,
         Shown::Nothing,
     ));
@@ -176,11 +146,11 @@ pub fn end<L: Lookup>(
 }
 
 /// E where a range is open, or lines are skipped or kept.
-fn end_flags(mode: &Mode, location: Location, ranges: &[Range]) -> Flags
-    ensures { result ≡ blocks.end_flags mode.now location ranges.now }
+fn end_flags(mode: &Mode, location: Location, is_closed: bool) -> Flags
+    ensures { result ≡ blocks.end_flags mode.now location is_closed }
 {
     let mut flags = present_flags(location);
-    flags.structure = !is_normal(mode) || !ranges.is_empty();
+    flags.structure = !is_normal(mode) || !is_closed;
     flags
 }
 

@@ -1,10 +1,11 @@
 //! VFD: fields of any width.
 ghost use Rattle.std.specs.Prelude.{◌≡◌, ◌<◌, ◌≤◌, All, IfOk, IfSome, OnOk};
-ghost use Rattle.cps_state.specs.Course.{Does, Hands};
+ghost use Rattle.cps_state.specs.Line.{Does, Hands};
 ghost use Rattle.cps_state.specs.Made.{IsContent};
 ghost use Rattle.cps_effect.specs.Fields as meaning;
 ghost use Rattle.cps_effect.specs.Sites.{IsSite};
 
+use crate::front::Front;
 use crate::numbers::{between, plain_number};
 use crate::places::here_at;
 use crate::placing::{
@@ -12,42 +13,32 @@ use crate::placing::{
 };
 use crate::value_now::{ValueNow, value_now};
 use cps_expr::{Expr, Field, Sequence, Value};
-use cps_reading::Location;
-use cps_state::{Content, Control, Flags, Lookup, Recorder};
-use std::alloc::{AllocError, Global};
+use cps_state::{Content, Flags, Lookup, Recorder};
+use std::alloc::AllocError;
 
 /// The greatest width of a field.
 const MOST_BITS: u8 = 60;
 
 /// VFD: fields, from any bit on.
 pub fn vfd<L: Lookup>(
-    alloc: Global,
-    recorder: &mut Recorder,
-    state: &L,
-    control: Control,
-    location: Location,
+    recorder: &mut Recorder<'_, L>,
+    front: Front,
     fields: Sequence<Field>,
 ) -> Result<(), AllocError>
-    ensures { OnOk result (Does (meaning.vfd control location fields) (L.answer state.now) recorder.old recorder.new) }
+    ensures { OnOk result (Does (meaning.vfd front.control front.location fields) L.answer recorder.old recorder.new) }
 {
-    let site = ask_site(recorder, state, control, location)?;
+    let site = ask_site(recorder, front)?;
     let here = here_at(site.block, start_for(site, 0).start);
-    let sized = size_fields(alloc, recorder, state, fields, here)?;
-    place_sized(alloc, recorder, state, site, sized)
+    let sized = size_fields(recorder, fields, here)?;
+    place_sized(recorder, site, sized)
 }
 
 /// VFD with unreadable operands.
-pub fn unread_vfd<L: Lookup>(
-    alloc: Global,
-    recorder: &mut Recorder,
-    state: &L,
-    control: Control,
-    location: Location,
-) -> Result<(), AllocError>
-    ensures { OnOk result (Does (meaning.unread_vfd control location) (L.answer state.now) recorder.old recorder.new) }
+pub fn unread_vfd<L: Lookup>(recorder: &mut Recorder<'_, L>, front: Front) -> Result<(), AllocError>
+    ensures { OnOk result (Does (meaning.unread_vfd front.control front.location) L.answer recorder.old recorder.new) }
 {
-    let site = ask_site(recorder, state, control, location)?;
-    place_unread(alloc, recorder, state, site, start_for(site, 0))
+    let site = ask_site(recorder, front)?;
+    place_unread(recorder, site, start_for(site, 0))
 }
 
 /// Fields as contents, and the flags of their widths.
@@ -58,20 +49,19 @@ struct Sized {
 }
 
 fn size_fields<L: Lookup>(
-    alloc: Global,
-    recorder: &mut Recorder,
-    state: &L,
+    recorder: &mut Recorder<'_, L>,
     fields: Sequence<Field>,
     here: Value,
 ) -> Result<Sized, AllocError>
-    ensures sized { IfOk result (λ sized. Hands (meaning.sizing fields here) (record { contents = sized.contents.items; flags = sized.flags }) (L.answer state.now) recorder.old recorder.new) }
+    ensures sized { IfOk result (λ sized. Hands (meaning.sizing fields here) (record { contents = sized.contents.items; flags = sized.flags }) L.answer recorder.old recorder.new) }
     ensures each { IfOk result (λ sized. All IsContent sized.contents.items) }
 {
+    let alloc = recorder.alloc();
     let fields = fields.into_vec();
     let mut contents = Vec::with_capacity(alloc, fields.len())?;
     let mut flags = Flags::none();
     for field in fields {
-        let width = value_now(alloc, recorder, state, &field.width, here)?;
+        let width = value_now(recorder, &field.width, here)?;
         let bits = width_in(width);
         contents.push(field_with(field.value, bits))?;
         flags = flags.joined(width_flags(width, bits));
@@ -117,20 +107,18 @@ fn are_sized(contents: &[Content]) -> bool
 }
 
 fn place_sized<L: Lookup>(
-    alloc: Global,
-    recorder: &mut Recorder,
-    state: &L,
+    recorder: &mut Recorder<'_, L>,
     site: Site,
     sized: Sized,
 ) -> Result<(), AllocError>
     requires site { IsSite site }
     requires each { All IsContent sized.contents.items }
-    ensures { OnOk result (Does (meaning.placing_fields site (record { contents = sized.contents.items; flags = sized.flags })) (L.answer state.now) recorder.old recorder.new) }
+    ensures { OnOk result (Does (meaning.placing_fields site (record { contents = sized.contents.items; flags = sized.flags })) L.answer recorder.old recorder.new) }
 {
     let begun = start_for(site, 0);
     if are_sized(&sized.contents) {
-        return place(alloc, recorder, state, site, begun, sized.contents, false);
+        return place(recorder, site, begun, sized.contents, false);
     }
     let flags = placing_flags(site).joined(sized.flags);
-    place_nothing(alloc, recorder, state, site, begun, flags, sized.contents)
+    place_nothing(recorder, site, begun, flags, sized.contents)
 }

@@ -1,32 +1,40 @@
 //! The head of a program: IDENT, ABS, PERIPH and BASE.
-ghost use Rattle.std.specs.Prelude.{◌≡◌, Option, Some, OnOk};
-ghost use Rattle.cps_state.specs.Course.{Does, with_put_made};
+ghost use Rattle.std.specs.Prelude.{◌≡◌, Option, Some, OnOk, IfOk};
+ghost use Rattle.cps_state.specs.Line.{Does, Hands, line_put};
 ghost use Rattle.cps_effect.specs.Head as head;
 
+use crate::front::Front;
 use crate::located::present_flags;
 use crate::making::flag;
 use cps_expr::{Machine, Radix};
 use cps_reading::Location;
 use cps_state::{Answer, Control, Flags, Head, Key, Lookup, Made, Mode, Phase, Recorder};
 use cps_text::Name;
-use std::alloc::{AllocError, Global};
+use std::alloc::AllocError;
 
 /// Puts what holds for the lines to come, which are assembled.
-pub fn put_control(recorder: &mut Recorder, control: Control) -> Result<(), AllocError>
-    ensures { OnOk result (recorder.new ≡ with_put_made recorder.old (head.control_put control)) }
+pub fn put_control<L: Lookup>(
+    recorder: &mut Recorder<'_, L>,
+    control: Control,
+) -> Result<(), AllocError>
+    ensures { OnOk result (recorder.new ≡ line_put recorder.old (head.control_put control)) }
 {
     recorder.put(Key::Control, Answer::Control(control, Mode::Normal))
 }
 
 /// The program is in another part; all else stays.
-pub fn enter(recorder: &mut Recorder, control: Control, phase: Phase) -> Result<(), AllocError>
-    ensures { OnOk result (recorder.new ≡ with_put_made recorder.old (head.control_put (record control { phase = phase }))) }
+pub fn enter<L: Lookup>(
+    recorder: &mut Recorder<'_, L>,
+    control: Control,
+    phase: Phase,
+) -> Result<(), AllocError>
+    ensures { OnOk result (recorder.new ≡ line_put recorder.old (head.control_put (record control { phase = phase }))) }
 {
     put_control(recorder, Control { phase, ..control })
 }
 
 /// The control behind a statement that ends the head.
-pub fn in_body(control: Control) -> Control
+fn in_body(control: Control) -> Control
     ensures { result ≡ head.in_body control }
 {
     let phase = match control.phase {
@@ -45,56 +53,57 @@ fn is_in_head(phase: Phase) -> bool
     }
 }
 
-/// The head ends.
+/// The control that holds for a statement: the head ends, unless it stays in it.
 pub fn leave_head<L: Lookup>(
-    recorder: &mut Recorder,
-    state: &L,
+    recorder: &mut Recorder<'_, L>,
     control: Control,
-) -> Result<(), AllocError>
-    ensures { OnOk result (Does (head.leaving_head control) (L.answer state.now) recorder.old recorder.new) }
+    stays: bool,
+) -> Result<Control, AllocError>
+    ensures control { IfOk result (λ there. Hands (head.leaving_head stays control) there L.answer recorder.old recorder.new) }
+    ensures machine { IfOk result (λ there. there.machine ≡ control.machine) }
 {
-    if !is_in_head(control.phase) {
-        return Ok(());
+    if stays || !is_in_head(control.phase) {
+        return Ok(control);
     }
-    put_control(recorder, in_body(control))
+    let body = in_body(control);
+    put_control(recorder, body)?;
+    Ok(body)
 }
 
 /// IDENT: the first name in the head is the program's; None where the operand is unreadable.
 pub fn ident<L: Lookup>(
-    alloc: Global,
-    recorder: &mut Recorder,
-    state: &L,
-    control: Control,
-    location: Location,
+    recorder: &mut Recorder<'_, L>,
+    front: Front,
     name: Option<Name>,
 ) -> Result<(), AllocError>
-    ensures { OnOk result (Does (head.ident control location name) (L.answer state.now) recorder.old recorder.new) }
+    ensures { OnOk result (Does (head.ident front.control front.location name) L.answer recorder.old recorder.new) }
 {
     match name {
-        Some(name) => name_program(alloc, recorder, state, control, location, name),
+        Some(name) => name_program(recorder, front, name),
         None => {
-            flag(alloc, recorder, ident_flags(control.phase, location, None));
+            flag(
+                recorder,
+                ident_flags(front.control.phase, front.location, None),
+            );
             Ok(())
         }
     }
 }
 
 fn name_program<L: Lookup>(
-    alloc: Global,
-    recorder: &mut Recorder,
-    state: &L,
-    control: Control,
-    location: Location,
+    recorder: &mut Recorder<'_, L>,
+    front: Front,
     name: Name,
 ) -> Result<(), AllocError>
-    ensures { OnOk result (Does (head.ident control location (Some name)) (L.answer state.now) recorder.old recorder.new) }
+    ensures { OnOk result (Does (head.ident front.control front.location (Some name)) L.answer recorder.old recorder.new) }
 {
-    let flags = ident_flags(control.phase, location, Some(name));
-    if is_late_name(control.phase) {
-        flag(alloc, recorder, flags);
+    let alloc = recorder.alloc();
+    let flags = ident_flags(front.control.phase, front.location, Some(name));
+    if is_late_name(front.control.phase) {
+        flag(recorder, flags);
         return Ok(());
     }
-    enter(recorder, control, with_name(control.phase))?;
+    enter(recorder, front.control, with_name(front.control.phase))?;
     recorder.fill(Made::naming(alloc, flags, name));
     Ok(())
 }
@@ -132,27 +141,26 @@ fn with_name(phase: Phase) -> Phase
 
 /// ABS is for the central processor, PERIPH for a peripheral one: the first declaration in the head counts.
 pub fn declaration<L: Lookup>(
-    alloc: Global,
-    recorder: &mut Recorder,
-    state: &L,
-    control: Control,
-    location: Location,
+    recorder: &mut Recorder<'_, L>,
+    front: Front,
     machine: Machine,
 ) -> Result<(), AllocError>
-    ensures { OnOk result (Does (head.declaration control location machine) (L.answer state.now) recorder.old recorder.new) }
+    ensures { OnOk result (Does (head.declaration front.control front.location machine) L.answer recorder.old recorder.new) }
 {
-    declare(recorder, state, control, machine)?;
-    flag(alloc, recorder, declaration_flags(control.phase, location));
+    declare(recorder, front.control, machine)?;
+    flag(
+        recorder,
+        declaration_flags(front.control.phase, front.location),
+    );
     Ok(())
 }
 
 fn declare<L: Lookup>(
-    recorder: &mut Recorder,
-    state: &L,
+    recorder: &mut Recorder<'_, L>,
     control: Control,
     machine: Machine,
 ) -> Result<(), AllocError>
-    ensures { OnOk result (Does (head.declaring control machine) (L.answer state.now) recorder.old recorder.new) }
+    ensures { OnOk result (Does (head.declaring control machine) L.answer recorder.old recorder.new) }
 {
     if is_late_declaration(control.phase) {
         return Ok(());
@@ -197,28 +205,24 @@ fn with_declaration(phase: Phase) -> Phase
 
 /// BASE: the base of the numbers to come.
 pub fn base<L: Lookup>(
-    alloc: Global,
-    recorder: &mut Recorder,
-    state: &L,
-    control: Control,
-    location: Location,
+    recorder: &mut Recorder<'_, L>,
+    front: Front,
     radix: Radix,
 ) -> Result<(), AllocError>
-    ensures { OnOk result (Does (head.base control location radix) (L.answer state.now) recorder.old recorder.new) }
+    ensures { OnOk result (Does (head.base front.control front.location radix) L.answer recorder.old recorder.new) }
 {
-    put_radix(recorder, state, control, radix)?;
-    flag(alloc, recorder, present_flags(location));
+    put_radix(recorder, front.control, radix)?;
+    flag(recorder, present_flags(front.location));
     Ok(())
 }
 
 /// Puts the base of numbers where it changes.
 fn put_radix<L: Lookup>(
-    recorder: &mut Recorder,
-    state: &L,
+    recorder: &mut Recorder<'_, L>,
     control: Control,
     radix: Radix,
 ) -> Result<(), AllocError>
-    ensures { OnOk result (Does (head.rebasing control radix) (L.answer state.now) recorder.old recorder.new) }
+    ensures { OnOk result (Does (head.rebasing control radix) L.answer recorder.old recorder.new) }
 {
     if is_same_radix(control.radix, radix) {
         return Ok(());

@@ -1,8 +1,10 @@
 //! What the statements do that neither skip lines nor keep nor open them: what each asks of the state of an assembly, what it puts there, and what it makes.
 #![tactic(auto)]
 
+mod asking;
 mod blocks;
 mod fields;
+mod front;
 mod head;
 mod holding;
 mod instructions;
@@ -19,12 +21,13 @@ mod value_now;
 mod words;
 
 pub use blocks::end;
-pub use head::{in_body, leave_head};
+pub use front::Front;
+pub use head::leave_head;
 pub use instructions::{instruction, peripheral_instruction};
 pub use located::{Standing, ask_standing, has_value, present_flags};
-pub use making::{flag, flag_in, unknown, unread};
+pub use making::{flag, misplaced, unknown, unmatched, unread};
 pub use numbers::{not_negative, plain_number};
-pub use places::{Begun, here_at};
+pub use places::{here_at, stand};
 pub use placing::{Site, ask_site, placing_flags, settle, word_start};
-pub use statements::{flag_unreadable, obey};
+pub use statements::{obey, obey_unread};
 pub use value_now::{ValueNow, value_here};

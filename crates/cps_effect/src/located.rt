@@ -1,11 +1,13 @@
 //! Location fields, and the symbols that they define.
 ghost use Rattle.std.specs.Prelude.{◌≡◌, OnOk, IfOk};
-ghost use Rattle.cps_state.specs.Course.{Does, Hands, telling_if};
+ghost use Rattle.cps_state.specs.Course.{telling_if};
+ghost use Rattle.cps_state.specs.Line.{Does, Hands};
 ghost use Rattle.cps_effect.specs.Located as located;
 
+use crate::asking::ask_value;
 use cps_expr::Value;
 use cps_reading::Location;
-use cps_state::{Answer, Flags, Key, Lookup, Recorder, value_of};
+use cps_state::{Answer, Flags, Key, Lookup, Recorder};
 use cps_text::Name;
 use std::alloc::AllocError;
 
@@ -78,25 +80,23 @@ fn standing_by(label: Option<Value>, setting: Option<Value>) -> Standing
 
 /// What a symbol stands for already.
 pub fn ask_standing<L: Lookup>(
-    recorder: &mut Recorder,
-    state: &L,
+    recorder: &mut Recorder<'_, L>,
     name: Name,
 ) -> Result<Standing, AllocError>
-    ensures { IfOk result (λ standing. Hands (located.asking_standing name) standing (L.answer state.now) recorder.old recorder.new) }
+    ensures { IfOk result (λ standing. Hands (located.asking_standing name) standing L.answer recorder.old recorder.new) }
 {
-    let label = recorder.ask(state, Key::Label(name))?;
-    let setting = recorder.ask(state, Key::Setting(name))?;
-    Ok(standing_by(value_of(label.as_ref()), value_of(setting.as_ref())))
+    let label = ask_value(recorder, Key::Label(name))?;
+    let setting = ask_value(recorder, Key::Setting(name))?;
+    Ok(standing_by(label, setting))
 }
 
 /// Tells a symbol where something holds.
 pub fn tell_if<L: Lookup>(
-    recorder: &mut Recorder,
-    state: &L,
+    recorder: &mut Recorder<'_, L>,
     holds: bool,
     name: Name,
 ) -> Result<(), AllocError>
-    ensures { OnOk result (Does (telling_if holds name) (L.answer state.now) recorder.old recorder.new) }
+    ensures { OnOk result (Does (telling_if holds name) L.answer recorder.old recorder.new) }
 {
     if holds {
         recorder.tell(name)?;
@@ -106,17 +106,16 @@ pub fn tell_if<L: Lookup>(
 
 /// Whether the symbol of a location field has a value already; then it counts as read.
 pub fn is_taken<L: Lookup>(
-    recorder: &mut Recorder,
-    state: &L,
+    recorder: &mut Recorder<'_, L>,
     location: Location,
 ) -> Result<bool, AllocError>
-    ensures { IfOk result (λ is_taken. Hands (located.asking_taken (located.symbol_in location)) is_taken (L.answer state.now) recorder.old recorder.new) }
+    ensures { IfOk result (λ is_taken. Hands (located.asking_taken (located.symbol_in location)) is_taken L.answer recorder.old recorder.new) }
 {
     match symbol_in(location) {
         Some(name) => {
-            let standing = ask_standing(recorder, state, name)?;
+            let standing = ask_standing(recorder, name)?;
             let is_taken = has_value(standing);
-            tell_if(recorder, state, is_taken, name)?;
+            tell_if(recorder, is_taken, name)?;
             Ok(is_taken)
         }
         None => Ok(false),
@@ -125,13 +124,12 @@ pub fn is_taken<L: Lookup>(
 
 /// The symbol of a location field gets a value; one that has a value keeps it.
 pub fn define<L: Lookup>(
-    recorder: &mut Recorder,
-    state: &L,
+    recorder: &mut Recorder<'_, L>,
     location: Location,
     is_taken: bool,
     value: Value,
 ) -> Result<(), AllocError>
-    ensures { OnOk result (Does (located.defining (located.symbol_in location) is_taken value) (L.answer state.now) recorder.old recorder.new) }
+    ensures { OnOk result (Does (located.defining (located.symbol_in location) is_taken value) L.answer recorder.old recorder.new) }
 {
     match symbol_in(location) {
         Some(name) if !is_taken => recorder.put(Key::Label(name), Answer::Value(value)),

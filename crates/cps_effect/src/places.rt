@@ -1,24 +1,18 @@
 //! Places of a block, and what is skipped between two of them.
-ghost use Rattle.std.specs.Prelude.{◌≡◌, ℕ, ◌⊎◌, ◌+◌, ◌*◌, ◌%◌, ◌≤◌, ◌<◌, ◌^◌, IfSome, OnOk, option_map};
+ghost use Rattle.std.specs.Prelude.{◌≡◌, ℕ, ◌⊎◌, ◌+◌, ◌*◌, ◌%◌, ◌≤◌, ◌<◌, ◌^◌, IfOk, IfSome, OnOk, option_map};
 ghost use Rattle.std.specs.Option.{option_to_list};
 ghost use Rattle.cps_code.specs.Place.{position, start_of, is_forced};
 ghost use Rattle.cps_code.specs.Image.{piece_of};
-ghost use Rattle.cps_state.specs.Course.{with_put_made};
+ghost use Rattle.cps_state.specs.Keys.{place_of};
+ghost use Rattle.cps_state.specs.Line.{line_answer, line_asked, line_put, line_stood};
 ghost use Rattle.cps_state.specs.Machines.{limit};
 ghost use Rattle.cps_effect.specs.Places as places;
 
 use cps_code::{Filling, Force, Piece, Place, place_next};
 use cps_expr::{Machine, Value};
-use cps_state::{Answer, Key, Recorder, WORD};
+use cps_state::{Answer, Begun, Control, Key, Lookup, Recorder, WORD, place_of};
 use cps_text::Name;
 use std::alloc::AllocError;
-
-/// Where the next bits begin, as the bits before them, and what fills the bits that are skipped.
-#[derive(Clone, Copy)]
-pub struct Begun {
-    pub start: u32,
-    pub filling: Option<Piece>,
-}
 
 /// The beginning of the next word, if one has been begun.
 pub fn leave_word(place: Place) -> Begun
@@ -86,14 +80,29 @@ pub fn here_at(block: Option<Name>, at: u32) -> Value
     }
 }
 
+/// Where the block in use stands, which is asked. The statement stands there.
+pub fn stand<L: Lookup>(
+    recorder: &mut Recorder<'_, L>,
+    control: Control,
+) -> Result<Place, AllocError>
+    ensures stands { OnOk result (recorder.new ≡ line_stood (line_asked L.answer recorder.old (Key.Counter control.block)) control.block) }
+    ensures place { IfOk result (λ place. place ≡ place_of control.machine (line_answer L.answer recorder.old (Key.Counter control.block))) }
+    ensures within { IfOk result (λ place. position place ≤ 60 * limit control.machine) }
+{
+    let counter = recorder.note(Key::Counter(control.block))?;
+    let place = place_of(recorder.answer(counter), control.machine);
+    recorder.stand(control.block);
+    Ok(place)
+}
+
 /// A block goes on behind so many bits.
-pub fn go_on(
-    recorder: &mut Recorder,
+pub fn go_on<L: Lookup>(
+    recorder: &mut Recorder<'_, L>,
     block: Option<Name>,
     at: u32,
     is_pending: bool,
 ) -> Result<(), AllocError>
-    ensures { OnOk result (recorder.new ≡ with_put_made recorder.old (places.place_put block at is_pending)) }
+    ensures { OnOk result (recorder.new ≡ line_put recorder.old (places.place_put block at is_pending)) }
 {
     recorder.put(
         Key::Counter(block),

@@ -3,21 +3,22 @@ ghost use Rattle.std.specs.Prelude.{◌≡◌, ◌⊎◌, ◌<◌, [], All, OnOk
 ghost use Rattle.std.specs.Option.{option_to_list};
 ghost use Rattle.cps_code.specs.Image.{piece_of};
 ghost use Rattle.cps_code.specs.Place.{position};
-ghost use Rattle.cps_state.specs.Course.{Does, Hands, filled};
+ghost use Rattle.cps_state.specs.Line.{Does, Hands, line_filled};
 ghost use Rattle.cps_state.specs.Made.{width_of, IsContent, IsHeld};
 ghost use Rattle.cps_effect.specs.Placing as placing;
 ghost use Rattle.cps_effect.specs.Places.{filling_between};
 ghost use Rattle.cps_effect.specs.Sites.{IsSite, Starts};
 
+use crate::front::Front;
 use crate::holding::hold;
 use crate::located::{define, is_taken};
-use crate::places::{Begun, begin, go_on, here_at, leave_word, whole};
+use crate::places::{begin, go_on, here_at, leave_word, stand, whole};
 use cps_code::{Force, Place};
 use cps_expr::Machine;
 use cps_reading::Location;
-use cps_state::{Content, Control, Flags, Held, Key, Lookup, Made, Recorder, end_of, place_of};
+use cps_state::{Begun, Content, Flags, Held, Lookup, Made, Recorder, end_of};
 use cps_text::Name;
-use std::alloc::{AllocError, Global};
+use std::alloc::AllocError;
 
 /// Where a placing statement stands, and its location field.
 #[derive(Clone, Copy, Debug, PartialEq, Eq)]
@@ -33,24 +34,18 @@ pub struct Site {
 }
 
 /// What a placing statement asks.
-pub fn ask_site<L: Lookup>(
-    recorder: &mut Recorder,
-    state: &L,
-    control: Control,
-    location: Location,
-) -> Result<Site, AllocError>
-    ensures site { IfOk result (λ site. Hands (placing.asking_site control location) site (L.answer state.now) recorder.old recorder.new) }
+pub fn ask_site<L: Lookup>(recorder: &mut Recorder<'_, L>, front: Front) -> Result<Site, AllocError>
+    ensures site { IfOk result (λ site. Hands (placing.asking_site front.control front.location) site L.answer recorder.old recorder.new) }
     ensures is { IfOk result IsSite }
-    ensures machine { IfOk result (λ site. site.machine ≡ control.machine) }
+    ensures machine { IfOk result (λ site. site.machine ≡ front.control.machine) }
 {
-    let answer = recorder.ask(state, Key::Counter(control.block))?;
-    let place = place_of(answer.as_ref(), control.machine);
-    let is_taken = is_taken(recorder, state, location)?;
+    let place = stand(recorder, front.control)?;
+    let is_taken = is_taken(recorder, front.location)?;
     Ok(Site {
-        machine: control.machine,
-        block: control.block,
+        machine: front.control.machine,
+        block: front.control.block,
         place,
-        location,
+        location: front.location,
         is_taken,
     })
 }
@@ -126,19 +121,17 @@ pub fn far_flags(site: Site) -> Flags
 
 /// The block goes on at a place, and the symbol gets the address of the statement's first word.
 pub fn settle<L: Lookup>(
-    recorder: &mut Recorder,
-    state: &L,
+    recorder: &mut Recorder<'_, L>,
     site: Site,
     start: u32,
     after: u32,
     is_pending: bool,
 ) -> Result<(), AllocError>
-    ensures { OnOk result (Does (placing.settling site start after is_pending) (L.answer state.now) recorder.old recorder.new) }
+    ensures { OnOk result (Does (placing.settling site start after is_pending) L.answer recorder.old recorder.new) }
 {
     go_on(recorder, site.block, after, is_pending)?;
     define(
         recorder,
-        state,
         site.location,
         site.is_taken,
         here_at(site.block, start),
@@ -148,9 +141,7 @@ pub fn settle<L: Lookup>(
 /// A placing statement that makes nothing because of its operands; it forces, and its symbol is defined.
 #[tactic(auto, unfolding(crate::specs::Placing::unplaced))]
 pub fn place_nothing<L: Lookup>(
-    alloc: Global,
-    recorder: &mut Recorder,
-    state: &L,
+    recorder: &mut Recorder<'_, L>,
     site: Site,
     begun: Begun,
     flags: Flags,
@@ -158,47 +149,30 @@ pub fn place_nothing<L: Lookup>(
 ) -> Result<(), AllocError>
     requires filling { option_to_list (option_map piece_of begun.filling) ≡ filling_between (position site.place) begun.start }
     requires each { All IsContent contents.items }
-    ensures { OnOk result (Does (placing.unplaced flags site begun.start contents.items) (L.answer state.now) recorder.old recorder.new) }
+    ensures { OnOk result (Does (placing.unplaced flags site begun.start contents.items) L.answer recorder.old recorder.new) }
 {
-    let held = hold(alloc, recorder, state, &contents)?;
-    settle(recorder, state, site, begun.start, begun.start, false)?;
-    recorder.fill(Made::flagging(
-        flags,
-        site.machine,
-        site.block,
-        begun.filling,
-        begun.start,
-        contents,
-        held,
-    ));
+    let held = hold(recorder, &contents)?;
+    settle(recorder, site, begun.start, begun.start, false)?;
+    recorder.fill(Made::flagging(flags, site.machine, begun, contents, held));
     Ok(())
 }
 
 /// The same of one whose operands can't be read.
 pub fn place_unread<L: Lookup>(
-    alloc: Global,
-    recorder: &mut Recorder,
-    state: &L,
+    recorder: &mut Recorder<'_, L>,
     site: Site,
     begun: Begun,
 ) -> Result<(), AllocError>
     requires { option_to_list (option_map piece_of begun.filling) ≡ filling_between (position site.place) begun.start }
-    ensures { OnOk result (Does (placing.unread_from site begun.start) (L.answer state.now) recorder.old recorder.new) }
+    ensures { OnOk result (Does (placing.unread_from site begun.start) L.answer recorder.old recorder.new) }
 {
-    place_nothing(
-        alloc,
-        recorder,
-        state,
-        site,
-        begun,
-        unread_flags(site),
-        Vec::new(alloc),
-    )
+    let alloc = recorder.alloc();
+    place_nothing(recorder, site, begun, unread_flags(site), Vec::new(alloc))
 }
 
 /// One that would pass the machine's words makes nothing; nothing is put.
-pub fn pass_limit(
-    recorder: &mut Recorder,
+pub fn pass_limit<L: Lookup>(
+    recorder: &mut Recorder<'_, L>,
     site: Site,
     start: u32,
     contents: Vec<Content>,
@@ -206,14 +180,15 @@ pub fn pass_limit(
 )
     requires each { All IsContent contents.items }
     requires held { All IsHeld held.items }
-    ensures { recorder.new ≡ filled recorder.old (placing.only_flagging (placing.far_flags site) site [] start contents.items held.items) }
+    ensures { recorder.new ≡ line_filled recorder.old (placing.only_flagging (placing.far_flags site) site [] start contents.items held.items) }
 {
     recorder.fill(Made::flagging(
         far_flags(site),
         site.machine,
-        site.block,
-        None,
-        start,
+        Begun {
+            start,
+            filling: None,
+        },
         contents,
         held,
     ));
@@ -222,9 +197,7 @@ pub fn pass_limit(
 /// Contents, one behind the other.
 #[tactic(auto, unfolding(crate::specs::Placing::placed))]
 pub fn place<L: Lookup>(
-    alloc: Global,
-    recorder: &mut Recorder,
-    state: &L,
+    recorder: &mut Recorder<'_, L>,
     site: Site,
     begun: Begun,
     contents: Vec<Content>,
@@ -234,23 +207,15 @@ pub fn place<L: Lookup>(
     requires filling { option_to_list (option_map piece_of begun.filling) ≡ filling_between (position site.place) begun.start }
     requires each { All IsContent contents.items }
     requires some { All (λ content. 0 < width_of content) contents.items }
-    ensures { OnOk result (Does (placing.placed site begun.start contents.items is_pending) (L.answer state.now) recorder.old recorder.new) }
+    ensures { OnOk result (Does (placing.placed site begun.start contents.items is_pending) L.answer recorder.old recorder.new) }
 {
-    let held = hold(alloc, recorder, state, &contents)?;
+    let held = hold(recorder, &contents)?;
     let Some(end) = end_of(site.machine, begun.start, &contents) else {
         pass_limit(recorder, site, begun.start, contents, held);
         return Ok(());
     };
     let after = whole(site.machine, end);
-    settle(recorder, state, site, begun.start, after, is_pending)?;
-    recorder.fill(Made::placing(
-        placing_flags(site),
-        site.machine,
-        site.block,
-        begun.filling,
-        begun.start,
-        contents,
-        held,
-    ));
+    settle(recorder, site, begun.start, after, is_pending)?;
+    recorder.fill(Made::placing(placing_flags(site), site.machine, begun, contents, held));
     Ok(())
 }

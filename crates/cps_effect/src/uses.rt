@@ -1,19 +1,20 @@
 //! USE: another block.
-ghost use Rattle.std.specs.Prelude.{◌≡◌, ◌<◌, ◌^◌, OnOk};
+ghost use Rattle.std.specs.Prelude.{◌≡◌, ◌<◌, ◌^◌, OnOk, IfOk};
 ghost use Rattle.std.specs.Option.{option_copied};
-ghost use Rattle.cps_state.specs.Course.{Does};
+ghost use Rattle.cps_state.specs.Keys.{uses_of};
+ghost use Rattle.cps_state.specs.Line.{Does, line_answer, line_asked};
 ghost use Rattle.cps_effect.specs.Use as use_of;
 
 use crate::blocks::select;
+use crate::front::Front;
 use crate::located::present_flags;
-use crate::making::{flag_in, unread_in};
-use crate::places::{go_on, leave_word};
+use crate::making::{unmatched, unread};
+use crate::places::{go_on, leave_word, stand};
 use cps_code::Place;
 use cps_expr::Block;
-use cps_reading::Location;
 use cps_state::{
-    Answer, Control, Key, Lookup, Made, Recorder, Shared, Shown, count_of, is_place, is_same_block,
-    place_of, uses_of, uses_with,
+    Answer, Key, Lookup, Made, Recorder, Shared, Shown, count_of, is_place, is_same_block, uses_of,
+    uses_with,
 };
 use cps_text::Name;
 use std::alloc::{AllocError, Global};
@@ -21,85 +22,70 @@ use std::alloc::{AllocError, Global};
 /// The most named blocks.
 const MOST_BLOCKS: u32 = 64;
 
+/// What a USE leaves: the place in the block in use, and the blocks that it may go back to, the last in front.
+#[derive(Clone, Copy)]
+struct Leaving<'a> {
+    front: Front,
+    place: Place,
+    uses: &'a [Option<Name>],
+    ghost low: { place.word < 2 ^ 26 },
+}
+
 /// USE: leaves the word that was begun, and selects a block.
 pub fn use_block<L: Lookup>(
-    alloc: Global,
-    recorder: &mut Recorder,
-    state: &L,
-    control: Control,
-    location: Location,
+    recorder: &mut Recorder<'_, L>,
+    front: Front,
     block: Block,
 ) -> Result<(), AllocError>
-    ensures { OnOk result (Does (use_of.use_block control location block) (L.answer state.now) recorder.old recorder.new) }
+    ensures { OnOk result (Does (use_of.use_block front.control front.location block) L.answer recorder.old recorder.new) }
 {
-    let counter = recorder.ask(state, Key::Counter(control.block))?;
-    let place = place_of(counter.as_ref(), control.machine);
-    let answer = recorder.ask(state, Key::Uses)?;
-    leave(
-        alloc,
-        recorder,
-        state,
-        control,
-        location,
+    let place = stand(recorder, front.control)?;
+    let uses = ask_uses(recorder)?;
+    let leaving = Leaving {
+        front,
         place,
-        uses_of(answer.as_ref()),
-        block,
-    )
+        uses: uses.as_slice(),
+    };
+    leave(recorder, leaving, block)
+}
+
+/// The blocks that USE may go back to.
+fn ask_uses<L: Lookup>(recorder: &mut Recorder<'_, L>) -> Result<Shared<Option<Name>>, AllocError>
+    ensures asks { OnOk result (recorder.new ≡ line_asked L.answer recorder.old Key.Uses) }
+    ensures uses { IfOk result (λ uses. uses ≡ uses_of (line_answer L.answer recorder.old Key.Uses)) }
+{
+    let known = recorder.note(Key::Uses)?;
+    uses_of(recorder.answer(known))
 }
 
 fn leave<L: Lookup>(
-    alloc: Global,
-    recorder: &mut Recorder,
-    state: &L,
-    control: Control,
-    location: Location,
-    place: Place,
-    uses: &[Option<Name>],
+    recorder: &mut Recorder<'_, L>,
+    leaving: Leaving<'_>,
     block: Block,
 ) -> Result<(), AllocError>
-    requires { place.word < 2 ^ 26 }
-    ensures { OnOk result (Does (use_of.leaving control location place uses.now block) (L.answer state.now) recorder.old recorder.new) }
+    ensures { OnOk result (Does (use_of.leaving leaving.entry.front.control leaving.entry.front.location leaving.entry.place leaving.entry.uses.now block) L.answer recorder.old recorder.new) }
 {
+    let alloc = recorder.alloc();
     match block {
         Block::Nominal => {
-            let left = uses_with(alloc, control.block, uses)?;
-            go_to(
-                alloc, recorder, state, control, location, place, left, None, None,
-            )
+            let uses = uses_with(alloc, leaving.front.control.block, leaving.uses)?;
+            go_to(recorder, leaving, uses, None, None)
         }
         Block::Previous => {
-            let left = Shared::new(alloc, before_previous(uses))?;
-            go_to(
-                alloc,
-                recorder,
-                state,
-                control,
-                location,
-                place,
-                left,
-                None,
-                previous(uses),
-            )
+            let uses = Shared::new(alloc, before_previous(leaving.uses))?;
+            go_to(recorder, leaving, uses, None, previous(leaving.uses))
         }
-        Block::Named(name) => go_to_named(
-            alloc, recorder, state, control, location, place, uses, name,
-        ),
+        Block::Named(name) => go_to_named(recorder, leaving, name),
     }
 }
 
 /// USE with an unreadable operand.
-pub fn unread_use<L: Lookup>(
-    alloc: Global,
-    recorder: &mut Recorder,
-    state: &L,
-    control: Control,
-    location: Location,
-) -> Result<(), AllocError>
-    ensures { OnOk result (Does (use_of.unread_use control location) (L.answer state.now) recorder.old recorder.new) }
+pub fn unread_use<L: Lookup>(recorder: &mut Recorder<'_, L>, front: Front) -> Result<(), AllocError>
+    ensures { OnOk result (Does (use_of.unread_use front.control front.location) L.answer recorder.old recorder.new) }
 {
-    recorder.ask(state, Key::Counter(control.block))?;
-    recorder.ask(state, Key::Uses)?;
-    unread_in(alloc, recorder, control.block, location);
+    stand(recorder, front.control)?;
+    recorder.note(Key::Uses)?;
+    unread(recorder, front.location);
     Ok(())
 }
 
@@ -131,103 +117,66 @@ fn has_begun(present: Option<Name>, name: Name, answer: Option<&Answer>) -> bool
 }
 
 fn go_to_named<L: Lookup>(
-    alloc: Global,
-    recorder: &mut Recorder,
-    state: &L,
-    control: Control,
-    location: Location,
-    place: Place,
-    uses: &[Option<Name>],
+    recorder: &mut Recorder<'_, L>,
+    leaving: Leaving<'_>,
     name: Name,
 ) -> Result<(), AllocError>
-    requires { place.word < 2 ^ 26 }
-    ensures { OnOk result (Does (use_of.leaving control location place uses.now (Block.Named name)) (L.answer state.now) recorder.old recorder.new) }
+    ensures { OnOk result (Does (use_of.leaving leaving.entry.front.control leaving.entry.front.location leaving.entry.place leaving.entry.uses.now (Block.Named name)) L.answer recorder.old recorder.new) }
 {
-    let answer = recorder.ask(state, Key::Counter(Some(name)))?;
-    if has_begun(control.block, name, answer.as_ref()) {
-        let left = uses_with(alloc, control.block, uses)?;
-        return go_to(
-            alloc,
-            recorder,
-            state,
-            control,
-            location,
-            place,
-            left,
-            None,
-            Some(name),
-        );
+    let alloc = recorder.alloc();
+    let present = leaving.front.control.block;
+    let known = recorder.note(Key::Counter(Some(name)))?;
+    if has_begun(present, name, recorder.answer(known)) {
+        let uses = uses_with(alloc, present, leaving.uses)?;
+        return go_to(recorder, leaving, uses, None, Some(name));
     }
-    let answer = recorder.ask(state, Key::Blocks)?;
-    let count = count_of(answer.as_ref());
-    go_to_new(
-        alloc, recorder, state, control, location, place, uses, name, count,
-    )
+    let known = recorder.note(Key::Blocks)?;
+    let count = count_of(recorder.answer(known));
+    go_to_new(recorder, leaving, name, count)
 }
 
 /// A block that has not begun yet; there is no room for it where there are too many.
 fn go_to_new<L: Lookup>(
-    alloc: Global,
-    recorder: &mut Recorder,
-    state: &L,
-    control: Control,
-    location: Location,
-    place: Place,
-    uses: &[Option<Name>],
+    recorder: &mut Recorder<'_, L>,
+    leaving: Leaving<'_>,
     name: Name,
     count: u32,
 ) -> Result<(), AllocError>
-    requires { place.word < 2 ^ 26 }
-    ensures { OnOk result (Does (use_of.going_to_new control location place uses.now name count) (L.answer state.now) recorder.old recorder.new) }
+    ensures { OnOk result (Does (use_of.going_to_new leaving.entry.front.control leaving.entry.front.location leaving.entry.place leaving.entry.uses.now name count) L.answer recorder.old recorder.new) }
 {
     if count >= MOST_BLOCKS {
-        let mut flags = present_flags(location);
-        flags.structure = true;
-        flag_in(alloc, recorder, control.block, flags);
+        unmatched(recorder, leaving.front.location);
         return Ok(());
     }
-    let left = uses_with(alloc, control.block, uses)?;
-    go_to(
-        alloc,
-        recorder,
-        state,
-        control,
-        location,
-        place,
-        left,
-        Some(count + 1),
-        Some(name),
-    )
+    let alloc = recorder.alloc();
+    let uses = uses_with(alloc, leaving.front.control.block, leaving.uses)?;
+    go_to(recorder, leaving, uses, Some(count + 1), Some(name))
 }
 
-/// Leaves the word that was begun for a block. A new block is told by the count with it.
+/// Leaves the word that was begun for a block, with these blocks to go back to. A new block is told by the count with it.
 fn go_to<L: Lookup>(
-    alloc: Global,
-    recorder: &mut Recorder,
-    state: &L,
-    control: Control,
-    location: Location,
-    place: Place,
+    recorder: &mut Recorder<'_, L>,
+    leaving: Leaving<'_>,
     uses: Shared<Option<Name>>,
     count: Option<u32>,
     block: Option<Name>,
 ) -> Result<(), AllocError>
-    requires { place.word < 2 ^ 26 }
-    ensures { OnOk result (Does (use_of.going_to control location place uses count block) (L.answer state.now) recorder.old recorder.new) }
+    ensures { OnOk result (Does (use_of.going_to leaving.entry.front.control leaving.entry.front.location leaving.entry.place uses count block) L.answer recorder.old recorder.new) }
 {
-    let left = leave_word(place);
+    let alloc = recorder.alloc();
+    let control = leaving.front.control;
+    let left = leave_word(leaving.place);
     go_on(recorder, control.block, left.start, false)?;
     recorder.put(Key::Uses, Answer::Uses(uses))?;
     if let Some(count) = count {
         go_on(recorder, block, 0, false)?;
         recorder.put(Key::Blocks, Answer::Count(count))?;
     }
-    select(recorder, state, control, block)?;
+    select(recorder, control, block)?;
     recorder.fill(Made::leaving(
         alloc,
-        present_flags(location),
+        present_flags(leaving.front.location),
         control.machine,
-        control.block,
         left.filling,
         Shown::Nothing,
     ));

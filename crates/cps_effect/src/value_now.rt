@@ -1,14 +1,15 @@
 //! Values in pass one, in which a name counts if it was defined before, and the value that SET gave it stands before its label.
 ghost use Rattle.std.specs.Prelude.{◌≡◌, IfOk};
-ghost use Rattle.cps_state.specs.Course.{Hands};
+ghost use Rattle.cps_state.specs.Line.{Hands};
 ghost use Rattle.cps_effect.specs.ValueNow as now;
 ghost use Rattle.cps_effect.specs.NamesNow.{values_in, name_now};
 
-use crate::places::here_at;
+use crate::asking::ask_value;
+use crate::places::{here_at, stand};
 use cps_expr::{Expr, Names, Value, is_same_name};
-use cps_state::{Control, Key, Lookup, Recorder, WORD, place_of, value_of};
+use cps_state::{Control, Key, Lookup, Recorder, WORD};
 use cps_text::Name;
-use std::alloc::{AllocError, Global};
+use std::alloc::AllocError;
 
 /// A name and its value, None where it wasn't defined before.
 #[derive(Clone, Copy, Debug, PartialEq, Eq)]
@@ -56,47 +57,41 @@ fn value_among(names: &[NameNow], name: Name) -> Option<Value>
 
 /// What `*` stands for in the present word. The counter is asked only where `*` stands in the expression.
 fn here_in<L: Lookup>(
-    recorder: &mut Recorder,
-    state: &L,
+    recorder: &mut Recorder<'_, L>,
     control: Control,
     expression: &Expr,
 ) -> Result<Value, AllocError>
-    ensures { IfOk result (λ here. Hands (now.asking_here control expression.now) here (L.answer state.now) recorder.old recorder.new) }
+    ensures { IfOk result (λ here. Hands (now.asking_here control expression.now) here L.answer recorder.old recorder.new) }
 {
     if !expression.has_counter() {
         return Ok(Value::plain(0));
     }
-    let answer = recorder.ask(state, Key::Counter(control.block))?;
-    let place = place_of(answer.as_ref(), control.machine);
+    let place = stand(recorder, control)?;
     Ok(here_at(control.block, WORD * place.word + u32::from(place.used)))
 }
 
 /// The value of an expression, where `*` is the address of the present word of the block in use.
 pub fn value_here<L: Lookup>(
-    alloc: Global,
-    recorder: &mut Recorder,
-    state: &L,
+    recorder: &mut Recorder<'_, L>,
     control: Control,
     expression: &Expr,
 ) -> Result<ValueNow, AllocError>
-    ensures { IfOk result (λ value. Hands (now.now_here control expression.now) value (L.answer state.now) recorder.old recorder.new) }
+    ensures { IfOk result (λ value. Hands (now.now_here control expression.now) value L.answer recorder.old recorder.new) }
 {
-    let here = here_in(recorder, state, control, expression)?;
-    let value = value_now(alloc, recorder, state, expression, here)?;
+    let here = here_in(recorder, control, expression)?;
+    let value = value_now(recorder, expression, here)?;
     Ok(value)
 }
 
 /// The value of an expression, where `*` stands for `here`.
 pub fn value_now<L: Lookup>(
-    alloc: Global,
-    recorder: &mut Recorder,
-    state: &L,
+    recorder: &mut Recorder<'_, L>,
     expression: &Expr,
     here: Value,
 ) -> Result<ValueNow, AllocError>
-    ensures { IfOk result (λ value. Hands (now.now expression.now here) value (L.answer state.now) recorder.old recorder.new) }
+    ensures { IfOk result (λ value. Hands (now.now expression.now here) value L.answer recorder.old recorder.new) }
 {
-    let names = names_now(alloc, recorder, state, expression.names())?;
+    let names = names_now(recorder, expression.names())?;
     Ok(value_under(&NamesNow { names }, expression, here))
 }
 
@@ -115,32 +110,27 @@ fn value_under(names: &NamesNow, expression: &Expr, here: Value) -> ValueNow
 
 /// The values of names, in their order.
 fn names_now<L: Lookup>(
-    alloc: Global,
-    recorder: &mut Recorder,
-    state: &L,
+    recorder: &mut Recorder<'_, L>,
     names: &[Name],
 ) -> Result<Vec<NameNow>, AllocError>
-    ensures { IfOk result (λ values. Hands (now.names_now names.now) (values_in values.items) (L.answer state.now) recorder.old recorder.new) }
+    ensures { IfOk result (λ values. Hands (now.names_now names.now) (values_in values.items) L.answer recorder.old recorder.new) }
 {
+    let alloc = recorder.alloc();
     let mut now = Vec::new(alloc);
     for name in names {
-        now.push(name_now(recorder, state, name)?)?;
+        now.push(name_now(recorder, name)?)?;
     }
     Ok(now)
 }
 
-fn name_now<L: Lookup>(
-    recorder: &mut Recorder,
-    state: &L,
-    name: &Name,
-) -> Result<NameNow, AllocError>
-    ensures { IfOk result (λ value. Hands (name_now name.now) value (L.answer state.now) recorder.old recorder.new) }
+fn name_now<L: Lookup>(recorder: &mut Recorder<'_, L>, name: &Name) -> Result<NameNow, AllocError>
+    ensures { IfOk result (λ value. Hands (name_now name.now) value L.answer recorder.old recorder.new) }
 {
-    let label = recorder.ask(state, Key::Label(*name))?;
-    let setting = recorder.ask(state, Key::Setting(*name))?;
+    let label = ask_value(recorder, Key::Label(*name))?;
+    let setting = ask_value(recorder, Key::Setting(*name))?;
     recorder.tell(*name)?;
     Ok(NameNow {
         name: *name,
-        value: value_of(setting.as_ref()).or(value_of(label.as_ref())),
+        value: setting.or(label),
     })
 }

@@ -1,18 +1,18 @@
 //! CON, DATA and DIS: words from the beginning of a word on.
 ghost use Rattle.std.specs.Prelude.{◌≡◌, ◌<◌, ◌^◌, ◌*◌, ◌/◌, ◌+◌, ◌-◌, take, drop, All, IfOk, OnOk};
 ghost use Rattle.cps_expr.specs.Item.{bits_of, characters_in_word, packed_characters};
-ghost use Rattle.cps_state.specs.Course.{Does};
+ghost use Rattle.cps_state.specs.Line.{Does};
 ghost use Rattle.cps_state.specs.Made.{width_of, IsContent};
 ghost use Rattle.cps_effect.specs.Sites.{IsSite};
 ghost use Rattle.cps_effect.specs.Words as meaning;
 
+use crate::front::Front;
 use crate::numbers::{between, no_number_flags, plain_number};
 use crate::places::here_at;
 use crate::placing::{Site, ask_site, place, place_nothing, place_unread, word_start};
 use crate::value_now::value_now;
 use cps_expr::{DisText, Expr, Machine, Sequence, pack_characters};
-use cps_reading::Location;
-use cps_state::{Content, Control, Lookup, Recorder, word_bits};
+use cps_state::{Content, Lookup, Recorder, word_bits};
 use std::alloc::{AllocError, Global};
 
 /// The most words that DIS counts.
@@ -23,55 +23,40 @@ const BLANK: u8 = 0o55;
 
 /// A statement of words with unreadable operands.
 pub fn unread_words<L: Lookup>(
-    alloc: Global,
-    recorder: &mut Recorder,
-    state: &L,
-    control: Control,
-    location: Location,
+    recorder: &mut Recorder<'_, L>,
+    front: Front,
 ) -> Result<(), AllocError>
-    ensures { OnOk result (Does (meaning.unread_words control location) (L.answer state.now) recorder.old recorder.new) }
+    ensures { OnOk result (Does (meaning.unread_words front.control front.location) L.answer recorder.old recorder.new) }
 {
-    let site = ask_site(recorder, state, control, location)?;
-    place_unread(alloc, recorder, state, site, word_start(site))
+    let site = ask_site(recorder, front)?;
+    place_unread(recorder, site, word_start(site))
 }
 
 fn place_words<L: Lookup>(
-    alloc: Global,
-    recorder: &mut Recorder,
-    state: &L,
+    recorder: &mut Recorder<'_, L>,
     site: Site,
     contents: Vec<Content>,
 ) -> Result<(), AllocError>
     requires site { IsSite site }
     requires each { All IsContent contents.items }
     requires some { All (λ content. 0 < width_of content) contents.items }
-    ensures { OnOk result (Does (meaning.words contents.items site) (L.answer state.now) recorder.old recorder.new) }
+    ensures { OnOk result (Does (meaning.words contents.items site) L.answer recorder.old recorder.new) }
 {
-    place(
-        alloc,
-        recorder,
-        state,
-        site,
-        word_start(site),
-        contents,
-        false,
-    )
+    place(recorder, site, word_start(site), contents, false)
 }
 
 /// CON: a word for each value.
 pub fn con<L: Lookup>(
-    alloc: Global,
-    recorder: &mut Recorder,
-    state: &L,
-    control: Control,
-    location: Location,
+    recorder: &mut Recorder<'_, L>,
+    front: Front,
     values: Sequence<Expr>,
 ) -> Result<(), AllocError>
-    ensures { OnOk result (Does (meaning.con control location values) (L.answer state.now) recorder.old recorder.new) }
+    ensures { OnOk result (Does (meaning.con front.control front.location values) L.answer recorder.old recorder.new) }
 {
-    let site = ask_site(recorder, state, control, location)?;
-    let contents = value_words(alloc, control.machine, values)?;
-    place_words(alloc, recorder, state, site, contents)
+    let alloc = recorder.alloc();
+    let site = ask_site(recorder, front)?;
+    let contents = value_words(alloc, front.control.machine, values)?;
+    place_words(recorder, site, contents)
 }
 
 fn value_words(
@@ -93,19 +78,17 @@ fn value_words(
 
 /// DATA: a word for each item.
 pub fn data_words<L: Lookup>(
-    alloc: Global,
-    recorder: &mut Recorder,
-    state: &L,
-    control: Control,
-    location: Location,
+    recorder: &mut Recorder<'_, L>,
+    front: Front,
     numbers: &Sequence<u64>,
 ) -> Result<(), AllocError>
-    requires { All (λ number. number < 2 ^ bits_of control.machine) numbers.now }
-    ensures { OnOk result (Does (meaning.data_words control location numbers.now) (L.answer state.now) recorder.old recorder.new) }
+    requires { All (λ number. number < 2 ^ bits_of front.control.machine) numbers.now }
+    ensures { OnOk result (Does (meaning.data_words front.control front.location numbers.now) L.answer recorder.old recorder.new) }
 {
-    let site = ask_site(recorder, state, control, location)?;
-    let contents = number_words(alloc, control.machine, numbers)?;
-    place_words(alloc, recorder, state, site, contents)
+    let alloc = recorder.alloc();
+    let site = ask_site(recorder, front)?;
+    let contents = number_words(alloc, front.control.machine, numbers)?;
+    place_words(recorder, site, contents)
 }
 
 fn number_words(
@@ -128,44 +111,39 @@ fn number_words(
 
 /// DIS: characters.
 pub fn dis<L: Lookup>(
-    alloc: Global,
-    recorder: &mut Recorder,
-    state: &L,
-    control: Control,
-    location: Location,
+    recorder: &mut Recorder<'_, L>,
+    front: Front,
     text: &DisText,
 ) -> Result<(), AllocError>
-    ensures { OnOk result (Does (meaning.dis control location text.now) (L.answer state.now) recorder.old recorder.new) }
+    ensures { OnOk result (Does (meaning.dis front.control front.location text.now) L.answer recorder.old recorder.new) }
 {
-    let site = ask_site(recorder, state, control, location)?;
+    let alloc = recorder.alloc();
+    let site = ask_site(recorder, front)?;
     match text {
-        DisText::Counted(count, text) => {
-            display_counted(alloc, recorder, state, site, count, text)
-        }
+        DisText::Counted(count, text) => { display_counted(recorder, site, count, text) }
         DisText::Delimited(text) => {
             let contents = delimited_words(alloc, site.machine, text)?;
-            place_words(alloc, recorder, state, site, contents)
+            place_words(recorder, site, contents)
         }
     }
 }
 
 fn display_counted<L: Lookup>(
-    alloc: Global,
-    recorder: &mut Recorder,
-    state: &L,
+    recorder: &mut Recorder<'_, L>,
     site: Site,
     count: &Expr,
     text: &Sequence<u8>,
 ) -> Result<(), AllocError>
     requires { IsSite site }
-    ensures { OnOk result (Does (meaning.displayed (DisText.Counted count.now text.now) site) (L.answer state.now) recorder.old recorder.new) }
+    ensures { OnOk result (Does (meaning.displayed (DisText.Counted count.now text.now) site) L.answer recorder.old recorder.new) }
 {
+    let alloc = recorder.alloc();
     let begun = word_start(site);
     let here = here_at(site.block, begun.start);
-    let value = value_now(alloc, recorder, state, count, here)?;
+    let value = value_now(recorder, count, here)?;
     let Some(count) = between(1, MOST_WORDS, plain_number(value)) else {
         let flags = no_number_flags(site, value);
-        return place_nothing(alloc, recorder, state, site, begun, flags, Vec::new(alloc));
+        return place_nothing(recorder, site, begun, flags, Vec::new(alloc));
     };
     let contents = text_words(
         alloc,
@@ -174,7 +152,7 @@ fn display_counted<L: Lookup>(
         usize::from(count),
         text.as_slice(),
     )?;
-    place_words(alloc, recorder, state, site, contents)
+    place_words(recorder, site, contents)
 }
 
 /// The characters of a word.

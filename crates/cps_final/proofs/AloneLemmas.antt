@@ -17,6 +17,8 @@ use Rattle.cps_code.specs.Operand.{operand_names, operand_literals}
 use Rattle.cps_code.specs.Form.{Form, filled, fits_width, put_value, complemented}
 use Rattle.cps_state.specs.declared.flags.Flags.{Flags}
 use Rattle.cps_state.specs.declared.item.Item.{Item}
+use Rattle.cps_state.specs.declared.item.Stand.{Stand}
+use Rattle.cps_state.specs.declared.item.Stand.TheVariants.{Nowhere, In}
 use Rattle.cps_state.specs.declared.made.Content.{Content}
 use Rattle.cps_state.specs.declared.made.Content.TheVariants as content
 use Rattle.cps_state.specs.declared.made.Held.{Held}
@@ -25,14 +27,15 @@ use Rattle.cps_state.specs.declared.made.Shown.TheVariants as shown
 use Rattle.cps_state.specs.Course.{Trace}
 use Rattle.cps_state.specs.Flags.{joined}
 use Rattle.cps_state.specs.Machines.{limit, behind}
-use Rattle.cps_state.specs.Made.{Made, no_flags, width_of, content_names, content_literals}
+use Rattle.cps_state.specs.Made.{no_flags, width_of, end_of, content_names, content_literals}
 use Rattle.cps_final.specs.declared.row.Row.{Row}
 use Rattle.cps_final.specs.Finals.{block, label, literal}
-use Rattle.cps_final.specs.Values.{Resolved, address_of, base_in, final_of, values_in, literal_in, Known, known_in, plain_offset, value_at, number_at, expression_flags, operand_number, is_valueless, reads_undefined, number_for, form_number, form_flags, number_of, value_flags, first_address}
-use Rattle.cps_final.specs.Rows.{limit_flags, literal_flags, digits_for, first_digits, second_digits, blank_row, row_at, content_rows, with_contents, statement_row, rows_with, rows_made, row_of, rows_of}
-use Rattle.cps_final.specs.Pieces.{pieces_at, zeros_at, placed, content_pieces, contents_of, pieces_of}
+use Rattle.cps_final.specs.Values.{Resolved, address_of, address_in, final_of, values_in, Known, known_in, Standing, standing_of, plain_offset, value_at, number_at, expression_flags, operand_number, is_valueless, reads_undefined, number_for, form_number, form_flags, number_of, value_flags, first_address}
+use Rattle.cps_final.specs.Places.{with_places}
+use Rattle.cps_final.specs.Rows.{limit_flags, literal_flags, digits_for, first_digits, second_digits, blank_row, row_at, later_rows, content_rows, with_contents, statement_row, rows_with, rows_made, row_of, rows_of}
+use Rattle.cps_final.specs.Pieces.{pieces_at, last_word, zeros_at, placed, content_bits, contents_of, pieces_of}
 use Rattle.cps_final.specs.Names.{names_read, names_defined}
-use Rattle.cps_final.specs.Outcome.{outcome_of, blocks_shown, AgreeOnMade, AgreeOnNamed}
+use Rattle.cps_final.specs.Outcome.{outcome_of, blocks_stood, blocks_shown, AgreeOnItem, AgreeOnNamed}
 
 all-head : {T : Type 0} (P : T → Type 0) (x : T) (xs : List T) → All P (x ∷ xs) → P x
 all-head P x xs each = each 0 x (omega arith)
@@ -44,12 +47,15 @@ all-split P (x ∷ xs) ys each =
 
 -- ---- numbers and flags
 
+abbrev stands_at : Known → Machine → ℕ → ℕ → Standing
+stands_at known machine base here = record { known = known; machine = machine; base = base; here = here }
+
 module _ (o f : Known) (here : ℕ) where
   abbrev Same : List Name → Type 0
   Same names = AgreeOn o.symbols f.symbols names
 
-  abbrev Stand : List ℕ → Type 0
-  Stand words = All (λ word. o.literals word ≡ f.literals word) words
+  abbrev SameWords : List ℕ → Type 0
+  SameWords words = All (λ word. o.literals word ≡ f.literals word) words
 
   abbrev names : List Hole → List Name
   names holes = flat_map (λ hole. operand_names hole.operand) holes
@@ -60,7 +66,7 @@ module _ (o f : Known) (here : ℕ) where
   names-split : (xs ys : List Name) → Same (xs ++ ys) → Same xs × Same ys
   names-split xs ys = all-split (λ (name : Name). o.symbols name ≡ f.symbols name) xs ys
 
-  words-split : (xs ys : List ℕ) → Stand (xs ++ ys) → Stand xs × Stand ys
+  words-split : (xs ys : List ℕ) → SameWords (xs ++ ys) → SameWords xs × SameWords ys
   words-split xs ys = all-split (λ (word : ℕ). o.literals word ≡ f.literals word) xs ys
 
   at-same : (terms : Expression) → Same (names_of terms) → value_at o.symbols here terms ≡ value_at f.symbols here terms
@@ -72,7 +78,7 @@ module _ (o f : Known) (here : ℕ) where
   expression-same : (terms : Expression) → Same (names_of terms) → expression_flags o.symbols here terms ≡ expression_flags f.symbols here terms
   expression-same terms agree = λ i. record no_flags { operand = is_none (at-same terms agree i); undefined = undefined-alone o.symbols f.symbols terms agree i }
 
-  operand-same : (x : Operand) → Same (operand_names x) → Stand (operand_literals x) → operand_number o here x ≡ operand_number f here x
+  operand-same : (x : Operand) → Same (operand_names x) → SameWords (operand_literals x) → operand_number o here x ≡ operand_number f here x
   operand-same (operand.Expression terms) agree stand = number_at-same terms agree
   operand-same (operand.Literal word) agree stand = ap pos (all-head (λ (w : ℕ). o.literals w ≡ f.literals w) word [] stand)
 
@@ -84,7 +90,7 @@ module _ (o f : Known) (here : ℕ) where
   undefined-same (operand.Expression terms) agree = undefined-alone o.symbols f.symbols terms agree
   undefined-same (operand.Literal word) agree = refl
 
-  numbers-same : (holes : List Hole) → Same (names holes) → Stand (words holes)
+  numbers-same : (holes : List Hole) → Same (names holes) → SameWords (words holes)
       → map (λ hole. number_for hole.kind here (operand_number o here hole.operand)) holes ≡ map (λ hole. number_for hole.kind here (operand_number f here hole.operand)) holes
   numbers-same [] agree stand = refl
   numbers-same (hole ∷ holes) agree stand =
@@ -99,24 +105,24 @@ module _ (o f : Known) (here : ℕ) where
       let split = names-split (operand_names hole.operand) (names holes) agree in
       λ i. same hole.operand split.0 i || any-same p q same holes split.1 i
 
-  form_number-same : (form : Form) → Same (names form.holes) → Stand (words form.holes) → form_number o here form ≡ form_number f here form
+  form_number-same : (form : Form) → Same (names form.holes) → SameWords (words form.holes) → form_number o here form ≡ form_number f here form
   form_number-same form agree stand = λ i. (filled form (numbers-same form.holes agree stand i)).digits
 
-  form_flags-same : (form : Form) → Same (names form.holes) → Stand (words form.holes) → form_flags o here form ≡ form_flags f here form
+  form_flags-same : (form : Form) → Same (names form.holes) → SameWords (words form.holes) → form_flags o here form ≡ form_flags f here form
   form_flags-same form agree stand = λ i. record no_flags {
     operand = any-same (is_valueless o here) (is_valueless f here) valueless-same form.holes agree i || (filled form (numbers-same form.holes agree stand i)).is_out_of_range;
     cut = (filled form (numbers-same form.holes agree stand i)).is_truncated;
     undefined = any-same (reads_undefined o) (reads_undefined f) undefined-same form.holes agree i;
   }
 
-  number-same : (c : Content) → Same (content_names c) → Stand (content_literals c) → number_of o here c ≡ number_of f here c
+  number-same : (c : Content) → Same (content_names c) → SameWords (content_literals c) → number_of o here c ≡ number_of f here c
   number-same (content.Instruction form) agree stand = form_number-same form agree stand
   number-same (content.Peripheral form) agree stand = form_number-same form agree stand
   number-same (content.Value width terms) agree stand = ap (put_value width) (number_at-same terms agree)
   number-same (content.Number width number) agree stand = refl
   number-same (content.Unsized terms) agree stand = refl
 
-  flags-same : (c : Content) → Same (content_names c) → Stand (content_literals c) → value_flags o here c ≡ value_flags f here c
+  flags-same : (c : Content) → Same (content_names c) → SameWords (content_literals c) → value_flags o here c ≡ value_flags f here c
   flags-same (content.Instruction form) agree stand = form_flags-same form agree stand
   flags-same (content.Peripheral form) agree stand = form_flags-same form agree stand
   flags-same (content.Value width terms) agree stand =
@@ -124,23 +130,23 @@ module _ (o f : Known) (here : ℕ) where
   flags-same (content.Number width number) agree stand = refl
   flags-same (content.Unsized terms) agree stand = expression-same terms agree
 
-  far-same : (machine : Machine) (ws : List ℕ) → Stand ws → list_any (λ word. nat_le (limit machine) (o.literals word)) ws ≡ list_any (λ word. nat_le (limit machine) (f.literals word)) ws
+  far-same : (machine : Machine) (ws : List ℕ) → SameWords ws → list_any (λ word. nat_le (limit machine) (o.literals word)) ws ≡ list_any (λ word. nat_le (limit machine) (f.literals word)) ws
   far-same machine [] stand = refl
   far-same machine (word ∷ ws) stand =
       let own = all-head (λ (w : ℕ). o.literals w ≡ f.literals w) word ws stand in
       let rest = far-same machine ws (All-tail (λ (w : ℕ). o.literals w ≡ f.literals w) word ws stand) in
       λ i. nat_le (limit machine) (own i) || rest i
 
-  literal_flags-same : (machine : Machine) (c : Content) → Stand (content_literals c) → literal_flags o.literals machine c ≡ literal_flags f.literals machine c
+  literal_flags-same : (machine : Machine) (c : Content) → SameWords (content_literals c) → literal_flags o.literals machine c ≡ literal_flags f.literals machine c
   literal_flags-same machine c stand = λ i. record no_flags { structure = far-same machine (content_literals c) stand i }
 
   contents-split : (c : Content) (contents : List Content) → Same (flat_map content_names (c ∷ contents)) → Same (content_names c) × Same (flat_map content_names contents)
   contents-split c contents = names-split (content_names c) (flat_map content_names contents)
 
-  literals-split : (c : Content) (contents : List Content) → Stand (flat_map content_literals (c ∷ contents)) → Stand (content_literals c) × Stand (flat_map content_literals contents)
+  literals-split : (c : Content) (contents : List Content) → SameWords (flat_map content_literals (c ∷ contents)) → SameWords (content_literals c) × SameWords (flat_map content_literals contents)
   literals-split c contents = words-split (content_literals c) (flat_map content_literals contents)
 
-  with-same : (flags : Flags) (contents : List Content) → Same (flat_map content_names contents) → Stand (flat_map content_literals contents)
+  with-same : (flags : Flags) (contents : List Content) → Same (flat_map content_names contents) → SameWords (flat_map content_literals contents)
       → with_contents o here flags contents ≡ with_contents f here flags contents
   with-same flags [] agree stand = refl
   with-same flags (c ∷ contents) agree stand =
@@ -149,17 +155,48 @@ module _ (o f : Known) (here : ℕ) where
       ap (λ (own : Flags). with_contents o here (joined flags own) contents) (flags-same c split.0 literals.0)
       ∙ with-same (joined flags (value_flags f here c)) contents split.1 literals.1
 
-  row-same : (machine : Machine) (flags : Flags) (is_later : Bool) (address : ℕ) (c : Content) → Same (content_names c) → Stand (content_literals c)
-      → row_at o machine flags is_later here address c ≡ row_at f machine flags is_later here address c
-  row-same machine flags is_later address c agree stand = λ i. record {
-    flags = joined (joined (joined flags (flags-same c agree stand i)) (literal_flags-same machine c stand i)) (limit_flags machine address);
-    location = Some address;
+  -- ---- contents at one address
+
+  row-same : (machine : Machine) (base : ℕ) (flags : Flags) (is_later : Bool) (at : ℕ) (c : Content) → Same (content_names c) → SameWords (content_literals c)
+      → row_at (stands_at o machine base here) flags is_later at c ≡ row_at (stands_at f machine base here) flags is_later at c
+  row-same machine base flags is_later at c agree stand = λ i. record {
+    flags = joined (joined (joined flags (flags-same c agree stand i)) (literal_flags-same machine c stand i)) (limit_flags machine (base + at / 60));
+    location = Some (base + at / 60);
     code = Some (first_digits c (number-same c agree stand i));
     second = second_digits c (number-same c agree stand i);
     is_later = is_later;
     depth = 0;
     text = [];
   }
+
+  later-same : (machine : Machine) (base at : ℕ) (contents : List Content) → Same (flat_map content_names contents) → SameWords (flat_map content_literals contents)
+      → later_rows (stands_at o machine base here) (with_places machine at contents) ≡ later_rows (stands_at f machine base here) (with_places machine at contents)
+  later-same machine base at [] agree stand = refl
+  later-same machine base at (c ∷ contents) agree stand =
+      let split = contents-split c contents agree in
+      let literals = literals-split c contents stand in
+      let own = row-same machine base no_flags true at c split.0 literals.0 in
+      λ i. own i ∷ later-same machine base (behind machine at (width_of c)) contents split.1 literals.1 i
+
+  content_rows-same : (machine : Machine) (base : ℕ) (flags : Flags) (at : ℕ) (contents : List Content)
+      → Same (flat_map content_names contents) → SameWords (flat_map content_literals contents)
+      → content_rows (stands_at o machine base here) flags (with_places machine at contents) ≡ content_rows (stands_at f machine base here) flags (with_places machine at contents)
+  content_rows-same machine base flags at [] agree stand = refl
+  content_rows-same machine base flags at (c ∷ contents) agree stand =
+      let split = contents-split c contents agree in
+      let literals = literals-split c contents stand in
+      let own = row-same machine base flags false at c split.0 literals.0 in
+      λ i. own i ∷ later-same machine base (behind machine at (width_of c)) contents split.1 literals.1 i
+
+  bits-same : (machine : Machine) (base at : ℕ) (contents : List Content) → Same (flat_map content_names contents) → SameWords (flat_map content_literals contents)
+      → flat_map (content_bits (stands_at o machine base here)) (with_places machine at contents)
+      ≡ flat_map (content_bits (stands_at f machine base here)) (with_places machine at contents)
+  bits-same machine base at [] agree stand = refl
+  bits-same machine base at (c ∷ contents) agree stand =
+      let split = contents-split c contents agree in
+      let literals = literals-split c contents stand in
+      let number = number-same c split.0 literals.0 in
+      λ i. pieces_at machine at (width_of c) (number i) ++ bits-same machine base (behind machine at (width_of c)) contents split.1 literals.1 i
 
 -- ---- symbols
 
@@ -206,123 +243,97 @@ module _ (others finals : Resolved) (name : Name) where
       value-first h held (all-head (Stands others finals) h.value.block blocks stand) agree
       (value-same held (All-tail (Stands others finals) h.value.block blocks stand)) (same_name h.name name) refl
 
--- ways of giving final values that agree on what a statement names give the same values and addresses in it
-module _ (others finals : Resolved) (made : Made) (agree : AgreeOnMade others finals made) where
-  blocks-split : All (Stands others finals) (made.block ∷ blocks_shown made.shown) × All (Stands others finals) (map (λ h. h.value.block) made.held)
-  blocks-split = all-split (Stands others finals) (made.block ∷ blocks_shown made.shown) (map (λ h. h.value.block) made.held) agree.blocks
-
-  symbols-same : AgreeOn (values_in others made.held) (values_in finals made.held) (flat_map content_names made.contents)
-  symbols-same =
-      let read = all-kept (λ (name : Name). others (label name) ≡ finals (label name)) (λ name. not (is_held made.held name)) (flat_map content_names made.contents) agree.labels in
-      all-so (λ name. not (is_held made.held name) ≡ true → others (label name) ≡ finals (label name)) (λ name. values_in others made.held name ≡ values_in finals made.held name)
-      (λ name same. value-same others finals name made.held blocks-split.1 (λ none. same (ap not none))) (flat_map content_names made.contents) read
-
-  literals-same : All (λ word. literal_in others word ≡ literal_in finals word) (flat_map content_literals made.contents)
-  literals-same =
-      all-so (λ word. others (literal word) ≡ finals (literal word)) (λ word. literal_in others word ≡ literal_in finals word) (λ word same. ap address_of same)
-      (flat_map content_literals made.contents) agree.literals
+address-same : (others finals : Resolved) (stand : Stand) → All (Stands others finals) (blocks_stood stand) → address_in others stand ≡ address_in finals stand
+address-same others finals Nowhere agree = refl
+address-same others finals (In name) agree = ap address_of (all-head (Stands others finals) name [] agree)
 
 -- ---- rows and bits
 
-module _ (others finals : Resolved) (made : Made) (base : base_in others made.block ≡ base_in finals made.block) where
+-- ways of giving final values that agree on what a statement names give the same values and addresses in it
+module _ (others finals : Resolved) (item : Item) (agree : AgreeOnItem others finals item) where
   abbrev o : Known
-  o = known_in others made
+  o = known_in others item.made
 
   abbrev f : Known
-  f = known_in finals made
+  f = known_in finals item.made
 
-  abbrev Agrees : List Content → Type 0
-  Agrees contents = AgreeOn o.symbols f.symbols (flat_map content_names contents)
+  abbrev here : ℕ
+  here = first_address finals item
 
-  abbrev AllStand : List Content → Type 0
-  AllStand contents = All (λ word. o.literals word ≡ f.literals word) (flat_map content_literals contents)
+  own-blocks : All (Stands others finals) (blocks_stood item.stand ++ blocks_shown item.made.shown) × All (Stands others finals) (map (λ h. h.value.block) item.made.held)
+  own-blocks = all-split (Stands others finals) (blocks_stood item.stand ++ blocks_shown item.made.shown) (map (λ h. h.value.block) item.made.held) agree.blocks
 
-  first-same : first_address others made ≡ first_address finals made
-  first-same = ap (λ (n : ℕ). n + made.start / 60) base
+  row-blocks : All (Stands others finals) (blocks_stood item.stand) × All (Stands others finals) (blocks_shown item.made.shown)
+  row-blocks = all-split (Stands others finals) (blocks_stood item.stand) (blocks_shown item.made.shown) own-blocks.0
 
-  content_rows-same : (flags : Flags) (is_later : Bool) (at : ℕ) (contents : List Content) → Agrees contents → AllStand contents
-      → content_rows others made flags is_later at contents ≡ content_rows finals made flags is_later at contents
-  content_rows-same flags is_later at [] agree stand = refl
-  content_rows-same flags is_later at (c ∷ contents) agree stand =
-      let here = first_address finals made in
-      let next = behind made.machine at (width_of c) in
-      let split = contents-split o f here c contents agree in
-      let literals = literals-split o f here c contents stand in
-      let moved : row_at o made.machine flags is_later (first_address others made) (base_in others made.block + at / 60) c
-      ≡ row_at o made.machine flags is_later here (base_in finals made.block + at / 60) c =
-      λ i. row_at o made.machine flags is_later (first-same i) (base i + at / 60) c in
-      let own = moved ∙ row-same o f here made.machine flags is_later (base_in finals made.block + at / 60) c split.0 literals.0 in
-      λ i. own i ∷ content_rows-same no_flags true next contents split.1 literals.1 i
+  symbols-same : AgreeOn o.symbols f.symbols (flat_map content_names item.made.contents)
+  symbols-same =
+      let names = flat_map content_names item.made.contents in
+      let held = item.made.held in
+      let read = all-kept (λ (name : Name). others (label name) ≡ finals (label name)) (λ name. not (is_held held name)) names agree.labels in
+      all-so (λ name. not (is_held held name) ≡ true → others (label name) ≡ finals (label name)) (λ name. o.symbols name ≡ f.symbols name)
+      (λ name same. value-same others finals name held own-blocks.1 (λ none. same (ap not none))) names read
 
-  blank-same : (contents : List Content) → Agrees contents → AllStand contents
-      → with_contents o (first_address others made) made.flags contents ≡ with_contents f (first_address finals made) made.flags contents
-  blank-same contents agree stand =
-      ap (λ (n : ℕ). with_contents o n made.flags contents) first-same ∙ with-same o f (first_address finals made) made.flags contents agree stand
+  literals-same : All (λ word. o.literals word ≡ f.literals word) (flat_map content_literals item.made.contents)
+  literals-same =
+      all-so (λ word. others (literal word) ≡ finals (literal word)) (λ word. o.literals word ≡ f.literals word) (λ word same. ap address_of same)
+      (flat_map content_literals item.made.contents) agree.literals
 
-  bits-same : (at : ℕ) (contents : List Content) → Agrees contents → AllStand contents → content_pieces others made at contents ≡ content_pieces finals made at contents
-  bits-same at [] agree stand = refl
-  bits-same at (c ∷ contents) agree stand =
-      let here = first_address finals made in
-      let split = contents-split o f here c contents agree in
-      let literals = literals-split o f here c contents stand in
-      let number = ap (λ (n : ℕ). number_of o n c) first-same ∙ number-same o f here c split.0 literals.0 in
-      λ i. pieces_at made.machine at (width_of c) (number i) ++ bits-same (behind made.machine at (width_of c)) contents split.1 literals.1 i
+  base-same : address_in others item.stand ≡ address_in finals item.stand
+  base-same = address-same others finals item.stand row-blocks.0
 
-  contents_of-same : Agrees made.contents → AllStand made.contents → contents_of others made ≡ contents_of finals made
-  contents_of-same agree stand = λ i. if made.only_flags then [] else bits-same made.start made.contents agree stand i
+  first-same : first_address others item ≡ here
+  first-same = ap (λ (n : ℕ). n + item.made.start / 60) base-same
 
-  statement-same : (shows : Shown) → All (Stands others finals) (blocks_shown shows) → statement_row others made shows ≡ statement_row finals made shows
-  statement-same shown.Nothing agree = refl
-  statement-same (shown.Value value) agree =
-      let same = final-same others finals value (all-head (Stands others finals) value.block [] agree) in
-      λ i. record (blank_row made.flags) { code = option_map (λ (v : Value). digits_for word_bits (complemented word_bits v.offset)) (same i) }
-  statement-same (shown.Address value) agree =
-      let same = final-same others finals value (all-head (Stands others finals) value.block [] agree) in
-      λ i. record (blank_row made.flags) { location = option_map (λ (v : Value). nat_abs v.offset) (same i) }
-  statement-same shown.Start agree =
-      λ i. record (blank_row (joined made.flags (limit_flags made.machine (first-same i)))) { location = Some (first-same i) }
+  standing-same : standing_of others item ≡ stands_at o item.made.machine (address_in finals item.stand) here
+  standing-same = λ i. record { known = o; machine = item.made.machine; base = base-same i; here = first-same i }
 
-module _ (others finals : Resolved) (made : Made) (agree : AgreeOnMade others finals made) where
-  own-blocks : All (Stands others finals) (made.block ∷ blocks_shown made.shown)
-  own-blocks = (blocks-split others finals made agree).0
+  statement-same : (shows : Shown) → All (Stands others finals) (blocks_shown shows) → statement_row others item shows ≡ statement_row finals item shows
+  statement-same shown.Nothing blocks = refl
+  statement-same (shown.Value value) blocks =
+      let same = final-same others finals value (all-head (Stands others finals) value.block [] blocks) in
+      λ i. record (blank_row item.made.flags) { code = option_map (λ (v : Value). digits_for word_bits (complemented word_bits v.offset)) (same i) }
+  statement-same (shown.Address value) blocks =
+      let same = final-same others finals value (all-head (Stands others finals) value.block [] blocks) in
+      λ i. record (blank_row item.made.flags) { location = option_map (λ (v : Value). nat_abs v.offset) (same i) }
+  statement-same shown.Start blocks =
+      λ i. record (blank_row (joined item.made.flags (limit_flags item.made.machine (first-same i)))) { location = Some (first-same i) }
 
-  here-same : base_in others made.block ≡ base_in finals made.block
-  here-same = ap address_of (all-head (Stands others finals) made.block (blocks_shown made.shown) own-blocks)
-
-  rows_with-same : (contents : List Content) → Agrees others finals made here-same contents → AllStand others finals made here-same contents
-      → rows_with others made contents ≡ rows_with finals made contents
-  rows_with-same [] names literals =
-      ap (λ (r : Row). r ∷ []) (statement-same others finals made here-same made.shown
-      (All-tail (Stands others finals) made.block (blocks_shown made.shown) own-blocks))
+  rows_with-same : (contents : List Content) → AgreeOn o.symbols f.symbols (flat_map content_names contents) → All (λ word. o.literals word ≡ f.literals word) (flat_map content_literals contents)
+      → rows_with others item contents ≡ rows_with finals item contents
+  rows_with-same [] names literals = ap (λ (r : Row). r ∷ []) (statement-same item.made.shown row-blocks.1)
   rows_with-same (c ∷ contents) names literals =
-      λ i. if made.only_flags then blank_row (blank-same others finals made here-same (c ∷ contents) names literals i) ∷ []
-      else content_rows-same others finals made here-same made.flags false made.start (c ∷ contents) names literals i
+      let base = address_in finals item.stand in
+      ap (λ (s : Standing). if item.made.only_flags then blank_row (with_contents s.known s.here item.made.flags (c ∷ contents)) ∷ []
+      else content_rows s item.made.flags (with_places s.machine item.made.start (c ∷ contents))) standing-same
+      ∙ (λ i. if item.made.only_flags then blank_row (with-same o f here item.made.flags (c ∷ contents) names literals i) ∷ []
+      else content_rows-same o f here item.made.machine base item.made.flags item.made.start (c ∷ contents) names literals i)
 
-  rows-same : rows_made others made ≡ rows_made finals made
-  rows-same = rows_with-same made.contents (symbols-same others finals made agree) (literals-same others finals made agree)
+  rows-same : rows_made others item ≡ rows_made finals item
+  rows-same = rows_with-same item.made.contents symbols-same literals-same
 
-  pieces-same : pieces_of others made ≡ pieces_of finals made
+  pieces-same : pieces_of others item ≡ pieces_of finals item
   pieces-same =
-      let names = symbols-same others finals made agree in
-      let literals = literals-same others finals made agree in
-      λ i. flat_map (placed made.machine (here-same i))
-      (made.filling ++ zeros_at made.machine made.start made.zeros ++ contents_of-same others finals made here-same names literals i)
+      let made = item.made in
+      let base = address_in finals item.stand in
+      ap (λ (s : Standing). flat_map (placed made.machine s.base) (made.filling ++ zeros_at made.machine made.start made.zeros ++ contents_of s made)) standing-same
+      ∙ (λ i. flat_map (placed made.machine base) (made.filling ++ zeros_at made.machine made.start made.zeros
+      ++ (if made.only_flags then [] else bits-same o f here made.machine base made.start made.contents symbols-same literals-same i
+      ++ last_word made.machine (end_of made.machine made.start made.contents))))
 
 -- ---- a line
 
-all-rows-same : (others finals : Resolved) (items : List Item) → All (λ item. AgreeOnMade others finals item.made) items
-    → flat_map (rows_of others) items ≡ flat_map (rows_of finals) items
+all-rows-same : (others finals : Resolved) (items : List Item) → All (AgreeOnItem others finals) items → flat_map (rows_of others) items ≡ flat_map (rows_of finals) items
 all-rows-same others finals [] agree = refl
 all-rows-same others finals (item ∷ items) agree =
-    λ i. map (row_of item) (rows-same others finals item.made (all-head (λ (item : Item). AgreeOnMade others finals item.made) item items agree) i)
-    ++ all-rows-same others finals items (All-tail (λ (item : Item). AgreeOnMade others finals item.made) item items agree) i
+    λ i. map (row_of item) (rows-same others finals item (all-head (AgreeOnItem others finals) item items agree) i)
+    ++ all-rows-same others finals items (All-tail (AgreeOnItem others finals) item items agree) i
 
-all-pieces-same : (others finals : Resolved) (items : List Item) → All (λ item. AgreeOnMade others finals item.made) items
-    → flat_map (λ item. pieces_of others item.made) items ≡ flat_map (λ item. pieces_of finals item.made) items
+all-pieces-same : (others finals : Resolved) (items : List Item) → All (AgreeOnItem others finals) items → flat_map (pieces_of others) items ≡ flat_map (pieces_of finals) items
 all-pieces-same others finals [] agree = refl
 all-pieces-same others finals (item ∷ items) agree =
-    λ i. pieces-same others finals item.made (all-head (λ (item : Item). AgreeOnMade others finals item.made) item items agree) i
-    ++ all-pieces-same others finals items (All-tail (λ (item : Item). AgreeOnMade others finals item.made) item items agree) i
+    λ i. pieces-same others finals item (all-head (AgreeOnItem others finals) item items agree) i
+    ++ all-pieces-same others finals items (All-tail (AgreeOnItem others finals) item items agree) i
 
 pub outcome-alone : (others finals : Resolved) (trace : Trace) → AgreeOnNamed others finals trace → outcome_of others trace ≡ outcome_of finals trace
 outcome-alone others finals trace agree = λ i. record {

@@ -1,5 +1,5 @@
 -- Pass two, one content or one statement further.
-use Rattle.std.proofs.Common.{◌≡◌, ℕ, ◌+◌, ◌*◌, ◌/◌, ◌<◌, ◌≤◌, Bool, true, false, List, [], ◌∷◌, ◌++◌, length, get_or, take, drop, flat_map, refl, sym, ap, subst, ◌∙◌, arith, append-nil, append_assoc}
+use Rattle.std.proofs.Common.{◌≡◌, ℕ, ◌+◌, ◌*◌, ◌<◌, ◌≤◌, Bool, true, false, List, [], ◌∷◌, ◌++◌, length, get_or, take, drop, flat_map, refl, sym, ap, subst, ◌∙◌, arith, append-nil, append_assoc}
 use Rattle.std.specs.Prelude.{map, if◌then◌else◌}
 use Rattle.std.proofs.lemmas.Grind.{flat_map-append}
 use Rattle.std.proofs.lemmas.List.{take_more, take_all, drop_more}
@@ -19,8 +19,9 @@ use Rattle.cps_code.specs.Image.{Piece}
 use Rattle.cps_state.specs.Made.{Made, no_flags, width_of, end_of, HaveRoom}
 use Rattle.cps_state.proofs.PlaceLemmas.{end-not-before, end-next}
 use Rattle.cps_final.specs.declared.row.Row.{Row}
-use Rattle.cps_final.specs.Values.{Resolved, known_in, Known, base_in, first_address}
-use Rattle.cps_final.specs.Rows.{row_at, content_rows, with_contents, blank_row, rows_with, rows_made, row_of, rows_of}
+use Rattle.cps_final.specs.Values.{Resolved, known_in, Standing, standing_of, first_address}
+use Rattle.cps_final.specs.Places.{with_places}
+use Rattle.cps_final.specs.Rows.{row_at, later_rows, content_rows, with_contents, blank_row, rows_with, rows_made, row_of, rows_of}
 use Rattle.cps_final.specs.Pieces.{pieces_of}
 use Rattle.cps_final.specs.Names.{later_names, symbol_put, names_read, names_defined}
 use Rattle.cps_final.specs.Outcome.{outcome_of, joined_with}
@@ -38,78 +39,99 @@ room-first machine made at of starts room =
     let after = end-not-before machine at made.contents in
     (omega (arith, after, ends), ends)
 
--- the content at an index, its row, and the place behind it
-pub record Step (finals : Resolved) (made : Made) (machine : Machine) (flags : Flags) (is_later : Bool) (at next i : ℕ) (content : Content) (row : Row) : Type 0 where
-  pub of : machine ≡ made.machine
-  pub within : i < length made.contents
-  pub is : content ≡ get_or made.contents i content
-  pub moved : next ≡ behind machine at (width_of content)
-  pub shows : row ≡ row_at (known_in finals made) made.machine flags is_later (first_address finals made) (base_in finals made.block + at / 60) content
+-- the rows from a place on, where the first has these flags
+abbrev pub rows_from : Standing → Flags → Bool → ℕ → List Content → List Row
+rows_from standing flags is_later at [] = []
+rows_from standing flags is_later at (content ∷ contents) =
+    row_at standing flags is_later at content ∷ rows_from standing no_flags true (behind standing.machine at (width_of content)) contents
+
+rows_from-later : (standing : Standing) (at : ℕ) (contents : List Content)
+    → rows_from standing no_flags true at contents ≡ later_rows standing (with_places standing.machine at contents)
+rows_from-later standing at [] = refl
+rows_from-later standing at (content ∷ contents) =
+    ap (λ (l : List Row). row_at standing no_flags true at content ∷ l) (rows_from-later standing (behind standing.machine at (width_of content)) contents)
+
+pub rows_from-first : (standing : Standing) (flags : Flags) (at : ℕ) (contents : List Content)
+    → rows_from standing flags false at contents ≡ content_rows standing flags (with_places standing.machine at contents)
+rows_from-first standing flags at [] = refl
+rows_from-first standing flags at (content ∷ contents) =
+    ap (λ (l : List Row). row_at standing flags false at content ∷ l) (rows_from-later standing (behind standing.machine at (width_of content)) contents)
 
 -- the same from what the code worked out
-pub step : (finals : Resolved) (made : Made) (machine : Machine) (flags : Flags) (is_later : Bool) (base here word at next width i : ℕ) (contents : List Content) (content : Content) (row : Row)
-    → machine ≡ made.machine → base ≡ base_in finals made.block → here ≡ base + made.start / 60 → word ≡ at / 60
-    → contents ≡ made.contents → i < length contents → content ≡ get_or contents i content → width ≡ width_of content → next ≡ behind machine at width
-    → row ≡ row_at (known_in finals made) made.machine flags is_later here (base + word) content
-    → Step finals made machine flags is_later at next i content row
-step finals made machine flags is_later base here word at next width i contents content row of based starts counts same lt is wide moved shows = record {
+pub rows_from-given : (standing found : Standing) (flags own : Flags) (start at : ℕ) (contents : List Content) → found ≡ standing → own ≡ flags → at ≡ start
+    → rows_from found own false at contents ≡ content_rows standing flags (with_places standing.machine start contents)
+rows_from-given standing found flags own start at contents of given starts =
+    (λ i. rows_from (of i) (given i) false (starts i) contents) ∙ rows_from-first standing flags start contents
+
+-- the content at an index, its row, and the place after it
+pub record Step (standing : Standing) (contents : List Content) (machine : Machine) (flags : Flags) (is_later : Bool) (at next i : ℕ) (content : Content) (row : Row) : Type 0 where
+  pub of : machine ≡ standing.machine
+  pub within : i < length contents
+  pub is : content ≡ get_or contents i content
+  pub moved : next ≡ behind machine at (width_of content)
+  pub shows : row ≡ row_at standing flags is_later at content
+
+-- the same from what the code worked out
+pub step : (standing : Standing) (contents walked : List Content) (machine : Machine) (flags : Flags) (is_later : Bool) (at next width i : ℕ) (content : Content) (row : Row)
+    → machine ≡ standing.machine → walked ≡ contents → i < length walked → content ≡ get_or walked i content → width ≡ width_of content → next ≡ behind machine at width
+    → row ≡ row_at standing flags is_later at content → Step standing contents machine flags is_later at next i content row
+step standing contents walked machine flags is_later at next width i content row of same lt is wide moved shows = record {
   of = of;
   within = subst (λ (l : List Content). i < length l) same lt;
   is = is ∙ ap (λ (l : List Content). get_or l i content) same;
   moved = moved ∙ ap (behind machine at) wide;
-  shows = shows
-      ∙ (λ j. row_at (known_in finals made) made.machine flags is_later ((starts ∙ ap (λ (n : ℕ). n + made.start / 60) based) j) (based j + counts j) content);
+  shows = shows;
 }
 
-module _ (finals : Resolved) (made : Made) (machine : Machine) (flags : Flags) (is_later : Bool) (at next i : ℕ) (content : Content) (row : Row)
-    (so : Step finals made machine flags is_later at next i content row) where
-  pub room-next : end_of machine at (drop i made.contents) ≤ 60 * limit machine
-      → (next ≤ 60 * limit machine) × (end_of machine next (drop (i + 1) made.contents) ≤ 60 * limit machine)
+module _ (standing : Standing) (contents : List Content) (machine : Machine) (flags : Flags) (is_later : Bool) (at next i : ℕ) (content : Content) (row : Row)
+    (so : Step standing contents machine flags is_later at next i content row) where
+  pub room-next : end_of machine at (drop i contents) ≤ 60 * limit machine
+      → (next ≤ 60 * limit machine) × (end_of machine next (drop (i + 1) contents) ≤ 60 * limit machine)
   room-next room =
-      let same = end-next machine at next (end_of machine at (drop i made.contents)) made.contents i content so.within so.is so.moved refl in
-      let ends : end_of machine next (drop (i + 1) made.contents) ≤ 60 * limit machine = subst (λ (n : ℕ). n ≤ 60 * limit machine) (sym same) room in
-      let after = end-not-before machine next (drop (i + 1) made.contents) in
+      let same = end-next machine at next (end_of machine at (drop i contents)) contents i content so.within so.is so.moved refl in
+      let ends : end_of machine next (drop (i + 1) contents) ≤ 60 * limit machine = subst (λ (n : ℕ). n ≤ 60 * limit machine) (sym same) room in
+      let after = end-not-before machine next (drop (i + 1) contents) in
       (omega (arith, after, ends), ends)
 
-  -- the rows from a content on are its own and those behind it
-  rows-more : content_rows finals made flags is_later at (drop i made.contents) ≡ row ∷ content_rows finals made no_flags true next (drop (i + 1) made.contents)
+  -- the rows from a content on are its own and those after it
+  rows-more : rows_from standing flags is_later at (drop i contents) ≡ row ∷ rows_from standing no_flags true next (drop (i + 1) contents)
   rows-more =
-      let moved : next ≡ behind made.machine at (width_of content) = so.moved ∙ ap (λ (m : Machine). behind m at (width_of content)) so.of in
-      ap (content_rows finals made flags is_later at) (drop_more made.contents i content so.within)
-      ∙ ap (λ (c : Content). row_at (known_in finals made) made.machine flags is_later (first_address finals made) (base_in finals made.block + at / 60) c
-      ∷ content_rows finals made no_flags true (behind made.machine at (width_of c)) (drop (i + 1) made.contents)) (sym so.is)
-      ∙ (λ j. sym so.shows j ∷ content_rows finals made no_flags true (sym moved j) (drop (i + 1) made.contents))
+      let moved : next ≡ behind standing.machine at (width_of content) = so.moved ∙ ap (λ (m : Machine). behind m at (width_of content)) so.of in
+      ap (rows_from standing flags is_later at) (drop_more contents i content so.within)
+      ∙ ap (λ (c : Content). row_at standing flags is_later at c
+      ∷ rows_from standing no_flags true (behind standing.machine at (width_of c)) (drop (i + 1) contents)) (sym so.is)
+      ∙ (λ j. sym so.shows j ∷ rows_from standing no_flags true (sym moved j) (drop (i + 1) contents))
 
   pub rows-next : (item : Item) (rows new end : List Row) (next_flags : Flags) → new ≡ rows ++ row_of item row ∷ [] → next_flags ≡ no_flags
-      → rows ++ map (row_of item) (content_rows finals made flags is_later at (drop i made.contents)) ≡ end
-      → new ++ map (row_of item) (content_rows finals made next_flags true next (drop (i + 1) made.contents)) ≡ end
+      → rows ++ map (row_of item) (rows_from standing flags is_later at (drop i contents)) ≡ end
+      → new ++ map (row_of item) (rows_from standing next_flags true next (drop (i + 1) contents)) ≡ end
   rows-next item rows new end next_flags pushed none so_far =
-      let rest = map (row_of item) (content_rows finals made no_flags true next (drop (i + 1) made.contents)) in
-      ap (λ (f : Flags). new ++ map (row_of item) (content_rows finals made f true next (drop (i + 1) made.contents))) none
+      let rest = map (row_of item) (rows_from standing no_flags true next (drop (i + 1) contents)) in
+      ap (λ (f : Flags). new ++ map (row_of item) (rows_from standing f true next (drop (i + 1) contents))) none
       ∙ ap (λ (l : List Row). l ++ rest) pushed ∙ append_assoc rows (row_of item row ∷ []) rest
       ∙ sym (ap (λ (l : List Row). rows ++ map (row_of item) l) rows-more) ∙ so_far
 
   pub flags-next : (all new end next_flags : Flags) → new ≡ joined all row.flags → next_flags ≡ no_flags
-      → joined_with all (content_rows finals made flags is_later at (drop i made.contents)) ≡ end
-      → joined_with new (content_rows finals made next_flags true next (drop (i + 1) made.contents)) ≡ end
+      → joined_with all (rows_from standing flags is_later at (drop i contents)) ≡ end
+      → joined_with new (rows_from standing next_flags true next (drop (i + 1) contents)) ≡ end
   flags-next all new end next_flags joins none so_far =
-      ap (λ (f : Flags). joined_with new (content_rows finals made f true next (drop (i + 1) made.contents))) none
-      ∙ ap (λ (f : Flags). joined_with f (content_rows finals made no_flags true next (drop (i + 1) made.contents))) joins
+      ap (λ (f : Flags). joined_with new (rows_from standing f true next (drop (i + 1) contents))) none
+      ∙ ap (λ (f : Flags). joined_with f (rows_from standing no_flags true next (drop (i + 1) contents))) joins
       ∙ sym (ap (joined_with all) rows-more) ∙ so_far
 
 -- the row of contents that only give flags
-pub flags-row : (finals : Resolved) (made : Made) (contents : List Content) → 0 < length contents → made.only_flags ≡ true
-    → rows_with finals made contents ≡ blank_row (with_contents (known_in finals made) (first_address finals made) made.flags contents) ∷ []
-flags-row finals made [] some only = absurd (omega (arith, some))
-flags-row finals made (content ∷ contents) some only =
-    ap (λ (b : Bool). if b then blank_row (with_contents (known_in finals made) (first_address finals made) made.flags (content ∷ contents)) ∷ []
-    else content_rows finals made made.flags false made.start (content ∷ contents)) only
+pub flags-row : (finals : Resolved) (item : Item) (contents : List Content) → 0 < length contents → item.made.only_flags ≡ true
+    → rows_with finals item contents ≡ blank_row (with_contents (known_in finals item.made) (first_address finals item) item.made.flags contents) ∷ []
+flags-row finals item [] some only = absurd (omega (arith, some))
+flags-row finals item (content ∷ contents) some only =
+    ap (λ (b : Bool). if b then blank_row (with_contents (known_in finals item.made) (first_address finals item) item.made.flags (content ∷ contents)) ∷ []
+    else content_rows (standing_of finals item) item.made.flags (with_places item.made.machine item.made.start (content ∷ contents))) only
 
 -- all contents were walked
-pub flags-all : (known : Known) (here address : ℕ) (flags all : Flags) (contents : List Content) (i : ℕ) → length contents ≤ i → here ≡ address
-    → all ≡ with_contents known here flags (take i contents) → all ≡ with_contents known address flags contents
-flags-all known here address flags all contents i past is so_far =
-    so_far ∙ ap (with_contents known here flags) (take_all i contents past) ∙ ap (λ (n : ℕ). with_contents known n flags contents) is
+pub flags-all : (standing found : Standing) (flags all : Flags) (contents : List Content) (i : ℕ) → length contents ≤ i → found ≡ standing
+    → all ≡ with_contents found.known found.here flags (take i contents) → all ≡ with_contents standing.known standing.here flags contents
+flags-all standing found flags all contents i past is so_far =
+    so_far ∙ ap (with_contents found.known found.here flags) (take_all i contents past) ∙ ap (λ (s : Standing). with_contents s.known s.here flags contents) is
 
 -- ---- lists
 
@@ -122,7 +144,7 @@ flat_map-more f xs i x lt is =
 -- ---- a line
 
 pub outcome-made : (finals : Resolved) (trace : Trace) (items : List Item) (puts : List Put) (rows : List Row) (pieces : List Piece) (defined read : List Name) → items ≡ trace.items → puts ≡ trace.puts
-    → rows ≡ flat_map (rows_of finals) items → pieces ≡ flat_map (λ item. pieces_of finals item.made) items
+    → rows ≡ flat_map (rows_of finals) items → pieces ≡ flat_map (pieces_of finals) items
     → defined ≡ insert_all same_name [] (flat_map (λ p. symbol_put p.key) puts) → read ≡ insert_all same_name [] (trace.reads ++ later_names trace)
     → record { rows = rows; pieces = pieces; defined = defined; read = read } ≡ outcome_of finals trace
 outcome-made finals trace items puts rows pieces defined read is has shows bits defines reads =
@@ -132,7 +154,7 @@ outcome-made finals trace items puts rows pieces defined read is has shows bits 
     let read-now : read ≡ names_read trace = reads ∙ sym (distinct-append same_name same_name-laws [] (trace.reads ++ later_names trace)) in
     λ i. record {
       rows = (shows ∙ ap (flat_map (rows_of finals)) is) i;
-      pieces = (bits ∙ ap (flat_map (λ (item : Item). pieces_of finals item.made)) is) i;
+      pieces = (bits ∙ ap (flat_map (pieces_of finals)) is) i;
       defined = defined-now i;
       read = read-now i;
     }
@@ -160,11 +182,11 @@ rows-joined f xs i x flags lt is =
     ∙ ap (λ y. joined_with (joined_with flags (f y)) (flat_map f (drop (i + 1) xs))) (sym is)
 
 pub item-flags-next : (finals : Resolved) (items shown : List Item) (i : ℕ) (item : Item) (flags new end : Flags) → items ≡ shown → i < length items → item ≡ get_or items i item
-    → new ≡ joined_with flags (rows_made finals item.made) → joined_with flags (flat_map (rows_of finals) (drop i shown)) ≡ end
+    → new ≡ joined_with flags (rows_made finals item) → joined_with flags (flat_map (rows_of finals) (drop i shown)) ≡ end
     → joined_with new (flat_map (rows_of finals) (drop (i + 1) shown)) ≡ end
 item-flags-next finals items shown i item flags new end same lt is joins so_far =
     let f = rows_of finals in
     let within : i < length shown = subst (λ (l : List Item). i < length l) same lt in
     let is-now : item ≡ get_or shown i item = is ∙ ap (λ (l : List Item). get_or l i item) same in
-    let joins-now : new ≡ joined_with flags (rows_of finals item) = joins ∙ sym (rows-flags item flags (rows_made finals item.made)) in
+    let joins-now : new ≡ joined_with flags (rows_of finals item) = joins ∙ sym (rows-flags item flags (rows_made finals item)) in
     ap (λ (fs : Flags). joined_with fs (flat_map f (drop (i + 1) shown))) joins-now ∙ sym (rows-joined f shown i item flags within is-now) ∙ so_far

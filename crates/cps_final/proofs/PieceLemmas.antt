@@ -1,5 +1,6 @@
 -- The pieces of a statement, one further.
-use Rattle.std.proofs.Common.{◌≡◌, ℕ, ◌+◌, ◌*◌, ◌/◌, ◌%◌, ◌<◌, ◌≤◌, List, [], ◌∷◌, ◌++◌, length, get_or, drop, map, flat_map, subst, sym, ap, ◌∙◌, arith, append_assoc}
+use Rattle.std.proofs.Common.{◌≡◌, ℕ, ◌+◌, ◌*◌, ◌%◌, ◌<◌, ◌≤◌, List, [], ◌∷◌, ◌++◌, length, get_or, drop, map, flat_map, subst, sym, ap, ◌∙◌, arith, append_assoc}
+use Rattle.std.specs.Prelude.{Bool, false, if◌then◌else◌}
 use Rattle.std.specs.List.{range_with_len}
 use Rattle.std.proofs.lemmas.Grind.{flat_map-append}
 use Rattle.std.proofs.lemmas.List.{drop_more}
@@ -9,12 +10,14 @@ use Rattle.cps_expr.specs.declared.machine.Machine.{Machine}
 use Rattle.cps_expr.specs.declared.machine.Machine.TheVariants.{Cp, Pp}
 use Rattle.cps_expr.specs.Item.{bits_of}
 use Rattle.cps_code.specs.Image.{Piece}
+use Rattle.cps_state.specs.declared.item.Item.{Item}
 use Rattle.cps_state.specs.declared.made.Content.{Content}
 use Rattle.cps_state.specs.Machines.{limit, behind}
-use Rattle.cps_state.specs.Made.{Made, width_of, HaveRoom}
+use Rattle.cps_state.specs.Made.{width_of, end_of, HaveRoom}
 use Rattle.cps_state.proofs.PlaceLemmas.{end-not-before}
-use Rattle.cps_final.specs.Values.{Resolved, known_in, base_in, number_of, first_address}
-use Rattle.cps_final.specs.Pieces.{pieces_at, content_pieces}
+use Rattle.cps_final.specs.Values.{Resolved, Standing, standing_of, number_of}
+use Rattle.cps_final.specs.Places.{with_places}
+use Rattle.cps_final.specs.Pieces.{pieces_at, last_word, zeros_at, placed, content_bits, content_pieces, pieces_of}
 
 -- ---- words
 
@@ -47,41 +50,68 @@ room-low machine at contents room =
     let within = room.within in
     omega (arith)
 
--- the content at an index, with what the code worked out for it: its pieces, and then those behind it
-module _ (finals : Resolved) (made : Made) (machine : Machine) (base here at width number next i : ℕ) (contents : List Content) (content : Content) (of : machine ≡ made.machine)
-    (based : base ≡ base_in finals made.block) (starts : here ≡ base + made.start / 60) (same : contents ≡ made.contents) (lt : i < length contents)
-    (is : content ≡ get_or contents i content) (wide : width ≡ width_of content) (counts : number ≡ number_of (known_in finals made) here content) (moved : next ≡ behind machine at width) where
-  within : i < length made.contents
+-- the content at an index, with what the code worked out for it: its pieces, and then those after it
+module _ (standing : Standing) (walked all : List Content) (machine : Machine) (at width number next i : ℕ) (content : Content) (of : machine ≡ standing.machine)
+    (same : walked ≡ all) (lt : i < length walked) (is : content ≡ get_or walked i content) (wide : width ≡ width_of content)
+    (counts : number ≡ number_of standing.known standing.here content) (moved : next ≡ behind machine at width) where
+  within : i < length all
   within = subst (λ (l : List Content). i < length l) same lt
 
-  rest-is : drop i made.contents ≡ content ∷ drop (i + 1) made.contents
+  rest-is : drop i all ≡ content ∷ drop (i + 1) all
   rest-is =
-      drop_more made.contents i content within
-      ∙ ap (λ (c : Content). c ∷ drop (i + 1) made.contents) (sym (is ∙ ap (λ (l : List Content). get_or l i content) same))
+      drop_more all i content within
+      ∙ ap (λ (c : Content). c ∷ drop (i + 1) all) (sym (is ∙ ap (λ (l : List Content). get_or l i content) same))
 
   moves : next ≡ behind machine at (width_of content)
   moves = moved ∙ ap (behind machine at) wide
 
-  room-next : HaveRoom machine at (drop i made.contents) → HaveRoom machine next (drop (i + 1) made.contents)
+  room-next : HaveRoom machine at (drop i all) → HaveRoom machine next (drop (i + 1) all)
   room-next room =
-      let now : HaveRoom machine at (content ∷ drop (i + 1) made.contents) = subst (HaveRoom machine at) rest-is room in
-      subst (λ (n : ℕ). HaveRoom machine n (drop (i + 1) made.contents)) (sym moves) (room-behind machine at content (drop (i + 1) made.contents) now)
+      let now : HaveRoom machine at (content ∷ drop (i + 1) all) = subst (HaveRoom machine at) rest-is room in
+      subst (λ (n : ℕ). HaveRoom machine n (drop (i + 1) all)) (sym moves) (room-behind machine at content (drop (i + 1) all) now)
 
-  pieces-more : content_pieces finals made at (drop i made.contents) ≡ pieces_at machine at width number ++ content_pieces finals made next (drop (i + 1) made.contents)
+  pieces-more : content_pieces standing at (drop i all) ≡ pieces_at machine at width number ++ content_pieces standing next (drop (i + 1) all)
   pieces-more =
-      let counted : number ≡ number_of (known_in finals made) (first_address finals made) content =
-      counts ∙ ap (λ (n : ℕ). number_of (known_in finals made) n content) (starts ∙ ap (λ (n : ℕ). n + made.start / 60) based) in
-      ap (content_pieces finals made at) rest-is
-      ∙ (λ j. pieces_at (sym of j) at (sym wide j) (sym counted j) ++ content_pieces finals made (behind (sym of j) at (width_of content)) (drop (i + 1) made.contents))
-      ∙ ap (λ (n : ℕ). pieces_at machine at width number ++ content_pieces finals made n (drop (i + 1) made.contents)) (sym moves)
+      let after = drop (i + 1) all in
+      let next_at = behind standing.machine at (width_of content) in
+      ap (content_pieces standing at) rest-is
+      ∙ append_assoc (content_bits standing (at, content)) (flat_map (content_bits standing) (with_places standing.machine next_at after))
+      (last_word standing.machine (end_of standing.machine next_at after))
+      ∙ (λ j. pieces_at (sym of j) at (sym wide j) (sym counts j) ++ content_pieces standing (behind (sym of j) at (width_of content)) (drop (i + 1) all))
+      ∙ ap (λ (n : ℕ). pieces_at machine at width number ++ content_pieces standing n (drop (i + 1) all)) (sym moves)
 
   pub content-next : (g : Piece → List Piece) (old new end : List Piece) → new ≡ old ++ flat_map g (pieces_at machine at width number)
-      → HaveRoom machine at (drop i made.contents) → old ++ flat_map g (content_pieces finals made at (drop i made.contents)) ≡ end
-      → HaveRoom machine next (drop (i + 1) made.contents) × (new ++ flat_map g (content_pieces finals made next (drop (i + 1) made.contents)) ≡ end)
+      → HaveRoom machine at (drop i all) → old ++ flat_map g (content_pieces standing at (drop i all)) ≡ end
+      → HaveRoom machine next (drop (i + 1) all) × (new ++ flat_map g (content_pieces standing next (drop (i + 1) all)) ≡ end)
   content-next g old new end pushed room before =
       let own = pieces_at machine at width number in
-      let rest = content_pieces finals made next (drop (i + 1) made.contents) in (
+      let rest = content_pieces standing next (drop (i + 1) all) in (
         room-next room,
         ap (λ (l : List Piece). l ++ flat_map g rest) pushed ∙ append_assoc old (flat_map g own) (flat_map g rest)
             ∙ ap (λ (l : List Piece). old ++ l) (sym (flat_map-append g own rest) ∙ ap (flat_map g) (sym pieces-more)) ∙ before,
       )
+
+-- ---- a statement
+
+-- the filling, the zeros and the contents, each pushed after the one before
+pub statement-pieces : (finals : Resolved) (item : Item) (standing : Standing) (base : ℕ) (old filled zeroed new : List Piece)
+    → standing ≡ standing_of finals item → base ≡ standing.base → item.made.only_flags ≡ false
+    → filled ≡ old ++ flat_map (placed item.made.machine base) item.made.filling
+    → zeroed ≡ filled ++ flat_map (placed item.made.machine base) (zeros_at item.made.machine item.made.start item.made.zeros)
+    → new ≡ zeroed ++ flat_map (placed standing.machine standing.base) (content_pieces standing item.made.start item.made.contents)
+    → new ≡ old ++ pieces_of finals item
+statement-pieces finals item standing base old filled zeroed new is based are_bits fills zeroes pushed =
+    let made = item.made in
+    let s = standing_of finals item in
+    let g = placed made.machine s.base in
+    let zeros = zeros_at made.machine made.start made.zeros in
+    let bits = content_pieces s made.start made.contents in
+    let at_base : base ≡ s.base = based ∙ ap (λ (t : Standing). t.base) is in
+    let filled-now : filled ≡ old ++ flat_map g made.filling = fills ∙ ap (λ (n : ℕ). old ++ flat_map (placed made.machine n) made.filling) at_base in
+    let zeroed-now : zeroed ≡ filled ++ flat_map g zeros = zeroes ∙ ap (λ (n : ℕ). filled ++ flat_map (placed made.machine n) zeros) at_base in
+    let pushed-now : new ≡ zeroed ++ flat_map g bits =
+    pushed ∙ ap (λ (t : Standing). zeroed ++ flat_map (placed t.machine t.base) (content_pieces t made.start made.contents)) is in
+    pushed-now ∙ ap (λ (l : List Piece). l ++ flat_map g bits) (zeroed-now ∙ ap (λ (l : List Piece). l ++ flat_map g zeros) filled-now ∙ append_assoc old (flat_map g made.filling) (flat_map g zeros))
+    ∙ append_assoc old (flat_map g made.filling ++ flat_map g zeros) (flat_map g bits)
+    ∙ ap (λ (l : List Piece). old ++ l) (ap (λ (l : List Piece). l ++ flat_map g bits) (sym (flat_map-append g made.filling zeros)) ∙ sym (flat_map-append g (made.filling ++ zeros) bits))
+    ∙ ap (λ (b : Bool). old ++ flat_map g (made.filling ++ zeros ++ (if b then [] else bits))) (sym are_bits)

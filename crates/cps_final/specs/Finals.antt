@@ -1,6 +1,6 @@
 -- Final values: what stands behind the last line of a source, with blocks at their final addresses. From the manual's sections on the two
 -- passes, on blocks, on SET and on literals; a final value beyond the range of expressions is none, as everywhere.
-use Rattle.std.specs.Prelude.{◌≡◌, ℕ, ◌+◌, nat_eq, Bool, List, [], ◌∷◌, length, take, position, pos, ◌+ℤ◌, Option, None, Some, option_map, option_and_then, unwrap_or}
+use Rattle.std.specs.Prelude.{◌≡◌, ℕ, ◌+◌, nat_eq, Bool, List, [], ◌∷◌, length, take, position, pos, ◌+ℤ◌, nat_abs, Option, None, Some, option_map, option_and_then}
 use Rattle.std.specs.List.{sum_by}
 use Rattle.std.specs.Option.{option_or}
 use Rattle.cps_text.specs.declared.name.Name.{Name}
@@ -76,17 +76,22 @@ pub data Named : Type 0 where
   block : Option Name → Named
   literal : ℕ → Named
 
--- a value with its block at the address that bases give it
-abbrev pub at_base : (Option Name → ℕ) → Value → Option Value
-at_base bases value = limited (plain (value.offset +ℤ pos (bases value.block)))
+-- an address that is absent counts as 0
+abbrev pub address_of : Option Value → ℕ
+address_of None = 0
+address_of (Some value) = nat_abs value.offset
 
--- where there is no base, behind 0
-abbrev pub based : Finals → Value → Option Value
-based finals value = at_base (λ block. unwrap_or (base_of finals block) 0) value
+-- a value with its block at the address that blocks have
+abbrev pub at_base : (Option Name → Option Value) → Value → Option Value
+at_base blocks value = limited (plain (value.offset +ℤ pos (address_of (blocks value.block))))
+
+-- the address of the first word of a block
+abbrev pub first_word : Finals → Option Name → Option Value
+first_word finals name = option_and_then (λ base. limited (plain (pos base))) (base_of finals name)
 
 -- the final value of what is named: of a label its value, of a symbol that SET gives values the last of them
 abbrev pub final_value : Finals → Named → Option Value
-final_value finals (label name) = option_and_then (based finals) (labels_of finals.state name)
-final_value finals (setting name) = option_and_then (based finals) (settings_of finals.state name)
-final_value finals (block name) = option_and_then (λ base. limited (plain (pos base))) (base_of finals name)
+final_value finals (label name) = option_and_then (at_base (first_word finals)) (labels_of finals.state name)
+final_value finals (setting name) = option_and_then (at_base (first_word finals)) (settings_of finals.state name)
+final_value finals (block name) = first_word finals name
 final_value finals (literal word) = option_and_then (λ index. limited (plain (pos (finals.layout.size None + index)))) (position (nat_eq word) finals.pool)

@@ -5,6 +5,8 @@ pub mod Layout
 pub mod Names
 pub mod Outcome
 pub mod Pieces
+pub mod Places
 pub mod Pool
+pub mod Resolving
 pub mod Rows
 pub mod Values

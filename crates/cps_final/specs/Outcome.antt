@@ -5,6 +5,9 @@ use Rattle.cps_text.specs.declared.name.Name.{Name}
 use Rattle.cps_expr.specs.Value.{same_name}
 use Rattle.cps_code.specs.Image.{Piece}
 use Rattle.cps_state.specs.declared.flags.Flags.{Flags}
+use Rattle.cps_state.specs.declared.item.Item.{Item}
+use Rattle.cps_state.specs.declared.item.Stand.{Stand}
+use Rattle.cps_state.specs.declared.item.Stand.TheVariants.{Nowhere, In}
 use Rattle.cps_state.specs.declared.made.Shown.{Shown}
 use Rattle.cps_state.specs.declared.made.Shown.TheVariants as shown
 use Rattle.cps_state.specs.Course.{Trace}
@@ -26,7 +29,7 @@ pub record Outcome : Type 0 where
 abbrev pub outcome_of : Resolved → Trace → Outcome
 outcome_of finals trace = record {
   rows = flat_map (rows_of finals) trace.items;
-  pieces = flat_map (λ item. pieces_of finals item.made) trace.items;
+  pieces = flat_map (pieces_of finals) trace.items;
   defined = names_defined trace;
   read = names_read trace;
 }
@@ -52,15 +55,20 @@ blocks_shown (shown.Value value) = value.block ∷ []
 blocks_shown (shown.Address value) = value.block ∷ []
 blocks_shown shown.Start = []
 
--- the blocks in which a statement's bits and values stand
-abbrev pub blocks_named : Made → List (Option Name)
-blocks_named made = made.block ∷ blocks_shown made.shown ++ map (λ held. held.value.block) made.held
+-- the block in which a statement stands
+abbrev pub blocks_stood : Stand → List (Option Name)
+blocks_stood Nowhere = []
+blocks_stood (In name) = name ∷ []
+
+-- the blocks in which a statement and its values stand
+abbrev pub blocks_named : Item → List (Option Name)
+blocks_named item = blocks_stood item.stand ++ blocks_shown item.made.shown ++ map (λ held. held.value.block) item.made.held
 
 -- two ways of giving final values agree on the labels, the blocks and the literals that a statement names
-pub record AgreeOnMade (others finals : Resolved) (made : Made) : Type 0 where
-  pub labels : All (λ name. others (label name) ≡ finals (label name)) (labels_read made)
-  pub blocks : All (λ name. others (block name) ≡ finals (block name)) (blocks_named made)
-  pub literals : All (λ word. others (literal word) ≡ finals (literal word)) (flat_map content_literals made.contents)
+pub record AgreeOnItem (others finals : Resolved) (item : Item) : Type 0 where
+  pub labels : All (λ name. others (label name) ≡ finals (label name)) (labels_read item.made)
+  pub blocks : All (λ name. others (block name) ≡ finals (block name)) (blocks_named item)
+  pub literals : All (λ word. others (literal word) ≡ finals (literal word)) (flat_map content_literals item.made.contents)
 
 abbrev pub AgreeOnNamed : Resolved → Resolved → Trace → Type 0
-AgreeOnNamed others finals trace = All (λ item. AgreeOnMade others finals item.made) trace.items
+AgreeOnNamed others finals trace = All (AgreeOnItem others finals) trace.items

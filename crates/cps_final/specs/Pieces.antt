@@ -6,10 +6,12 @@ use Rattle.cps_expr.specs.declared.machine.Machine.TheVariants.{Cp, Pp}
 use Rattle.cps_expr.specs.Item.{bits_of}
 use Rattle.cps_code.specs.Bits.{word_bits}
 use Rattle.cps_code.specs.Image.{Piece}
+use Rattle.cps_state.specs.declared.item.Item.{Item}
 use Rattle.cps_state.specs.declared.made.Content.{Content}
-use Rattle.cps_state.specs.Machines.{limit, behind}
-use Rattle.cps_state.specs.Made.{Made, width_of}
-use Rattle.cps_final.specs.Values.{Resolved, base_in, first_address, known_in, number_of}
+use Rattle.cps_state.specs.Machines.{limit}
+use Rattle.cps_state.specs.Made.{Made, width_of, end_of}
+use Rattle.cps_final.specs.Places.{with_places}
+use Rattle.cps_final.specs.Values.{Resolved, Standing, standing_of, number_of}
 
 -- `width` bits of a number from a place on, which may reach into the next words: those of them in the word that comes `later` words behind
 abbrev pub piece_in : Machine → ℕ → ℕ → ℕ → ℕ → Piece
@@ -51,17 +53,22 @@ placed machine base piece =
     then record piece { address = base + piece.address; times = min piece.times (limit machine - (base + piece.address)) } ∷ []
     else []
 
--- the bits of contents from a place on
-abbrev pub content_pieces : Resolved → Made → ℕ → List Content → List Piece
-content_pieces finals made at [] = last_word made.machine at
-content_pieces finals made at (content ∷ contents) =
-    pieces_at made.machine at (width_of content) (number_of (known_in finals made) (first_address finals made) content)
-    ++ content_pieces finals made (behind made.machine at (width_of content)) contents
+-- the bits of a content at its place
+abbrev pub content_bits : Standing → ℕ × Content → List Piece
+content_bits standing (at, content) = pieces_at standing.machine at (width_of content) (number_of standing.known standing.here content)
 
-abbrev pub contents_of : Resolved → Made → List Piece
-contents_of finals made = if made.only_flags then [] else content_pieces finals made made.start made.contents
+-- the bits of contents from a place on
+abbrev pub content_pieces : Standing → ℕ → List Content → List Piece
+content_pieces standing at contents =
+    flat_map (content_bits standing) (with_places standing.machine at contents)
+    ++ last_word standing.machine (end_of standing.machine at contents)
+
+abbrev pub contents_of : Standing → Made → List Piece
+contents_of standing made = if made.only_flags then [] else content_pieces standing made.start made.contents
 
 -- the filling, the zeros, then the contents
-abbrev pub pieces_of : Resolved → Made → List Piece
-pieces_of finals made =
-    flat_map (placed made.machine (base_in finals made.block)) (made.filling ++ zeros_at made.machine made.start made.zeros ++ contents_of finals made)
+abbrev pub pieces_of : Resolved → Item → List Piece
+pieces_of finals item =
+    let made = item.made in
+    let standing = standing_of finals item in
+    flat_map (placed made.machine standing.base) (made.filling ++ zeros_at made.machine made.start made.zeros ++ contents_of standing made)

@@ -14,11 +14,12 @@ use Rattle.cps_state.specs.declared.made.Content.TheVariants as content
 use Rattle.cps_state.specs.declared.made.Shown.{Shown}
 use Rattle.cps_state.specs.declared.made.Shown.TheVariants as shown
 use Rattle.cps_state.specs.Flags.{joined}
-use Rattle.cps_state.specs.Machines.{limit, behind}
-use Rattle.cps_state.specs.Made.{Made, no_flags, width_of, content_literals}
+use Rattle.cps_state.specs.Machines.{limit}
+use Rattle.cps_state.specs.Made.{no_flags, width_of, content_literals}
 use Rattle.cps_final.specs.declared.row.Row.{Row}
 use Rattle.cps_final.specs.declared.row.Digits.{Digits}
-use Rattle.cps_final.specs.Values.{Resolved, base_in, final_of, first_address, Known, known_in, number_of, value_flags}
+use Rattle.cps_final.specs.Places.{with_places}
+use Rattle.cps_final.specs.Values.{Resolved, final_of, first_address, Known, Standing, standing_of, number_of, value_flags}
 
 -- one digit for each three bits, rounded up
 abbrev pub digits_for : ℕ → ℕ → Digits
@@ -48,51 +49,59 @@ literal_flags literals machine content = record no_flags { structure = list_any 
 abbrev pub blank_row : Flags → Row
 blank_row flags = record { flags = flags; location = None; code = None; second = None; is_later = false; depth = 0; text = [] }
 
--- the row of a content: its flags, the address of the word in which it begins, and its code
-abbrev pub row_at : Known → Machine → Flags → Bool → ℕ → ℕ → Content → Row
-row_at known machine flags is_later here address content = record {
-  flags = joined (joined (joined flags (value_flags known here content)) (literal_flags known.literals machine content)) (limit_flags machine address);
-  location = Some address;
-  code = Some (first_digits content (number_of known here content));
-  second = second_digits content (number_of known here content);
-  is_later = is_later;
-  depth = 0;
-  text = [];
-}
+-- the row of a content at a place of its block: its flags, the address of the word in which it begins, and its code
+abbrev pub row_at : Standing → Flags → Bool → ℕ → Content → Row
+row_at standing flags is_later at content =
+    let address = standing.base + at / word_bits in
+    let number = number_of standing.known standing.here content in
+    record {
+      flags = joined (joined (joined flags (value_flags standing.known standing.here content)) (literal_flags standing.known.literals standing.machine content))
+          (limit_flags standing.machine address);
+      location = Some address;
+      code = Some (first_digits content number);
+      second = second_digits content number;
+      is_later = is_later;
+      depth = 0;
+      text = [];
+    }
 
--- a row for each content from a place on; the flags of pass one are on the first
-abbrev pub content_rows : Resolved → Made → Flags → Bool → ℕ → List Content → List Row
-content_rows finals made flags is_later at [] = []
-content_rows finals made flags is_later at (content ∷ contents) =
-    row_at (known_in finals made) made.machine flags is_later (first_address finals made) (base_in finals made.block + at / word_bits) content
-    ∷ content_rows finals made no_flags true (behind made.machine at (width_of content)) contents
+-- the rows of contents after the first
+abbrev pub later_rows : Standing → List (ℕ × Content) → List Row
+later_rows standing contents = map (λ (at, content). row_at standing no_flags true at content) contents
+
+-- a row for each content at its place; the flags of pass one are on the first
+abbrev pub content_rows : Standing → Flags → List (ℕ × Content) → List Row
+content_rows standing flags [] = []
+content_rows standing flags ((at, content) ∷ contents) = row_at standing flags false at content ∷ later_rows standing contents
 
 -- flags, and those that contents give
 abbrev pub with_contents : Known → ℕ → Flags → List Content → Flags
 with_contents known here flags contents = fold (λ all content. joined all (value_flags known here content)) flags contents
 
 -- the row of a statement without contents
-abbrev pub statement_row : Resolved → Made → Shown → Row
-statement_row finals made shown.Nothing = blank_row made.flags
-statement_row finals made (shown.Value value) =
-    record (blank_row made.flags) { code = option_map (λ v. digits_for word_bits (complemented word_bits v.offset)) (final_of finals value) }
-statement_row finals made (shown.Address value) = record (blank_row made.flags) { location = option_map (λ v. nat_abs v.offset) (final_of finals value) }
-statement_row finals made shown.Start =
-    record (blank_row (joined made.flags (limit_flags made.machine (first_address finals made)))) { location = Some (first_address finals made) }
+abbrev pub statement_row : Resolved → Item → Shown → Row
+statement_row finals item shown.Nothing = blank_row item.made.flags
+statement_row finals item (shown.Value value) =
+    record (blank_row item.made.flags) { code = option_map (λ v. digits_for word_bits (complemented word_bits v.offset)) (final_of finals value) }
+statement_row finals item (shown.Address value) = record (blank_row item.made.flags) { location = option_map (λ v. nat_abs v.offset) (final_of finals value) }
+statement_row finals item shown.Start =
+    record (blank_row (joined item.made.flags (limit_flags item.made.machine (first_address finals item)))) { location = Some (first_address finals item) }
 
-abbrev pub rows_with : Resolved → Made → List Content → List Row
-rows_with finals made [] = statement_row finals made made.shown ∷ []
-rows_with finals made (content ∷ contents) =
-    if made.only_flags then blank_row (with_contents (known_in finals made) (first_address finals made) made.flags (content ∷ contents)) ∷ []
-    else content_rows finals made made.flags false made.start (content ∷ contents)
+-- the rows of a statement with these contents
+abbrev pub rows_with : Resolved → Item → List Content → List Row
+rows_with finals item [] = statement_row finals item item.made.shown ∷ []
+rows_with finals item (content ∷ contents) =
+    let standing = standing_of finals item in
+    if item.made.only_flags then blank_row (with_contents standing.known standing.here item.made.flags (content ∷ contents)) ∷ []
+    else content_rows standing item.made.flags (with_places standing.machine item.made.start (content ∷ contents))
 
 -- the rows of what a statement made, as in a source line
-abbrev pub rows_made : Resolved → Made → List Row
-rows_made finals made = rows_with finals made made.contents
+abbrev pub rows_made : Resolved → Item → List Row
+rows_made finals item = rows_with finals item item.made.contents
 
 -- a row of a statement has its depth and its text; later rows have neither
 abbrev pub row_of : Item → Row → Row
 row_of item row = if row.is_later then row else record row { depth = item.depth; text = item.text }
 
 abbrev pub rows_of : Resolved → Item → List Row
-rows_of finals item = map (row_of item) (rows_made finals item.made)
+rows_of finals item = map (row_of item) (rows_made finals item)

@@ -1,8 +1,9 @@
 -- Pass two: what the contents of a statement give, where everything that can be named has its final value: their numbers and the flags of their values.
 -- From the manual's sections on the two passes, on SET and on literals; that a name that is never defined, and what has no value, count as 0 is our profile's.
-use Rattle.std.specs.Prelude.{ℕ, ◌+◌, ◌/◌, Bool, false, ◌||◌, not, List, [], ◌∷◌, map, ℤ, pos, ◌-ℤ◌, nat_abs, Option, None, Some, is_none, unwrap_or, if◌then◌else◌}
+use Rattle.std.specs.Prelude.{ℕ, ◌+◌, ◌/◌, Bool, false, ◌||◌, not, List, [], ◌∷◌, map, ℤ, pos, ◌-ℤ◌, Option, None, Some, is_none, unwrap_or, if◌then◌else◌}
 use Rattle.std.specs.List.{list_any}
 use Rattle.cps_text.specs.declared.name.Name.{Name}
+use Rattle.cps_expr.specs.declared.machine.Machine.{Machine}
 use Rattle.cps_expr.specs.declared.value.Value.{Value}
 use Rattle.cps_expr.specs.Expression.{Expression}
 use Rattle.cps_expr.specs.Value.{Values, plain, same_name, value_in, has_undefined}
@@ -13,11 +14,15 @@ use Rattle.cps_code.specs.declared.hole.Operand.{Operand}
 use Rattle.cps_code.specs.declared.hole.Operand.TheVariants as operand
 use Rattle.cps_code.specs.Form.{Form, filled, fits_width, put_value}
 use Rattle.cps_state.specs.declared.flags.Flags.{Flags}
+use Rattle.cps_state.specs.declared.item.Item.{Item}
+use Rattle.cps_state.specs.declared.item.Stand.{Stand}
+use Rattle.cps_state.specs.declared.item.Stand.TheVariants.{Nowhere, In}
 use Rattle.cps_state.specs.declared.made.Content.{Content}
 use Rattle.cps_state.specs.declared.made.Content.TheVariants as content
 use Rattle.cps_state.specs.declared.made.Held.{Held}
 use Rattle.cps_state.specs.Made.{Made, no_flags}
 use Rattle.cps_final.specs.Finals.{Named, label, block, literal, at_base}
+pub use Rattle.cps_final.specs.Finals.{address_of}
 
 -- final values, by what is named
 abbrev pub Resolved : Type 0
@@ -25,21 +30,22 @@ Resolved = Named → Option Value
 
 -- ---- addresses
 
--- an absent base counts as 0
-abbrev pub address_of : Option Value → ℕ
-address_of None = 0
-address_of (Some value) = nat_abs value.offset
-
+-- the final address of a block; one that stands nowhere counts as at 0
 abbrev pub base_in : Resolved → Option Name → ℕ
 base_in finals name = address_of (finals (block name))
 
 -- a value with its block at its final address
 abbrev pub final_of : Resolved → Value → Option Value
-final_of finals value = at_base (base_in finals) value
+final_of finals value = at_base (λ name. finals (block name)) value
+
+-- the final address of the block in which a statement stands; without a place it is 0
+abbrev pub address_in : Resolved → Stand → ℕ
+address_in finals Nowhere = 0
+address_in finals (In name) = base_in finals name
 
 -- the final address of the word in which a statement starts: what `*` stands for in it
-abbrev pub first_address : Resolved → Made → ℕ
-first_address finals made = base_in finals made.block + made.start / word_bits
+abbrev pub first_address : Resolved → Item → ℕ
+first_address finals item = address_in finals item.stand + item.made.start / word_bits
 
 -- ---- what is known in a statement
 
@@ -59,6 +65,21 @@ pub record Known : Type 0 where
 
 abbrev pub known_in : Resolved → Made → Known
 known_in finals made = record { symbols = values_in finals made.held; literals = literal_in finals }
+
+-- a statement at its final address: what is known in it, whose words its bits are, the address of its block, and that of the word in which it starts
+pub record Standing : Type 0 where
+  pub known : Known
+  pub machine : Machine
+  pub base : ℕ
+  pub here : ℕ
+
+abbrev pub standing_of : Resolved → Item → Standing
+standing_of finals item = record {
+  known = known_in finals item.made;
+  machine = item.made.machine;
+  base = address_in finals item.stand;
+  here = first_address finals item;
+}
 
 -- ---- codes
 

@@ -3,16 +3,16 @@ ghost use Rattle.std.specs.Prelude.{◌≡◌, ◌+◌, ◌<◌, ◌≤◌, ◌^
 ghost use Rattle.std.specs.Option.{option_or};
 ghost use Rattle.cps_expr.specs.Value.{plain, limited, IsInRange};
 ghost use Rattle.cps_state.specs.Keys.{overwritten};
-ghost use Rattle.cps_final.specs.Finals.{first_program, Gathers, machine_of, is_open_at_end, words_to_named, base_of, based, final_value, label, setting, block as block_named, literal};
+ghost use Rattle.cps_final.specs.Finals.{first_program, Gathers, machine_of, is_open_at_end, words_to_named, base_of, final_value, label, setting, block as block_named, literal};
 ghost use Rattle.cps_final.specs.Gathering.{grown_by};
-ghost use Rattle.cps_final.specs.Values.{address_of, base_in, final_of};
+ghost use Rattle.cps_final.specs.Values.{address_of, address_in, base_in, final_of};
 ghost use Rattle.cps_final.specs.Pool.{literals_in};
 ghost use Rattle.indexmap.specs.IndexSet.{insert_all, insert_key, spare};
 
 use crate::blocks::Blocks;
 use crate::literals::list_literals;
 use cps_expr::{Machine, Names, Value};
-use cps_state::{Item, Key, Lookup, State, Trace, control_of, is_open, value_of};
+use cps_state::{Item, Key, Lookup, Stand, State, Trace, control_of, is_open, value_of};
 use cps_text::Name;
 use indexmap::IndexSet;
 use std::alloc::{AllocError, Global};
@@ -130,7 +130,7 @@ impl Finals {
         ensures { result ≡ final_value (⟦<Finals as Gathered>⟧.gathered self.now) (label name) }
     {
         let value = self.state.value_of(name)?;
-        self.based(value)
+        self.final_of(value)
     }
 
     /// The final value of a symbol that SET gives values: the last of them.
@@ -138,7 +138,7 @@ impl Finals {
         ensures { result ≡ final_value (⟦<Finals as Gathered>⟧.gathered self.now) (setting name) }
     {
         let value = value_of(self.state.ask(&Key::Setting(name)))?;
-        self.based(value)
+        self.final_of(value)
     }
 
     /// The address of a literal, None for a word that is none.
@@ -161,6 +161,17 @@ impl Finals {
         }
     }
 
+    /// The address of the block in which a statement stands; without a place it is 0.
+    pub(crate) fn address_in(&self, stand: Stand) -> u64
+        ensures address { result ≡ address_in (final_value (⟦<Finals as Gathered>⟧.gathered self.now)) stand }
+        ensures bound { result < 2 ^ 60 }
+    {
+        match stand {
+            Stand::Nowhere => 0,
+            Stand::In(block) => self.address_of(block),
+        }
+    }
+
     /// The address of a literal; a word that is none counts as at 0.
     pub(crate) fn literal_address(&self, word: u64) -> u64
         ensures address { result ≡ address_of (final_value (⟦<Finals as Gathered>⟧.gathered self.now) (literal word)) }
@@ -177,17 +188,6 @@ impl Finals {
         ensures { result ≡ final_of (final_value (⟦<Finals as Gathered>⟧.gathered self.now)) value }
     {
         plain_in_range(i128::from(value.offset) + i128::from(self.address_of(value.block)))
-    }
-
-    /// An offset behind the base of its block; where there is no base, behind 0.
-    fn based(&self, value: Value) -> Option<Value>
-        ensures { result ≡ based (⟦<Finals as Gathered>⟧.gathered self.now) value }
-    {
-        let base = match self.base_of(value.block) {
-            Some(base) => base,
-            None => 0,
-        };
-        plain_in_range(i128::from(value.offset) + base as i128)
     }
 
     /// The words before a block.

@@ -11,6 +11,7 @@ mod outcome;
 mod pieces;
 mod row;
 mod rows;
+mod standing;
 mod symbols;
 mod valued;
 

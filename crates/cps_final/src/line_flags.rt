@@ -2,12 +2,15 @@
 ghost use Rattle.std.specs.Prelude.{◌≡◌, false};
 ghost use Rattle.cps_final.specs.Finals.{final_value};
 ghost use Rattle.cps_final.specs.Outcome as outcome;
+ghost use Rattle.cps_final.specs.Places.{with_places};
+ghost use Rattle.cps_final.specs.Resolving.{resolved};
 ghost use Rattle.cps_final.specs.Rows as shown;
+ghost use Rattle.cps_final.specs.Values as values;
 
 use crate::finals::{Finals, Gathered};
 use crate::rows::{flags_with_contents, row_at, statement_row};
-use crate::valued::first_address;
-use cps_state::{Flags, Made, Trace, WORD, behind};
+use crate::standing::Standing;
+use cps_state::{Flags, Item, Trace, behind};
 
 /// The flags of a line: those of all rows that pass two makes of it. Takes no memory.
 pub fn flags_under(trace: &Trace, finals: &Finals) -> Flags
@@ -15,38 +18,38 @@ pub fn flags_under(trace: &Trace, finals: &Finals) -> Flags
 {
     let mut flags = Flags::none();
     for item in trace.items() {
-        flags = join_rows(flags, &item.made, finals);
+        flags = join_rows(flags, item, finals);
     }
     flags
 }
 
 /// Flags, and those of a statement's rows.
-fn join_rows(flags: Flags, made: &Made, finals: &Finals) -> Flags
-    ensures { result ≡ outcome.joined_with flags (shown.rows_made (final_value (⟦<Finals as Gathered>⟧.gathered finals.now)) made.now) }
+fn join_rows(flags: Flags, item: &Item, finals: &Finals) -> Flags
+    ensures { result ≡ outcome.joined_with flags (shown.rows_made (resolved finals.now) item.now) }
 {
-    if made.contents().is_empty() {
-        flags.joined(statement_row(made, finals).flags)
-    } else if made.only_flags() {
-        flags.joined(flags_with_contents(made, finals))
+    if item.made.contents().is_empty() {
+        flags.joined(statement_row(item, finals).flags)
+    } else if item.made.only_flags() {
+        flags.joined(flags_with_contents(item, finals))
     } else {
-        join_content_rows(flags, made, finals)
+        join_content_rows(flags, item, finals)
     }
 }
 
-fn join_content_rows(flags: Flags, made: &Made, finals: &Finals) -> Flags
-    requires { made.now.only_flags ≡ false }
-    ensures { result ≡ outcome.joined_with flags (shown.content_rows (final_value (⟦<Finals as Gathered>⟧.gathered finals.now)) made.now made.now.flags false made.now.start made.now.contents) }
+fn join_content_rows(flags: Flags, item: &Item, finals: &Finals) -> Flags
+    requires { item.now.made.only_flags ≡ false }
+    ensures { result ≡ outcome.joined_with flags
+        (shown.content_rows (values.standing_of (resolved finals.now) item.now) item.now.made.flags (with_places item.now.made.machine item.now.made.start item.now.made.contents)) }
 {
-    let machine = made.machine();
-    let base = finals.address_of(made.block());
-    let here = first_address(made, base);
+    let made = &item.made;
+    let standing = Standing::of(item, finals);
+    let machine = standing.machine();
     let mut flags = flags;
     let mut own = made.flags();
     let mut is_later = false;
     let mut at = made.start();
     for content in made.contents() {
-        let address = base + u64::from(at / WORD);
-        let row = row_at(made, own, is_later, here, address, content, finals);
+        let row = row_at(&standing, own, is_later, at, content);
         flags = flags.joined(row.flags);
         own = Flags::none();
         is_later = true;

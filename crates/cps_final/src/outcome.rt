@@ -5,6 +5,7 @@ ghost use Rattle.cps_state.specs.declared.work.Tally.TheVariants.{Twos};
 ghost use Rattle.cps_state.specs.Work.{raised};
 ghost use Rattle.cps_final.specs.Finals.{final_value};
 ghost use Rattle.cps_final.specs.Outcome as outcome;
+ghost use Rattle.cps_final.specs.Resolving.{resolved};
 
 use crate::finals::{Finals, Gathered};
 use crate::names::{defined_names, read_names};
@@ -54,8 +55,8 @@ pub fn step_two(
 }
 
 fn make_outcome(alloc: Global, trace: &Trace, finals: &Finals) -> Result<Outcome, AllocError>
-    ensures outcome { IfOk result (λ made. made ≡ outcome.outcome_of (final_value (⟦<Finals as Gathered>⟧.gathered finals.now)) trace.now) }
-    ensures alone { IfOk result (λ made. (others : outcome.Resolved) → outcome.AgreeOnNamed others (final_value (⟦<Finals as Gathered>⟧.gathered finals.now)) trace.now
+    ensures outcome { IfOk result (λ made. made ≡ outcome.outcome_of (resolved finals.now) trace.now) }
+    ensures alone { IfOk result (λ made. (others : outcome.Resolved) → outcome.AgreeOnNamed others (resolved finals.now) trace.now
         → outcome.outcome_of others trace.now ≡ made) }
 {
     let items = trace.items();

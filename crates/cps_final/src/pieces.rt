@@ -2,12 +2,12 @@
 ghost use Rattle.std.specs.Prelude.{◌≡◌, [], ◌∷◌, ◌++◌, ◌<◌, ◌≤◌, ◌%◌, ◌^◌, false, map, flat_map, OnOk, IfOk};
 ghost use Rattle.cps_code.specs.Image.{piece_of};
 ghost use Rattle.cps_expr.specs.Item.{bits_of};
-ghost use Rattle.cps_final.specs.Finals.{final_value};
+ghost use Rattle.cps_final.specs.Resolving.{resolved, view_of};
 ghost use Rattle.cps_final.specs.Pieces as bits;
-ghost use Rattle.cps_final.specs.Values as values;
 
-use crate::finals::{Finals, Gathered};
-use crate::valued::{first_address, value_content};
+use crate::finals::Finals;
+use crate::standing::Standing;
+use crate::valued::value_content;
 use cps_code::Piece;
 use cps_expr::Machine;
 use cps_state::{Item, Made, WORD, behind, limit_of, word_bits};
@@ -64,25 +64,27 @@ impl Run {
 
 /// The bits of statements.
 pub fn make_pieces(alloc: Global, items: &[Item], finals: &Finals) -> Result<Vec<Piece>, AllocError>
-    ensures { IfOk result (λ pieces. map piece_of pieces.items ≡ flat_map (λ item. bits.pieces_of (final_value (⟦<Finals as Gathered>⟧.gathered finals.now)) item.made) items.now) }
+    ensures { IfOk result (λ pieces. map piece_of pieces.items ≡ flat_map (bits.pieces_of (resolved finals.now)) items.now) }
 {
     let mut pieces = Vec::new(alloc);
     for item in items {
-        push_pieces(&mut pieces, &item.made, finals)?;
+        push_pieces(&mut pieces, item, finals)?;
     }
     Ok(pieces)
 }
 
-fn push_pieces(pieces: &mut Vec<Piece>, made: &Made, finals: &Finals) -> Result<(), AllocError>
-    ensures { OnOk result (map piece_of pieces.new.items ≡ map piece_of pieces.old.items ++ bits.pieces_of (final_value (⟦<Finals as Gathered>⟧.gathered finals.now)) made.now) }
+fn push_pieces(pieces: &mut Vec<Piece>, item: &Item, finals: &Finals) -> Result<(), AllocError>
+    ensures { OnOk result (map piece_of pieces.new.items ≡ map piece_of pieces.old.items ++ bits.pieces_of (resolved finals.now) item.now) }
 {
-    let base = finals.address_of(made.block());
+    let made = &item.made;
+    let standing = Standing::of(item, finals);
+    let base = standing.base();
     push_filling(pieces, base, made)?;
     push_zeros(pieces, base, made)?;
     if made.only_flags() {
         Ok(())
     } else {
-        push_contents(pieces, base, made, finals)
+        push_contents(pieces, made, &standing)
     }
 }
 
@@ -120,22 +122,20 @@ fn push_zeros(pieces: &mut Vec<Piece>, base: u64, made: &Made) -> Result<(), All
 /// The contents, one behind the other.
 fn push_contents(
     pieces: &mut Vec<Piece>,
-    base: u64,
     made: &Made,
-    finals: &Finals,
+    standing: &Standing,
 ) -> Result<(), AllocError>
-    requires low { base < 2 ^ 60 }
-    requires based { base ≡ values.base_in (final_value (⟦<Finals as Gathered>⟧.gathered finals.now)) made.now.block }
+    requires same { (view_of standing.now).machine ≡ made.now.machine }
     requires are_bits { made.now.only_flags ≡ false }
     ensures { OnOk result (map piece_of pieces.new.items ≡ map piece_of pieces.old.items
-        ++ flat_map (bits.placed made.now.machine base) (bits.content_pieces (final_value (⟦<Finals as Gathered>⟧.gathered finals.now)) made.now made.now.start made.now.contents)) }
+        ++ flat_map (bits.placed (view_of standing.now).machine (view_of standing.now).base) (bits.content_pieces (view_of standing.now) made.now.start made.now.contents)) }
 {
-    let machine = made.machine();
-    let here = first_address(made, base);
+    let machine = standing.machine();
+    let base = standing.base();
     let mut at = made.start();
     for content in made.contents() {
         let width = content.width();
-        let number = value_content(content, made, finals, here).number;
+        let number = value_content(content, standing).number;
         push_run(
             pieces,
             base,

@@ -1,19 +1,21 @@
 //! The rows of a statement in pass two.
-ghost use Rattle.std.specs.Prelude.{◌≡◌, ◌++◌, ◌≤◌, ◌<◌, ◌^◌, [], ◌∷◌, false, nat_le, map, flat_map, OnOk, IfOk};
+ghost use Rattle.std.specs.Prelude.{◌≡◌, ◌++◌, ◌≤◌, [], ◌∷◌, false, nat_le, map, flat_map, OnOk, IfOk};
 ghost use Rattle.std.specs.List.{list_any};
 ghost use Rattle.cps_code.specs.Operand.{operand_literals};
 ghost use Rattle.cps_state.specs.Machines.{limit};
 ghost use Rattle.cps_state.specs.Made.{IsContent};
-ghost use Rattle.cps_final.specs.Finals.{final_value};
+ghost use Rattle.cps_final.specs.Places.{with_places};
+ghost use Rattle.cps_final.specs.Resolving.{resolved, view_of};
 ghost use Rattle.cps_final.specs.Rows as shown;
 ghost use Rattle.cps_final.specs.Values as values;
 
-use crate::finals::{Finals, Gathered};
+use crate::finals::Finals;
 use crate::row::{Digits, Row};
-use crate::valued::{first_address, value_content};
+use crate::standing::Standing;
+use crate::valued::value_content;
 use cps_code::{Hole, Operand, complement};
 use cps_expr::Machine;
-use cps_state::{Content, Flags, Item, Made, Shared, Shown, WORD, behind, limit_of};
+use cps_state::{Content, Flags, Item, Shared, Shown, WORD, behind, limit_of};
 use std::alloc::{AllocError, Global};
 
 /// The bits of a central processor's word.
@@ -24,7 +26,7 @@ const PERIPHERAL_BITS: u8 = 12;
 
 /// The rows of statements.
 pub fn make_rows(alloc: Global, items: &[Item], finals: &Finals) -> Result<Vec<Row>, AllocError>
-    ensures { IfOk result (λ rows. rows.items ≡ flat_map (shown.rows_of (final_value (⟦<Finals as Gathered>⟧.gathered finals.now))) items.now) }
+    ensures { IfOk result (λ rows. rows.items ≡ flat_map (shown.rows_of (resolved finals.now)) items.now) }
 {
     let mut rows = Vec::new(alloc);
     for item in items {
@@ -34,13 +36,13 @@ pub fn make_rows(alloc: Global, items: &[Item], finals: &Finals) -> Result<Vec<R
 }
 
 fn push_rows(rows: &mut Vec<Row>, item: &Item, finals: &Finals) -> Result<(), AllocError>
-    ensures { OnOk result (rows.new.items ≡ rows.old.items ++ shown.rows_of (final_value (⟦<Finals as Gathered>⟧.gathered finals.now)) item.now) }
+    ensures { OnOk result (rows.new.items ≡ rows.old.items ++ shown.rows_of (resolved finals.now) item.now) }
 {
     let made = &item.made;
     if made.contents().is_empty() {
-        push_row(rows, item, statement_row(made, finals))
+        push_row(rows, item, statement_row(item, finals))
     } else if made.only_flags() {
-        push_row(rows, item, blank_row(flags_with_contents(made, finals)))
+        push_row(rows, item, blank_row(flags_with_contents(item, finals)))
     } else {
         push_content_rows(rows, item, finals)
     }
@@ -58,18 +60,17 @@ fn push_row(rows: &mut Vec<Row>, item: &Item, row: Row) -> Result<(), AllocError
 fn push_content_rows(rows: &mut Vec<Row>, item: &Item, finals: &Finals) -> Result<(), AllocError>
     requires { item.now.made.only_flags ≡ false }
     ensures { OnOk result (rows.new.items ≡ rows.old.items
-        ++ map (shown.row_of item.now) (shown.content_rows (final_value (⟦<Finals as Gathered>⟧.gathered finals.now)) item.now.made item.now.made.flags false item.now.made.start item.now.made.contents)) }
+        ++ map (shown.row_of item.now) (shown.content_rows (values.standing_of (resolved finals.now) item.now) item.now.made.flags
+        (with_places item.now.made.machine item.now.made.start item.now.made.contents))) }
 {
     let made = &item.made;
-    let machine = made.machine();
-    let base = finals.address_of(made.block());
-    let here = first_address(made, base);
+    let standing = Standing::of(item, finals);
+    let machine = standing.machine();
     let mut flags = made.flags();
     let mut is_later = false;
     let mut at = made.start();
     for content in made.contents() {
-        let address = base + u64::from(at / WORD);
-        let row = row_at(made, flags, is_later, here, address, content, finals);
+        let row = row_at(&standing, flags, is_later, at, content);
         push_row(rows, item, row)?;
         flags = Flags::none();
         is_later = true;
@@ -78,27 +79,18 @@ fn push_content_rows(rows: &mut Vec<Row>, item: &Item, finals: &Finals) -> Resul
     Ok(())
 }
 
-/// The row of a content of the statement that starts in one word, itself in another.
-pub fn row_at(
-    made: &Made,
-    flags: Flags,
-    is_later: bool,
-    here: u64,
-    address: u64,
-    content: &Content,
-    finals: &Finals,
-) -> Row
-    requires low { here < 2 ^ 62 }
-    requires each { IsContent content.now }
-    ensures { result ≡ shown.row_at (values.known_in (final_value (⟦<Finals as Gathered>⟧.gathered finals.now)) made.now) made.now.machine flags is_later here address content.now }
+/// The row of a content at a place of its block.
+pub fn row_at(standing: &Standing, flags: Flags, is_later: bool, at: u32, content: &Content) -> Row
+    requires { IsContent content.now }
+    ensures { result ≡ shown.row_at (view_of standing.now) flags is_later at content.now }
 {
-    let machine = made.machine();
-    let valued = value_content(content, made, finals, here);
+    let address = standing.base() + u64::from(at / WORD);
+    let valued = value_content(content, standing);
     Row {
         flags: flags
             .joined(valued.flags)
-            .joined(literal_flags(machine, content, finals))
-            .joined(limit_flags(machine, address)),
+            .joined(literal_flags(content, standing))
+            .joined(limit_flags(standing.machine(), address)),
         location: Some(address),
         code: Some(first_digits(content, valued.number)),
         second: second_digits(content, valued.number),
@@ -124,14 +116,14 @@ pub fn blank_row(flags: Flags) -> Row
 }
 
 /// The flags of a statement, and those that its contents give.
-pub fn flags_with_contents(made: &Made, finals: &Finals) -> Flags
-    ensures { result ≡ shown.with_contents (values.known_in (final_value (⟦<Finals as Gathered>⟧.gathered finals.now)) made.now)
-        (values.first_address (final_value (⟦<Finals as Gathered>⟧.gathered finals.now)) made.now) made.now.flags made.now.contents }
+pub fn flags_with_contents(item: &Item, finals: &Finals) -> Flags
+    ensures { let standing = values.standing_of (resolved finals.now) item.now in
+        result ≡ shown.with_contents standing.known standing.here item.now.made.flags item.now.made.contents }
 {
-    let here = first_address(made, finals.address_of(made.block()));
-    let mut flags = made.flags();
-    for content in made.contents() {
-        flags = flags.joined(value_content(content, made, finals, here).flags);
+    let standing = Standing::of(item, finals);
+    let mut flags = item.made.flags();
+    for content in item.made.contents() {
+        flags = flags.joined(value_content(content, &standing).flags);
     }
     flags
 }
@@ -146,47 +138,48 @@ fn limit_flags(machine: Machine, address: u64) -> Flags
 }
 
 /// E where a literal stands at or past the machine's words.
-fn literal_flags(machine: Machine, content: &Content, finals: &Finals) -> Flags
-    ensures { result ≡ shown.literal_flags (values.literal_in (final_value (⟦<Finals as Gathered>⟧.gathered finals.now))) machine content.now }
+fn literal_flags(content: &Content, standing: &Standing) -> Flags
+    ensures { result ≡ shown.literal_flags (view_of standing.now).known.literals (view_of standing.now).machine content.now }
 {
     let mut flags = Flags::none();
     flags.structure = match content {
-        Content::Instruction(form) => has_far_literal(machine, form.holes(), finals),
-        Content::Peripheral(form) => has_far_literal(machine, form.holes(), finals),
+        Content::Instruction(form) => has_far_literal(form.holes(), standing),
+        Content::Peripheral(form) => has_far_literal(form.holes(), standing),
         _ => false,
     };
     flags
 }
 
 /// Whether one of the literals in holes stands there.
-fn has_far_literal(machine: Machine, holes: &[Hole], finals: &Finals) -> bool
-    ensures { result ≡ list_any (λ word. nat_le (limit machine) (values.literal_in (final_value (⟦<Finals as Gathered>⟧.gathered finals.now)) word))
+fn has_far_literal(holes: &[Hole], standing: &Standing) -> bool
+    ensures { result ≡ list_any (λ word. nat_le (limit (view_of standing.now).machine) ((view_of standing.now).known.literals word))
         (flat_map (λ hole. operand_literals hole.operand) holes.now) }
 {
     for hole in holes {
-        if is_far_literal(machine, &hole.operand, finals) {
+        if is_far_literal(&hole.operand, standing) {
             return true;
         }
     }
     false
 }
 
-fn is_far_literal(machine: Machine, operand: &Operand, finals: &Finals) -> bool
-    ensures { result ≡ list_any (λ word. nat_le (limit machine) (values.literal_in (final_value (⟦<Finals as Gathered>⟧.gathered finals.now)) word))
-        (operand_literals operand.now) }
+fn is_far_literal(operand: &Operand, standing: &Standing) -> bool
+    ensures { result ≡ list_any (λ word. nat_le (limit (view_of standing.now).machine) ((view_of standing.now).known.literals word)) (operand_literals operand.now) }
 {
     match operand {
         Operand::Expression(_) => false,
-        Operand::Literal(word) => finals.literal_address(*word) >= u64::from(limit_of(machine)),
+        Operand::Literal(word) => {
+            standing.literal_address(*word) >= u64::from(limit_of(standing.machine()))
+        }
     }
 }
 
 /// The row of a statement without contents.
-pub fn statement_row(made: &Made, finals: &Finals) -> Row
-    ensures { result ≡ shown.statement_row (final_value (⟦<Finals as Gathered>⟧.gathered finals.now)) made.now made.now.shown }
+pub fn statement_row(item: &Item, finals: &Finals) -> Row
+    ensures { result ≡ shown.statement_row (resolved finals.now) item.now item.now.made.shown }
 {
-    let mut row = blank_row(made.flags());
-    match made.shown() {
+    let mut row = blank_row(item.made.flags());
+    match item.made.shown() {
         Shown::Nothing => {}
         Shown::Value(value) => {
             if let Some(value) = finals.final_of(value) {
@@ -199,9 +192,11 @@ pub fn statement_row(made: &Made, finals: &Finals) -> Row
             }
         }
         Shown::Start => {
-            let address = first_address(made, finals.address_of(made.block()));
-            row.flags = row.flags.joined(limit_flags(made.machine(), address));
-            row.location = Some(address);
+            let standing = Standing::of(item, finals);
+            row.flags = row
+                .flags
+                .joined(limit_flags(standing.machine(), standing.here()));
+            row.location = Some(standing.here());
         }
     }
     row

@@ -1,9 +1,9 @@
 //! What symbols stand for in a statement.
 ghost use Rattle.std.specs.Prelude.{◌≡◌};
-ghost use Rattle.cps_final.specs.Finals.{final_value};
+ghost use Rattle.cps_final.specs.Resolving.{resolved};
 ghost use Rattle.cps_final.specs.Values.{values_in};
 
-use crate::finals::{Finals, Gathered};
+use crate::finals::Finals;
 use cps_expr::{Names, Value, is_same_name};
 use cps_state::Held;
 use cps_text::Name;
@@ -16,10 +16,10 @@ pub struct Symbols<'a> {
 }
 
 impl Names for Symbols<'_> {
-    ghost use Rattle.cps_final.specs.Finals.{final_value};
+    ghost use Rattle.cps_final.specs.Resolving.{resolved};
     ghost use Rattle.cps_final.specs.Values.{values_in};
 
-    ghost value = { λ symbols. values_in (final_value (⟦<Finals as Gathered>⟧.gathered symbols.finals.now)) symbols.held.now };
+    ghost value = { λ symbols. values_in (resolved symbols.finals.now) symbols.held.now };
 
     fn value_of(&self, name: Name) -> Option<Value> {
         symbol_value(self.finals, self.held, name)
@@ -27,7 +27,7 @@ impl Names for Symbols<'_> {
 }
 
 fn symbol_value(finals: &Finals, held: &[Held], name: Name) -> Option<Value>
-    ensures { result ≡ values_in (final_value (⟦<Finals as Gathered>⟧.gathered finals.now)) held.now name }
+    ensures { result ≡ values_in (resolved finals.now) held.now name }
 {
     for set in held {
         if is_same_name(set.name, name) {

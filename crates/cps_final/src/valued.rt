@@ -1,18 +1,17 @@
 //! Contents with the final values of their expressions.
-ghost use Rattle.std.specs.Prelude.{◌≡◌, ◌+◌, ◌/◌, ◌<◌, ◌≤◌, ◌^◌, ◌||◌, not, IfSome};
+ghost use Rattle.std.specs.Prelude.{◌≡◌, ◌<◌, ◌≤◌, ◌^◌, ◌||◌, not, IfSome};
 ghost use Rattle.cps_code.specs.Form.{put_value, fits_width};
 ghost use Rattle.cps_code.specs.Value.{IsInRange};
 ghost use Rattle.cps_expr.specs.Value as ranges;
 ghost use Rattle.cps_state.specs.Made.{width_of, IsContent};
-ghost use Rattle.cps_final.specs.Finals.{final_value};
+ghost use Rattle.cps_final.specs.Resolving.{view_of};
 ghost use Rattle.cps_final.specs.Values as values;
 
-use crate::finals::{Finals, Gathered};
-use crate::symbols::Symbols;
+use crate::standing::Standing;
 use cps_code::{CpForm, Filled, Hole, HoleKind, Operand, bits_of_value, fits_width};
 use cps_expr::{Expr, Value};
 use cps_peripheral::PpForm;
-use cps_state::{Content, Flags, Made, WORD};
+use cps_state::{Content, Flags};
 
 /// The number that a content makes, and the flags that its values give.
 #[derive(Clone, Copy)]
@@ -28,49 +27,38 @@ struct Counted {
     flags: Flags,
 }
 
-/// The final address of the word in which a statement starts, in its block behind so many words.
-pub fn first_address(made: &Made, base: u64) -> u64
-    requires { base < 2 ^ 60 }
-    ensures address { result ≡ base + made.now.start / 60 }
-    ensures bound { result < 2 ^ 61 }
-{
-    base + u64::from(made.start() / WORD)
-}
-
-/// A content in which `*` stands for an address; a value that there is not counts as 0.
-pub fn value_content(content: &Content, made: &Made, finals: &Finals, address: u64) -> Valued
-    requires low { address < 2 ^ 62 }
-    requires each { IsContent content.now }
-    ensures number { result.number ≡ values.number_of (values.known_in (final_value (⟦<Finals as Gathered>⟧.gathered finals.now)) made.now) address content.now }
-    ensures flags { result.flags ≡ values.value_flags (values.known_in (final_value (⟦<Finals as Gathered>⟧.gathered finals.now)) made.now) address content.now }
+/// A content of a statement; a value that there is not counts as 0.
+pub fn value_content(content: &Content, standing: &Standing) -> Valued
+    requires { IsContent content.now }
+    ensures number { result.number ≡ values.number_of (view_of standing.now).known (view_of standing.now).here content.now }
+    ensures flags { result.flags ≡ values.value_flags (view_of standing.now).known (view_of standing.now).here content.now }
     ensures fits { result.number < 2 ^ width_of content.now }
 {
     match content {
-        Content::Instruction(form) => value_instruction(form, made, finals, address),
-        Content::Peripheral(form) => value_peripheral(form, made, finals, address),
-        Content::Value(width, expression) => value_in(*width, expression, made, finals, address),
+        Content::Instruction(form) => value_instruction(form, standing),
+        Content::Peripheral(form) => value_peripheral(form, standing),
+        Content::Value(width, expression) => value_in(*width, expression, standing),
         Content::Number(_, number) => Valued {
             number: *number,
             flags: Flags::none(),
         },
         Content::Unsized(expression) => Valued {
             number: 0,
-            flags: value_of(expression, made, finals, address).flags,
+            flags: value_of(expression, standing).flags,
         },
     }
 }
 
 /// The value of an expression in so many bits.
-fn value_in(width: u8, expression: &Expr, made: &Made, finals: &Finals, address: u64) -> Valued
-    requires low { address < 2 ^ 62 }
+fn value_in(width: u8, expression: &Expr, standing: &Standing) -> Valued
     requires some { 0 < width }
     requires few { width ≤ 60 }
-    ensures number { result.number ≡ put_value width (values.number_at (values.values_in (final_value (⟦<Finals as Gathered>⟧.gathered finals.now)) made.now.held) address expression.now) }
-    ensures flags { result.flags ≡ record (values.expression_flags (values.values_in (final_value (⟦<Finals as Gathered>⟧.gathered finals.now)) made.now.held) address expression.now)
-        { cut = not (fits_width width (values.number_at (values.values_in (final_value (⟦<Finals as Gathered>⟧.gathered finals.now)) made.now.held) address expression.now)) } }
+    ensures number { result.number ≡ put_value width (values.number_at (view_of standing.now).known.symbols (view_of standing.now).here expression.now) }
+    ensures flags { result.flags ≡ record (values.expression_flags (view_of standing.now).known.symbols (view_of standing.now).here expression.now)
+        { cut = not (fits_width width (values.number_at (view_of standing.now).known.symbols (view_of standing.now).here expression.now)) } }
     ensures fits { result.number < 2 ^ width }
 {
-    let value = value_of(expression, made, finals, address);
+    let value = value_of(expression, standing);
     let mut flags = value.flags;
     flags.cut = !fits_width(value.number, width);
     Valued {
@@ -80,16 +68,15 @@ fn value_in(width: u8, expression: &Expr, made: &Made, finals: &Finals, address:
 }
 
 /// An instruction of the central processor.
-fn value_instruction(form: &CpForm, made: &Made, finals: &Finals, address: u64) -> Valued
-    requires { address < 2 ^ 62 }
-    ensures number { result.number ≡ values.form_number (values.known_in (final_value (⟦<Finals as Gathered>⟧.gathered finals.now)) made.now) address form.now }
-    ensures flags { result.flags ≡ values.form_flags (values.known_in (final_value (⟦<Finals as Gathered>⟧.gathered finals.now)) made.now) address form.now }
+fn value_instruction(form: &CpForm, standing: &Standing) -> Valued
+    ensures number { result.number ≡ values.form_number (view_of standing.now).known (view_of standing.now).here form.now }
+    ensures flags { result.flags ≡ values.form_flags (view_of standing.now).known (view_of standing.now).here form.now }
     ensures fits { result.number < 2 ^ form.now.bits }
 {
     match form.holes() {
         [] => valued_form(form.fill(&[]), Flags::none()),
         [hole] => {
-            let value = value_hole(hole, made, finals, address);
+            let value = value_hole(hole, standing);
             valued_form(form.fill(&[value.number]), value.flags)
         }
         _ => unreachable!(),
@@ -97,21 +84,20 @@ fn value_instruction(form: &CpForm, made: &Made, finals: &Finals, address: u64) 
 }
 
 /// An instruction of a peripheral processor.
-fn value_peripheral(form: &PpForm, made: &Made, finals: &Finals, address: u64) -> Valued
-    requires { address < 2 ^ 62 }
-    ensures number { result.number ≡ values.form_number (values.known_in (final_value (⟦<Finals as Gathered>⟧.gathered finals.now)) made.now) address form.now }
-    ensures flags { result.flags ≡ values.form_flags (values.known_in (final_value (⟦<Finals as Gathered>⟧.gathered finals.now)) made.now) address form.now }
+fn value_peripheral(form: &PpForm, standing: &Standing) -> Valued
+    ensures number { result.number ≡ values.form_number (view_of standing.now).known (view_of standing.now).here form.now }
+    ensures flags { result.flags ≡ values.form_flags (view_of standing.now).known (view_of standing.now).here form.now }
     ensures fits { result.number < 2 ^ form.now.bits }
 {
     match form.holes() {
         [] => valued_form(form.fill(&[]), Flags::none()),
         [hole] => {
-            let value = value_hole(hole, made, finals, address);
+            let value = value_hole(hole, standing);
             valued_form(form.fill(&[value.number]), value.flags)
         }
         [hole, other_hole] => {
-            let value = value_hole(hole, made, finals, address);
-            let other = value_hole(other_hole, made, finals, address);
+            let value = value_hole(hole, standing);
+            let other = value_hole(other_hole, standing);
             valued_form(
                 form.fill(&[value.number, other.number]),
                 value.flags.joined(other.flags),
@@ -136,49 +122,42 @@ fn valued_form(filled: Filled, flags: Flags) -> Valued
 }
 
 /// What goes into a hole.
-fn value_hole(hole: &Hole, made: &Made, finals: &Finals, address: u64) -> Counted
-    requires { address < 2 ^ 62 }
-    ensures number { result.number ≡ values.number_for hole.now.kind address (values.operand_number (values.known_in (final_value (⟦<Finals as Gathered>⟧.gathered finals.now)) made.now) address hole.now.operand) }
-    ensures flags { result.flags ≡ values.operand_flags (values.known_in (final_value (⟦<Finals as Gathered>⟧.gathered finals.now)) made.now) address hole.now.operand }
+fn value_hole(hole: &Hole, standing: &Standing) -> Counted
+    ensures number { result.number ≡ values.number_for hole.now.kind (view_of standing.now).here (values.operand_number (view_of standing.now).known (view_of standing.now).here hole.now.operand) }
+    ensures flags { result.flags ≡ values.operand_flags (view_of standing.now).known (view_of standing.now).here hole.now.operand }
 {
-    let value = value_operand(&hole.operand, made, finals, address);
+    let value = value_operand(&hole.operand, standing);
     match hole.kind {
         HoleKind::Value | HoleKind::Count => value,
         HoleKind::Target => Counted {
-            number: value.number - address as i64,
+            number: value.number - standing.here() as i64,
             flags: value.flags,
         },
     }
 }
 
 /// What goes into a hole that takes values: the value of an expression, or the address of a literal.
-fn value_operand(operand: &Operand, made: &Made, finals: &Finals, address: u64) -> Counted
-    requires { address < 2 ^ 62 }
-    ensures number { result.number ≡ values.operand_number (values.known_in (final_value (⟦<Finals as Gathered>⟧.gathered finals.now)) made.now) address operand.now }
-    ensures flags { result.flags ≡ values.operand_flags (values.known_in (final_value (⟦<Finals as Gathered>⟧.gathered finals.now)) made.now) address operand.now }
+fn value_operand(operand: &Operand, standing: &Standing) -> Counted
+    ensures number { result.number ≡ values.operand_number (view_of standing.now).known (view_of standing.now).here operand.now }
+    ensures flags { result.flags ≡ values.operand_flags (view_of standing.now).known (view_of standing.now).here operand.now }
     ensures range { IsInRange result.number }
 {
     match operand {
-        Operand::Expression(expression) => value_of(expression, made, finals, address),
+        Operand::Expression(expression) => value_of(expression, standing),
         Operand::Literal(word) => Counted {
-            number: finals.literal_address(*word) as i64,
+            number: standing.literal_address(*word) as i64,
             flags: Flags::none(),
         },
     }
 }
 
-/// The value of an expression in which `*` stands for an address.
-fn value_of(expression: &Expr, made: &Made, finals: &Finals, address: u64) -> Counted
-    requires { address < 2 ^ 62 }
-    ensures number { result.number ≡ values.number_at (values.values_in (final_value (⟦<Finals as Gathered>⟧.gathered finals.now)) made.now.held) address expression.now }
-    ensures flags { result.flags ≡ values.expression_flags (values.values_in (final_value (⟦<Finals as Gathered>⟧.gathered finals.now)) made.now.held) address expression.now }
+/// The value of an expression in which `*` stands for the address of the statement's first word.
+fn value_of(expression: &Expr, standing: &Standing) -> Counted
+    ensures number { result.number ≡ values.number_at (view_of standing.now).known.symbols (view_of standing.now).here expression.now }
+    ensures flags { result.flags ≡ values.expression_flags (view_of standing.now).known.symbols (view_of standing.now).here expression.now }
     ensures range { IsInRange result.number }
 {
-    let symbols = Symbols {
-        finals,
-        held: made.held(),
-    };
-    let valued = expression.value(&symbols, Value::plain(address as i64));
+    let valued = standing.value(expression);
     let offset = plain_offset(valued.value);
     let mut flags = Flags::none();
     flags.operand = offset.is_none();

@@ -7,7 +7,7 @@ use Rattle.std.proofs.lemmas.List.{length_push, append-nil}
 use Rattle.cps_state.specs.declared.key.Key.{Key}
 use Rattle.cps_state.specs.declared.key.Answer.{Answer}
 use Rattle.cps_state.specs.declared.item.Item.{Item}
-use Rattle.cps_state.specs.Course.{Course, stop, ask, put, fill, mark, tell, settle, begin, Running, run, started, known_at, answer_at, with_ask, with_put_made, filled, marked, with_read, settled_by, items_of, begun, most_statements, too_much, Trace, traced}
+use Rattle.cps_state.specs.Course.{Course, stop, ask, put, stand, fill, mark, tell, settle, begin, Running, run, started, known_at, answer_at, with_ask, with_put_made, stood, filled, marked, with_read, settled_by, items_of, begun, most_statements, too_much, Trace, traced}
 use Rattle.cps_state.specs.Keys.{State}
 use Rattle.cps_laws.specs.Listed.{Entry, listed, reached, expansion, is_deep, is_dropped, before_deep, allowed, trace_in, trace_by_list}
 use Rattle.cps_laws.specs.CourseLaws.{entry_of, own_entry}
@@ -52,6 +52,7 @@ run-listed stop f t count is = refl
 run-listed (ask k next) f t count is =
     run-listed (next (answer_at f t k)) f (with_ask f t k) count (ap (λ (items : List Item). length items) (asked-whole f t k (known_at t k)) ∙ is)
 run-listed (put p rest) f t count is = run-listed rest f (with_put_made t p) count is
+run-listed (stand block rest) f t count is = run-listed rest f (stood t block) count is
 run-listed (fill made rest) f t count is = run-listed rest f (filled t made) count is
 run-listed (mark flags rest) f t count is = run-listed rest f (marked t flags) count is
 run-listed (tell name rest) f t count is = run-listed rest f (with_read t name) count is
@@ -169,6 +170,9 @@ reached-entries count (ask k next) f t =
     reached-entries count (next (answer_at f t k)) f (with_ask f t k)
     ∙ ap (λ es. es ++ take count (listed (next (answer_at f t k)) f (with_ask f t k))) (asked-entries f t k (known_at t k))
 reached-entries count (put p rest) f t = reached-entries count rest f (with_put_made t p)
+reached-entries count (stand block rest) f t =
+    reached-entries count rest f (stood t block)
+    ∙ ap (λ es. es ++ take count (listed rest f (stood t block))) (filled-entries t.whole (stood t block).present t.present refl)
 reached-entries count (fill made rest) f t =
     reached-entries count rest f (filled t made)
     ∙ ap (λ es. es ++ take count (listed rest f (filled t made))) (filled-entries t.whole (filled t made).present t.present refl)

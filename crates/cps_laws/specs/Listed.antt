@@ -2,7 +2,7 @@
 -- statements a line may stand for, are our profile's.
 use Rattle.std.specs.Prelude.{ℕ, zero, suc, ◌+◌, Bool, not, ◌||◌, min, nat_lt, List, [], ◌∷◌, length, if◌then◌else◌}
 use Rattle.std.specs.List.{list_any}
-use Rattle.cps_state.specs.Course.{Course, stop, ask, put, fill, mark, tell, settle, begin, Running, run, started, answer_at, with_ask, with_put_made, filled, marked, with_read, settled_by, begun, deepest, most_statements, Trace, traced}
+use Rattle.cps_state.specs.Course.{Course, stop, ask, put, stand, fill, mark, tell, settle, begin, Running, run, started, answer_at, with_ask, with_put_made, stood, filled, marked, with_read, settled_by, begun, deepest, most_statements, Trace, traced}
 use Rattle.cps_state.specs.Keys.{State}
 
 -- a statement: how deep it stands, and its text
@@ -17,6 +17,7 @@ abbrev pub listed : Course → State → Running → List Entry
 listed stop state running = []
 listed (ask k next) state running = listed (next (answer_at state running k)) state (with_ask state running k)
 listed (put p rest) state running = listed rest state (with_put_made running p)
+listed (stand block rest) state running = listed rest state (stood running block)
 listed (fill made rest) state running = listed rest state (filled running made)
 listed (mark flags rest) state running = listed rest state (marked running flags)
 listed (tell name rest) state running = listed rest state (with_read running name)
@@ -28,6 +29,7 @@ abbrev pub reached : ℕ → Course → State → Running → Running
 reached count stop state running = running
 reached count (ask k next) state running = reached count (next (answer_at state running k)) state (with_ask state running k)
 reached count (put p rest) state running = reached count rest state (with_put_made running p)
+reached count (stand block rest) state running = reached count rest state (stood running block)
 reached count (fill made rest) state running = reached count rest state (filled running made)
 reached count (mark flags rest) state running = reached count rest state (marked running flags)
 reached count (tell name rest) state running = reached count rest state (with_read running name)

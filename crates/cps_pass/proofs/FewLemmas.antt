@@ -8,7 +8,7 @@ use Rattle.std.proofs.lemmas.List.Elements.{All-nil, All-push, filter-append}
 use Rattle.cps_state.specs.declared.item.Item.{Item}
 use Rattle.cps_state.specs.declared.key.Key.{Key}
 use Rattle.cps_state.specs.declared.key.Answer.{Answer}
-use Rattle.cps_state.specs.Course.{Course, stop, ask, put, fill, mark, tell, settle, begin, Running, run, started, known_at, answer_at, with_ask, with_put_made, filled, marked, with_read, settled_by, begun, deepest, most_statements, too_much, traced, first_item, dropped_item}
+use Rattle.cps_state.specs.Course.{Course, stop, ask, put, stand, fill, mark, tell, settle, begin, Running, run, started, known_at, answer_at, with_ask, with_put_made, stood, filled, marked, with_read, settled_by, begun, deepest, most_statements, too_much, traced, first_item, dropped_item}
 use Rattle.cps_state.specs.Keys.{State}
 use Rattle.cps_pass.specs.Bounded.{below_the_line, AreFew}
 
@@ -109,6 +109,7 @@ unfolding asking_with goes
 few-run stop f t few = few
 few-run (ask k next) f t few = few-run (next (answer_at f t k)) f (with_ask f t k) (few-asking f t k (known_at t k) few)
 few-run (put p rest) f t few = few-run rest f (with_put_made t p) few
+few-run (stand block rest) f t few = few-run rest f (stood t block) few
 few-run (fill made rest) f t few = few-run rest f (filled t made) few
 few-run (mark flags rest) f t few = few-run rest f (marked t flags) few
 few-run (tell name rest) f t few = few-run rest f (with_read t name) few

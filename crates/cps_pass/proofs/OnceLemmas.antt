@@ -6,7 +6,7 @@ use Rattle.std.proofs.lemmas.List.Quantifiers.{all_pairs_push}
 use Rattle.cps_state.specs.declared.key.Key.{Key}
 use Rattle.cps_state.specs.declared.key.Answer.{Answer}
 use Rattle.cps_state.specs.declared.key.Asked.{Asked}
-use Rattle.cps_state.specs.Course.{Course, stop, ask, put, fill, mark, tell, settle, begin, Running, run, started, last_put, last_ask, known_at, answer_at, with_ask, with_put_made, filled, marked, with_read, settled_by, begun, too_much, traced}
+use Rattle.cps_state.specs.Course.{Course, stop, ask, put, stand, fill, mark, tell, settle, begin, Running, run, started, last_put, last_ask, known_at, answer_at, with_ask, with_put_made, stood, filled, marked, with_read, settled_by, begun, too_much, traced}
 use Rattle.cps_state.specs.Keys.{State, same_key}
 use Rattle.cps_pass.specs.Bounded.{EachOnce}
 use Rattle.cps_pass.proofs.StepLemmas.{same-asks}
@@ -52,6 +52,7 @@ unfolding asking_with goes
 once-run stop f t once = once
 once-run (ask k next) f t once = once-run (next (answer_at f t k)) f (with_ask f t k) (once-asking f t k (known_at t k) refl once)
 once-run (put p rest) f t once = once-run rest f (with_put_made t p) once
+once-run (stand block rest) f t once = once-run rest f (stood t block) once
 once-run (fill made rest) f t once = once-run rest f (filled t made) once
 once-run (mark flags rest) f t once = once-run rest f (marked t flags) once
 once-run (tell name rest) f t once = once-run rest f (with_read t name) once

@@ -1,16 +1,17 @@
--- Parts that are done one after the other, where the last one hands on where a statement stands by then.
-use Rattle.std.proofs.Common.{◌≡◌, ◌∙◌, Result, Ok, Err, sym, ap}
-use Rattle.std.specs.Prelude.{OnOk}
-use Rattle.cps_state.specs.declared.key.Control.{Control}
-use Rattle.cps_state.specs.Course.{Part, ◌before◌, Running, run, Does, Hands}
+-- A value is handed on, and then a statement is done that opens others.
+use Rattle.std.proofs.Common.{◌∙◌, Result, Ok, Err, Option}
+use Rattle.std.specs.Prelude.{IfOk}
+use Rattle.cps_state.specs.Course.{Part}
 use Rattle.cps_state.specs.Keys.{State}
-use Rattle.cps_effect.specs.Head.{in_body, leaving_head}
+use Rattle.cps_state.specs.Line.{Line, Hands}
+use Rattle.cps_pass.specs.declared.opened.Opened.{Opened}
 use Rattle.cps_pass.specs.declared.scope.Scope.{Scope}
+use Rattle.cps_pass.specs.Opened.{lines_of}
+use Rattle.cps_pass.specs.Scope.{Behind}
+use Rattle.cps_pass.specs.Taking.{HandsOn}
 
--- the head is left, and then something is done in the body
-pub behind-head : {U V : Type 0} (control body : Control) (part : Control → (Scope → Part) → Part) (later : Scope) (f : State) (s t u : Running) (r : Result U V)
-    → Does (leaving_head control) f s t → body ≡ in_body control → OnOk r (Hands (part body) later f t u)
-    → OnOk r (Hands (λ (next : Scope → Part). leaving_head control before part (in_body control) next) later f s u)
-behind-head control body part later f s t u (Ok x) leaves same hands =
-    λ next rest. leaves (part (in_body control) next rest) ∙ ap (λ (b : Control). run (part b next rest) f t) (sym same) ∙ hands next rest
-behind-head control body part later f s t u (Err x) leaves same hands = tt
+pub handed-opens : {T V S : Type 0} (part : (T → Part) → Part) (value : T) (next : T → Behind → Part) (later : Scope) (f : S → State) (s t u : Line S) (r : Result (Option Opened) V)
+    → Hands part value f s t → IfOk r (λ opened. HandsOn (next value) later (lines_of opened) f t u)
+    → IfOk r (λ opened. HandsOn (λ behind. part (λ x. next x behind)) later (lines_of opened) f s u)
+handed-opens part value next later f s t u (Ok opened) hands does = λ behind rest. hands (λ x. next x behind) rest ∙ does behind rest
+handed-opens part value next later f s t u (Err fault) hands does = tt

@@ -1,42 +1,44 @@
 -- The statements of an expansion, one more.
 use Rattle.std.proofs.Common.{◌≡◌, refl, sym, ap, ◌∙◌, ℕ, zero, suc, ◌+◌, ◌-◌, ◌<◌, ◌≤◌, List, [], ◌∷◌, ◌++◌, Option, Some, None, true, false, Bool, length, get_or, drop, arith}
 use Rattle.std.proofs.lemmas.List.{drop_more}
-use Rattle.cps_state.specs.Course.{Course, stop, begin, settle, Part, ◌before◌, nothing, Running, run, started, settled_by, went, Goes}
+use Rattle.cps_state.specs.Course.{Course, stop, begin, settle, Part, ◌before◌, nothing, run, started}
+use Rattle.cps_state.specs.Line.{Line, runs, line_started, line_settled, goes_on, Goes}
+use Rattle.cps_state.proofs.LineLemmas.{runs-done}
 use Rattle.cps_state.specs.Keys.{State}
 use Rattle.cps_pass.specs.declared.opened.Opened.{Opened}
 use Rattle.cps_pass.specs.declared.scope.Scope.{Scope}
 use Rattle.cps_pass.specs.declared.scope.Scope.TheVariants.{Source, Expansion}
-use Rattle.cps_pass.specs.Expansion.{ended, walk, body, too_deep, line_part, Walks}
-use Rattle.cps_pass.specs.Keeping.{repeated}
+use Rattle.cps_pass.specs.Expansion.{ended, walk, body, too_deep, line_part}
+use Rattle.cps_pass.specs.Treating.{repeated}
 use Rattle.cps_pass.specs.Meaning.{statement}
 use Rattle.cps_pass.specs.Opened.{lines_of}
 use Rattle.cps_pass.specs.Own.{begun}
-use Rattle.cps_pass.specs.Taking.{HandsOn}
+use Rattle.cps_pass.specs.Taking.{HandsOn, Walks}
 
 -- a statement, and then those behind it
-pub walked : (nested : ℕ → List (List ℕ) → Part) (depth : ℕ) (texts : List (List ℕ)) (i : ℕ) (text : List ℕ) (scope later : Scope) (opened : List (List ℕ)) (whole : Bool) (f : State) (s t u v : Running)
+pub walked : {S : Type 0} (nested : ℕ → List (List ℕ) → Part) (depth : ℕ) (texts : List (List ℕ)) (i : ℕ) (text : List ℕ) (scope later : Scope) (opened : List (List ℕ)) (whole : Bool) (f : S → State) (s t u v : Line S)
     → i < length texts → text ≡ get_or texts i text
     → Goes (begin depth text) true f s t
     → HandsOn (statement scope text) later opened f t u
     → Goes (nested (depth + 1) opened) whole f u v
-    → (next : Scope → Part) (rest : Course) → run (walk nested depth scope (drop i texts) next rest) f s ≡ went whole (walk nested depth later (drop (i + 1) texts) next rest) f v
+    → (next : Scope → Part) (rest : Course) → runs (walk nested depth scope (drop i texts) next rest) f s ≡ goes_on whole (walk nested depth later (drop (i + 1) texts) next rest) f v
 walked nested depth texts i text scope later opened whole f s t u v lt is begins obeys nests next rest =
     let behind : List (List ℕ) = drop (i + 1) texts in
-    ap (λ xs. run (walk nested depth scope xs next rest) f s) (drop_more texts i text lt)
-    ∙ ap (λ (x : List ℕ). run (walk nested depth scope (x ∷ behind) next rest) f s) (sym is)
+    ap (λ xs. runs (walk nested depth scope xs next rest) f s) (drop_more texts i text lt)
+    ∙ ap (λ (x : List ℕ). runs (walk nested depth scope (x ∷ behind) next rest) f s) (sym is)
     ∙ begins (statement scope text (λ after lines. nested (depth + 1) lines before walk nested depth after behind next) rest)
     ∙ obeys (λ after lines. nested (depth + 1) lines before walk nested depth after behind next) rest
     ∙ nests (walk nested depth later behind next rest)
 
 -- a statement that is too much
-pub cut : (nested : ℕ → List (List ℕ) → Part) (depth : ℕ) (texts : List (List ℕ)) (i : ℕ) (text : List ℕ) (scope : Scope) (f : State) (s t : Running)
+pub cut : {S : Type 0} (nested : ℕ → List (List ℕ) → Part) (depth : ℕ) (texts : List (List ℕ)) (i : ℕ) (text : List ℕ) (scope : Scope) (f : S → State) (s t : Line S)
     → i < length texts → text ≡ get_or texts i text
     → Goes (begin depth text) false f s t
-    → (next : Scope → Part) (rest : Course) → run (walk nested depth scope (drop i texts) next rest) f s ≡ (t, false)
+    → (next : Scope → Part) (rest : Course) → runs (walk nested depth scope (drop i texts) next rest) f s ≡ (t, false)
 cut nested depth texts i text scope f s t lt is begins next rest =
     let behind : List (List ℕ) = drop (i + 1) texts in
-    ap (λ xs. run (walk nested depth scope xs next rest) f s) (drop_more texts i text lt)
-    ∙ ap (λ (x : List ℕ). run (walk nested depth scope (x ∷ behind) next rest) f s) (sym is)
+    ap (λ xs. runs (walk nested depth scope xs next rest) f s) (drop_more texts i text lt)
+    ∙ ap (λ (x : List ℕ). runs (walk nested depth scope (x ∷ behind) next rest) f s) (sym is)
     ∙ begins (statement scope text (λ after lines. nested (depth + 1) lines before walk nested depth after behind next) rest)
 
 -- an expansion without statements
@@ -57,33 +59,33 @@ walk-append nested depth (text ∷ xs) ys next scope =
     ap (λ (g : Scope → Part). λ (rest : Course). begin depth text (statement scope text (λ later opened. nested (depth + 1) opened before g later) rest)) (λ i later. walk-append nested depth xs ys next later i)
 
 -- what a part did, by how it ended
-pub goes-as : (part : Part) (w b : Bool) (f : State) (s t : Running) → w ≡ b → Goes part w f s t → Goes part b f s t
-goes-as part w b f s t same goes rest = goes rest ∙ ap (λ x. went x rest f t) same
+pub goes-as : {S : Type 0} (part : Part) (w b : Bool) (f : S → State) (s t : Line S) → w ≡ b → Goes part w f s t → Goes part b f s t
+goes-as part w b f s t same goes rest = goes rest ∙ ap (λ x. goes_on x rest f t) same
 
-pub begins-as : (depth : ℕ) (shared text : List ℕ) (w b : Bool) (f : State) (s t : Running) → shared ≡ text → w ≡ b → Goes (begin depth shared) w f s t → Goes (begin depth text) b f s t
+pub begins-as : {S : Type 0} (depth : ℕ) (shared text : List ℕ) (w b : Bool) (f : S → State) (s t : Line S) → shared ≡ text → w ≡ b → Goes (begin depth shared) w f s t → Goes (begin depth text) b f s t
 begins-as depth shared text w b f s t same so goes rest =
-    ap (λ (x : List ℕ). run (begin depth x rest) f s) (sym same) ∙ goes-as (begin depth shared) w b f s t so goes rest
+    ap (λ (x : List ℕ). runs (begin depth x rest) f s) (sym same) ∙ goes-as (begin depth shared) w b f s t so goes rest
 
-pub obeys-as : (scope later : Scope) (slice text : List ℕ) (opened : List (List ℕ)) (f : State) (s t : Running) → slice ≡ text
+pub obeys-as : {S : Type 0} (scope later : Scope) (slice text : List ℕ) (opened : List (List ℕ)) (f : S → State) (s t : Line S) → slice ≡ text
     → HandsOn (statement scope slice) later opened f s t → HandsOn (statement scope text) later opened f s t
-obeys-as scope later slice text opened f s t same hands behind rest = ap (λ (x : List ℕ). run (statement scope x behind rest) f s) (sym same) ∙ hands behind rest
+obeys-as scope later slice text opened f s t same hands behind rest = ap (λ (x : List ℕ). runs (statement scope x behind rest) f s) (sym same) ∙ hands behind rest
 
-pub walks-as : (nested : ℕ → List (List ℕ) → Part) (depth : ℕ) (scope later : Scope) (slice texts : List (List ℕ)) (w b : Bool) (f : State) (s t : Running) → slice ≡ texts → w ≡ b
+pub walks-as : {S : Type 0} (nested : ℕ → List (List ℕ) → Part) (depth : ℕ) (scope later : Scope) (slice texts : List (List ℕ)) (w b : Bool) (f : S → State) (s t : Line S) → slice ≡ texts → w ≡ b
     → Walks (walk nested depth scope slice) w later f s t → Walks (walk nested depth scope texts) b later f s t
 walks-as nested depth scope later slice texts w b f s t same so walks next rest =
-    ap (λ (xs : List (List ℕ)). run (walk nested depth scope xs next rest) f s) (sym same) ∙ walks next rest ∙ ap (λ x. went x (next later rest) f t) so
+    ap (λ (xs : List (List ℕ)). runs (walk nested depth scope xs next rest) f s) (sym same) ∙ walks next rest ∙ ap (λ x. goes_on x (next later rest) f t) so
 
 -- what a statement opened
-pub opened-some : (n p depth : ℕ) (o : Option Opened) (x : Opened) (w b : Bool) (f : State) (s t : Running) → o ≡ Some x → n ≡ p → w ≡ b
+pub opened-some : {S : Type 0} (n p depth : ℕ) (o : Option Opened) (x : Opened) (w b : Bool) (f : S → State) (s t : Line S) → o ≡ Some x → n ≡ p → w ≡ b
     → Goes (body n depth (repeated x.times x.lines.items)) w f s t → Goes (body p depth (lines_of o)) b f s t
 opened-some n p depth o x w b f s t some same so goes rest =
-    ap (λ q. run (body p depth (lines_of q) rest) f s) some
-    ∙ ap (λ m. run (body m depth (repeated x.times x.lines.items) rest) f s) (sym same)
+    ap (λ q. runs (body p depth (lines_of q) rest) f s) some
+    ∙ ap (λ m. runs (body m depth (repeated x.times x.lines.items) rest) f s) (sym same)
     ∙ goes-as (body n depth (repeated x.times x.lines.items)) w b f s t so goes rest
 
-pub opened-none : (p depth : ℕ) (o : Option Opened) (f : State) (s : Running) → o ≡ None → Goes (body p depth (lines_of o)) true f s s
+pub opened-none : {S : Type 0} (p depth : ℕ) (o : Option Opened) (f : S → State) (s : Line S) → o ≡ None → Goes (body p depth (lines_of o)) true f s s
 opened-none p depth o f s none rest =
-    ap (λ q. run (body p depth (lines_of q) rest) f s) none ∙ ap (λ (part : Part). run (part rest) f s) (body-empty p depth)
+    ap (λ q. runs (body p depth (lines_of q) rest) f s) none ∙ ap (λ (part : Part). runs (part rest) f s) (body-empty p depth)
 
 -- a turn, and then the others
 repeated-next : (n i : ℕ) (texts : List (List ℕ)) → i < n → repeated (n - i) texts ≡ texts ++ repeated (n - (i + 1)) texts
@@ -91,12 +93,12 @@ repeated-next n i texts lt =
     let e : n - i ≡ suc (n - (i + 1)) = omega arith in
     ap (λ k. repeated k texts) e
 
-pub turned : (nested : ℕ → List (List ℕ) → Part) (depth n i : ℕ) (texts : List (List ℕ)) (scope later : Scope) (whole : Bool) (f : State) (s t : Running) → i < n
+pub turned : {S : Type 0} (nested : ℕ → List (List ℕ) → Part) (depth n i : ℕ) (texts : List (List ℕ)) (scope later : Scope) (whole : Bool) (f : S → State) (s t : Line S) → i < n
     → Walks (walk nested depth scope texts) whole later f s t
-    → (next : Scope → Part) (rest : Course) → run (walk nested depth scope (repeated (n - i) texts) next rest) f s ≡ went whole (walk nested depth later (repeated (n - (i + 1)) texts) next rest) f t
+    → (next : Scope → Part) (rest : Course) → runs (walk nested depth scope (repeated (n - i) texts) next rest) f s ≡ goes_on whole (walk nested depth later (repeated (n - (i + 1)) texts) next rest) f t
 turned nested depth n i texts scope later whole f s t lt walks next rest =
-    ap (λ xs. run (walk nested depth scope xs next rest) f s) (repeated-next n i texts lt)
-    ∙ ap (λ (part : Part). run (part rest) f s) (walk-append nested depth texts (repeated (n - (i + 1)) texts) next scope)
+    ap (λ xs. runs (walk nested depth scope xs next rest) f s) (repeated-next n i texts lt)
+    ∙ ap (λ (part : Part). runs (part rest) f s) (walk-append nested depth texts (repeated (n - (i + 1)) texts) next scope)
     ∙ walks (λ after. walk nested depth after (repeated (n - (i + 1)) texts) next) rest
 
 -- all turns
@@ -105,26 +107,30 @@ body-of depth texts le =
     let e : too_deep + 1 - depth ≡ suc (too_deep - depth) = omega arith in
     ap (λ n. body n depth texts) e ∙ body-next (too_deep - depth) depth texts
 
-pub body-as : (depth : ℕ) (texts : List (List ℕ)) (f : State) (s : Running) → depth ≤ too_deep → (rest : Course)
-    → run (body (too_deep + 1 - depth) depth texts rest) f s ≡ run (walk (body (too_deep - depth)) depth (Expansion begun) texts ended rest) f s
-body-as depth texts f s le rest = ap (λ (part : Part). run (part rest) f s) (body-of depth texts le)
+pub body-as : {S : Type 0} (depth : ℕ) (texts : List (List ℕ)) (f : S → State) (s : Line S) → depth ≤ too_deep → (rest : Course)
+    → runs (body (too_deep + 1 - depth) depth texts rest) f s ≡ runs (walk (body (too_deep - depth)) depth (Expansion begun) texts ended rest) f s
+body-as depth texts f s le rest = ap (λ (part : Part). runs (part rest) f s) (body-of depth texts le)
 
 -- no turn is left
-pub no-turn : (nested : ℕ → List (List ℕ) → Part) (depth n i : ℕ) (texts : List (List ℕ)) (scope : Scope) (f : State) (s : Running) → n ≤ i
-    → (next : Scope → Part) (rest : Course) → run (walk nested depth scope (repeated (n - i) texts) next rest) f s ≡ run (next scope rest) f s
+pub no-turn : {S : Type 0} (nested : ℕ → List (List ℕ) → Part) (depth n i : ℕ) (texts : List (List ℕ)) (scope : Scope) (f : S → State) (s : Line S) → n ≤ i
+    → (next : Scope → Part) (rest : Course) → runs (walk nested depth scope (repeated (n - i) texts) next rest) f s ≡ runs (next scope rest) f s
 no-turn nested depth n i texts scope f s le next rest =
     let e : n - i ≡ 0 = omega arith in
-    ap (λ k. run (walk nested depth scope (repeated k texts) next rest) f s) e
+    ap (λ k. runs (walk nested depth scope (repeated k texts) next rest) f s) e
 
-at-end : (whole : Bool) (f : State) (t : Running) → went whole stop f t ≡ (t, whole)
+at-end : {S : Type 0} (whole : Bool) (f : S → State) (t : Line S) → goes_on whole stop f t ≡ (t, whole)
 at-end true f t = refl
 at-end false f t = refl
 
 -- a line, by what its statement opened
-pub lined : (text : List ℕ) (later : Scope) (o : Option Opened) (whole : Bool) (f : State) (s u t : Running) → HandsOn (statement Source text) later (lines_of o) f started s
-    → u ≡ settled_by s → Goes (body too_deep 1 (lines_of o)) whole f u t → run (line_part text stop) f started ≡ (t, whole)
-lined text later o whole f s u t hands settled goes =
+pub lined : {S : Type 0} (text : List ℕ) (later : Scope) (o : Option Opened) (whole : Bool) (f : S → State) (r s u t : Line S) → HandsOn (statement Source text) later (lines_of o) f r s
+    → u ≡ line_settled s → Goes (body too_deep 1 (lines_of o)) whole f u t → runs (line_part text stop) f r ≡ (t, whole)
+lined text later o whole f r s u t hands settled goes =
     hands (λ after opened. settle before body too_deep 1 opened) stop
-    ∙ ap (λ (r : Running). run (body too_deep 1 (lines_of o) stop) f r) (sym settled)
+    ∙ ap (λ v. runs (body too_deep 1 (lines_of o) stop) f v) (sym settled)
     ∙ goes stop
     ∙ at-end whole f t
+
+-- what a line did in its state
+pub done-is : {S : Type 0} (course : Course) (f : S → State) (state : S) (t : Line S) (whole : Bool) → runs course f (line_started state) ≡ (t, whole) → (t.done, whole) ≡ run course (f state) started
+done-is {S} course f state t whole is = ap (λ (r : Line S × Bool). (r.0.done, r.1)) (sym is) ∙ runs-done course f state started

@@ -1,9 +1,9 @@
 -- What a source line does in pass one: its own statement, and the statements that it opens. From the manual's descriptions of DUP and of macro calls; how
 -- deep expansions may stand, and how many statements a line may stand for, are our profile's.
-use Rattle.std.specs.Prelude.{◌≡◌, ℕ, zero, suc, ◌+◌, Bool, true, false, List, [], ◌∷◌, if◌then◌else◌}
+use Rattle.std.specs.Prelude.{ℕ, zero, suc, ◌+◌, Bool, true, false, List, [], ◌∷◌, if◌then◌else◌}
 use Rattle.cps_state.specs.declared.key.Mode.{Mode}
 use Rattle.cps_state.specs.declared.key.Mode.TheVariants.{KeepDup}
-use Rattle.cps_state.specs.Course.{Course, stop, begin, mark, settle, Part, ◌before◌, nothing, Running, run, started, deepest, Trace, traced, went}
+use Rattle.cps_state.specs.Course.{stop, begin, mark, settle, Part, ◌before◌, nothing, run, started, deepest, Trace, traced}
 use Rattle.cps_state.specs.Keys.{State}
 use Rattle.cps_state.specs.Made.{no_flags}
 use Rattle.cps_pass.specs.declared.scope.Scope.{Scope}
@@ -49,9 +49,3 @@ line_part text = statement Source text (λ later opened. settle before body too_
 -- what a line asks, puts and makes in a state
 abbrev pub trace_of : List ℕ → State → Trace
 trace_of line state = traced (run (line_part line stop) state started)
-
--- ---- what the functions of an expansion do
-
--- statements were done whole, and hand on where they stand by then, or came to one that is too much
-abbrev pub Walks : ((Scope → Part) → Part) → Bool → Scope → State → Running → Running → Type 0
-Walks part whole scope state old new = (next : Scope → Part) (rest : Course) → run (part next rest) state old ≡ went whole (next scope rest) state new

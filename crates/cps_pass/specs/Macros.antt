@@ -21,8 +21,8 @@ use Rattle.cps_effect.specs.declared.placing.Site.{Site}
 use Rattle.cps_effect.specs.Places.{filling_between, here_at}
 use Rattle.cps_effect.specs.Placing.{asking_site, placing_flags, settling, word_start}
 use Rattle.cps_pass.specs.declared.scope.Scope.{Scope}
-use Rattle.cps_pass.specs.Keeping.{Behind, no_lines}
-use Rattle.cps_pass.specs.Scope.{going_by}
+use Rattle.cps_pass.specs.Keeping.{no_lines}
+use Rattle.cps_pass.specs.Scope.{going_by, flagging, Behind}
 
 -- ---- MACRO
 
@@ -46,14 +46,13 @@ macro_mode name parameters = KeepMacro (record { name = None; parameters = []; k
 abbrev pub macro_from : Control → Scope → Location → Option (List Name) → (Scope → Part) → Part
 macro_from control scope location parameters next =
     going_by control scope (macro_mode (macro_name location) parameters)
-    (λ later. fill (nothing_made (record no_flags { location = is_none (macro_name location); operand = is_none parameters })) before next later)
+    (λ later. flagging (record no_flags { location = is_none (macro_name location); operand = is_none parameters }) later next)
 
 -- ---- the location field of a call: a symbol is defined, at the beginning of a word
 
 abbrev pub labelled : Site → Made
 labelled site = record (nothing_made (placing_flags site)) {
   machine = site.machine;
-  block = site.block;
   filling = filling_between (position site.place) (word_start site);
   shown = shown.Address (here_at site.block (word_start site));
 }

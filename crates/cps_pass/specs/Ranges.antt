@@ -13,10 +13,10 @@ use Rattle.cps_state.specs.declared.key.Control.{Control}
 use Rattle.cps_state.specs.declared.key.Mode.TheVariants.{SkipLines, SkipRange}
 use Rattle.cps_state.specs.declared.key.Range.{Range}
 use Rattle.cps_state.specs.declared.key.Range.TheVariants.{BeforeElse, BehindElse}
-use Rattle.cps_state.specs.Course.{Part, ◌before◌, tell, fill}
+use Rattle.cps_state.specs.Course.{Part, ◌before◌, tell}
 use Rattle.cps_state.specs.Flags.{joined}
 use Rattle.cps_state.specs.Keys.{most_ranges, same_block}
-use Rattle.cps_state.specs.Made.{nothing_made, no_flags}
+use Rattle.cps_state.specs.Made.{no_flags}
 use Rattle.cps_pass.specs.declared.ranges.Tested.{Tested}
 use Rattle.cps_reading.specs.declared.reading.Location.{Location}
 use Rattle.cps_effect.specs.declared.value_now.ValueNow.{ValueNow}
@@ -25,7 +25,8 @@ use Rattle.cps_effect.specs.Located.{present_flags, has_value, asking_standing}
 use Rattle.cps_effect.specs.Numbers.{between, plain_number}
 use Rattle.cps_effect.specs.ValueNow.{now_here}
 use Rattle.cps_pass.specs.declared.scope.Scope.{Scope}
-use Rattle.cps_pass.specs.Scope.{going_by, asking_ranges, putting_ranges}
+use Rattle.cps_effect.specs.Making.{unmatched}
+use Rattle.cps_pass.specs.Scope.{going_by, asking_ranges, putting_ranges, flagging}
 
 -- how many lines may hang on an IF
 abbrev pub most_lines : ℕ
@@ -88,12 +89,12 @@ skipping_lines control scope false (Some count) next = if nat_eq count 0 then ne
 abbrev pub counting : Control → Scope → Location → Tested → ValueNow → (Scope → Part) → Part
 counting control scope location test value next =
     skipping_lines control scope test.holds (line_count value)
-    (λ later. fill (nothing_made (joined (present_flags location) (joined test.flags (count_flags value (line_count value))))) before next later)
+    (λ later. flagging (joined (present_flags location) (joined test.flags (count_flags value (line_count value)))) later next)
 
 -- a range whose test holds is open; one whose test doesn't is skipped, to its ELSE or its end
-abbrev pub opened : Control → Scope → Bool → List Range → (Scope → Part) → Part
-opened control scope true ranges next = putting_ranges scope (BeforeElse ∷ ranges) next
-opened control scope false ranges next = going_by control scope (SkipRange (record { nested = 0; may_resume = true })) next
+abbrev pub beginning : Control → Scope → Bool → List Range → (Scope → Part) → Part
+beginning control scope true ranges next = putting_ranges scope (BeforeElse ∷ ranges) next
+beginning control scope false ranges next = going_by control scope (SkipRange (record { nested = 0; may_resume = true })) next
 
 abbrev pub test_flags : Location → Tested → Flags
 test_flags location test = joined (present_flags location) test.flags
@@ -101,8 +102,8 @@ test_flags location test = joined (present_flags location) test.flags
 -- E where too many are open
 abbrev pub opening : Control → Scope → Location → Tested → List Range → (Scope → Part) → Part
 opening control scope location test ranges next =
-    if nat_le most_ranges (length ranges) then fill (nothing_made (record (test_flags location test) { structure = true })) before next scope
-    else opened control scope test.holds ranges (λ later. fill (nothing_made (test_flags location test)) before next later)
+    if nat_le most_ranges (length ranges) then flagging (record (test_flags location test) { structure = true }) scope next
+    else beginning control scope test.holds ranges (λ later. flagging (test_flags location test) later next)
 
 -- lines of a number, or up to ENDIF
 abbrev pub hanging_range : Control → Scope → Location → Tested → (Scope → Part) → Part
@@ -125,24 +126,21 @@ if_defined control scope location test next = asking_defined test (λ tested. ha
 
 -- ---- ELSE and ENDIF: E where there is no range for them
 
-abbrev pub no_range : Location → Part
-no_range location = fill (nothing_made (record (present_flags location) { structure = true }))
-
 -- the newest range is skipped from here on, to its end
 abbrev pub turned : Control → Scope → Location → List Range → (Scope → Part) → Part
 turned control scope location (BeforeElse ∷ ranges) next =
     putting_ranges scope ranges (λ within. going_by control within (SkipRange (record { nested = 0; may_resume = false }))
-    (λ later. fill (nothing_made (present_flags location)) before next later))
-turned control scope location (BehindElse ∷ ranges) next = no_range location before next scope
-turned control scope location [] next = no_range location before next scope
+    (λ later. flagging (present_flags location) later next))
+turned control scope location (BehindElse ∷ ranges) next = unmatched location before next scope
+turned control scope location [] next = unmatched location before next scope
 
 abbrev pub else_of : Control → Scope → Location → (Scope → Part) → Part
 else_of control scope location next = asking_ranges scope (λ ranges. turned control scope location ranges next)
 
 -- the newest range ends
 abbrev pub closed : Scope → Location → List Range → (Scope → Part) → Part
-closed scope location [] next = no_range location before next scope
-closed scope location (range ∷ ranges) next = putting_ranges scope ranges (λ later. fill (nothing_made (present_flags location)) before next later)
+closed scope location [] next = unmatched location before next scope
+closed scope location (range ∷ ranges) next = putting_ranges scope ranges (λ later. flagging (present_flags location) later next)
 
 abbrev pub endif_of : Scope → Location → (Scope → Part) → Part
 endif_of scope location next = asking_ranges scope (λ ranges. closed scope location ranges next)

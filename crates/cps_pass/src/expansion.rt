@@ -1,10 +1,10 @@
 //! The statements that a source line stands for: its own, and those that it opens.
 ghost use Rattle.std.specs.Prelude.{◌≡◌, ◌≤◌, ◌+◌, ◌-◌, IfOk};
-ghost use Rattle.cps_state.specs.Course.{Does, Goes};
-ghost use Rattle.cps_state.specs.Keys.{State};
-ghost use Rattle.cps_pass.specs.Expansion.{walk, body, ended, too_deep, Walks};
+ghost use Rattle.cps_state.specs.Line.{Does, Goes};
+ghost use Rattle.cps_pass.specs.Expansion.{walk, body, ended, too_deep};
 ghost use Rattle.cps_pass.specs.Expansion as expansion;
-ghost use Rattle.cps_pass.specs.Keeping.{repeated};
+ghost use Rattle.cps_pass.specs.Taking.{Walks};
+ghost use Rattle.cps_pass.specs.Treating.{repeated};
 
 use crate::opened::Opened;
 use crate::scope::{Own, Scope};
@@ -15,22 +15,20 @@ use std::alloc::{AllocError, Global};
 /// Statements, each followed by those that it opens. False where one is too much.
 #[cycle(expansion)]
 fn go_through<L: Lookup>(
-    alloc: Global,
-    recorder: &mut Recorder,
-    state: &L,
+    recorder: &mut Recorder<'_, L>,
     scope: &mut Scope,
     depth: u8,
     texts: &[Shared<u8>],
 ) -> Result<bool, AllocError>
     requires { depth ≤ too_deep }
-    ensures { IfOk result (λ whole. Walks (walk (body (too_deep - depth)) depth scope.old texts.now) whole scope.new (L.answer state.now) recorder.old recorder.new) }
+    ensures { IfOk result (λ whole. Walks (walk (body (too_deep - depth)) depth scope.old texts.now) whole scope.new L.answer recorder.old recorder.new) }
 {
     for text in texts {
         if !recorder.begin(depth, text.share()?)? {
             return Ok(false);
         }
-        if let Some(opened) = step_statement(alloc, recorder, state, scope, text.as_slice())? {
-            if !expand(alloc, recorder, state, depth + 1, &opened)? {
+        if let Some(opened) = step_statement(recorder, scope, text.as_slice())? {
+            if !expand(recorder, depth + 1, &opened)? {
                 return Ok(false);
             }
         }
@@ -41,18 +39,17 @@ fn go_through<L: Lookup>(
 /// The statements that a statement opens, at their depth. False where one is too much.
 #[cycle(expansion)]
 fn expand<L: Lookup>(
-    alloc: Global,
-    recorder: &mut Recorder,
-    state: &L,
+    recorder: &mut Recorder<'_, L>,
     depth: u8,
     opened: &Opened,
 ) -> Result<bool, AllocError>
     requires { depth ≤ too_deep }
-    ensures { IfOk result (λ whole. Goes (body (too_deep + 1 - depth) depth (repeated opened.now.times opened.now.lines.items)) whole (L.answer state.now) recorder.old recorder.new) }
+    ensures { IfOk result (λ whole. Goes (body (too_deep + 1 - depth) depth (repeated opened.now.times opened.now.lines.items)) whole L.answer recorder.old recorder.new) }
 {
+    let alloc = recorder.alloc();
     let mut scope = Scope::Expansion(Own::begun(alloc));
     for _turn in 0..opened.times {
-        if !go_through(alloc, recorder, state, &mut scope, depth, &opened.lines)? {
+        if !go_through(recorder, &mut scope, depth, &opened.lines)? {
             return Ok(false);
         }
     }
@@ -61,8 +58,8 @@ fn expand<L: Lookup>(
 }
 
 /// A body of DUP that is open ends with the expansion.
-fn end_expansion(recorder: &mut Recorder, scope: &Scope)
-    ensures { (f : State) → Does (ended scope.now) f recorder.old recorder.new }
+fn end_expansion<L: Lookup>(recorder: &mut Recorder<'_, L>, scope: &Scope)
+    ensures { Does (ended scope.now) L.answer recorder.old recorder.new }
 {
     if keeps_lines(scope) {
         let mut flags = Flags::none();
@@ -93,12 +90,12 @@ fn is_dup_body(mode: &Mode) -> bool
 pub fn trace_line<L: Lookup>(alloc: Global, line: &[u8], state: &L) -> Result<Trace, AllocError>
     ensures { IfOk result (λ trace. trace ≡ expansion.trace_of line.now (L.answer state.now)) }
 {
-    let mut recorder = Recorder::new(alloc);
+    let mut recorder = Recorder::new(alloc, state);
     let mut scope = Scope::Source;
-    let opened = step_statement(alloc, &mut recorder, state, &mut scope, line)?;
+    let opened = step_statement(&mut recorder, &mut scope, line)?;
     recorder.settle();
     let whole = match opened {
-        Some(opened) => expand(alloc, &mut recorder, state, 1, &opened)?,
+        Some(opened) => expand(&mut recorder, 1, &opened)?,
         None => true,
     };
     recorder.into_trace(whole)

@@ -5,13 +5,15 @@ mod expansion;
 mod keeping;
 mod macros;
 mod opened;
-mod passed;
 mod ranges;
 mod repeating;
 mod scope;
+mod seen;
 mod skipping;
 mod statement;
 mod step;
+mod treating;
+mod treatment;
 
 pub use cps_effect::here_at;
 pub use cps_state::{

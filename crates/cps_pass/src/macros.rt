@@ -1,7 +1,7 @@
 //! MACRO, and calls of macros.
 ghost use Rattle.std.specs.Prelude.{◌≡◌, Some, OnOk, IfOk, option_map, map};
 ghost use Rattle.cps_text.specs.Insertion.{pairs_value, inserted};
-ghost use Rattle.cps_state.specs.Course.{Hands};
+ghost use Rattle.cps_state.specs.Line.{Hands};
 ghost use Rattle.cps_pass.specs.Macros as macros;
 ghost use Rattle.cps_pass.specs.Opened.{lines_of};
 ghost use Rattle.cps_pass.specs.Taking.{HandsOn};
@@ -9,32 +9,30 @@ ghost use Rattle.cps_pass.specs.Taking.{HandsOn};
 use crate::keeping::no_lines;
 use crate::opened::Opened;
 use crate::scope::{Scope, go_by};
-use cps_effect::{Site, ask_site, flag, here_at, placing_flags, settle, word_start};
+use cps_effect::{Front, ask_site, flag, here_at, placing_flags, settle, word_start};
 use cps_peripheral::is_builtin;
 use cps_reading::Location;
-use cps_state::{Control, Flags, Lookup, Macro, MacroBody, Made, Mode, Recorder, Shared, Shown};
+use cps_state::{Flags, Lookup, Macro, MacroBody, Made, Mode, Recorder, Shared, Shown};
 use cps_text::{ArgFault, Name, arguments, insert_text};
 use std::alloc::{AllocError, Global};
 
 /// MACRO: the lines to come are kept; None where the parameters can't be read.
 pub fn define<L: Lookup>(
-    alloc: Global,
-    recorder: &mut Recorder,
-    state: &L,
-    control: Control,
+    recorder: &mut Recorder<'_, L>,
+    front: Front,
     scope: &mut Scope,
-    location: Location,
     parameters: Option<&[Name]>,
 ) -> Result<(), AllocError>
-    ensures { OnOk result (Hands (macros.macro_from control scope.old location (option_map (λ p. p.now) parameters.entry)) scope.new (L.answer state.now) recorder.old recorder.new) }
+    ensures { OnOk result (Hands (macros.macro_from front.control scope.old front.location (option_map (λ p. p.now) parameters.entry)) scope.new L.answer recorder.old recorder.new) }
 {
-    let name = macro_name(location);
+    let alloc = recorder.alloc();
+    let name = macro_name(front.location);
     let mut flags = Flags::none();
     flags.location = name.is_none();
     flags.operand = parameters.is_none();
     let mode = macro_mode(alloc, name, parameters)?;
-    go_by(recorder, state, control, scope, mode)?;
-    flag(alloc, recorder, flags);
+    go_by(recorder, front.control, scope, mode)?;
+    flag(recorder, flags);
     Ok(())
 }
 
@@ -72,18 +70,16 @@ fn macro_mode(
 
 /// A call of a macro: its symbol is defined, and the lines of the body are opened with the arguments.
 pub fn call<L: Lookup>(
-    alloc: Global,
-    recorder: &mut Recorder,
-    state: &L,
-    control: Control,
+    recorder: &mut Recorder<'_, L>,
+    front: Front,
     scope: &Scope,
-    location: Location,
     named: &Macro,
     tail: &[u8],
 ) -> Result<Option<Opened>, AllocError>
-    ensures { IfOk result (λ opened. HandsOn (macros.calling control scope.now location named.now tail.now) scope.now (lines_of opened) (L.answer state.now) recorder.old recorder.new) }
+    ensures { IfOk result (λ opened. HandsOn (macros.calling front.control scope.now front.location named.now tail.now) scope.now (lines_of opened) L.answer recorder.old recorder.new) }
 {
-    let made = call_at(alloc, recorder, state, control, location)?;
+    let alloc = recorder.alloc();
+    let made = call_at(recorder, front)?;
     let lines = open(alloc, named, tail)?;
     recorder.fill(called(made, lines.is_some()));
     Ok(lines)
@@ -103,18 +99,13 @@ fn called(made: Made, is_bound: bool) -> Made
 }
 
 /// The location field of a call: its symbol is defined at the beginning of a word.
-fn call_at<L: Lookup>(
-    alloc: Global,
-    recorder: &mut Recorder,
-    state: &L,
-    control: Control,
-    location: Location,
-) -> Result<Made, AllocError>
-    ensures { IfOk result (λ made. Hands (macros.call_at control location) made (L.answer state.now) recorder.old recorder.new) }
+fn call_at<L: Lookup>(recorder: &mut Recorder<'_, L>, front: Front) -> Result<Made, AllocError>
+    ensures { IfOk result (λ made. Hands (macros.call_at front.control front.location) made L.answer recorder.old recorder.new) }
 {
-    match location {
+    let alloc = recorder.alloc();
+    match front.location {
         Location::Absent => Ok(Made::nothing(alloc, Flags::none())),
-        Location::Symbol(_) => label(alloc, recorder, state, control, location),
+        Location::Symbol(_) => label(recorder, front),
         _ => {
             let mut flags = Flags::none();
             flags.location = true;
@@ -123,23 +114,17 @@ fn call_at<L: Lookup>(
     }
 }
 
-fn label<L: Lookup>(
-    alloc: Global,
-    recorder: &mut Recorder,
-    state: &L,
-    control: Control,
-    location: Location,
-) -> Result<Made, AllocError>
-    ensures { IfOk result (λ made. Hands (macros.labelling control location) made (L.answer state.now) recorder.old recorder.new) }
+fn label<L: Lookup>(recorder: &mut Recorder<'_, L>, front: Front) -> Result<Made, AllocError>
+    ensures { IfOk result (λ made. Hands (macros.labelling front.control front.location) made L.answer recorder.old recorder.new) }
 {
-    let site = ask_site(recorder, state, control, location)?;
+    let alloc = recorder.alloc();
+    let site = ask_site(recorder, front)?;
     let begun = word_start(site);
-    settle(recorder, state, site, begun.start, begun.start, false)?;
+    settle(recorder, site, begun.start, begun.start, false)?;
     Ok(Made::leaving(
         alloc,
         placing_flags(site),
         site.machine,
-        site.block,
         begun.filling,
         Shown::Address(here_at(site.block, begun.start)),
     ))

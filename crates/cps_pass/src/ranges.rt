@@ -1,18 +1,17 @@
 //! Conditional assembly: IFEQ and the like, IF, ELSE and ENDIF.
-ghost use Rattle.std.specs.Prelude.{◌≡◌, true, OnOk, IfOk};
-ghost use Rattle.cps_state.specs.Course.{Hands, filled};
-ghost use Rattle.cps_state.specs.Made.{nothing_made};
-ghost use Rattle.cps_effect.specs.Located.{present_flags};
+ghost use Rattle.std.specs.Prelude.{◌≡◌, OnOk, IfOk};
+ghost use Rattle.cps_state.specs.Line.{Hands};
 ghost use Rattle.cps_pass.specs.Ranges as meaning;
 
 use crate::scope::{Scope, ask_ranges, go_by, put_ranges};
 use cps_effect::{
-    ValueNow, ask_standing, flag, has_value, plain_number, present_flags, value_here,
+    Front, ValueNow, ask_standing, flag, has_value, plain_number, present_flags, unmatched,
+    value_here,
 };
 use cps_expr::{Comparison, Expr, Relation, SymbolTest};
 use cps_reading::Location;
 use cps_state::{Control, Flags, Lookup, Mode, Range, Recorder, Shared, Skip, is_same_block};
-use std::alloc::{AllocError, Global};
+use std::alloc::AllocError;
 
 /// How many ranges may be open.
 const MOST_RANGES: usize = 20;
@@ -29,155 +28,104 @@ pub struct Tested {
 
 /// IFEQ and the like: the test of two values.
 pub fn if_compared<L: Lookup>(
-    alloc: Global,
-    recorder: &mut Recorder,
-    state: &L,
-    control: Control,
+    recorder: &mut Recorder<'_, L>,
+    front: Front,
     scope: &mut Scope,
-    location: Location,
     test: &Comparison,
 ) -> Result<(), AllocError>
-    ensures { OnOk result (Hands (meaning.if_compared control scope.old location test.now) scope.new (L.answer state.now) recorder.old recorder.new) }
+    ensures { OnOk result (Hands (meaning.if_compared front.control scope.old front.location test.now) scope.new L.answer recorder.old recorder.new) }
 {
-    let tested = ask_compared(alloc, recorder, state, control, test)?;
-    hang(
-        alloc,
-        recorder,
-        state,
-        control,
-        scope,
-        location,
-        &test.lines,
-        tested,
-    )
+    let tested = ask_compared(recorder, front.control, test)?;
+    hang(recorder, front, scope, &test.lines, tested)
 }
 
 /// IF: the test of a symbol.
 pub fn if_defined<L: Lookup>(
-    alloc: Global,
-    recorder: &mut Recorder,
-    state: &L,
-    control: Control,
+    recorder: &mut Recorder<'_, L>,
+    front: Front,
     scope: &mut Scope,
-    location: Location,
     test: &SymbolTest,
 ) -> Result<(), AllocError>
-    ensures { OnOk result (Hands (meaning.if_defined control scope.old location test.now) scope.new (L.answer state.now) recorder.old recorder.new) }
+    ensures { OnOk result (Hands (meaning.if_defined front.control scope.old front.location test.now) scope.new L.answer recorder.old recorder.new) }
 {
-    let tested = ask_defined(recorder, state, test)?;
-    hang(
-        alloc,
-        recorder,
-        state,
-        control,
-        scope,
-        location,
-        &test.lines,
-        tested,
-    )
+    let tested = ask_defined(recorder, test)?;
+    hang(recorder, front, scope, &test.lines, tested)
 }
 
 /// ELSE: the newest range is skipped from here on.
 pub fn turn_range<L: Lookup>(
-    alloc: Global,
-    recorder: &mut Recorder,
-    state: &L,
-    control: Control,
+    recorder: &mut Recorder<'_, L>,
+    front: Front,
     scope: &mut Scope,
-    location: Location,
 ) -> Result<(), AllocError>
-    ensures { OnOk result (Hands (meaning.else_of control scope.old location) scope.new (L.answer state.now) recorder.old recorder.new) }
+    ensures { OnOk result (Hands (meaning.else_of front.control scope.old front.location) scope.new L.answer recorder.old recorder.new) }
 {
-    let ranges = ask_ranges(recorder, state, scope)?;
-    turn(
-        alloc,
-        recorder,
-        state,
-        control,
-        scope,
-        location,
-        ranges.as_slice(),
-    )
+    let ranges = ask_ranges(recorder, scope)?;
+    turn(recorder, front, scope, ranges.as_slice())
 }
 
 fn turn<L: Lookup>(
-    alloc: Global,
-    recorder: &mut Recorder,
-    state: &L,
-    control: Control,
+    recorder: &mut Recorder<'_, L>,
+    front: Front,
     scope: &mut Scope,
-    location: Location,
     ranges: &[Range],
 ) -> Result<(), AllocError>
-    ensures { OnOk result (Hands (meaning.turned control scope.old location ranges.now) scope.new (L.answer state.now) recorder.old recorder.new) }
+    ensures { OnOk result (Hands (meaning.turned front.control scope.old front.location ranges.now) scope.new L.answer recorder.old recorder.new) }
 {
+    let alloc = recorder.alloc();
     let [Range::BeforeElse, others @ ..] = ranges else {
-        no_range(alloc, recorder, location);
+        unmatched(recorder, front.location);
         return Ok(());
     };
-    put_ranges(recorder, state, scope, Shared::new(alloc, others)?)?;
+    put_ranges(recorder, scope, Shared::new(alloc, others)?)?;
     let skip = Skip {
         nested: 0,
         may_resume: false,
     };
-    go_by(recorder, state, control, scope, Mode::SkipRange(skip))?;
-    flag(alloc, recorder, present_flags(location));
+    go_by(recorder, front.control, scope, Mode::SkipRange(skip))?;
+    flag(recorder, present_flags(front.location));
     Ok(())
 }
 
 /// ENDIF: the newest range ends.
 pub fn close_range<L: Lookup>(
-    alloc: Global,
-    recorder: &mut Recorder,
-    state: &L,
+    recorder: &mut Recorder<'_, L>,
     scope: &mut Scope,
     location: Location,
 ) -> Result<(), AllocError>
-    ensures { OnOk result (Hands (meaning.endif_of scope.old location) scope.new (L.answer state.now) recorder.old recorder.new) }
+    ensures { OnOk result (Hands (meaning.endif_of scope.old location) scope.new L.answer recorder.old recorder.new) }
 {
-    let ranges = ask_ranges(recorder, state, scope)?;
-    close(alloc, recorder, state, scope, location, ranges.as_slice())
+    let ranges = ask_ranges(recorder, scope)?;
+    close(recorder, scope, location, ranges.as_slice())
 }
 
 fn close<L: Lookup>(
-    alloc: Global,
-    recorder: &mut Recorder,
-    state: &L,
+    recorder: &mut Recorder<'_, L>,
     scope: &mut Scope,
     location: Location,
     ranges: &[Range],
 ) -> Result<(), AllocError>
-    ensures { OnOk result (Hands (meaning.closed scope.old location ranges.now) scope.new (L.answer state.now) recorder.old recorder.new) }
+    ensures { OnOk result (Hands (meaning.closed scope.old location ranges.now) scope.new L.answer recorder.old recorder.new) }
 {
+    let alloc = recorder.alloc();
     let [_, others @ ..] = ranges else {
-        no_range(alloc, recorder, location);
+        unmatched(recorder, location);
         return Ok(());
     };
-    put_ranges(recorder, state, scope, Shared::new(alloc, others)?)?;
-    flag(alloc, recorder, present_flags(location));
+    put_ranges(recorder, scope, Shared::new(alloc, others)?)?;
+    flag(recorder, present_flags(location));
     Ok(())
 }
 
-/// There is no range for an ELSE or an ENDIF.
-pub fn no_range(alloc: Global, recorder: &mut Recorder, location: Location)
-    ensures { recorder.new ≡ filled recorder.old (nothing_made (record (present_flags location) { structure = true })) }
-{
-    let mut flags = present_flags(location);
-    flags.structure = true;
-    flag(alloc, recorder, flags);
-}
-
 fn ask_compared<L: Lookup>(
-    alloc: Global,
-    recorder: &mut Recorder,
-    state: &L,
+    recorder: &mut Recorder<'_, L>,
     control: Control,
     test: &Comparison,
 ) -> Result<Tested, AllocError>
-    ensures { IfOk result (λ tested. Hands (meaning.asking_compared control test.now) tested (L.answer state.now) recorder.old recorder.new) }
+    ensures { IfOk result (λ tested. Hands (meaning.asking_compared control test.now) tested L.answer recorder.old recorder.new) }
 {
-    let left = value_here(alloc, recorder, state, control, &test.left)?;
-    let right = value_here(alloc, recorder, state, control, &test.right)?;
+    let left = value_here(recorder, control, &test.left)?;
+    let right = value_here(recorder, control, &test.right)?;
     Ok(compare(test.relation, left, right))
 }
 
@@ -233,13 +181,12 @@ fn value_flags(value: ValueNow) -> Flags
 }
 
 fn ask_defined<L: Lookup>(
-    recorder: &mut Recorder,
-    state: &L,
+    recorder: &mut Recorder<'_, L>,
     test: &SymbolTest,
 ) -> Result<Tested, AllocError>
-    ensures { IfOk result (λ tested. Hands (meaning.asking_defined test.now) tested (L.answer state.now) recorder.old recorder.new) }
+    ensures { IfOk result (λ tested. Hands (meaning.asking_defined test.now) tested L.answer recorder.old recorder.new) }
 {
-    let standing = ask_standing(recorder, state, test.symbol)?;
+    let standing = ask_standing(recorder, test.symbol)?;
     recorder.tell(test.symbol)?;
     Ok(defined(test.is_defined, has_value(standing)))
 }
@@ -256,78 +203,60 @@ fn defined(is_defined: bool, has_value: bool) -> Tested
 
 /// What hangs on a test: so many lines, or those up to ENDIF.
 fn hang<L: Lookup>(
-    alloc: Global,
-    recorder: &mut Recorder,
-    state: &L,
-    control: Control,
+    recorder: &mut Recorder<'_, L>,
+    front: Front,
     scope: &mut Scope,
-    location: Location,
     lines: &Option<Expr>,
     test: Tested,
 ) -> Result<(), AllocError>
-    ensures { OnOk result (Hands (meaning.hanging control scope.old location lines.now test) scope.new (L.answer state.now) recorder.old recorder.new) }
+    ensures { OnOk result (Hands (meaning.hanging front.control scope.old front.location lines.now test) scope.new L.answer recorder.old recorder.new) }
 {
     match lines {
-        Some(lines) => count_lines(
-            alloc, recorder, state, control, scope, location, lines, test,
-        ),
-        None => open_range(alloc, recorder, state, control, scope, location, test),
+        Some(lines) => count_lines(recorder, front, scope, lines, test),
+        None => open_range(recorder, front, scope, test),
     }
 }
 
 fn count_lines<L: Lookup>(
-    alloc: Global,
-    recorder: &mut Recorder,
-    state: &L,
-    control: Control,
+    recorder: &mut Recorder<'_, L>,
+    front: Front,
     scope: &mut Scope,
-    location: Location,
     lines: &Expr,
     test: Tested,
 ) -> Result<(), AllocError>
-    ensures { OnOk result (Hands (meaning.hanging_lines control scope.old location lines.now test) scope.new (L.answer state.now) recorder.old recorder.new) }
+    ensures { OnOk result (Hands (meaning.hanging_lines front.control scope.old front.location lines.now test) scope.new L.answer recorder.old recorder.new) }
 {
-    let value = value_here(alloc, recorder, state, control, lines)?;
-    count(
-        alloc, recorder, state, control, scope, location, test, value,
-    )
+    let value = value_here(recorder, front.control, lines)?;
+    count(recorder, front, scope, test, value)
 }
 
 fn open_range<L: Lookup>(
-    alloc: Global,
-    recorder: &mut Recorder,
-    state: &L,
-    control: Control,
+    recorder: &mut Recorder<'_, L>,
+    front: Front,
     scope: &mut Scope,
-    location: Location,
     test: Tested,
 ) -> Result<(), AllocError>
-    ensures { OnOk result (Hands (meaning.hanging_range control scope.old location test) scope.new (L.answer state.now) recorder.old recorder.new) }
+    ensures { OnOk result (Hands (meaning.hanging_range front.control scope.old front.location test) scope.new L.answer recorder.old recorder.new) }
 {
-    let others = ask_ranges(recorder, state, scope)?;
+    let others = ask_ranges(recorder, scope)?;
     let others = others.as_slice();
-    open(
-        alloc, recorder, state, control, scope, location, test, others,
-    )
+    open(recorder, front, scope, test, others)
 }
 
 /// The number of lines that a test governs.
 fn count<L: Lookup>(
-    alloc: Global,
-    recorder: &mut Recorder,
-    state: &L,
-    control: Control,
+    recorder: &mut Recorder<'_, L>,
+    front: Front,
     scope: &mut Scope,
-    location: Location,
     test: Tested,
     value: ValueNow,
 ) -> Result<(), AllocError>
-    ensures { OnOk result (Hands (meaning.counting control scope.old location test value) scope.new (L.answer state.now) recorder.old recorder.new) }
+    ensures { OnOk result (Hands (meaning.counting front.control scope.old front.location test value) scope.new L.answer recorder.old recorder.new) }
 {
     let count = line_count(value);
-    skip_lines(recorder, state, control, scope, test.holds, count)?;
+    skip_lines(recorder, front.control, scope, test.holds, count)?;
     let flags = test.flags.joined(count_flags(value, count));
-    flag(alloc, recorder, present_flags(location).joined(flags));
+    flag(recorder, present_flags(front.location).joined(flags));
     Ok(())
 }
 
@@ -354,18 +283,17 @@ pub fn count_flags(value: ValueNow, count: Option<u32>) -> Flags
 
 /// The lines are skipped where the test doesn't hold.
 fn skip_lines<L: Lookup>(
-    recorder: &mut Recorder,
-    state: &L,
+    recorder: &mut Recorder<'_, L>,
     control: Control,
     scope: &mut Scope,
     holds: bool,
     count: Option<u32>,
 ) -> Result<(), AllocError>
-    ensures { OnOk result (Hands (meaning.skipping_lines control scope.old holds count) scope.new (L.answer state.now) recorder.old recorder.new) }
+    ensures { OnOk result (Hands (meaning.skipping_lines control scope.old holds count) scope.new L.answer recorder.old recorder.new) }
 {
     match count {
         Some(count) if !holds && count > 0 => {
-            go_by(recorder, state, control, scope, Mode::SkipLines(count))
+            go_by(recorder, control, scope, Mode::SkipLines(count))
         }
         _ => Ok(()),
     }
@@ -373,47 +301,43 @@ fn skip_lines<L: Lookup>(
 
 /// A range begins, unless too many are open.
 fn open<L: Lookup>(
-    alloc: Global,
-    recorder: &mut Recorder,
-    state: &L,
-    control: Control,
+    recorder: &mut Recorder<'_, L>,
+    front: Front,
     scope: &mut Scope,
-    location: Location,
     test: Tested,
     others: &[Range],
 ) -> Result<(), AllocError>
-    ensures { OnOk result (Hands (meaning.opening control scope.old location test others.now) scope.new (L.answer state.now) recorder.old recorder.new) }
+    ensures { OnOk result (Hands (meaning.opening front.control scope.old front.location test others.now) scope.new L.answer recorder.old recorder.new) }
 {
-    let mut flags = present_flags(location).joined(test.flags);
+    let mut flags = present_flags(front.location).joined(test.flags);
     if others.len() >= MOST_RANGES {
         flags.structure = true;
-        flag(alloc, recorder, flags);
+        flag(recorder, flags);
         return Ok(());
     }
-    begin_range(alloc, recorder, state, control, scope, test.holds, others)?;
-    flag(alloc, recorder, flags);
+    begin_range(recorder, front.control, scope, test.holds, others)?;
+    flag(recorder, flags);
     Ok(())
 }
 
 /// A range whose test holds is open; one whose test doesn't is skipped.
 fn begin_range<L: Lookup>(
-    alloc: Global,
-    recorder: &mut Recorder,
-    state: &L,
+    recorder: &mut Recorder<'_, L>,
     control: Control,
     scope: &mut Scope,
     holds: bool,
     others: &[Range],
 ) -> Result<(), AllocError>
-    ensures { OnOk result (Hands (meaning.opened control scope.old holds others.now) scope.new (L.answer state.now) recorder.old recorder.new) }
+    ensures { OnOk result (Hands (meaning.beginning control scope.old holds others.now) scope.new L.answer recorder.old recorder.new) }
 {
+    let alloc = recorder.alloc();
     if holds {
         let ranges = Shared::with(alloc, Range::BeforeElse, others)?;
-        return put_ranges(recorder, state, scope, ranges);
+        return put_ranges(recorder, scope, ranges);
     }
     let skip = Skip {
         nested: 0,
         may_resume: true,
     };
-    go_by(recorder, state, control, scope, Mode::SkipRange(skip))
+    go_by(recorder, control, scope, Mode::SkipRange(skip))
 }

@@ -1,146 +1,100 @@
 //! DUP and ENDD where lines are assembled.
-ghost use Rattle.std.specs.Prelude.{◌≡◌, OnOk, true};
-ghost use Rattle.cps_state.specs.Course.{Hands, filled};
-ghost use Rattle.cps_state.specs.Made.{nothing_made};
-ghost use Rattle.cps_effect.specs.Located.{present_flags};
+ghost use Rattle.std.specs.Prelude.{◌≡◌, OnOk};
+ghost use Rattle.cps_state.specs.Line.{Hands};
 ghost use Rattle.cps_effect.specs.Numbers.{plain_number};
 ghost use Rattle.cps_pass.specs.Repeating as repeating;
 
 use crate::keeping::{MOST_BODY, no_lines};
 use crate::ranges::count_flags;
 use crate::scope::{Scope, go_by};
-use cps_effect::{ValueNow, flag, plain_number, present_flags, value_here};
+use cps_effect::{Front, ValueNow, flag, plain_number, present_flags, value_here};
 use cps_expr::{Expr, Repetition};
-use cps_reading::Location;
-use cps_state::{Control, DupBody, Extent, Flags, Lookup, Mode, Recorder};
-use std::alloc::{AllocError, Global};
+use cps_state::{DupBody, Extent, Flags, Lookup, Mode, Recorder};
+use std::alloc::AllocError;
 
 /// How often lines may be repeated.
 const MOST_TIMES: u64 = 1_000;
 
 /// DUP: the lines to come are kept.
 pub fn dup<L: Lookup>(
-    alloc: Global,
-    recorder: &mut Recorder,
-    state: &L,
-    control: Control,
+    recorder: &mut Recorder<'_, L>,
+    front: Front,
     scope: &mut Scope,
-    location: Location,
     repetition: &Repetition,
 ) -> Result<(), AllocError>
-    ensures { OnOk result (Hands (repeating.dup control scope.old location repetition.now) scope.new (L.answer state.now) recorder.old recorder.new) }
+    ensures { OnOk result (Hands (repeating.dup front.control scope.old front.location repetition.now) scope.new L.answer recorder.old recorder.new) }
 {
-    let times = value_here(alloc, recorder, state, control, &repetition.count)?;
-    repeat_by(
-        alloc,
-        recorder,
-        state,
-        control,
-        scope,
-        location,
-        times,
-        &repetition.lines,
-    )
+    let times = value_here(recorder, front.control, &repetition.count)?;
+    repeat_by(recorder, front, scope, times, &repetition.lines)
 }
 
 /// Lines of a number, or up to ENDD.
 fn repeat_by<L: Lookup>(
-    alloc: Global,
-    recorder: &mut Recorder,
-    state: &L,
-    control: Control,
+    recorder: &mut Recorder<'_, L>,
+    front: Front,
     scope: &mut Scope,
-    location: Location,
     times: ValueNow,
     lines: &Option<Expr>,
 ) -> Result<(), AllocError>
-    ensures { OnOk result (Hands (repeating.repeating_by control scope.old location times lines.now) scope.new (L.answer state.now) recorder.old recorder.new) }
+    ensures { OnOk result (Hands (repeating.repeating_by front.control scope.old front.location times lines.now) scope.new L.answer recorder.old recorder.new) }
 {
     match lines {
-        Some(lines) => {
-            repeat_counted(
-                alloc, recorder, state, control, scope, location, times, lines,
-            )
-        }
-        None => {
-            let flags = present_flags(location);
-            repeat(
-                alloc,
-                recorder,
-                state,
-                control,
-                scope,
-                times,
-                Extent::ToEndd(0),
-                flags,
-            )
-        }
+        Some(lines) => repeat_counted(recorder, front, scope, times, lines),
+        None => repeat(recorder, front, scope, times, Extent::ToEndd(0)),
     }
 }
 
 fn repeat_counted<L: Lookup>(
-    alloc: Global,
-    recorder: &mut Recorder,
-    state: &L,
-    control: Control,
+    recorder: &mut Recorder<'_, L>,
+    front: Front,
     scope: &mut Scope,
-    location: Location,
     times: ValueNow,
     lines: &Expr,
 ) -> Result<(), AllocError>
-    ensures { OnOk result (Hands (repeating.repeating_counted control scope.old location times lines.now) scope.new (L.answer state.now) recorder.old recorder.new) }
+    ensures { OnOk result (Hands (repeating.repeating_counted front.control scope.old front.location times lines.now) scope.new L.answer recorder.old recorder.new) }
 {
-    let value = value_here(alloc, recorder, state, control, lines)?;
-    repeat_lines(
-        alloc, recorder, state, control, scope, location, times, value,
-    )
+    let value = value_here(recorder, front.control, lines)?;
+    repeat_lines(recorder, front, scope, times, value)
 }
 
 fn repeat_lines<L: Lookup>(
-    alloc: Global,
-    recorder: &mut Recorder,
-    state: &L,
-    control: Control,
+    recorder: &mut Recorder<'_, L>,
+    front: Front,
     scope: &mut Scope,
-    location: Location,
     times: ValueNow,
     lines: ValueNow,
 ) -> Result<(), AllocError>
-    ensures { OnOk result (Hands (repeating.repeating_lines control scope.old location times lines (repeating.body_count lines)) scope.new (L.answer state.now) recorder.old recorder.new) }
+    ensures { OnOk result (Hands (repeating.repeating_lines front.control scope.old front.location times lines (repeating.body_count lines)) scope.new L.answer recorder.old recorder.new) }
 {
-    let flags = present_flags(location);
     match body_count(lines) {
-        Some(count) => {
-            let extent = Extent::Counted(count);
-            repeat(alloc, recorder, state, control, scope, times, extent, flags)
-        }
+        Some(count) => repeat(recorder, front, scope, times, Extent::Counted(count)),
         None => {
-            let flags = flags.joined(count_flags(lines, None));
-            flag(alloc, recorder, flags.joined(times_flags(times)));
+            let flags = present_flags(front.location).joined(count_flags(lines, None));
+            flag(recorder, flags.joined(times_flags(times)));
             Ok(())
         }
     }
 }
 
 fn repeat<L: Lookup>(
-    alloc: Global,
-    recorder: &mut Recorder,
-    state: &L,
-    control: Control,
+    recorder: &mut Recorder<'_, L>,
+    front: Front,
     scope: &mut Scope,
     times: ValueNow,
     extent: Extent,
-    flags: Flags,
 ) -> Result<(), AllocError>
-    ensures { OnOk result (Hands (repeating.repeating control scope.old times extent flags) scope.new (L.answer state.now) recorder.old recorder.new) }
+    ensures { OnOk result (Hands (repeating.repeating front.control scope.old front.location times extent) scope.new L.answer recorder.old recorder.new) }
 {
     let body = DupBody {
         times: times_in(times),
         extent,
         kept: no_lines(),
     };
-    go_by(recorder, state, control, scope, Mode::KeepDup(body))?;
-    flag(alloc, recorder, flags.joined(times_flags(times)));
+    go_by(recorder, front.control, scope, Mode::KeepDup(body))?;
+    flag(
+        recorder,
+        present_flags(front.location).joined(times_flags(times)),
+    );
     Ok(())
 }
 
@@ -175,13 +129,4 @@ fn times_flags(times: ValueNow) -> Flags
             flags
         }
     }
-}
-
-/// ENDD and ENDM where nothing is kept.
-pub fn nothing_kept(alloc: Global, recorder: &mut Recorder, location: Location)
-    ensures { recorder.new ≡ filled recorder.old (nothing_made (record (present_flags location) { structure = true })) }
-{
-    let mut flags = present_flags(location);
-    flags.structure = true;
-    flag(alloc, recorder, flags);
 }

@@ -1,12 +1,11 @@
 //! Where a statement stands: a source line, or a statement of an expansion.
 ghost use Rattle.std.specs.Prelude.{◌≡◌, OnOk, IfOk};
-ghost use Rattle.cps_state.specs.Course.{Hands};
-ghost use Rattle.cps_state.specs.Keys.{ranges_of};
+ghost use Rattle.cps_state.specs.Line.{Hands};
 ghost use Rattle.cps_pass.specs.Own.{begun};
 ghost use Rattle.cps_pass.specs.Scope as meaning;
 ghost use Rattle.cps_pass.specs.Taking.{TakesBody};
 
-use cps_state::{Answer, Control, Key, Lookup, Mode, Range, Recorder, Shared, text_of};
+use cps_state::{Answer, Control, Key, Lookup, Mode, Range, Recorder, Shared, ranges_of, text_of};
 use std::alloc::{AllocError, Global};
 use std::marker::Model;
 use std::mem;
@@ -68,13 +67,12 @@ pub fn mode_in(mode: Mode, scope: &Scope) -> Result<Mode, AllocError>
 
 /// What is done with the lines to come.
 pub fn go_by<L: Lookup>(
-    recorder: &mut Recorder,
-    state: &L,
+    recorder: &mut Recorder<'_, L>,
     control: Control,
     scope: &mut Scope,
     mode: Mode,
 ) -> Result<(), AllocError>
-    ensures { OnOk result (Hands (meaning.going_by control scope.old mode) scope.new (L.answer state.now) recorder.old recorder.new) }
+    ensures { OnOk result (Hands (meaning.going_by control scope.old mode) scope.new L.answer recorder.old recorder.new) }
 {
     match scope {
         Scope::Source => recorder.put(Key::Control, Answer::Control(control, mode)),
@@ -87,38 +85,27 @@ pub fn go_by<L: Lookup>(
 
 /// The ranges that are open, the newest first.
 pub fn ask_ranges<L: Lookup>(
-    recorder: &mut Recorder,
-    state: &L,
+    recorder: &mut Recorder<'_, L>,
     scope: &Scope,
 ) -> Result<Shared<Range>, AllocError>
-    ensures { IfOk result (λ ranges. Hands (meaning.asking_ranges scope.now) ranges (L.answer state.now) recorder.old recorder.new) }
+    ensures { IfOk result (λ ranges. Hands (meaning.asking_ranges scope.now) ranges L.answer recorder.old recorder.new) }
 {
     match scope {
         Scope::Source => {
-            let answer = recorder.ask(state, Key::Ifs)?;
-            Ok(into_ranges(answer))
+            let known = recorder.note(Key::Ifs)?;
+            ranges_of(recorder.answer(known))
         }
         Scope::Expansion(own) => own.ranges.share(),
     }
 }
 
-fn into_ranges(answer: Option<Answer>) -> Shared<Range>
-    ensures { result ≡ ranges_of answer }
-{
-    match answer {
-        Some(Answer::Ifs(ranges)) => ranges,
-        _ => Shared::empty(),
-    }
-}
-
 /// These ranges are open.
 pub fn put_ranges<L: Lookup>(
-    recorder: &mut Recorder,
-    state: &L,
+    recorder: &mut Recorder<'_, L>,
     scope: &mut Scope,
     ranges: Shared<Range>,
 ) -> Result<(), AllocError>
-    ensures { OnOk result (Hands (meaning.putting_ranges scope.old ranges) scope.new (L.answer state.now) recorder.old recorder.new) }
+    ensures { OnOk result (Hands (meaning.putting_ranges scope.old ranges) scope.new L.answer recorder.old recorder.new) }
 {
     match scope {
         Scope::Source => recorder.put(Key::Ifs, Answer::Ifs(ranges)),
@@ -129,19 +116,19 @@ pub fn put_ranges<L: Lookup>(
     }
 }
 
-/// Keeps a line behind so many others.
+/// Keeps a line after so many others.
 pub fn keep<L: Lookup>(
-    recorder: &mut Recorder,
-    state: &L,
+    recorder: &mut Recorder<'_, L>,
     scope: &mut Scope,
     count: u32,
     text: Shared<u8>,
 ) -> Result<(), AllocError>
-    ensures { OnOk result (Hands (meaning.keeping scope.old count text) scope.new (L.answer state.now) recorder.old recorder.new) }
+    ensures { OnOk result (Hands (meaning.keeping scope.old count text) scope.new L.answer recorder.old recorder.new) }
 {
     match scope {
         Scope::Source => recorder.put(Key::Kept(count), Answer::Text(text)),
         Scope::Expansion(own) => {
+            own.kept.truncate(count as usize);
             own.kept.push(text)?;
             Ok(())
         }
@@ -150,61 +137,42 @@ pub fn keep<L: Lookup>(
 
 /// So many lines that are kept.
 fn ask_lines<L: Lookup>(
-    alloc: Global,
-    recorder: &mut Recorder,
-    state: &L,
+    recorder: &mut Recorder<'_, L>,
     count: u32,
 ) -> Result<Vec<Shared<u8>>, AllocError>
-    ensures { IfOk result (λ lines. Hands (meaning.asking_lines 0 count) lines.items (L.answer state.now) recorder.old recorder.new) }
+    ensures { IfOk result (λ lines. Hands (meaning.asking_lines 0 count) lines.items L.answer recorder.old recorder.new) }
 {
+    let alloc = recorder.alloc();
     let mut lines = Vec::new(alloc);
     for line in 0..count {
-        let answer = recorder.ask(state, Key::Kept(line))?;
-        lines.push(text_of(answer))?;
+        let known = recorder.note(Key::Kept(line))?;
+        let text = text_of(recorder.answer(known))?;
+        lines.push(text)?;
     }
     Ok(lines)
 }
 
-/// Lines are no longer kept.
-pub fn end_body<L: Lookup>(
-    alloc: Global,
-    recorder: &mut Recorder,
-    state: &L,
-    control: Control,
-    scope: &mut Scope,
-) -> Result<(), AllocError>
-    ensures { OnOk result (Hands (meaning.ending_body control scope.old) scope.new (L.answer state.now) recorder.old recorder.new) }
-{
-    match scope {
-        Scope::Source => recorder.put(Key::Control, Answer::Control(control, Mode::Normal)),
-        Scope::Expansion(own) => {
-            own.mode = Mode::Normal;
-            own.kept = Vec::new(alloc);
-            Ok(())
-        }
-    }
-}
-
-/// The lines that are kept, which are no longer kept.
+/// So many lines that were kept. The lines to come are assembled.
 pub fn take_body<L: Lookup>(
-    alloc: Global,
-    recorder: &mut Recorder,
-    state: &L,
+    recorder: &mut Recorder<'_, L>,
     control: Control,
     scope: &mut Scope,
     count: u32,
 ) -> Result<Vec<Shared<u8>>, AllocError>
-    ensures { IfOk result (λ lines. TakesBody (meaning.taking_body control scope.old count) lines.items scope.new (L.answer state.now) recorder.old recorder.new) }
+    ensures { IfOk result (λ lines. TakesBody (meaning.taking_body control scope.old count) lines.items scope.new L.answer recorder.old recorder.new) }
 {
+    let alloc = recorder.alloc();
     match scope {
         Scope::Source => {
-            let lines = ask_lines(alloc, recorder, state, count)?;
+            let lines = ask_lines(recorder, count)?;
             recorder.put(Key::Control, Answer::Control(control, Mode::Normal))?;
             Ok(lines)
         }
         Scope::Expansion(own) => {
             own.mode = Mode::Normal;
-            Ok(mem::replace(&mut own.kept, Vec::new(alloc)))
+            let mut lines = mem::replace(&mut own.kept, Vec::new(alloc));
+            lines.truncate(count as usize);
+            Ok(lines)
         }
     }
 }

@@ -5,7 +5,7 @@ use Rattle.cps_state.specs.declared.key.Key.{Key}
 use Rattle.cps_state.specs.declared.key.Answer.{Answer}
 use Rattle.cps_state.specs.declared.key.Asked.{Asked}
 use Rattle.cps_state.specs.Keys.{State}
-use Rattle.cps_state.specs.Course.{Course, stop, ask, put, fill, mark, tell, settle, begin, Running, run, known_at, answer_at, with_ask, with_put_made, filled, marked, with_read, settled_by, begun, too_much, Holds}
+use Rattle.cps_state.specs.Course.{Course, stop, ask, put, stand, fill, mark, tell, settle, begin, Running, run, known_at, answer_at, with_ask, with_put_made, stood, filled, marked, with_read, settled_by, begun, too_much, Holds}
 
 holds-front : (front back : List Asked) (g : State) → Holds (front ++ back) g → Holds front g
 holds-front [] back g held = tt
@@ -57,6 +57,7 @@ unfolding asking_with going
 kept-asks stop f g t held = held
 kept-asks (ask k next) f g t held = asked-before f g t k (known_at t k) (kept-asks (next (answer_at f t k)) f g (with_ask f t k) held)
 kept-asks (put p rest) f g t held = kept-asks rest f g (with_put_made t p) held
+kept-asks (stand block rest) f g t held = kept-asks rest f g (stood t block) held
 kept-asks (fill made rest) f g t held = kept-asks rest f g (filled t made) held
 kept-asks (mark flags rest) f g t held = kept-asks rest f g (marked t flags) held
 kept-asks (tell name rest) f g t held = kept-asks rest f g (with_read t name) held
@@ -73,6 +74,7 @@ run-same (ask k next) f g t held =
     ∙ ap (λ (u : Running). run (next (answer_at f t k)) g u) (same-asks f g t k (known_at t k) before)
     ∙ run-same (next (answer_at f t k)) f g (with_ask f t k) held
 run-same (put p rest) f g t held = run-same rest f g (with_put_made t p) held
+run-same (stand block rest) f g t held = run-same rest f g (stood t block) held
 run-same (fill made rest) f g t held = run-same rest f g (filled t made) held
 run-same (mark flags rest) f g t held = run-same rest f g (marked t flags) held
 run-same (tell name rest) f g t held = run-same rest f g (with_read t name) held

@@ -1,5 +1,5 @@
 -- What is known after one more ask or put.
-use Rattle.std.proofs.Common.{◌≡◌, refl, sym, ap, ◌∙◌, ℕ, List, [], ◌∷◌, ◌++◌, Option, Some, None, true, false, Bool, cond}
+use Rattle.std.proofs.Common.{◌≡◌, refl, sym, ap, ◌∙◌, ℕ, List, [], ◌∷◌, ◌++◌, Option, Some, None, true, false, Bool}
 use Rattle.std.specs.Prelude.{if◌then◌else◌, option_map, ◌&&◌, ◌==◌}
 use Rattle.std.specs.Cmp.Lexicographic.{pointwise}
 use Rattle.std.proofs.lemmas.Bool.{eqb-true}
@@ -23,7 +23,7 @@ and-true-right : (a b : Bool) → (a && b) ≡ true → b ≡ true
 and-true-right true b h = h
 and-true-right false b h = cc
 
-same_key_is : (a b : Key) → (eq-value.it) a b ≡ same_key a b
+pub same_key_is : (a b : Key) → (eq-value.it) a b ≡ same_key a b
 same_key_is key.Control key.Control = refl
 same_key_is key.Control (key.Counter b) = refl
 same_key_is key.Control (key.Label b) = refl
@@ -205,13 +205,13 @@ same_key-true (key.Kept a) key.Blocks h = cc
 same_key-true (key.Kept a) (key.Macro b) h = cc
 same_key-true (key.Kept a) (key.Kept b) h = ap key.Kept (eqb-true a b h)
 
-last_put-push : (ps : List Put) (p : Put) (k : Key) → last_put (ps ++ p ∷ []) k ≡ (if same_key p.key k then Some p.answer else last_put ps k)
+pub last_put-push : (ps : List Put) (p : Put) (k : Key) → last_put (ps ++ p ∷ []) k ≡ (if same_key p.key k then Some p.answer else last_put ps k)
 last_put-push [] p k = refl
 last_put-push (x ∷ ps) p k =
     ap (λ o. option_or o (if same_key x.key k then Some x.answer else None)) (last_put-push ps p k)
     ∙ elim (same_key p.key k) as (λ b. option_or (if b then Some p.answer else last_put ps k) (if same_key x.key k then Some x.answer else None) ≡ (if b then Some p.answer else option_or (last_put ps k) (if same_key x.key k then Some x.answer else None))) [ true ↦ refl | false ↦ refl ]
 
-last_ask-push : (es : List Asked) (e : Asked) (k : Key) → last_ask (es ++ e ∷ []) k ≡ (if same_key e.key k then Some e.answer else last_ask es k)
+pub last_ask-push : (es : List Asked) (e : Asked) (k : Key) → last_ask (es ++ e ∷ []) k ≡ (if same_key e.key k then Some e.answer else last_ask es k)
 last_ask-push [] e k = refl
 last_ask-push (x ∷ es) e k =
     ap (λ o. option_or o (if same_key x.key k then Some x.answer else None)) (last_ask-push es e k)
@@ -222,13 +222,13 @@ none_told None a h = refl
 none_told (Some x) a h = cc
 
 -- one more put
-known_in-put : (es : List Asked) (ps : List Put) (p : Put) (k : Key) → known_in es (ps ++ p ∷ []) k ≡ (if same_key p.key k then Some (Some p.answer) else known_in es ps k)
+pub known_in-put : (es : List Asked) (ps : List Put) (p : Put) (k : Key) → known_in es (ps ++ p ∷ []) k ≡ (if same_key p.key k then Some (Some p.answer) else known_in es ps k)
 known_in-put es ps p k =
     ap (λ o. option_or (option_map Some o) (last_ask es k)) (last_put-push ps p k)
     ∙ elim (same_key p.key k) as (λ b. option_or (option_map Some (if b then Some p.answer else last_put ps k)) (last_ask es k) ≡ (if b then Some (Some p.answer) else known_in es ps k)) [ true ↦ refl | false ↦ refl ]
 
 -- one more ask, where the key was not known
-known_in-ask : (es : List Asked) (ps : List Put) (e : Asked) (k : Key) → known_in es ps e.key ≡ None → known_in (es ++ e ∷ []) ps k ≡ (if same_key e.key k then Some e.answer else known_in es ps k)
+pub known_in-ask : (es : List Asked) (ps : List Put) (e : Asked) (k : Key) → known_in es ps e.key ≡ None → known_in (es ++ e ∷ []) ps k ≡ (if same_key e.key k then Some e.answer else known_in es ps k)
 known_in-ask es ps e k new =
     let none_put : option_map Some (last_put ps e.key) ≡ None = none_told (last_put ps e.key) (last_ask es e.key) new in
     ap (option_or (option_map Some (last_put ps k))) (last_ask-push es e k)
@@ -236,12 +236,3 @@ known_in-ask es ps e k new =
       | true ↦ λ h. ap (λ o. option_or o (Some e.answer)) (ap (λ q. option_map Some (last_put ps q)) (sym (same_key-true e.key k h)) ∙ none_put)
       | false ↦ λ h. refl
     ] refl
-
--- the same for a map whose entries are what is known
-pub index-put : (es : List Asked) (ps : List Put) (p : Put) (k : Key) (new old : Option (Option Answer)) → new ≡ cond ((eq-value.it) p.key k) (Some (Some p.answer)) old → old ≡ known_in es ps k → new ≡ known_in es (ps ++ p ∷ []) k
-index-put es ps p k new old is was =
-    is ∙ ap (λ b. cond b (Some (Some p.answer)) old) (same_key_is p.key k) ∙ ap (cond (same_key p.key k) (Some (Some p.answer))) was ∙ sym (known_in-put es ps p k)
-
-pub index-ask : (es : List Asked) (ps : List Put) (e : Asked) (k : Key) (new old : Option (Option Answer)) → known_in es ps e.key ≡ None → new ≡ cond ((eq-value.it) e.key k) (Some e.answer) old → old ≡ known_in es ps k → new ≡ known_in (es ++ e ∷ []) ps k
-index-ask es ps e k new old none is was =
-    is ∙ ap (λ b. cond b (Some e.answer) old) (same_key_is e.key k) ∙ ap (cond (same_key e.key k) (Some e.answer)) was ∙ sym (known_in-ask es ps e k none)

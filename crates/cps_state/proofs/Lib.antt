@@ -1,4 +1,6 @@
 pub mod AskLemmas
 pub mod KnownLemmas
+pub mod LineLemmas
+pub mod LogLemmas
 pub mod PlaceLemmas
 pub mod StateLemmas

@@ -3,7 +3,8 @@ use Rattle.std.proofs.Common.{◌≡◌, sym, ap, ◌∙◌, List, [], ◌∷◌
 use Rattle.cps_state.specs.declared.key.Key.{Key}
 use Rattle.cps_state.specs.declared.key.Answer.{Answer}
 use Rattle.cps_state.specs.declared.key.Put.{Put}
-use Rattle.cps_state.specs.Keys.{State, answers_in, with_put, overwritten}
+use Rattle.cps_state.specs.KeptAnswers.{answers_in}
+use Rattle.cps_state.specs.Keys.{State, with_put, overwritten}
 
 -- one put of the list is made
 pub overwritten-next : (f g e : State) (puts rest : List Put) (p : Put) → puts ≡ p ∷ rest → f ≡ with_put g p → overwritten g puts ≡ e → overwritten f rest ≡ e

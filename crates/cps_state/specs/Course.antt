@@ -1,5 +1,5 @@
--- The course of a line in pass one (our own): it asks keys of the state, puts answers there, fills its statement, begins the statements that it stands
--- for, and tells the symbols that it reads. The next key follows from the answers so far. What the line itself put or asked before is not asked again.
+-- The course of a line in pass one (our own): it asks keys of the state, puts answers there, says where its statement stands and what that makes, begins
+-- the statements that it stands for, and tells the symbols that it reads. The next key follows from the answers so far. What the line itself put or asked before is not asked again.
 use Rattle.std.specs.Prelude.{◌≡◌, ℕ, Bool, true, false, not, ◌||◌, nat_lt, List, [], ◌∷◌, ◌++◌, length, take, filter, Option, None, Some, option_map, is_some, unwrap_or, if◌then◌else◌}
 use Rattle.std.specs.Option.{option_or}
 use Rattle.cps_text.specs.declared.name.Name.{Name}
@@ -11,16 +11,18 @@ use Rattle.cps_state.specs.declared.key.Asked.{Asked}
 use Rattle.cps_state.specs.declared.key.Put.{Put}
 use Rattle.cps_state.specs.declared.item.Item.{Item}
 use Rattle.cps_state.specs.Keys.{State, same_key}
-use Rattle.cps_state.specs.Item.{blank_item, with_made, with_flags}
-use Rattle.cps_state.specs.Made.{Made, nothing_in, no_flags}
+use Rattle.cps_state.specs.Item.{blank_item, standing_in, with_made, with_flags}
+use Rattle.cps_state.specs.Made.{Made, nothing_made, no_flags}
 
 pub data Course : Type 0 where
   stop : Course
   ask : Key → (Option Answer → Course) → Course
   put : Put → Course → Course
-  -- what the statement that began last made
+  -- the statement that began last has its place in a block
+  stand : Option Name → Course → Course
+  -- what it made
   fill : Made → Course → Course
-  -- more flags of the statement that began last
+  -- more flags of it
   mark : Flags → Course → Course
   tell : Name → Course → Course
   -- the line's own statement has put all that it puts
@@ -94,6 +96,9 @@ with_ask state running k =
 abbrev pub with_put_made : Running → Put → Running
 with_put_made running p = record running { puts = running.puts ++ p ∷ [] }
 
+abbrev pub stood : Running → Option Name → Running
+stood running block = record running { present = standing_in block running.present }
+
 abbrev pub filled : Running → Made → Running
 filled running made = record running { present = with_made made running.present }
 
@@ -130,27 +135,12 @@ abbrev pub run : Course → State → Running → Running × Bool
 run stop state running = (running, true)
 run (ask k next) state running = run (next (answer_at state running k)) state (with_ask state running k)
 run (put p rest) state running = run rest state (with_put_made running p)
+run (stand block rest) state running = run rest state (stood running block)
 run (fill made rest) state running = run rest state (filled running made)
 run (mark flags rest) state running = run rest state (marked running flags)
 run (tell name rest) state running = run rest state (with_read running name)
 run (settle rest) state running = run rest state (settled_by running)
 run (begin depth text rest) state running = if too_much (length running.whole) depth then (running, false) else run rest state (begun running depth text)
-
--- in a state a part was done: what had been done became what has been done
-abbrev pub Does : Part → State → Running → Running → Type 0
-Does part state old new = (rest : Course) → run (part rest) state old ≡ run rest state new
-
--- the same of a part that hands a value on
-abbrev pub Hands : {T : Type 0} → ((T → Part) → Part) → T → State → Running → Running → Type 0
-Hands {T} part value state old new = (next : T → Part) (rest : Course) → run (part next rest) state old ≡ run (next value rest) state new
-
--- the same of a part that was done whole, or that came to a statement that is too much
-abbrev pub went : Bool → Course → State → Running → Running × Bool
-went true rest state running = run rest state running
-went false rest state running = (running, false)
-
-abbrev pub Goes : Part → Bool → State → Running → Running → Type 0
-Goes part whole state old new = (rest : Course) → run (part rest) state old ≡ went whole rest state new
 
 -- ---- what a line did
 
@@ -166,9 +156,9 @@ abbrev pub first_item : List Item → Item → Item
 first_item [] present = present
 first_item (item ∷ items) present = item
 
--- a line that is dropped has E alone, and its own place; of its puts only its own statement's at the control stand, and it reads nothing
+-- a line that is dropped has E alone, and its own statement's place; of its puts only its own statement's at the control stand, and it reads nothing
 abbrev pub dropped_item : Item → Item
-dropped_item own = with_made (nothing_in own.made.block (record no_flags { structure = true })) (blank_item 0 [])
+dropped_item own = record { depth = 0; text = []; stand = own.stand; made = nothing_made (record no_flags { structure = true }) }
 
 abbrev pub control_puts : List Put → List Put
 control_puts puts = filter (λ p. same_key p.key key.Control) puts

@@ -43,25 +43,6 @@ same_key key.Ifs key.Ifs = true
 same_key key.Blocks key.Blocks = true
 same_key _ _ = false
 
--- what doesn't always stand
-abbrev pub is_other : Key → Bool
-is_other key.Control = false
-is_other (key.Counter None) = false
-is_other key.Uses = false
-is_other key.Blocks = false
-is_other key.Ifs = false
-is_other other = true
-
--- a state with this control, this place of the nominal block, these blocks that were left, this count of named blocks, these
--- open ranges, and these other answers
-abbrev pub answers_in : Answer → Answer → Answer → Answer → Answer → State → State
-answers_in control nominal uses blocks ranges others key.Control = Some control
-answers_in control nominal uses blocks ranges others (key.Counter None) = Some nominal
-answers_in control nominal uses blocks ranges others key.Uses = Some uses
-answers_in control nominal uses blocks ranges others key.Blocks = Some blocks
-answers_in control nominal uses blocks ranges others key.Ifs = Some ranges
-answers_in control nominal uses blocks ranges others other = others other
-
 -- how many of the blocks that USE left are kept
 abbrev pub most_uses : ℕ
 most_uses = 64

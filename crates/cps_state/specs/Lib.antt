@@ -1,7 +1,10 @@
 pub mod Course
 pub mod Flags
 pub mod Item
+pub mod KeptAnswers
 pub mod Keys
+pub mod Line
+pub mod Log
 pub mod Machines
 pub mod Made
 pub mod Work

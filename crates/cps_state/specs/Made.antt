@@ -16,15 +16,13 @@ use Rattle.cps_state.specs.declared.made.Shown.{Shown}
 use Rattle.cps_state.specs.declared.made.Shown.TheVariants.{Nothing}
 use Rattle.cps_state.specs.Machines.{limit, behind}
 
--- The flags of pass one; the program's name where the statement gives it; the machine, the block, and what fills the bits that were skipped;
--- the place where the statement starts, and its contents from there on, one behind the other; so many words of zeros from there on; what else
--- its row shows. With `only_flags`, of a statement that makes nothing, the contents are no bits: they only give flags. `held` are the symbols that its
+-- The flags of pass one; the program's name where the statement gives it; the machine, and what fills the bits that were skipped; the bits before the
+-- statement in its block, and its contents from there on, one after another; so many words of zeros from there on; what else its row shows. With `only_flags`, of a statement that makes nothing, the contents are no bits: they only give flags. `held` are the symbols that its
 -- contents read and to which SET had given a value by then, in their order; all others stand for their labels in pass two.
 pub record Made : Type 0 where
   pub flags : Flags
   pub program : Option Name
   pub machine : Machine
-  pub block : Option Name
   pub filling : List Piece
   pub start : ℕ
   pub contents : List Content
@@ -39,7 +37,6 @@ nothing_made flags = record {
   flags = flags;
   program = None;
   machine = Cp;
-  block = None;
   filling = [];
   start = 0;
   contents = [];
@@ -48,10 +45,6 @@ nothing_made flags = record {
   shown = Nothing;
   held = [];
 }
-
--- a statement that asked where its block stands, and that does nothing there but have flags
-abbrev pub nothing_in : Option Name → Flags → Made
-nothing_in block flags = record (nothing_made flags) { block = block }
 
 abbrev pub no_flags : Flags
 no_flags = record { operand = false; twice = false; structure = false; location = false; operation = false; cut = false; undefined = false; width = false }

@@ -1,9 +1,9 @@
 //! What answers say. One of another kind, or none, says what stands before the first line.
-ghost use Rattle.std.specs.Prelude.{◌≡◌, ◌*◌, ◌≤◌, IfSome};
+ghost use Rattle.std.specs.Prelude.{◌≡◌, ◌*◌, ◌≤◌, IfOk, IfSome};
 ghost use Rattle.std.specs.Option.{option_copied};
 ghost use Rattle.cps_code.specs.Place.{position};
 ghost use Rattle.cps_expr.specs.Value.{IsInRange};
-ghost use Rattle.cps_state.specs.Keys.{first_control, first_place, control_of, mode_of, macro_of, text_of, place_of, within_limit, value_of, uses_of, ranges_of, count_of, is_place, is_normal, is_open};
+ghost use Rattle.cps_state.specs.Keys.{first_control, first_place, control_of, mode_of, macro_of, text_of, place_of, within_limit, value_of, uses_of, ranges_of, count_of, is_place, is_normal, is_no_range, is_open};
 ghost use Rattle.cps_state.specs.Machines.{limit};
 
 use crate::key::{Answer, Control, Head, Key, Macro, Mode, Phase, Range};
@@ -13,6 +13,7 @@ use crate::shared::Shared;
 use cps_code::Place;
 use cps_expr::{Machine, Radix, Value};
 use cps_text::Name;
+use std::alloc::AllocError;
 
 /// The control before the first line: in the head, for the central processor, decimal, in the nominal block.
 pub fn first_control() -> Control
@@ -46,32 +47,32 @@ pub fn control_of(answer: Option<&Answer>) -> Control
 }
 
 /// What is done with the lines to come.
-pub fn mode_of(answer: Option<Answer>) -> Mode
-    ensures { result ≡ mode_of answer }
+pub fn mode_of(answer: Option<&Answer>) -> Result<Mode, AllocError>
+    ensures { IfOk result (λ mode. mode ≡ mode_of (option_copied answer.entry)) }
 {
     match answer {
-        Some(Answer::Control(_, mode)) => mode,
-        _ => Mode::Normal,
+        Some(Answer::Control(_, mode)) => mode.share(),
+        _ => Ok(Mode::Normal),
     }
 }
 
 /// A macro, if there is one.
-pub fn macro_of(answer: Option<Answer>) -> Option<Macro>
-    ensures { result ≡ macro_of answer }
+pub fn macro_of(answer: Option<&Answer>) -> Result<Option<Macro>, AllocError>
+    ensures { IfOk result (λ named. named ≡ macro_of (option_copied answer.entry)) }
 {
     match answer {
-        Some(Answer::Macro(named)) => Some(named),
-        _ => None,
+        Some(Answer::Macro(named)) => Ok(Some(named.share()?)),
+        _ => Ok(None),
     }
 }
 
 /// A line that is kept.
-pub fn text_of(answer: Option<Answer>) -> Shared<u8>
-    ensures { result ≡ text_of answer }
+pub fn text_of(answer: Option<&Answer>) -> Result<Shared<u8>, AllocError>
+    ensures { IfOk result (λ text. text ≡ text_of (option_copied answer.entry)) }
 {
     match answer {
-        Some(Answer::Text(text)) => text,
-        _ => Shared::empty(),
+        Some(Answer::Text(text)) => text.share(),
+        _ => Ok(Shared::empty()),
     }
 }
 
@@ -112,22 +113,32 @@ pub fn value_of(answer: Option<&Answer>) -> Option<Value>
 }
 
 /// The blocks that USE may go back to, the last in front.
-pub fn uses_of(answer: Option<&Answer>) -> &[Option<Name>]
-    ensures { result.now ≡ uses_of (option_copied answer.entry) }
+pub fn uses_of(answer: Option<&Answer>) -> Result<Shared<Option<Name>>, AllocError>
+    ensures { IfOk result (λ uses. uses ≡ uses_of (option_copied answer.entry)) }
 {
     match answer {
-        Some(Answer::Uses(uses)) => uses.as_slice(),
-        _ => &[],
+        Some(Answer::Uses(uses)) => uses.share(),
+        _ => Ok(Shared::empty()),
     }
 }
 
 /// The ranges that are open, the newest in front.
-pub fn ranges_of(answer: Option<&Answer>) -> &[Range]
-    ensures { result.now ≡ ranges_of (option_copied answer.entry) }
+pub fn ranges_of(answer: Option<&Answer>) -> Result<Shared<Range>, AllocError>
+    ensures { IfOk result (λ ranges. ranges ≡ ranges_of (option_copied answer.entry)) }
 {
     match answer {
-        Some(Answer::Ifs(ranges)) => ranges.as_slice(),
-        _ => &[],
+        Some(Answer::Ifs(ranges)) => ranges.share(),
+        _ => Ok(Shared::empty()),
+    }
+}
+
+/// Whether no range is open.
+pub fn is_no_range(answer: Option<&Answer>) -> bool
+    ensures { result ≡ is_no_range (ranges_of (option_copied answer.entry)) }
+{
+    match answer {
+        Some(Answer::Ifs(ranges)) => ranges.as_slice().is_empty(),
+        _ => true,
     }
 }
 
@@ -174,6 +185,5 @@ fn is_assembled(answer: Option<&Answer>) -> bool
 pub fn is_open<L: Lookup>(state: &L) -> bool
     ensures { result ≡ is_open (L.answer state.now) }
 {
-    let ranges = ranges_of(state.ask(&Key::Ifs));
-    !is_assembled(state.ask(&Key::Control)) || !ranges.is_empty()
+    !is_assembled(state.ask(&Key::Control)) || !is_no_range(state.ask(&Key::Ifs))
 }

@@ -1,17 +1,29 @@
 //! The statements of a line.
 ghost use Rattle.std.specs.Prelude.{◌≡◌};
-ghost use Rattle.cps_state.specs.Item.{blank_item, with_made, with_flags};
+ghost use Rattle.cps_state.specs.Item.{blank_item, standing_in, with_made, with_flags};
 
 use crate::flags::Flags;
 use crate::made::Made;
 use crate::shared::Shared;
+use cps_text::Name;
 use std::alloc::Global;
 
-/// A statement: how deep in expansions it stands, 0 for a source line; its text, empty for a source line's own statement; and what it made.
+/// Whether a statement has a place, and in which block.
+#[derive(Clone, Copy, Debug, PartialEq, Eq)]
+pub enum Stand {
+    /// It has none: it did not ask where the block in use stands.
+    Nowhere,
+    /// In a block; None is the nominal one.
+    In(Option<Name>),
+}
+
+/// A statement: how deep in expansions it is, 0 for a source line; its text, empty for a source line's own statement; the block of its place; and what
+/// it made.
 #[derive(Drop)]
 pub struct Item {
     pub depth: u8,
     pub text: Shared<u8>,
+    pub stand: Stand,
     pub made: Made,
 }
 
@@ -23,8 +35,16 @@ impl Item {
         Item {
             depth,
             text,
+            stand: Stand::Nowhere,
             made: Made::nothing(alloc, Flags::none()),
         }
+    }
+
+    /// The statement has its place in a block.
+    pub fn stand_in(&mut self, block: Option<Name>)
+        ensures { self.new ≡ standing_in block self.old }
+    {
+        self.stand = Stand::In(block);
     }
 
     /// What the statement made.

@@ -44,10 +44,11 @@ pub struct Head {
 /// The part of a program.
 #[derive(Clone, Copy, Debug, PartialEq, Eq)]
 pub enum Phase {
-    /// Before the first statement other than IDENT, ABS, PERIPH, BASE, EQU, `=`, SET and the listing operations.
+    /// Before the first statement other than IDENT, ABS, PERIPH, BASE, EQU, `=`, SET, TITLE, SPACE, EJECT, LIST, MACRO and ENDM, comments and lines
+    /// without an operation apart.
     Head(Head),
     Body,
-    /// Behind END.
+    /// After END.
     AfterEnd,
 }
 

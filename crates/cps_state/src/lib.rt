@@ -5,6 +5,7 @@ mod answers;
 mod flags;
 mod item;
 mod key;
+mod log;
 mod lookup;
 mod machines;
 mod made;
@@ -17,18 +18,19 @@ mod uses;
 mod work;
 
 pub use answers::{
-    control_of, count_of, first_control, is_normal, is_open, is_place, macro_of, mode_of, place_of,
-    ranges_of, text_of, uses_of, value_of,
+    control_of, count_of, first_control, is_no_range, is_normal, is_open, is_place, macro_of,
+    mode_of, place_of, ranges_of, text_of, uses_of, value_of,
 };
 pub use flags::Flags;
-pub use item::Item;
+pub use item::{Item, Stand};
 pub use key::{
     Answer, Asked, Control, DupBody, Extent, Head, Kept, Key, Macro, MacroBody, Mode, Phase, Put,
     Range, Skip, is_same_block,
 };
+pub use log::Known;
 pub use lookup::Lookup;
 pub use machines::{WORD, behind, limit_of, word_bits};
-pub use made::{Content, Held, Made, Shown, end_of};
+pub use made::{Begun, Content, Held, Made, Shown, end_of};
 pub use names::names_in;
 pub use recorder::{DEEPEST, Recorder};
 pub use shared::Shared;

@@ -5,7 +5,7 @@ ghost use Rattle.cps_code.specs.Image.{piece_of};
 ghost use Rattle.cps_expr.specs.Item.{bits_of};
 ghost use Rattle.cps_state.specs.Flags.{joined};
 ghost use Rattle.cps_state.specs.Machines.{limit};
-ghost use Rattle.cps_state.specs.Made.{nothing_made, nothing_in, width_of, end_of, IsContent, IsHeld, HaveRoom};
+ghost use Rattle.cps_state.specs.Made.{nothing_made, width_of, end_of, IsContent, IsHeld, HaveRoom};
 
 use crate::flags::Flags;
 use crate::machines::{WORD, behind, limit_of};
@@ -63,6 +63,13 @@ pub fn end_of(machine: Machine, start: u32, contents: &[Content]) -> Option<u32>
     Some(at)
 }
 
+/// Where the bits of a statement begin: the bits before it in its block, and what fills those that are skipped.
+#[derive(Clone, Copy)]
+pub struct Begun {
+    pub start: u32,
+    pub filling: Option<Piece>,
+}
+
 /// What a row shows beside codes.
 #[derive(Clone, Copy, Debug, PartialEq, Eq)]
 pub enum Shown {
@@ -88,7 +95,6 @@ pub struct Made {
     flags: Flags,
     program: Option<Name>,
     machine: Machine,
-    block: Option<Name>,
     filling: Option<Piece>,
     start: u32,
     contents: Vec<Content>,
@@ -110,7 +116,6 @@ impl Model for Made {
       flags = made.flags;
       program = made.program;
       machine = made.machine;
-      block = made.block;
       filling = option_to_list (option_map piece_of made.filling);
       start = made.start;
       contents = made.contents.items;
@@ -132,7 +137,6 @@ impl Made {
             flags,
             program: None,
             machine: Machine::Cp,
-            block: None,
             filling: None,
             start: 0,
             contents: Vec::new(alloc),
@@ -141,15 +145,6 @@ impl Made {
             shown: Shown::Nothing,
             held: Vec::new(alloc),
         }
-    }
-
-    /// Of a statement that asked where its block stands, and does nothing there but have flags.
-    pub fn nothing_in(alloc: Global, block: Option<Name>, flags: Flags) -> Made
-        ensures { result ≡ nothing_in block flags }
-    {
-        let mut made = Made::nothing(alloc, flags);
-        made.block = block;
-        made
     }
 
     /// Of a statement that names the program.
@@ -175,15 +170,13 @@ impl Made {
         alloc: Global,
         flags: Flags,
         machine: Machine,
-        block: Option<Name>,
         filling: Option<Piece>,
         shown: Shown,
     ) -> Made
-        ensures { result ≡ record (nothing_made flags) { machine = machine; block = block; filling = option_to_list (option_map piece_of filling); shown = shown } }
+        ensures { result ≡ record (nothing_made flags) { machine = machine; filling = option_to_list (option_map piece_of filling); shown = shown } }
     {
         let mut made = Made::nothing(alloc, flags);
         made.machine = machine;
-        made.block = block;
         made.filling = filling;
         made.shown = shown;
         made
@@ -194,22 +187,19 @@ impl Made {
         alloc: Global,
         flags: Flags,
         machine: Machine,
-        block: Option<Name>,
-        filling: Option<Piece>,
-        start: u32,
+        begun: Begun,
         zeros: u32,
     ) -> Made
-        requires word { start % 60 < bits_of machine }
-        requires within { start ≤ 60 * limit machine }
-        ensures { result ≡ record (nothing_made flags) { machine = machine; block = block; filling = option_to_list (option_map piece_of filling); start = start; zeros = zeros; shown = Shown.Start } }
+        requires word { begun.start % 60 < bits_of machine }
+        requires within { begun.start ≤ 60 * limit machine }
+        ensures { result ≡ record (nothing_made flags) { machine = machine; filling = option_to_list (option_map piece_of begun.filling); start = begun.start; zeros = zeros; shown = Shown.Start } }
     {
         Made {
             flags,
             program: None,
             machine,
-            block,
-            filling,
-            start,
+            filling: begun.filling,
+            start: begun.start,
             contents: Vec::new(alloc),
             zeros,
             only_flags: false,
@@ -222,24 +212,21 @@ impl Made {
     pub fn placing(
         flags: Flags,
         machine: Machine,
-        block: Option<Name>,
-        filling: Option<Piece>,
-        start: u32,
+        begun: Begun,
         contents: Vec<Content>,
         held: Vec<Held>,
     ) -> Made
         requires each { All IsContent contents.items }
         requires held { All IsHeld held.items }
-        requires room { HaveRoom machine start contents.items }
-        ensures { result ≡ record (nothing_made flags) { machine = machine; block = block; filling = option_to_list (option_map piece_of filling); start = start; contents = contents.items; held = held.items } }
+        requires room { HaveRoom machine begun.start contents.items }
+        ensures { result ≡ record (nothing_made flags) { machine = machine; filling = option_to_list (option_map piece_of begun.filling); start = begun.start; contents = contents.items; held = held.items } }
     {
         Made {
             flags,
             program: None,
             machine,
-            block,
-            filling,
-            start,
+            filling: begun.filling,
+            start: begun.start,
             contents,
             zeros: 0,
             only_flags: false,
@@ -252,23 +239,20 @@ impl Made {
     pub fn flagging(
         flags: Flags,
         machine: Machine,
-        block: Option<Name>,
-        filling: Option<Piece>,
-        start: u32,
+        begun: Begun,
         contents: Vec<Content>,
         held: Vec<Held>,
     ) -> Made
         requires each { All IsContent contents.items }
         requires held { All IsHeld held.items }
-        ensures { result ≡ record (nothing_made flags) { machine = machine; block = block; filling = option_to_list (option_map piece_of filling); start = start; contents = contents.items; only_flags = true; held = held.items } }
+        ensures { result ≡ record (nothing_made flags) { machine = machine; filling = option_to_list (option_map piece_of begun.filling); start = begun.start; contents = contents.items; only_flags = true; held = held.items } }
     {
         Made {
             flags,
             program: None,
             machine,
-            block,
-            filling,
-            start,
+            filling: begun.filling,
+            start: begun.start,
             contents,
             zeros: 0,
             only_flags: true,
@@ -303,13 +287,6 @@ impl Made {
         ensures { result ≡ self.now.machine }
     {
         self.machine
-    }
-
-    /// The block in which the bits stand; None is the nominal one.
-    pub fn block(&self) -> Option<Name>
-        ensures { result ≡ self.now.block }
-    {
-        self.block
     }
 
     /// What fills the bits that were skipped.

@@ -1,20 +1,19 @@
-//! What a line has asked, put, made and read so far.
+//! What a line has asked, put, made and read so far, over what answers its keys.
 ghost use Rattle.std.specs.Prelude.{◌≡◌, ◌≤◌, IsTrue, OnOk, IfOk};
-ghost use Rattle.std.specs.HashMap as hash;
-ghost use Rattle.cps_state.specs.declared.key.Key.{Key};
-ghost use Rattle.cps_state.specs.Course.{started, begin, answer_at, first_item, dropped_item, control_puts, with_ask, with_put_made, filled, marked, with_read, settled_by, traced, deepest, Goes};
-ghost use Rattle.cps_state.specs.Keys.{State};
+ghost use Rattle.std.specs.Option.{option_copied};
+ghost use Rattle.cps_state.specs.Course.{begin, first_item, dropped_item, control_puts, traced, deepest};
+ghost use Rattle.cps_state.specs.Line.{Goes, known_answer, line_started, line_answer, line_asked, line_put, line_stood, line_filled, line_marked, line_told, line_settled};
 
 use crate::flags::Flags;
 use crate::item::Item;
 use crate::key::{Answer, Asked, Key, Put, is_same_key, share_answer};
+use crate::log::{Known, Log};
 use crate::lookup::Lookup;
 use crate::made::Made;
 use crate::shared::Shared;
 use crate::trace::Trace;
 use cps_text::Name;
 use std::alloc::{AllocError, Global};
-use std::collections::HashMap;
 use std::marker::Model;
 use std::mem;
 
@@ -24,112 +23,107 @@ pub const DEEPEST: u8 = 10;
 /// The expansion of a line has no more statements.
 const MOST_STATEMENTS: usize = 2000;
 
-/// What a line has asked, put, made and read so far.
+/// What a line has asked, put, made and read so far, over what answers its keys. It has the memory that the line takes.
 #[derive(Drop)]
-pub struct Recorder {
+pub struct Recorder<'a, L> {
     alloc: Global,
-    asks: Vec<Asked>,
-    puts: Vec<Put>,
+    state: &'a L,
+    log: Log,
     settled: usize,
     whole: Vec<Item>,
     present: Item,
     reads: Vec<Name>,
-    /// What was put at each key, else what was asked there.
-    known: HashMap<Key, Option<Answer>>,
 }
 
-impl Model for Recorder {
-    ghost use Rattle.std.specs.Prelude.{◌≡◌};
-    ghost use Rattle.std.specs.HashMap as hash;
-    ghost use Rattle.cps_state.specs.declared.key.Key.{Key};
-    ghost use Rattle.cps_state.specs.Course.{Running, known_in};
+impl<'a, L> Model for Recorder<'a, L> {
+    ghost use Rattle.cps_state.specs.Line.{Line};
 
-    ghost Value = { Running };
+    ghost Value = { Line L };
 
     ghost view = { λ recorder. record {
-      asks = recorder.asks.items;
-      puts = recorder.puts.items;
-      settled = recorder.settled;
-      whole = recorder.whole.items;
-      present = recorder.present;
-      reads = recorder.reads.items;
+      state = recorder.state.now;
+      done = record {
+        asks = recorder.log.asks;
+        puts = recorder.log.puts;
+        settled = recorder.settled;
+        whole = recorder.whole.items;
+        present = recorder.present;
+        reads = recorder.reads.items;
+      };
     } };
-
-    ghost invariant = { λ recorder. (k : Key) → hash.get ⟦<Key as PartialEq>⟧.eq recorder.known k ≡ known_in recorder.asks.items recorder.puts.items k };
 }
 
-impl Recorder {
-    /// Of a line that has done nothing.
-    pub fn new(alloc: Global) -> Recorder
-        ensures { result ≡ started }
+impl<'a, L: Lookup> Recorder<'a, L> {
+    /// Of a line that has done nothing, over a state.
+    pub fn new(alloc: Global, state: &'a L) -> Recorder<'a, L>
+        ensures { result ≡ line_started state.now }
     {
         Recorder {
             alloc,
-            asks: Vec::new(alloc),
-            puts: Vec::new(alloc),
+            state,
+            log: Log::new(alloc),
             settled: 0,
             whole: Vec::new(alloc),
             present: Item::blank(alloc, 0, Shared::empty()),
             reads: Vec::new(alloc),
-            known: HashMap::new(alloc),
         }
     }
 
-    /// What stands at a key. It is asked only where it is not known.
-    pub fn ask<L: Lookup>(&mut self, state: &L, key: Key) -> Result<Option<Answer>, AllocError>
-        ensures answer { IfOk result (λ answer. answer ≡ answer_at (L.answer state.now) self.old key) }
-        ensures asks { OnOk result (self.new ≡ with_ask (L.answer state.now) self.old key) }
+    /// Where its memory is from.
+    pub fn alloc(&self) -> Global {
+        self.alloc
+    }
+
+    /// Where the answer at a key stands. The key is asked only where nothing is known of it.
+    pub fn note(&mut self, key: Key) -> Result<Known, AllocError>
+        ensures asks { OnOk result (self.new ≡ line_asked L.answer self.old key) }
+        ensures answer { IfOk result (λ known. known_answer self.new known ≡ line_answer L.answer self.old key) }
     {
-        if let Some(known) = self.known.get(&key) {
-            return share_answer(known.as_ref());
+        if let Some(known) = self.log.find(key) {
+            return Ok(known);
         }
-        let found = share_answer(state.ask(&key))?;
-        let answer = share_answer(found.as_ref())?;
-        let kept = share_answer(found.as_ref())?;
-        self.asks.reserve(1)?;
-        self.known.reserve(1)?;
-        let Ok(_) = self.asks.push(Asked { key, answer }) else {
-            unreachable!();
-        };
-        let Ok(_) = self.known.insert(key, kept) else {
-            unreachable!();
-        };
-        Ok(found)
+        let answer = share_answer(self.state.ask(&key))?;
+        self.log.push_ask(Asked { key, answer })
+    }
+
+    /// The answer that was noted, None where nothing stands at its key.
+    pub fn answer(&self, known: Known) -> Option<&Answer>
+        ensures { option_copied result ≡ known_answer self.now known }
+    {
+        self.log.answer(known)
     }
 
     /// Puts an answer.
     pub fn put(&mut self, key: Key, answer: Answer) -> Result<(), AllocError>
-        ensures { OnOk result (self.new ≡ with_put_made self.old (record { key = key; answer = answer })) }
+        ensures { OnOk result (self.new ≡ line_put self.old (record { key = key; answer = answer })) }
     {
-        let kept = answer.share()?;
-        self.puts.reserve(1)?;
-        self.known.reserve(1)?;
-        let Ok(_) = self.puts.push(Put { key, answer }) else {
-            unreachable!();
-        };
-        let Ok(_) = self.known.insert(key, Some(kept)) else {
-            unreachable!();
-        };
-        Ok(())
+        self.log.push_put(Put { key, answer })
+    }
+
+    /// The statement that began last has its place in a block.
+    pub fn stand(&mut self, block: Option<Name>)
+        ensures { self.new ≡ line_stood self.old block }
+    {
+        self.present.stand_in(block);
     }
 
     /// What the statement that began last made.
     pub fn fill(&mut self, made: Made)
-        ensures { self.new ≡ filled self.old made }
+        ensures { self.new ≡ line_filled self.old made }
     {
         self.present.fill(made);
     }
 
     /// More flags of the statement that began last.
     pub fn mark(&mut self, flags: Flags)
-        ensures { self.new ≡ marked self.old flags }
+        ensures { self.new ≡ line_marked self.old flags }
     {
         self.present.mark(flags);
     }
 
     /// Tells a symbol that is read.
     pub fn tell(&mut self, name: Name) -> Result<(), AllocError>
-        ensures { OnOk result (self.new ≡ with_read self.old name) }
+        ensures { OnOk result (self.new ≡ line_told self.old name) }
     {
         self.reads.push(name)?;
         Ok(())
@@ -137,14 +131,14 @@ impl Recorder {
 
     /// The line's own statement has put all that it puts.
     pub fn settle(&mut self)
-        ensures { self.new ≡ settled_by self.old }
+        ensures { self.new ≡ line_settled self.old }
     {
-        self.settled = self.puts.len();
+        self.settled = self.log.put_count();
     }
 
     /// Begins a statement of an expansion, unless it is too much: then it answers false.
     pub fn begin(&mut self, depth: u8, text: Shared<u8>) -> Result<bool, AllocError>
-        ensures begun { IfOk result (λ whole. (f : State) → Goes (begin depth text) whole f self.old self.new) }
+        ensures begun { IfOk result (λ whole. Goes (begin depth text) whole L.answer self.old self.new) }
         ensures deep { IfOk result (λ whole. IsTrue whole → depth ≤ deepest) }
     {
         if depth > DEEPEST || self.whole.len() >= MOST_STATEMENTS {
@@ -161,18 +155,18 @@ impl Recorder {
 
     /// What the line did. It is dropped where it wasn't done whole.
     pub fn into_trace(self, whole: bool) -> Result<Trace, AllocError>
-        ensures { IfOk result (λ trace. trace ≡ traced (self, whole)) }
+        ensures { IfOk result (λ trace. trace ≡ traced (self.entry.done, whole)) }
     {
         let Recorder {
             alloc,
-            asks,
-            mut puts,
+            state: _,
+            log,
             settled,
             whole: mut items,
             present,
             reads,
-            known: _,
         } = self;
+        let (asks, mut puts) = log.into_parts();
         if whole {
             items.reserve_exact(1)?;
             items.push(present)?;
@@ -197,9 +191,12 @@ fn dropped_item(alloc: Global, whole: &[Item], present: &Item) -> Item
     };
     let mut flags = Flags::none();
     flags.structure = true;
-    let mut item = Item::blank(alloc, 0, Shared::empty());
-    item.fill(Made::nothing_in(alloc, own.made.block(), flags));
-    item
+    Item {
+        depth: 0,
+        text: Shared::empty(),
+        stand: own.stand,
+        made: Made::nothing(alloc, flags),
+    }
 }
 
 /// The puts at the control.

@@ -1,7 +1,8 @@
 //! The state of an assembly.
 ghost use Rattle.std.specs.Prelude.{◌≡◌, ◌<◌, ◌≤◌, ◌+◌, true, OnOk, OnErr, length};
 ghost use Rattle.std.specs.HashMap as hash;
-ghost use Rattle.cps_state.specs.Keys.{first_state, with_put, overwritten, is_other};
+ghost use Rattle.cps_state.specs.KeptAnswers.{is_other};
+ghost use Rattle.cps_state.specs.Keys.{first_state, with_put, overwritten};
 ghost use Rattle.cps_state.specs.declared.key.Key.{Key};
 
 use crate::answers::{first_control, first_place, value_of};
@@ -28,7 +29,7 @@ pub struct State {
 
 impl Lookup for State {
     ghost use Rattle.std.specs.HashMap as hash;
-    ghost use Rattle.cps_state.specs.Keys.{answers_in};
+    ghost use Rattle.cps_state.specs.KeptAnswers.{answers_in};
 
     ghost answer = { λ state. answers_in state.control state.nominal state.uses state.blocks state.ranges (hash.get ⟦<Key as PartialEq>⟧.eq state.others) };
 

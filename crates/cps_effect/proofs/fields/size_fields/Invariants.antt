@@ -1,6 +1,7 @@
 use Rattle.std.proofs.Common.{◌≡◌, All}
 use Rattle.std.specs.Vec.Iter.{into_iter_items}
-use Rattle.cps_state.specs.Course.{Course, Part, run}
+use Rattle.cps_state.specs.Course.{Course, Part}
+use Rattle.cps_state.specs.Line.{runs}
 use Rattle.cps_state.specs.Made.{IsContent}
 use Rattle.cps_effect.specs.Fields.{Sized, sizing}
 use Rattle.cps_effect.proofs.SizedLemmas.{behind_sized}
@@ -9,7 +10,7 @@ use Rattle.cps_effect.proofs.fields.size_fields.Given as goal
 abbrev pub invariant-loop-field : goal.invariant-loop-field
 invariant-loop-field g l = record {
   left : (next : Sized → Part) (rest : Course)
-      → run (sizing (into_iter_items l.field-iterator) l.here (λ sized. next (behind_sized l.contents.items l.flags sized)) rest) (g.L.Lookup.answer l.state) l.recorder
-      ≡ run (sizing l.fn.fields l.here next rest) (g.L.Lookup.answer l.state) l.fn.recorder;
+      → runs (sizing (into_iter_items l.field-iterator) l.here (λ sized. next (behind_sized l.contents.items l.flags sized)) rest) g.L.Lookup.answer l.recorder
+      ≡ runs (sizing l.fn.fields l.here next rest) g.L.Lookup.answer l.fn.recorder;
   each : All IsContent l.contents.items;
 }

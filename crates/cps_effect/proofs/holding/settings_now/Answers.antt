@@ -5,7 +5,7 @@ use Rattle.cps_effect.proofs.holding.settings_now.Goals as goal
 pub loop-name-preserved : goal.loop-name-preserved
 loop-name-preserved g c = record {
   left = λ next rest.
-      held-next c.args.names.now c.loop-name.name-index _ c.in_ok-value.value c.loop-name.held.items c.push_held.new.held.items (g.L.Lookup.answer c.args.state.now) c.loop-name.recorder c.setting_now.new.recorder
+      held-next c.args.names.now c.loop-name.name-index _ c.in_ok-value.value c.loop-name.held.items c.push_held.new.held.items g.L.Lookup.answer c.loop-name.recorder c.setting_now.new.recorder
       c.loop-name-test.true c.in_ok-push_held.ensures.pushed c.in_ok-value.ensures.value next rest ∙ c.loop-name.invariant.left next rest;
   each = c.in_ok-push_held.ensures.each;
 }

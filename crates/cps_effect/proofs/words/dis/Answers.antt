@@ -1,7 +1,7 @@
 use Rattle.std.proofs.Common.{sym, subst}
 use Rattle.std.specs.Prelude.{OnOk}
 use Rattle.cps_expr.specs.declared.row.DisText.{DisText}
-use Rattle.cps_state.specs.Course.{Does}
+use Rattle.cps_state.specs.Line.{Does}
 use Rattle.cps_effect.specs.Placing.{asking_site}
 use Rattle.cps_effect.specs.Words.{displayed}
 use Rattle.cps_effect.proofs.PartLemmas.{handed-then}
@@ -9,7 +9,7 @@ use Rattle.cps_effect.proofs.words.dis.Goals as goal
 
 pub returns-in-Counted : goal.returns-in-Counted
 returns-in-Counted g c =
-    handed-then (asking_site c.args.control c.args.location) c.in_ok-site.site (displayed c.args.text.now) (g.L.Lookup.answer c.args.state.now) c.args.recorder.now _ c.display_counted.new.recorder
+    handed-then (asking_site c.args.front.control c.args.front.location) c.in_ok-site.site (displayed c.args.text.now) g.L.Lookup.answer c.args.recorder.now _ c.display_counted.new.recorder
     c.display_counted.result c.in_ok-site.ensures.site
-    (subst (λ (text : DisText). OnOk c.display_counted.result (Does (displayed text c.in_ok-site.site) (g.L.Lookup.answer c.args.state.now) c.ask_site.new.recorder c.display_counted.new.recorder))
+    (subst (λ (text : DisText). OnOk c.display_counted.result (Does (displayed text c.in_ok-site.site) g.L.Lookup.answer c.ask_site.new.recorder c.display_counted.new.recorder))
     (sym c.in-Counted.is) c.display_counted.ensures)

@@ -1,12 +1,11 @@
 use Rattle.std.proofs.Common.{sym, ◌∙◌}
-use Rattle.cps_final.specs.Finals.{final_value}
-use Rattle.cps_final.specs.contracts.finals.FinalsGathered.TheImpl.{gathered-value}
+use Rattle.cps_final.specs.Resolving.{resolved}
 use Rattle.cps_final.proofs.AloneLemmas.{outcome-alone}
 use Rattle.cps_final.proofs.OutcomeLemmas.{outcome-made}
 use Rattle.cps_final.proofs.outcome.make_outcome.Goals as goal
 
 pub returns : goal.returns
 returns c =
-    let finals = final_value (gathered-value.it c.args.finals.now) in
+    let finals = resolved c.args.finals.now in
     let made = outcome-made finals c.args.trace.now c.items-items.result.now c.puts.result.now _ _ _ _ c.items-items.ensures c.puts.ensures c.in_ok-rows.ensures c.in_ok-pieces.ensures c.in_ok-defined.ensures c.in_ok-read.ensures in
     record { outcome = made; alone = λ others agree. outcome-alone others finals c.args.trace.now agree ∙ sym made }

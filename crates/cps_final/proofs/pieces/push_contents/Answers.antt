@@ -1,8 +1,7 @@
 use Rattle.std.proofs.Common.{◌<◌, drop, map, length, rules}
 use Rattle.cps_code.specs.Image.{piece_of}
-use Rattle.cps_final.specs.Finals.{final_value}
 use Rattle.cps_final.specs.Pieces.{placed}
-use Rattle.cps_final.specs.contracts.finals.FinalsGathered.TheImpl.{gathered-value}
+use Rattle.cps_final.specs.Resolving.{view_of}
 use Rattle.cps_final.proofs.PieceLemmas.{room-low, content-next}
 use Rattle.cps_final.proofs.pieces.push_contents.Goals as goal
 
@@ -12,13 +11,12 @@ behind-at-requires-clause-low c =
 
 pub loop-content-preserved : goal.loop-content-preserved
 loop-content-preserved c =
-    let finals = final_value (gathered-value.it c.args.finals.now) in
     let machine = c.machine-machine.result in
     let now = c.loop-content in
     let contents = c.contents-content-items.result.now in
     let lt : now.content-index < length contents = search rules in
-    let both = content-next finals c.args.made.now machine c.args.base c.first_address-here.result now.at c.width-width.result c.value_content-number.result.number c.behind-at.result
-    now.content-index contents c.content-item.result c.machine-machine.ensures c.requires.based c.first_address-here.ensures.address c.contents-content-items.ensures.contents lt
-    c.content-item.is c.width-width.ensures.width c.value_content-number.ensures.number c.behind-at.ensures (placed machine c.args.base) (map piece_of now.pieces.items)
+    let both = content-next (view_of c.args.standing.now) contents c.args.made.now.contents machine now.at c.width-width.result c.value_content-number.result.number c.behind-at.result
+    now.content-index c.content-item.result c.machine-machine.ensures c.contents-content-items.ensures.contents lt c.content-item.is c.width-width.ensures.width
+    c.value_content-number.ensures.number c.behind-at.ensures (placed machine c.base-base.result) (map piece_of now.pieces.items)
     (map piece_of c.push_run.new.pieces.items) _ c.in_ok-push_run.ensures now.invariant.room now.invariant.pieces in
     record { room = both.0; pieces = both.1 }

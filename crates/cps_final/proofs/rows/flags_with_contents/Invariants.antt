@@ -1,9 +1,7 @@
 use Rattle.std.proofs.Common.{◌≡◌, take}
-use Rattle.cps_final.specs.Finals.{final_value}
-use Rattle.cps_final.specs.Values.{known_in}
 use Rattle.cps_final.specs.Rows.{with_contents}
-use Rattle.cps_final.specs.contracts.finals.FinalsGathered.TheImpl.{gathered-value}
+use Rattle.cps_final.specs.Resolving.{view_of}
 use Rattle.cps_final.proofs.rows.flags_with_contents.Given as goal
 
 abbrev pub invariant-loop-content : goal.invariant-loop-content
-invariant-loop-content l = l.flags ≡ with_contents (known_in (final_value (gathered-value.it l.finals)) l.made) l.here l.made.flags (take l.content-index l.made.contents)
+invariant-loop-content l = l.flags ≡ with_contents (view_of l.standing).known (view_of l.standing).here l.item.made.flags (take l.content-index l.item.made.contents)

@@ -1,21 +1,22 @@
 use Rattle.std.proofs.Common.{rules, arith, ◌+◌, ◌-◌, sym, ◌∙◌, true, false}
-use Rattle.cps_state.specs.Course.{begin, Goes}
-use Rattle.cps_pass.specs.Expansion.{walk, body, ended, too_deep, Walks}
-use Rattle.cps_pass.specs.Keeping.{repeated}
+use Rattle.cps_state.specs.Course.{begin}
+use Rattle.cps_state.specs.Line.{Goes}
+use Rattle.cps_pass.specs.Expansion.{walk, body, ended, too_deep}
+use Rattle.cps_pass.specs.Treating.{repeated}
 use Rattle.cps_pass.specs.Meaning.{statement}
 use Rattle.cps_pass.specs.Opened.{lines_of}
-use Rattle.cps_pass.specs.Taking.{HandsOn}
+use Rattle.cps_pass.specs.Taking.{HandsOn, Walks}
 use Rattle.cps_pass.proofs.WalkLemmas.{walked, cut, begins-as, obeys-as, walks-as, opened-some, opened-none, turned, body-as, no-turn}
 use Rattle.cps_pass.proofs.expansion.+expansion.Goals as goal
 use Rattle.cps_pass.proofs.expansion.+expansion.Goals.{go_through-in-Some+in_ok-expand+else-not-branch-2, go_through-in_default}
 
 pub go_through-loop-text-preserved : goal.go_through-loop-text-preserved
 go_through-loop-text-preserved g t c = λ next rest.
-    let f = g.L.Lookup.answer c.args.state.now in
+    let f = g.L.Lookup.answer in
     let depth = c.args.depth in
     let text = c.text-item.result in
     let begins : Goes (begin depth text) true f c.loop-text.recorder c.begin.new.self =
-    begins-as depth c.in_ok-share.field-0 text c.in_ok-begin.field-0 true f c.loop-text.recorder c.begin.new.self c.in_ok-share.ensures c.if-not-branch.false (c.in_ok-begin.ensures.begun f) in
+    begins-as depth c.in_ok-share.field-0 text c.in_ok-begin.field-0 true f c.loop-text.recorder c.begin.new.self c.in_ok-share.ensures c.if-not-branch.false c.in_ok-begin.ensures.begun in
     let obeys : HandsOn (statement c.loop-text.scope text) c.step_statement.new.scope (lines_of c.in_ok-opened.field-0) f c.begin.new.self c.step_statement.new.recorder =
     obeys-as c.loop-text.scope c.step_statement.new.scope c.as_slice.result.now text (lines_of c.in_ok-opened.field-0) f c.begin.new.self c.step_statement.new.recorder c.as_slice.ensures c.in_ok-opened.ensures in
     elim c.match-branch-4.branch [
@@ -31,21 +32,21 @@ go_through-loop-text-preserved g t c = λ next rest.
 
 pub go_through-returns-then-not-branch : goal.go_through-returns-then-not-branch
 go_through-returns-then-not-branch g t c = λ next rest.
-    let f = g.L.Lookup.answer c.args.state.now in
+    let f = g.L.Lookup.answer in
     let depth = c.args.depth in
     let text = c.text-item.result in
     let begins : Goes (begin depth text) false f c.loop-text.recorder c.begin.new.self =
-    begins-as depth c.in_ok-share.field-0 text c.in_ok-begin.field-0 false f c.loop-text.recorder c.begin.new.self c.in_ok-share.ensures c.if-not-branch.true (c.in_ok-begin.ensures.begun f) in
+    begins-as depth c.in_ok-share.field-0 text c.in_ok-begin.field-0 false f c.loop-text.recorder c.begin.new.self c.in_ok-share.ensures c.if-not-branch.true c.in_ok-begin.ensures.begun in
     sym (c.loop-text.invariant next rest)
     ∙ cut (body (too_deep - depth)) depth c.args.texts.now c.loop-text.text-index text c.loop-text.scope f c.loop-text.recorder c.begin.new.self c.loop-text-test.true c.text-item.is begins next rest
 
 pub go_through-returns-then-not-branch-2 : goal.go_through-returns-then-not-branch-2
 go_through-returns-then-not-branch-2 g t c = λ next rest.
-    let f = g.L.Lookup.answer c.args.state.now in
+    let f = g.L.Lookup.answer in
     let depth = c.args.depth in
     let text = c.text-item.result in
     let begins : Goes (begin depth text) true f c.loop-text.recorder c.begin.new.self =
-    begins-as depth c.in_ok-share.field-0 text c.in_ok-begin.field-0 true f c.loop-text.recorder c.begin.new.self c.in_ok-share.ensures c.if-not-branch.false (c.in_ok-begin.ensures.begun f) in
+    begins-as depth c.in_ok-share.field-0 text c.in_ok-begin.field-0 true f c.loop-text.recorder c.begin.new.self c.in_ok-share.ensures c.if-not-branch.false c.in_ok-begin.ensures.begun in
     let obeys : HandsOn (statement c.loop-text.scope text) c.step_statement.new.scope (lines_of c.in_ok-opened.field-0) f c.begin.new.self c.step_statement.new.recorder =
     obeys-as c.loop-text.scope c.step_statement.new.scope c.as_slice.result.now text (lines_of c.in_ok-opened.field-0) f c.begin.new.self c.step_statement.new.recorder c.as_slice.ensures c.in_ok-opened.ensures in
     sym (c.loop-text.invariant next rest)
@@ -55,7 +56,7 @@ go_through-returns-then-not-branch-2 g t c = λ next rest.
 
 pub expand-loop-turn-preserved : goal.expand-loop-turn-preserved
 expand-loop-turn-preserved g t c = λ next rest.
-    let f = g.L.Lookup.answer c.args.state.now in
+    let f = g.L.Lookup.answer in
     let depth = c.args.depth in
     let lines = c.args.opened.now.lines.items in
     let walks : Walks (walk (body (too_deep - depth)) depth c.loop-turn.scope lines) true c.go_through.new.scope f c.loop-turn.recorder c.go_through.new.recorder =
@@ -65,7 +66,7 @@ expand-loop-turn-preserved g t c = λ next rest.
 
 pub expand-returns-then-not-branch : goal.expand-returns-then-not-branch
 expand-returns-then-not-branch g t c = λ rest.
-    let f = g.L.Lookup.answer c.args.state.now in
+    let f = g.L.Lookup.answer in
     let depth = c.args.depth in
     let lines = c.args.opened.now.lines.items in
     let walks : Walks (walk (body (too_deep - depth)) depth c.loop-turn.scope lines) false c.go_through.new.scope f c.loop-turn.recorder c.go_through.new.recorder =
@@ -76,10 +77,10 @@ expand-returns-then-not-branch g t c = λ rest.
 
 pub expand-returns : goal.expand-returns
 expand-returns g t c = λ rest.
-    let f = g.L.Lookup.answer c.args.state.now in
+    let f = g.L.Lookup.answer in
     let depth = c.args.depth in
     let lines = c.args.opened.now.lines.items in
     body-as depth (repeated c.args.opened.now.times lines) f c.args.recorder.now (omega arith) rest
     ∙ sym (c.loop-turn.invariant ended rest)
     ∙ no-turn (body (too_deep - depth)) depth c.args.opened.now.times c.loop-turn._turn lines c.loop-turn.scope f c.loop-turn.recorder c.loop-turn-test.false ended rest
-    ∙ c.end_expansion.ensures f rest
+    ∙ c.end_expansion.ensures rest

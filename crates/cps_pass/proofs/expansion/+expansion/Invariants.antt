@@ -1,9 +1,10 @@
 use Rattle.std.proofs.Common.{◌≡◌, ◌+◌, ◌-◌, ◌*◌, drop}
-use Rattle.cps_state.specs.Course.{Part, Course, run}
+use Rattle.cps_state.specs.Course.{Part, Course}
+use Rattle.cps_state.specs.Line.{runs}
 use Rattle.cps_pass.specs.declared.scope.Scope.{Scope}
 use Rattle.cps_pass.specs.declared.scope.Scope.TheVariants.{Expansion}
 use Rattle.cps_pass.specs.Expansion.{walk, body, too_deep}
-use Rattle.cps_pass.specs.Keeping.{repeated}
+use Rattle.cps_pass.specs.Treating.{repeated}
 use Rattle.cps_pass.specs.Own.{begun}
 use Rattle.cps_pass.proofs.expansion.+expansion.Given as goal
 
@@ -16,11 +17,11 @@ decreases-go_through g l = 2 * (too_deep - l.depth)
 -- the statements that are left go on from here
 abbrev pub invariant-go_through-loop-text : goal.invariant-go_through-loop-text
 invariant-go_through-loop-text g l = (next : Scope → Part) (rest : Course) →
-    run (walk (body (too_deep - l.depth)) l.depth l.scope (drop l.text-index l.texts) next rest) (g.L.Lookup.answer l.state) l.recorder
-    ≡ run (walk (body (too_deep - l.depth)) l.depth l.fn.scope l.texts next rest) (g.L.Lookup.answer l.state) l.fn.recorder
+    runs (walk (body (too_deep - l.depth)) l.depth l.scope (drop l.text-index l.texts) next rest) g.L.Lookup.answer l.recorder
+    ≡ runs (walk (body (too_deep - l.depth)) l.depth l.fn.scope l.texts next rest) g.L.Lookup.answer l.fn.recorder
 
 -- the turns that are left go on from here
 abbrev pub invariant-expand-loop-turn : goal.invariant-expand-loop-turn
 invariant-expand-loop-turn g l = (next : Scope → Part) (rest : Course) →
-    run (walk (body (too_deep - l.depth)) l.depth l.scope (repeated (l.opened.times - l._turn) l.opened.lines.items) next rest) (g.L.Lookup.answer l.state) l.recorder
-    ≡ run (walk (body (too_deep - l.depth)) l.depth (Expansion begun) (repeated l.opened.times l.opened.lines.items) next rest) (g.L.Lookup.answer l.state) l.fn.recorder
+    runs (walk (body (too_deep - l.depth)) l.depth l.scope (repeated (l.opened.times - l._turn) l.opened.lines.items) next rest) g.L.Lookup.answer l.recorder
+    ≡ runs (walk (body (too_deep - l.depth)) l.depth (Expansion begun) (repeated l.opened.times l.opened.lines.items) next rest) g.L.Lookup.answer l.fn.recorder

@@ -1,7 +1,8 @@
 use Rattle.std.proofs.Common.{◌≡◌, ◌-◌, ◌≤◌, arith, ap, subst, ◌∙◌, List, [], ◌∷◌, length, take, drop}
 use Rattle.std.proofs.lemmas.List.{take_all}
 use Rattle.cps_state.specs.declared.key.Range.{Range}
-use Rattle.cps_state.specs.Course.{Part, ◌before◌, fill, Hands}
+use Rattle.cps_state.specs.Course.{Part, ◌before◌, fill}
+use Rattle.cps_state.specs.Line.{Hands}
 use Rattle.cps_state.specs.Made.{nothing_made}
 use Rattle.cps_reading.specs.declared.reading.Location.{Location}
 use Rattle.cps_effect.specs.Located.{present_flags}
@@ -23,7 +24,7 @@ closed-some scope location (range ∷ ranges) others some is =
 
 pub returns : goal.returns
 returns g c =
-    let state = g.L.Lookup.answer c.args.state.now in
+    let state = g.L.Lookup.answer in
     let scope = c.args.scope.now in
     let does : ((Scope → Part) → Part) → Type 0 = λ part. Hands part c.put_ranges.new.scope state c.args.recorder.now c.flag.new.recorder in
     subst does (closed-some scope c.args.location c.args.ranges.now c.in_ok-new.field-0 c.in-len1-up.len_at_least c.in_ok-new.ensures)

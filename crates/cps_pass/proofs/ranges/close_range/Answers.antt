@@ -1,7 +1,7 @@
 use Rattle.std.proofs.Common.{List, subst}
 use Rattle.std.specs.Prelude.{OnOk}
 use Rattle.cps_state.specs.declared.key.Range.{Range}
-use Rattle.cps_state.specs.Course.{Hands}
+use Rattle.cps_state.specs.Line.{Hands}
 use Rattle.cps_pass.specs.Ranges.{closed}
 use Rattle.cps_pass.specs.Scope.{asking_ranges}
 use Rattle.cps_pass.proofs.ScopeLemmas.{handed-on}
@@ -9,7 +9,7 @@ use Rattle.cps_pass.proofs.ranges.close_range.Goals as goal
 
 pub returns : goal.returns
 returns g c =
-    let state = g.L.Lookup.answer c.args.state.now in
+    let state = g.L.Lookup.answer in
     let asked = c.ask_ranges.new.recorder in
     let new = c.close.new.recorder in
     let with_ranges = closed c.args.scope.now c.args.location in

@@ -5,7 +5,8 @@ use Rattle.cps_state.specs.declared.key.Mode.{Mode}
 use Rattle.cps_state.specs.declared.key.Mode.TheVariants.{SkipRange}
 use Rattle.cps_state.specs.declared.key.Range.{Range}
 use Rattle.cps_state.specs.declared.key.Range.TheVariants.{BeforeElse, BehindElse}
-use Rattle.cps_state.specs.Course.{Part, ◌before◌, fill, Hands}
+use Rattle.cps_state.specs.Course.{Part, ◌before◌, fill}
+use Rattle.cps_state.specs.Line.{Hands}
 use Rattle.cps_state.specs.Made.{nothing_made}
 use Rattle.cps_reading.specs.declared.reading.Location.{Location}
 use Rattle.cps_effect.specs.Located.{present_flags}
@@ -33,13 +34,13 @@ turned-first control scope location (BehindElse ∷ ranges) others some first is
 
 pub returns : goal.returns
 returns g c =
-    let state = g.L.Lookup.answer c.args.state.now in
+    let state = g.L.Lookup.answer in
     let scope = c.args.scope.now in
-    let control = c.args.control in
-    let flags = present_flags c.args.location in
+    let control = c.args.front.control in
+    let flags = present_flags c.args.front.location in
     let left = c.in_ok-new.field-0 in
     let does : ((Scope → Part) → Part) → Type 0 = λ part. Hands part c.go_by.new.scope state c.args.recorder.now c.flag.new.recorder in
-    subst does (turned-first control scope c.args.location c.args.ranges.now left c.in-BeforeElse.len_at_least (search rules) c.in_ok-new.ensures)
+    subst does (turned-first control scope c.args.front.location c.args.ranges.now left c.in-BeforeElse.len_at_least (search rules) c.in_ok-new.ensures)
     (λ next rest.
     c.in_ok-put_ranges.ensures (λ within. going_by control within skipped (λ later. fill (nothing_made flags) before next later)) rest
     ∙ handed-flagged (going_by control c.put_ranges.new.scope skipped) c.go_by.new.scope flags c.present_flags.result state c.put_ranges.new.recorder c.go_by.new.recorder

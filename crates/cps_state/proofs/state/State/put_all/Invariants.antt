@@ -1,7 +1,8 @@
 use Rattle.std.proofs.Common.{◌≡◌, ◌≤◌, length}
 use Rattle.std.specs.HashMap as hash
 use Rattle.cps_state.specs.contracts.key.KeyPartialEq.TheImpl.{eq-value}
-use Rattle.cps_state.specs.Keys.{answers_in, overwritten}
+use Rattle.cps_state.specs.KeptAnswers.{answers_in}
+use Rattle.cps_state.specs.Keys.{overwritten}
 use Rattle.cps_state.proofs.state.State.put_all.Given as goal
 
 -- what is left overwrites what is there to the same end, and there is room for it

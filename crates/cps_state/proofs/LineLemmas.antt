@@ -1,0 +1,29 @@
+-- What a course makes of a line is what it makes in the line's state.
+use Rattle.std.proofs.Common.{◌≡◌, refl, Bool, true, false, length}
+use Rattle.std.specs.Prelude.{if◌then◌else◌}
+use Rattle.cps_state.specs.Course.{Course, stop, ask, put, stand, fill, mark, tell, settle, begin, Running, run, answer_at, with_ask, with_put_made, stood, filled, marked, with_read, settled_by, begun, too_much}
+use Rattle.cps_state.specs.Keys.{State}
+use Rattle.cps_state.specs.Line.{Line, runs}
+
+-- what was done, and whether all of it was
+abbrev ended : {S : Type 0} → Line S × Bool → Running × Bool
+ended line = (line.0.done, line.1)
+
+stopped : {S : Type 0} (stops : Bool) (here : Line S) (line : Line S × Bool) (on : Running × Bool) → ended line ≡ on
+    → ended (if stops then (here, false) else line) ≡ (if stops then (here.done, false) else on)
+stopped true here line on same = refl
+stopped false here line on same = same
+
+pub runs-done : {S : Type 0} (course : Course) (answer : S → State) (state : S) (done : Running)
+    → ended (runs course answer (record { state = state; done = done })) ≡ run course (answer state) done
+runs-done stop answer state done = refl
+runs-done (ask k next) answer state done = runs-done (next (answer_at (answer state) done k)) answer state (with_ask (answer state) done k)
+runs-done (put p rest) answer state done = runs-done rest answer state (with_put_made done p)
+runs-done (stand block rest) answer state done = runs-done rest answer state (stood done block)
+runs-done (fill made rest) answer state done = runs-done rest answer state (filled done made)
+runs-done (mark flags rest) answer state done = runs-done rest answer state (marked done flags)
+runs-done (tell name rest) answer state done = runs-done rest answer state (with_read done name)
+runs-done (settle rest) answer state done = runs-done rest answer state (settled_by done)
+runs-done (begin depth text rest) answer state done =
+    stopped (too_much (length done.whole) depth) (record { state = state; done = done }) (runs rest answer (record { state = state; done = begun done depth text }))
+    (run rest (answer state) (begun done depth text)) (runs-done rest answer state (begun done depth text))

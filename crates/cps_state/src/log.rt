@@ -1,0 +1,227 @@
+//! What a line asked and put, and what is known of a key.
+ghost use Rattle.std.specs.Prelude.{◌≡◌, ◌++◌, ◌∷◌, [], ◌<◌, None, Some, IfOk, OnOk, IfSome, true, is_some, length, option_and_then, option_map, unwrap_or};
+ghost use Rattle.std.specs.Option.{option_copied};
+ghost use Rattle.std.specs.HashMap as hash;
+ghost use Rattle.cps_state.specs.declared.key.Key.{Key};
+ghost use Rattle.cps_state.specs.Course.{last_put, last_ask, known_in};
+ghost use Rattle.cps_state.specs.Log.{Log, known_of, put_at, asked_at, found_at, Indexes};
+
+use crate::key::{Answer, Asked, Key, Put, is_same_key};
+use std::alloc::{AllocError, Global};
+use std::collections::HashMap;
+use std::marker::Model;
+
+/// So many asks, and so many puts, are looked through from the last on; where there are more of either, there is an index.
+const SHORT: usize = 16;
+
+/// Where in a log the answer stands that is known of a key: in which of its asks, or of its puts. The first is 0.
+#[derive(Clone, Copy, Debug, PartialEq, Eq)]
+pub enum Known {
+    Asked(usize),
+    Put(usize),
+}
+
+/// What a line asked and put. A short one is looked through, a long one has an index.
+#[derive(Drop)]
+pub struct Log {
+    alloc: Global,
+    asks: Vec<Asked>,
+    puts: Vec<Put>,
+    /// What is known of each key, where the log is long.
+    index: HashMap<Key, Known>,
+    is_long: bool,
+}
+
+impl Model for Log {
+    ghost use Rattle.std.specs.Prelude.{◌≡◌, true};
+    ghost use Rattle.std.specs.HashMap as hash;
+    ghost use Rattle.cps_state.specs.declared.key.Key.{Key};
+    ghost use Rattle.cps_state.specs.Log.{Log, Indexes};
+
+    ghost Value = { Log };
+
+    ghost view = { λ log. record { asks = log.asks.items; puts = log.puts.items } };
+
+    ghost invariant = { λ log. log.is_long ≡ true → (k : Key) → Indexes log.asks.items log.puts.items k (hash.get ⟦<Key as PartialEq>⟧.eq log.index k) };
+}
+
+impl Log {
+    /// Of a line that asked nothing. Takes no memory.
+    pub fn new(alloc: Global) -> Log
+        ensures { result ≡ record { asks = []; puts = [] } }
+    {
+        Log {
+            alloc,
+            asks: Vec::new(alloc),
+            puts: Vec::new(alloc),
+            index: HashMap::new(alloc),
+            is_long: false,
+        }
+    }
+
+    /// Where the answer stands that is known of a key.
+    pub fn find(&self, key: Key) -> Option<Known>
+        ensures found { option_and_then (found_at self.now) result ≡ known_of self.now key }
+        ensures is_there { IfSome result (λ known. is_some (found_at self.now known) ≡ true) }
+    {
+        if self.is_long {
+            return self.index.get(&key).copied();
+        }
+        match newest_put(&self.puts, key) {
+            Some(place) => Some(Known::Put(place)),
+            None => match newest_ask(&self.asks, key) {
+                Some(place) => Some(Known::Asked(place)),
+                None => None,
+            },
+        }
+    }
+
+    /// The answer at a place.
+    pub fn answer(&self, known: Known) -> Option<&Answer>
+        ensures { option_copied result ≡ unwrap_or (found_at self.now known) None }
+    {
+        match known {
+            Known::Asked(place) => match self.asks.get(place) {
+                Some(asked) => asked.answer.as_ref(),
+                None => None,
+            },
+            Known::Put(place) => match self.puts.get(place) {
+                Some(put) => Some(&put.answer),
+                None => None,
+            },
+        }
+    }
+
+    /// One more ask, of a key of which nothing is known.
+    pub fn push_ask(&mut self, asked: Asked) -> Result<Known, AllocError>
+        requires { known_of self.old asked.key ≡ None }
+        ensures log { OnOk result (self.new ≡ record self.old { asks = self.old.asks ++ asked ∷ [] }) }
+        ensures answer { IfOk result (λ known. found_at self.new known ≡ Some asked.answer) }
+    {
+        let key = asked.key;
+        let known = Known::Asked(self.asks.len());
+        self.asks.reserve(1)?;
+        self.index.reserve(usize::from(self.is_long))?;
+        let Ok(_) = self.asks.push(asked) else {
+            unreachable!();
+        };
+        if self.is_long {
+            let Ok(_) = self.index.insert(key, known) else {
+                unreachable!();
+            };
+        }
+        self.lengthen()?;
+        Ok(known)
+    }
+
+    /// One more put.
+    pub fn push_put(&mut self, put: Put) -> Result<(), AllocError>
+        ensures { OnOk result (self.new ≡ record self.old { puts = self.old.puts ++ put ∷ [] }) }
+    {
+        let key = put.key;
+        let known = Known::Put(self.puts.len());
+        self.puts.reserve(1)?;
+        self.index.reserve(usize::from(self.is_long))?;
+        let Ok(_) = self.puts.push(put) else {
+            unreachable!();
+        };
+        if self.is_long {
+            let Ok(_) = self.index.insert(key, known) else {
+                unreachable!();
+            };
+        }
+        self.lengthen()
+    }
+
+    /// How many puts.
+    pub fn put_count(&self) -> usize
+        ensures { result ≡ length self.now.puts }
+    {
+        self.puts.len()
+    }
+
+    /// What was asked and what was put, in their order.
+    pub fn into_parts(self) -> (Vec<Asked>, Vec<Put>)
+        ensures asks { result.0.items ≡ self.asks }
+        ensures puts { result.1.items ≡ self.puts }
+    {
+        let Log {
+            alloc: _,
+            asks,
+            puts,
+            index: _,
+            is_long: _,
+        } = self;
+        (asks, puts)
+    }
+
+    /// A log that has become long gets its index.
+    fn lengthen(&mut self) -> Result<(), AllocError>
+        ensures { self.new ≡ self.old }
+    {
+        if self.is_long || self.puts.len() <= SHORT && self.asks.len() <= SHORT {
+            return Ok(());
+        }
+        let index = index_of_asks(self.alloc, &self.asks)?;
+        self.index = with_puts(index, &self.asks, &self.puts)?;
+        self.is_long = true;
+        Ok(())
+    }
+}
+
+/// An index of asks.
+fn index_of_asks(alloc: Global, asks: &[Asked]) -> Result<HashMap<Key, Known>, AllocError>
+    ensures { IfOk result (λ index. (k : Key) → Indexes asks.now [] k (hash.get ⟦<Key as PartialEq>⟧.eq index k)) }
+{
+    let mut index = HashMap::new(alloc);
+    for place in 0..asks.len() {
+        index.insert(asks[place].key, Known::Asked(place))?;
+    }
+    Ok(index)
+}
+
+/// An index of asks, and of puts.
+fn with_puts(
+    index: HashMap<Key, Known>,
+    _asks: &[Asked],
+    puts: &[Put],
+) -> Result<HashMap<Key, Known>, AllocError>
+    requires { (k : Key) → Indexes _asks.now [] k (hash.get ⟦<Key as PartialEq>⟧.eq index k) }
+    ensures { IfOk result (λ index. (k : Key) → Indexes _asks.now puts.now k (hash.get ⟦<Key as PartialEq>⟧.eq index k)) }
+{
+    let mut index = index;
+    for place in 0..puts.len() {
+        index.insert(puts[place].key, Known::Put(place))?;
+    }
+    Ok(index)
+}
+
+/// The newest put at a key.
+fn newest_put(puts: &[Put], key: Key) -> Option<usize>
+    ensures found { option_and_then (put_at puts.now) result ≡ last_put puts.now key }
+    ensures within { IfSome result (λ place. place < length puts.now) }
+{
+    let mut place = puts.len();
+    while place > 0 {
+        place -= 1;
+        if is_same_key(puts[place].key, key) {
+            return Some(place);
+        }
+    }
+    None
+}
+
+/// The newest ask of a key.
+fn newest_ask(asks: &[Asked], key: Key) -> Option<usize>
+    ensures found { option_and_then (asked_at asks.now) result ≡ last_ask asks.now key }
+    ensures within { IfSome result (λ place. place < length asks.now) }
+{
+    let mut place = asks.len();
+    while place > 0 {
+        place -= 1;
+        if is_same_key(asks[place].key, key) {
+            return Some(place);
+        }
+    }
+    None
+}
