@@ -11,9 +11,9 @@ use Rattle.cps_code.specs.declared.operation.FieldForm.{FieldForm}
 use Rattle.cps_code.specs.declared.operation.FieldForm.TheVariants as field
 use Rattle.cps_code.specs.Form.{Form}
 use Rattle.cps_code.specs.Digits.{digits_in}
-use Rattle.cps_code.specs.Rows.{Found, turned, registers_in, found_in_fields, operands_in, form_in_row, form_in, form_of_rows}
+use Rattle.cps_code.specs.Rows.{Found, turned, registers_in, found_behind, found_in_fields, operands_in, form_in_row, form_in, form_of_rows}
 use Rattle.cps_code.specs.Sum.{Summed}
-use Rattle.cps_code.specs.Operations.{no_sum, constant_in, row_of_fields}
+use Rattle.cps_code.specs.Operations.{no_sum, with_none_left, registers_alone, constant_in, row_of_fields}
 use Rattle.cps_code.specs.declared.fields.Found as kept
 use Rattle.cps_code.specs.declared.hole.Operand.{Operand}
 use Rattle.cps_expr.specs.declared.machine.Machine.TheVariants.{Cp}
@@ -74,6 +74,20 @@ mapped-left read (Some left) = mapped-found left.0 (read left.1)
 pub constant_found : (radix : Radix) (registers texts : List (List ℕ)) (digits : Digits)
     → found_in_fields radix (record { registers = registers; hole = Some (code "K") }) texts digits ≡ option_map found (constant_in radix registers texts digits)
 constant_found radix registers texts digits = mapped-left (only_one (operand_of Cp radix)) (registers_in registers texts digits)
+
+-- ---- registers alone
+
+abbrev bare : Digits → Found
+bare digits = record { digits = digits; operand = None }
+
+none-behind : (radix : Radix) (left : Option (Digits × List (List ℕ))) → option_and_then (found_behind radix None) left ≡ option_map bare (option_and_then with_none_left left)
+none-behind radix None = refl
+none-behind radix (Some (digits, [])) = refl
+none-behind radix (Some (digits, text ∷ texts)) = refl
+
+pub alone_found : (radix : Radix) (registers texts : List (List ℕ)) (digits : Digits)
+    → found_in_fields radix (record { registers = registers; hole = None }) texts digits ≡ option_map bare (registers_alone registers texts digits)
+alone_found radix registers texts digits = none-behind radix (registers_in registers texts digits)
 
 -- ---- the first row that fits
 

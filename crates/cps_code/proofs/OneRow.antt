@@ -15,7 +15,7 @@ use Rattle.cps_code.specs.declared.register.RegisterTerm.{RegisterTerm}
 use Rattle.cps_code.specs.Digits.{with_digit, with_character, digits_in}
 use Rattle.cps_code.specs.OneRow.{Fits, Names, OneRowFits, OneIsNamed, RowsStandTogether}
 use Rattle.cps_code.specs.Register.{digit_value}
-use Rattle.cps_code.specs.Rows.{Pattern, RowTerm, Shape, unread, fields, summed, Found, RowForm, Operation, Operands, turned, registers_in, found_behind, found_in_fields, same_bool, same_letter, is_of, digits_of_terms, is_constant, only_for, found_in_sum, found_in, form_found}
+use Rattle.cps_code.specs.Rows.{Pattern, RowTerm, Shape, unread, fields, summed, Found, RowForm, Operation, Operands, turned_sum, turned, registers_in, found_behind, found_in_fields, same_bool, same_letter, is_of, digits_of_terms, is_constant, only_for, found_in_sum, found_in, form_found}
 use Rattle.cps_code.specs.declared.hole.Operand.{Operand}
 use Rattle.cps_code.specs.Sum.{Summed}
 use Rattle.cps_code.specs.Table.{cp_operations}
@@ -232,10 +232,6 @@ either-clash terms others registers (inl one) (inr two) =
     let back = subst (AreOf (reverse others)) (reverse-reverse registers) (reversed others (reverse registers) two) in
     or_right _ _ (terms-clash terms (reverse others) registers one back)
 
--- a sum with its register terms turned round
-abbrev round : Summed → Summed
-round sum = record { registers = reverse sum.registers; constant = sum.constant }
-
 abbrev found_with : Summed → Digits → Found
 found_with sum digits = record { digits = digits; operand = sum.constant }
 
@@ -245,10 +241,10 @@ constant-found terms has digits sum found =
     let first = if_some (same_bool (is_some sum.constant) has) (option_map (found_with sum) (digits_of_terms terms sum.registers digits)) found in
     (first.0, are-of terms sum.registers digits (mapped (found_with sum) (digits_of_terms terms sum.registers digits) first.1))
 
-sum-found : (terms : List RowTerm) (has : Bool) (digits : Digits) (sum : Summed) → IsSome (found_in_sum terms has digits sum) ⊎ IsSome (found_in_sum terms has digits (round sum))
+sum-found : (terms : List RowTerm) (has : Bool) (digits : Digits) (sum : Summed) → IsSome (found_in_sum terms has digits sum) ⊎ IsSome (found_in_sum terms has digits (turned_sum sum))
     → (same_bool (is_some sum.constant) has ≡ true) × AreOfEither terms sum.registers
 sum-found terms has digits sum (inl found) = let first = constant-found terms has digits sum found in (first.0, inl first.1)
-sum-found terms has digits sum (inr found) = let first = constant-found terms has digits (round sum) found in (first.0, inr first.1)
+sum-found terms has digits sum (inr found) = let first = constant-found terms has digits (turned_sum sum) found in (first.0, inr first.1)
 
 -- ---- shapes
 
@@ -283,8 +279,8 @@ fields-clash radix digits texts pattern other one two =
     (registers-clash (found_behind radix pattern.hole) (found_behind radix other.hole) pattern.registers other.registers texts digits digits one two)
 
 sums-clash : (digits : Digits) (sum : Option Summed) (terms others : List RowTerm) (has constant : Bool)
-    → IsSome (option_and_then (found_in_sum terms has digits) sum) ⊎ IsSome (option_and_then (found_in_sum terms has digits) (option_map round sum))
-    → IsSome (option_and_then (found_in_sum others constant digits) sum) ⊎ IsSome (option_and_then (found_in_sum others constant digits) (option_map round sum))
+    → IsSome (option_and_then (found_in_sum terms has digits) sum) ⊎ IsSome (option_and_then (found_in_sum terms has digits) (option_map turned_sum sum))
+    → IsSome (option_and_then (found_in_sum others constant digits) sum) ⊎ IsSome (option_and_then (found_in_sum others constant digits) (option_map turned_sum sum))
     → shapes_clash (summed terms has) (summed others constant) ≡ true
 sums-clash digits None terms others has constant one two = let none = either_way one in cc
 sums-clash digits (Some sum) terms others has constant one two =

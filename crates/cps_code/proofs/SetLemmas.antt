@@ -13,7 +13,7 @@ use Rattle.cps_code.specs.Terms.{IsRegister, AreRegisters, register_list}
 use Rattle.cps_expr.specs.declared.radix.Radix.{Radix}
 use Rattle.cps_code.specs.declared.digits.Digits.{Digits}
 use Rattle.cps_code.specs.Digits.{with_digit}
-use Rattle.cps_code.specs.Rows.{Shape, unread, fields, summed, RowForm, RowTerm, Operands, is_of, same_bool, digits_of_terms, form_found, found_in, form_in, form_of_rows}
+use Rattle.cps_code.specs.Rows.{Shape, unread, fields, summed, RowForm, RowTerm, Operands, turned_sum, is_of, same_bool, digits_of_terms, form_found, found_in, form_in, form_of_rows}
 
 pub registers_kept : (registers : Registers) (list : List RegisterTerm) → register_list registers ≡ list → All IsRegister list → AreRegisters registers
 registers_kept Absent list is all = tt
@@ -85,7 +85,7 @@ no_form radix digits rows texts None short many =
     ap (λ o. option_or o (form_in radix digits rows (record { texts = texts; sum = None }))) none ∙ none
 no_form radix digits rows texts (Some sum) short many =
     let more = many sum refl in
-    let round : Summed = record { registers = reverse sum.registers; constant = sum.constant } in
+    let round = turned_sum sum in
     let more' : 2 < length round.registers = omega (arith, length-reverse sum.registers) in
     let none = form-none radix digits rows (record { texts = texts; sum = Some sum }) short (λ shape. found-many radix digits texts sum shape more) in
     let none' = form-none radix digits rows (record { texts = texts; sum = Some round }) short (λ shape. found-many radix digits texts round shape more') in

@@ -1,14 +1,14 @@
 -- For the look-up of an operation and the branches on its forms, not part of what a reader believes: the table as the code keeps it.
 use Prim.Native.Char.{code}
 use Rattle.std.specs.Prelude.{ℕ, ◌*◌, ◌^◌, Bool, true, false, ◌==◌, List, [], ◌∷◌, map, filter, slice_index, codes, Option, None, Some, option_map, option_and_then}
+use Rattle.std.specs.Option.{option_or}
 use Rattle.std.specs.Borrow.{Bor}
 use Rattle.cps_expr.specs.declared.radix.Radix.{Radix}
-use Rattle.cps_expr.specs.declared.radix.Radix.TheVariants.{Octal}
 use Rattle.cps_expr.specs.declared.machine.Machine.TheVariants.{Cp}
 use Rattle.cps_expr.specs.OperandList.{only_one}
 use Rattle.cps_expr.specs.Term.{Term}
 use Rattle.cps_code.specs.declared.digits.Digits.{Digits}
-use Rattle.cps_code.specs.declared.fields.Found.{Found}
+use Rattle.cps_code.specs.declared.fields.Found as kept
 use Rattle.cps_code.specs.declared.hole.HoleKind.TheVariants.{Value, Count}
 use Rattle.cps_code.specs.declared.hole.Operand.{Operand}
 use Rattle.cps_code.specs.declared.hole.Operand.TheVariants.{Expression}
@@ -20,8 +20,9 @@ use Rattle.cps_code.specs.declared.register.RegisterTerm.{RegisterTerm}
 use Rattle.cps_code.specs.Bits.{constant_bits, count_bits}
 use Rattle.cps_code.specs.Form.{Form}
 use Rattle.cps_code.specs.Operand.{operand_of}
-use Rattle.cps_code.specs.Rows.{RowForm, Operation, Named, Operands, unread, fields, registers_in, form_in, form_of_rows, operands_in}
-use Rattle.cps_code.specs.Table.{set_rows, jump_rows}
+use Rattle.cps_code.specs.Rows.{Shape, Found, RowForm, Operation, Named, Operands, unread, fields, summed, turned_sum, registers_in, found_in_sum, form_found, form_of_rows, operands_in}
+use Rattle.cps_code.specs.Sum.{Summed}
+use Rattle.cps_code.specs.Table.{set_forms, jump_rows}
 
 -- ---- the code's rows
 
@@ -35,8 +36,17 @@ field_row registers digits hole forces = record {
   forces = forces;
 }
 
+-- the digits, where no operand is left
+abbrev pub with_none_left : Digits × List (List ℕ) → Option Digits
+with_none_left (digits, []) = Some digits
+with_none_left (digits, text ∷ texts) = None
+
+-- the digits of operands of registers, and nothing behind them
+abbrev pub registers_alone : List (List ℕ) → List (List ℕ) → Digits → Option Digits
+registers_alone registers texts digits = option_and_then with_none_left (registers_in registers texts digits)
+
 -- the digits of operands of registers, and K behind them
-abbrev pub constant_in : Radix → List (List ℕ) → List (List ℕ) → Digits → Option Found
+abbrev pub constant_in : Radix → List (List ℕ) → List (List ℕ) → Digits → Option kept.Found
 constant_in radix registers texts digits =
     option_and_then (λ left. option_map (λ k. record { digits = left.0; operand = k }) (only_one (operand_of Cp radix) left.1)) (registers_in registers texts digits)
 
@@ -45,9 +55,6 @@ row_of_fields (field.Short registers digits) = field_row (texts registers.now) d
 row_of_fields (field.Constant registers digits) = field_row (texts registers.now) digits.now (Some (code "K")) false
 row_of_fields (field.Forcing registers digits) = field_row (texts registers.now) digits.now (Some (code "K")) true
 row_of_fields (field.Count digits) = field_row [] digits.now (Some (code "n")) false
-
-abbrev pub set_forms : List RowForm
-set_forms = map (λ row. row.form) (set_rows [] 0)
 
 abbrev pub jump_forms : List RowForm
 jump_forms = map (λ row. row.form) jump_rows
@@ -89,17 +96,30 @@ beginning_with letter operations = filter (λ o. slice_index o.name 0 == letter)
 abbrev pub no_sum : List (List ℕ) → Operands
 no_sum operands = record { texts = operands; sum = None }
 
--- the operands, where no row asks for anything but a sum
-abbrev pub sum_alone : List RegisterTerm → Option Operand → Operands
-sum_alone registers constant = record { texts = []; sum = Some (record { registers = registers; constant = constant }) }
+-- ---- forms of rows that ask for a sum
 
--- the form for these registers and this constant, in the one order or the other
+-- what a shape finds in registers and K, if it asks for them
+abbrev pub found_in_shape : Digits → Summed → Shape → Option Found
+found_in_shape digits sum unread = None
+found_in_shape digits sum (fields pattern) = None
+found_in_shape digits sum (summed terms has_constant) = found_in_sum terms has_constant digits sum
+
+-- the form of the first row that fits the registers as they stand
+abbrev pub form_in_sum : Digits → List RowForm → Summed → Option Form
+form_in_sum digits [] sum = None
+form_in_sum digits (row ∷ rows) sum = option_or (option_map (form_found row) (found_in_shape digits sum row.shape)) (form_in_sum digits rows sum)
+
+-- the same, in the one order of the registers or the other
+abbrev pub form_of_sum : Digits → List RowForm → Summed → Option Form
+form_of_sum digits rows sum = option_or (form_in_sum digits rows sum) (form_in_sum digits rows (turned_sum sum))
+
+-- the form of a set instruction with these registers and this constant
 abbrev pub set_form : Digits → List RegisterTerm → Option Operand → Option Form
-set_form digits registers constant = form_of_rows Octal digits set_forms (sum_alone registers constant)
+set_form digits registers constant = form_of_sum digits set_forms (record { registers = registers; constant = constant })
 
--- the same in this order alone
+-- the same for the registers as they stand alone
 abbrev pub set_form_as_it_stands : Digits → List RegisterTerm → Option Operand → Option Form
-set_form_as_it_stands digits registers constant = form_in Octal digits set_forms (sum_alone registers constant)
+set_form_as_it_stands digits registers constant = form_in_sum digits set_forms (record { registers = registers; constant = constant })
 
 -- the form of a set instruction with this tail
 abbrev pub set_form_of : Radix → Digits → List ℕ → Option Form
@@ -107,11 +127,13 @@ set_form_of radix digits tail = form_of_rows radix digits set_forms (operands_in
 
 -- the form of a jump with these registers and this constant
 abbrev pub jump_form : Digits → List RegisterTerm → Option Operand → Option Form
-jump_form digits registers constant = form_of_rows Octal digits jump_forms (sum_alone registers constant)
+jump_form digits registers constant = form_of_sum digits jump_forms (record { registers = registers; constant = constant })
 
 -- the form of a jump with this tail
 abbrev pub jump_form_of : Radix → Digits → List ℕ → Option Form
 jump_form_of radix digits tail = form_of_rows radix digits jump_forms (operands_in radix tail)
+
+-- ---- forms by their digits
 
 -- four digits and a constant
 abbrev pub long_form : ℕ → Operand → Bool → Form

@@ -1,10 +1,10 @@
 -- Rows of a table of instructions: how each is written, what it finds in the operands of a statement, and the form that it has.
 use Prim.Native.Char.{code}
-use Rattle.std.specs.Prelude.{ℕ, ◌+◌, ◌*◌, ◌^◌, Bool, true, false, ◌&&◌, not, ◌==◌, List, [], ◌∷◌, reverse, length, slice_index, bytes_eq, codes, Option, None, Some, option_map, option_and_then, is_some, if◌then◌else◌}
+use Rattle.std.specs.Prelude.{ℕ, ◌+◌, ◌*◌, ◌^◌, Bool, true, false, ◌&&◌, not, ◌==◌, List, [], ◌∷◌, reverse, length, flat_map, slice_index, bytes_eq, codes, Option, None, Some, option_map, option_and_then, is_some, if◌then◌else◌}
 use Rattle.std.specs.Option.{option_or}
 use Rattle.cps_expr.specs.declared.radix.Radix.{Radix}
 use Rattle.cps_expr.specs.declared.machine.Machine.TheVariants.{Cp}
-use Rattle.cps_expr.specs.Expression.{onto_first, expression_of}
+use Rattle.cps_expr.specs.Expression.{is_minus, onto_first, signed_texts, expression_of}
 use Rattle.cps_expr.specs.OperandList.{only_one}
 use Rattle.cps_code.specs.declared.digits.Digits.{Digits}
 use Rattle.cps_code.specs.declared.hole.Hole.{Hole}
@@ -86,20 +86,27 @@ code_of (letter ∷ text) =
 abbrev pub written : List ℕ → Shape
 written text = fields (pattern_of (cut_at_commas text))
 
+abbrev pub letter_in : ℕ → Letter
+letter_in character = if character == code "A" then A else (if character == code "B" then B else X)
+
+-- the register of a term that is written with its sign: its letter, and the letter that stands for its digit; K is no register
+abbrev pub register_in : List ℕ → List RowTerm
+register_in (sign ∷ letter ∷ digit ∷ text) = record { is_minus = is_minus sign; letter = letter_in letter; digit = digit } ∷ []
+register_in text = []
+
+-- a sum as it is written: its registers, where no sign in front is a plus, and whether K stands in it
+abbrev pub sum : List ℕ → Shape
+sum text = summed (flat_map register_in (signed_texts text)) (among text (code "K"))
+
+abbrev pub form : Shape → List ℕ → RowForm
+form shape text = record { shape = shape; code = code_of text; forces = false }
+
+-- rows in whose codes no f stands
 abbrev pub row : List ℕ → Shape → List ℕ → Row
-row operation shape text = record { operation = operation; f = 0; form = record { shape = shape; code = code_of text; forces = false } }
+row operation shape text = record { operation = operation; f = 0; form = form shape text }
 
 abbrev pub forcing_row : List ℕ → Shape → List ℕ → Row
 forcing_row operation shape text = record { operation = operation; f = 0; form = record { shape = shape; code = code_of text; forces = true } }
-
-abbrev pub set_row : List ℕ → ℕ → Shape → List ℕ → Row
-set_row operation f shape text = record { operation = operation; f = f; form = record { shape = shape; code = code_of text; forces = false } }
-
-abbrev pub plus : Letter → ℕ → RowTerm
-plus letter digit = record { is_minus = false; letter = letter; digit = digit }
-
-abbrev pub minus : Letter → ℕ → RowTerm
-minus letter digit = record { is_minus = true; letter = letter; digit = digit }
 
 -- ---- operations: rows one behind the other with the same name
 
@@ -143,12 +150,12 @@ only_sum radix tail = only_one (summed_of radix) (operands_of tail)
 abbrev pub operands_in : Radix → List ℕ → Operands
 operands_in radix tail = record { texts = operands_of tail; sum = only_sum radix tail }
 
--- the sum with its register terms turned round
+-- a sum with its register terms turned round
+abbrev pub turned_sum : Summed → Summed
+turned_sum sum = record { registers = reverse sum.registers; constant = sum.constant }
+
 abbrev pub turned : Operands → Operands
-turned operands = record {
-  texts = operands.texts;
-  sum = option_map (λ s. record { registers = reverse s.registers; constant = s.constant }) operands.sum;
-}
+turned operands = record { texts = operands.texts; sum = option_map turned_sum operands.sum }
 
 -- the digits, and what is put into the hole, if there is one
 pub record Found : Type 0 where

@@ -1,41 +1,43 @@
 -- The instructions of the central processor, as the machine's reference manual lists them: operation, operands, code.
 -- In them i, j and k stand for the digits of registers, K for an expression or a literal in 18 bits and n for the expression of a count; f is the first
--- digit of a set instruction's code. `unread` reads no operand; `written` reads operands that look like these; `summed` reads one
--- operand, a sum of these register terms and, where `true` stands, of a K beside them. Behind a `forcing_row` a forcing is pending.
+-- digit of a set instruction's code. `unread` reads no operand; `written` reads operands that look like these; `sum` reads one
+-- operand, a sum of these registers and, where K stands, of a K beside them. Behind a `forcing_row` a forcing is pending.
 -- That the terms of a sum may stand in any order is our profile's.
-use Prim.Native.Char.{code}
-use Rattle.std.specs.Prelude.{ℕ, Bool, true, false, List, [], ◌∷◌, ◌++◌, codes, Option, is_some, option_and_then}
+use Rattle.std.specs.Prelude.{ℕ, Bool, List, [], ◌∷◌, ◌++◌, map, codes, Option, is_some, option_and_then}
 use Rattle.cps_expr.specs.declared.radix.Radix.{Radix}
-use Rattle.cps_code.specs.declared.register.Letter.TheVariants.{A, B, X}
 use Rattle.cps_code.specs.Form.{Form}
-use Rattle.cps_code.specs.Rows.{Row, Operation, Named, unread, summed, written, row, forcing_row, set_row, plus, minus, operations_in, named, operands_in, form_of_rows}
+use Rattle.cps_code.specs.Rows.{RowForm, Row, Operation, Named, unread, written, sum, form, row, forcing_row, operations_in, named, operands_in, form_of_rows}
 
 -- ---- set instructions
 
-abbrev pub set_rows : List ℕ → ℕ → List Row
-set_rows name f =
-    set_row name f (summed [] true) (codes "f1i0K")
-    ∷ set_row name f (summed (plus A (code "j") ∷ []) true) (codes "f0ijK")
-    ∷ set_row name f (summed (plus B (code "j") ∷ []) true) (codes "f1ijK")
-    ∷ set_row name f (summed (plus X (code "j") ∷ []) true) (codes "f2ijK")
-    ∷ set_row name f (summed (plus X (code "j") ∷ []) false) (codes "f3ij0")
-    ∷ set_row name f (summed (plus A (code "j") ∷ []) false) (codes "f4ij0")
-    ∷ set_row name f (summed (plus B (code "j") ∷ []) false) (codes "f6ij0")
-    ∷ set_row name f (summed (minus B (code "k") ∷ []) false) (codes "f7i0k")
-    ∷ set_row name f (summed (plus X (code "j") ∷ plus B (code "k") ∷ []) false) (codes "f3ijk")
-    ∷ set_row name f (summed (plus A (code "j") ∷ plus B (code "k") ∷ []) false) (codes "f4ijk")
-    ∷ set_row name f (summed (plus A (code "j") ∷ minus B (code "k") ∷ []) false) (codes "f5ijk")
-    ∷ set_row name f (summed (plus B (code "j") ∷ plus B (code "k") ∷ []) false) (codes "f6ijk")
-    ∷ set_row name f (summed (plus B (code "j") ∷ minus B (code "k") ∷ []) false) (codes "f7ijk")
+abbrev pub set_forms : List RowForm
+set_forms =
+    form (sum (codes "K")) (codes "f1i0K")
+    ∷ form (sum (codes "Aj+K")) (codes "f0ijK")
+    ∷ form (sum (codes "Bj+K")) (codes "f1ijK")
+    ∷ form (sum (codes "Xj+K")) (codes "f2ijK")
+    ∷ form (sum (codes "Xj")) (codes "f3ij0")
+    ∷ form (sum (codes "Aj")) (codes "f4ij0")
+    ∷ form (sum (codes "Bj")) (codes "f6ij0")
+    ∷ form (sum (codes "-Bk")) (codes "f7i0k")
+    ∷ form (sum (codes "Xj+Bk")) (codes "f3ijk")
+    ∷ form (sum (codes "Aj+Bk")) (codes "f4ijk")
+    ∷ form (sum (codes "Aj-Bk")) (codes "f5ijk")
+    ∷ form (sum (codes "Bj+Bk")) (codes "f6ijk")
+    ∷ form (sum (codes "Bj-Bk")) (codes "f7ijk")
     ∷ []
+
+-- the same for each set operation, with its f
+abbrev pub set_rows : List ℕ → ℕ → List Row
+set_rows name f = map (λ form. record { operation = name; f = f; form = form }) set_forms
 
 -- ---- the jump to a register
 
 abbrev pub jump_rows : List Row
 jump_rows =
-    forcing_row (codes "JP") (summed (plus B (code "i") ∷ []) true) (codes "02i0K")
-    ∷ forcing_row (codes "JP") (summed [] true) (codes "0200K")
-    ∷ forcing_row (codes "JP") (summed (plus B (code "i") ∷ []) false) (codes "02i0000000")
+    forcing_row (codes "JP") (sum (codes "Bi+K")) (codes "02i0K")
+    ∷ forcing_row (codes "JP") (sum (codes "K")) (codes "0200K")
+    ∷ forcing_row (codes "JP") (sum (codes "Bi")) (codes "02i0000000")
     ∷ []
 
 -- ---- all others

@@ -2,9 +2,8 @@ ghost use Rattle.std.specs.Prelude.{◌≡◌, ◌<◌, ◌≤◌, ◌^◌, Some
 ghost use Rattle.cps_expr.specs.Reads.{Reads};
 ghost use Rattle.cps_text.specs.Operands.{operands_of};
 ghost use Rattle.cps_text.specs.OperandsLeft.{operands_left};
-ghost use Rattle.cps_code.specs.Rows.{registers_in, found_in_fields, form_in, form_in_row, form_of_rows, operands_in};
-ghost use Rattle.cps_code.specs.Operations.{texts, no_sum, constant_in, row_of_fields, long_form, count_form};
-ghost use Rattle.cps_expr.specs.declared.radix.Radix.TheVariants.{Octal};
+ghost use Rattle.cps_code.specs.Rows.{registers_in, form_in, form_in_row, form_of_rows, operands_in};
+ghost use Rattle.cps_code.specs.Operations.{texts, no_sum, registers_alone, constant_in, row_of_fields, long_form, count_form};
 ghost use Rattle.cps_code.specs.Terms.{AreDigits};
 ghost use Rattle.cps_code.specs.Operand.{IsOperand};
 ghost use Rattle.cps_expr.specs.declared.machine.Machine.TheVariants.{Cp};
@@ -53,7 +52,7 @@ fn first_form(
     Err(ExprFault::Unreadable)
 }
 
-#[tactic(auto, using(crate::proofs::FieldLemmas::constant_found))]
+#[tactic(auto, using(crate::proofs::FieldLemmas::constant_found, crate::proofs::FieldLemmas::alone_found))]
 fn form_of_row(
     alloc: Global,
     row: FieldForm,
@@ -117,8 +116,7 @@ fn count_form(alloc: Global, front: u16, count: Expr) -> Result<CpForm, ExprFaul
 /// The digits of the operands, all of registers.
 fn read_registers_alone(registers: &[&[u8]], digits: Digits, tail: &[u8]) -> Option<Digits>
     requires { AreDigits digits }
-    ensures digits { found_in_fields Octal (record { registers = texts registers.now; hole = None }) (operands_of tail.now) digits
-        ≡ option_map (λ known. record { digits = known; operand = None }) result }
+    ensures digits { registers_alone (texts registers.now) (operands_of tail.now) digits ≡ result }
     ensures octal { IfSome result AreDigits }
 {
     let (known, mut left) = read_registers(operands(tail), registers, digits)?;

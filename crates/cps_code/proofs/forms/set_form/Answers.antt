@@ -1,6 +1,6 @@
 use Rattle.std.proofs.Common.{refl}
 use Rattle.cps_text.specs.Operands.{operands_of}
-use Rattle.cps_code.specs.Operations.{set_forms}
+use Rattle.cps_code.specs.Table.{set_forms}
 use Rattle.cps_code.specs.Rows.{only_sum}
 use Rattle.cps_code.proofs.SetLemmas.{no_form}
 use Rattle.cps_code.proofs.forms.set_form.Goals as goal
