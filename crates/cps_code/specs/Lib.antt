@@ -10,6 +10,7 @@ pub mod Operand
 pub mod Form
 pub mod Table
 pub mod Operations
+pub mod Outcome
 pub mod Register
 pub mod Digits
 pub mod Rows

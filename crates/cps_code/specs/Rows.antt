@@ -86,17 +86,17 @@ code_of (letter ∷ text) =
 abbrev pub written : List ℕ → Shape
 written text = fields (pattern_of (cut_at_commas text))
 
-abbrev pub letter_in : ℕ → Letter
-letter_in character = if character == code "A" then A else (if character == code "B" then B else X)
+abbrev pub register_letter : ℕ → Letter
+register_letter character = if character == code "A" then A else (if character == code "B" then B else X)
 
--- the register of a term that is written with its sign: its letter, and the letter that stands for its digit; K is no register
-abbrev pub register_in : List ℕ → List RowTerm
-register_in (sign ∷ letter ∷ digit ∷ text) = record { is_minus = is_minus sign; letter = letter_in letter; digit = digit } ∷ []
-register_in text = []
+-- a term that is written with its sign: of a register its letter and the letter of its digit; of K, which is no register, none
+abbrev pub term_written : List ℕ → List RowTerm
+term_written (sign ∷ letter ∷ digit ∷ text) = record { is_minus = is_minus sign; letter = register_letter letter; digit = digit } ∷ []
+term_written text = []
 
--- a sum as it is written: its registers, where no sign in front is a plus, and whether K stands in it
+-- a sum as it is written: its registers, the first with a plus where no sign stands in front, and whether there is a K
 abbrev pub sum : List ℕ → Shape
-sum text = summed (flat_map register_in (signed_texts text)) (among text (code "K"))
+sum text = summed (flat_map term_written (signed_texts text)) (among text (code "K"))
 
 abbrev pub form : Shape → List ℕ → RowForm
 form shape text = record { shape = shape; code = code_of text; forces = false }

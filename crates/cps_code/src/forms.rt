@@ -5,6 +5,7 @@ ghost use Rattle.cps_expr.specs.declared.machine.Machine.TheVariants.{Cp};
 ghost use Rattle.cps_code.specs.Operand.{IsOperand};
 ghost use Rattle.cps_code.specs.Rows.{operands_in, form_of_rows};
 ghost use Rattle.cps_code.specs.Table.{is_operation, form_of};
+ghost use Rattle.cps_code.specs.Outcome.{Answers};
 ghost use Rattle.cps_code.specs.Operations.{rows_of, row_of_fields, set_form, set_form_of, jump_form, jump_form_of, long_form, bare_form};
 
 use super::digits::Digits;
@@ -63,10 +64,7 @@ fn form_of_operation(
     radix: Radix,
 ) -> Result<CpForm, FormFault>
     requires known { AreDigits digits }
-    ensures form { IfOk result (λ form. form_of_rows radix digits (rows_of forms) (operands_in radix tail.now) ≡ Some form) }
-    ensures no_operation { IsErrOf result FormFault.NoOperation → ⊥ }
-    ensures unreadable { IsErrOf result FormFault.Unreadable → form_of_rows radix digits (rows_of forms) (operands_in radix tail.now) ≡ None }
-    ensures memory { IsErrOf result FormFault.Memory → IsSome (form_of_rows radix digits (rows_of forms) (operands_in radix tail.now)) }
+    ensures { Answers (form_of_rows radix digits (rows_of forms) (operands_in radix tail.now)) result }
 {
     match forms {
         Forms::Pass => Ok(CpForm::short(alloc, 0o46000)),
@@ -88,10 +86,7 @@ fn fields_form(
     radix: Radix,
 ) -> Result<CpForm, FormFault>
     requires known { AreDigits digits }
-    ensures form { IfOk result (λ form. form_of_rows radix digits (map row_of_fields rows.now) (operands_in radix tail.now) ≡ Some form) }
-    ensures no_operation { IsErrOf result FormFault.NoOperation → ⊥ }
-    ensures unreadable { IsErrOf result FormFault.Unreadable → form_of_rows radix digits (map row_of_fields rows.now) (operands_in radix tail.now) ≡ None }
-    ensures memory { IsErrOf result FormFault.Memory → IsSome (form_of_rows radix digits (map row_of_fields rows.now) (operands_in radix tail.now)) }
+    ensures { Answers (form_of_rows radix digits (map row_of_fields rows.now) (operands_in radix tail.now)) result }
 {
     match form_of_fields(alloc, rows, digits, tail, radix) {
         Ok(form) => Ok(form),
@@ -102,10 +97,7 @@ fn fields_form(
 
 fn jump_form(alloc: Global, digits: Digits, tail: &[u8], radix: Radix) -> Result<CpForm, FormFault>
     requires known { AreDigits digits }
-    ensures form { IfOk result (λ form. jump_form_of radix digits tail.now ≡ Some form) }
-    ensures no_operation { IsErrOf result FormFault.NoOperation → ⊥ }
-    ensures unreadable { IsErrOf result FormFault.Unreadable → jump_form_of radix digits tail.now ≡ None }
-    ensures memory { IsErrOf result FormFault.Memory → IsSome (jump_form_of radix digits tail.now) }
+    ensures { Answers (jump_form_of radix digits tail.now) result }
 {
     match read_summed(alloc, tail, radix) {
         None => Err(FormFault::Unreadable),
@@ -117,10 +109,7 @@ fn jump_form_of_sum(alloc: Global, digits: Digits, kept: KeptSummed) -> Result<C
     requires known { AreDigits digits }
     requires registers { AreRegisters kept.registers }
     requires fits { IfSome kept.constant (IsOperand Cp) }
-    ensures form { IfOk result (λ form. (summed : Summed) → IsKeptSummed kept summed → jump_form digits summed.registers summed.constant ≡ Some form) }
-    ensures no_operation { IsErrOf result FormFault.NoOperation → ⊥ }
-    ensures unreadable { IsErrOf result FormFault.Unreadable → (summed : Summed) → IsKeptSummed kept summed → jump_form digits summed.registers summed.constant ≡ None }
-    ensures memory { IsErrOf result FormFault.Memory → (summed : Summed) → IsKeptSummed kept summed → IsSome (jump_form digits summed.registers summed.constant) }
+    ensures { (summed : Summed) → IsKeptSummed kept summed → Answers (jump_form digits summed.registers summed.constant) result }
 {
     let Some(front) = jump_front(kept.registers) else {
         return Err(FormFault::Unreadable);
@@ -179,10 +168,7 @@ fn long_form(
 /// The form of a set instruction.
 fn set_form(alloc: Global, digits: Digits, tail: &[u8], radix: Radix) -> Result<CpForm, FormFault>
     requires known { AreDigits digits }
-    ensures form { IfOk result (λ form. set_form_of radix digits tail.now ≡ Some form) }
-    ensures no_operation { IsErrOf result FormFault.NoOperation → ⊥ }
-    ensures unreadable { IsErrOf result FormFault.Unreadable → set_form_of radix digits tail.now ≡ None }
-    ensures memory { IsErrOf result FormFault.Memory → IsSome (set_form_of radix digits tail.now) }
+    ensures { Answers (set_form_of radix digits tail.now) result }
 {
     match read_summed(alloc, tail, radix) {
         None => Err(FormFault::Unreadable),
@@ -194,10 +180,7 @@ fn form_of_sum(alloc: Global, digits: Digits, kept: KeptSummed) -> Result<CpForm
     requires known { AreDigits digits }
     requires registers { AreRegisters kept.registers }
     requires fits { IfSome kept.constant (IsOperand Cp) }
-    ensures form { IfOk result (λ form. (summed : Summed) → IsKeptSummed kept summed → set_form digits summed.registers summed.constant ≡ Some form) }
-    ensures no_operation { IsErrOf result FormFault.NoOperation → ⊥ }
-    ensures unreadable { IsErrOf result FormFault.Unreadable → (summed : Summed) → IsKeptSummed kept summed → set_form digits summed.registers summed.constant ≡ None }
-    ensures memory { IsErrOf result FormFault.Memory → (summed : Summed) → IsKeptSummed kept summed → IsSome (set_form digits summed.registers summed.constant) }
+    ensures { (summed : Summed) → IsKeptSummed kept summed → Answers (set_form digits summed.registers summed.constant) result }
 {
     if kept.has_constant {
         match code_with_constant(digits, kept.registers) {

@@ -5,6 +5,6 @@ use Rattle.cps_code.specs.Rows.{only_sum}
 use Rattle.cps_code.proofs.SetLemmas.{no_form}
 use Rattle.cps_code.proofs.forms.jump_form.Goals as goal
 
-pub returns-in-None-clause-unreadable : goal.returns-in-None-clause-unreadable
-returns-in-None-clause-unreadable c = λ is.
+pub returns-in-None : goal.returns-in-None
+returns-in-None c =
     no_form c.args.radix c.args.digits jump_forms (operands_of c.args.tail.now) (only_sum c.args.radix c.args.tail.now) refl c.in-None.ensures.sum
