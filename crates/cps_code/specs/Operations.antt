@@ -90,15 +90,14 @@ named_value found = record { digits = found.1; forms = rows_of found.0 }
 abbrev pub beginning_with : ℕ → List Operation → List Operation
 beginning_with letter operations = filter (λ o. slice_index o.name 0 == letter) operations
 
--- ---- forms at given digits and operands
+-- ---- operands of rows that ask for no sum
 
--- the operands, where no row asks for a sum
 abbrev pub no_sum : List (List ℕ) → Operands
 no_sum operands = record { texts = operands; sum = None }
 
 -- ---- forms of rows that ask for a sum
 
--- what a shape finds in registers and K, if it asks for them
+-- what a shape finds in a sum, if it asks for one
 abbrev pub found_in_shape : Digits → Summed → Shape → Option Found
 found_in_shape digits sum unread = None
 found_in_shape digits sum (fields pattern) = None
@@ -117,7 +116,7 @@ form_of_sum digits rows sum = option_or (form_in_sum digits rows sum) (form_in_s
 abbrev pub set_form : Digits → List RegisterTerm → Option Operand → Option Form
 set_form digits registers constant = form_of_sum digits set_forms (record { registers = registers; constant = constant })
 
--- the same for the registers as they stand alone
+-- the same for the registers in this order alone
 abbrev pub set_form_as_it_stands : Digits → List RegisterTerm → Option Operand → Option Form
 set_form_as_it_stands digits registers constant = form_in_sum digits set_forms (record { registers = registers; constant = constant })
 
