@@ -1,1 +1,5 @@
 pub mod ListLemmas
+mod StandLemmas
+mod PlacingStands
+mod StatementStands
+mod LineStands

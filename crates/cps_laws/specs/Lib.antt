@@ -1,3 +1,4 @@
 pub mod CourseLaws
 pub mod Listed
 pub mod LineLaws
+pub mod Standing

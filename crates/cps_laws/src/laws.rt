@@ -1,5 +1,6 @@
 //! What the definitions of an expansion say, in the words of whole lists.
 ghost use Rattle.cps_laws.specs.CourseLaws.{TraceIsOfTheList, ItemsAreTheList, ItemsAreFew, DependsOnAsksAlone, AsksEachKeyOnce};
+ghost use Rattle.cps_laws.specs.Standing.{StandsWhereItAsks};
 
 /// What a line does follows from the list of its statements.
 pub fn trace_is_of_the_list()
@@ -24,4 +25,9 @@ pub fn depends_on_asks_alone()
 /// A line asks each key once, however many statements it stands for.
 pub fn asks_each_key_once()
     ensures { AsksEachKeyOnce }
+{}
+
+/// A statement has its place in the block in use exactly if it asks where that block stands.
+pub fn stands_where_it_asks()
+    ensures { StandsWhereItAsks }
 {}
