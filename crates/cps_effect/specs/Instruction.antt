@@ -21,7 +21,7 @@ instruction control location form = asking_site control location (coded form)
 
 abbrev pub peripheral_coded : Option Form → Site → Part
 peripheral_coded None site = unread_from site (word_start site)
-peripheral_coded (Some form) site = placed site (word_start site) (content.Peripheral form ∷ []) false
+peripheral_coded (Some form) site = placed site (word_start site) (content.Instruction form ∷ []) false
 
 abbrev pub peripheral_instruction : Control → Location → Option Form → Part
 peripheral_instruction control location form = asking_site control location (peripheral_coded form)

@@ -8,7 +8,7 @@ use crate::front::Front;
 use crate::placing::{Site, ask_site, place, place_unread, start_for, word_start};
 use cps_code::CpForm;
 use cps_peripheral::PpForm;
-use cps_state::{Content, Lookup, Recorder};
+use cps_state::{Content, InstructionForm, Lookup, Recorder};
 use std::alloc::AllocError;
 
 /// An instruction of the central processor; None where its operands are unreadable.
@@ -38,7 +38,7 @@ fn code<L: Lookup>(
     let begun = start_for(site, form.bits());
     let is_pending = form.forces_after();
     let mut contents = Vec::with_capacity(alloc, 1)?;
-    contents.push(Content::Instruction(form))?;
+    contents.push(Content::Instruction(InstructionForm::central(form)))?;
     place(recorder, site, begun, contents, is_pending)
 }
 
@@ -68,6 +68,6 @@ fn code_peripheral<L: Lookup>(
         return place_unread(recorder, site, begun);
     };
     let mut contents = Vec::with_capacity(alloc, 1)?;
-    contents.push(Content::Peripheral(form))?;
+    contents.push(Content::Instruction(InstructionForm::peripheral(form)))?;
     place(recorder, site, begun, contents, false)
 }

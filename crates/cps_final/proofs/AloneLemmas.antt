@@ -117,14 +117,12 @@ module _ (o f : Known) (here : ℕ) where
 
   number-same : (c : Content) → Same (content_names c) → SameWords (content_literals c) → number_of o here c ≡ number_of f here c
   number-same (content.Instruction form) agree stand = form_number-same form agree stand
-  number-same (content.Peripheral form) agree stand = form_number-same form agree stand
   number-same (content.Value width terms) agree stand = ap (put_value width) (number_at-same terms agree)
   number-same (content.Number width number) agree stand = refl
   number-same (content.Unsized terms) agree stand = refl
 
   flags-same : (c : Content) → Same (content_names c) → SameWords (content_literals c) → value_flags o here c ≡ value_flags f here c
   flags-same (content.Instruction form) agree stand = form_flags-same form agree stand
-  flags-same (content.Peripheral form) agree stand = form_flags-same form agree stand
   flags-same (content.Value width terms) agree stand =
       λ i. record (expression-same terms agree i) { cut = not (fits_width width (number_at-same terms agree i)) }
   flags-same (content.Number width number) agree stand = refl
@@ -162,8 +160,8 @@ module _ (o f : Known) (here : ℕ) where
   row-same machine base flags is_later at c agree stand = λ i. record {
     flags = joined (joined (joined flags (flags-same c agree stand i)) (literal_flags-same machine c stand i)) (limit_flags machine (base + at / 60));
     location = Some (base + at / 60);
-    code = Some (first_digits c (number-same c agree stand i));
-    second = second_digits c (number-same c agree stand i);
+    code = Some (first_digits machine c (number-same c agree stand i));
+    second = second_digits machine c (number-same c agree stand i);
     is_later = is_later;
     depth = 0;
     text = [];

@@ -26,16 +26,16 @@ abbrev pub digits_for : ℕ → ℕ → Digits
 digits_for width number = record { count = (width + 2) / 3; number = number }
 
 -- an instruction of two words of a peripheral processor shows them apart
-abbrev pub is_parted : Content → Bool
-is_parted (content.Peripheral form) = nat_lt (bits_of Pp) form.bits
-is_parted _ = false
+abbrev pub is_parted : Machine → Content → Bool
+is_parted Pp (content.Instruction form) = nat_lt (bits_of Pp) form.bits
+is_parted _ _ = false
 
-abbrev pub first_digits : Content → ℕ → Digits
-first_digits content number =
-    if is_parted content then digits_for (bits_of Pp) (number / 2 ^ bits_of Pp) else digits_for (width_of content) number
+abbrev pub first_digits : Machine → Content → ℕ → Digits
+first_digits machine content number =
+    if is_parted machine content then digits_for (bits_of Pp) (number / 2 ^ bits_of Pp) else digits_for (width_of content) number
 
-abbrev pub second_digits : Content → ℕ → Option Digits
-second_digits content number = if is_parted content then Some (digits_for (bits_of Pp) (number % 2 ^ bits_of Pp)) else None
+abbrev pub second_digits : Machine → Content → ℕ → Option Digits
+second_digits machine content number = if is_parted machine content then Some (digits_for (bits_of Pp) (number % 2 ^ bits_of Pp)) else None
 
 -- E at or past the machine's words
 abbrev pub limit_flags : Machine → ℕ → Flags
@@ -58,8 +58,8 @@ row_at standing flags is_later at content =
       flags = joined (joined (joined flags (value_flags standing.known standing.here content)) (literal_flags standing.known.literals standing.machine content))
           (limit_flags standing.machine address);
       location = Some address;
-      code = Some (first_digits content number);
-      second = second_digits content number;
+      code = Some (first_digits standing.machine content number);
+      second = second_digits standing.machine content number;
       is_later = is_later;
       depth = 0;
       text = [];

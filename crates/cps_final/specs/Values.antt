@@ -144,14 +144,12 @@ form_flags known here form = record no_flags {
 
 abbrev pub number_of : Known → ℕ → Content → ℕ
 number_of known here (content.Instruction form) = form_number known here form
-number_of known here (content.Peripheral form) = form_number known here form
 number_of known here (content.Value width terms) = put_value width (number_at known.symbols here terms)
 number_of known here (content.Number width number) = number
 number_of known here (content.Unsized terms) = 0
 
 abbrev pub value_flags : Known → ℕ → Content → Flags
 value_flags known here (content.Instruction form) = form_flags known here form
-value_flags known here (content.Peripheral form) = form_flags known here form
 value_flags known here (content.Value width terms) =
     record (expression_flags known.symbols here terms) { cut = not (fits_width width (number_at known.symbols here terms)) }
 value_flags known here (content.Number width number) = no_flags

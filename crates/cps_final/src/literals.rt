@@ -33,7 +33,6 @@ fn push_content_literals(literals: &mut Vec<u64>, content: &Content) -> Result<(
 {
     match content {
         Content::Instruction(form) => push_hole_literals(literals, form.holes()),
-        Content::Peripheral(form) => push_hole_literals(literals, form.holes()),
         Content::Value(..) | Content::Number(..) | Content::Unsized(_) => Ok(()),
     }
 }

@@ -66,7 +66,6 @@ fn insert_content_names(names: &mut IndexSet<Name>, content: &Content) -> Result
 {
     match content {
         Content::Instruction(form) => insert_hole_names(names, form.holes()),
-        Content::Peripheral(form) => insert_hole_names(names, form.holes()),
         Content::Value(_, expression) => insert_names(names, expression.names()),
         Content::Number(..) => Ok(()),
         Content::Unsized(expression) => insert_names(names, expression.names()),

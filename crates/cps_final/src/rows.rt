@@ -92,8 +92,8 @@ pub fn row_at(standing: &Standing, flags: Flags, is_later: bool, at: u32, conten
             .joined(literal_flags(content, standing))
             .joined(limit_flags(standing.machine(), address)),
         location: Some(address),
-        code: Some(first_digits(content, valued.number)),
-        second: second_digits(content, valued.number),
+        code: Some(first_digits(standing.machine(), content, valued.number)),
+        second: second_digits(standing.machine(), content, valued.number),
         is_later,
         depth: 0,
         text: Shared::empty(),
@@ -144,7 +144,6 @@ fn literal_flags(content: &Content, standing: &Standing) -> Flags
     let mut flags = Flags::none();
     flags.structure = match content {
         Content::Instruction(form) => has_far_literal(form.holes(), standing),
-        Content::Peripheral(form) => has_far_literal(form.holes(), standing),
         _ => false,
     };
     flags
@@ -214,11 +213,11 @@ fn digits_for(width: u8, number: u64) -> Digits
 }
 
 /// The digits of a content; of an instruction whose words are shown apart those of its first word.
-fn first_digits(content: &Content, number: u64) -> Digits
+fn first_digits(machine: Machine, content: &Content, number: u64) -> Digits
     requires { IsContent content.now }
-    ensures { result ≡ shown.first_digits content.now number }
+    ensures { result ≡ shown.first_digits machine content.now number }
 {
-    if is_parted(content) {
+    if is_parted(machine, content) {
         digits_for(PERIPHERAL_BITS, number >> PERIPHERAL_BITS)
     } else {
         digits_for(content.width(), number)
@@ -226,10 +225,10 @@ fn first_digits(content: &Content, number: u64) -> Digits
 }
 
 /// The digits of the second word, where the words of an instruction are shown apart.
-fn second_digits(content: &Content, number: u64) -> Option<Digits>
-    ensures { result ≡ shown.second_digits content.now number }
+fn second_digits(machine: Machine, content: &Content, number: u64) -> Option<Digits>
+    ensures { result ≡ shown.second_digits machine content.now number }
 {
-    if is_parted(content) {
+    if is_parted(machine, content) {
         Some(digits_for(PERIPHERAL_BITS, number % (1 << PERIPHERAL_BITS)))
     } else {
         None
@@ -237,11 +236,11 @@ fn second_digits(content: &Content, number: u64) -> Option<Digits>
 }
 
 /// Whether it is an instruction of two words of a peripheral processor.
-fn is_parted(content: &Content) -> bool
-    ensures { result ≡ shown.is_parted content.now }
+fn is_parted(machine: Machine, content: &Content) -> bool
+    ensures { result ≡ shown.is_parted machine content.now }
 {
-    match content {
-        Content::Peripheral(form) => form.bits() > PERIPHERAL_BITS,
+    match (machine, content) {
+        (Machine::Pp, Content::Instruction(form)) => form.bits() > PERIPHERAL_BITS,
         _ => false,
     }
 }

@@ -8,10 +8,9 @@ ghost use Rattle.cps_final.specs.Resolving.{view_of};
 ghost use Rattle.cps_final.specs.Values as values;
 
 use crate::standing::Standing;
-use cps_code::{CpForm, Filled, Hole, HoleKind, Operand, bits_of_value, fits_width};
+use cps_code::{Filled, Hole, HoleKind, Operand, bits_of_value, fits_width};
 use cps_expr::{Expr, Value};
-use cps_peripheral::PpForm;
-use cps_state::{Content, Flags};
+use cps_state::{Content, Flags, InstructionForm};
 
 /// The number that a content makes, and the flags that its values give.
 #[derive(Clone, Copy)]
@@ -36,7 +35,6 @@ pub fn value_content(content: &Content, standing: &Standing) -> Valued
 {
     match content {
         Content::Instruction(form) => value_instruction(form, standing),
-        Content::Peripheral(form) => value_peripheral(form, standing),
         Content::Value(width, expression) => value_in(*width, expression, standing),
         Content::Number(_, number) => Valued {
             number: *number,
@@ -67,24 +65,8 @@ fn value_in(width: u8, expression: &Expr, standing: &Standing) -> Valued
     }
 }
 
-/// An instruction of the central processor.
-fn value_instruction(form: &CpForm, standing: &Standing) -> Valued
-    ensures number { result.number ≡ values.form_number (view_of standing.now).known (view_of standing.now).here form.now }
-    ensures flags { result.flags ≡ values.form_flags (view_of standing.now).known (view_of standing.now).here form.now }
-    ensures fits { result.number < 2 ^ form.now.bits }
-{
-    match form.holes() {
-        [] => valued_form(form.fill(&[]), Flags::none()),
-        [hole] => {
-            let value = value_hole(hole, standing);
-            valued_form(form.fill(&[value.number]), value.flags)
-        }
-        _ => unreachable!(),
-    }
-}
-
-/// An instruction of a peripheral processor.
-fn value_peripheral(form: &PpForm, standing: &Standing) -> Valued
+/// An instruction with the values of its holes.
+fn value_instruction(form: &InstructionForm, standing: &Standing) -> Valued
     ensures number { result.number ≡ values.form_number (view_of standing.now).known (view_of standing.now).here form.now }
     ensures flags { result.flags ≡ values.form_flags (view_of standing.now).known (view_of standing.now).here form.now }
     ensures fits { result.number < 2 ^ form.now.bits }

@@ -1,5 +1,6 @@
 pub mod Course
 pub mod Flags
+pub mod Instruction
 pub mod Item
 pub mod KeptAnswers
 pub mod Keys

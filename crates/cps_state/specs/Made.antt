@@ -10,7 +10,7 @@ use Rattle.cps_code.specs.Image.{Piece}
 use Rattle.cps_code.specs.Operand.{operand_names, operand_literals}
 use Rattle.cps_state.specs.declared.flags.Flags.{Flags}
 use Rattle.cps_state.specs.declared.made.Content.{Content}
-use Rattle.cps_state.specs.declared.made.Content.TheVariants.{Instruction, Peripheral, Value, Number, Unsized}
+use Rattle.cps_state.specs.declared.made.Content.TheVariants.{Instruction, Value, Number, Unsized}
 use Rattle.cps_state.specs.declared.made.Held.{Held}
 use Rattle.cps_state.specs.declared.made.Shown.{Shown}
 use Rattle.cps_state.specs.declared.made.Shown.TheVariants.{Nothing}
@@ -52,7 +52,6 @@ no_flags = record { operand = false; twice = false; structure = false; location 
 -- how many bits a content has; a value whose width is none has no bits
 abbrev pub width_of : Content → ℕ
 width_of (Instruction form) = form.bits
-width_of (Peripheral form) = form.bits
 width_of (Value width expression) = width
 width_of (Number width number) = width
 width_of (Unsized expression) = 0
@@ -67,7 +66,6 @@ end_of machine at (content ∷ contents) = end_of machine (behind machine at (wi
 -- the symbols that the expressions of a content read
 abbrev pub content_names : Content → List Name
 content_names (Instruction form) = flat_map (λ hole. operand_names hole.operand) form.holes
-content_names (Peripheral form) = flat_map (λ hole. operand_names hole.operand) form.holes
 content_names (Value width terms) = names_of terms
 content_names (Number width number) = []
 content_names (Unsized terms) = names_of terms
@@ -75,7 +73,6 @@ content_names (Unsized terms) = names_of terms
 -- the words of the literals that it names
 abbrev pub content_literals : Content → List ℕ
 content_literals (Instruction form) = flat_map (λ hole. operand_literals hole.operand) form.holes
-content_literals (Peripheral form) = flat_map (λ hole. operand_literals hole.operand) form.holes
 content_literals (Value width terms) = []
 content_literals (Number width number) = []
 content_literals (Unsized terms) = []

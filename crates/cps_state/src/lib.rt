@@ -3,6 +3,7 @@
 
 mod answers;
 mod flags;
+mod instruction;
 mod item;
 mod key;
 mod log;
@@ -22,6 +23,7 @@ pub use answers::{
     mode_of, place_of, ranges_of, text_of, uses_of, value_of,
 };
 pub use flags::Flags;
+pub use instruction::InstructionForm;
 pub use item::{Item, Stand};
 pub use key::{
     Answer, Asked, Control, DupBody, Extent, Head, Kept, Key, Macro, MacroBody, Mode, Phase, Put,

@@ -8,10 +8,10 @@ ghost use Rattle.cps_state.specs.Machines.{limit};
 ghost use Rattle.cps_state.specs.Made.{nothing_made, width_of, end_of, IsContent, IsHeld, HaveRoom};
 
 use crate::flags::Flags;
+use crate::instruction::InstructionForm;
 use crate::machines::{WORD, behind, limit_of};
-use cps_code::{CpForm, Piece};
+use cps_code::Piece;
 use cps_expr::{Expr, Machine, Value};
-use cps_peripheral::PpForm;
 use cps_text::Name;
 use std::alloc::Global;
 use std::marker::Model;
@@ -19,10 +19,8 @@ use std::marker::Model;
 /// What stands in bits of a statement that are told as one.
 #[derive(Drop)]
 pub enum Content {
-    /// An instruction of the central processor.
-    Instruction(CpForm),
-    /// An instruction of a peripheral processor.
-    Peripheral(PpForm),
+    /// An instruction.
+    Instruction(InstructionForm),
     /// The value of an expression in so many bits.
     Value(u8, Expr),
     /// A number of so many bits.
@@ -39,7 +37,6 @@ impl Content {
     {
         match self {
             Content::Instruction(form) => form.bits(),
-            Content::Peripheral(form) => form.bits(),
             Content::Value(width, _) => *width,
             Content::Number(width, _) => *width,
             Content::Unsized(_) => 0,

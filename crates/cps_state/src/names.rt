@@ -24,7 +24,6 @@ fn push_names(names: &mut Vec<Name>, content: &Content) -> Result<(), AllocError
 {
     match content {
         Content::Instruction(form) => push_hole_names(names, form.holes()),
-        Content::Peripheral(form) => push_hole_names(names, form.holes()),
         Content::Value(_, expression) => names.extend_from_slice(expression.names()),
         Content::Number(..) => Ok(()),
         Content::Unsized(expression) => names.extend_from_slice(expression.names()),

@@ -4,7 +4,7 @@ use Rattle.std.proofs.lemmas.Int.{to_z-of_z}
 use Rattle.cps_code.proofs.HoleLemmas.{two_items}
 use Rattle.cps_final.specs.Resolving.{view_of}
 use Rattle.cps_final.proofs.ValueLemmas.{flags-two}
-use Rattle.cps_final.proofs.valued.value_peripheral.Goals as goal
+use Rattle.cps_final.proofs.valued.value_instruction.Goals as goal
 
 pub returns-in-len2-clause-flags : goal.returns-in-len2-clause-flags
 returns-in-len2-clause-flags c =
