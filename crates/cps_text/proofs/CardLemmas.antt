@@ -1,14 +1,13 @@
 -- The fields that `Card.antt` computes are those of the rule.
-use Prim.Native.Char.{code}
-use Rattle.std.proofs.Common.{◌≡◌, ◌⊎◌, ⊎_elim, ℕ, zero, suc, ◌+◌, ◌-◌, ◌<◌, ◌≤◌, max, Bool, true, false, not, cond, eqb, ltb, List, [], ◌∷◌, length, get_or, take, drop, inl, inr, refl, sym, ap, subst, ◌∙◌, arith, length-drop, length-take}
-use Rattle.std.specs.List.{list_all, position_or_len, before_first}
+use Rattle.std.proofs.Common.{◌≡◌, ◌⊎◌, ⊎_elim, ℕ, zero, suc, ◌+◌, ◌-◌, ◌<◌, ◌≤◌, max, Bool, true, false, not, cond, ltb, List, [], length, get_or, drop, inl, inr, refl, sym, ap, arith, length-drop, length-take}
+use Rattle.std.specs.List.{position_or_len}
 use Rattle.std.proofs.lemmas.Bool.{cases_lt}
 use Rattle.std.proofs.lemmas.Bool.Decides.{nat_tests}
 use Rattle.std.proofs.lemmas.List.{drop-take, drop_all, get_or-drop, get_or_past, take_all}
 use Rattle.std.proofs.lemmas.List.Sums.{fails_before_first, passes_at_first, prefix_len-le-length}
 use Rattle.cps_text.specs.Text.{is_blank, is_filled}
-use Rattle.cps_text.specs.Card.{card, filled_from, blank_from, field_at, has_location, location_of, location_end, operation_at, behind_operation, has_variable, comment_at, statement_of, is_comment, is_continued, StatementFields, StatementLine}
-use Rattle.cps_text.specs.Columns.{in_column, columns, AreBlank, AreFilled, IsField, Begins, IsAbsent, IsNext, IsRest, AreFields, IsCard}
+use Rattle.cps_text.specs.Card.{card, filled_from, blank_from, field_at, has_location, location_of, location_end, behind_operation, statement_of, is_comment, is_continued, StatementFields, StatementLine}
+use Rattle.cps_text.specs.Columns.{columns, IsField, IsNext, IsRest, AreFields, IsCard}
 
 -- ---- places, from 0
 
