@@ -19,7 +19,7 @@ abbrev pub drops : ℕ → List Entry → Bool
 drops count [] = false
 drops count (entry ∷ entries) = if too_much count entry.depth then true else drops (count + 1) entries
 
--- how many of these are whole
+-- how many of these come before the first one that is too much
 abbrev pub fits : ℕ → List Entry → ℕ
 fits count [] = 0
 fits count (entry ∷ entries) = if too_much count entry.depth then 0 else suc (fits (count + 1) entries)
@@ -29,10 +29,10 @@ asking_with : State → Running → Key → Option (Option Answer) → Running
 asking_with f t k known = if is_some known then t else record t { asks = t.asks ++ record { key = k; answer = f k } ∷ [] }
 
 -- asking touches no item
-asked-whole : (f : State) (t : Running) (k : Key) (known : Option (Option Answer)) → (asking_with f t k known).whole ≡ t.whole
+asked-finished : (f : State) (t : Running) (k : Key) (known : Option (Option Answer)) → (asking_with f t k known).finished ≡ t.finished
 unfolding asking_with
-asked-whole f t k (Some a) = refl
-asked-whole f t k None = refl
+asked-finished f t k (Some a) = refl
+asked-finished f t k None = refl
 
 -- a statement that begins, if it isn't too much
 goes : Bool → Course → State → Running → Running → Running × Bool
@@ -45,12 +45,12 @@ unfolding goes
 begun-listed true depth text rest f t left over same = refl
 begun-listed false depth text rest f t left over same = same
 
-pub run-listed : (course : Course) (f : State) (t : Running) (count : ℕ) → length t.whole ≡ count
+pub run-listed : (course : Course) (f : State) (t : Running) (count : ℕ) → length t.finished ≡ count
     → run course f t ≡ (reached (fits count (listed course f t)) course f t, not (drops count (listed course f t)))
 unfolding asking_with goes
 run-listed stop f t count is = refl
 run-listed (ask k next) f t count is =
-    run-listed (next (answer_at f t k)) f (with_ask f t k) count (ap (λ (items : List Item). length items) (asked-whole f t k (known_at t k)) ∙ is)
+    run-listed (next (answer_at f t k)) f (with_ask f t k) count (ap (λ (items : List Item). length items) (asked-finished f t k (known_at t k)) ∙ is)
 run-listed (put p rest) f t count is = run-listed rest f (with_put_made t p) count is
 run-listed (stand block rest) f t count is = run-listed rest f (stood t block) count is
 run-listed (fill made rest) f t count is = run-listed rest f (filled t made) count is
@@ -61,7 +61,7 @@ run-listed (begin depth text rest) f t count is =
     let next : Running = begun t depth text in
     ap (λ n. goes (too_much n depth) rest f t next) is
     ∙ begun-listed (too_much count depth) depth text rest f t (fits (count + 1) (listed rest f next)) (drops (count + 1) (listed rest f next))
-    (run-listed rest f next (count + 1) (length_push t.whole t.present ∙ ap (λ n. n + 1) is))
+    (run-listed rest f next (count + 1) (length_push t.finished t.present ∙ ap (λ n. n + 1) is))
 
 -- ---- the limits, of whole lists
 
@@ -124,7 +124,7 @@ by-list course f =
 
 -- ---- a list that isn't dropped
 
--- all of it is whole
+-- none of it is too much
 fits-all : (count : ℕ) (entries : List Entry) → drops count entries ≡ false → fits count entries ≡ length entries
 fits-all count [] none = refl
 fits-all count (entry ∷ entries) none =
@@ -133,8 +133,8 @@ fits-all count (entry ∷ entries) none =
       | false ↦ λ over. ap suc (fits-all (count + 1) entries over)
     ] none
 
-pub whole : (course : Course) (f : State) → is_dropped (expansion course f) ≡ false → trace_in course f ≡ traced (reached (length (expansion course f)) course f started, true)
-whole course f is =
+pub none-dropped : (course : Course) (f : State) → is_dropped (expansion course f) ≡ false → trace_in course f ≡ traced (reached (length (expansion course f)) course f started, true)
+none-dropped course f is =
     let entries = expansion course f in
     let none : drops 0 entries ≡ false = drops-first entries ∙ is in
     ap (λ r. traced r) (run-listed course f started 0 refl
@@ -172,19 +172,19 @@ reached-entries count (ask k next) f t =
 reached-entries count (put p rest) f t = reached-entries count rest f (with_put_made t p)
 reached-entries count (stand block rest) f t =
     reached-entries count rest f (stood t block)
-    ∙ ap (λ es. es ++ take count (listed rest f (stood t block))) (filled-entries t.whole (stood t block).present t.present refl)
+    ∙ ap (λ es. es ++ take count (listed rest f (stood t block))) (filled-entries t.finished (stood t block).present t.present refl)
 reached-entries count (fill made rest) f t =
     reached-entries count rest f (filled t made)
-    ∙ ap (λ es. es ++ take count (listed rest f (filled t made))) (filled-entries t.whole (filled t made).present t.present refl)
+    ∙ ap (λ es. es ++ take count (listed rest f (filled t made))) (filled-entries t.finished (filled t made).present t.present refl)
 reached-entries count (mark flags rest) f t =
     reached-entries count rest f (marked t flags)
-    ∙ ap (λ es. es ++ take count (listed rest f (marked t flags))) (filled-entries t.whole (marked t flags).present t.present refl)
+    ∙ ap (λ es. es ++ take count (listed rest f (marked t flags))) (filled-entries t.finished (marked t flags).present t.present refl)
 reached-entries count (tell name rest) f t = reached-entries count rest f (with_read t name)
 reached-entries count (settle rest) f t = reached-entries count rest f (settled_by t)
 reached-entries zero (begin depth text rest) f t = sym (append-nil (entries_of t))
 reached-entries (suc count) (begin depth text rest) f t =
     reached-entries count rest f (begun t depth text)
-    ∙ push-entries t.whole t.present (begun t depth text).present (take count (listed rest f (begun t depth text)))
+    ∙ push-entries t.finished t.present (begun t depth text).present (take count (listed rest f (begun t depth text)))
 
 take-all : (entries : List Entry) → take (length entries) entries ≡ entries
 take-all [] = refl
@@ -193,6 +193,6 @@ take-all (entry ∷ entries) = ap (λ es. entry ∷ es) (take-all entries)
 pub items-list : (course : Course) (f : State) → is_dropped (expansion course f) ≡ false → map entry_of (trace_in course f).items ≡ own_entry ∷ expansion course f
 items-list course f is =
     let entries = expansion course f in
-    ap (λ (trace : Trace). map entry_of trace.items) (whole course f is)
+    ap (λ (trace : Trace). map entry_of trace.items) (none-dropped course f is)
     ∙ reached-entries (length entries) course f started
     ∙ ap (λ (es : List Entry). entries_of started ++ es) (take-all entries)

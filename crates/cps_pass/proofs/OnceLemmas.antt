@@ -58,7 +58,7 @@ once-run (mark flags rest) f t once = once-run rest f (marked t flags) once
 once-run (tell name rest) f t once = once-run rest f (with_read t name) once
 once-run (settle rest) f t once = once-run rest f (settled_by t) once
 once-run (begin depth text rest) f t once =
-    once-goes (too_much (length t.whole) depth) rest f t (begun t depth text) once (once-run rest f (begun t depth text) once)
+    once-goes (too_much (length t.finished) depth) rest f t (begun t depth text) once (once-run rest f (begun t depth text) once)
 
 -- ---- the trace of a line
 

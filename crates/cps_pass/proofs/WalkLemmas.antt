@@ -15,14 +15,14 @@ use Rattle.cps_pass.specs.Opened.{lines_of}
 use Rattle.cps_pass.specs.Own.{begun}
 use Rattle.cps_pass.specs.Taking.{HandsOn, Walks}
 
--- a statement, and then those behind it
-pub walked : {S : Type 0} (nested : ℕ → List (List ℕ) → Part) (depth : ℕ) (texts : List (List ℕ)) (i : ℕ) (text : List ℕ) (scope later : Scope) (opened : List (List ℕ)) (whole : Bool) (f : S → State) (s t u v : Line S)
+-- a statement, and then those after it
+pub walked : {S : Type 0} (nested : ℕ → List (List ℕ) → Part) (depth : ℕ) (texts : List (List ℕ)) (i : ℕ) (text : List ℕ) (scope later : Scope) (opened : List (List ℕ)) (complete : Bool) (f : S → State) (s t u v : Line S)
     → i < length texts → text ≡ get_or texts i text
     → Goes (begin depth text) true f s t
     → HandsOn (statement scope text) later opened f t u
-    → Goes (nested (depth + 1) opened) whole f u v
-    → (next : Scope → Part) (rest : Course) → runs (walk nested depth scope (drop i texts) next rest) f s ≡ goes_on whole (walk nested depth later (drop (i + 1) texts) next rest) f v
-walked nested depth texts i text scope later opened whole f s t u v lt is begins obeys nests next rest =
+    → Goes (nested (depth + 1) opened) complete f u v
+    → (next : Scope → Part) (rest : Course) → runs (walk nested depth scope (drop i texts) next rest) f s ≡ goes_on complete (walk nested depth later (drop (i + 1) texts) next rest) f v
+walked nested depth texts i text scope later opened complete f s t u v lt is begins obeys nests next rest =
     let behind : List (List ℕ) = drop (i + 1) texts in
     ap (λ xs. runs (walk nested depth scope xs next rest) f s) (drop_more texts i text lt)
     ∙ ap (λ (x : List ℕ). runs (walk nested depth scope (x ∷ behind) next rest) f s) (sym is)
@@ -118,19 +118,19 @@ no-turn nested depth n i texts scope f s le next rest =
     let e : n - i ≡ 0 = omega arith in
     ap (λ k. runs (walk nested depth scope (repeated k texts) next rest) f s) e
 
-at-end : {S : Type 0} (whole : Bool) (f : S → State) (t : Line S) → goes_on whole stop f t ≡ (t, whole)
+at-end : {S : Type 0} (complete : Bool) (f : S → State) (t : Line S) → goes_on complete stop f t ≡ (t, complete)
 at-end true f t = refl
 at-end false f t = refl
 
 -- a line, by what its statement opened
-pub lined : {S : Type 0} (text : List ℕ) (later : Scope) (o : Option Opened) (whole : Bool) (f : S → State) (r s u t : Line S) → HandsOn (statement Source text) later (lines_of o) f r s
-    → u ≡ line_settled s → Goes (body too_deep 1 (lines_of o)) whole f u t → runs (line_part text stop) f r ≡ (t, whole)
-lined text later o whole f r s u t hands settled goes =
+pub lined : {S : Type 0} (text : List ℕ) (later : Scope) (o : Option Opened) (complete : Bool) (f : S → State) (r s u t : Line S) → HandsOn (statement Source text) later (lines_of o) f r s
+    → u ≡ line_settled s → Goes (body too_deep 1 (lines_of o)) complete f u t → runs (line_part text stop) f r ≡ (t, complete)
+lined text later o complete f r s u t hands settled goes =
     hands (λ after opened. settle before body too_deep 1 opened) stop
     ∙ ap (λ v. runs (body too_deep 1 (lines_of o) stop) f v) (sym settled)
     ∙ goes stop
-    ∙ at-end whole f t
+    ∙ at-end complete f t
 
 -- what a line did in its state
-pub done-is : {S : Type 0} (course : Course) (f : S → State) (state : S) (t : Line S) (whole : Bool) → runs course f (line_started state) ≡ (t, whole) → (t.done, whole) ≡ run course (f state) started
-done-is {S} course f state t whole is = ap (λ (r : Line S × Bool). (r.0.done, r.1)) (sym is) ∙ runs-done course f state started
+pub done-is : {S : Type 0} (course : Course) (f : S → State) (state : S) (t : Line S) (complete : Bool) → runs course f (line_started state) ≡ (t, complete) → (t.done, complete) ≡ run course (f state) started
+done-is {S} course f state t complete is = ap (λ (r : Line S × Bool). (r.0.done, r.1)) (sym is) ∙ runs-done course f state started

@@ -14,6 +14,6 @@ TakesBody part lines scope answer old new = (next : List (List ℕ) → Scope �
 abbrev pub HandsOn : {S : Type 0} → (Behind → Part) → Scope → List (List ℕ) → (S → State) → Line S → Line S → Type 0
 HandsOn part scope opened answer old new = (behind : Behind) (rest : Course) → runs (part behind rest) answer old ≡ runs (behind scope opened rest) answer new
 
--- statements were done whole, and hand on where they stand by then, or came to one that is too much
+-- statements were completed, and hand on where they stand by then, or came to one that is too much
 abbrev pub Walks : {S : Type 0} → ((Scope → Part) → Part) → Bool → Scope → (S → State) → Line S → Line S → Type 0
-Walks part whole scope answer old new = (next : Scope → Part) (rest : Course) → runs (part next rest) answer old ≡ goes_on whole (next scope rest) answer new
+Walks part complete scope answer old new = (next : Scope → Part) (rest : Course) → runs (part next rest) answer old ≡ goes_on complete (next scope rest) answer new

@@ -21,7 +21,7 @@ fn go_through<L: Lookup>(
     texts: &[Shared<u8>],
 ) -> Result<bool, AllocError>
     requires { depth ≤ too_deep }
-    ensures { IfOk result (λ whole. Walks (walk (body (too_deep - depth)) depth scope.old texts.now) whole scope.new L.answer recorder.old recorder.new) }
+    ensures { IfOk result (λ complete. Walks (walk (body (too_deep - depth)) depth scope.old texts.now) complete scope.new L.answer recorder.old recorder.new) }
 {
     for text in texts {
         if !recorder.begin(depth, text.share()?)? {
@@ -44,7 +44,7 @@ fn expand<L: Lookup>(
     opened: &Opened,
 ) -> Result<bool, AllocError>
     requires { depth ≤ too_deep }
-    ensures { IfOk result (λ whole. Goes (body (too_deep + 1 - depth) depth (repeated opened.now.times opened.now.lines.items)) whole L.answer recorder.old recorder.new) }
+    ensures { IfOk result (λ complete. Goes (body (too_deep + 1 - depth) depth (repeated opened.now.times opened.now.lines.items)) complete L.answer recorder.old recorder.new) }
 {
     let alloc = recorder.alloc();
     let mut scope = Scope::Expansion(Own::begun(alloc));
@@ -94,9 +94,9 @@ pub fn trace_line<L: Lookup>(alloc: Global, line: &[u8], state: &L) -> Result<Tr
     let mut scope = Scope::Source;
     let opened = step_statement(&mut recorder, &mut scope, line)?;
     recorder.settle();
-    let whole = match opened {
+    let complete = match opened {
         Some(opened) => expand(&mut recorder, 1, &opened)?,
         None => true,
     };
-    recorder.into_trace(whole)
+    recorder.into_trace(complete)
 }

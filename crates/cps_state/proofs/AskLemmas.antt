@@ -63,7 +63,7 @@ kept-asks (mark flags rest) f g t held = kept-asks rest f g (marked t flags) hel
 kept-asks (tell name rest) f g t held = kept-asks rest f g (with_read t name) held
 kept-asks (settle rest) f g t held = kept-asks rest f g (settled_by t) held
 kept-asks (begin depth text rest) f g t held =
-    kept-going (too_much (length t.whole) depth) rest f g t (begun t depth text) (λ h. kept-asks rest f g (begun t depth text) h) held
+    kept-going (too_much (length t.finished) depth) rest f g t (begun t depth text) (λ h. kept-asks rest f g (begun t depth text) h) held
 
 pub run-same : (course : Course) (f g : State) (t : Running) → Holds (run course f t).0.asks g → run course g t ≡ run course f t
 unfolding asking_with going
@@ -80,4 +80,4 @@ run-same (mark flags rest) f g t held = run-same rest f g (marked t flags) held
 run-same (tell name rest) f g t held = run-same rest f g (with_read t name) held
 run-same (settle rest) f g t held = run-same rest f g (settled_by t) held
 run-same (begin depth text rest) f g t held =
-    same-going (too_much (length t.whole) depth) rest f g t (begun t depth text) (λ h. run-same rest f g (begun t depth text) h) held
+    same-going (too_much (length t.finished) depth) rest f g t (begun t depth text) (λ h. run-same rest f g (begun t depth text) h) held

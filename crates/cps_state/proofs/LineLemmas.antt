@@ -25,5 +25,5 @@ runs-done (mark flags rest) answer state done = runs-done rest answer state (mar
 runs-done (tell name rest) answer state done = runs-done rest answer state (with_read done name)
 runs-done (settle rest) answer state done = runs-done rest answer state (settled_by done)
 runs-done (begin depth text rest) answer state done =
-    stopped (too_much (length done.whole) depth) (record { state = state; done = done }) (runs rest answer (record { state = state; done = begun done depth text }))
+    stopped (too_much (length done.finished) depth) (record { state = state; done = done }) (runs rest answer (record { state = state; done = begun done depth text }))
     (run rest (answer state) (begun done depth text)) (runs-done rest answer state (begun done depth text))

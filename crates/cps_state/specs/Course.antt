@@ -53,20 +53,20 @@ putting key answer = put (record { key = key; answer = answer })
 abbrev pub telling_if : Bool → Name → Part
 telling_if holds name = if holds then tell name else nothing
 
--- ---- what a line has done so far: what it asked and put, and how many of the puts are its own statement's; the statements that are whole and the one that
+-- ---- what a line has done so far: what it asked and put, and how many of the puts are its own statement's; the statements that are finished and the one that
 -- began last, at first the line's own; and the symbols that it read
 
 pub record Running : Type 0 where
   pub asks : List Asked
   pub puts : List Put
   pub settled : ℕ
-  pub whole : List Item
+  pub finished : List Item
   pub present : Item
   pub reads : List Name
 
 -- a source line stands at depth 0
 abbrev pub started : Running
-started = record { asks = []; puts = []; settled = 0; whole = []; present = blank_item 0 []; reads = [] }
+started = record { asks = []; puts = []; settled = 0; finished = []; present = blank_item 0 []; reads = [] }
 
 -- the newest put at a key
 abbrev pub last_put : List Put → Key → Option Answer
@@ -113,10 +113,10 @@ settled_by running = record running { settled = length running.puts }
 
 -- the statements that have begun
 abbrev pub items_of : Running → List Item
-items_of running = running.whole ++ running.present ∷ []
+items_of running = running.finished ++ running.present ∷ []
 
 abbrev pub begun : Running → ℕ → List ℕ → Running
-begun running depth text = record running { whole = items_of running; present = blank_item depth text }
+begun running depth text = record running { finished = items_of running; present = blank_item depth text }
 
 -- no statement stands deeper
 abbrev pub deepest : ℕ
@@ -140,7 +140,7 @@ run (fill made rest) state running = run rest state (filled running made)
 run (mark flags rest) state running = run rest state (marked running flags)
 run (tell name rest) state running = run rest state (with_read running name)
 run (settle rest) state running = run rest state (settled_by running)
-run (begin depth text rest) state running = if too_much (length running.whole) depth then (running, false) else run rest state (begun running depth text)
+run (begin depth text rest) state running = if too_much (length running.finished) depth then (running, false) else run rest state (begun running depth text)
 
 -- ---- what a line did
 
@@ -168,7 +168,7 @@ traced (running, true) = record { asks = running.asks; puts = running.puts; item
 traced (running, false) = record {
   asks = running.asks;
   puts = control_puts (take running.settled running.puts);
-  items = dropped_item (first_item running.whole running.present) ∷ [];
+  items = dropped_item (first_item running.finished running.present) ∷ [];
   reads = [];
 }
 

@@ -61,7 +61,7 @@ runs (fill made rest) answer line = runs rest answer (line_filled line made)
 runs (mark flags rest) answer line = runs rest answer (line_marked line flags)
 runs (tell name rest) answer line = runs rest answer (line_told line name)
 runs (settle rest) answer line = runs rest answer (line_settled line)
-runs (begin depth text rest) answer line = if too_much (length line.done.whole) depth then (line, false) else runs rest answer (line_begun line depth text)
+runs (begin depth text rest) answer line = if too_much (length line.done.finished) depth then (line, false) else runs rest answer (line_begun line depth text)
 
 -- a part was done: the line that was became the line that is
 abbrev pub Does : {S : Type 0} → Part → (S → State) → Line S → Line S → Type 0
@@ -71,10 +71,10 @@ Does part answer old new = (rest : Course) → runs (part rest) answer old ≡ r
 abbrev pub Hands : {S T : Type 0} → ((T → Part) → Part) → T → (S → State) → Line S → Line S → Type 0
 Hands {S} {T} part value answer old new = (next : T → Part) (rest : Course) → runs (part next rest) answer old ≡ runs (next value rest) answer new
 
--- the same of a part that was done whole, or that came to a statement that is too much
+-- the same of a part that was completed, or that came to a statement that is too much
 abbrev pub goes_on : {S : Type 0} → Bool → Course → (S → State) → Line S → Line S × Bool
 goes_on true rest answer line = runs rest answer line
 goes_on false rest answer line = (line, false)
 
 abbrev pub Goes : {S : Type 0} → Part → Bool → (S → State) → Line S → Line S → Type 0
-Goes part whole answer old new = (rest : Course) → runs (part rest) answer old ≡ goes_on whole rest answer new
+Goes part complete answer old new = (rest : Course) → runs (part rest) answer old ≡ goes_on complete rest answer new

@@ -30,7 +30,7 @@ pub struct Recorder<'a, L> {
     state: &'a L,
     log: Log,
     settled: usize,
-    whole: Vec<Item>,
+    finished: Vec<Item>,
     present: Item,
     reads: Vec<Name>,
 }
@@ -46,7 +46,7 @@ impl<'a, L> Model for Recorder<'a, L> {
         asks = recorder.log.asks;
         puts = recorder.log.puts;
         settled = recorder.settled;
-        whole = recorder.whole.items;
+        finished = recorder.finished.items;
         present = recorder.present;
         reads = recorder.reads.items;
       };
@@ -63,7 +63,7 @@ impl<'a, L: Lookup> Recorder<'a, L> {
             state,
             log: Log::new(alloc),
             settled: 0,
-            whole: Vec::new(alloc),
+            finished: Vec::new(alloc),
             present: Item::blank(alloc, 0, Shared::empty()),
             reads: Vec::new(alloc),
         }
@@ -138,36 +138,36 @@ impl<'a, L: Lookup> Recorder<'a, L> {
 
     /// Begins a statement of an expansion, unless it is too much: then it answers false.
     pub fn begin(&mut self, depth: u8, text: Shared<u8>) -> Result<bool, AllocError>
-        ensures begun { IfOk result (λ whole. Goes (begin depth text) whole L.answer self.old self.new) }
-        ensures deep { IfOk result (λ whole. IsTrue whole → depth ≤ deepest) }
+        ensures begun { IfOk result (λ complete. Goes (begin depth text) complete L.answer self.old self.new) }
+        ensures deep { IfOk result (λ complete. IsTrue complete → depth ≤ deepest) }
     {
-        if depth > DEEPEST || self.whole.len() >= MOST_STATEMENTS {
+        if depth > DEEPEST || self.finished.len() >= MOST_STATEMENTS {
             return Ok(false);
         }
-        self.whole.reserve(1)?;
+        self.finished.reserve(1)?;
         let next = Item::blank(self.alloc, depth, text);
         let last = mem::replace(&mut self.present, next);
-        let Ok(_) = self.whole.push(last) else {
+        let Ok(_) = self.finished.push(last) else {
             unreachable!();
         };
         Ok(true)
     }
 
-    /// What the line did. It is dropped where it wasn't done whole.
-    pub fn into_trace(self, whole: bool) -> Result<Trace, AllocError>
-        ensures { IfOk result (λ trace. trace ≡ traced (self.entry.done, whole)) }
+    /// What the line did. It is dropped where not all of it was done.
+    pub fn into_trace(self, complete: bool) -> Result<Trace, AllocError>
+        ensures { IfOk result (λ trace. trace ≡ traced (self.entry.done, complete)) }
     {
         let Recorder {
             alloc,
             state: _,
             log,
             settled,
-            whole: mut items,
+            finished: mut items,
             present,
             reads,
         } = self;
         let (asks, mut puts) = log.into_parts();
-        if whole {
+        if complete {
             items.reserve_exact(1)?;
             items.push(present)?;
             return Ok(Trace::new(asks, puts, items, reads));
@@ -182,10 +182,10 @@ impl<'a, L: Lookup> Recorder<'a, L> {
 }
 
 /// The statement of a line that is dropped.
-fn dropped_item(alloc: Global, whole: &[Item], present: &Item) -> Item
-    ensures { result ≡ dropped_item (first_item whole.now present.now) }
+fn dropped_item(alloc: Global, finished: &[Item], present: &Item) -> Item
+    ensures { result ≡ dropped_item (first_item finished.now present.now) }
 {
-    let own = match whole.first() {
+    let own = match finished.first() {
         Some(item) => item,
         None => present,
     };

@@ -9,7 +9,7 @@ use Rattle.cps_pass.specs.Opened.{lines_of}
 use Rattle.cps_pass.specs.Taking.{HandsOn}
 use Rattle.cps_pass.proofs.WalkLemmas.{lined, done-is, opened-some, opened-none}
 use Rattle.cps_pass.proofs.expansion.trace_line.Goals as goal
-use Rattle.cps_pass.proofs.expansion.trace_line.Goals.{in-Some+in_ok-whole-in-Some, in-None}
+use Rattle.cps_pass.proofs.expansion.trace_line.Goals.{in-Some+in_ok-complete-in-Some, in-None}
 
 pub returns : goal.returns
 returns g c =
@@ -22,10 +22,10 @@ returns g c =
     let own = c.step_statement.new.recorder in
     let hands : HandsOn (statement Source line) later (lines_of opened) f first own =
     subst (λ s. HandsOn (statement Source line) later (lines_of opened) f s own) c.new-recorder.ensures c.in_ok-opened.ensures in
-    let runs : runs (line_part line stop) f first ≡ (c.match-opened.recorder, c.match-opened.whole) = elim c.match-opened.branch [
-      | in-Some+in_ok-whole-in-Some w ↦ rw (w.recorder-is, w.whole-is) (lined line later opened w.in_ok-whole-in-Some.whole f first own c.settle.new.self w.expand.new.recorder hands c.settle.ensures
-          (opened-some (too_deep + 1 - 1) too_deep 1 opened w.in-Some.opened w.in_ok-whole-in-Some.whole w.in_ok-whole-in-Some.whole f c.settle.new.self w.expand.new.recorder w.in-Some.is refl refl w.in_ok-whole-in-Some.ensures))
-      | in-None w ↦ rw (w.recorder-is, w.whole-is) (lined line later opened true f first own c.settle.new.self c.settle.new.self hands c.settle.ensures
+    let runs : runs (line_part line stop) f first ≡ (c.match-opened.recorder, c.match-opened.complete) = elim c.match-opened.branch [
+      | in-Some+in_ok-complete-in-Some w ↦ rw (w.recorder-is, w.complete-is) (lined line later opened w.in_ok-complete-in-Some.complete f first own c.settle.new.self w.expand.new.recorder hands c.settle.ensures
+          (opened-some (too_deep + 1 - 1) too_deep 1 opened w.in-Some.opened w.in_ok-complete-in-Some.complete w.in_ok-complete-in-Some.complete f c.settle.new.self w.expand.new.recorder w.in-Some.is refl refl w.in_ok-complete-in-Some.ensures))
+      | in-None w ↦ rw (w.recorder-is, w.complete-is) (lined line later opened true f first own c.settle.new.self c.settle.new.self hands c.settle.ensures
           (opened-none too_deep 1 opened f c.settle.new.self w.in-None.is))
     ] in
-    subst (λ (p : Running × Bool). IfOk c.into_trace.result (λ trace. trace ≡ traced p)) (done-is (line_part line stop) f state c.match-opened.recorder c.match-opened.whole runs) c.into_trace.ensures
+    subst (λ (p : Running × Bool). IfOk c.into_trace.result (λ trace. trace ≡ traced p)) (done-is (line_part line stop) f state c.match-opened.recorder c.match-opened.complete runs) c.into_trace.ensures
