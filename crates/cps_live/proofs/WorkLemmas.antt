@@ -2,19 +2,19 @@
 use Rattle.std.proofs.Common.{◌≡◌, ℕ, ◌+◌, ◌≤◌, ap, ◌∙◌, arith, Result, Ok, Err}
 use Rattle.std.specs.Prelude.{OnErr}
 use Rattle.cps_state.specs.declared.work.Tally.TheVariants.{Ones}
-use Rattle.cps_state.specs.Work.{Counts, more, raised, stepped, IsSteppedUpTo}
+use Rattle.cps_state.specs.Work.{Counts, counted_on, raised, stepped, IsSteppedUpTo}
 
-none-more : (n : ℕ) → n ≡ more n 0
-none-more n = omega arith
+counted-none : (n : ℕ) → n ≡ counted_on n 0
+counted-none n = omega arith
 
-more-more : (n a b : ℕ) → more (more n a) b ≡ more n (a + b)
-more-more n a b = omega arith
+counted-twice : (n a b : ℕ) → counted_on (counted_on n a) b ≡ counted_on n (a + b)
+counted-twice n a b = omega arith
 
 pub stepped-none : (work : Counts) → work ≡ stepped 0 work
-stepped-none work = λ i. record work { ones = none-more work.ones i }
+stepped-none work = λ i. record work { ones = counted-none work.ones i }
 
 pub stepped-join : (a b : ℕ) (old mid new : Counts) → mid ≡ stepped a old → new ≡ stepped b mid → new ≡ stepped (a + b) old
-stepped-join a b old mid new first second = second ∙ ap (stepped b) first ∙ (λ i. record old { ones = more-more old.ones a b i })
+stepped-join a b old mid new first second = second ∙ ap (stepped b) first ∙ (λ i. record old { ones = counted-twice old.ones a b i })
 
 pub stepped-next : (a : ℕ) (old mid new : Counts) → mid ≡ stepped a old → new ≡ raised Ones mid → new ≡ stepped (a + 1) old
 stepped-next a old mid new first second = stepped-join a 1 old mid new first second

@@ -13,18 +13,18 @@ abbrev pub no_work : Counts
 no_work = record { ones = 0; twos = 0; looked = 0 }
 
 -- so many more, up to the greatest number of 64 bits
-abbrev pub more : ℕ → ℕ → ℕ
-more count by = max count (min (count + by) (2 ^ 64 - 1))
+abbrev pub counted_on : ℕ → ℕ → ℕ
+counted_on count by = max count (min (count + by) (2 ^ 64 - 1))
 
 -- one more of a kind
 abbrev pub raised : Tally → Counts → Counts
-raised Ones counts = record counts { ones = more counts.ones 1 }
-raised Twos counts = record counts { twos = more counts.twos 1 }
-raised Looked counts = record counts { looked = more counts.looked 1 }
+raised Ones counts = record counts { ones = counted_on counts.ones 1 }
+raised Twos counts = record counts { twos = counted_on counts.twos 1 }
+raised Looked counts = record counts { looked = counted_on counts.looked 1 }
 
 -- so many steps of pass one more
 abbrev pub stepped : ℕ → Counts → Counts
-stepped count counts = record counts { ones = more counts.ones count }
+stepped count counts = record counts { ones = counted_on counts.ones count }
 
 -- so many at most
 abbrev pub IsSteppedUpTo : ℕ → Counts → Counts → Type 0
