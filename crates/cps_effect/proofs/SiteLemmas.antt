@@ -16,13 +16,13 @@ BeforeNext place start = (word : ℕ) → position place ≤ 60 * word → start
 starts-in-word : (machine : Machine) (place : Place) (start : ℕ) → (machine ≡ Pp → place.used ≡ 0) → position place ≤ start → BeforeNext place start
     → start % 60 < bits_of machine
 unfolding BeforeNext
-starts-in-word Cp place start whole after before = omega (arith)
-starts-in-word Pp place start whole after before =
-    let none = whole refl in
+starts-in-word Cp place start at_word after before = omega (arith)
+starts-in-word Pp place start at_word after before =
+    let none = at_word refl in
     let at = before place.word (omega (arith, none)) in
     omega (arith, none, after, at)
 
 pub starts : (site : Site) (start : ℕ) → IsSite site → position site.place ≤ start → ((word : ℕ) → position site.place ≤ 60 * word → start ≤ 60 * word) → Starts site start
 unfolding BeforeNext
 starts site start is after before =
-    record { in_word = starts-in-word site.machine site.place start is.whole after before; within = before (limit site.machine) is.within }
+    record { in_word = starts-in-word site.machine site.place start is.at_word after before; within = before (limit site.machine) is.within }

@@ -31,10 +31,10 @@ filling_between from to = filling_at from (skipped from to)
 abbrev pub place_left : Place → ℕ
 place_left place = start_of (position place) 0 true
 
--- where a block goes on behind bits: a peripheral processor's word that was begun is left
-abbrev pub whole : Machine → ℕ → ℕ
-whole Cp at = at
-whole Pp at = 60 * ((at + 59) / 60)
+-- where a block goes on after bits: a peripheral processor's word that was begun is left
+abbrev pub rounded_up : Machine → ℕ → ℕ
+rounded_up Cp at = at
+rounded_up Pp at = 60 * ((at + 59) / 60)
 
 -- `*` is the address of the word in which a place is
 abbrev pub here_at : Option Name → ℕ → AValue

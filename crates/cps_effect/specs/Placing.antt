@@ -20,7 +20,7 @@ use Rattle.cps_effect.specs.declared.placing.Site.{Site}
 use Rattle.cps_reading.specs.declared.reading.Location.{Location}
 use Rattle.cps_reading.specs.declared.reading.Location.TheVariants.{Absent, Plus, Minus, Symbol, NoSymbol}
 use Rattle.cps_effect.specs.Located.{symbol_in, asking_taken, defining}
-use Rattle.cps_effect.specs.Places.{filling_between, whole, place_left, here_at, going_on, asking_place}
+use Rattle.cps_effect.specs.Places.{filling_between, rounded_up, place_left, here_at, going_on, asking_place}
 
 -- what a placing statement asks: the place in the block in use, and whether its symbol has a value already
 abbrev pub asking_site : Control → Location → (Site → Part) → Part
@@ -118,7 +118,7 @@ too_far site start contents held = fill (only_flagging (far_flags site) site [] 
 abbrev pub placed_to : Site → ℕ → List Content → Bool → ℕ → List Held → Part
 placed_to site start contents is_pending end held =
     if nat_lt (60 * limit site.machine) end then too_far site start contents held
-    else settling site start (whole site.machine end) is_pending
+    else settling site start (rounded_up site.machine end) is_pending
     before fill (record (nothing_made (placing_flags site)) {
       machine = site.machine;
       filling = filling_between (position site.place) start;

@@ -6,11 +6,11 @@ use Rattle.cps_code.specs.Place.{position}
 use Rattle.cps_state.specs.Machines.{limit}
 use Rattle.cps_effect.specs.declared.placing.Site.{Site}
 
--- its place is within the machine's words, and a whole one of a peripheral processor
+-- its place is within the machine's words, and of a peripheral processor at a word's beginning
 pub record IsSite (site : Site) : Type 0 where
   pub low : site.place.word ≤ 131072
   pub within : position site.place ≤ 60 * limit site.machine
-  pub whole : site.machine ≡ Pp → site.place.used ≡ 0
+  pub at_word : site.machine ≡ Pp → site.place.used ≡ 0
 
 -- a statement starts at a bit of the machine's words
 pub record Starts (site : Site) (start : ℕ) : Type 0 where

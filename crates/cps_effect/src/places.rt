@@ -42,10 +42,10 @@ pub fn begin(place: Place, bits: u8, force: Force) -> Begun
     }
 }
 
-/// Where a block goes on behind bits: a peripheral processor's word that was begun is left.
-pub fn whole(machine: Machine, at: u32) -> u32
+/// Where a block goes on after bits: a peripheral processor's word that was begun is left.
+pub fn round_up(machine: Machine, at: u32) -> u32
     requires { at ≤ 60 * limit machine }
-    ensures { result ≡ places.whole machine at }
+    ensures { result ≡ places.rounded_up machine at }
 {
     match machine {
         Machine::Cp => at,

@@ -12,7 +12,7 @@ ghost use Rattle.cps_effect.specs.Sites.{IsSite, Starts};
 use crate::front::Front;
 use crate::holding::hold;
 use crate::located::{define, is_taken};
-use crate::places::{begin, go_on, here_at, leave_word, stand, whole};
+use crate::places::{begin, go_on, here_at, leave_word, round_up, stand};
 use cps_code::{Force, Place};
 use cps_expr::Machine;
 use cps_reading::Location;
@@ -214,7 +214,7 @@ pub fn place<L: Lookup>(
         pass_limit(recorder, site, begun.start, contents, held);
         return Ok(());
     };
-    let after = whole(site.machine, end);
+    let after = round_up(site.machine, end);
     settle(recorder, site, begun.start, after, is_pending)?;
     recorder.fill(Made::placing(placing_flags(site), site.machine, begun, contents, held));
     Ok(())
