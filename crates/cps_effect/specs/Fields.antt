@@ -76,8 +76,8 @@ abbrev pub vfd : Control → Location → List Field → Part
 vfd control location fields = asking_site control location (fields_in fields)
 
 -- with unreadable operands
-abbrev pub no_fields : Site → Part
-no_fields site = unread_from site (start_for site 0)
+abbrev pub unread_fields_at : Site → Part
+unread_fields_at site = unread_from site (start_for site 0)
 
 abbrev pub unread_vfd : Control → Location → Part
-unread_vfd control location = asking_site control location no_fields
+unread_vfd control location = asking_site control location unread_fields_at

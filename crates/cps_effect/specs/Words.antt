@@ -23,11 +23,11 @@ abbrev pub words : List Content → Site → Part
 words contents site = placed site (word_start site) contents false
 
 -- with unreadable operands
-abbrev pub no_words : Site → Part
-no_words site = unread_from site (word_start site)
+abbrev pub unread_words_at : Site → Part
+unread_words_at site = unread_from site (word_start site)
 
 abbrev pub unread_words : Control → Location → Part
-unread_words control location = asking_site control location no_words
+unread_words control location = asking_site control location unread_words_at
 
 -- ---- CON: a word for each value
 
@@ -61,10 +61,10 @@ abbrev pub counted_or_not : List ℕ → Site → ValueNow → Option ℕ → Pa
 counted_or_not text site value None = unplaced (no_number_flags site value) site (word_start site) []
 counted_or_not text site value (Some count) = words (number_words site.machine (text_words site.machine blank_code count text)) site
 
-abbrev pub displayed : DisText → Site → Part
-displayed (Counted count text) site =
+abbrev pub displaying : DisText → Site → Part
+displaying (Counted count text) site =
     now count (here_at site.block (word_start site)) (λ value. counted_or_not text site value (between 1 100 (plain_number value)))
-displayed (Delimited text) site = words (number_words site.machine (delimited_words site.machine text)) site
+displaying (Delimited text) site = words (number_words site.machine (delimited_words site.machine text)) site
 
 abbrev pub dis : Control → Location → DisText → Part
-dis control location text = asking_site control location (displayed text)
+dis control location text = asking_site control location (displaying text)

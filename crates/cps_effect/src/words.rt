@@ -135,7 +135,7 @@ fn display_counted<L: Lookup>(
     text: &Sequence<u8>,
 ) -> Result<(), AllocError>
     requires { IsSite site }
-    ensures { OnOk result (Does (meaning.displayed (DisText.Counted count.now text.now) site) L.answer recorder.old recorder.new) }
+    ensures { OnOk result (Does (meaning.displaying (DisText.Counted count.now text.now) site) L.answer recorder.old recorder.new) }
 {
     let alloc = recorder.alloc();
     let begun = word_start(site);
