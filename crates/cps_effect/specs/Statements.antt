@@ -19,35 +19,35 @@ use Rattle.cps_effect.specs.Use.{use_block, unread_use}
 use Rattle.cps_effect.specs.Words.{con, data_words, dis, unread_words}
 
 -- with its operands; each row that isn't here has the flag of an operation that isn't there
-abbrev pub obeyed : Control → Location → Row → Part
-obeyed control location (row.Ident name) = ident control location (Some name)
-obeyed control location row.Abs = declaration control location Cp
-obeyed control location row.Periph = declaration control location Pp
-obeyed control location (row.Base radix) = base control location radix
-obeyed control location (row.Equate terms) = equate control location terms
-obeyed control location (row.Set terms) = set_symbol control location terms
-obeyed control location row.Listing = flagged (present_flags location)
-obeyed control location (row.Org terms) = org control location terms
-obeyed control location (row.Use block) = use_block control location block
-obeyed control location (row.Bss terms) = bss control location terms
-obeyed control location (row.Bssz terms) = bssz control location terms
-obeyed control location (row.Con values) = con control location values
-obeyed control location (row.Data numbers) = data_words control location numbers
-obeyed control location (row.Vfd fields) = vfd control location fields
-obeyed control location (row.Dis text) = dis control location text
-obeyed control location _ = unknown
+abbrev pub obeyed_plainly : Control → Location → Row → Part
+obeyed_plainly control location (row.Ident name) = ident control location (Some name)
+obeyed_plainly control location row.Abs = declaration control location Cp
+obeyed_plainly control location row.Periph = declaration control location Pp
+obeyed_plainly control location (row.Base radix) = base control location radix
+obeyed_plainly control location (row.Equate terms) = equate control location terms
+obeyed_plainly control location (row.Set terms) = set_symbol control location terms
+obeyed_plainly control location row.Listing = flagged (present_flags location)
+obeyed_plainly control location (row.Org terms) = org control location terms
+obeyed_plainly control location (row.Use block) = use_block control location block
+obeyed_plainly control location (row.Bss terms) = bss control location terms
+obeyed_plainly control location (row.Bssz terms) = bssz control location terms
+obeyed_plainly control location (row.Con values) = con control location values
+obeyed_plainly control location (row.Data numbers) = data_words control location numbers
+obeyed_plainly control location (row.Vfd fields) = vfd control location fields
+obeyed_plainly control location (row.Dis text) = dis control location text
+obeyed_plainly control location _ = unknown
 
 -- with operands that can't be read; those that aren't here take no location field
-abbrev pub unreadable : Control → Location → Operation → Part
-unreadable control location operation.Ident = ident control location None
-unreadable control location operation.Equate = unread_equate location
-unreadable control location operation.Set = unread_set location
-unreadable control location operation.Org = unread_org control location
-unreadable control location operation.Use = unread_use control location
-unreadable control location operation.Bss = unread_words control location
-unreadable control location operation.Bssz = unread_words control location
-unreadable control location operation.Con = unread_words control location
-unreadable control location operation.Data = unread_words control location
-unreadable control location operation.Vfd = unread_vfd control location
-unreadable control location operation.Dis = unread_words control location
-unreadable control location _ = unread location
+abbrev pub unreadable_plainly : Control → Location → Operation → Part
+unreadable_plainly control location operation.Ident = ident control location None
+unreadable_plainly control location operation.Equate = unread_equate location
+unreadable_plainly control location operation.Set = unread_set location
+unreadable_plainly control location operation.Org = unread_org control location
+unreadable_plainly control location operation.Use = unread_use control location
+unreadable_plainly control location operation.Bss = unread_words control location
+unreadable_plainly control location operation.Bssz = unread_words control location
+unreadable_plainly control location operation.Con = unread_words control location
+unreadable_plainly control location operation.Data = unread_words control location
+unreadable_plainly control location operation.Vfd = unread_vfd control location
+unreadable_plainly control location operation.Dis = unread_words control location
+unreadable_plainly control location _ = unread location

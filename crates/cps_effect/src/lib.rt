@@ -29,5 +29,5 @@ pub use making::{flag, misplaced, unknown, unmatched, unread};
 pub use numbers::{not_negative, plain_number};
 pub use places::{here_at, stand};
 pub use placing::{Site, ask_site, placing_flags, settle, word_start};
-pub use statements::{obey, obey_unread};
+pub use statements::{obey_plainly, obey_unread_plainly};
 pub use value_now::{ValueNow, value_here};

@@ -19,13 +19,13 @@ use cps_state::{Lookup, Recorder};
 use std::alloc::AllocError;
 
 /// A statement with its operands.
-pub fn obey<L: Lookup>(
+pub fn obey_plainly<L: Lookup>(
     recorder: &mut Recorder<'_, L>,
     front: Front,
     row: Row,
 ) -> Result<(), AllocError>
     requires { IsBounded front.control.machine row }
-    ensures { OnOk result (Does (statements.obeyed front.control front.location row) L.answer recorder.old recorder.new) }
+    ensures { OnOk result (Does (statements.obeyed_plainly front.control front.location row) L.answer recorder.old recorder.new) }
 {
     match row {
         Row::Ident(name) => ident(recorder, front, Some(name)),
@@ -54,12 +54,12 @@ pub fn obey<L: Lookup>(
 }
 
 /// A statement with unreadable operands.
-pub fn obey_unread<L: Lookup>(
+pub fn obey_unread_plainly<L: Lookup>(
     recorder: &mut Recorder<'_, L>,
     front: Front,
     operation: Operation,
 ) -> Result<(), AllocError>
-    ensures { OnOk result (Does (statements.unreadable front.control front.location operation) L.answer recorder.old recorder.new) }
+    ensures { OnOk result (Does (statements.unreadable_plainly front.control front.location operation) L.answer recorder.old recorder.new) }
 {
     match operation {
         Operation::Ident => ident(recorder, front, None),

@@ -27,7 +27,7 @@ use Rattle.cps_effect.specs.Head.{leaving_head}
 use Rattle.cps_effect.specs.Instruction.{instruction, peripheral_instruction}
 use Rattle.cps_effect.specs.Making.{flagged, unknown, misplaced, unmatched}
 use Rattle.cps_effect.specs.Places.{asking_place}
-use Rattle.cps_effect.specs.Statements as plain
+use Rattle.cps_effect.specs.Statements.{obeyed_plainly, unreadable_plainly}
 use Rattle.cps_pass.specs.declared.scope.Scope.{Scope}
 use Rattle.cps_pass.specs.declared.scope.Scope.TheVariants.{Source, Expansion}
 use Rattle.cps_pass.specs.Keeping.{kept_for_macro, kept_for_dup}
@@ -97,12 +97,12 @@ obeyed control scope location row.Endif next = endif_of scope location next
 obeyed control scope location (row.Dup repetition) next = dup control scope location repetition next
 obeyed control scope location row.Endd next = unmatched location before next scope
 obeyed control scope location row.End next = end_within control before next scope
-obeyed control scope location other next = plain.obeyed control location other before next scope
+obeyed control scope location other next = obeyed_plainly control location other before next scope
 
 -- with operands that can't be read
 abbrev pub unreadable : Control → Scope → Location → Operation → (Scope → Part) → Part
 unreadable control scope location operation.Macro next = macro control scope location None next
-unreadable control scope location other next = plain.unreadable control location other before next scope
+unreadable control scope location other next = unreadable_plainly control location other before next scope
 
 -- a call of a macro, if there is one
 abbrev pub calling_if : Control → Scope → Location → List ℕ → Option Macro → Behind → Part

@@ -20,7 +20,7 @@ use crate::seen::seen_in;
 use crate::skipping::{skipped, skipped_line};
 use crate::treating::{Passing, treat};
 use cps_effect::{
-    Front, end, flag, instruction, leave_head, misplaced, obey, obey_unread,
+    Front, end, flag, instruction, leave_head, misplaced, obey_plainly, obey_unread_plainly,
     peripheral_instruction, stand, unknown, unmatched,
 };
 use cps_expr::{Operation, Row};
@@ -299,7 +299,7 @@ fn obey_row<L: Lookup>(
             Ok(())
         }
         Row::End => end_within(recorder, front.control),
-        row => obey(recorder, front, row),
+        row => obey_plainly(recorder, front, row),
     }
 }
 
@@ -314,7 +314,7 @@ fn obey_unreadable<L: Lookup>(
 {
     match operation {
         Operation::Macro => obey_macro(recorder, front, scope, None),
-        operation => obey_unread(recorder, front, operation),
+        operation => obey_unread_plainly(recorder, front, operation),
     }
 }
 
