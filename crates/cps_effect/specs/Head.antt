@@ -31,14 +31,14 @@ entering control phase = putting_control (record control { phase = phase })
 
 -- ---- leaving the head, where the program is in it
 
-abbrev pub behind_head : Phase → Phase
-behind_head (Head head) = Body
-behind_head Body = Body
-behind_head AfterEnd = AfterEnd
+abbrev pub after_head : Phase → Phase
+after_head (Head head) = Body
+after_head Body = Body
+after_head AfterEnd = AfterEnd
 
 -- the control behind a statement that ends the head
 abbrev pub in_body : Control → Control
-in_body control = record control { phase = behind_head control.phase }
+in_body control = record control { phase = after_head control.phase }
 
 abbrev pub is_in_head : Phase → Bool
 is_in_head (Head head) = true

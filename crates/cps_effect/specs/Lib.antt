@@ -1,11 +1,13 @@
-pub mod Blocks
+pub mod End
 pub mod Fields
 pub mod Head
 pub mod Instruction
+pub mod Leaving
 pub mod Located
 pub mod Making
 pub mod NamesNow
 pub mod Numbers
+pub mod Origin
 pub mod Places
 pub mod Placing
 pub mod Reserving

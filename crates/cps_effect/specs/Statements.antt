@@ -8,11 +8,11 @@ use Rattle.cps_expr.specs.declared.row.Row.TheVariants as row
 use Rattle.cps_state.specs.declared.key.Control.{Control}
 use Rattle.cps_state.specs.Course.{Part}
 use Rattle.cps_reading.specs.declared.reading.Location.{Location}
-use Rattle.cps_effect.specs.Blocks.{org, unread_org}
 use Rattle.cps_effect.specs.Fields.{vfd, unread_vfd}
 use Rattle.cps_effect.specs.Head.{ident, declaration, base}
 use Rattle.cps_effect.specs.Located.{present_flags}
 use Rattle.cps_effect.specs.Making.{flagged, unknown, unread}
+use Rattle.cps_effect.specs.Origin.{org, unread_org}
 use Rattle.cps_effect.specs.Reserving.{bss, bssz}
 use Rattle.cps_effect.specs.Symbols.{equate, unread_equate, set_symbol, unread_set}
 use Rattle.cps_effect.specs.Use.{use_block, unread_use}

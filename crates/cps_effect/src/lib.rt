@@ -2,15 +2,17 @@
 #![tactic(auto)]
 
 mod asking;
-mod blocks;
+mod ends;
 mod fields;
 mod front;
 mod head;
 mod holding;
 mod instructions;
+mod leaving;
 mod located;
 mod making;
 mod numbers;
+mod origin;
 mod places;
 mod placing;
 mod reserving;
@@ -20,7 +22,7 @@ mod uses;
 mod value_now;
 mod words;
 
-pub use blocks::end;
+pub use ends::end;
 pub use front::Front;
 pub use head::leave_head;
 pub use instructions::{instruction, peripheral_instruction};

@@ -4,12 +4,12 @@ ghost use Rattle.cps_expr.specs.Bounds.{IsBounded};
 ghost use Rattle.cps_state.specs.Line.{Does};
 ghost use Rattle.cps_effect.specs.Statements as statements;
 
-use crate::blocks::{org, unread_org};
 use crate::fields::{unread_vfd, vfd};
 use crate::front::Front;
 use crate::head::{base, declaration, ident};
 use crate::located::present_flags;
 use crate::making::{flag, unknown, unread};
+use crate::origin::{org, unread_org};
 use crate::reserving::{bss, bssz};
 use crate::symbols::{equate, set_symbol, unread_equate, unread_set};
 use crate::uses::{unread_use, use_block};

@@ -5,8 +5,8 @@ ghost use Rattle.cps_state.specs.Keys.{uses_of};
 ghost use Rattle.cps_state.specs.Line.{Does, line_answer, line_asked};
 ghost use Rattle.cps_effect.specs.Use as use_of;
 
-use crate::blocks::select;
 use crate::front::Front;
+use crate::leaving::select;
 use crate::located::present_flags;
 use crate::making::{unmatched, unread};
 use crate::places::{go_on, leave_word, stand};

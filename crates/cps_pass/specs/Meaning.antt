@@ -22,7 +22,7 @@ use Rattle.cps_reading.specs.declared.reading.Location.{Location}
 use Rattle.cps_reading.specs.declared.reading.Stating.{Stating}
 use Rattle.cps_reading.specs.declared.reading.Stating.TheVariants.{Missing, Unknown, Stated, Unreadable, Instruction, Peripheral}
 use Rattle.cps_reading.specs.Reading.{location_in, stating_in}
-use Rattle.cps_effect.specs.Blocks.{end}
+use Rattle.cps_effect.specs.End.{end}
 use Rattle.cps_effect.specs.Head.{leaving_head}
 use Rattle.cps_effect.specs.Instruction.{instruction, peripheral_instruction}
 use Rattle.cps_effect.specs.Making.{flagged, unknown, misplaced, unmatched}

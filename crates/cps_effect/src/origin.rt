@@ -1,10 +1,10 @@
-//! ORG and END: both leave the word that was begun.
+//! ORG: goes on at an address, in the block of its value.
 ghost use Rattle.std.specs.Prelude.{◌≡◌, ◌<◌, ◌^◌, OnOk};
 ghost use Rattle.cps_state.specs.Line.{Does};
-ghost use Rattle.cps_effect.specs.Blocks as blocks;
+ghost use Rattle.cps_effect.specs.Origin as meaning;
 
 use crate::front::Front;
-use crate::head::put_control;
+use crate::leaving::select;
 use crate::located::present_flags;
 use crate::making::{flag, unmatched, unread};
 use crate::numbers::not_negative;
@@ -12,11 +12,7 @@ use crate::places::{go_on, here_at, leave_word, stand};
 use crate::value_now::{ValueNow, value_now};
 use cps_code::Place;
 use cps_expr::{Expr, Value};
-use cps_reading::Location;
-use cps_state::{
-    Answer, Control, Flags, Key, Lookup, Made, Mode, Phase, Recorder, Shared, Shown, WORD,
-    is_no_range, is_normal, is_same_block, limit_of,
-};
+use cps_state::{Lookup, Made, Recorder, Shown, WORD, limit_of};
 use cps_text::Name;
 use std::alloc::AllocError;
 
@@ -26,7 +22,7 @@ pub fn org<L: Lookup>(
     front: Front,
     operand: &Expr,
 ) -> Result<(), AllocError>
-    ensures { OnOk result (Does (blocks.org front.control front.location operand.now) L.answer recorder.old recorder.new) }
+    ensures { OnOk result (Does (meaning.org front.control front.location operand.now) L.answer recorder.old recorder.new) }
 {
     let place = stand(recorder, front.control)?;
     let here = here_at(front.control.block, leave_word(place).start);
@@ -36,7 +32,7 @@ pub fn org<L: Lookup>(
 
 /// ORG with an unreadable operand.
 pub fn unread_org<L: Lookup>(recorder: &mut Recorder<'_, L>, front: Front) -> Result<(), AllocError>
-    ensures { OnOk result (Does (blocks.unread_org front.control front.location) L.answer recorder.old recorder.new) }
+    ensures { OnOk result (Does (meaning.unread_org front.control front.location) L.answer recorder.old recorder.new) }
 {
     stand(recorder, front.control)?;
     unread(recorder, front.location);
@@ -50,7 +46,7 @@ fn move_by<L: Lookup>(
     value: ValueNow,
 ) -> Result<(), AllocError>
     requires { place.word < 2 ^ 26 }
-    ensures { OnOk result (Does (blocks.moving front.control front.location place value) L.answer recorder.old recorder.new) }
+    ensures { OnOk result (Does (meaning.moving front.control front.location place value) L.answer recorder.old recorder.new) }
 {
     match value {
         ValueNow::Undefined => {
@@ -81,7 +77,7 @@ fn move_to<L: Lookup>(
     address: u64,
 ) -> Result<(), AllocError>
     requires { place.word < 2 ^ 26 }
-    ensures { OnOk result (Does (blocks.moving_to front.control front.location place block address) L.answer recorder.old recorder.new) }
+    ensures { OnOk result (Does (meaning.moving_to front.control front.location place block address) L.answer recorder.old recorder.new) }
 {
     let alloc = recorder.alloc();
     if address > u64::from(limit_of(front.control.machine)) {
@@ -104,61 +100,4 @@ fn move_to<L: Lookup>(
         shown,
     ));
     Ok(())
-}
-
-/// Another block is in use.
-pub fn select<L: Lookup>(
-    recorder: &mut Recorder<'_, L>,
-    control: Control,
-    block: Option<Name>,
-) -> Result<(), AllocError>
-    ensures { OnOk result (Does (blocks.using control block) L.answer recorder.old recorder.new) }
-{
-    if is_same_block(control.block, block) {
-        return Ok(());
-    }
-    put_control(recorder, Control { block, ..control })
-}
-
-/// END: leaves the word that was begun. Ranges that are open, and lines that are skipped or kept, end here.
-pub fn end<L: Lookup>(
-    recorder: &mut Recorder<'_, L>,
-    front: Front,
-    mode: &Mode,
-) -> Result<(), AllocError>
-    ensures { OnOk result (Does (blocks.end front.control mode.now front.location) L.answer recorder.old recorder.new) }
-{
-    let alloc = recorder.alloc();
-    let ranges = recorder.note(Key::Ifs)?;
-    let is_closed = is_no_range(recorder.answer(ranges));
-    let left = leave_word(stand(recorder, front.control)?);
-    go_on(recorder, front.control.block, left.start, false)?;
-    recorder.put(Key::Ifs, Answer::Ifs(Shared::empty()))?;
-    put_control(recorder, behind_end(front.control))?;
-    recorder.fill(Made::leaving(
-        alloc,
-        end_flags(mode, front.location, is_closed),
-        front.control.machine,
-        left.filling,
-        Shown::Nothing,
-    ));
-    Ok(())
-}
-
-/// E where a range is open, or lines are skipped or kept.
-fn end_flags(mode: &Mode, location: Location, is_closed: bool) -> Flags
-    ensures { result ≡ blocks.end_flags mode.now location is_closed }
-{
-    let mut flags = present_flags(location);
-    flags.structure = !is_normal(mode) || !is_closed;
-    flags
-}
-
-fn behind_end(control: Control) -> Control
-    ensures { result ≡ blocks.behind_end control }
-{
-    Control {
-        phase: Phase::AfterEnd,
-        ..control
-    }
 }
