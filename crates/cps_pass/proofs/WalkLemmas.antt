@@ -12,7 +12,7 @@ use Rattle.cps_pass.specs.Expansion.{ended, walk, body, too_deep, line_part}
 use Rattle.cps_pass.specs.Treating.{repeated}
 use Rattle.cps_pass.specs.Meaning.{statement}
 use Rattle.cps_pass.specs.Opened.{lines_of}
-use Rattle.cps_pass.specs.Own.{begun}
+use Rattle.cps_pass.specs.Own.{new_expansion}
 use Rattle.cps_pass.specs.Taking.{HandsOn, Walks}
 
 -- a statement, and then those after it
@@ -47,7 +47,7 @@ unfolding body
 body-empty zero depth = refl
 body-empty (suc n) depth = refl
 
-pub body-next : (n depth : ℕ) (texts : List (List ℕ)) → body (suc n) depth texts ≡ walk (body n) depth (Expansion begun) texts ended
+pub body-next : (n depth : ℕ) (texts : List (List ℕ)) → body (suc n) depth texts ≡ walk (body n) depth (Expansion new_expansion) texts ended
 unfolding body
 body-next n depth texts = refl
 
@@ -102,13 +102,13 @@ turned nested depth n i texts scope later whole f s t lt walks next rest =
     ∙ walks (λ after. walk nested depth after (repeated (n - (i + 1)) texts) next) rest
 
 -- all turns
-body-of : (depth : ℕ) (texts : List (List ℕ)) → depth ≤ too_deep → body (too_deep + 1 - depth) depth texts ≡ walk (body (too_deep - depth)) depth (Expansion begun) texts ended
+body-of : (depth : ℕ) (texts : List (List ℕ)) → depth ≤ too_deep → body (too_deep + 1 - depth) depth texts ≡ walk (body (too_deep - depth)) depth (Expansion new_expansion) texts ended
 body-of depth texts le =
     let e : too_deep + 1 - depth ≡ suc (too_deep - depth) = omega arith in
     ap (λ n. body n depth texts) e ∙ body-next (too_deep - depth) depth texts
 
 pub body-as : {S : Type 0} (depth : ℕ) (texts : List (List ℕ)) (f : S → State) (s : Line S) → depth ≤ too_deep → (rest : Course)
-    → runs (body (too_deep + 1 - depth) depth texts rest) f s ≡ runs (walk (body (too_deep - depth)) depth (Expansion begun) texts ended rest) f s
+    → runs (body (too_deep + 1 - depth) depth texts rest) f s ≡ runs (walk (body (too_deep - depth)) depth (Expansion new_expansion) texts ended rest) f s
 body-as depth texts f s le rest = ap (λ (part : Part). runs (part rest) f s) (body-of depth texts le)
 
 -- no turn is left

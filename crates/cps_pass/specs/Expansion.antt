@@ -9,7 +9,7 @@ use Rattle.cps_state.specs.Made.{no_flags}
 use Rattle.cps_pass.specs.declared.scope.Scope.{Scope}
 use Rattle.cps_pass.specs.declared.scope.Scope.TheVariants.{Source, Expansion}
 use Rattle.cps_pass.specs.Meaning.{statement}
-use Rattle.cps_pass.specs.Own.{begun}
+use Rattle.cps_pass.specs.Own.{new_expansion}
 
 -- ---- the end of an expansion
 
@@ -35,7 +35,7 @@ walk nested depth scope (text ∷ texts) next =
 -- the statements of an expansion at a depth, where so many depths are looked at; it begins with no open range, and lines are assembled
 unfoldable pub body : ℕ → ℕ → List (List ℕ) → Part
 body zero depth texts rest = rest
-body (suc depths) depth texts rest = walk (body depths) depth (Expansion begun) texts ended rest
+body (suc depths) depth texts rest = walk (body depths) depth (Expansion new_expansion) texts ended rest
 
 -- the first depth that is too deep: what stands below is not looked at
 abbrev pub too_deep : ℕ

@@ -47,7 +47,7 @@ fn expand<L: Lookup>(
     ensures { IfOk result (λ complete. Goes (body (too_deep + 1 - depth) depth (repeated opened.now.times opened.now.lines.items)) complete L.answer recorder.old recorder.new) }
 {
     let alloc = recorder.alloc();
-    let mut scope = Scope::Expansion(Own::begun(alloc));
+    let mut scope = Scope::Expansion(Own::at_start(alloc));
     for _turn in 0..opened.times {
         if !go_through(recorder, &mut scope, depth, &opened.lines)? {
             return Ok(false);

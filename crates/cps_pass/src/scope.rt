@@ -1,7 +1,7 @@
 //! Where a statement stands: a source line, or a statement of an expansion.
 ghost use Rattle.std.specs.Prelude.{◌≡◌, OnOk, IfOk};
 ghost use Rattle.cps_state.specs.Line.{Hands};
-ghost use Rattle.cps_pass.specs.Own.{begun};
+ghost use Rattle.cps_pass.specs.Own.{new_expansion};
 ghost use Rattle.cps_pass.specs.Scope as meaning;
 ghost use Rattle.cps_pass.specs.Taking.{TakesBody};
 
@@ -28,8 +28,8 @@ impl Model for Own {
 
 impl Own {
     /// Of an expansion that begins.
-    pub fn begun(alloc: Global) -> Own
-        ensures { result ≡ begun }
+    pub fn at_start(alloc: Global) -> Own
+        ensures { result ≡ new_expansion }
     {
         Own {
             mode: Mode::Normal,

@@ -5,7 +5,7 @@ use Rattle.cps_pass.specs.declared.scope.Scope.{Scope}
 use Rattle.cps_pass.specs.declared.scope.Scope.TheVariants.{Expansion}
 use Rattle.cps_pass.specs.Expansion.{walk, body, too_deep}
 use Rattle.cps_pass.specs.Treating.{repeated}
-use Rattle.cps_pass.specs.Own.{begun}
+use Rattle.cps_pass.specs.Own.{new_expansion}
 use Rattle.cps_pass.proofs.expansion.+expansion.Given as goal
 
 abbrev pub decreases-expand : goal.decreases-expand
@@ -24,4 +24,4 @@ invariant-go_through-loop-text g l = (next : Scope → Part) (rest : Course) →
 abbrev pub invariant-expand-loop-turn : goal.invariant-expand-loop-turn
 invariant-expand-loop-turn g l = (next : Scope → Part) (rest : Course) →
     runs (walk (body (too_deep - l.depth)) l.depth l.scope (repeated (l.opened.times - l._turn) l.opened.lines.items) next rest) g.L.Lookup.answer l.recorder
-    ≡ runs (walk (body (too_deep - l.depth)) l.depth (Expansion begun) (repeated l.opened.times l.opened.lines.items) next rest) g.L.Lookup.answer l.fn.recorder
+    ≡ runs (walk (body (too_deep - l.depth)) l.depth (Expansion new_expansion) (repeated l.opened.times l.opened.lines.items) next rest) g.L.Lookup.answer l.fn.recorder
