@@ -37,14 +37,14 @@ before_previous (block ∷ uses) = uses
 -- ---- what USE does
 
 -- a named block that begins is at word 0, and is the last of so many; None: the block has begun before
-abbrev pub beginning : Option Name → Option ℕ → Part
-beginning block None = nothing
-beginning block (Some count) = going_on block 0 false before putting key.Blocks (answer.Count count)
+abbrev pub beginning_block : Option Name → Option ℕ → Part
+beginning_block block None = nothing
+beginning_block block (Some count) = going_on block 0 false before putting key.Blocks (answer.Count count)
 
 -- the word that was begun is left, these blocks may be gone back to from now on, and another block is in use
 abbrev pub going_to : Control → Location → Place → List (Option Name) → Option ℕ → Option Name → Part
 going_to control location place uses count block =
-    going_on control.block (place_left place) false before putting key.Uses (answer.Uses uses) before beginning block count before using control block
+    going_on control.block (place_left place) false before putting key.Uses (answer.Uses uses) before beginning_block block count before using control block
     before fill (left control location place)
 
 -- a block that has not begun: E where it would be one too many

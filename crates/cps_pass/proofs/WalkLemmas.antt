@@ -93,10 +93,10 @@ repeated-next n i texts lt =
     let e : n - i ≡ suc (n - (i + 1)) = omega arith in
     ap (λ k. repeated k texts) e
 
-pub turned : {S : Type 0} (nested : ℕ → List (List ℕ) → Part) (depth n i : ℕ) (texts : List (List ℕ)) (scope later : Scope) (whole : Bool) (f : S → State) (s t : Line S) → i < n
-    → Walks (walk nested depth scope texts) whole later f s t
-    → (next : Scope → Part) (rest : Course) → runs (walk nested depth scope (repeated (n - i) texts) next rest) f s ≡ goes_on whole (walk nested depth later (repeated (n - (i + 1)) texts) next rest) f t
-turned nested depth n i texts scope later whole f s t lt walks next rest =
+pub one-turn : {S : Type 0} (nested : ℕ → List (List ℕ) → Part) (depth n i : ℕ) (texts : List (List ℕ)) (scope later : Scope) (complete : Bool) (f : S → State) (s t : Line S) → i < n
+    → Walks (walk nested depth scope texts) complete later f s t
+    → (next : Scope → Part) (rest : Course) → runs (walk nested depth scope (repeated (n - i) texts) next rest) f s ≡ goes_on complete (walk nested depth later (repeated (n - (i + 1)) texts) next rest) f t
+one-turn nested depth n i texts scope later complete f s t lt walks next rest =
     ap (λ xs. runs (walk nested depth scope xs next rest) f s) (repeated-next n i texts lt)
     ∙ ap (λ (part : Part). runs (part rest) f s) (walk-append nested depth texts (repeated (n - (i + 1)) texts) next scope)
     ∙ walks (λ after. walk nested depth after (repeated (n - (i + 1)) texts) next) rest

@@ -88,14 +88,14 @@ bound (parameter ∷ parameters) tail = if has_unclosed tail then None else pair
 -- ---- the call
 
 -- A where the arguments can't be read or are too many
-abbrev pub called : Made → Bool → Made
-called made true = made
-called made false = record made { flags = joined made.flags (record no_flags { operand = true }) }
+abbrev pub call_made : Made → Bool → Made
+call_made made true = made
+call_made made false = record made { flags = joined made.flags (record no_flags { operand = true }) }
 
 -- the lines of the body with the arguments, and none where there are no such
-abbrev pub opening : Scope → Made → List (List ℕ) → Option Pairs → Behind → Part
-opening scope made lines None behind = fill (called made false) before behind scope []
-opening scope made lines (Some pairs) behind = fill (called made true) before behind scope (map (inserted pairs) lines)
+abbrev pub calling_with : Scope → Made → List (List ℕ) → Option Pairs → Behind → Part
+calling_with scope made lines None behind = fill (call_made made false) before behind scope []
+calling_with scope made lines (Some pairs) behind = fill (call_made made true) before behind scope (map (inserted pairs) lines)
 
 abbrev pub calling : Control → Scope → Location → Macro → List ℕ → Behind → Part
-calling control scope location named tail behind = call_at control location (λ made. opening scope made named.lines (bound named.parameters tail) behind)
+calling control scope location named tail behind = call_at control location (λ made. calling_with scope made named.lines (bound named.parameters tail) behind)

@@ -36,7 +36,7 @@ use Rattle.cps_pass.specs.Ranges.{if_compared, if_defined, else_of, endif_of}
 use Rattle.cps_pass.specs.Repeating.{dup}
 use Rattle.cps_pass.specs.Scope.{mode_in, Behind, opens_nothing}
 use Rattle.cps_pass.specs.Seen.{seen_in}
-use Rattle.cps_pass.specs.Skipping.{skipped_line, skipped}
+use Rattle.cps_pass.specs.Skipping.{skipped_line, skipped_in_range}
 use Rattle.cps_pass.specs.Treating.{treated}
 
 -- ---- what stays in the head of a program: all but these end it
@@ -146,7 +146,7 @@ card_in text = if nat_lt most_columns (length text) then ContinuedLine else fiel
 abbrev pub in_mode : Control → Scope → List ℕ → Mode → Behind → Part
 in_mode control scope text Normal behind = assembled control scope (card_in text) behind
 in_mode control scope text (SkipLines count) behind = treated control scope (SkipLines count) text (skipped_line count) behind
-in_mode control scope text (SkipRange skip) behind = treated control scope (SkipRange skip) text (skipped skip (seen_in (card_in text))) behind
+in_mode control scope text (SkipRange skip) behind = treated control scope (SkipRange skip) text (skipped_in_range skip (seen_in (card_in text))) behind
 in_mode control scope text (KeepMacro body) behind = treated control scope (KeepMacro body) text (kept_for_macro body (seen_in (card_in text))) behind
 in_mode control scope text (KeepDup body) behind = treated control scope (KeepDup body) text (kept_for_dup body body.extent (seen_in (card_in text))) behind
 
@@ -166,16 +166,16 @@ abbrev pub before_end : Control → Mode → Scope → List ℕ → Option Locat
 before_end control mode scope text (Some location) behind = end control mode location before opens_nothing behind scope
 before_end control mode scope text None behind = in_mode control scope text (mode_in mode scope) behind
 
--- a line behind END that is no comment has E alone
-abbrev pub behind_end : LineFields → Part
-behind_end CommentLine = flagged no_flags
-behind_end ContinuedLine = misplaced
-behind_end (StatementLine statement) = misplaced
+-- a line after END that is no comment has E alone
+abbrev pub after_end : LineFields → Part
+after_end CommentLine = flagged no_flags
+after_end ContinuedLine = misplaced
+after_end (StatementLine statement) = misplaced
 
 abbrev pub in_phase : Control → Mode → Scope → List ℕ → Phase → Behind → Part
 in_phase control mode scope text (Head head) behind = before_end control mode scope text (end_in scope (card_in text)) behind
 in_phase control mode scope text Body behind = before_end control mode scope text (end_in scope (card_in text)) behind
-in_phase control mode scope text AfterEnd behind = behind_end (card_in text) before opens_nothing behind scope
+in_phase control mode scope text AfterEnd behind = after_end (card_in text) before opens_nothing behind scope
 
 -- a statement, and then what is behind it: where it stands by then, and the statements that it opens
 abbrev pub statement : Scope → List ℕ → Behind → Part

@@ -92,9 +92,9 @@ counting control scope location test value next =
     (λ later. flagging (joined (present_flags location) (joined test.flags (count_flags value (line_count value)))) later next)
 
 -- a range whose test holds is open; one whose test doesn't is skipped, to its ELSE or its end
-abbrev pub beginning : Control → Scope → Bool → List Range → (Scope → Part) → Part
-beginning control scope true ranges next = putting_ranges scope (BeforeElse ∷ ranges) next
-beginning control scope false ranges next = going_by control scope (SkipRange (record { nested = 0; may_resume = true })) next
+abbrev pub beginning_range : Control → Scope → Bool → List Range → (Scope → Part) → Part
+beginning_range control scope true ranges next = putting_ranges scope (BeforeElse ∷ ranges) next
+beginning_range control scope false ranges next = going_by control scope (SkipRange (record { nested = 0; may_resume = true })) next
 
 abbrev pub test_flags : Location → Tested → Flags
 test_flags location test = joined (present_flags location) test.flags
@@ -103,7 +103,7 @@ test_flags location test = joined (present_flags location) test.flags
 abbrev pub opening : Control → Scope → Location → Tested → List Range → (Scope → Part) → Part
 opening control scope location test ranges next =
     if nat_le most_ranges (length ranges) then flagging (record (test_flags location test) { structure = true }) scope next
-    else beginning control scope test.holds ranges (λ later. flagging (test_flags location test) later next)
+    else beginning_range control scope test.holds ranges (λ later. flagging (test_flags location test) later next)
 
 -- lines of a number, or up to ENDIF
 abbrev pub hanging_range : Control → Scope → Location → Tested → (Scope → Part) → Part
@@ -127,15 +127,15 @@ if_defined control scope location test next = asking_defined test (λ tested. ha
 -- ---- ELSE and ENDIF: E where there is no range for them
 
 -- the newest range is skipped from here on, to its end
-abbrev pub turned : Control → Scope → Location → List Range → (Scope → Part) → Part
-turned control scope location (BeforeElse ∷ ranges) next =
+abbrev pub turned_round : Control → Scope → Location → List Range → (Scope → Part) → Part
+turned_round control scope location (BeforeElse ∷ ranges) next =
     putting_ranges scope ranges (λ within. going_by control within (SkipRange (record { nested = 0; may_resume = false }))
     (λ later. flagging (present_flags location) later next))
-turned control scope location (BehindElse ∷ ranges) next = unmatched location before next scope
-turned control scope location [] next = unmatched location before next scope
+turned_round control scope location (BehindElse ∷ ranges) next = unmatched location before next scope
+turned_round control scope location [] next = unmatched location before next scope
 
 abbrev pub else_of : Control → Scope → Location → (Scope → Part) → Part
-else_of control scope location next = asking_ranges scope (λ ranges. turned control scope location ranges next)
+else_of control scope location next = asking_ranges scope (λ ranges. turned_round control scope location ranges next)
 
 -- the newest range ends
 abbrev pub closed : Scope → Location → List Range → (Scope → Part) → Part

@@ -31,8 +31,8 @@ own_else skip location =
     if skip.may_resume then Resumes location else Passes (SkipRange skip) None (record (present_flags location) { structure = true })
 
 -- a range: those that begin and end in it are counted
-abbrev pub skipped : Skip → Seen → Treatment
-skipped skip Begins = nesting skip (deeper skip.nested)
-skipped skip (Else location) = if nat_eq skip.nested 0 then own_else skip location else nesting skip skip.nested
-skipped skip (Endif location) = if nat_eq skip.nested 0 then Passes Normal None (present_flags location) else nesting skip (skip.nested - 1)
-skipped skip _ = nesting skip skip.nested
+abbrev pub skipped_in_range : Skip → Seen → Treatment
+skipped_in_range skip Begins = nesting skip (deeper skip.nested)
+skipped_in_range skip (Else location) = if nat_eq skip.nested 0 then own_else skip location else nesting skip skip.nested
+skipped_in_range skip (Endif location) = if nat_eq skip.nested 0 then Passes Normal None (present_flags location) else nesting skip (skip.nested - 1)
+skipped_in_range skip _ = nesting skip skip.nested

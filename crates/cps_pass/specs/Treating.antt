@@ -35,8 +35,8 @@ resuming control scope next =
     asking_ranges scope (λ ranges. putting_ranges scope (BehindElse ∷ ranges) (λ there. going_by control there Normal next))
 
 -- the lines of a body are the macro's from now on
-abbrev pub defining : Control → Scope → Name → MacroBody → (Scope → Part) → Part
-defining control scope name body next =
+abbrev pub defining_macro : Control → Scope → Name → MacroBody → (Scope → Part) → Part
+defining_macro control scope name body next =
     taking_body control scope body.kept.lines (λ lines later.
     putting (key.Macro name) (answer.Macro (record { parameters = body.parameters; lines = lines })) before next later)
 
@@ -55,6 +55,6 @@ treated control scope mode text (Passes later kept_at flags) behind =
     passing control scope mode text later kept_at (λ there. flagging flags there (opens_nothing behind))
 treated control scope mode text (Resumes location) behind = resuming control scope (λ there. flagging (present_flags location) there (opens_nothing behind))
 treated control scope mode text (Defines name body location) behind =
-    defining control scope name body (λ there. flagging (present_flags location) there (opens_nothing behind))
+    defining_macro control scope name body (λ there. flagging (present_flags location) there (opens_nothing behind))
 treated control scope mode text (Opens body with_line flags) behind =
     taking_body control scope body.kept.lines (λ lines there. flagged flags before behind there (repeated body.times (lines ++ last_line with_line text)))

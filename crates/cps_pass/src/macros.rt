@@ -80,14 +80,14 @@ pub fn call<L: Lookup>(
 {
     let alloc = recorder.alloc();
     let made = call_at(recorder, front)?;
-    let lines = open(alloc, named, tail)?;
-    recorder.fill(called(made, lines.is_some()));
+    let lines = open_body(alloc, named, tail)?;
+    recorder.fill(call_made(made, lines.is_some()));
     Ok(lines)
 }
 
 /// What a call made, with A where it opens nothing.
-fn called(made: Made, is_bound: bool) -> Made
-    ensures { result ≡ macros.called made is_bound }
+fn call_made(made: Made, is_bound: bool) -> Made
+    ensures { result ≡ macros.call_made made is_bound }
 {
     let mut made = made;
     if !is_bound {
@@ -131,7 +131,7 @@ fn label<L: Lookup>(recorder: &mut Recorder<'_, L>, front: Front) -> Result<Made
 }
 
 /// The lines of a macro with the arguments of a call; None where a parenthesis stays open, or there are too many.
-fn open(alloc: Global, named: &Macro, tail: &[u8]) -> Result<Option<Opened>, AllocError>
+fn open_body(alloc: Global, named: &Macro, tail: &[u8]) -> Result<Option<Opened>, AllocError>
     ensures { IfOk result (λ opened. option_map (λ o. lines_of (Some o)) opened ≡ option_map (λ pairs. map (inserted pairs) named.now.lines) (macros.bound named.now.parameters tail.now)) }
 {
     let parameters = named.parameters.as_slice();

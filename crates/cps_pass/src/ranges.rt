@@ -70,7 +70,7 @@ fn turn<L: Lookup>(
     scope: &mut Scope,
     ranges: &[Range],
 ) -> Result<(), AllocError>
-    ensures { OnOk result (Hands (meaning.turned front.control scope.old front.location ranges.now) scope.new L.answer recorder.old recorder.new) }
+    ensures { OnOk result (Hands (meaning.turned_round front.control scope.old front.location ranges.now) scope.new L.answer recorder.old recorder.new) }
 {
     let alloc = recorder.alloc();
     let [Range::BeforeElse, others @ ..] = ranges else {
@@ -328,7 +328,7 @@ fn begin_range<L: Lookup>(
     holds: bool,
     others: &[Range],
 ) -> Result<(), AllocError>
-    ensures { OnOk result (Hands (meaning.beginning control scope.old holds others.now) scope.new L.answer recorder.old recorder.new) }
+    ensures { OnOk result (Hands (meaning.beginning_range control scope.old holds others.now) scope.new L.answer recorder.old recorder.new) }
 {
     let alloc = recorder.alloc();
     if holds {

@@ -48,8 +48,8 @@ fn own_else(skip: Skip, location: Location) -> Treatment
 }
 
 /// A line where a range is skipped.
-pub fn skipped(skip: Skip, seen: Seen) -> Treatment
-    ensures { result ≡ skipping.skipped skip seen }
+pub fn skipped_in_range(skip: Skip, seen: Seen) -> Treatment
+    ensures { result ≡ skipping.skipped_in_range skip seen }
 {
     match seen {
         Seen::Begins => nesting(skip, deeper(skip.nested)),

@@ -17,7 +17,7 @@ use crate::ranges::{close_range, if_compared, if_defined, turn_range};
 use crate::repeating::dup;
 use crate::scope::{Scope, mode_in};
 use crate::seen::seen_in;
-use crate::skipping::{skipped, skipped_line};
+use crate::skipping::{skipped_in_range, skipped_line};
 use crate::treating::{Passing, treat};
 use cps_effect::{
     Front, end, flag, instruction, leave_head, misplaced, obey_plainly, obey_unread_plainly,
@@ -47,7 +47,7 @@ pub fn step_statement<L: Lookup>(
     let mode = mode_of(recorder.answer(known))?;
     match control.phase {
         Phase::AfterEnd => {
-            behind_end(recorder, card_in(text));
+            step_after_end(recorder, card_in(text));
             Ok(None)
         }
         _ => step_before_end(recorder, control, mode, scope, text),
@@ -65,8 +65,8 @@ fn card_in(text: &[u8]) -> Fields<'_>
 }
 
 /// A line after END that is no comment has E alone.
-fn behind_end<L: Lookup>(recorder: &mut Recorder<'_, L>, fields: Fields<'_>)
-    ensures { Does (meaning.behind_end (fields_value fields.entry)) L.answer recorder.old recorder.new }
+fn step_after_end<L: Lookup>(recorder: &mut Recorder<'_, L>, fields: Fields<'_>)
+    ensures { Does (meaning.after_end (fields_value fields.entry)) L.answer recorder.old recorder.new }
 {
     match fields {
         Fields::Comment => flag(recorder, Flags::none()),
@@ -131,7 +131,7 @@ fn step_in_mode<L: Lookup>(
         Mode::SkipLines(count) => treat(recorder, passing, scope, skipped_line(*count)),
         Mode::SkipRange(skip) => {
             let seen = seen_in(card_in(text));
-            treat(recorder, passing, scope, skipped(*skip, seen))
+            treat(recorder, passing, scope, skipped_in_range(*skip, seen))
         }
         Mode::KeepMacro(body) => {
             let seen = seen_in(card_in(text));

@@ -42,7 +42,7 @@ pub fn treat<L: Lookup>(
             Ok(None)
         }
         Treatment::Defines(name, body, location) => {
-            define(recorder, passing.control, scope, name, body)?;
+            define_macro(recorder, passing.control, scope, name, body)?;
             flag(recorder, present_flags(location));
             Ok(None)
         }
@@ -50,7 +50,7 @@ pub fn treat<L: Lookup>(
             let lines = take_body(recorder, passing.control, scope, body.kept.lines)?;
             let lines = with_last(recorder.alloc(), lines, with_line, passing.text)?;
             flag(recorder, flags);
-            Ok(open(lines, body.times))
+            Ok(open_lines(lines, body.times))
         }
     }
 }
@@ -114,14 +114,14 @@ fn resume<L: Lookup>(
 }
 
 /// The lines of a body are the macro's from now on.
-fn define<L: Lookup>(
+fn define_macro<L: Lookup>(
     recorder: &mut Recorder<'_, L>,
     control: Control,
     scope: &mut Scope,
     name: Name,
     body: MacroBody,
 ) -> Result<(), AllocError>
-    ensures { OnOk result (Hands (treating.defining control scope.old name body) scope.new L.answer recorder.old recorder.new) }
+    ensures { OnOk result (Hands (treating.defining_macro control scope.old name body) scope.new L.answer recorder.old recorder.new) }
 {
     let lines = take_body(recorder, control, scope, body.kept.lines)?;
     let named = Macro {
@@ -148,7 +148,7 @@ fn with_last(
 }
 
 /// Lines that are opened so many times. Where there are none, nothing is opened, however often.
-fn open(lines: Vec<Shared<u8>>, times: u32) -> Option<Opened>
+fn open_lines(lines: Vec<Shared<u8>>, times: u32) -> Option<Opened>
     ensures { lines_of result ≡ treating.repeated times lines.items }
 {
     if lines.is_empty() {

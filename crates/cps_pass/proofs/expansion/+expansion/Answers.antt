@@ -6,7 +6,7 @@ use Rattle.cps_pass.specs.Treating.{repeated}
 use Rattle.cps_pass.specs.Meaning.{statement}
 use Rattle.cps_pass.specs.Opened.{lines_of}
 use Rattle.cps_pass.specs.Taking.{HandsOn, Walks}
-use Rattle.cps_pass.proofs.WalkLemmas.{walked, cut, begins-as, obeys-as, walks-as, opened-some, opened-none, turned, body-as, no-turn}
+use Rattle.cps_pass.proofs.WalkLemmas.{walked, cut, begins-as, obeys-as, walks-as, opened-some, opened-none, one-turn, body-as, no-turn}
 use Rattle.cps_pass.proofs.expansion.+expansion.Goals as goal
 use Rattle.cps_pass.proofs.expansion.+expansion.Goals.{go_through-in-Some+in_ok-expand+else-not-branch-2, go_through-in_default}
 
@@ -61,7 +61,7 @@ expand-loop-turn-preserved g t c = λ next rest.
     let lines = c.args.opened.now.lines.items in
     let walks : Walks (walk (body (too_deep - depth)) depth c.loop-turn.scope lines) true c.go_through.new.scope f c.loop-turn.recorder c.go_through.new.recorder =
     walks-as (body (too_deep - depth)) depth c.loop-turn.scope c.go_through.new.scope c.deref.result.now lines c.in_ok-go_through.field-0 true f c.loop-turn.recorder c.go_through.new.recorder c.deref.ensures.value c.if-not-branch.false c.in_ok-go_through.ensures in
-    sym (turned (body (too_deep - depth)) depth c.args.opened.now.times c.loop-turn._turn lines c.loop-turn.scope c.go_through.new.scope true f c.loop-turn.recorder c.go_through.new.recorder c.loop-turn-test.true walks next rest)
+    sym (one-turn (body (too_deep - depth)) depth c.args.opened.now.times c.loop-turn._turn lines c.loop-turn.scope c.go_through.new.scope true f c.loop-turn.recorder c.go_through.new.recorder c.loop-turn-test.true walks next rest)
     ∙ c.loop-turn.invariant next rest
 
 pub expand-returns-then-not-branch : goal.expand-returns-then-not-branch
@@ -73,7 +73,7 @@ expand-returns-then-not-branch g t c = λ rest.
     walks-as (body (too_deep - depth)) depth c.loop-turn.scope c.go_through.new.scope c.deref.result.now lines c.in_ok-go_through.field-0 false f c.loop-turn.recorder c.go_through.new.recorder c.deref.ensures.value c.if-not-branch.true c.in_ok-go_through.ensures in
     body-as depth (repeated c.args.opened.now.times lines) f c.args.recorder.now (omega arith) rest
     ∙ sym (c.loop-turn.invariant ended rest)
-    ∙ turned (body (too_deep - depth)) depth c.args.opened.now.times c.loop-turn._turn lines c.loop-turn.scope c.go_through.new.scope false f c.loop-turn.recorder c.go_through.new.recorder c.loop-turn-test.true walks ended rest
+    ∙ one-turn (body (too_deep - depth)) depth c.args.opened.now.times c.loop-turn._turn lines c.loop-turn.scope c.go_through.new.scope false f c.loop-turn.recorder c.go_through.new.recorder c.loop-turn-test.true walks ended rest
 
 pub expand-returns : goal.expand-returns
 expand-returns g t c = λ rest.

@@ -6,7 +6,7 @@ use Rattle.cps_state.specs.Course.{◌before◌, fill}
 use Rattle.cps_state.specs.Flags.{joined}
 use Rattle.cps_state.specs.Keys.{most_ranges}
 use Rattle.cps_state.specs.Made.{nothing_made}
-use Rattle.cps_pass.specs.Ranges.{beginning, test_flags}
+use Rattle.cps_pass.specs.Ranges.{beginning_range, test_flags}
 use Rattle.cps_pass.proofs.ScopeLemmas.{handed-flagged, handed-else}
 use Rattle.cps_pass.proofs.ranges.open.Goals as goal
 
@@ -16,7 +16,7 @@ returns g c =
     let scope = c.args.scope.now in
     let ranges = c.args.others.now in
     let test = c.args.test in
-    let part = beginning c.args.front.control scope test.holds ranges in
+    let part = beginning_range c.args.front.control scope test.holds ranges in
     let flags = test_flags c.args.front.location test in
     handed-else (nat_le most_ranges (length ranges)) (λ next. fill (nothing_made (record flags { structure = true })) before next scope)
     (λ next. part (λ later. fill (nothing_made flags) before next later)) c.begin_range.new.scope state c.args.recorder.now c.flag-2.new.recorder

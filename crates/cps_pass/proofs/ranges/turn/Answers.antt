@@ -11,7 +11,7 @@ use Rattle.cps_state.specs.Made.{nothing_made}
 use Rattle.cps_reading.specs.declared.reading.Location.{Location}
 use Rattle.cps_effect.specs.Located.{present_flags}
 use Rattle.cps_pass.specs.declared.scope.Scope.{Scope}
-use Rattle.cps_pass.specs.Ranges.{turned}
+use Rattle.cps_pass.specs.Ranges.{turned_round}
 use Rattle.cps_pass.specs.Scope.{going_by, putting_ranges}
 use Rattle.cps_pass.proofs.ScopeLemmas.{handed-flagged}
 use Rattle.cps_pass.proofs.ranges.turn.Goals as goal
@@ -26,7 +26,7 @@ turning control scope location left next =
     putting_ranges scope left (λ within. going_by control within skipped (λ later. fill (nothing_made (present_flags location)) before next later))
 
 turned-first : (control : Control) (scope : Scope) (location : Location) (ranges others : List Range) → 1 ≤ length ranges → get_or ranges 0 BeforeElse ≡ BeforeElse
-    → others ≡ take (length ranges - 1) (drop 1 ranges) → turning control scope location others ≡ turned control scope location ranges
+    → others ≡ take (length ranges - 1) (drop 1 ranges) → turning control scope location others ≡ turned_round control scope location ranges
 turned-first control scope location [] others some first is = absurd (omega (arith, some))
 turned-first control scope location (BeforeElse ∷ ranges) others some first is =
     ap (turning control scope location) (is ∙ take_all (length (BeforeElse ∷ ranges) - 1) ranges (omega (arith)))

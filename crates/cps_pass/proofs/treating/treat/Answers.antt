@@ -23,19 +23,19 @@ returns-in_ok-resume-in-Resumes g c = λ behind rest.
     ∙ ap (λ (flags : Flags). runs (behind later [] rest) f (line_filled c.resume.new.recorder (nothing_made flags))) (sym c.present_flags.ensures)
     ∙ ap (λ r. runs (behind later [] rest) f r) (sym c.flag-in-Resumes.ensures))
 
-pub returns-in_ok-define-in-Defines : goal.returns-in_ok-define-in-Defines
-returns-in_ok-define-in-Defines g c = λ behind rest.
+pub returns-in_ok-define_macro-in-Defines : goal.returns-in_ok-define_macro-in-Defines
+returns-in_ok-define_macro-in-Defines g c = λ behind rest.
     let f = g.L.Lookup.answer in
-    let later = c.define.new.scope in
-    rw c.in-Defines.is (c.in_ok-define-in-Defines.ensures (λ there. flagging (present_flags c.in-Defines.location) there (opens_nothing behind)) rest
-    ∙ ap (λ (flags : Flags). runs (behind later [] rest) f (line_filled c.define.new.recorder (nothing_made flags))) (sym c.present_flags-in-Defines.ensures)
+    let later = c.define_macro.new.scope in
+    rw c.in-Defines.is (c.in_ok-define_macro-in-Defines.ensures (λ there. flagging (present_flags c.in-Defines.location) there (opens_nothing behind)) rest
+    ∙ ap (λ (flags : Flags). runs (behind later [] rest) f (line_filled c.define_macro.new.recorder (nothing_made flags))) (sym c.present_flags-in-Defines.ensures)
     ∙ ap (λ r. runs (behind later [] rest) f r) (sym c.flag-in-Defines.ensures))
 
 pub returns-in_ok-lines-in-Opens-2 : goal.returns-in_ok-lines-in-Opens-2
 returns-in_ok-lines-in-Opens-2 g c = λ behind rest.
     let f = g.L.Lookup.answer in
     let body = c.in-Opens.body in
-    rw c.in-Opens.is (taken-filled (taking_body c.args.passing.control c.args.scope.now body.kept.lines) c.in_ok-lines-in-Opens.lines.items (lines_of c.open.result)
+    rw c.in-Opens.is (taken-filled (taking_body c.args.passing.control c.args.scope.now body.kept.lines) c.in_ok-lines-in-Opens.lines.items (lines_of c.open_lines.result)
     (λ lines. repeated body.times (lines ++ last_line c.in-Opens.with_line c.args.passing.text.now)) c.take_body.new.scope (nothing_made c.in-Opens.flags) f
     c.args.recorder.now c.take_body.new.recorder c.flag-in-Opens.new.recorder c.in_ok-lines-in-Opens.ensures c.flag-in-Opens.ensures
-    (c.open.ensures ∙ ap (λ (lines : List (List ℕ)). repeated body.times lines) c.in_ok-lines-in-Opens-2.ensures) behind rest)
+    (c.open_lines.ensures ∙ ap (λ (lines : List (List ℕ)). repeated body.times lines) c.in_ok-lines-in-Opens-2.ensures) behind rest)

@@ -1,7 +1,7 @@
 use Rattle.std.proofs.Common.{arith, ◌≡◌, ℕ, zero, suc, List, [], length, sym, ap, ◌∙◌, refl}
 use Rattle.std.proofs.lemmas.List.{nil_from_length}
 use Rattle.cps_pass.specs.Treating.{repeated}
-use Rattle.cps_pass.proofs.treating.open.Goals as goal
+use Rattle.cps_pass.proofs.treating.open_lines.Goals as goal
 
 -- no lines, however often
 repeated-none : (times : ℕ) → repeated times [] ≡ []
