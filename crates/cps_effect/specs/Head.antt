@@ -1,4 +1,4 @@
--- The head of a program: IDENT, ABS, PERIPH and BASE. From the manual's descriptions of these statements; what ends the head is our profile's.
+-- Leaving the head of a program, and IDENT, ABS, PERIPH and BASE. From the manual's descriptions of these statements; what ends the head is our profile's.
 use Rattle.std.specs.Prelude.{Bool, true, false, not, ◌||◌, Option, None, Some, is_none, if◌then◌else◌}
 use Rattle.cps_text.specs.declared.name.Name.{Name}
 use Rattle.cps_expr.specs.declared.machine.Machine.{Machine}

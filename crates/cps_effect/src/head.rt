@@ -1,4 +1,4 @@
-//! The head of a program: IDENT, ABS, PERIPH and BASE.
+//! Leaving the head of a program, and IDENT, ABS, PERIPH and BASE.
 ghost use Rattle.std.specs.Prelude.{◌≡◌, Option, Some, OnOk, IfOk};
 ghost use Rattle.cps_state.specs.Line.{Does, Hands, line_put};
 ghost use Rattle.cps_effect.specs.Head as head;

@@ -196,7 +196,7 @@ fn assemble_as<L: Lookup>(
     obey_stating(recorder, front, scope, tail, stating)
 }
 
-/// Whether a statement may stand in the head of a program.
+/// Whether a statement stays in the head of a program, which all others end.
 fn stays_in_head(stating: &Stating) -> bool
     ensures { result ≡ meaning.stays_in_head stating.now }
 {
