@@ -36,7 +36,7 @@ after_head (Head head) = Body
 after_head Body = Body
 after_head AfterEnd = AfterEnd
 
--- the control behind a statement that ends the head
+-- the control after a statement that ends the head
 abbrev pub in_body : Control → Control
 in_body control = record control { phase = after_head control.phase }
 

@@ -44,7 +44,7 @@ here_at block at = record { block = block; offset = pos (at / 60) }
 abbrev pub asking_place : Control → (Place → Part) → Part
 asking_place control next = asking (key.Counter control.block) (λ a. stand control.block before next (place_of control.machine a))
 
--- a block goes on behind so many bits
+-- a block goes on after so many bits
 abbrev pub place_put : Option Name → ℕ → Bool → Put
 place_put block at is_pending = record { key = key.Counter block; answer = answer.Counter (place_at at is_pending) }
 

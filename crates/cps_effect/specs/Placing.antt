@@ -127,6 +127,6 @@ placed_to site start contents is_pending end held =
       held = held;
     })
 
--- contents from a place on, one behind the other
+-- contents from a place on, one after another
 unfoldable pub placed : Site → ℕ → List Content → Bool → Part
 placed site start contents is_pending = holding contents (placed_to site start contents is_pending (end_of site.machine start contents))

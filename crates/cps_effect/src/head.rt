@@ -33,7 +33,7 @@ pub fn enter<L: Lookup>(
     put_control(recorder, Control { phase, ..control })
 }
 
-/// The control behind a statement that ends the head.
+/// The control after a statement that ends the head.
 fn in_body(control: Control) -> Control
     ensures { result ≡ head.in_body control }
 {

@@ -95,7 +95,7 @@ pub fn stand<L: Lookup>(
     Ok(place)
 }
 
-/// A block goes on behind so many bits.
+/// A block goes on after so many bits.
 pub fn go_on<L: Lookup>(
     recorder: &mut Recorder<'_, L>,
     block: Option<Name>,

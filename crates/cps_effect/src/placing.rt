@@ -194,7 +194,7 @@ pub fn pass_limit<L: Lookup>(
     ));
 }
 
-/// Contents, one behind the other.
+/// Contents, one after another.
 #[tactic(auto, unfolding(crate::specs::Placing::placed))]
 pub fn place<L: Lookup>(
     recorder: &mut Recorder<'_, L>,

@@ -43,7 +43,7 @@ module _ {T : Type 0} (eq : T → T → Bool) (laws : IsEquivalence eq) where
       ap (λ (b : Bool). b || list_any (eq y) (filter (λ z. not (eq x z)) ks)) (laws.symm y x ∙ is)
       ∙ any-filter_same (eq y) (λ z. not (eq x z)) true (λ k hit. ap not (laws.symm x k ∙ sym (laws.congr y k x hit) ∙ laws.symm y x ∙ is)) ks
 
-  -- an element that equals the first is left out, and any other goes behind the rest if it isn't there
+  -- an element that equals the first is left out, and any other goes after the rest if it isn't there
   after_first : (x y : T) (ks : List T) (same : Bool) → eq x y ≡ same → (there : Bool) → list_any (eq y) ks ≡ there
       → x ∷ others x (if there then ks else ks ++ y ∷ []) ≡ insert_key eq (x ∷ others x ks) y
   after_first x y ks true is true found = first_is x y ks is

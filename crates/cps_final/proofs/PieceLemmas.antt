@@ -35,7 +35,7 @@ behind-in-word : (machine : Machine) (at width : ℕ) → behind machine at widt
 behind-in-word Cp at width = omega (arith)
 behind-in-word Pp at width = omega (arith)
 
--- behind a content there is room for the others
+-- after a content there is room for the others
 room-behind : (machine : Machine) (at : ℕ) (content : Content) (contents : List Content) → HaveRoom machine at (content ∷ contents)
     → HaveRoom machine (behind machine at (width_of content)) contents
 room-behind machine at content contents room = record {

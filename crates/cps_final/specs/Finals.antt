@@ -1,4 +1,4 @@
--- Final values: what stands behind the last line of a source, with blocks at their final addresses. From the manual's sections on the two
+-- Final values: what stands after the last line of a source, with blocks at their final addresses. From the manual's sections on the two
 -- passes, on blocks, on SET and on literals; a final value beyond the range of expressions is none, as everywhere.
 use Rattle.std.specs.Prelude.{◌≡◌, ℕ, ◌+◌, nat_eq, Bool, List, [], ◌∷◌, length, take, position, pos, ◌+ℤ◌, nat_abs, Option, None, Some, option_map, option_and_then}
 use Rattle.std.specs.List.{sum_by}
@@ -25,7 +25,7 @@ abbrev pub program_of : List Trace → Option Name
 program_of [] = None
 program_of (trace ∷ traces) = option_or (first_program trace.items) (program_of traces)
 
--- what stands behind the last line, the blocks, the pool of literals, and the program's name
+-- what stands after the last line, the blocks, the pool of literals, and the program's name
 pub record Finals : Type 0 where
   pub state : State
   pub layout : Layout
@@ -48,7 +48,7 @@ Gathers finals traces = finals ≡ finals_of traces
 abbrev pub machine_of : Finals → Machine
 machine_of finals = (control_of (finals.state key.Control)).machine
 
--- whether a range is open behind the last line, or lines are skipped or kept
+-- whether a range is open after the last line, or lines are skipped or kept
 abbrev pub is_open_at_end : Finals → Bool
 is_open_at_end finals = is_open finals.state
 

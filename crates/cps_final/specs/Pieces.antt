@@ -13,7 +13,7 @@ use Rattle.cps_state.specs.Made.{Made, width_of, end_of}
 use Rattle.cps_final.specs.Places.{with_places}
 use Rattle.cps_final.specs.Values.{Resolved, Standing, standing_of, number_of}
 
--- `width` bits of a number from a place on, which may reach into the next words: those of them in the word that comes `later` words behind
+-- `width` bits of a number from a place on, which may reach into the next words: those of them in the word that comes `later` words on
 abbrev pub piece_in : Machine → ℕ → ℕ → ℕ → ℕ → Piece
 piece_in machine at width number later =
     let word = later * bits_of machine in

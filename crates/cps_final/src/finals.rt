@@ -17,7 +17,7 @@ use cps_text::Name;
 use indexmap::IndexSet;
 use std::alloc::{AllocError, Global};
 
-/// What stands behind the last line of a source: its symbols, where its blocks and literals stand, and its name.
+/// What stands after the last line of a source: its symbols, where its blocks and literals stand, and its name.
 #[derive(Drop)]
 pub struct Finals {
     alloc: Global,
@@ -81,7 +81,7 @@ impl Finals {
         Ok(())
     }
 
-    /// What stands behind the last line.
+    /// What stands after the last line.
     pub fn state(&self) -> &State
         ensures { ⟦<State as Lookup>⟧.answer result.now ≡ (⟦<Finals as Gathered>⟧.gathered self.now).state }
     {
@@ -95,7 +95,7 @@ impl Finals {
         control_of(self.state.ask(&Key::Control)).machine
     }
 
-    /// Whether a range is open behind the last line, or lines are skipped or kept.
+    /// Whether a range is open after the last line, or lines are skipped or kept.
     pub fn is_open_at_end(&self) -> bool
         ensures { result ≡ is_open_at_end (⟦<Finals as Gathered>⟧.gathered self.now) }
     {

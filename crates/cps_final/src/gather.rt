@@ -35,21 +35,21 @@ impl Gather {
         self.finals.add(trace)
     }
 
-    /// What stands behind the lines so far.
+    /// What stands after the lines so far.
     pub fn finals(&self) -> &Finals
         ensures { ⟦<Finals as Gathered>⟧.gathered result.now ≡ ⟦<Gather as Gathered>⟧.gathered self.now }
     {
         &self.finals
     }
 
-    /// What stands at each key behind the lines so far.
+    /// What stands at each key after the lines so far.
     pub fn state(&self) -> &State
         ensures { ⟦<State as Lookup>⟧.answer result.now ≡ (⟦<Gather as Gathered>⟧.gathered self.now).state }
     {
         self.finals.state()
     }
 
-    /// What stands behind the last line. Takes no memory.
+    /// What stands after the last line. Takes no memory.
     pub fn finish(self) -> Result<Finals, AllocError>
         ensures finals { IfOk result (λ finals. ⟦<Finals as Gathered>⟧.gathered finals ≡ ⟦<Gather as Gathered>⟧.gathered self) }
         ensures succeeds { IsOk result }

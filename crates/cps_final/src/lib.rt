@@ -1,4 +1,4 @@
-//! Pass two: what stands behind the last line of a source, and what each line makes there.
+//! Pass two: what stands after the last line of a source, and what each line makes there.
 #![tactic(auto)]
 
 mod blocks;

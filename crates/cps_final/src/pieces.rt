@@ -119,7 +119,7 @@ fn push_zeros(pieces: &mut Vec<Piece>, base: u64, made: &Made) -> Result<(), All
     push_placed(pieces, machine, base, zeros)
 }
 
-/// The contents, one behind the other.
+/// The contents, one after another.
 fn push_contents(
     pieces: &mut Vec<Piece>,
     made: &Made,

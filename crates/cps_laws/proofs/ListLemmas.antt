@@ -14,7 +14,7 @@ use Rattle.cps_laws.specs.CourseLaws.{entry_of, own_entry}
 
 -- ---- the limits, one statement at a time
 
--- behind so many statements, one of these is too much
+-- after so many statements, one of these is too much
 abbrev pub drops : ℕ → List Entry → Bool
 drops count [] = false
 drops count (entry ∷ entries) = if too_much count entry.depth then true else drops (count + 1) entries

@@ -12,7 +12,7 @@ pub record Entry : Type 0 where
 
 -- ---- the list
 
--- the statements that a course begins behind what was done before, in order, as if none were too much
+-- the statements that a course begins after what was done before, in order, as if none were too much
 abbrev pub listed : Course → State → Running → List Entry
 listed stop state running = []
 listed (ask k next) state running = listed (next (answer_at state running k)) state (with_ask state running k)

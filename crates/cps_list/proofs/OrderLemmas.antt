@@ -34,7 +34,7 @@ same-is a b same = name_is a b ((Equal-is (name_order a b)).0 (sym (same-tied a 
 pub same-itself : (a : Name) → same_name a a ≡ true
 same-itself a = same-tied a a ∙ ap is_eq (tied_itself name_total a)
 
--- a name that stands behind another is not the same
+-- a name that stands after another is not the same
 pub same-not : (a b : Name) → name_order a b ≡ Less → same_name b a ≡ false
 same-not a b below = same-tied b a ∙ ap is_eq (name_total.antisymm b a ∙ ap ordering_reverse below)
 

@@ -1,4 +1,4 @@
--- The first symbol of mentions that stand in the order of their names, and those behind it.
+-- The first symbol of mentions that stand in the order of their names, and those after it.
 use Rattle.std.proofs.Common.{◌≡◌, ℕ, zero, suc, ◌+◌, ◌≤◌, Bool, true, false, true≢false, cond, ◌||◌, refl, sym, ap, subst, ◌∙◌, List, [], ◌∷◌, ◌++◌, length, get_or, take, drop, ◌<◌, arith}
 use Rattle.std.specs.Prelude.{map, flat_map, Option, None, Some, is_some, slice_get}
 use Rattle.std.specs.declared.cmp.Ordering.{Ordering}
@@ -19,7 +19,7 @@ use Rattle.cps_list.specs.declared.mention.Mention.{Mention}
 use Rattle.cps_list.specs.Symbols.{mentions_of, name_order, symbol_set, symbols_in, row_of, symbol_rows, defining_line}
 use Rattle.cps_list.proofs.OrderLemmas.{name_total, name_is, entry, found-any, same-is, same-itself, same-not, same-tied, above-tied, Rising, Above, NotBelow, above-first}
 
--- ---- the mentions of the first name, and those behind them
+-- ---- the mentions of the first name, and those after them
 
 abbrev pub is_of : Name → Mention → Bool
 is_of n m = same_name m.name n
@@ -56,7 +56,7 @@ rising-behind n (m ∷ ms) rising = elim (same_name m.name n) as (λ b. Rising (
   | false ↦ rising
 ]
 
--- the names behind are above
+-- the names after it are above
 above-behind : (n : Name) (ms : List Mention) → NotBelow n ms → Rising ms → Above n (behind n ms)
 above-behind n [] first rising = tt
 above-behind n (m ∷ ms) first rising = elim (same_name m.name n) as (λ b. same_name m.name n ≡ b → Above n (cond b (behind n ms) (m ∷ ms))) [
@@ -80,7 +80,7 @@ mentions-first n (m ∷ ms) first rising =
       | false ↦ λ other. none-above n ms (above-first n m ms first other rising).1
     ] refl
 
--- those of a name above stand behind
+-- those of a name above stand after its own
 mentions-above : (n x : Name) (ms : List Mention) → name_order n x ≡ Less → mentions_of x ms ≡ mentions_of x (behind n ms)
 mentions-above n x [] above = refl
 mentions-above n x (m ∷ ms) above =
@@ -150,7 +150,7 @@ rows-alike f g (n ∷ names) same =
     (λ i. here i ++ flat_map f names)
     ∙ ap (λ rows. g n ++ rows) (rows-alike f g names (λ x any. same x (ap (λ b. eq_by_cmp name_order x n || b) any ∙ or-true _)))
 
--- the row of the first name, and the rows of those behind it
+-- the row of the first name, and the rows of those after it
 pub rows-first : (finals : Finals) (m : Mention) (ms : List Mention) → Rising (m ∷ ms)
     → symbol_rows finals (m ∷ ms) ≡ row_of finals m.name (leading m.name (m ∷ ms)) ++ symbol_rows finals (behind m.name ms)
 rows-first finals m ms rising =
@@ -170,7 +170,7 @@ rows-first finals m ms rising =
     ∙ ap (λ rows. row_of finals n (leading n (m ∷ ms)) ++ rows) (rows-alike _ _ (symbols_in later) (λ x any.
     ap (row_of finals x) (mentions-above n x (m ∷ ms) (all_above x any) ∙ ap (mentions_of x) skip)))
 
--- what stands behind the first name, counted from the first mention on
+-- what stands after the first name, counted from the first mention on
 pub behind-first : (m : Mention) (ms : List Mention) → behind m.name (m ∷ ms) ≡ behind m.name ms
 behind-first m ms = ap (λ b. cond b (behind m.name ms) (m ∷ ms)) (same-itself m.name)
 

@@ -12,7 +12,7 @@ use Rattle.cps_list.specs.Binary.{pieces_in}
 use Rattle.cps_list.specs.Symbols.{mentions_from, mentions_on}
 use Rattle.cps_list.specs.Flagged.{flag_rows_from, flag_row, flagged_in, count_if}
 
--- the element at a place, with those behind it and those before
+-- the element at a place, with those after it and those before
 pub drop-next : {A : Type 0} (xs : List A) (i : ℕ) (x : A) → slice_get xs i ≡ Some x → drop i xs ≡ x ∷ drop (suc i) xs
 drop-next [] i x is = cc
 drop-next (y ∷ xs) zero x is = ap (λ e. e ∷ xs) (same_Some y x is)

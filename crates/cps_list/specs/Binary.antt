@@ -1,4 +1,4 @@
--- The binary text: the program's name, and each word in octal behind its address. The words are those of all lines, and the literal pool
+-- The binary text: the program's name, and each word in octal after its address. The words are those of all lines, and the literal pool
 -- over them, from the manual's section on literals; the layout is our profile's.
 use Rattle.std.specs.Prelude.{ℕ, ◌/◌, ◌%◌, ◌^◌, List, [], ◌++◌, codes, flat_map, Option, None, Some}
 use Rattle.std.specs.List.{range_with_len}

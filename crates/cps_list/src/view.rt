@@ -4,7 +4,7 @@ ghost use Rattle.std.specs.Prelude.{◌≡◌, ◌-◌, ◌≤◌, ◌↔◌, le
 use cps_final::{Finals, Gathered, Outcome};
 use cps_text::Line;
 
-/// An assembled source: its lines, what pass two makes of each, what stands behind the last, and whether a range is
+/// An assembled source: its lines, what pass two makes of each, what stands after the last, and whether a range is
 /// open there. Lines count from 1. No call takes memory.
 pub trait View {
     ghost use Rattle.std.specs.Prelude.{◌≡◌, ◌-◌, ◌≤◌, ◌↔◌, length, slice_get, Some, IsSome, IfSome};
@@ -27,11 +27,11 @@ pub trait View {
         ensures there { IsSome result ↔ ((1 ≤ n) × (n ≤ length (assembly self.now).outcomes)) }
         ensures outcome { IfSome result (λ outcome. slice_get (assembly self.now).outcomes (n - 1) ≡ Some outcome.now) };
 
-    /// What stands behind the last line.
+    /// What stands after the last line.
     fn finals(&self) -> &Finals
         ensures { ⟦<Finals as Gathered>⟧.gathered result.now ≡ (assembly self.now).finals };
 
-    /// Whether a range is open behind the last line, or lines are skipped or kept.
+    /// Whether a range is open after the last line, or lines are skipped or kept.
     fn open_at_end(&self) -> bool
         ensures { result ≡ (assembly self.now).is_open };
 }

@@ -29,7 +29,7 @@ pub traces_from-length : (s : State) (lines : List (List ℕ)) → length (trace
 traces_from-length s [] = refl
 traces_from-length s (line ∷ lines) = ap (λ n. suc n) (traces_from-length (after s line) lines)
 
--- ---- the state behind lines is what their puts leave
+-- ---- the state after lines is what their puts leave
 
 overwritten-append : (s : State) (puts more : List Put) → overwritten s (puts ++ more) ≡ overwritten (overwritten s puts) more
 overwritten-append s [] more = refl
@@ -50,7 +50,7 @@ pub empty-finals : (kept : Assembled) → kept ≡ assembled_of [] → kept.fina
 unfolding assembled_behind
 empty-finals kept is = ap (λ (a : Assembled). a.finals) is
 
--- no line behind others
+-- no line after others
 pub none-behind : (traces : List Trace) (done : Finals) (front : List Trace) (before : List (List ℕ)) → traces ≡ [] → done ≡ finals_of front → front ≡ traces_of before
     → record { traces = traces; finals = done } ≡ assembled_behind before []
 unfolding assembled_behind
@@ -93,11 +93,11 @@ pub front-kept : (kept : Assembled) (lines : List (List ℕ)) (keep : ℕ) (fron
 unfolding assembled_behind
 front-kept kept lines keep front is first = first ∙ ap (λ (a : Assembled). take keep a.traces) is ∙ traces_from-take first_state lines keep
 
--- traces that are the same, as behind a refusal
+-- traces that are the same, as after a refusal
 pub same-assembled : (old : Assembled) (traces : List Trace) → traces ≡ old.traces → record { traces = traces; finals = old.finals } ≡ old
 same-assembled old traces same = λ i. record old { traces = same i }
 
--- later lines behind the first ones of a source
+-- later lines after the first ones of a source
 pub put-behind : (old later : Assembled) (keep : ℕ) (lines more : List (List ℕ)) (traces : List Trace) (finals : Finals)
     → old ≡ assembled_of lines → later ≡ assembled_behind (take keep lines) more → traces ≡ take keep old.traces ++ later.traces
     → finals ≡ later.finals → record { traces = traces; finals = finals } ≡ assembled_of (take keep lines ++ more)

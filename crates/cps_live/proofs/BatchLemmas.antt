@@ -29,7 +29,7 @@ source-more lines line source is_line few = record {
   few = omega (arith, length-append lines (line ∷ []));
 }
 
--- a line that no source may have, behind lines that one may have
+-- a line that no source may have, after lines that one may have
 pub wrong-here : (lines : List (List ℕ)) (line : List ℕ) (fault : BatchFault) (number : ℕ) → IsSource lines → number ≡ length lines + 1 → IsWrong number line fault
     → IsFirstWrong (lines ++ line ∷ []) fault
 wrong-here lines line fault number source is wrong = record {
@@ -41,7 +41,7 @@ wrong-here lines line fault number source is wrong = record {
   wrong = subst (λ n. IsWrong n line fault) is wrong;
 }
 
--- what comes behind it doesn't matter
+-- what comes after it doesn't matter
 pub wrong-before : (lines : List (List ℕ)) (line : List ℕ) (fault : BatchFault) → IsFirstWrong lines fault → IsFirstWrong (lines ++ line ∷ []) fault
 wrong-before lines line fault first = record {
   front = first.front;

@@ -16,7 +16,7 @@ pub record Rows : Type 0 where
   pub lines : List (List ℕ)
   pub outcomes : List Outcome
 
--- of lines that stand behind others
+-- of lines that stand after others
 unfoldable pub assembled_behind : List (List ℕ) → List (List ℕ) → Assembled
 assembled_behind front lines = record {
   traces = traces_from (state_after first_state front) lines;

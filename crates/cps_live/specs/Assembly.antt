@@ -1,5 +1,5 @@
 -- Two-pass assembly of a source. Pass one is a fold over its lines: the state before each line, and what the line asks, puts and
--- makes there. Pass two gives the rows and the bits of each line, where everything that can be named has the value that it has behind the last line.
+-- makes there. Pass two gives the rows and the bits of each line, where everything that can be named has the value that it has after the last line.
 -- From the manual's section on the two passes.
 use Rattle.std.specs.Prelude.{ℕ, Bool, List, [], ◌∷◌, map}
 use Rattle.cps_state.specs.Keys.{State, first_state, overwritten}
@@ -11,11 +11,11 @@ use Rattle.cps_list.specs.Assembly.{Assembly}
 
 -- ---- pass one
 
--- the state behind a line
+-- the state after a line
 abbrev pub after : State → List ℕ → State
 after state line = overwritten state (trace_of line state).puts
 
--- the state behind some lines
+-- the state after some lines
 abbrev pub state_after : State → List (List ℕ) → State
 state_after state [] = state
 state_after state (line ∷ lines) = state_after (after state line) lines

@@ -14,7 +14,7 @@ carriage_return = slice_index (codes "\r") 0
 abbrev pub has_no_newline : List ℕ → Bool
 has_no_newline line = list_all (λ byte. not (byte == newline)) line
 
--- bytes cut at their newlines: the lines that end with one, and what stands behind the last
+-- bytes cut at their newlines: the lines that end with one, and what stands after the last
 pub record Splits (bytes : List ℕ) (lines : List (List ℕ)) (rest : List ℕ) : Type 0 where
   pub whole : bytes ≡ flat_map (λ line. line ++ newline ∷ []) lines ++ rest
   pub each : list_all has_no_newline lines ≡ true

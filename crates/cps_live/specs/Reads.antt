@@ -8,7 +8,7 @@ use Rattle.cps_text.specs.Counted.{inner_of, calls_of, failures_of, idle_of, rai
 abbrev pub most_reads : ℕ
 most_reads = 16777216
 
--- Reading ended before the input did: the read behind these bytes failed; or none failed, and each of the most reads gave a byte.
+-- Reading ended before the input did: the read after these bytes failed; or none failed, and each of the most reads gave a byte.
 abbrev pub EndsEarly : {R : Type 0} → Counted R → Counted R → List ℕ → Type 0
 EndsEarly old new taken =
     (FailsOnce old new × LastReadGave old new taken [])

@@ -55,7 +55,7 @@ impl Assembled {
         }
     }
 
-    /// Of no line behind lines that did this in pass one.
+    /// Of no line after lines that did this in pass one.
     fn behind(alloc: Global, front: &[Trace]) -> Result<Assembled, AllocError>
         ensures { IfOk result (λ assembled. (before : List (List ℕ)) → front.now ≡ traces_of before → ⟦<Assembled as Keeps>⟧.assembled assembled ≡ assembled_behind before []) }
     {
@@ -84,7 +84,7 @@ impl Assembled {
         Pages::new(alloc, lines, self.traces.as_slice(), self.gather.finals())
     }
 
-    /// How many of the lines have a flag, and one more if a range is open behind them. Takes no memory.
+    /// How many of the lines have a flag, and one more if a range is open after them. Takes no memory.
     pub fn flagged(&self) -> u32
         requires { length (⟦<Assembled as Keeps>⟧.assembled self.now).traces ≤ MOST_LINES }
         ensures { (lines : List (List ℕ)) → ⟦<Assembled as Keeps>⟧.assembled self.now ≡ assembled_of lines → result ≡ flagged_in lines }
@@ -144,7 +144,7 @@ impl Assembled {
         Ok(())
     }
 
-    /// Keeps the first lines, and takes others behind them in place of the rest; after a refusal nothing is changed.
+    /// Keeps the first lines, and takes others after them in place of the rest; after a refusal nothing is changed.
     pub fn redo(
         &mut self,
         alloc: Global,

@@ -26,7 +26,7 @@ pub const MOST_READS: u64 = 16_777_216;
 const CHUNK: usize = 16_384;
 
 /// Reads a source to the end of the input, assembles it, and writes a part of its texts. It gives the number of lines
-/// that have a flag, and one more if a range is open behind the last.
+/// that have a flag, and one more if a range is open after the last.
 ///
 /// The input is read to its end before anything is said of its lines, and nothing is written before the text is made.
 pub fn batch<R: Read, W: Write>(

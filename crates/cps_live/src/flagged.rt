@@ -7,7 +7,7 @@ ghost use Rattle.cps_live.specs.Assembly.{outcomes_under};
 use cps_final::{Finals, Gathered, flags_under};
 use cps_pass::Trace;
 
-/// How many of these lines have a flag, and one more if a range is open behind them. Takes no memory.
+/// How many of these lines have a flag, and one more if a range is open after them. Takes no memory.
 pub fn flagged_lines(traces: &[Trace], finals: &Finals) -> usize
     ensures count { result
         ≡ flagged_with (is_open_at_end (⟦<Finals as Gathered>⟧.gathered finals.now)) (outcomes_under (⟦<Finals as Gathered>⟧.gathered finals.now) traces.now) }

@@ -11,7 +11,7 @@ use cps_text::Line;
 use std::alloc::Global;
 use std::mem::replace;
 
-/// A source of which some bytes have come: the lines that a newline ended, and the line behind them.
+/// A source of which some bytes have come: the lines that a newline ended, and the line after them.
 #[derive(Drop)]
 pub struct Input {
     pub intake: Intake,

@@ -59,7 +59,7 @@ impl<'a> Rows<'a> {
     }
 }
 
-/// An assembled source: its lines, what pass two makes of each, and what stands behind the last.
+/// An assembled source: its lines, what pass two makes of each, and what stands after the last.
 #[derive(Drop)]
 pub struct Pages<'a> {
     rows: Rows<'a>,

@@ -106,7 +106,7 @@ impl Session {
         self.lines.len() == MOST_LINES
     }
 
-    /// Inserts a line behind line `after`, 0 for the front. A line that is refused is dropped.
+    /// Inserts a line after line `after`, 0 for the front. A line that is refused is dropped.
     pub fn insert(&mut self, after: u32, line: Line, work: &mut Work) -> Result<(), EditFault>
         ensures ok { OnOk result (self.new.lines ≡ insert self.old.lines after line) }
         ensures allowed { OnOk result ((after ≤ length self.old.lines) × (length self.old.lines < MOST_LINES)) }
@@ -193,7 +193,7 @@ impl Session {
         self.put_at(at as usize - 1, line, work)
     }
 
-    /// Puts a line in place of the one behind the first `before`.
+    /// Puts a line in place of the one after the first `before`.
     fn put_at(&mut self, before: usize, line: Line, work: &mut Work) -> Result<(), EditFault>
         requires { before < length self.old.lines }
         ensures ok { OnOk result (self.new.lines ≡ slice_set self.old.lines before line) }
@@ -228,7 +228,7 @@ impl Session {
         self.cut(first as usize - 1, last as usize, work)
     }
 
-    /// Deletes the lines behind the first `from`, up to the first `to`.
+    /// Deletes the lines after the first `from`, up to the first `to`.
     fn cut(&mut self, from: usize, to: usize, work: &mut Work) -> Result<(), EditFault>
         requires forwards { from ≤ to }
         requires within { to ≤ length self.old.lines }

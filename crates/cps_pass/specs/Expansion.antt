@@ -25,7 +25,7 @@ keeps_lines (Expansion own) = is_dup_body own.mode
 abbrev pub ended : Scope → Part
 ended scope = if keeps_lines scope then mark (record no_flags { structure = true }) else nothing
 
--- ---- statements one behind the other, each followed by those that it opens, one deeper
+-- ---- statements one after another, each followed by those that it opens, one deeper
 
 abbrev pub walk : (ℕ → List (List ℕ) → Part) → ℕ → Scope → List (List ℕ) → (Scope → Part) → Part
 walk nested depth scope [] next = next scope

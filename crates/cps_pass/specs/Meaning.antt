@@ -150,7 +150,7 @@ in_mode control scope text (SkipRange skip) behind = treated control scope (Skip
 in_mode control scope text (KeepMacro body) behind = treated control scope (KeepMacro body) text (kept_for_macro body (seen_in (card_in text))) behind
 in_mode control scope text (KeepDup body) behind = treated control scope (KeepDup body) text (kept_for_dup body body.extent (seen_in (card_in text))) behind
 
--- ---- END, and what stands behind it
+-- ---- END, and what stands after it
 
 -- the location field of END on a source line
 abbrev pub end_location : StatementFields → Option Operation → Option Location
@@ -177,6 +177,6 @@ in_phase control mode scope text (Head head) behind = before_end control mode sc
 in_phase control mode scope text Body behind = before_end control mode scope text (end_in scope (card_in text)) behind
 in_phase control mode scope text AfterEnd behind = after_end (card_in text) before opens_nothing behind scope
 
--- a statement, and then what is behind it: where it stands by then, and the statements that it opens
+-- a statement, and then what is after it: where it stands by then, and the statements that it opens
 abbrev pub statement : Scope → List ℕ → Behind → Part
 statement scope text behind = asking key.Control (λ a. in_phase (control_of a) (mode_of a) scope text (control_of a).phase behind)

@@ -164,7 +164,7 @@ fn beginning() -> Place {
     }
 }
 
-/// Puts a statement's code into the words. Gives where it begins, and the place behind it.
+/// Puts a statement's code into the words. Gives where it begins, and the place after it.
 fn put(
     rt: &impl Abort,
     words: &mut Words,

@@ -55,7 +55,7 @@ is-last-ask es i d k lt same =
     ap (λ xs. last_ask xs k) (take_more es i d lt) ∙ last_ask-push (take i es) (get_or es i d) k
     ∙ ap (λ b. if b then Some (get_or es i d).answer else last_ask (take i es) k) same
 
--- the same where a place is told by the one behind it
+-- the same where a place is told by the one after it
 back : (n : ℕ) → 0 < n → n ≡ (n - 1) + 1
 back n some = omega (arith, some)
 
@@ -80,7 +80,7 @@ asked-last es e n is = ap (asked_at (es ++ e ∷ [])) is ∙ ap (option_map (λ 
 
 -- ---- an index
 
--- a place stands where it stood, behind one more ask or put
+-- a place stands where it stood, after one more ask or put
 in-more-asks : (es : List Ask) (ps : List APut) (e : Ask) (known : Known) → StandsIn es ps known → StandsIn (es ++ e ∷ []) ps known × (found_in (es ++ e ∷ []) ps known ≡ found_in es ps known)
 in-more-asks es ps e (Asked i) lt = (omega (arith, length-append es (e ∷ []), lt), ap (option_map (λ (a : Ask). a.answer)) (slice_get-front es e i lt))
 in-more-asks es ps e (Put i) lt = (lt, refl)

@@ -1,4 +1,4 @@
--- Places behind contents.
+-- Places after contents.
 use Rattle.std.proofs.Common.{◌≡◌, ℕ, ◌+◌, ◌<◌, ◌≤◌, List, [], ◌∷◌, length, get_or, drop, arith, sym, ap, ◌∙◌}
 use Rattle.std.proofs.lemmas.List.{drop_more, drop_all}
 use Rattle.cps_expr.specs.declared.machine.Machine.{Machine}

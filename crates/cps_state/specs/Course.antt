@@ -30,7 +30,7 @@ pub data Course : Type 0 where
   -- a statement of an expansion begins, at a depth, with a text
   begin : ℕ → List ℕ → Course → Course
 
--- ---- parts: what a line does before what comes behind it
+-- ---- parts: what a line does before what comes after it
 
 abbrev pub Part : Type 0
 Part = Course → Course
@@ -126,11 +126,11 @@ deepest = 10
 abbrev pub most_statements : ℕ
 most_statements = 2000
 
--- a statement is too much at such a depth, or behind so many of its line's expansion
+-- a statement is too much at such a depth, or after so many of its line's expansion
 abbrev pub too_much : ℕ → ℕ → Bool
 too_much count depth = nat_lt deepest depth || not (nat_lt count most_statements)
 
--- what a course leaves behind what came before, and whether all of it was done: it ends before the first statement that is too much
+-- what a course leaves after what came before, and whether all of it was done: it ends before the first statement that is too much
 abbrev pub run : Course → State → Running → Running × Bool
 run stop state running = (running, true)
 run (ask k next) state running = run (next (answer_at state running k)) state (with_ask state running k)

@@ -90,7 +90,7 @@ abbrev pub mode_of : Option Answer → Mode
 mode_of (Some (answer.Control c mode)) = mode
 mode_of _ = Normal
 
--- a place past the machine's words counts as the first bit behind them; a peripheral processor's has no bit used and nothing pending
+-- a place past the machine's words counts as the first bit after them; a peripheral processor's has no bit used and nothing pending
 abbrev pub within_limit : Machine → Place → Place
 within_limit Cp place = if nat_lt (60 * limit Cp) (position place) then place_at (60 * limit Cp) place.is_pending else place
 within_limit Pp place = place_at (60 * min place.word (limit Pp)) false

@@ -10,7 +10,7 @@ abbrev pub limit : Machine → ℕ
 limit Cp = 131072
 limit Pp = 4096
 
--- the place behind so many bits
+-- the place after so many bits
 abbrev pub behind : Machine → ℕ → ℕ → ℕ
 behind Cp at width = at + width
 behind Pp at width = 60 * (at / 60 + (at % 60 + width) / bits_of Pp) + (at % 60 + width) % bits_of Pp

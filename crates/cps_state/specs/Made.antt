@@ -56,7 +56,7 @@ width_of (Value width expression) = width
 width_of (Number width number) = width
 width_of (Unsized expression) = 0
 
--- the place behind contents that stand one behind the other
+-- the place after contents that stand one after another
 abbrev pub end_of : Machine → ℕ → List Content → ℕ
 end_of machine at [] = at
 end_of machine at (content ∷ contents) = end_of machine (behind machine at (width_of content)) contents

@@ -76,7 +76,7 @@ pub fn text_of(answer: Option<&Answer>) -> Result<Shared<u8>, AllocError>
     }
 }
 
-/// A place past the machine's words counts as the one behind them.
+/// A place past the machine's words counts as the one after them.
 pub fn place_of(answer: Option<&Answer>, machine: Machine) -> Place
     ensures place { result ≡ place_of machine (option_copied answer.entry) }
     ensures within { position result ≤ 60 * limit machine }

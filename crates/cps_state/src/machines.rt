@@ -28,7 +28,7 @@ pub fn word_bits(machine: Machine) -> u8
     }
 }
 
-/// The place behind so many bits of a machine's words.
+/// The place after so many bits of a machine's words.
 pub fn behind(machine: Machine, at: u32, width: u8) -> u32
     requires low { at ≤ 60 * machines.limit machine }
     requires few { width ≤ 60 }

@@ -44,7 +44,7 @@ impl Content {
     }
 }
 
-/// The place behind contents that stand one behind the other, None past the machine's words.
+/// The place after contents that stand one after another, None past the machine's words.
 pub fn end_of(machine: Machine, start: u32, contents: &[Content]) -> Option<u32>
     requires start { start ≤ 60 * limit machine }
     requires each { All IsContent contents.now }

@@ -6,7 +6,7 @@ use Rattle.cps_list.specs.declared.part.Part.TheVariants.{Listing, Binary, Symbo
 use Rattle.cps_tool.specs.Request.{answer_of, refuses, request_of, tells}
 use Rattle.cps_tool.specs.declared.request.Request.TheVariants.{Batch, Session}
 
--- a call's words, behind the program's name
+-- a call's words, after the program's name
 abbrev call : List Text → List Text
 call words = codes "compass" ∷ words
 

@@ -4,7 +4,7 @@ use Rattle.std.specs.Str.Parse.{AllDigits, digits_value}
 use Rattle.cps_tool.specs.declared.command.Command.{Command}
 use Rattle.cps_tool.specs.declared.command.Command.TheVariants.{Append, Insert, Replace, Delete, Listing, Binary, Symbols, Flags, Work, Quit}
 
--- what a command asks: a text at the end of the source, behind a line or in place of one, to delete lines, one of the texts,
+-- what a command asks: a text at the end of the source, after a line or in place of one, to delete lines, one of the texts,
 -- the steps of the latest edit, or the script's end
 pub data Order : Type 0 where
   append : List ℕ → Order

@@ -22,9 +22,9 @@ pub enum ScriptFault {
 /// What a line of a script asks.
 #[derive(Clone, Copy, Debug, PartialEq, Eq)]
 pub enum Command<'a> {
-    /// To insert a text behind the last line.
+    /// To insert a text after the last line.
     Append(&'a [u8]),
-    /// To insert a text behind the line of that number, 0 for the front.
+    /// To insert a text after the line of that number, 0 for the front.
     Insert(u32, &'a [u8]),
     /// To put a text in place of the line of that number.
     Replace(u32, &'a [u8]),
@@ -73,7 +73,7 @@ impl<'a> Command<'a> {
     }
 }
 
-/// The command that ends a script or enters a text behind the last line, None where the line spells another or none.
+/// The command that ends a script or enters a text after the last line, None where the line spells another or none.
 fn read_plain(line: &[u8]) -> Option<Command<'_>>
     requires { length line.now ≤ LONGEST_COMMAND }
     ensures order { IfSome result (λ command. Spells line.now (order_of command)) }
@@ -110,7 +110,7 @@ fn read_query(line: &[u8]) -> Option<Command<'_>>
     }
 }
 
-/// The command to insert a text behind a line, None where the line spells another or none.
+/// The command to insert a text after a line, None where the line spells another or none.
 fn read_insert(line: &[u8]) -> Option<Command<'_>>
     requires { length line.now ≤ LONGEST_COMMAND }
     ensures order { MatchOption result

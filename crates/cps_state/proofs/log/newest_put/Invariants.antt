@@ -2,7 +2,7 @@ use Rattle.std.proofs.Common.{◌≡◌, ◌≤◌, length, take}
 use Rattle.cps_state.specs.Course.{last_put}
 use Rattle.cps_state.proofs.log.newest_put.Given as goal
 
--- what stands behind has other keys
+-- what comes after has other keys
 abbrev pub invariant-loop-place : goal.invariant-loop-place
 invariant-loop-place l = record {
   within : l.place ≤ length l.puts;
