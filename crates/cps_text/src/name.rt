@@ -1,9 +1,10 @@
 //! Symbols of the language.
-ghost use Rattle.std.specs.Prelude.{◌≡◌, ◌≤◌, ◌<◌, length, IfSome};
+ghost use Rattle.std.specs.Prelude.{◌≡◌, ◌==◌, ◌≤◌, ◌<◌, length, IfSome};
 ghost use Rattle.std.specs.List.{list_all, position};
 ghost use Rattle.std.specs.Int.{w64, from_le_bytes};
 ghost use Rattle.std.specs.Hash as fed;
-ghost use Rattle.std.specs.Cmp.Rules.{hashing};
+ghost use Rattle.std.specs.Cmp.Lexicographic.{pointwise};
+ghost use Rattle.std.specs.Cmp.Rules.{comparing, hashing};
 ghost use Rattle.std.proofs.Common.{rules};
 ghost use Rattle.cps_text.specs.Symbol.{begins_symbol, continues_symbol, is_register, is_symbol, padded, is_padding};
 ghost use Rattle.cps_text.specs.Text.{capitals};
@@ -15,9 +16,27 @@ use std::hash::{Hash, Hasher};
 const LONGEST: usize = 8;
 
 /// A symbol in capitals: 1 to 8 characters. Names are ordered by their characters.
-#[derive(Clone, Copy, Debug, PartialEq, Eq, PartialOrd, Ord)]
+#[derive(Clone, Copy, Debug, Eq, PartialOrd, Ord)]
 pub struct Name {
     bytes: [u8; LONGEST],
+}
+
+/// Two names are one if their bytes write one number.
+impl PartialEq for Name {
+    ghost eq = { λ a b. pointwise ◌==◌ a.bytes b.bytes };
+
+    ghost laws = { Prim.search (comparing, rules) };
+
+    fn eq(&self, other: &Name) -> bool {
+        is_one(*self, *other)
+    }
+}
+
+/// Whether two names are one.
+fn is_one(left: Name, right: Name) -> bool
+    ensures { result ≡ pointwise ◌==◌ left.bytes right.bytes }
+{
+    u64::from_le_bytes(left.bytes) == u64::from_le_bytes(right.bytes)
 }
 
 /// A name hashes as one number.

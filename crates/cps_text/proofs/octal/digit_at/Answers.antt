@@ -13,6 +13,6 @@ returns-then-others-gt-LAST c =
     let within : c.args.number < 2 ^ (3 * c.args.others) = omega arith in
     let same : 3 * c.args.others ≡ 0 + 3 * c.args.others = omega arith in
     let low : c.args.number / 2 ^ (3 * c.args.others) < 2 ^ 0 =
-        shr_below c.args.number 0 (3 * c.args.others) (subst (λ (k : ℕ). c.args.number < 2 ^ k) same within) in
+    shr_below c.args.number 0 (3 * c.args.others) (subst (λ (k : ℕ). c.args.number < 2 ^ k) same within) in
     let none : c.args.number / 2 ^ (3 * c.args.others) ≡ 0 = omega arith in
     sym (ap (λ n. 48 + n % 8) none)
