@@ -19,15 +19,14 @@ use Rattle.cps_laws.proofs.StandLemmas.{Fits, Mark, ask-fits, asked-stand, fresh
 use Rattle.cps_laws.proofs.StatementStands.{end-fits, here-fits, instruction-fits, leaving-head-fits, obeyed-fits, peripheral-fits, unreadable-fits}
 use Rattle.cps_laws.specs.Standing.{StandsWhereItAsks}
 use Rattle.cps_pass.specs.Keeping.{kept_for_dup, kept_for_macro, no_lines}
-use Rattle.cps_pass.specs.Macros as macros
-use Rattle.cps_pass.specs.Macros.{bound, call_at, calling, labelled, labelling}
-use Rattle.cps_pass.specs.Meaning.{assembled, before_end, behind_end, calling_if, calling_named, card_in, end_in, endm, in_mode, in_phase, macro, obeyed, stated, statement, stays_in_head, unreadable}
-use Rattle.cps_pass.specs.Ranges.{beginning, closed, compared, count_flags, counting, defined, else_of, endif_of, hanging, if_compared, if_defined, line_count, opening, skipping_lines, test_flags, turned}
+use Rattle.cps_pass.specs.Macros.{bound, call_at, calling, calling_with, labelled, labelling}
+use Rattle.cps_pass.specs.Meaning.{assembled, before_end, after_end, calling_if, calling_named, card_in, end_in, endm, in_mode, in_phase, macro, obeyed, stated, statement, stays_in_head, unreadable}
+use Rattle.cps_pass.specs.Ranges.{beginning_range, closed, compared, count_flags, counting, defined, else_of, endif_of, hanging, if_compared, if_defined, line_count, opening, skipping_lines, test_flags, turned_round}
 use Rattle.cps_pass.specs.Repeating.{body_count, dup, repeating, repeating_by, repeating_lines, times_flags, times_in}
 use Rattle.cps_pass.specs.Scope.{Behind, asking_lines, asking_ranges, flagging, going_by, keeping, mode_in, opens_nothing, putting_ranges, taking_body}
 use Rattle.cps_pass.specs.Seen.{seen_in}
-use Rattle.cps_pass.specs.Skipping.{skipped, skipped_line}
-use Rattle.cps_pass.specs.Treating.{changing, defining, keeping_at, last_line, passing, repeated, resuming, treated}
+use Rattle.cps_pass.specs.Skipping.{skipped_in_range, skipped_line}
+use Rattle.cps_pass.specs.Treating.{changing, defining_macro, keeping_at, last_line, passing, repeated, resuming, treated}
 use Rattle.cps_pass.specs.declared.ranges.Tested.{Tested}
 use Rattle.cps_pass.specs.declared.scope.Scope.TheVariants.{Expansion, Source}
 use Rattle.cps_pass.specs.declared.scope.Scope.{Scope}
@@ -116,7 +115,7 @@ call-at-fits control m (Symbol name) next rest later = site-label-fits control m
 call-at-fits control m NoSymbol next rest later = later m (nothing_made (record no_flags { location = true }))
 
 call-opening-fits : (b : Option Name) (m : Mark) (scope : Scope) (made : Made) (lines : List (List ℕ)) (pairs : Option Pairs) (behind : Behind) (rest : Course)
-    → ((there : Scope) (opened : List (List ℕ)) → Fits b (behind there opened rest) m) → Fits b (macros.opening scope made lines pairs behind rest) m
+    → ((there : Scope) (opened : List (List ℕ)) → Fits b (behind there opened rest) m) → Fits b (calling_with scope made lines pairs behind rest) m
 call-opening-fits b m scope made lines None behind rest later = later scope []
 call-opening-fits b m scope made lines (Some pairs) behind rest later = later scope (map (inserted pairs) lines)
 
@@ -130,7 +129,7 @@ Next b next rest = (placed : Bool) (there : Scope) → Fits b (next there rest) 
 calling-fits : (control : Control) (m : Bool) (scope : Scope) (location : Location) (named : Macro) (tail : List ℕ) (behind : Behind) (rest : Course)
     → After control.block behind rest → Fits control.block (calling control scope location named tail behind rest) (mark_of m)
 calling-fits control m scope location named tail behind rest later =
-    call-at-fits control m location (λ made. macros.opening scope made named.lines (bound named.parameters tail) behind) rest (λ placed made.
+    call-at-fits control m location (λ made. calling_with scope made named.lines (bound named.parameters tail) behind) rest (λ placed made.
     call-opening-fits control.block (mark_of placed) scope made named.lines (bound named.parameters tail) behind rest (later placed))
 
 calling-if-fits : (control : Control) (m : Bool) (scope : Scope) (location : Location) (tail : List ℕ) (named : Option Macro) (behind : Behind) (rest : Course)
@@ -167,7 +166,7 @@ counting-fits b m control scope location test value next rest later =
     (λ there. flagging (joined (present_flags location) (joined test.flags (count_flags value (line_count value)))) there next) rest later
 
 beginning-fits : (b : Option Name) (m : Mark) (control : Control) (scope : Scope) (holds : Bool) (ranges : List Range) (next : Scope → Part) (rest : Course)
-    → ((there : Scope) → Fits b (next there rest) m) → Fits b (beginning control scope holds ranges next rest) m
+    → ((there : Scope) → Fits b (next there rest) m) → Fits b (beginning_range control scope holds ranges next rest) m
 beginning-fits b m control scope true ranges next rest later = putting-fits b m scope (BeforeElse ∷ ranges) next rest later
 beginning-fits b m control scope false ranges next rest later = going-by-fits b m control scope (SkipRange (record { nested = 0; may_resume = true })) next rest later
 
@@ -175,7 +174,7 @@ opening-fits : (b : Option Name) (m : Mark) (control : Control) (scope : Scope) 
     → ((there : Scope) → Fits b (next there rest) m) → Fits b (opening control scope location test ranges next rest) m
 opening-fits b m control scope location test ranges next rest later =
     if-fits b m (nat_le most_ranges (length ranges)) (flagging (record (test_flags location test) { structure = true }) scope next)
-    (beginning control scope test.holds ranges (λ there. flagging (test_flags location test) there next)) rest (later scope)
+    (beginning_range control scope test.holds ranges (λ there. flagging (test_flags location test) there next)) rest (later scope)
     (beginning-fits b m control scope test.holds ranges (λ there. flagging (test_flags location test) there next) rest later)
 
 hanging-fits : (control : Control) (m : Bool) (scope : Scope) (location : Location) (lines : Option Expression) (test : Tested) (next : Scope → Part) (rest : Course)
@@ -202,7 +201,7 @@ if-defined-fits control m scope location test next rest later =
     hanging-fits control m scope location test.lines (defined test.is_defined (has_value standing)) next rest later)
 
 turned-fits : (b : Option Name) (m : Mark) (control : Control) (scope : Scope) (location : Location) (ranges : List Range) (next : Scope → Part) (rest : Course)
-    → ((there : Scope) → Fits b (next there rest) m) → Fits b (turned control scope location ranges next rest) m
+    → ((there : Scope) → Fits b (next there rest) m) → Fits b (turned_round control scope location ranges next rest) m
 turned-fits b m control scope location (BeforeElse ∷ ranges) next rest later =
     putting-fits b m scope ranges
     (λ within. going_by control within (SkipRange (record { nested = 0; may_resume = false })) (λ there. flagging (present_flags location) there next)) rest (λ within.
@@ -219,7 +218,7 @@ closed-fits b m scope location (range ∷ ranges) next rest later =
 else-fits : (b : Option Name) (m : Bool) (control : Control) (scope : Scope) (location : Location) (next : Scope → Part) (rest : Course)
     → ((there : Scope) → Fits b (next there rest) (mark_of m)) → Fits b (else_of control scope location next rest) (mark_of m)
 else-fits b m control scope location next rest later =
-    ranges-fit b m scope (λ ranges. turned control scope location ranges next) rest (λ ranges. turned-fits b (mark_of m) control scope location ranges next rest later)
+    ranges-fit b m scope (λ ranges. turned_round control scope location ranges next) rest (λ ranges. turned-fits b (mark_of m) control scope location ranges next rest later)
 
 endif-fits : (b : Option Name) (m : Bool) (scope : Scope) (location : Location) (next : Scope → Part) (rest : Course)
     → ((there : Scope) → Fits b (next there rest) (mark_of m)) → Fits b (endif_of scope location next rest) (mark_of m)
@@ -358,7 +357,7 @@ resuming-fits b m control scope next rest later =
     going-by-fits b (mark_of m) control there Normal next rest later))
 
 defining-macro-fits : (b : Option Name) (m : Bool) (control : Control) (scope : Scope) (name : Name) (body : MacroBody) (next : Scope → Part) (rest : Course)
-    → ((there : Scope) → Fits b (next there rest) (mark_of m)) → Fits b (defining control scope name body next rest) (mark_of m)
+    → ((there : Scope) → Fits b (next there rest) (mark_of m)) → Fits b (defining_macro control scope name body next rest) (mark_of m)
 defining-macro-fits b m control scope name body next rest later =
     body-fits b m control scope body.kept.lines (λ lines there.
     putting (key.Macro name) (answer.Macro (record { parameters = body.parameters; lines = lines })) before next there) rest (λ lines there. later there)
@@ -384,7 +383,7 @@ in-mode-fits control m scope text Normal behind rest later = assembled-fits cont
 in-mode-fits control m scope text (SkipLines count) behind rest later =
     treated-fits control.block m control scope (SkipLines count) text (skipped_line count) behind rest later
 in-mode-fits control m scope text (SkipRange skip) behind rest later =
-    treated-fits control.block m control scope (SkipRange skip) text (skipped skip (seen_in (card_in text))) behind rest later
+    treated-fits control.block m control scope (SkipRange skip) text (skipped_in_range skip (seen_in (card_in text))) behind rest later
 in-mode-fits control m scope text (KeepMacro body) behind rest later =
     treated-fits control.block m control scope (KeepMacro body) text (kept_for_macro body (seen_in (card_in text))) behind rest later
 in-mode-fits control m scope text (KeepDup body) behind rest later =
@@ -395,7 +394,7 @@ before-end-fits : (control : Control) (m : Bool) (mode : Mode) (scope : Scope) (
 before-end-fits control m mode scope text (Some location) behind rest later = end-fits control m mode location (behind scope [] rest) (later true scope [])
 before-end-fits control m mode scope text None behind rest later = in-mode-fits control m scope text (mode_in mode scope) behind rest later
 
-behind-end-fits : (b : Option Name) (m : Mark) (fields : LineFields) (rest : Course) → Fits b rest m → Fits b (behind_end fields rest) m
+behind-end-fits : (b : Option Name) (m : Mark) (fields : LineFields) (rest : Course) → Fits b rest m → Fits b (after_end fields rest) m
 behind-end-fits b m CommentLine rest later = later
 behind-end-fits b m ContinuedLine rest later = later
 behind-end-fits b m (StatementLine statement) rest later = later

@@ -2,16 +2,15 @@
 use Rattle.cps_code.specs.Form.{Form}
 use Rattle.cps_code.specs.Place.{position}
 use Rattle.cps_code.specs.declared.place.Place.{Place}
-use Rattle.cps_effect.specs.Blocks.{end}
 use Rattle.cps_effect.specs.Fields.{Sized, are_sized, fields_in, no_fields_sized, placing_fields, sizing, with_field}
 use Rattle.cps_effect.specs.Instruction.{coded, peripheral_coded}
 use Rattle.cps_effect.specs.Located.{asking_standing, asking_taken, defining, has_value, standing_by, symbol_in}
 use Rattle.cps_effect.specs.Numbers.{between, no_number_flags, plain_number}
-use Rattle.cps_effect.specs.Places.{asking_place, filling_between, here_at, whole}
+use Rattle.cps_effect.specs.Places.{asking_place, filling_between, here_at, rounded_up}
 use Rattle.cps_effect.specs.Placing.{asking_site, held_of, holding, only_flagging, placed, placed_to, placing_flags, settings_now, settling, start_for, too_far, unplaced, unread_flags, unread_from, word_start}
 use Rattle.cps_effect.specs.Reserving.{reserved, reserved_or_not, reserving, zeros_for}
 use Rattle.cps_effect.specs.ValueNow.{meant, names_now, no_values, now, value_now, with_value}
-use Rattle.cps_effect.specs.Words.{counted_or_not, delimited_words, displayed, number_words, text_words, words}
+use Rattle.cps_effect.specs.Words.{counted_or_not, delimited_words, displaying, number_words, text_words, words}
 use Rattle.cps_effect.specs.declared.located.Standing.{Standing}
 use Rattle.cps_effect.specs.declared.placing.Site.{Site}
 use Rattle.cps_effect.specs.declared.value_now.ValueNow.{ValueNow}
@@ -134,8 +133,8 @@ placed-to-settles b site start contents is_pending end held rest later =
       held = held;
     } in
     if-fits b settled (nat_lt (60 * limit site.machine) end) (too_far site start contents held)
-    (settling site start (whole site.machine end) is_pending before fill made) rest later
-    (settling-settles b site start (whole site.machine end) is_pending (fill made rest) later)
+    (settling site start (rounded_up site.machine end) is_pending before fill made) rest later
+    (settling-settles b site start (rounded_up site.machine end) is_pending (fill made rest) later)
 
 pub placed-settles : (b : Option Name) (site : Site) (start : ℕ) (contents : List Content) (is_pending : Bool) (rest : Course)
     → Fits b rest settled → Fits b (placed site start contents is_pending rest) settled
@@ -158,7 +157,7 @@ coded-settles b (Some form) site rest later = placed-settles b site (start_for s
 
 pub peripheral-settles : (b : Option Name) (form : Option Form) (site : Site) (rest : Course) → Fits b rest settled → Fits b (peripheral_coded form site rest) settled
 peripheral-settles b None site rest later = unread-settles b site (word_start site) rest later
-peripheral-settles b (Some form) site rest later = placed-settles b site (word_start site) (content.Peripheral form ∷ []) false rest later
+peripheral-settles b (Some form) site rest later = placed-settles b site (word_start site) (content.Instruction form ∷ []) false rest later
 
 reserved-settles : (b : Option Name) (has_zeros : Bool) (site : Site) (start words : ℕ) (rest : Course) → Fits b rest settled → Fits b (reserved has_zeros site start words rest) settled
 reserved-settles b has_zeros site start words rest later =
@@ -188,7 +187,7 @@ counted-settles : (b : Option Name) (text : List ℕ) (site : Site) (value : Val
 counted-settles b text site value None rest later = unplaced-settles b (no_number_flags site value) site (word_start site) [] rest later
 counted-settles b text site value (Some count) rest later = words-settle b (number_words site.machine (text_words site.machine blank_code count text)) site rest later
 
-pub displayed-settles : (b : Option Name) (text : DisText) (site : Site) (rest : Course) → Fits b rest settled → Fits b (displayed text site rest) settled
+pub displayed-settles : (b : Option Name) (text : DisText) (site : Site) (rest : Course) → Fits b rest settled → Fits b (displaying text site rest) settled
 displayed-settles b (Counted count text) site rest later =
     now-fits b true count (here_at site.block (word_start site)) (λ value. counted_or_not text site value (between 1 100 (plain_number value))) rest (λ value.
     counted-settles b text site value (between 1 100 (plain_number value)) rest later)

@@ -2,8 +2,10 @@
 use Rattle.cps_code.specs.Form.{Form}
 use Rattle.cps_code.specs.Place.{position}
 use Rattle.cps_code.specs.declared.place.Place.{Place}
-use Rattle.cps_effect.specs.Blocks.{end, ending, left, moving, moving_by, moving_to, org, org_from, unread_org, using}
-use Rattle.cps_effect.specs.Fields.{fields_in, no_fields}
+use Rattle.cps_effect.specs.End.{end, ending}
+use Rattle.cps_effect.specs.Leaving.{left, using}
+use Rattle.cps_effect.specs.Origin.{moving, moving_by, moving_to, org, org_from, unread_org}
+use Rattle.cps_effect.specs.Fields.{fields_in, unread_fields_at}
 use Rattle.cps_effect.specs.Head.{base, declaration, declaration_flags, entering, ident, ident_flags, in_body, is_in_head, is_late_declaration, is_late_name, leaving_head, putting_control, same_radix, with_declaration, with_name}
 use Rattle.cps_effect.specs.Instruction.{coded, instruction, peripheral_coded, peripheral_instruction}
 use Rattle.cps_effect.specs.Located.{defining, is_labelled, present_flags, symbol_in}
@@ -12,11 +14,11 @@ use Rattle.cps_effect.specs.Numbers.{not_negative}
 use Rattle.cps_effect.specs.Places.{asking_place, going_on, here_at, place_left}
 use Rattle.cps_effect.specs.Placing.{placed, start_for, word_start}
 use Rattle.cps_effect.specs.Reserving.{reserving}
-use Rattle.cps_effect.specs.Statements.{obeyed, unreadable}
+use Rattle.cps_effect.specs.Statements.{obeyed_plainly, unreadable_plainly}
 use Rattle.cps_effect.specs.Symbols.{asking_settable, equate, equate_flags, equate_to, listing_value, set_symbol, set_to, setting, unread_equate, unread_set, with_known}
-use Rattle.cps_effect.specs.Use.{before_previous, beginning, going_to, going_to_named, going_to_new, has_begun, leaving, left_behind, most_blocks, previous, unread_use, use_block}
+use Rattle.cps_effect.specs.Use.{before_previous, beginning_block, going_to, going_to_named, going_to_new, has_begun, leaving, left_behind, most_blocks, previous, unread_use, use_block}
 use Rattle.cps_effect.specs.ValueNow.{now, now_here}
-use Rattle.cps_effect.specs.Words.{displayed, no_words, number_words, unread_words, value_words, words}
+use Rattle.cps_effect.specs.Words.{displaying, unread_words_at, number_words, unread_words, value_words, words}
 use Rattle.cps_effect.specs.declared.located.Standing.TheVariants.{Free, Labelled, Set}
 use Rattle.cps_effect.specs.declared.located.Standing.{Standing}
 use Rattle.cps_effect.specs.declared.value_now.ValueNow.TheVariants.{Known, NoValue, Undefined}
@@ -91,7 +93,7 @@ end-fits control m mode location rest later =
     ask-fits control.block m key.Ifs (λ a. asking_place control (λ place. ending control mode location (is_no_range (ranges_of a)) place) rest) refl (λ a.
     asked-place-fits control m (λ place. ending control mode location (is_no_range (ranges_of a)) place) rest (λ place. later))
 
-beginning-fits : (b : Option Name) (m : Mark) (block : Option Name) (count : Option ℕ) (rest : Course) → Fits b rest m → Fits b (beginning block count rest) m
+beginning-fits : (b : Option Name) (m : Mark) (block : Option Name) (count : Option ℕ) (rest : Course) → Fits b rest m → Fits b (beginning_block block count rest) m
 beginning-fits b m block None rest later = later
 beginning-fits b m block (Some count) rest later = later
 
@@ -213,7 +215,7 @@ unread-set-fits b m location rest later =
 -- ---- by what a statement says
 
 unread-words-fit : (control : Control) (m : Bool) (location : Location) (rest : Course) → Fits control.block rest settled → Fits control.block (unread_words control location rest) (mark_of m)
-unread-words-fit control m location rest later = site-fits control location m no_words rest (λ site. unread-settles control.block site (word_start site) rest later)
+unread-words-fit control m location rest later = site-fits control location m unread_words_at rest (λ site. unread-settles control.block site (word_start site) rest later)
 
 pub instruction-fits : (control : Control) (m : Bool) (location : Location) (form : Option Form) (rest : Course)
     → Fits control.block rest settled → Fits control.block (instruction control location form rest) (mark_of m)
@@ -225,7 +227,7 @@ peripheral-fits control m location form rest later =
     site-fits control location m (peripheral_coded form) rest (λ site. peripheral-settles control.block form site rest later)
 
 pub obeyed-fits : (control : Control) (m : Bool) (location : Location) (stated : Row) (rest : Course)
-    → ((placed : Bool) → Fits control.block rest (mark_of placed)) → Fits control.block (obeyed control location stated rest) (mark_of m)
+    → ((placed : Bool) → Fits control.block rest (mark_of placed)) → Fits control.block (obeyed_plainly control location stated rest) (mark_of m)
 obeyed-fits control m location (row.Ident name) rest later = ident-fits control.block (mark_of m) control location (Some name) rest (later m)
 obeyed-fits control m location row.Abs rest later = declaration-fits control.block (mark_of m) control location Cp rest (later m)
 obeyed-fits control m location row.Periph rest later = declaration-fits control.block (mark_of m) control location Pp rest (later m)
@@ -244,7 +246,7 @@ obeyed-fits control m location (row.Con values) rest later =
 obeyed-fits control m location (row.Data numbers) rest later =
     site-fits control location m (words (number_words control.machine numbers)) rest (λ site. words-settle control.block (number_words control.machine numbers) site rest (later true))
 obeyed-fits control m location (row.Vfd fields) rest later = site-fits control location m (fields_in fields) rest (λ site. fields-settle control.block fields site rest (later true))
-obeyed-fits control m location (row.Dis text) rest later = site-fits control location m (displayed text) rest (λ site. displayed-settles control.block text site rest (later true))
+obeyed-fits control m location (row.Dis text) rest later = site-fits control location m (displaying text) rest (λ site. displayed-settles control.block text site rest (later true))
 obeyed-fits control m location (row.Compare test) rest later = later m
 obeyed-fits control m location (row.If test) rest later = later m
 obeyed-fits control m location row.Else rest later = later m
@@ -256,7 +258,7 @@ obeyed-fits control m location row.Endm rest later = later m
 obeyed-fits control m location row.End rest later = later m
 
 pub unreadable-fits : (control : Control) (m : Bool) (location : Location) (named : Operation) (rest : Course)
-    → ((placed : Bool) → Fits control.block rest (mark_of placed)) → Fits control.block (unreadable control location named rest) (mark_of m)
+    → ((placed : Bool) → Fits control.block rest (mark_of placed)) → Fits control.block (unreadable_plainly control location named rest) (mark_of m)
 unreadable-fits control m location operation.Ident rest later = later m
 unreadable-fits control m location operation.Equate rest later = unread-equate-fits control.block m location rest (later m)
 unreadable-fits control m location operation.Set rest later = unread-set-fits control.block m location rest (later m)
@@ -266,7 +268,7 @@ unreadable-fits control m location operation.Bss rest later = unread-words-fit c
 unreadable-fits control m location operation.Bssz rest later = unread-words-fit control m location rest (later true)
 unreadable-fits control m location operation.Con rest later = unread-words-fit control m location rest (later true)
 unreadable-fits control m location operation.Data rest later = unread-words-fit control m location rest (later true)
-unreadable-fits control m location operation.Vfd rest later = site-fits control location m no_fields rest (λ site. unread-settles control.block site (start_for site 0) rest (later true))
+unreadable-fits control m location operation.Vfd rest later = site-fits control location m unread_fields_at rest (λ site. unread-settles control.block site (start_for site 0) rest (later true))
 unreadable-fits control m location operation.Dis rest later = unread-words-fit control m location rest (later true)
 unreadable-fits control m location operation.Abs rest later = later m
 unreadable-fits control m location operation.Periph rest later = later m
