@@ -33,16 +33,15 @@ trimmed-filled (x ∷ front) c is =
     let all = all-more (x ∷ front) c ∙ ap (λ b. list_all is_blank (x ∷ front) && b) is ∙ and_false (list_all is_blank (x ∷ front)) in
     ap (λ b. cond {A = List ℕ} b [] (x ∷ trimmed (front ++ c ∷ []))) all ∙ ap (λ t. x ∷ t) (trimmed-filled front c is)
 
--- one character more
-pub trimmed-next : (text : List ℕ) (at end d : ℕ) → at < length text → take end text ≡ trimmed (take at text)
-    → take (cond (is_blank (get_or text at d)) end (at + 1)) text ≡ trimmed (take (at + 1) text)
-trimmed-next text at end d lt before =
-    let c = get_or text at d in
-    let more = take_more text at d lt in
-    elim (is_blank c) as (λ b. is_blank c ≡ b → take (cond b end (at + 1)) text ≡ trimmed (take (at + 1) text)) [
-      | true ↦ λ h. before ∙ sym (trimmed-blank (take at text) c h) ∙ ap trimmed (sym more)
-      | false ↦ λ h. more ∙ sym (trimmed-filled (take at text) c h) ∙ ap trimmed (sym more)
-    ] refl
+-- a blank at the end of a front
+pub trimmed-cut : (text : List ℕ) (last d : ℕ) → last < length text → is_blank (get_or text last d) ≡ true → trimmed (take (last + 1) text) ≡ trimmed (take last text)
+trimmed-cut text last d lt blank = ap trimmed (take_more text last d lt) ∙ trimmed-blank (take last text) (get_or text last d) blank
+
+-- a front that ends in no blank
+pub trimmed-kept : (text : List ℕ) (last d : ℕ) → last < length text → is_blank (get_or text last d) ≡ false → trimmed (take (last + 1) text) ≡ take (last + 1) text
+trimmed-kept text last d lt filled =
+    let more = take_more text last d lt in
+    ap trimmed more ∙ trimmed-filled (take last text) (get_or text last d) filled ∙ sym more
 
 -- blanks cut at the end of what stands behind a front
 pub cut-behind : (old new front row back : List ℕ) (before kept : ℕ) → old ≡ front ++ row → before ≡ length front → back ≡ drop before old

@@ -192,17 +192,11 @@ fn trimmed_length(text: &[u8]) -> usize
     ensures length { take result text.now ≡ texts.trimmed text.now }
     ensures within { result ≤ length text.now }
 {
-    let mut end = 0;
-    for at in 0..text.len() {
-        end = end_behind(text[at], at, end);
+    for cut in 0..text.len() {
+        let last = text.len() - 1 - cut;
+        if text[last] != b' ' {
+            return last + 1;
+        }
     }
-    end
-}
-
-/// Where a text ends that has a byte more, if blanks at the end don't count.
-fn end_behind(byte: u8, at: usize, end: usize) -> usize
-    requires { at < 2 ^ 63 }
-    ensures { result ≡ (if is_blank byte then end else at + 1) }
-{
-    if byte == b' ' { end } else { at + 1 }
+    0
 }
