@@ -116,5 +116,5 @@ fn make_part(alloc: Global, lines: &[Line], part: Part) -> Result<(Vec<u8>, u32)
     let assembled = Assembled::of(alloc, &mut Work::new(), lines)?;
     let pages = assembled.pages(alloc, lines)?;
     let text = make_text(alloc, &pages, part)?;
-    Ok((text, assembled.flagged()))
+    Ok((text, pages.flagged()))
 }

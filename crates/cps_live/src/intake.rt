@@ -55,29 +55,31 @@ impl Intake {
     }
 }
 
-/// These lines and one more, None where more bytes came than are kept of a line.
+/// These lines and one more, None where more bytes came than are kept of a line. A line that there is no room for takes no memory.
 fn keep(alloc: Global, lines: Vec<Line>, text: Option<&[u8]>) -> Intake
     requires { length lines.items ≤ MOST_LINES }
     ensures { (line : List ℕ) → MatchOption text.entry (LONGEST_KEPT < length line) (λ text. text.now ≡ line) → IsSource lines.items → IsIntake result (lines.items ++ line ∷ []) }
 {
+    if lines.len() == MOST_LINES {
+        return count_on(MOST_LINES as u32, text);
+    }
     let number = lines.len() as u32 + 1;
     let Some(text) = text else {
         return Intake::Faulty(BatchFault::LineTooLong(number));
     };
-    match fault_of(number, text) {
-        Some(fault) => Intake::Faulty(fault),
-        None => push_line(alloc, lines, number, text),
+    match Line::new(alloc, text) {
+        Ok(line) => push_line(lines, number, line),
+        Err(LineFault::LineTooLong) => Intake::Faulty(BatchFault::LineTooLong(number)),
+        Err(LineFault::BadCharacter) => Intake::Faulty(BatchFault::BadCharacter(number)),
+        Err(LineFault::Memory) => Intake::Refused(number),
     }
 }
 
 /// These lines and one more, or their number where there is no memory for it.
-fn push_line(alloc: Global, lines: Vec<Line>, number: u32, text: &[u8]) -> Intake
-    ensures { number ≡ length lines.items + 1 → IsSource (lines.items ++ text.now ∷ []) → IsIntake result (lines.items ++ text.now ∷ []) }
+fn push_line(lines: Vec<Line>, number: u32, line: Line) -> Intake
+    ensures { number ≡ length lines.items + 1 → IsSource (lines.items ++ line ∷ []) → IsIntake result (lines.items ++ line ∷ []) }
 {
     let mut lines = lines;
-    let Ok(line) = Line::new(alloc, text) else {
-        return Intake::Refused(number);
-    };
     match lines.push(line) {
         Ok(_) => Intake::Kept(lines),
         Err(_) => Intake::Refused(number),

@@ -1,6 +1,7 @@
 //! A source as its texts are written from it.
 ghost use Rattle.std.specs.Prelude.{◌≡◌, ◌-◌, ◌≤◌, ◌↔◌, length, slice_get, Some, IsSome, IfSome, IfOk};
 ghost use Rattle.cps_final.specs.Finals.{is_open_at_end};
+ghost use Rattle.cps_list.specs.Flagged.{flagged_in, flagged_with};
 ghost use Rattle.cps_live.specs.Assembly.{outcomes_under};
 
 use super::session::MOST_LINES;
@@ -114,11 +115,33 @@ impl<'a> Pages<'a> {
           is_open = is_open_at_end (⟦<Finals as Gathered>⟧.gathered finals.now);
         }) }
     {
-        let mut outcomes = Vec::new(alloc);
+        let mut outcomes = Vec::with_capacity(alloc, traces.len())?;
         for trace in traces {
             outcomes.push(step_two(alloc, &mut Work::new(), trace, finals)?)?;
         }
         let rows = Rows { lines, outcomes };
         Ok(Pages { rows, finals })
     }
+
+    /// How many of the lines have a flag, and one more if a range is open after them. Takes no memory.
+    pub(crate) fn flagged(&self) -> u32
+        ensures { let assembly = ⟦<Pages<'a> as View>⟧.assembly self.now in result ≡ flagged_with assembly.is_open assembly.outcomes }
+    {
+        count_flagged(&self.rows.outcomes) + u32::from(self.finals.is_open_at_end())
+    }
+}
+
+/// How many lines have a flag of which pass two made this.
+fn count_flagged(outcomes: &[Outcome]) -> u32
+    requires { length outcomes.now ≤ MOST_LINES }
+    ensures count { result ≡ flagged_in outcomes.now }
+    ensures within { result ≤ length outcomes.now }
+{
+    let mut count = 0;
+    for outcome in outcomes {
+        if outcome.flags().has_flag() {
+            count += 1;
+        }
+    }
+    count
 }
