@@ -56,6 +56,19 @@ impl Trace {
         self.items.as_slice()
     }
 
+    /// The statements alone.
+    pub fn into_items(self) -> Vec<Item>
+        ensures { result.items ≡ self.items }
+    {
+        let Trace {
+            asks: _,
+            puts: _,
+            items,
+            reads: _,
+        } = self;
+        items
+    }
+
     /// The symbols that were read in pass one, in their order: those of expressions that are valued there, and those of
     /// location fields that have a value already.
     pub fn reads(&self) -> &[Name]
