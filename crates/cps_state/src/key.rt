@@ -1,6 +1,5 @@
 //! Keys of the state of an assembly, and their answers.
-ghost use Rattle.std.specs.Prelude.{◌≡◌, IfOk};
-ghost use Rattle.std.specs.Option.{option_copied};
+ghost use Rattle.std.specs.Prelude.{◌≡◌, IfOk, OnOk, reverse};
 ghost use Rattle.cps_state.specs.Keys.{same_block, same_key};
 
 use crate::shared::Shared;
@@ -207,16 +206,6 @@ impl Answer {
     }
 }
 
-/// The same answer once more, if there is one.
-pub fn share_answer(answer: Option<&Answer>) -> Result<Option<Answer>, AllocError>
-    ensures { IfOk result (λ same. same ≡ option_copied answer.entry) }
-{
-    match answer {
-        Some(answer) => Ok(Some(answer.share()?)),
-        None => Ok(None),
-    }
-}
-
 /// A key and what stood there, None where nothing stood.
 #[derive(Debug, PartialEq, Eq, Drop)]
 pub struct Asked {
@@ -231,30 +220,30 @@ pub struct Put {
     pub answer: Answer,
 }
 
-/// The same puts once more.
-pub fn share_puts(alloc: Global, puts: &[Put]) -> Result<Vec<Put>, AllocError>
-    ensures { IfOk result (λ same. same.items ≡ puts.now) }
+/// The same puts once more, the first at the end, in the place of what a list has.
+pub fn share_puts(same: &mut Vec<Put>, puts: &[Put]) -> Result<(), AllocError>
+    ensures { OnOk result (reverse same.new.items ≡ puts.now) }
 {
-    let mut same = Vec::with_capacity(alloc, puts.len())?;
-    for put in puts {
+    same.clear();
+    for put in puts.iter().rev() {
         same.push(Put {
             key: put.key,
             answer: put.answer.share()?,
         })?;
     }
-    Ok(same)
+    Ok(())
 }
 
 /// Whether two keys are one.
-pub fn is_same_key(a: Key, b: Key) -> bool
-    ensures { result ≡ same_key a b }
+pub fn is_same_key(a: &Key, b: &Key) -> bool
+    ensures { result ≡ same_key a.now b.now }
 {
     match (a, b) {
         (Key::Control, Key::Control) => true,
-        (Key::Counter(a), Key::Counter(b)) => is_same_block(a, b),
-        (Key::Label(a), Key::Label(b)) => is_same_name(a, b),
-        (Key::Setting(a), Key::Setting(b)) => is_same_name(a, b),
-        (Key::Macro(a), Key::Macro(b)) => is_same_name(a, b),
+        (Key::Counter(a), Key::Counter(b)) => is_same_block(*a, *b),
+        (Key::Label(a), Key::Label(b)) => is_same_name(*a, *b),
+        (Key::Setting(a), Key::Setting(b)) => is_same_name(*a, *b),
+        (Key::Macro(a), Key::Macro(b)) => is_same_name(*a, *b),
         (Key::Kept(a), Key::Kept(b)) => a == b,
         (Key::Uses, Key::Uses) | (Key::Ifs, Key::Ifs) | (Key::Blocks, Key::Blocks) => true,
         _ => false,

@@ -46,14 +46,14 @@ impl Model for Log {
 }
 
 impl Log {
-    /// Of a line that asked nothing. Takes no memory.
-    pub fn new(alloc: Global) -> Log
-        ensures { result ≡ record { asks = []; puts = [] } }
+    /// Of these asks and puts. Takes no memory.
+    pub fn of(alloc: Global, asks: Vec<Asked>, puts: Vec<Put>) -> Log
+        ensures { result ≡ record { asks = asks.items; puts = puts.items } }
     {
         Log {
             alloc,
-            asks: Vec::new(alloc),
-            puts: Vec::new(alloc),
+            asks,
+            puts,
             index: HashMap::new(alloc),
             is_long: false,
         }
@@ -67,9 +67,9 @@ impl Log {
         if self.is_long {
             return self.index.get(&key).copied();
         }
-        match newest_put(&self.puts, key) {
+        match newest_put(&self.puts, &key) {
             Some(place) => Some(Known::Put(place)),
-            None => match newest_ask(&self.asks, key) {
+            None => match newest_ask(&self.asks, &key) {
                 Some(place) => Some(Known::Asked(place)),
                 None => None,
             },
@@ -162,6 +162,13 @@ impl Log {
         if self.is_long || self.puts.len() <= SHORT && self.asks.len() <= SHORT {
             return Ok(());
         }
+        self.make_index()
+    }
+
+    /// The index of all asks and puts.
+    fn make_index(&mut self) -> Result<(), AllocError>
+        ensures { self.new ≡ self.old }
+    {
         let index = index_of_asks(self.alloc, &self.asks)?;
         self.index = with_puts(index, &self.asks, &self.puts)?;
         self.is_long = true;
@@ -197,14 +204,14 @@ fn with_puts(
 }
 
 /// The newest put at a key.
-fn newest_put(puts: &[Put], key: Key) -> Option<usize>
-    ensures found { option_and_then (put_at puts.now) result ≡ last_put puts.now key }
+fn newest_put(puts: &[Put], key: &Key) -> Option<usize>
+    ensures found { option_and_then (put_at puts.now) result ≡ last_put puts.now key.now }
     ensures within { IfSome result (λ place. place < length puts.now) }
 {
     let mut place = puts.len();
     while place > 0 {
         place -= 1;
-        if is_same_key(puts[place].key, key) {
+        if is_same_key(&puts[place].key, key) {
             return Some(place);
         }
     }
@@ -212,14 +219,14 @@ fn newest_put(puts: &[Put], key: Key) -> Option<usize>
 }
 
 /// The newest ask of a key.
-fn newest_ask(asks: &[Asked], key: Key) -> Option<usize>
-    ensures found { option_and_then (asked_at asks.now) result ≡ last_ask asks.now key }
+fn newest_ask(asks: &[Asked], key: &Key) -> Option<usize>
+    ensures found { option_and_then (asked_at asks.now) result ≡ last_ask asks.now key.now }
     ensures within { IfSome result (λ place. place < length asks.now) }
 {
     let mut place = asks.len();
     while place > 0 {
         place -= 1;
-        if is_same_key(asks[place].key, key) {
+        if is_same_key(&asks[place].key, key) {
             return Some(place);
         }
     }

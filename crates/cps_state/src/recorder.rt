@@ -6,11 +6,12 @@ ghost use Rattle.cps_state.specs.Line.{Goes, known_answer, line_started, line_an
 
 use crate::flags::Flags;
 use crate::item::Item;
-use crate::key::{Answer, Asked, Key, Put, is_same_key, share_answer};
+use crate::key::{Answer, Asked, Key, Put, is_same_key};
 use crate::log::{Known, Log};
 use crate::lookup::Lookup;
 use crate::made::Made;
 use crate::shared::Shared;
+use crate::sheet::Sheet;
 use crate::trace::Trace;
 use cps_text::Name;
 use std::alloc::{AllocError, Global};
@@ -54,18 +55,19 @@ impl<'a, L> Model for Recorder<'a, L> {
 }
 
 impl<'a, L: Lookup> Recorder<'a, L> {
-    /// Of a line that has done nothing, over a state.
-    pub fn new(alloc: Global, state: &'a L) -> Recorder<'a, L>
+    /// Of a line that has done nothing, over a state, in the lists of an earlier line.
+    pub fn new(alloc: Global, sheet: Sheet, state: &'a L) -> Recorder<'a, L>
         ensures { result ≡ line_started state.now }
     {
+        let (asks, puts, reads) = sheet.into_lists();
         Recorder {
             alloc,
             state,
-            log: Log::new(alloc),
+            log: Log::of(alloc, asks, puts),
             settled: 0,
             finished: Vec::new(alloc),
             present: Item::blank(alloc, 0, Shared::empty()),
-            reads: Vec::new(alloc),
+            reads,
         }
     }
 
@@ -82,8 +84,13 @@ impl<'a, L: Lookup> Recorder<'a, L> {
         if let Some(known) = self.log.find(key) {
             return Ok(known);
         }
-        let answer = share_answer(self.state.ask(&key))?;
-        self.log.push_ask(Asked { key, answer })
+        match self.state.ask(&key) {
+            Some(answer) => {
+                let answer = Some(answer.share()?);
+                self.log.push_ask(Asked { key, answer })
+            }
+            None => self.log.push_ask(Asked { key, answer: None }),
+        }
     }
 
     /// The answer that was noted, None where nothing stands at its key.
@@ -205,7 +212,7 @@ fn control_puts(alloc: Global, puts: &[Put]) -> Result<Vec<Put>, AllocError>
 {
     let mut kept = Vec::new(alloc);
     for put in puts {
-        if is_same_key(put.key, Key::Control) {
+        if is_same_key(&put.key, &Key::Control) {
             let answer = put.answer.share()?;
             kept.push(Put {
                 key: put.key,

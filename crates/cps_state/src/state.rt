@@ -1,5 +1,5 @@
 //! The state of an assembly.
-ghost use Rattle.std.specs.Prelude.{◌≡◌, ◌<◌, ◌≤◌, ◌+◌, true, OnOk, OnErr, length};
+ghost use Rattle.std.specs.Prelude.{◌≡◌, ◌<◌, ◌≤◌, ◌+◌, true, OnOk, OnErr, length, reverse};
 ghost use Rattle.std.specs.HashMap as hash;
 ghost use Rattle.cps_state.specs.KeptAnswers.{is_other};
 ghost use Rattle.cps_state.specs.Keys.{first_state, with_put, overwritten};
@@ -14,6 +14,7 @@ use cps_expr::{Names, Value};
 use cps_text::Name;
 use std::alloc::{AllocError, Global};
 use std::collections::HashMap;
+use std::mem;
 
 /// What stands at each key between two lines. What always stands is kept apart from the rest.
 #[derive(Drop)]
@@ -25,6 +26,8 @@ pub struct State {
     blocks: Answer,
     ranges: Answer,
     others: HashMap<Key, Answer>,
+    /// For the answers of a line, before they are put.
+    shared: Vec<Put>,
 }
 
 impl Lookup for State {
@@ -69,6 +72,7 @@ impl State {
             blocks: Answer::Count(0),
             ranges: Answer::Ifs(Shared::empty()),
             others: HashMap::new(alloc),
+            shared: Vec::new(alloc),
         }
     }
 
@@ -77,18 +81,20 @@ impl State {
         ensures ok { OnOk result (⟦<State as Lookup>⟧.answer self.new ≡ overwritten (⟦<State as Lookup>⟧.answer self.old) trace.now.puts) }
         ensures err { OnErr result (⟦<State as Lookup>⟧.answer self.new ≡ ⟦<State as Lookup>⟧.answer self.old) }
     {
-        let puts = share_puts(self.alloc, trace.puts())?;
-        self.others.reserve(puts.len())?;
-        self.put_all(puts);
+        let mut shared = mem::replace(&mut self.shared, Vec::new(self.alloc));
+        share_puts(&mut shared, trace.puts())?;
+        self.others.reserve(shared.len())?;
+        self.put_all(&mut shared);
+        self.shared = shared;
         Ok(())
     }
 
-    /// The same where there is room.
-    fn put_all(&mut self, puts: Vec<Put>)
-        requires { length puts.items ≤ hash.spare self.old.others }
-        ensures { ⟦<State as Lookup>⟧.answer self.new ≡ overwritten (⟦<State as Lookup>⟧.answer self.old) puts.items }
+    /// Puts all that a list has, from its end on, where there is room.
+    fn put_all(&mut self, puts: &mut Vec<Put>)
+        requires { length puts.old.items ≤ hash.spare self.old.others }
+        ensures { ⟦<State as Lookup>⟧.answer self.new ≡ overwritten (⟦<State as Lookup>⟧.answer self.old) (reverse puts.old.items) }
     {
-        for put in puts {
+        while let Some(put) = puts.pop() {
             self.put(put);
         }
     }

@@ -3,6 +3,7 @@ ghost use Rattle.std.specs.Prelude.{◌≡◌};
 
 use crate::item::Item;
 use crate::key::{Asked, Put};
+use crate::sheet::Sheet;
 use cps_text::Name;
 use std::marker::Model;
 
@@ -60,13 +61,21 @@ impl Trace {
     pub fn into_items(self) -> Vec<Item>
         ensures { result.items ≡ self.items }
     {
-        let Trace {
-            asks: _,
-            puts: _,
-            items,
-            reads: _,
-        } = self;
+        let (items, _) = self.into_parts();
         items
+    }
+
+    /// The statements, and the lists of the rest for the next line.
+    pub fn into_parts(self) -> (Vec<Item>, Sheet)
+        ensures { result.0.items ≡ self.items }
+    {
+        let Trace {
+            asks,
+            puts,
+            items,
+            reads,
+        } = self;
+        (items, Sheet::of(asks, puts, reads))
     }
 
     /// The symbols that were read in pass one, in their order: those of expressions that are valued there, and those of

@@ -5,7 +5,7 @@ use Rattle.cps_state.proofs.log.newest_put.Goals as goal
 pub returns-then-is_same_key-clause-found : goal.returns-then-is_same_key-clause-found
 returns-then-is_same_key-clause-found c =
     let one = c.index-puts-place.result in
-    put-found c.args.puts.now c.loop-place.place one c.args.key c.loop-place-test.true c.loop-place.invariant.within
+    put-found c.args.puts.now c.loop-place.place one c.args.key.now c.loop-place-test.true c.loop-place.invariant.within
     (sym c.is_same_key.ensures ∙ c.if-is_same_key.true) ∙ sym c.loop-place.invariant.others
 
 pub loop-place-preserved : goal.loop-place-preserved
@@ -14,6 +14,6 @@ loop-place-preserved c =
     let within = c.loop-place.invariant.within in
     record {
       within = omega (arith, within);
-      others = c.loop-place.invariant.others ∙ put-before c.args.puts.now c.loop-place.place one c.args.key c.loop-place-test.true within
+      others = c.loop-place.invariant.others ∙ put-before c.args.puts.now c.loop-place.place one c.args.key.now c.loop-place-test.true within
           (sym c.is_same_key.ensures ∙ c.if-is_same_key.false);
     }
