@@ -9,7 +9,7 @@ ghost use Rattle.cps_pass.specs.Treating.{repeated};
 use crate::opened::Opened;
 use crate::scope::{Own, Scope};
 use crate::statement::step_statement;
-use cps_state::{Flags, Lookup, Mode, Recorder, Shared, Trace};
+use cps_state::{Flags, Lookup, Mode, Recorder, Shared, Sheet, Trace};
 use std::alloc::{AllocError, Global};
 
 /// Statements, each followed by those that it opens. False where one is too much.
@@ -86,11 +86,16 @@ fn is_dup_body(mode: &Mode) -> bool
     }
 }
 
-/// What a source line asks, puts and makes in a state.
-pub fn trace_line<L: Lookup>(alloc: Global, line: &[u8], state: &L) -> Result<Trace, AllocError>
+/// What a source line asks, puts and makes in a state, in the lists of an earlier line.
+pub fn trace_line<L: Lookup>(
+    alloc: Global,
+    sheet: Sheet,
+    line: &[u8],
+    state: &L,
+) -> Result<Trace, AllocError>
     ensures { IfOk result (λ trace. trace ≡ expansion.trace_of line.now (L.answer state.now)) }
 {
-    let mut recorder = Recorder::new(alloc, state);
+    let mut recorder = Recorder::new(alloc, sheet, state);
     let mut scope = Scope::Source;
     let opened = step_statement(&mut recorder, &mut scope, line)?;
     recorder.settle();

@@ -18,7 +18,7 @@ mod treatment;
 pub use cps_effect::here_at;
 pub use cps_state::{
     Answer, Asked, Content, Control, DupBody, Extent, Flags, Head, Held, Item, Kept, Key, Lookup,
-    Macro, MacroBody, Made, Mode, Phase, Put, Range, Shared, Shown, Skip, State, Tally, Trace,
-    Work, is_open, limit_of, word_bits,
+    Macro, MacroBody, Made, Mode, Phase, Put, Range, Shared, Sheet, Shown, Skip, State, Tally,
+    Trace, Work, is_open, limit_of, word_bits,
 };
-pub use step::step_one;
+pub use step::{step_one, step_over};

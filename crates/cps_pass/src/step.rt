@@ -8,7 +8,7 @@ ghost use Rattle.cps_pass.specs.Bounded.{AreFew, EachOnce};
 ghost use Rattle.cps_pass.specs.Expansion as expansion;
 
 use crate::expansion::trace_line;
-use cps_state::{Lookup, Tally, Trace, Work};
+use cps_state::{Lookup, Sheet, Tally, Trace, Work};
 use cps_text::Line;
 use std::alloc::{AllocError, Global};
 
@@ -29,6 +29,20 @@ pub fn step_one<L: Lookup>(
     ensures once { IfOk result (λ trace. EachOnce trace.asks) }
     ensures ones { work.new ≡ raised tally.Ones work.old }
 {
+    step_over(alloc, work, Sheet::new(alloc), line, state)
+}
+
+/// The same in the lists of an earlier line, which `Trace::into_parts` gives back.
+pub fn step_over<L: Lookup>(
+    alloc: Global,
+    work: &mut Work,
+    sheet: Sheet,
+    line: &Line,
+    state: &L,
+) -> Result<Trace, AllocError>
+    ensures trace { IfOk result (λ trace. trace ≡ expansion.trace_of line.now (L.answer state.now)) }
+    ensures ones { work.new ≡ raised tally.Ones work.old }
+{
     work.raise(Tally::Ones);
-    trace_line(alloc, line.bytes(), state)
+    trace_line(alloc, sheet, line.bytes(), state)
 }
