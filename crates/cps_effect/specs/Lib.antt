@@ -1,6 +1,7 @@
 pub mod End
 pub mod Fields
 pub mod Head
+pub mod Holding
 pub mod Instruction
 pub mod Leaving
 pub mod Located

@@ -1,13 +1,16 @@
 //! The values that SET gave to symbols that contents read.
-ghost use Rattle.std.specs.Prelude.{◌≡◌, ◌++◌, All, OnOk, IfOk, IfSome};
+ghost use Rattle.std.specs.Prelude.{◌≡◌, ◌++◌, flat_map, All, OnOk, IfOk, IfSome};
+ghost use Rattle.cps_code.specs.Operand.{operand_names};
 ghost use Rattle.cps_expr.specs.Value.{IsInRange};
 ghost use Rattle.cps_state.specs.Line.{Hands};
-ghost use Rattle.cps_state.specs.Made.{IsHeld};
+ghost use Rattle.cps_state.specs.Made.{IsHeld, content_names};
+ghost use Rattle.cps_effect.specs.Holding.{holding_after};
 ghost use Rattle.cps_effect.specs.Placing as placing;
 
 use crate::asking::ask_value;
+use cps_code::Hole;
 use cps_expr::Value;
-use cps_state::{Content, Held, Key, Lookup, Recorder, names_in};
+use cps_state::{Content, Held, Key, Lookup, Recorder};
 use cps_text::Name;
 use std::alloc::AllocError;
 
@@ -19,25 +22,62 @@ pub fn hold<L: Lookup>(
     ensures held { IfOk result (λ held. Hands (placing.holding contents.now) held.items L.answer recorder.old recorder.new) }
     ensures each { IfOk result (λ held. All IsHeld held.items) }
 {
-    let alloc = recorder.alloc();
-    let names = names_in(alloc, contents)?;
-    settings_now(recorder, &names)
-}
-
-fn settings_now<L: Lookup>(
-    recorder: &mut Recorder<'_, L>,
-    names: &[Name],
-) -> Result<Vec<Held>, AllocError>
-    ensures held { IfOk result (λ held. Hands (placing.settings_now names.now) held.items L.answer recorder.old recorder.new) }
-    ensures each { IfOk result (λ held. All IsHeld held.items) }
-{
-    let alloc = recorder.alloc();
-    let mut held = Vec::new(alloc);
-    for name in names {
-        let value = setting_now(recorder, name)?;
-        push_held(&mut held, name, value)?;
+    let mut held = Vec::new(recorder.alloc());
+    for content in contents {
+        hold_content(recorder, &mut held, content)?;
     }
     Ok(held)
+}
+
+/// The same of a content, after others.
+fn hold_content<L: Lookup>(
+    recorder: &mut Recorder<'_, L>,
+    held: &mut Vec<Held>,
+    content: &Content,
+) -> Result<(), AllocError>
+    requires { All IsHeld held.old.items }
+    ensures held { OnOk result (Hands (holding_after held.old.items (content_names content.now)) held.new.items L.answer recorder.old recorder.new) }
+    ensures each { OnOk result (All IsHeld held.new.items) }
+{
+    match content {
+        Content::Instruction(form) => hold_holes(recorder, held, form.holes()),
+        Content::Value(_, expression) => hold_names(recorder, held, expression.names()),
+        Content::Number(..) => Ok(()),
+        Content::Unsized(expression) => hold_names(recorder, held, expression.names()),
+    }
+}
+
+/// The same of what an instruction's fields read.
+fn hold_holes<L: Lookup>(
+    recorder: &mut Recorder<'_, L>,
+    held: &mut Vec<Held>,
+    holes: &[Hole],
+) -> Result<(), AllocError>
+    requires { All IsHeld held.old.items }
+    ensures held { OnOk result (Hands (holding_after held.old.items (flat_map (λ hole. operand_names hole.operand) holes.now)) held.new.items L.answer recorder.old recorder.new) }
+    ensures each { OnOk result (All IsHeld held.new.items) }
+{
+    for hole in holes {
+        hold_names(recorder, held, hole.operand.names())?;
+    }
+    Ok(())
+}
+
+/// The same of symbols.
+fn hold_names<L: Lookup>(
+    recorder: &mut Recorder<'_, L>,
+    held: &mut Vec<Held>,
+    names: &[Name],
+) -> Result<(), AllocError>
+    requires { All IsHeld held.old.items }
+    ensures held { OnOk result (Hands (holding_after held.old.items names.now) held.new.items L.answer recorder.old recorder.new) }
+    ensures each { OnOk result (All IsHeld held.new.items) }
+{
+    for name in names {
+        let value = setting_now(recorder, name)?;
+        push_held(held, name, value)?;
+    }
+    Ok(())
 }
 
 /// The value that SET has given to a symbol by now.

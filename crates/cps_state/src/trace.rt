@@ -1,10 +1,11 @@
 //! What a line asked, put, made and read in pass one.
-ghost use Rattle.std.specs.Prelude.{◌≡◌};
+ghost use Rattle.std.specs.Prelude.{◌≡◌, IfOk};
 
 use crate::item::Item;
 use crate::key::{Asked, Put};
 use crate::sheet::Sheet;
 use cps_text::Name;
+use std::alloc::{AllocError, Global};
 use std::marker::Model;
 
 /// What a line asked, put, made and read in pass one.
@@ -78,6 +79,25 @@ impl Trace {
         (items, Sheet::of(asks, puts, reads))
     }
 
+    /// The same in lists without room for more, to be kept, and the lists that it was in for the next line.
+    pub fn into_exact(self, alloc: Global) -> Result<(Trace, Sheet), AllocError>
+        ensures { IfOk result (λ parts. parts.0 ≡ self) }
+    {
+        let Trace {
+            mut asks,
+            mut puts,
+            items,
+            mut reads,
+        } = self;
+        let exact = Trace {
+            asks: all_of(alloc, &mut asks)?,
+            puts: all_of(alloc, &mut puts)?,
+            items,
+            reads: all_of(alloc, &mut reads)?,
+        };
+        Ok((exact, Sheet::of(asks, puts, reads)))
+    }
+
     /// The symbols that were read in pass one, in their order: those of expressions that are valued there, and those of
     /// location fields that have a value already.
     pub fn reads(&self) -> &[Name]
@@ -85,4 +105,13 @@ impl Trace {
     {
         self.reads.as_slice()
     }
+}
+
+/// All that a list has, in one without room for more.
+fn all_of<T: Drop>(alloc: Global, items: &mut Vec<T>) -> Result<Vec<T>, AllocError>
+    ensures { IfOk result (λ all. all.items ≡ items.old.items) }
+{
+    let mut all = Vec::with_capacity(alloc, items.len())?;
+    all.append(items)?;
+    Ok(all)
 }
