@@ -54,7 +54,7 @@ pub registers_in-end : (registers : List (List ℕ)) (digits : Digits) → 0 < l
 registers_in-end [] digits some = absurd (omega arith)
 registers_in-end (letters ∷ registers) digits some = refl
 
--- ---- K behind registers
+-- ---- K after registers
 
 abbrev found : kept.Found → Found
 found k = record { digits = k.digits; operand = Some k.operand }

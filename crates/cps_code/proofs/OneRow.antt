@@ -93,7 +93,7 @@ text-self : (letters : List ℕ) → texts_clash letters letters ≡ true
 text-self [] = refl
 text-self (letter ∷ letters) = both_true _ _ (character-self letter) (text-self letters)
 
--- ---- operands of registers, and one for a hole behind them
+-- ---- operands of registers, and one for a hole after them
 
 abbrev registers_clash : List (List ℕ) → List (List ℕ) → Bool
 registers_clash [] others = true

@@ -8,6 +8,9 @@ use Rattle.std.specs.List.{list_all}
 use Rattle.cps_code.specs.declared.sum.Registers.{Registers}
 use Rattle.cps_code.specs.declared.sum.Registers.TheVariants.{Absent, One, Two}
 use Rattle.cps_code.specs.declared.register.RegisterTerm.{RegisterTerm}
+use Rattle.cps_code.specs.declared.forms.SumForms.{SumForms}
+use Rattle.cps_code.specs.declared.forms.SumForms.TheVariants.{Set, Jump}
+use Rattle.cps_code.specs.Operations.{sum_rows, sum_form}
 use Rattle.cps_code.specs.Sum.{Summed}
 use Rattle.cps_code.specs.Terms.{IsRegister, AreRegisters, register_list}
 use Rattle.cps_expr.specs.declared.radix.Radix.{Radix}
@@ -90,3 +93,13 @@ no_form radix digits rows texts (Some sum) short many =
     let none = form-none radix digits rows (record { texts = texts; sum = Some sum }) short (λ shape. found-many radix digits texts sum shape more) in
     let none' = form-none radix digits rows (record { texts = texts; sum = Some round }) short (λ shape. found-many radix digits texts round shape more') in
     ap (λ o. option_or o (form_in radix digits rows (record { texts = texts; sum = Some round }))) none ∙ none'
+
+pub sum_rows_short : (forms : SumForms) → list_all is_short (sum_rows forms) ≡ true
+sum_rows_short Set = refl
+sum_rows_short Jump = refl
+
+-- of operands that are a sum the form is that of the sum
+pub form_of_summed : (forms : SumForms) (radix : Radix) (digits : Digits) (texts : List (List ℕ)) (sum : Summed)
+    → form_of_rows radix digits (sum_rows forms) (record { texts = texts; sum = Some sum }) ≡ sum_form forms digits sum.registers sum.constant
+form_of_summed Set radix digits texts sum = refl
+form_of_summed Jump radix digits texts sum = refl

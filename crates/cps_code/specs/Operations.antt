@@ -9,6 +9,8 @@ use Rattle.cps_expr.specs.OperandList.{only_one}
 use Rattle.cps_expr.specs.Term.{Term}
 use Rattle.cps_code.specs.declared.digits.Digits.{Digits}
 use Rattle.cps_code.specs.declared.fields.Found as kept
+use Rattle.cps_code.specs.declared.forms.SumForms.{SumForms}
+use Rattle.cps_code.specs.declared.forms.SumForms.TheVariants as sums
 use Rattle.cps_code.specs.declared.hole.HoleKind.TheVariants.{Value, Count}
 use Rattle.cps_code.specs.declared.hole.Operand.{Operand}
 use Rattle.cps_code.specs.declared.hole.Operand.TheVariants.{Expression}
@@ -20,7 +22,7 @@ use Rattle.cps_code.specs.declared.register.RegisterTerm.{RegisterTerm}
 use Rattle.cps_code.specs.Bits.{constant_bits, count_bits}
 use Rattle.cps_code.specs.Form.{Form}
 use Rattle.cps_code.specs.Operand.{operand_of}
-use Rattle.cps_code.specs.Rows.{Shape, Found, RowForm, Operation, Named, Operands, unread, fields, summed, turned_sum, registers_in, found_in_sum, form_found, form_of_rows, operands_in}
+use Rattle.cps_code.specs.Rows.{Shape, Found, RowForm, Operation, Named, Operands, unread, fields, summed, turned_sum, registers_in, found_in_sum, form_found}
 use Rattle.cps_code.specs.Sum.{Summed}
 use Rattle.cps_code.specs.Table.{set_forms, jump_rows}
 
@@ -41,11 +43,11 @@ abbrev pub with_none_left : Digits × List (List ℕ) → Option Digits
 with_none_left (digits, []) = Some digits
 with_none_left (digits, text ∷ texts) = None
 
--- the digits of operands of registers, and nothing behind them
+-- the digits of operands of registers, and nothing after them
 abbrev pub registers_alone : List (List ℕ) → List (List ℕ) → Digits → Option Digits
 registers_alone registers texts digits = option_and_then with_none_left (registers_in registers texts digits)
 
--- the digits of operands of registers, and K behind them
+-- the digits of operands of registers, and K after them
 abbrev pub constant_in : Radix → List (List ℕ) → List (List ℕ) → Digits → Option kept.Found
 constant_in radix registers texts digits =
     option_and_then (λ left. option_map (λ k. record { digits = left.0; operand = k }) (only_one (operand_of Cp radix) left.1)) (registers_in registers texts digits)
@@ -120,17 +122,18 @@ set_form digits registers constant = form_of_sum digits set_forms (record { regi
 abbrev pub set_form_as_it_stands : Digits → List RegisterTerm → Option Operand → Option Form
 set_form_as_it_stands digits registers constant = form_in_sum digits set_forms (record { registers = registers; constant = constant })
 
--- the form of a set instruction with this tail
-abbrev pub set_form_of : Radix → Digits → List ℕ → Option Form
-set_form_of radix digits tail = form_of_rows radix digits set_forms (operands_in radix tail)
-
 -- the form of a jump with these registers and this constant
 abbrev pub jump_form : Digits → List RegisterTerm → Option Operand → Option Form
 jump_form digits registers constant = form_of_sum digits jump_forms (record { registers = registers; constant = constant })
 
--- the form of a jump with this tail
-abbrev pub jump_form_of : Radix → Digits → List ℕ → Option Form
-jump_form_of radix digits tail = form_of_rows radix digits jump_forms (operands_in radix tail)
+-- the rows of the one or the other
+abbrev pub sum_rows : SumForms → List RowForm
+sum_rows sums.Set = set_forms
+sum_rows sums.Jump = jump_forms
+
+abbrev pub sum_form : SumForms → Digits → List RegisterTerm → Option Operand → Option Form
+sum_form sums.Set = set_form
+sum_form sums.Jump = jump_form
 
 -- ---- forms by their digits
 
@@ -143,7 +146,7 @@ long_form front operand forces = record {
   forces_after = forces;
 }
 
--- four digits and a constant of 0, with a forcing pending behind it
+-- four digits and a constant of 0, with a forcing pending after it
 abbrev pub bare_form : ℕ → Form
 bare_form front = record { bits = 30; code = front * 2 ^ constant_bits; holes = []; forces_after = true }
 

@@ -14,7 +14,7 @@ use Rattle.cps_code.specs.Least.{first_from}
 abbrev pub position : Place → ℕ
 position place = word_bits * place.word + place.used
 
--- the place behind so many bits, through all words
+-- the place after so many bits, through all words
 abbrev pub place_at : ℕ → Bool → Place
 place_at at is_pending = record { word = at / word_bits; used = at % word_bits; is_pending = is_pending; in_word = mod-lt at (lit< tt) }
 
@@ -43,7 +43,7 @@ start_of from bits forced = first_from (may_begin bits forced) from word_bits
 abbrev pub pass : ℕ
 pass = 0o46000
 
--- pass instructions, one behind the other
+-- pass instructions, one after the other
 abbrev pub passes : ℕ → ℕ
 passes zero = 0
 passes (suc count) = passes count * 2 ^ parcel_bits + pass

@@ -24,7 +24,7 @@ use Rattle.cps_code.specs.Form.{Form}
 
 -- ---- how a row is written
 
--- operands of registers, and behind them one for a hole, told by its letter, or none
+-- operands of registers, and after them one for a hole, told by its letter, or none
 pub record Pattern : Type 0 where
   pub registers : List (List ℕ)
   pub hole : Option ℕ
@@ -44,7 +44,7 @@ pub data Shape : Type 0 where
   -- one operand, a sum of these register terms, and of a K beside them or of none
   summed : List RowTerm → Bool → Shape
 
--- octal digits, and behind them a hole or none
+-- octal digits, and after them a hole or none
 pub record Code : Type 0 where
   pub digits : List ℕ
   pub hole : Option ℕ
@@ -52,7 +52,7 @@ pub record Code : Type 0 where
 pub record RowForm : Type 0 where
   pub shape : Shape
   pub code : Code
-  -- whether a forcing is pending behind it
+  -- whether a forcing is pending after it
   pub forces : Bool
 
 pub record Row : Type 0 where
@@ -108,7 +108,7 @@ row operation shape text = record { operation = operation; f = 0; form = form sh
 abbrev pub forcing_row : List ℕ → Shape → List ℕ → Row
 forcing_row operation shape text = record { operation = operation; f = 0; form = record { shape = shape; code = code_of text; forces = true } }
 
--- ---- operations: rows one behind the other with the same name
+-- ---- operations: rows one after the other with the same name
 
 pub record Operation : Type 0 where
   pub name : List ℕ
@@ -162,7 +162,7 @@ pub record Found : Type 0 where
   pub digits : Digits
   pub operand : Option Operand
 
--- the digits of the operands of registers, and the operands behind them
+-- the digits of the operands of registers, and the operands after them
 abbrev pub registers_in : List (List ℕ) → List (List ℕ) → Digits → Option (Digits × List (List ℕ))
 registers_in [] texts digits = Some (digits, texts)
 registers_in (letters ∷ registers) [] digits = None
@@ -239,7 +239,7 @@ holes_behind first None operand = []
 holes_behind first (Some letter) None = []
 holes_behind first (Some letter) (Some operand) = hole_at first operand letter ∷ []
 
--- a number with room for a hole behind it
+-- a number with room for a hole after it
 abbrev pub before_hole : Option ℕ → ℕ → ℕ
 before_hole None number = number
 before_hole (Some letter) number = number * 2 ^ hole_width (Some letter)

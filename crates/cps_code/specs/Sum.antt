@@ -26,7 +26,7 @@ register_or_other None term = option_map other term
 abbrev pub term_with : Radix → Bool → List ℕ → Option SumTerm
 term_with radix minus text = register_or_other (register_of minus text) (term_of radix minus text)
 
--- a term: a sign, and behind it a register or a term of an expression
+-- a term: a sign, and after it a register or a term of an expression
 abbrev pub signed_term : Radix → List ℕ → Option SumTerm
 signed_term radix [] = None
 signed_term radix (sign ∷ text) = term_with radix (is_minus sign) text

@@ -132,7 +132,7 @@ struct Found {
     operand: Operand,
 }
 
-/// The digits of the operands of registers, and K behind them.
+/// The digits of the operands of registers, and K after them.
 fn read_fields(
     alloc: Global,
     registers: &[&[u8]],
@@ -158,7 +158,7 @@ fn read_fields(
     Ok(Found { digits, operand })
 }
 
-/// The digits of the operands that begin with these of registers, and the operands behind them.
+/// The digits of the operands that begin with these of registers, and the operands after them.
 fn read_registers<'a>(
     operands: Operands<'a>,
     registers: &[&[u8]],

@@ -46,7 +46,7 @@ impl CpForm {
         }
     }
 
-    /// A form of 30 bits: four digits and a constant of 0, with a forcing pending behind it.
+    /// A form of 30 bits: four digits and a constant of 0, with a forcing pending after it.
     pub(crate) fn bare(alloc: Global, front: u16) -> CpForm
         requires { front < 2 ^ 12 }
         ensures { result ≡ bare_form front }
@@ -121,7 +121,7 @@ impl CpForm {
         self.holes.as_slice()
     }
 
-    /// Whether a forcing is pending behind the statement, so that the next instruction begins a word.
+    /// Whether a forcing is pending after the statement, so that the next instruction begins a word.
     pub fn forces_after(&self) -> bool
         ensures { result ≡ self.now.forces_after }
     {

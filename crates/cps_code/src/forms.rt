@@ -6,7 +6,7 @@ ghost use Rattle.cps_code.specs.Operand.{IsOperand};
 ghost use Rattle.cps_code.specs.Rows.{operands_in, form_of_rows};
 ghost use Rattle.cps_code.specs.Table.{is_operation, form_of};
 ghost use Rattle.cps_code.specs.Outcome.{Answers};
-ghost use Rattle.cps_code.specs.Operations.{rows_of, row_of_fields, set_form, set_form_of, jump_form, jump_form_of, long_form, bare_form};
+ghost use Rattle.cps_code.specs.Operations.{rows_of, row_of_fields, sum_rows, sum_form, set_form, jump_form, long_form, bare_form};
 
 use super::digits::Digits;
 use super::fields::form_of_fields;
@@ -33,6 +33,13 @@ pub enum FormFault {
     /// Memory was refused; nothing else is wrong.
     #[error("no memory")]
     Memory,
+}
+
+/// The operations whose operand is a sum of registers and K.
+#[derive(Clone, Copy)]
+enum SumForms {
+    Set,
+    Jump,
 }
 
 /// The form of a statement of the central processor: that of the row of the table that fits its operation and its
@@ -69,10 +76,10 @@ fn form_of_operation(
     match forms {
         Forms::Pass => Ok(CpForm::short(alloc, 0o46000)),
         Forms::Stop => Ok(CpForm::bare(alloc, 0)),
-        Forms::SetA => set_form(alloc, digits, tail, radix),
-        Forms::SetB => set_form(alloc, digits, tail, radix),
-        Forms::SetX => set_form(alloc, digits, tail, radix),
-        Forms::Jump => jump_form(alloc, digits, tail, radix),
+        Forms::SetA | Forms::SetB | Forms::SetX => {
+            summed_form(alloc, SumForms::Set, digits, tail, radix)
+        }
+        Forms::Jump => summed_form(alloc, SumForms::Jump, digits, tail, radix),
         Forms::Fields(rows) => fields_form(alloc, rows, digits, tail, radix),
     }
 }
@@ -95,35 +102,90 @@ fn fields_form(
     }
 }
 
-fn jump_form(alloc: Global, digits: Digits, tail: &[u8], radix: Radix) -> Result<CpForm, FormFault>
+/// The form of an operation whose operand is a sum of registers and K.
+fn summed_form(
+    alloc: Global,
+    forms: SumForms,
+    digits: Digits,
+    tail: &[u8],
+    radix: Radix,
+) -> Result<CpForm, FormFault>
     requires known { AreDigits digits }
-    ensures { Answers (jump_form_of radix digits tail.now) result }
+    ensures { Answers (form_of_rows radix digits (sum_rows forms) (operands_in radix tail.now)) result }
 {
     match read_summed(alloc, tail, radix) {
         None => Err(FormFault::Unreadable),
-        Some(kept) => jump_form_of_sum(alloc, digits, kept),
+        Some(kept) => form_of_sum(alloc, forms, digits, kept),
     }
 }
 
-fn jump_form_of_sum(alloc: Global, digits: Digits, kept: KeptSummed) -> Result<CpForm, FormFault>
+fn form_of_sum(
+    alloc: Global,
+    forms: SumForms,
+    digits: Digits,
+    kept: KeptSummed,
+) -> Result<CpForm, FormFault>
     requires known { AreDigits digits }
     requires registers { AreRegisters kept.registers }
     requires fits { IfSome kept.constant (IsOperand Cp) }
-    ensures { (summed : Summed) → IsKeptSummed kept summed → Answers (jump_form digits summed.registers summed.constant) result }
+    ensures { (summed : Summed) → IsKeptSummed kept summed → Answers (sum_form forms digits summed.registers summed.constant) result }
 {
-    let Some(front) = jump_front(kept.registers) else {
+    let registers = kept.registers;
+    match (forms, kept.has_constant) {
+        (SumForms::Set, true) => {
+            let front = code_with_constant(digits, registers);
+            long_form(alloc, front, kept.constant, false)
+        }
+        (SumForms::Set, false) => short_form(alloc, digits, registers).ok_or(FormFault::Unreadable),
+        (SumForms::Jump, true) => long_form(alloc, jump_front(registers), kept.constant, true),
+        (SumForms::Jump, false) => bare_jump(alloc, registers).ok_or(FormFault::Unreadable),
+    }
+}
+
+/// A form with a constant; there is none if no row has the digits before it.
+fn long_form(
+    alloc: Global,
+    front: Option<u16>,
+    constant: Option<Operand>,
+    forces_after: bool,
+) -> Result<CpForm, FormFault>
+    requires front { IfSome front (λ front. front < 2 ^ 12) }
+    requires fits { IfSome constant (IsOperand Cp) }
+    ensures { (operand : Operand) → IfSome constant (λ kept. kept ≡ operand)
+        → Answers (option_map (λ front. long_form front operand forces_after) front) result }
+{
+    let Some(front) = front else {
         return Err(FormFault::Unreadable);
     };
-    if kept.has_constant {
-        match long_form(alloc, front, kept.constant, true) {
-            None => Err(FormFault::Memory),
-            Some(form) => Ok(form),
-        }
-    } else {
-        match kept.registers {
-            Registers::Absent => Err(FormFault::Unreadable),
-            _ => Ok(CpForm::bare(alloc, front)),
-        }
+    let Some(constant) = constant else {
+        return Err(FormFault::Memory);
+    };
+    match CpForm::long(alloc, front, constant, forces_after) {
+        Ok(form) => Ok(form),
+        Err(_) => Err(FormFault::Memory),
+    }
+}
+
+/// The form of a set instruction of registers without a constant.
+fn short_form(alloc: Global, digits: Digits, registers: Registers) -> Option<CpForm>
+    requires known { AreDigits digits }
+    requires digits { AreRegisters registers }
+    ensures { set_form digits (register_list registers) None ≡ result }
+{
+    match code_without_constant(digits, registers) {
+        None => None,
+        Some(code) => Some(CpForm::short(alloc, code)),
+    }
+}
+
+/// The form of a jump to a register without a constant.
+fn bare_jump(alloc: Global, registers: Registers) -> Option<CpForm>
+    requires { AreRegisters registers }
+    ensures { (digits : Digits) → jump_form digits (register_list registers) None ≡ result }
+{
+    match registers {
+        Registers::Absent => None,
+        _ => Some(CpForm::bare(alloc, jump_front(registers)?)),
     }
 }
 
@@ -145,67 +207,5 @@ fn jump_front(registers: Registers) -> Option<u16>
             },
         ) => Some(four_digits(0, 2, digit, 0)),
         _ => None,
-    }
-}
-
-/// A form with a constant. None: memory was refused, now or for the constant.
-fn long_form(
-    alloc: Global,
-    front: u16,
-    constant: Option<Operand>,
-    forces_after: bool,
-) -> Option<CpForm>
-    requires front { front < 2 ^ 12 }
-    requires fits { IfSome constant (IsOperand Cp) }
-    ensures { IfSome result (λ form. IsSomeAnd constant (λ constant. form ≡ long_form front constant forces_after)) }
-{
-    match CpForm::long(alloc, front, constant?, forces_after) {
-        Ok(form) => Some(form),
-        Err(_) => None,
-    }
-}
-
-/// The form of a set instruction.
-fn set_form(alloc: Global, digits: Digits, tail: &[u8], radix: Radix) -> Result<CpForm, FormFault>
-    requires known { AreDigits digits }
-    ensures { Answers (set_form_of radix digits tail.now) result }
-{
-    match read_summed(alloc, tail, radix) {
-        None => Err(FormFault::Unreadable),
-        Some(kept) => form_of_sum(alloc, digits, kept),
-    }
-}
-
-fn form_of_sum(alloc: Global, digits: Digits, kept: KeptSummed) -> Result<CpForm, FormFault>
-    requires known { AreDigits digits }
-    requires registers { AreRegisters kept.registers }
-    requires fits { IfSome kept.constant (IsOperand Cp) }
-    ensures { (summed : Summed) → IsKeptSummed kept summed → Answers (set_form digits summed.registers summed.constant) result }
-{
-    if kept.has_constant {
-        match code_with_constant(digits, kept.registers) {
-            None => Err(FormFault::Unreadable),
-            Some(code) => match long_form(alloc, code, kept.constant, false) {
-                None => Err(FormFault::Memory),
-                Some(form) => Ok(form),
-            },
-        }
-    } else {
-        match short_form(alloc, digits, kept.registers) {
-            None => Err(FormFault::Unreadable),
-            Some(form) => Ok(form),
-        }
-    }
-}
-
-/// The form of registers without a constant.
-fn short_form(alloc: Global, digits: Digits, registers: Registers) -> Option<CpForm>
-    requires known { AreDigits digits }
-    requires digits { AreRegisters registers }
-    ensures { set_form digits (register_list registers) None ≡ result }
-{
-    match code_without_constant(digits, registers) {
-        None => None,
-        Some(code) => Some(CpForm::short(alloc, code)),
     }
 }

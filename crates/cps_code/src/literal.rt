@@ -28,7 +28,7 @@ pub fn read_operand(
     }
 }
 
-/// The word of a literal: `=`, and behind it one data item to the end of the text.
+/// The word of a literal: `=`, and after it one data item to the end of the text.
 pub fn read_literal(text: &[u8], radix: Radix, machine: Machine) -> Option<u64>
     ensures word { result ≡ literal_of machine radix text.now }
     ensures fits { IfSome result (λ word. word < 2 ^ bits_of machine) }

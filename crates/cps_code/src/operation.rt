@@ -10,7 +10,7 @@ use super::operation_table::operations_with;
 use super::sum::first_and_rest;
 use cps_text::capital;
 
-/// A form whose operands are registers and, behind them, an expression or none; i, j and k in its texts stand for the
+/// A form whose operands are registers and, after them, an expression or none; i, j and k in its texts stand for the
 /// digits of registers.
 #[derive(Clone, Copy)]
 pub enum FieldForm {
@@ -18,7 +18,7 @@ pub enum FieldForm {
     Short(&'static [&'static [u8]], &'static [u8; 5]),
     /// Four digits and a constant.
     Constant(&'static [&'static [u8]], &'static [u8; 4]),
-    /// The same with a forcing pending behind it.
+    /// The same with a forcing pending after it.
     Forcing(&'static [&'static [u8]], &'static [u8; 4]),
     /// Three digits and a count.
     Count(&'static [u8; 3]),

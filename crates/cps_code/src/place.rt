@@ -16,7 +16,7 @@ pub struct Place {
 impl Place {
     ghost use Rattle.cps_code.specs.Place.{place_at};
 
-    /// The place behind so many bits, through all words.
+    /// The place after so many bits, through all words.
     pub fn behind(bits: u32, is_pending: bool) -> Place
         ensures { result ≡ place_at bits is_pending }
     {
@@ -45,7 +45,7 @@ pub struct Filling {
     pub number: u64,
 }
 
-/// Where an instruction begins, the place behind it, and what fills the bits that it skips.
+/// Where an instruction begins, the place after it, and what fills the bits that it skips.
 #[derive(Clone, Copy, Debug, PartialEq, Eq)]
 pub struct Placed {
     pub start: Place,

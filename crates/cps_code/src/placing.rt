@@ -10,7 +10,7 @@ use super::widths::{PARCEL, WORD};
 ///
 /// They begin at the least place, not before the present one, at a parcel's border (an instruction) and with room
 /// in the word, and where forced at a word's beginning. The bits skipped are 0 up to a parcel's border and then
-/// pass instructions (46000). Nothing is pending behind them.
+/// pass instructions (46000). Nothing is pending after them.
 pub fn place_next(place: Place, bits: u8, force: Force) -> Placed
     requires kind { (bits ≡ 0) ⊎ (bits ≡ parcel_bits) ⊎ (bits ≡ 2 * parcel_bits) }
     requires low { place.word < 2 ^ 31 }
@@ -110,7 +110,7 @@ fn filling_between(from: u8, to: u8) -> Option<Filling>
     })
 }
 
-/// Pass instructions, one behind the other.
+/// Pass instructions, one after the other.
 fn passes_in(parcels: u8) -> u64
     requires { parcels ≤ 3 }
     ensures { result ≡ passes parcels }

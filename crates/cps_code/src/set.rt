@@ -108,7 +108,7 @@ fn code_of_pair(digits: Digits, j: RegisterTerm, k: RegisterTerm) -> Option<u16>
     Some(four_digits(digits.f, second, digits.i, j.digit) * 8 + u16::from(k.digit))
 }
 
-/// Four octal digits, one behind the other.
+/// Four octal digits, one after the other.
 pub fn four_digits(a: u8, b: u8, c: u8, d: u8) -> u16
     requires a { a < 8 }
     requires b { b < 8 }
