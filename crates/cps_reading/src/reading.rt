@@ -1,8 +1,9 @@
 //! What a statement says.
-ghost use Rattle.std.specs.Prelude.{◌≡◌, Some, IfOk, bytes_eq};
+ghost use Rattle.std.specs.Prelude.{◌≡◌, Some, IfOk, IsErr, bytes_eq};
 ghost use Rattle.cps_expr.specs.Operation.{operation_named};
 ghost use Rattle.cps_expr.specs.Statement.{row_with};
 ghost use Rattle.cps_text.specs.Name.{name_of};
+ghost use Rattle.cps_reading.specs.declared.reading.Stating.TheVariants.{Unknown};
 ghost use Rattle.cps_reading.specs.Readings.{IsStating};
 ghost use Rattle.cps_reading.specs.Reading.{symbol_or_none, location_in, instruction_in, row_or_none, stating_in};
 
@@ -124,41 +125,30 @@ fn read_instruction(
     ensures bounded { IfOk result (IsStating machine) }
 {
     match machine {
-        Machine::Cp => read_central(alloc, operation, tail, radix),
-        Machine::Pp => read_peripheral(alloc, operation, tail, radix),
+        Machine::Cp => match cp_form(alloc, operation, tail, radix) {
+            Ok(form) => Ok(Stating::Instruction(Some(form))),
+            Err(fault) => without_form(operation, fault, Stating::Instruction(None)),
+        },
+        Machine::Pp => match pp_form(alloc, operation, tail, radix) {
+            Ok(form) => Ok(Stating::Peripheral(Some(form))),
+            Err(fault) => without_form(operation, fault, Stating::Peripheral(None)),
+        },
     }
 }
 
-fn read_central(
-    alloc: Global,
+/// What a statement says that has no form.
+fn without_form(
     operation: &[u8],
-    tail: &[u8],
-    radix: Radix,
+    fault: FormFault,
+    unreadable: Stating,
 ) -> Result<Stating, AllocError>
-    ensures stating { IfOk result (λ stating. stating ≡ instruction_in Machine.Cp radix operation.now tail.now) }
-    ensures bounded { IfOk result (IsStating Machine.Cp) }
+    ensures unknown { fault ≡ FormFault.NoOperation → IfOk result (λ stating. stating ≡ Unknown (name_of operation.now)) }
+    ensures unreadable { fault ≡ FormFault.Unreadable → IfOk result (λ stating. stating ≡ unreadable) }
+    ensures memory { fault ≡ FormFault.Memory → IsErr result }
 {
-    match cp_form(alloc, operation, tail, radix) {
-        Ok(form) => Ok(Stating::Instruction(Some(form))),
-        Err(FormFault::NoOperation) => Ok(Stating::Unknown(Name::read(operation))),
-        Err(FormFault::Unreadable) => Ok(Stating::Instruction(None)),
-        Err(FormFault::Memory) => Err(AllocError),
-    }
-}
-
-fn read_peripheral(
-    alloc: Global,
-    operation: &[u8],
-    tail: &[u8],
-    radix: Radix,
-) -> Result<Stating, AllocError>
-    ensures stating { IfOk result (λ stating. stating ≡ instruction_in Machine.Pp radix operation.now tail.now) }
-    ensures bounded { IfOk result (IsStating Machine.Pp) }
-{
-    match pp_form(alloc, operation, tail, radix) {
-        Ok(form) => Ok(Stating::Peripheral(Some(form))),
-        Err(FormFault::NoOperation) => Ok(Stating::Unknown(Name::read(operation))),
-        Err(FormFault::Unreadable) => Ok(Stating::Peripheral(None)),
-        Err(FormFault::Memory) => Err(AllocError),
+    match fault {
+        FormFault::NoOperation => Ok(Stating::Unknown(Name::read(operation))),
+        FormFault::Unreadable => Ok(unreadable),
+        FormFault::Memory => Err(AllocError),
     }
 }
