@@ -144,7 +144,7 @@ fn step_in_mode<L: Lookup>(
     }
 }
 
-/// A statement that is assembled.
+/// A statement that is assembled. The head ends, unless the statement stays in it.
 fn assemble<L: Lookup>(
     recorder: &mut Recorder<'_, L>,
     control: Control,
@@ -173,27 +173,12 @@ fn assemble<L: Lookup>(
                 control.machine,
                 control.radix,
             )?;
+            let stays = stays_in_head(&stating);
+            let control = leave_head(recorder, control, stays)?;
             let front = Front { control, location };
-            assemble_as(recorder, front, scope, tail, stating)
+            obey_stating(recorder, front, scope, tail, stating)
         }
     }
-}
-
-/// A statement by what it says: the head ends, unless the statement stays in it.
-fn assemble_as<L: Lookup>(
-    recorder: &mut Recorder<'_, L>,
-    front: Front,
-    scope: &mut Scope,
-    tail: &[u8],
-    stating: Stating,
-) -> Result<Option<Opened>, AllocError>
-    requires { IsStating front.control.machine stating }
-    ensures { IfOk result (λ opened. HandsOn (meaning.assembled_as front.control scope.old front.location tail.now stating) scope.new (lines_of opened) L.answer recorder.old recorder.new) }
-{
-    let stays = stays_in_head(&stating);
-    let control = leave_head(recorder, front.control, stays)?;
-    let front = Front { control, ..front };
-    obey_stating(recorder, front, scope, tail, stating)
 }
 
 /// Whether a statement stays in the head of a program, which all others end.
