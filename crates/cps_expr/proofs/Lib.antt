@@ -8,6 +8,7 @@ pub mod ItemBounds
 pub mod ItemRows
 pub mod JoinLemmas
 pub mod NumberReading
+pub mod OperationLemmas
 pub mod PackingLemmas
 pub mod ReadsLemmas
 pub mod RowBounds

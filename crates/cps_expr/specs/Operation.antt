@@ -1,5 +1,5 @@
 -- The operations of the language's statements. From the manual's chapter on pseudo instructions.
-use Rattle.std.specs.Prelude.{ℕ, List, [], ◌∷◌, map, codes, Option, option_map}
+use Rattle.std.specs.Prelude.{ℕ, ◌==◌, List, [], ◌∷◌, map, filter, slice_index, codes, Option, option_map}
 use Rattle.std.specs.Borrow.{Bor}
 use Rattle.std.specs.List.{find}
 use Rattle.cps_expr.specs.declared.operation.Operation.{Operation}
@@ -58,3 +58,7 @@ operation_named text = named_in operations text
 
 abbrev pub table_value : List (Bor (List ℕ) × Operation) → Table
 table_value table = map (λ entry. (entry.0.now, entry.1)) table
+
+-- for the look-up alone: the operations whose names begin with a letter
+abbrev pub beginning_with : ℕ → Table → Table
+beginning_with letter table = filter (λ entry. slice_index entry.0 0 == letter) table

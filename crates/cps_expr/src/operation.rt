@@ -1,8 +1,9 @@
 //! The operations of the language's statements.
 ghost use Rattle.std.specs.Prelude.{◌≡◌};
-ghost use Rattle.cps_expr.specs.Operation.{operations, table_value, named_in, operation_named};
+ghost use Rattle.cps_expr.specs.Operation.{operations, table_value, beginning_with, named_in, operation_named};
 
 use crate::text::is_same;
+use cps_text::capital;
 
 /// How the IF of two expressions compares their values.
 #[derive(Clone, Copy, Debug, PartialEq, Eq)]
@@ -52,50 +53,61 @@ impl Operation {
     pub fn named(text: &[u8]) -> Option<Operation>
         ensures { result ≡ operation_named text.now }
     {
-        named_in(table(), text)
+        match text {
+            [first, ..] => named_in(operations_with(capital(*first)), text),
+            [] => None,
+        }
     }
 }
 
-/// The operations with their names.
+/// The operations whose names begin with a letter, or with `=`.
 #[tactic(auto, unfolding(crate::specs::Operation::operations))]
-fn table() -> &'static [(&'static [u8], Operation)]
-    ensures { table_value result.now ≡ operations }
+fn operations_with(letter: u8) -> &'static [(&'static [u8], Operation)]
+    ensures { table_value result.now ≡ beginning_with letter operations }
 {
-    &[
-        (b"IDENT", Operation::Ident),
-        (b"ABS", Operation::Abs),
-        (b"PERIPH", Operation::Periph),
-        (b"BASE", Operation::Base),
-        (b"EQU", Operation::Equate),
-        (b"=", Operation::Equate),
-        (b"SET", Operation::Set),
-        (b"ORG", Operation::Org),
-        (b"USE", Operation::Use),
-        (b"BSS", Operation::Bss),
-        (b"BSSZ", Operation::Bssz),
-        (b"CON", Operation::Con),
-        (b"DATA", Operation::Data),
-        (b"VFD", Operation::Vfd),
-        (b"DIS", Operation::Dis),
-        (b"IFEQ", Operation::Compare(Relation::Equal)),
-        (b"IFNE", Operation::Compare(Relation::NotEqual)),
-        (b"IFGT", Operation::Compare(Relation::Greater)),
-        (b"IFGE", Operation::Compare(Relation::GreaterOrEqual)),
-        (b"IFLT", Operation::Compare(Relation::Less)),
-        (b"IFLE", Operation::Compare(Relation::LessOrEqual)),
-        (b"IF", Operation::If),
-        (b"ELSE", Operation::Else),
-        (b"ENDIF", Operation::Endif),
-        (b"DUP", Operation::Dup),
-        (b"ENDD", Operation::Endd),
-        (b"MACRO", Operation::Macro),
-        (b"ENDM", Operation::Endm),
-        (b"END", Operation::End),
-        (b"TITLE", Operation::Listing),
-        (b"SPACE", Operation::Listing),
-        (b"EJECT", Operation::Listing),
-        (b"LIST", Operation::Listing),
-    ]
+    match letter {
+        b'A' => &[(b"ABS", Operation::Abs)],
+        b'B' => &[
+            (b"BASE", Operation::Base),
+            (b"BSS", Operation::Bss),
+            (b"BSSZ", Operation::Bssz),
+        ],
+        b'C' => &[(b"CON", Operation::Con)],
+        b'D' => &[
+            (b"DATA", Operation::Data),
+            (b"DIS", Operation::Dis),
+            (b"DUP", Operation::Dup),
+        ],
+        b'E' => &[
+            (b"EQU", Operation::Equate),
+            (b"ELSE", Operation::Else),
+            (b"ENDIF", Operation::Endif),
+            (b"ENDD", Operation::Endd),
+            (b"ENDM", Operation::Endm),
+            (b"END", Operation::End),
+            (b"EJECT", Operation::Listing),
+        ],
+        b'I' => &[
+            (b"IDENT", Operation::Ident),
+            (b"IFEQ", Operation::Compare(Relation::Equal)),
+            (b"IFNE", Operation::Compare(Relation::NotEqual)),
+            (b"IFGT", Operation::Compare(Relation::Greater)),
+            (b"IFGE", Operation::Compare(Relation::GreaterOrEqual)),
+            (b"IFLT", Operation::Compare(Relation::Less)),
+            (b"IFLE", Operation::Compare(Relation::LessOrEqual)),
+            (b"IF", Operation::If),
+        ],
+        b'L' => &[(b"LIST", Operation::Listing)],
+        b'M' => &[(b"MACRO", Operation::Macro)],
+        b'O' => &[(b"ORG", Operation::Org)],
+        b'P' => &[(b"PERIPH", Operation::Periph)],
+        b'S' => &[(b"SET", Operation::Set), (b"SPACE", Operation::Listing)],
+        b'T' => &[(b"TITLE", Operation::Listing)],
+        b'U' => &[(b"USE", Operation::Use)],
+        b'V' => &[(b"VFD", Operation::Vfd)],
+        b'=' => &[(b"=", Operation::Equate)],
+        _ => &[],
+    }
 }
 
 fn named_in(table: &[(&[u8], Operation)], text: &[u8]) -> Option<Operation>
