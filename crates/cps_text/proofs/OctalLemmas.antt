@@ -1,28 +1,25 @@
 -- Octal digits, one after another.
-use Rattle.std.proofs.Common.{◌≡◌, ℕ, zero, suc, ◌+◌, ◌-◌, ◌*◌, ◌/◌, ◌%◌, ◌^◌, ◌<◌, [], ◌∷◌, ◌++◌, refl, ap, ◌∙◌, arith}
-use Rattle.std.proofs.Math.Nat.{div-one}
-use Rattle.std.proofs.lemmas.Nat.{shr-shr}
+use Rattle.std.proofs.Common.{◌≡◌, ℕ, zero, suc, ◌+◌, ◌-◌, ◌/◌, ◌%◌, ◌<◌, ◌≤◌, List, [], ◌∷◌, ◌++◌, length, drop, set, refl, sym, ap, ◌∙◌, arith, append_assoc}
 use Rattle.cps_text.specs.Octal.{octal}
 
-pub octal-none : (digits number : ℕ) → digits ≡ 0 → octal digits number ≡ []
-unfolding octal
-octal-none zero number none = refl
-octal-none (suc digits) number none = absurd (omega arith)
+drop-set : (digits : List ℕ) (place digit : ℕ) → place < length digits → drop place (set digits place digit) ≡ digit ∷ drop (suc place) digits
+drop-set [] place digit within = absurd (omega arith)
+drop-set (d ∷ digits) zero digit within = refl
+drop-set (d ∷ digits) (suc place) digit within = drop-set digits place digit (omega arith)
 
--- one digit more of a number before which others stand
-pub octal-next : (done digits number : ℕ) → done < digits
-    → octal (done + 1) (number / 2 ^ (3 * (digits - (done + 1)))) ≡ octal done (number / 2 ^ (3 * (digits - done))) ++ (48 + number / 2 ^ (3 * (digits - 1 - done)) % 8) ∷ []
+-- one digit more is written, behind those that are left
+pub octal-written : (digits : List ℕ) (place number : ℕ) → 0 < place → place ≤ length digits
+    → octal (place - 1) (number / 8) ++ drop (place - 1) (set digits (place - 1) (48 + number % 8)) ≡ octal place number ++ drop place digits
 unfolding octal
-octal-next done digits number more =
-    let others : digits - (done + 1) ≡ digits - 1 - done = omega arith in
-    let bits : 3 * (digits - 1 - done) + 3 ≡ 3 * (digits - done) = omega arith in
-    let one : done + 1 ≡ suc done = omega arith in
-    ap (λ n. octal (done + 1) (number / 2 ^ (3 * n))) others
-    ∙ ap (λ d. octal d (number / 2 ^ (3 * (digits - 1 - done)))) one
-    ∙ ap (λ n. octal done n ++ (48 + number / 2 ^ (3 * (digits - 1 - done)) % 8) ∷ []) (shr-shr number (3 * (digits - 1 - done)) 3 ∙ ap (λ n. number / 2 ^ n) bits)
+octal-written digits zero number some within = absurd (omega arith)
+octal-written digits (suc place) number some within =
+    let same : suc place - 1 ≡ place = omega arith in
+    rw same
+    (ap (λ written. octal place (number / 8) ++ written) (drop-set digits place (48 + number % 8) (omega arith))
+    ∙ sym (append_assoc (octal place (number / 8)) ((48 + number % 8) ∷ []) (drop (suc place) digits)))
 
 -- none is left
-pub octal-whole : (done digits number : ℕ) → done ≡ digits → octal done (number / 2 ^ (3 * (digits - done))) ≡ octal digits number
-octal-whole done digits number is =
-    let none : 3 * (digits - done) ≡ 0 = omega arith in
-    ap (λ n. octal done (number / 2 ^ n)) none ∙ ap (λ n. octal n (number / 1)) is ∙ ap (λ n. octal digits n) (div-one number)
+pub octal-whole : (digits whole : List ℕ) (place number : ℕ) → place ≡ 0 → octal place number ++ drop place digits ≡ whole → digits ≡ whole
+unfolding octal
+octal-whole digits whole zero number none is = is
+octal-whole digits whole (suc place) number none is = absurd (omega arith)

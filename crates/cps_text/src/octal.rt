@@ -1,38 +1,27 @@
 //! Numbers in octal.
-ghost use Rattle.std.specs.Prelude.{◌≡◌, ◌+◌, ◌*◌, ◌/◌, ◌%◌, ◌^◌, ◌++◌, ◌≤◌, OnOk, OnErr, vec_len, vec_capacity};
+ghost use Rattle.std.specs.Prelude.{◌≡◌, ◌++◌, OnOk, OnErr, length};
 ghost use Rattle.cps_text.specs.Octal.{octal};
 
 use std::alloc::AllocError;
-
-/// The digits behind the first one of a number of 64 bits.
-const LAST: u8 = 21;
 
 /// Appends the low octal digits of a number, so many; after a refusal the text is unchanged.
 pub fn push_octal(text: &mut Vec<u8>, number: u64, digits: u8) -> Result<(), AllocError>
     ensures ok { OnOk result (text.new.items ≡ text.old.items ++ octal digits number) }
     ensures err { OnErr result (text.new.items ≡ text.old.items) }
 {
-    text.reserve(usize::from(digits))?;
-    push_digits(text, number, digits);
+    let before = text.len();
+    text.resize(before + usize::from(digits), b'0')?;
+    write_octal(&mut text[before..], number);
     Ok(())
 }
 
-/// The same where there is room.
-fn push_digits(text: &mut Vec<u8>, number: u64, digits: u8)
-    requires { vec_len text.old + digits ≤ vec_capacity text.old }
-    ensures { text.new.items ≡ text.old.items ++ octal digits number }
+/// Writes the low octal digits of a number over a text.
+fn write_octal(text: &mut [u8], number: u64)
+    ensures { text.new ≡ octal (length text.old) number }
 {
-    for done in 0..digits {
-        text.push(digit_at(number, digits - 1 - done)).unwrap();
+    let mut rest = number;
+    for place in (0..text.len()).rev() {
+        text[place] = b'0' + (rest % 8) as u8;
+        rest /= 8;
     }
-}
-
-/// The octal digit of a number behind which so many others stand.
-fn digit_at(number: u64, others: u8) -> u8
-    ensures { result ≡ 48 + number / 2 ^ (3 * others) % 8 }
-{
-    if others > LAST {
-        return b'0';
-    }
-    b'0' + ((number >> (3 * others)) % 8) as u8
 }
