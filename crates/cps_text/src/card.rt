@@ -2,11 +2,11 @@
 ghost use Rattle.std.specs.Prelude.{◌≡◌, ◌^◌, ◌<◌};
 ghost use Rattle.std.specs.List.{list_all};
 ghost use Rattle.cps_text.specs.Text.{is_blank};
-ghost use Rattle.cps_text.specs.Card.{card, is_comment, is_continued, location_of, location_end, fields_of, statement_of};
+ghost use Rattle.cps_text.specs.Card.{card, is_comment, is_continued, location_of, operation_at, fields_of, statement_of};
 ghost use Rattle.cps_text.specs.CardFields.{statement_value, fields_value};
 ghost use Rattle.cps_text.specs.Columns.{IsCard};
 
-use crate::places::{blank_from, field_at, filled_from, from};
+use crate::places::{field_from, filled_from, from};
 
 /// The last column, from 1, that is read.
 const LAST_COLUMN: usize = 72;
@@ -81,16 +81,16 @@ fn is_continued(card: &[u8]) -> bool
 fn statement_fields(card: &[u8]) -> StatementFields<'_>
     ensures { statement_value result ≡ statement_of card.now }
 {
-    let (location, end) = location(card);
-    let operation_at = filled_from(card, end.max(LAST_LOCATION_COLUMN));
-    let operation = field_at(card, operation_at);
-    let next_at = filled_from(card, blank_from(card, operation_at));
+    let (location, operation_at) = location(card);
+    let (operation, operation_end) = field_from(card, operation_at);
+    let next_at = filled_from(card, operation_end);
     if next_at < LAST_VARIABLE_COLUMN {
+        let (variable, variable_end) = field_from(card, next_at);
         StatementFields {
             location,
             operation,
-            variable: field_at(card, next_at),
-            comment: from(card, filled_from(card, blank_from(card, next_at))),
+            variable,
+            comment: from(card, filled_from(card, variable_end)),
             tail: from(card, next_at),
         }
     } else {
@@ -110,16 +110,16 @@ fn all_blank(card: &[u8]) -> bool
     card.iter().all(|byte| *byte == b' ')
 }
 
-/// The location field, and where it ends; 0 where there is none.
+/// The location field, nothing where there is none, and where the operation field begins.
 fn location(card: &[u8]) -> (&[u8], usize)
     ensures field { result.0.now ≡ location_of card.now }
-    ensures end { result.1 ≡ location_end card.now }
+    ensures operation { result.1 ≡ operation_at card.now }
     ensures near { result.1 < 2 ^ 63 }
 {
-    let at = filled_from(card, 0);
-    if at < LAST_LOCATION_COLUMN {
-        (field_at(card, at), blank_from(card, at))
-    } else {
-        (&[], 0)
+    let first = filled_from(card, 0);
+    if first >= LAST_LOCATION_COLUMN {
+        return (&[], first);
     }
+    let (location, end) = field_from(card, first);
+    (location, filled_from(card, end.max(LAST_LOCATION_COLUMN)))
 }

@@ -102,5 +102,5 @@ fn has_accepted_bytes(text: &[u8]) -> bool
 fn is_accepted(byte: u8) -> bool
     ensures { result ≡ is_accepted_byte byte }
 {
-    (b' '..=b'~').contains(&byte) && !matches!(byte, b'`' | b'{' | b'|' | b'}' | b'~')
+    (b' '..=b'z').contains(&byte) && byte != b'`'
 }

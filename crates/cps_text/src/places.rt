@@ -13,20 +13,16 @@ pub fn filled_from(text: &[u8], at: usize) -> usize
     at + first_filled(from(text, at))
 }
 
-/// The first place from one on that is blank; the end where there is none.
-pub fn blank_from(text: &[u8], at: usize) -> usize
+/// The characters from a place on, up to a blank, and where they end.
+pub fn field_from(text: &[u8], at: usize) -> (&[u8], usize)
     requires { at < 2 ^ 63 }
-    ensures column { result ≡ blank_from text.now at }
-    ensures near { result < 2 ^ 63 }
+    ensures field { result.0.now ≡ field_at text.now at }
+    ensures end { result.1 ≡ blank_from text.now at }
+    ensures near { result.1 < 2 ^ 63 }
 {
-    at + first_blank(from(text, at))
-}
-
-/// The characters from a place on, up to a blank.
-pub fn field_at(text: &[u8], at: usize) -> &[u8]
-    ensures { result.now ≡ field_at text.now at }
-{
-    before_blank(from(text, at))
+    let rest = from(text, at);
+    let len = first_blank(rest);
+    (&rest[..len], at + len)
 }
 
 /// What stands before the first blank.
