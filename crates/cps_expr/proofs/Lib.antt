@@ -15,6 +15,7 @@ pub mod RowBounds
 pub mod StatementRows
 pub mod TermsReading
 pub mod TokenLemmas
+pub mod UndefinedLemmas
 pub mod ValueAlone
 pub mod WordsLemmas
 pub mod WorkedRows

@@ -14,5 +14,6 @@ pub mod Statement
 pub mod Term
 pub mod TermsLeft
 pub mod Value
+pub mod ValuedSoFar
 pub mod Word
 pub mod WordsLeft

@@ -10,6 +10,7 @@ ghost use Rattle.cps_expr.specs.Value.{term_value, added, both, value_in, has_un
 
 use crate::names::Names;
 use crate::radix::Radix;
+use crate::short_list::make_room;
 use crate::signs::{first_term, leading_sign};
 use crate::term::Term;
 use crate::term_text::read_term;
@@ -86,10 +87,9 @@ impl Expr {
         ensures ok { OnOk result (self.new ≡ self.old ++ term ∷ []) }
         ensures err { OnErr result (self.new ≡ self.old) }
     {
-        let names = term.names(*self.terms.allocator())?;
-        self.terms.reserve(1)?;
-        self.names.extend_from_slice(&names)?;
-        self.terms.push(term).unwrap();
+        make_room(&mut self.terms)?;
+        term.push_names(&mut self.names)?;
+        self.terms.push_reserved(term);
         Ok(())
     }
 
@@ -128,10 +128,7 @@ impl Expr {
         ensures names_alone { (others : Name → Option Value) → AgreeOn others (N.value names.now) (names_of self.now)
             → (value_in others here self.now ≡ result.value) × (has_undefined others self.now ≡ result.undefined) }
     {
-        Valued {
-            value: value_of_terms(&self.terms, names, here),
-            undefined: any_undefined(&self.names, names),
-        }
+        value_of_terms(&self.terms, names, here)
     }
 }
 
@@ -198,20 +195,18 @@ fn any_counter(terms: &[Term]) -> bool
     terms.iter().any(|term| term.has_counter())
 }
 
-fn any_undefined<N: Names>(found: &[Name], names: &N) -> bool
-    ensures { result ≡ list_any (λ name. is_none (N.value names.now name)) found.now }
+/// The terms added and subtracted from left to right, each name asked for once.
+fn value_of_terms<N: Names>(terms: &[Term], names: &N, here: Value) -> Valued
+    ensures value { result.value ≡ value_in (N.value names.now) here terms.now }
+    ensures undefined { result.undefined ≡ has_undefined (N.value names.now) terms.now }
+    ensures range { IfSome result.value IsInRange }
 {
-    found.iter().any(|name| names.value_of(*name).is_none())
-}
-
-/// The terms added and subtracted from left to right.
-fn value_of_terms<N: Names>(terms: &[Term], names: &N, here: Value) -> Option<Value>
-    ensures value { result ≡ value_in (N.value names.now) here terms.now }
-    ensures range { IfSome result IsInRange }
-{
-    let mut value = Some(Value::plain(0));
+    let mut so_far = Valued {
+        value: Some(Value::plain(0)),
+        undefined: false,
+    };
     for term in terms {
-        value = term.added_to(value, names, here);
+        so_far = term.added_to(so_far, names, here);
     }
-    value
+    so_far
 }

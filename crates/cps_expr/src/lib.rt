@@ -21,6 +21,7 @@ mod row;
 mod row_counter;
 mod row_names;
 mod sequence;
+mod short_list;
 mod signs;
 mod statement;
 mod statement_table;

@@ -1,13 +1,16 @@
 //! Terms of an expression.
-ghost use Rattle.std.specs.Prelude.{◌≡◌, ◌++◌, map, pos, option_to_list, fold, IfOk, IfSome};
+ghost use Rattle.std.specs.Prelude.{◌≡◌, ◌++◌, ◌∷◌, ◌||◌, map, filter_map, take, length, pos, option_to_list, is_none, unwrap_or, fold, IfSome, OnOk, OnErr};
 ghost use Rattle.std.specs.List.{list_any};
 ghost use Rattle.cps_expr.specs.Term.{name_in, is_counter, term_names, term_has_counter};
 ghost use Rattle.cps_expr.specs.Value.{IsInRange, element_value, multiplied, added, both, term_value, limited, plain};
+ghost use Rattle.cps_expr.specs.ValuedSoFar.{is_undefined, term_has_undefined};
 
+use crate::expr::Valued;
 use crate::names::Names;
+use crate::short_list::push_one;
 use crate::value::{GREATEST_PLAIN, Value, added, limited, multiplied};
 use cps_text::Name;
-use std::alloc::{AllocError, Global};
+use std::alloc::AllocError;
 use std::marker::Model;
 
 /// An element of an expression: a number of at most `2^59 - 1`, a symbol, or `*`, the location counter.
@@ -59,16 +62,17 @@ impl Term {
         }
     }
 
-    /// The names that stand in it, in their order.
-    pub(crate) fn names(&self, alloc: Global) -> Result<Vec<Name>, AllocError>
-        ensures { IfOk result (λ names. names.items ≡ term_names self.now) }
+    /// Adds the names that stand in it, in their order; after a refusal the list is unchanged.
+    pub(crate) fn push_names(&self, names: &mut Vec<Name>) -> Result<(), AllocError>
+        ensures ok { OnOk result (names.new.items ≡ names.old.items ++ term_names self.now) }
+        ensures err { OnErr result (names.new.items ≡ names.old.items) }
     {
-        let mut names = Vec::new(alloc);
-        push_name(&mut names, self.first)?;
-        for factor in &self.factors {
-            push_name(&mut names, factor.element)?;
+        let before = names.len();
+        if let Err(refused) = push_all_names(names, self.first, &self.factors) {
+            names.truncate(before);
+            return Err(refused);
         }
-        Ok(names)
+        Ok(())
     }
 
     /// Whether `*` stands in it as an element.
@@ -79,41 +83,45 @@ impl Term {
     }
 
     /// A value with the term added or subtracted, where `*` stands for `here`.
-    pub(crate) fn added_to<N: Names>(
-        &self,
-        so_far: Option<Value>,
-        names: &N,
-        here: Value,
-    ) -> Option<Value>
-        ensures value { result ≡ both (added self.now.is_minus) so_far (term_value (N.value names.now) here self.now) }
-        ensures range { IfSome result IsInRange }
+    pub(crate) fn added_to<N: Names>(&self, so_far: Valued, names: &N, here: Value) -> Valued
+        ensures value { result.value ≡ both (added self.now.is_minus) so_far.value (term_value (N.value names.now) here self.now) }
+        ensures undefined { result.undefined ≡ (so_far.undefined || term_has_undefined (N.value names.now) self.now) }
+        ensures range { IfSome result.value IsInRange }
     {
-        let left = so_far?;
-        let right = self.value(names, here)?;
-        added(self.is_minus, left, right)
+        let first = element_value(self.first, names, here);
+        let term = with_factors(first, &self.factors, names, here);
+        Valued {
+            value: both_added(self.is_minus, so_far.value, term.value),
+            undefined: so_far.undefined || term.undefined,
+        }
     }
+}
 
-    /// Its value without the sign.
-    fn value<N: Names>(&self, names: &N, here: Value) -> Option<Value>
-        ensures { result ≡ term_value (N.value names.now) here self.now }
-    {
-        with_factors(
-            element_value(self.first, names, here),
-            &self.factors,
-            names,
-            here,
-        )
+/// Adds the names of elements, in their order; after a refusal those in front stay.
+fn push_all_names(
+    names: &mut Vec<Name>,
+    first: Element,
+    factors: &[Factor],
+) -> Result<(), AllocError>
+    ensures ok { OnOk result (names.new.items ≡ names.old.items ++ filter_map name_in (first ∷ map (λ factor. factor.element) factors.now)) }
+    ensures front { take (length names.old.items) names.new.items ≡ names.old.items }
+{
+    push_name(names, first)?;
+    for factor in factors {
+        push_name(names, factor.element)?;
     }
+    Ok(())
 }
 
 /// Adds the name of an element, if it is one.
 fn push_name(names: &mut Vec<Name>, element: Element) -> Result<(), AllocError>
-    ensures { IfOk result (λ _. names.new.items ≡ names.old.items ++ option_to_list (name_in element)) }
+    ensures ok { OnOk result (names.new.items ≡ names.old.items ++ option_to_list (name_in element)) }
+    ensures err { OnErr result (names.new.items ≡ names.old.items) }
 {
-    if let Element::Symbol(name) = element {
-        names.push(name)?;
+    match element {
+        Element::Symbol(name) => push_one(names, name),
+        Element::Number(_) | Element::Counter => Ok(()),
     }
-    Ok(())
 }
 
 fn is_counter(element: Element) -> bool
@@ -134,13 +142,30 @@ fn any_counter(factors: &[Factor]) -> bool
 }
 
 /// What an element stands for; an undefined name counts as plain 0.
-fn element_value<N: Names>(element: Element, names: &N, here: Value) -> Option<Value>
-    ensures { result ≡ element_value (N.value names.now) here element }
+fn element_value<N: Names>(element: Element, names: &N, here: Value) -> Valued
+    ensures value { result.value ≡ element_value (N.value names.now) here element }
+    ensures undefined { result.undefined ≡ is_undefined (N.value names.now) element }
 {
     match element {
-        Element::Number(number) => number_value(number),
-        Element::Symbol(name) => limited(names.value_of(name).unwrap_or(Value::plain(0))),
-        Element::Counter => limited(here),
+        Element::Number(number) => Valued {
+            value: number_value(number),
+            undefined: false,
+        },
+        Element::Symbol(name) => named_value(names.value_of(name)),
+        Element::Counter => Valued {
+            value: limited(here),
+            undefined: false,
+        },
+    }
+}
+
+fn named_value(found: Option<Value>) -> Valued
+    ensures value { result.value ≡ limited (unwrap_or found (plain (pos 0))) }
+    ensures undefined { result.undefined ≡ is_none found }
+{
+    Valued {
+        value: limited(found.unwrap_or(Value::plain(0))),
+        undefined: found.is_none(),
     }
 }
 
@@ -154,30 +179,37 @@ fn number_value(number: u64) -> Option<Value>
 }
 
 /// A value multiplied and divided by factors, from left to right.
-fn with_factors<N: Names>(
-    first: Option<Value>,
-    factors: &[Factor],
-    names: &N,
-    here: Value,
-) -> Option<Value>
-    ensures { result ≡ fold (λ so_far factor. both (multiplied factor.operator) so_far (element_value (N.value names.now) here factor.element)) first factors.now }
+fn with_factors<N: Names>(first: Valued, factors: &[Factor], names: &N, here: Value) -> Valued
+    ensures value { result.value ≡ fold (λ so_far factor. both (multiplied factor.operator) so_far (element_value (N.value names.now) here factor.element)) first.value factors.now }
+    ensures undefined { result.undefined ≡ (first.undefined || list_any (is_undefined (N.value names.now)) (map (λ factor. factor.element) factors.now)) }
 {
-    let mut value = first;
+    let mut so_far = first;
     for factor in factors {
-        value = with_factor(value, *factor, names, here);
+        so_far = with_factor(so_far, *factor, names, here);
     }
-    value
+    so_far
 }
 
-fn with_factor<N: Names>(
-    so_far: Option<Value>,
-    factor: Factor,
-    names: &N,
-    here: Value,
-) -> Option<Value>
-    ensures { result ≡ both (multiplied factor.operator) so_far (element_value (N.value names.now) here factor.element) }
+fn with_factor<N: Names>(so_far: Valued, factor: Factor, names: &N, here: Value) -> Valued
+    ensures value { result.value ≡ both (multiplied factor.operator) so_far.value (element_value (N.value names.now) here factor.element) }
+    ensures undefined { result.undefined ≡ (so_far.undefined || is_undefined (N.value names.now) factor.element) }
 {
-    let left = so_far?;
-    let right = element_value(factor.element, names, here)?;
-    multiplied(factor.operator, left, right)
+    let right = element_value(factor.element, names, here);
+    Valued {
+        value: both_multiplied(factor.operator, so_far.value, right.value),
+        undefined: so_far.undefined || right.undefined,
+    }
+}
+
+fn both_added(is_minus: bool, left: Option<Value>, right: Option<Value>) -> Option<Value>
+    ensures value { result ≡ both (added is_minus) left right }
+    ensures range { IfSome result IsInRange }
+{
+    added(is_minus, left?, right?)
+}
+
+fn both_multiplied(operator: Operator, left: Option<Value>, right: Option<Value>) -> Option<Value>
+    ensures { result ≡ both (multiplied operator) left right }
+{
+    multiplied(operator, left?, right?)
 }

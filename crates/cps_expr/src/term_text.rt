@@ -6,6 +6,7 @@ ghost use Rattle.cps_expr.specs.Term.{is_operator, is_star, tokens_of, element_o
 use crate::expr::ExprFault;
 use crate::number::read_number;
 use crate::radix::Radix;
+use crate::short_list::push_one;
 use crate::term::{Element, Factor, Operator, Term};
 use crate::value::GREATEST_PLAIN;
 use cps_text::Name;
@@ -67,7 +68,7 @@ fn push_factor(factors: &mut Option<Vec<Factor>>, factor: Factor)
     ensures { IfSome factors.new (λ after. IsSomeAnd factors.old (λ before. after.items ≡ before.items ++ factor ∷ [])) }
 {
     if let Some(kept) = factors {
-        if kept.push(factor).is_ok() {
+        if push_one(kept, factor).is_ok() {
             return;
         }
     }
