@@ -4,6 +4,7 @@ pub mod DigitsLemmas
 pub mod ItemReading
 pub mod NameLemmas
 pub mod OctalLemmas
+pub mod OrderLemmas
 pub mod PartLemmas
 pub mod PlaceLemmas
 pub mod RunLemmas

@@ -1,22 +1,25 @@
 //! Symbols of the language.
-ghost use Rattle.std.specs.Prelude.{◌≡◌, ◌==◌, ◌≤◌, ◌<◌, length, IfSome};
+ghost use Rattle.std.specs.Prelude.{◌≡◌, ◌==◌, ◌≤◌, ◌<◌, length, IfSome, Some, refl};
 ghost use Rattle.std.specs.List.{list_all, position};
 ghost use Rattle.std.specs.Int.{w64, from_le_bytes};
 ghost use Rattle.std.specs.Hash as fed;
-ghost use Rattle.std.specs.Cmp.Lexicographic.{pointwise};
+ghost use Rattle.std.specs.Ordering.{nat_cmp};
+ghost use Rattle.std.specs.Cmp.{on_total, on_po};
+ghost use Rattle.std.specs.Cmp.Lexicographic.{pointwise, slice_cmp, nat_list_cmp_total, texts_po, texts_ties};
 ghost use Rattle.std.specs.Cmp.Rules.{comparing, hashing};
 ghost use Rattle.std.proofs.Common.{rules};
 ghost use Rattle.cps_text.specs.Symbol.{begins_symbol, continues_symbol, is_register, is_symbol, padded, is_padding};
 ghost use Rattle.cps_text.specs.Text.{capitals};
 
 use crate::character::capital;
+use std::cmp::Ordering;
 use std::hash::{Hash, Hasher};
 
 /// The most characters of a symbol.
 const LONGEST: usize = 8;
 
 /// A symbol in capitals: 1 to 8 characters. Names are ordered by their characters.
-#[derive(Clone, Copy, Debug, Eq, PartialOrd, Ord)]
+#[derive(Clone, Copy, Debug, Eq)]
 pub struct Name {
     bytes: [u8; LONGEST],
 }
@@ -37,6 +40,37 @@ fn is_one(left: Name, right: Name) -> bool
     ensures { result ≡ pointwise ◌==◌ left.bytes right.bytes }
 {
     u64::from_le_bytes(left.bytes) == u64::from_le_bytes(right.bytes)
+}
+
+impl PartialOrd for Name {
+    ghost partial_cmp = { λ a b. Some (slice_cmp nat_cmp a.bytes b.bytes) };
+
+    ghost laws = { on_po (λ name. name.bytes) texts_po };
+
+    fn partial_cmp(&self, other: &Name) -> Option<Ordering> {
+        Some(self.cmp(other))
+    }
+}
+
+/// Names are in the order of the numbers that their bytes write, the first byte the highest.
+impl Ord for Name {
+    ghost cmp = { λ a b. slice_cmp nat_cmp a.bytes b.bytes };
+
+    ghost total = { on_total (λ name. name.bytes) nat_list_cmp_total };
+
+    ghost matches_partial_cmp = { λ a b. refl };
+
+    ghost matches_eq = { λ a b. texts_ties a.bytes b.bytes };
+
+    fn cmp(&self, other: &Name) -> Ordering {
+        order_of(*self, *other)
+    }
+}
+
+fn order_of(left: Name, right: Name) -> Ordering
+    ensures { result ≡ slice_cmp nat_cmp left.bytes right.bytes }
+{
+    u64::from_be_bytes(left.bytes).cmp(&u64::from_be_bytes(right.bytes))
 }
 
 /// A name hashes as one number.
