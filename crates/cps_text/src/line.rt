@@ -93,10 +93,15 @@ impl Line {
     }
 }
 
+/// It doesn't stop at the first other byte, so that many bytes are looked at at once.
 fn has_accepted_bytes(text: &[u8]) -> bool
     ensures { result ≡ all_accepted text.now }
 {
-    text.iter().all(|byte| is_accepted(*byte))
+    let mut accepted = true;
+    for byte in text {
+        accepted &= is_accepted(*byte);
+    }
+    accepted
 }
 
 fn is_accepted(byte: u8) -> bool

@@ -1,6 +1,6 @@
 //! Where blanks and other characters stand in a text.
 ghost use Rattle.std.specs.Prelude.{◌≡◌, ◌+◌, ◌^◌, ◌≤◌, ◌<◌, length, take, drop, IfSome};
-ghost use Rattle.std.specs.List.{before_first, position, position_or_len};
+ghost use Rattle.std.specs.List.{position, position_or_len};
 ghost use Rattle.cps_text.specs.Card.{filled_from, blank_from, field_at};
 ghost use Rattle.cps_text.specs.Text.{is_blank, is_filled};
 
@@ -23,14 +23,6 @@ pub fn field_from(text: &[u8], at: usize) -> (&[u8], usize)
     let rest = from(text, at);
     let len = first_blank(rest);
     (&rest[..len], at + len)
-}
-
-/// What stands before the first blank.
-pub fn before_blank(text: &[u8]) -> &[u8]
-    ensures { result.now ≡ before_first is_blank text.now }
-{
-    let (front, _) = text.split_at(first_blank(text));
-    front
 }
 
 /// What stands from a place on.
