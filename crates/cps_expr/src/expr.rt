@@ -1,12 +1,11 @@
 //! Expressions.
-ghost use Rattle.std.specs.Prelude.{◌≡◌, ◌↔◌, ◌++◌, [], ◌∷◌, false, is_none, is_some, Option, Some, None, IfOk, IfSome, IsErrOf, IsSome, OnOk, OnErr};
-ghost use Rattle.std.specs.List.{list_any};
+ghost use Rattle.std.specs.Prelude.{◌≡◌, ◌↔◌, ◌++◌, [], ◌∷◌, false, is_some, Option, Some, None, IfOk, IfSome, IsErrOf, IsSome, OnOk, OnErr};
 ghost use Rattle.cps_text.specs.declared.name.Name.{Name};
 ghost use Rattle.cps_expr.specs.declared.value.Value.{Value};
 ghost use Rattle.cps_expr.specs.Expression.{Expression, expression_of, names_of, has_counter, terms_of, signed_texts};
 ghost use Rattle.cps_expr.specs.Grammar.{Writes};
 ghost use Rattle.cps_expr.specs.Term.{term_of};
-ghost use Rattle.cps_expr.specs.Value.{term_value, added, both, value_in, has_undefined, AgreeOn, IsInRange};
+ghost use Rattle.cps_expr.specs.Value.{value_in, has_undefined, AgreeOn, IsInRange};
 
 use crate::names::Names;
 use crate::radix::Radix;
