@@ -8,6 +8,9 @@ use cps_text::capital;
 pub(crate) fn is_same(text: &[u8], other: &[u8]) -> bool
     ensures { result ≡ is_same text.now other.now }
 {
+    if text.len() != other.len() {
+        return false;
+    }
     let mut rest = text;
     for byte in other {
         match rest {
