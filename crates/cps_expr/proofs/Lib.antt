@@ -1,7 +1,6 @@
 pub mod Choices
 pub mod ElementTexts
 pub mod FactorReading
-pub mod FoldLemmas
 pub mod GrammarComplete
 pub mod GrammarSound
 pub mod ItemBounds
