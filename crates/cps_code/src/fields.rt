@@ -1,9 +1,9 @@
-ghost use Rattle.std.specs.Prelude.{◌≡◌, ◌<◌, ◌≤◌, ◌^◌, Some, None, [], ◌∷◌, map, option_map, IfOk, IfSome, IsErrOf, MatchOption};
+ghost use Rattle.std.specs.Prelude.{◌≡◌, ◌<◌, Some, None, [], ◌∷◌, map, option_map, IfOk, IfSome, MatchOption};
 ghost use Rattle.cps_expr.specs.Reads.{Reads};
 ghost use Rattle.cps_text.specs.Operands.{operands_of};
 ghost use Rattle.cps_text.specs.OperandsLeft.{operands_left};
 ghost use Rattle.cps_code.specs.Rows.{registers_in, form_in, form_in_row, form_of_rows, operands_in};
-ghost use Rattle.cps_code.specs.Operations.{texts, no_sum, registers_alone, constant_in, row_of_fields, long_form, count_form};
+ghost use Rattle.cps_code.specs.Operations.{texts, no_sum, registers_alone, constant_in, row_of_fields};
 ghost use Rattle.cps_code.specs.Terms.{AreDigits};
 ghost use Rattle.cps_code.specs.Operand.{IsOperand};
 ghost use Rattle.cps_expr.specs.declared.machine.Machine.TheVariants.{Cp};
@@ -13,7 +13,7 @@ use super::form::CpForm;
 use super::hole::Operand;
 use super::literal::read_operand;
 use super::operation::FieldForm;
-use cps_expr::{Expr, ExprFault, Machine, Radix, read_only};
+use cps_expr::{ExprFault, Machine, Radix, read_only};
 use cps_text::{Operands, operands};
 use std::alloc::Global;
 
@@ -67,49 +67,21 @@ fn form_of_row(
         FieldForm::Short(registers, code) => {
             match read_registers_alone(registers, digits, tail) {
                 None => Err(ExprFault::Unreadable),
-                Some(known) => Ok(CpForm::short(alloc, octal(known, code))),
+                Some(known) => Ok(CpForm::short(octal(known, code))),
             }
         }
         FieldForm::Constant(registers, code) => {
             let found = read_fields(alloc, registers, digits, tail, radix)?;
-            long_form(alloc, octal(found.digits, code), found.operand, false)
+            Ok(CpForm::long(octal(found.digits, code), found.operand, false))
         }
         FieldForm::Forcing(registers, code) => {
             let found = read_fields(alloc, registers, digits, tail, radix)?;
-            long_form(alloc, octal(found.digits, code), found.operand, true)
+            Ok(CpForm::long(octal(found.digits, code), found.operand, true))
         }
         FieldForm::Count(code) => {
             let count = read_only(alloc, tail, radix)?;
-            count_form(alloc, octal(digits, code), count)
+            Ok(CpForm::counted(octal(digits, code), count))
         }
-    }
-}
-
-fn long_form(
-    alloc: Global,
-    front: u16,
-    constant: Operand,
-    forces_after: bool,
-) -> Result<CpForm, ExprFault>
-    requires front { front < 2 ^ 12 }
-    requires fits { IsOperand Cp constant }
-    ensures form { IfOk result (λ form. form ≡ long_form front constant forces_after) }
-    ensures readable { IsErrOf result ExprFault.Unreadable → ⊥ }
-{
-    match CpForm::long(alloc, front, constant, forces_after) {
-        Ok(form) => Ok(form),
-        Err(_) => Err(ExprFault::Memory),
-    }
-}
-
-fn count_form(alloc: Global, front: u16, count: Expr) -> Result<CpForm, ExprFault>
-    requires { front < 2 ^ 9 }
-    ensures form { IfOk result (λ form. form ≡ count_form front count) }
-    ensures readable { IsErrOf result ExprFault.Unreadable → ⊥ }
-{
-    match CpForm::counted(alloc, front, count) {
-        Ok(form) => Ok(form),
-        Err(_) => Err(ExprFault::Memory),
     }
 }
 

@@ -1,4 +1,4 @@
-ghost use Rattle.std.specs.Prelude.{◌≡◌, ◌<◌, ◌^◌, ◌≤◌, IfOk, length, All};
+ghost use Rattle.std.specs.Prelude.{◌≡◌, ◌<◌, ◌^◌, ◌≤◌, length};
 ghost use Rattle.cps_code.specs.Bits.{parcel_bits};
 ghost use Rattle.cps_code.specs.Form.{IsForm, filled};
 ghost use Rattle.cps_code.specs.Operand.{IsOperand};
@@ -10,7 +10,6 @@ use super::filling_holes::fill_holes;
 use super::hole::{Hole, HoleKind, Operand};
 use super::widths::{CONSTANT, COUNT, PARCEL};
 use cps_expr::Expr;
-use std::alloc::{AllocError, Global};
 use std::marker::Model;
 
 /// The form of a statement of the central processor: a code of 15 or 30 bits with holes.
@@ -18,91 +17,83 @@ use std::marker::Model;
 pub struct CpForm {
     bits: u8,
     code: u64,
-    holes: Vec<Hole>,
+    hole: Option<Hole>,
     forces_after: bool,
 }
 
 impl Model for CpForm {
+    ghost use Rattle.std.specs.Prelude.{option_to_list};
     ghost use Rattle.cps_code.specs.Form.{Form, IsForm};
 
     ghost Value = { Form };
 
-    ghost view = { λ form. record { bits = form.bits; code = form.code; holes = form.holes.items; forces_after = form.forces_after } };
+    ghost view = { λ form. record { bits = form.bits; code = form.code; holes = option_to_list form.hole; forces_after = form.forces_after } };
 
-    ghost invariant = { λ form. IsForm (record { bits = form.bits; code = form.code; holes = form.holes.items; forces_after = form.forces_after }) };
+    ghost invariant = { λ form. IsForm (record { bits = form.bits; code = form.code; holes = option_to_list form.hole; forces_after = form.forces_after }) };
 }
 
 impl CpForm {
     /// A form of 15 bits.
-    pub(crate) fn short(alloc: Global, code: u16) -> CpForm
+    pub(crate) fn short(code: u16) -> CpForm
         requires { code < 2 ^ parcel_bits }
         ensures { result ≡ short_form code }
     {
         CpForm {
             bits: PARCEL,
             code: u64::from(code),
-            holes: Vec::new(alloc),
+            hole: None,
             forces_after: false,
         }
     }
 
     /// A form of 30 bits: four digits and a constant of 0, with a forcing pending after it.
-    pub(crate) fn bare(alloc: Global, front: u16) -> CpForm
+    pub(crate) fn bare(front: u16) -> CpForm
         requires { front < 2 ^ 12 }
         ensures { result ≡ bare_form front }
     {
         CpForm {
             bits: 2 * PARCEL,
             code: u64::from(front) << CONSTANT,
-            holes: Vec::new(alloc),
+            hole: None,
             forces_after: true,
         }
     }
 
     /// A form of 15 bits: three digits and a count.
-    pub(crate) fn counted(alloc: Global, front: u16, count: Expr) -> Result<CpForm, AllocError>
+    pub(crate) fn counted(front: u16, count: Expr) -> CpForm
         requires { front < 2 ^ 9 }
-        ensures { IfOk result (λ form. form ≡ count_form front count) }
+        ensures { result ≡ count_form front count }
     {
-        let mut holes = Vec::new(alloc);
-        holes.push(Hole {
-            first: PARCEL - COUNT,
-            width: COUNT,
-            kind: HoleKind::Count,
-            operand: Operand::Expression(count),
-        })?;
-        Ok(CpForm {
+        CpForm {
             bits: PARCEL,
             code: u64::from(front) << COUNT,
-            holes,
+            hole: Some(Hole {
+                first: PARCEL - COUNT,
+                width: COUNT,
+                kind: HoleKind::Count,
+                operand: Operand::Expression(count),
+            }),
             forces_after: false,
-        })
+        }
     }
 
     /// A form of 30 bits: four digits and a constant of 18 bits.
-    pub(crate) fn long(
-        alloc: Global,
-        front: u16,
-        operand: Operand,
-        forces_after: bool,
-    ) -> Result<CpForm, AllocError>
+    pub(crate) fn long(front: u16, operand: Operand, forces_after: bool) -> CpForm
         requires front { front < 2 ^ 12 }
         requires fits { IsOperand Cp operand }
-        ensures { IfOk result (λ form. form ≡ long_form front operand forces_after) }
+        ensures { result ≡ long_form front operand forces_after }
     {
-        let mut holes = Vec::new(alloc);
-        holes.push(Hole {
-            first: 2 * PARCEL - CONSTANT,
-            width: CONSTANT,
-            kind: HoleKind::Value,
-            operand,
-        })?;
-        Ok(CpForm {
+        CpForm {
             bits: 2 * PARCEL,
             code: u64::from(front) << CONSTANT,
-            holes,
+            hole: Some(Hole {
+                first: 2 * PARCEL - CONSTANT,
+                width: CONSTANT,
+                kind: HoleKind::Value,
+                operand,
+            }),
             forces_after,
-        })
+        }
     }
 
     /// How long the code is: 15 or 30 bits.
@@ -118,7 +109,7 @@ impl CpForm {
         ensures holes { result.now ≡ self.now.holes }
         ensures few { length self.now.holes ≤ 1 }
     {
-        self.holes.as_slice()
+        self.hole.as_slice()
     }
 
     /// Whether a forcing is pending after the statement, so that the next instruction begins a word.
@@ -134,6 +125,6 @@ impl CpForm {
         ensures filled { result ≡ filled self.now numbers.now }
         ensures fits { result.digits < 2 ^ self.now.bits }
     {
-        fill_holes(self.bits, self.code, &self.holes, numbers)
+        fill_holes(self.bits, self.code, self.hole.as_slice(), numbers)
     }
 }

@@ -74,8 +74,8 @@ fn form_of_operation(
     ensures { Answers (form_of_rows radix digits (rows_of forms) (operands_in radix tail.now)) result }
 {
     match forms {
-        Forms::Pass => Ok(CpForm::short(alloc, 0o46000)),
-        Forms::Stop => Ok(CpForm::bare(alloc, 0)),
+        Forms::Pass => Ok(CpForm::short(0o46000)),
+        Forms::Stop => Ok(CpForm::bare(0)),
         Forms::SetA | Forms::SetB | Forms::SetX => {
             summed_form(alloc, SumForms::Set, digits, tail, radix)
         }
@@ -115,16 +115,11 @@ fn summed_form(
 {
     match read_summed(alloc, tail, radix) {
         None => Err(FormFault::Unreadable),
-        Some(kept) => form_of_sum(alloc, forms, digits, kept),
+        Some(kept) => form_of_sum(forms, digits, kept),
     }
 }
 
-fn form_of_sum(
-    alloc: Global,
-    forms: SumForms,
-    digits: Digits,
-    kept: KeptSummed,
-) -> Result<CpForm, FormFault>
+fn form_of_sum(forms: SumForms, digits: Digits, kept: KeptSummed) -> Result<CpForm, FormFault>
     requires known { AreDigits digits }
     requires registers { AreRegisters kept.registers }
     requires fits { IfSome kept.constant (IsOperand Cp) }
@@ -134,17 +129,16 @@ fn form_of_sum(
     match (forms, kept.has_constant) {
         (SumForms::Set, true) => {
             let front = code_with_constant(digits, registers);
-            long_form(alloc, front, kept.constant, false)
+            long_form(front, kept.constant, false)
         }
-        (SumForms::Set, false) => short_form(alloc, digits, registers).ok_or(FormFault::Unreadable),
-        (SumForms::Jump, true) => long_form(alloc, jump_front(registers), kept.constant, true),
-        (SumForms::Jump, false) => bare_jump(alloc, registers).ok_or(FormFault::Unreadable),
+        (SumForms::Set, false) => short_form(digits, registers).ok_or(FormFault::Unreadable),
+        (SumForms::Jump, true) => long_form(jump_front(registers), kept.constant, true),
+        (SumForms::Jump, false) => bare_jump(registers).ok_or(FormFault::Unreadable),
     }
 }
 
 /// A form with a constant; there is none if no row has the digits before it.
 fn long_form(
-    alloc: Global,
     front: Option<u16>,
     constant: Option<Operand>,
     forces_after: bool,
@@ -160,32 +154,29 @@ fn long_form(
     let Some(constant) = constant else {
         return Err(FormFault::Memory);
     };
-    match CpForm::long(alloc, front, constant, forces_after) {
-        Ok(form) => Ok(form),
-        Err(_) => Err(FormFault::Memory),
-    }
+    Ok(CpForm::long(front, constant, forces_after))
 }
 
 /// The form of a set instruction of registers without a constant.
-fn short_form(alloc: Global, digits: Digits, registers: Registers) -> Option<CpForm>
+fn short_form(digits: Digits, registers: Registers) -> Option<CpForm>
     requires known { AreDigits digits }
     requires digits { AreRegisters registers }
     ensures { set_form digits (register_list registers) None ≡ result }
 {
     match code_without_constant(digits, registers) {
         None => None,
-        Some(code) => Some(CpForm::short(alloc, code)),
+        Some(code) => Some(CpForm::short(code)),
     }
 }
 
 /// The form of a jump to a register without a constant.
-fn bare_jump(alloc: Global, registers: Registers) -> Option<CpForm>
+fn bare_jump(registers: Registers) -> Option<CpForm>
     requires { AreRegisters registers }
     ensures { (digits : Digits) → jump_form digits (register_list registers) None ≡ result }
 {
     match registers {
         Registers::Absent => None,
-        _ => Some(CpForm::bare(alloc, jump_front(registers)?)),
+        _ => Some(CpForm::bare(jump_front(registers)?)),
     }
 }
 
