@@ -34,6 +34,13 @@ use std::alloc::AllocError;
 /// The columns of a statement.
 const MOST_COLUMNS: usize = 90;
 
+/// A statement as it is written, with its columns.
+#[derive(Clone, Copy)]
+struct Written<'a> {
+    text: &'a [u8],
+    fields: Fields<'a>,
+}
+
 /// A statement. It hands on where it stands by then, and answers the statements that it opens.
 pub fn step_statement<L: Lookup>(
     recorder: &mut Recorder<'_, L>,
@@ -45,12 +52,13 @@ pub fn step_statement<L: Lookup>(
     let known = recorder.note(Key::Control)?;
     let control = control_of(recorder.answer(known));
     let mode = mode_of(recorder.answer(known))?;
+    let fields = card_in(text);
     match control.phase {
         Phase::AfterEnd => {
-            step_after_end(recorder, card_in(text));
+            step_after_end(recorder, fields);
             Ok(None)
         }
-        _ => step_before_end(recorder, control, mode, scope, text),
+        _ => step_before_end(recorder, control, mode, scope, Written { text, fields }),
     }
 }
 
@@ -80,16 +88,17 @@ fn step_before_end<L: Lookup>(
     control: Control,
     mode: Mode,
     scope: &mut Scope,
-    text: &[u8],
+    written: Written<'_>,
 ) -> Result<Option<Opened>, AllocError>
-    ensures { IfOk result (λ opened. HandsOn (meaning.before_end control mode scope.old text.now (meaning.end_in scope.old (meaning.card_in text.now))) scope.new (lines_of opened) L.answer recorder.old recorder.new) }
+    requires { fields_value written.fields ≡ meaning.card_in written.text.now }
+    ensures { IfOk result (λ opened. HandsOn (meaning.before_end control mode scope.old written.entry.text.now (meaning.end_in scope.old (meaning.card_in written.entry.text.now))) scope.new (lines_of opened) L.answer recorder.old recorder.new) }
 {
-    if let Some(location) = end_in(scope, card_in(text)) {
+    if let Some(location) = end_in(scope, written.fields) {
         end(recorder, Front { control, location }, &mode)?;
         return Ok(None);
     }
     let mode = mode_in(mode, scope)?;
-    step_in_mode(recorder, control, mode, scope, text)
+    step_in_mode(recorder, control, mode, scope, written)
 }
 
 /// The location field of END on a source line.
@@ -117,28 +126,30 @@ fn step_in_mode<L: Lookup>(
     control: Control,
     mode: Mode,
     scope: &mut Scope,
-    text: &[u8],
+    written: Written<'_>,
 ) -> Result<Option<Opened>, AllocError>
-    ensures { IfOk result (λ opened. HandsOn (meaning.in_mode control scope.old text.now mode) scope.new (lines_of opened) L.answer recorder.old recorder.new) }
+    requires { fields_value written.fields ≡ meaning.card_in written.text.now }
+    ensures { IfOk result (λ opened. HandsOn (meaning.in_mode control scope.old written.entry.text.now mode) scope.new (lines_of opened) L.answer recorder.old recorder.new) }
 {
+    let Written { text, fields } = written;
     let passing = Passing {
         control,
         mode: &mode,
         text,
     };
     match &mode {
-        Mode::Normal => assemble(recorder, control, scope, card_in(text)),
+        Mode::Normal => assemble(recorder, control, scope, fields),
         Mode::SkipLines(count) => treat(recorder, passing, scope, skipped_line(*count)),
         Mode::SkipRange(skip) => {
-            let seen = seen_in(card_in(text));
+            let seen = seen_in(fields);
             treat(recorder, passing, scope, skipped_in_range(*skip, seen))
         }
         Mode::KeepMacro(body) => {
-            let seen = seen_in(card_in(text));
+            let seen = seen_in(fields);
             treat(recorder, passing, scope, kept_for_macro(body, seen)?)
         }
         Mode::KeepDup(body) => {
-            let seen = seen_in(card_in(text));
+            let seen = seen_in(fields);
             treat(recorder, passing, scope, kept_for_dup(*body, seen))
         }
     }
