@@ -4,7 +4,7 @@ use Rattle.std.specs.Prelude.{map, if◌then◌else◌}
 use Rattle.std.proofs.lemmas.Grind.{flat_map-append}
 use Rattle.std.proofs.lemmas.List.{take_more, take_all, drop_more}
 use Rattle.std.proofs.lemmas.List.Sums.{fold-append}
-use Rattle.indexmap.specs.IndexSet.{insert_all}
+use Rattle.indexmap.specs.IndexSet.{insert_all, insert_key}
 use Rattle.cps_text.specs.declared.name.Name.{Name}
 use Rattle.cps_expr.specs.declared.machine.Machine.{Machine}
 use Rattle.cps_expr.specs.Value.{same_name}
@@ -15,18 +15,17 @@ use Rattle.cps_state.specs.declared.key.Put.{Put}
 use Rattle.cps_state.specs.Course.{Trace}
 use Rattle.cps_state.specs.Flags.{joined}
 use Rattle.cps_state.specs.Machines.{limit, behind}
-use Rattle.cps_code.specs.Image.{Piece}
-use Rattle.cps_state.specs.Made.{Made, no_flags, width_of, end_of, HaveRoom}
+use Rattle.cps_state.specs.Made.{Made, no_flags, width_of, content_names, end_of, HaveRoom}
 use Rattle.cps_state.proofs.PlaceLemmas.{end-not-before, end-next}
 use Rattle.cps_final.specs.declared.row.Row.{Row}
 use Rattle.cps_final.specs.Values.{Resolved, known_in, Standing, standing_of, first_address}
 use Rattle.cps_final.specs.Places.{with_places}
 use Rattle.cps_final.specs.Rows.{row_at, later_rows, content_rows, with_contents, blank_row, rows_with, rows_made, row_of, rows_of}
-use Rattle.cps_final.specs.Pieces.{pieces_of}
-use Rattle.cps_final.specs.Names.{later_names, symbol_put, names_read, names_defined}
-use Rattle.cps_final.specs.Outcome.{outcome_of, joined_with}
+use Rattle.cps_final.specs.Names.{LineSymbols, later_names, symbol_put, names_read, names_defined}
+use Rattle.cps_final.specs.Outcome.{Output, output_of, outcome_of, joined_with}
 use Rattle.cps_final.proofs.BlockLemmas.{same_name-laws}
 use Rattle.cps_final.proofs.GatherLemmas.{distinct-append}
+use Rattle.cps_final.proofs.PieceLemmas.{room-given, room-low}
 
 -- ---- the walk over contents
 
@@ -34,10 +33,8 @@ use Rattle.cps_final.proofs.GatherLemmas.{distinct-append}
 pub room-first : (machine : Machine) (made : Made) (at : ℕ) → machine ≡ made.machine → at ≡ made.start → HaveRoom made.machine made.start made.contents
     → (at ≤ 60 * limit machine) × (end_of machine at made.contents ≤ 60 * limit machine)
 room-first machine made at of starts room =
-    let ends : end_of machine at made.contents ≤ 60 * limit machine =
-    subst (λ (m : Machine). end_of m at made.contents ≤ 60 * limit m) (sym of) (subst (λ (n : ℕ). end_of made.machine n made.contents ≤ 60 * limit made.machine) (sym starts) room.within) in
-    let after = end-not-before machine at made.contents in
-    (omega (arith, after, ends), ends)
+    let given = room-given machine at made of starts room in
+    (room-low machine at made.contents given, given.within)
 
 -- the rows from a place on, where the first has these flags
 abbrev pub rows_from : Standing → Flags → Bool → ℕ → List Content → List Row
@@ -119,13 +116,16 @@ module _ (standing : Standing) (contents : List Content) (machine : Machine) (fl
       ∙ ap (λ (f : Flags). joined_with f (rows_from standing no_flags true next (drop (i + 1) contents))) joins
       ∙ sym (ap (joined_with all) rows-more) ∙ so_far
 
--- the row of contents that only give flags
-pub flags-row : (finals : Resolved) (item : Item) (contents : List Content) → 0 < length contents → item.made.only_flags ≡ true
-    → rows_with finals item contents ≡ blank_row (with_contents (known_in finals item.made) (first_address finals item) item.made.flags contents) ∷ []
-flags-row finals item [] some only = absurd (omega (arith, some))
-flags-row finals item (content ∷ contents) some only =
-    ap (λ (b : Bool). if b then blank_row (with_contents (known_in finals item.made) (first_address finals item) item.made.flags (content ∷ contents)) ∷ []
-    else content_rows (standing_of finals item) item.made.flags (with_places item.made.machine item.made.start (content ∷ contents))) only
+-- the rows of contents that are bits
+pub contents-rows : (finals : Resolved) (item : Item) (standing : Standing) (contents : List Content) → 0 < length contents → item.made.only_flags ≡ false → standing ≡ standing_of finals item
+    → rows_with finals item contents ≡ content_rows standing item.made.flags (with_places standing.machine item.made.start contents)
+contents-rows finals item standing [] some are_bits is = absurd (omega (arith, some))
+contents-rows finals item standing (content ∷ contents) some are_bits is =
+    let all = content ∷ contents in
+    let flags = item.made.flags in
+    ap (λ (b : Bool). if b then blank_row (with_contents (known_in finals item.made) (first_address finals item) flags all) ∷ []
+    else content_rows (standing_of finals item) flags (with_places item.made.machine item.made.start all)) are_bits
+    ∙ sym (ap (λ (s : Standing). content_rows s flags (with_places s.machine item.made.start all)) is)
 
 -- all contents were walked
 pub flags-all : (standing found : Standing) (flags all : Flags) (contents : List Content) (i : ℕ) → length contents ≤ i → found ≡ standing
@@ -143,20 +143,29 @@ flat_map-more f xs i x lt is =
 
 -- ---- a line
 
-pub outcome-made : (finals : Resolved) (trace : Trace) (items : List Item) (puts : List Put) (rows : List Row) (pieces : List Piece) (defined read : List Name) → items ≡ trace.items → puts ≡ trace.puts
-    → rows ≡ flat_map (rows_of finals) items → pieces ≡ flat_map (pieces_of finals) items
-    → defined ≡ insert_all same_name [] (flat_map (λ p. symbol_put p.key) puts) → read ≡ insert_all same_name [] (trace.reads ++ later_names trace)
-    → record { rows = rows; pieces = pieces; defined = defined; read = read } ≡ outcome_of finals trace
-outcome-made finals trace items puts rows pieces defined read is has shows bits defines reads =
+pub symbols-made : (trace : Trace) (puts : List Put) (reads : List Name) (items : List Item) (none none' defined read read' : List Name) → puts ≡ trace.puts → reads ≡ trace.reads → items ≡ trace.items
+    → none ≡ [] → none' ≡ [] → defined ≡ insert_all same_name none (flat_map (λ p. symbol_put p.key) puts) → read ≡ insert_all same_name none' reads
+    → read' ≡ insert_all same_name read (flat_map (λ item. flat_map content_names item.made.contents) items)
+    → ◌≡◌ {A = LineSymbols} (record { defined = defined; read = read' }) (record { defined = names_defined trace; read = names_read trace })
+symbols-made trace puts reads items none none' defined read read' are_puts are_reads are_items is_none is_none' defines reads-first reads-later =
     let defined-now : defined ≡ names_defined trace =
-    defines ∙ ap (λ (l : List Put). insert_all same_name [] (flat_map (λ p. symbol_put p.key) l)) has
+    defines ∙ (λ i. insert_all same_name (is_none i) (flat_map (λ p. symbol_put p.key) (are_puts i)))
     ∙ sym (distinct-append same_name same_name-laws [] (flat_map (λ p. symbol_put p.key) trace.puts)) in
-    let read-now : read ≡ names_read trace = reads ∙ sym (distinct-append same_name same_name-laws [] (trace.reads ++ later_names trace)) in
+    let read-now : read' ≡ names_read trace =
+    reads-later ∙ (λ i. insert_all same_name ((reads-first ∙ (λ j. insert_all same_name (is_none' j) (are_reads j))) i) (flat_map (λ item. flat_map content_names item.made.contents) (are_items i)))
+    ∙ sym (fold-append (insert_key same_name) [] trace.reads (later_names trace))
+    ∙ sym (distinct-append same_name same_name-laws [] (trace.reads ++ later_names trace)) in
+    λ i. record { defined = defined-now i; read = read-now i }
+
+pub outcome-made : (finals : Resolved) (trace : Trace) (output : Output) (symbols : LineSymbols) (items : List Item) → items ≡ trace.items
+    → output ≡ output_of finals items → symbols ≡ record { defined = names_defined trace; read = names_read trace }
+    → record { rows = output.rows; pieces = output.pieces; defined = symbols.defined; read = symbols.read } ≡ outcome_of finals trace
+outcome-made finals trace output symbols items is shows names =
     λ i. record {
-      rows = (shows ∙ ap (flat_map (rows_of finals)) is) i;
-      pieces = (bits ∙ ap (flat_map (pieces_of finals)) is) i;
-      defined = defined-now i;
-      read = read-now i;
+      rows = ((shows ∙ ap (output_of finals) is) i).rows;
+      pieces = ((shows ∙ ap (output_of finals) is) i).pieces;
+      defined = (names i).defined;
+      read = (names i).read;
     }
 
 pub appends-more : {X Y : Type 0} (f : X → List Y) (xs : List X) (i : ℕ) (x : X) (mid new : List Y) → i < length xs → x ≡ get_or xs i x

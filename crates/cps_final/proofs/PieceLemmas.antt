@@ -13,7 +13,7 @@ use Rattle.cps_code.specs.Image.{Piece}
 use Rattle.cps_state.specs.declared.item.Item.{Item}
 use Rattle.cps_state.specs.declared.made.Content.{Content}
 use Rattle.cps_state.specs.Machines.{limit, behind}
-use Rattle.cps_state.specs.Made.{width_of, end_of, HaveRoom}
+use Rattle.cps_state.specs.Made.{Made, width_of, end_of, HaveRoom}
 use Rattle.cps_state.proofs.PlaceLemmas.{end-not-before}
 use Rattle.cps_final.specs.Values.{Resolved, Standing, standing_of, number_of}
 use Rattle.cps_final.specs.Places.{with_places}
@@ -43,6 +43,11 @@ room-behind machine at content contents room = record {
   some = All-tail (λ (c : Content). 0 < width_of c) content contents room.some;
   within = room.within;
 }
+
+-- from the place where a statement starts its contents have room
+pub room-given : (machine : Machine) (at : ℕ) (made : Made) → machine ≡ made.machine → at ≡ made.start → HaveRoom made.machine made.start made.contents → HaveRoom machine at made.contents
+room-given machine at made of starts room =
+    subst (λ (m : Machine). HaveRoom m at made.contents) (sym of) (subst (λ (n : ℕ). HaveRoom made.machine n made.contents) (sym starts) room)
 
 pub room-low : (machine : Machine) (at : ℕ) (contents : List Content) → HaveRoom machine at contents → at ≤ 60 * limit machine
 room-low machine at contents room =
@@ -93,25 +98,22 @@ module _ (standing : Standing) (walked all : List Content) (machine : Machine) (
 
 -- ---- a statement
 
--- the filling, the zeros and the contents, each pushed after the one before
-pub statement-pieces : (finals : Resolved) (item : Item) (standing : Standing) (base : ℕ) (old filled zeroed new : List Piece)
+-- the filling and the zeros, and then the contents
+pub statement-pieces : (finals : Resolved) (item : Item) (standing : Standing) (base : ℕ) (old skipped new : List Piece)
     → standing ≡ standing_of finals item → base ≡ standing.base → item.made.only_flags ≡ false
-    → filled ≡ old ++ flat_map (placed item.made.machine base) item.made.filling
-    → zeroed ≡ filled ++ flat_map (placed item.made.machine base) (zeros_at item.made.machine item.made.start item.made.zeros)
-    → new ≡ zeroed ++ flat_map (placed standing.machine standing.base) (content_pieces standing item.made.start item.made.contents)
+    → skipped ≡ old ++ flat_map (placed item.made.machine base) (item.made.filling ++ zeros_at item.made.machine item.made.start item.made.zeros)
+    → new ≡ skipped ++ flat_map (placed standing.machine standing.base) (content_pieces standing item.made.start item.made.contents)
     → new ≡ old ++ pieces_of finals item
-statement-pieces finals item standing base old filled zeroed new is based are_bits fills zeroes pushed =
+statement-pieces finals item standing base old skipped new is based are_bits skips pushed =
     let made = item.made in
     let s = standing_of finals item in
     let g = placed made.machine s.base in
-    let zeros = zeros_at made.machine made.start made.zeros in
+    let first = made.filling ++ zeros_at made.machine made.start made.zeros in
     let bits = content_pieces s made.start made.contents in
-    let at_base : base ≡ s.base = based ∙ ap (λ (t : Standing). t.base) is in
-    let filled-now : filled ≡ old ++ flat_map g made.filling = fills ∙ ap (λ (n : ℕ). old ++ flat_map (placed made.machine n) made.filling) at_base in
-    let zeroed-now : zeroed ≡ filled ++ flat_map g zeros = zeroes ∙ ap (λ (n : ℕ). filled ++ flat_map (placed made.machine n) zeros) at_base in
-    let pushed-now : new ≡ zeroed ++ flat_map g bits =
-    pushed ∙ ap (λ (t : Standing). zeroed ++ flat_map (placed t.machine t.base) (content_pieces t made.start made.contents)) is in
-    pushed-now ∙ ap (λ (l : List Piece). l ++ flat_map g bits) (zeroed-now ∙ ap (λ (l : List Piece). l ++ flat_map g zeros) filled-now ∙ append_assoc old (flat_map g made.filling) (flat_map g zeros))
-    ∙ append_assoc old (flat_map g made.filling ++ flat_map g zeros) (flat_map g bits)
-    ∙ ap (λ (l : List Piece). old ++ l) (ap (λ (l : List Piece). l ++ flat_map g bits) (sym (flat_map-append g made.filling zeros)) ∙ sym (flat_map-append g (made.filling ++ zeros) bits))
-    ∙ ap (λ (b : Bool). old ++ flat_map g (made.filling ++ zeros ++ (if b then [] else bits))) (sym are_bits)
+    let skips-now : skipped ≡ old ++ flat_map g first =
+    skips ∙ ap (λ (n : ℕ). old ++ flat_map (placed made.machine n) first) (based ∙ ap (λ (t : Standing). t.base) is) in
+    let pushed-now : new ≡ skipped ++ flat_map g bits =
+    pushed ∙ ap (λ (t : Standing). skipped ++ flat_map (placed t.machine t.base) (content_pieces t made.start made.contents)) is in
+    pushed-now ∙ ap (λ (l : List Piece). l ++ flat_map g bits) skips-now ∙ append_assoc old (flat_map g first) (flat_map g bits)
+    ∙ ap (λ (l : List Piece). old ++ l) (sym (flat_map-append g first bits))
+    ∙ ap (λ (b : Bool). old ++ flat_map g (first ++ (if b then [] else bits))) (sym are_bits)

@@ -1,4 +1,4 @@
--- The flags of an instruction with two holes.
+-- An instruction with two holes.
 use Rattle.std.proofs.Common.{◌≡◌, ℕ, Bool, true, false, List, [], ◌∷◌, refl, sym, ap, ◌∙◌}
 use Rattle.std.specs.Prelude.{ℤ, ◌||◌, map}
 use Rattle.std.specs.List.{list_any}
@@ -8,7 +8,7 @@ use Rattle.cps_code.specs.Form.{Form, filled}
 use Rattle.cps_state.specs.declared.flags.Flags.{Flags}
 use Rattle.cps_state.specs.Flags.{joined}
 use Rattle.cps_state.specs.Made.{no_flags}
-use Rattle.cps_final.specs.Values.{Known, operand_number, is_valueless, reads_undefined, number_for, numbers_of, operand_flags, form_flags}
+use Rattle.cps_final.specs.Values.{Known, operand_number, is_valueless, reads_undefined, number_for, numbers_of, operand_flags, form_number, form_flags}
 
 or_false : (b : Bool) → b ≡ (b || false)
 or_false true = refl
@@ -23,6 +23,12 @@ numbers-two : (known : Known) (here : ℕ) (form : Form) (hole other : Hole) (nu
 numbers-two known here form hole other number next is first second =
     (λ i. first i ∷ second i ∷ [])
     ∙ sym (ap (map (λ (h : Hole). number_for h.kind here (operand_number known here h.operand))) is)
+
+pub number-two : (known : Known) (here : ℕ) (form : Form) (hole other : Hole) (number next : ℤ) (full : Filled) (digits : ℕ) → form.holes ≡ hole ∷ other ∷ []
+    → number ≡ number_for hole.kind here (operand_number known here hole.operand) → next ≡ number_for other.kind here (operand_number known here other.operand)
+    → full ≡ filled form (number ∷ next ∷ []) → digits ≡ full.digits → digits ≡ form_number known here form
+number-two known here form hole other number next full digits is first second fills made =
+    made ∙ ap (λ (f : Filled). f.digits) (fills ∙ ap (filled form) (numbers-two known here form hole other number next is first second))
 
 pub flags-two : (known : Known) (here : ℕ) (form : Form) (hole other : Hole) (number next : ℤ) (full : Filled) (value more all flags : Flags)
     → form.holes ≡ hole ∷ other ∷ []

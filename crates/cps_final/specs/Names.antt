@@ -25,3 +25,8 @@ symbol_put _ = []
 -- the symbols that a line defines, each once
 abbrev pub names_defined : Trace → List Name
 names_defined trace = distinct same_name (flat_map (λ p. symbol_put p.key) trace.puts)
+
+-- both
+pub record LineSymbols : Type 0 where
+  pub defined : List Name
+  pub read : List Name

@@ -20,6 +20,15 @@ use Rattle.cps_final.specs.Rows.{rows_of}
 use Rattle.cps_final.specs.Pieces.{pieces_of}
 use Rattle.cps_final.specs.Names.{names_read, names_defined}
 
+-- the rows and the bits of a line
+pub record Output : Type 0 where
+  pub rows : List Row
+  pub pieces : List Piece
+
+-- of a line with these statements
+abbrev pub output_of : Resolved → List Item → Output
+output_of finals items = record { rows = flat_map (rows_of finals) items; pieces = flat_map (pieces_of finals) items }
+
 pub record Outcome : Type 0 where
   pub rows : List Row
   pub pieces : List Piece

@@ -8,8 +8,9 @@ ghost use Rattle.cps_final.specs.Rows as shown;
 ghost use Rattle.cps_final.specs.Values as values;
 
 use crate::finals::{Finals, Gathered};
-use crate::rows::{flags_with_contents, row_at, statement_row};
+use crate::rows::{flags_row, row_at, statement_row};
 use crate::standing::Standing;
+use crate::valued::{Placed, value_content};
 use cps_state::{Flags, Item, Trace, behind};
 
 /// The flags of a line: those of all rows that pass two makes of it. Takes no memory.
@@ -27,10 +28,10 @@ pub fn flags_under(trace: &Trace, finals: &Finals) -> Flags
 fn join_rows(flags: Flags, item: &Item, finals: &Finals) -> Flags
     ensures { result ≡ outcome.joined_with flags (shown.rows_made (resolved finals.now) item.now) }
 {
-    if item.made.contents().is_empty() {
+    if item.made.only_flags() {
+        flags.joined(flags_row(item, finals).flags)
+    } else if item.made.contents().is_empty() {
         flags.joined(statement_row(item, finals).flags)
-    } else if item.made.only_flags() {
-        flags.joined(flags_with_contents(item, finals))
     } else {
         join_content_rows(flags, item, finals)
     }
@@ -49,7 +50,13 @@ fn join_content_rows(flags: Flags, item: &Item, finals: &Finals) -> Flags
     let mut is_later = false;
     let mut at = made.start();
     for content in made.contents() {
-        let row = row_at(&standing, own, is_later, at, content);
+        let valued = value_content(content, &standing);
+        let placed = Placed {
+            content,
+            at,
+            valued,
+        };
+        let row = row_at(&standing, own, is_later, placed);
         flags = flags.joined(row.flags);
         own = Flags::none();
         is_later = true;

@@ -8,34 +8,28 @@ ghost use Rattle.cps_final.specs.Outcome as outcome;
 ghost use Rattle.cps_final.specs.Resolving.{resolved};
 
 use crate::finals::{Finals, Gathered};
-use crate::names::{defined_names, read_names};
-use crate::pieces::make_pieces;
+use crate::names::LineSymbols;
+use crate::output::Output;
 use crate::row::Row;
-use crate::rows::make_rows;
 use cps_code::Piece;
 use cps_state::{Flags, Tally, Trace, Work};
 use cps_text::Name;
-use indexmap::IndexSet;
 use std::alloc::{AllocError, Global};
 use std::marker::Model;
 
 /// What pass two makes of a line: its rows, its bits, and the symbols that it defines and reads.
 #[derive(Drop)]
 pub struct Outcome {
-    rows: Vec<Row>,
-    pieces: Vec<Piece>,
-    defined: IndexSet<Name>,
-    read: IndexSet<Name>,
+    output: Output,
+    symbols: LineSymbols,
 }
 
 impl Model for Outcome {
-    ghost use Rattle.std.specs.Prelude.{map};
-    ghost use Rattle.cps_code.specs.Image.{piece_of};
     ghost use Rattle.cps_final.specs.Outcome.{Outcome};
 
     ghost Value = { Outcome };
 
-    ghost view = { λ outcome. record { rows = outcome.rows.items; pieces = map piece_of outcome.pieces.items; defined = outcome.defined.keys; read = outcome.read.keys } };
+    ghost view = { λ outcome. record { rows = outcome.output.rows; pieces = outcome.output.pieces; defined = outcome.symbols.defined; read = outcome.symbols.read } };
 }
 
 /// Pass two of a line. It counts as one step, whatever is answered.
@@ -59,17 +53,11 @@ fn make_outcome(alloc: Global, trace: &Trace, finals: &Finals) -> Result<Outcome
     ensures alone { IfOk result (λ made. (others : outcome.Resolved) → outcome.AgreeOnNamed others (resolved finals.now) trace.now
         → outcome.outcome_of others trace.now ≡ made) }
 {
-    let items = trace.items();
-    let rows = make_rows(alloc, items, finals)?;
-    let pieces = make_pieces(alloc, items, finals)?;
-    let defined = defined_names(alloc, trace.puts())?;
-    let read = read_names(alloc, trace)?;
-    Ok(Outcome {
-        rows,
-        pieces,
-        defined,
-        read,
-    })
+    let mut output = Output::new(alloc);
+    output.replace(trace.items(), finals)?;
+    let mut symbols = LineSymbols::new(alloc);
+    symbols.replace(trace)?;
+    Ok(Outcome { output, symbols })
 }
 
 impl Outcome {
@@ -77,38 +65,45 @@ impl Outcome {
     pub fn rows(&self) -> &[Row]
         ensures { result.now ≡ self.now.rows }
     {
-        self.rows.as_slice()
+        self.output.rows()
     }
 
     /// The bits, in their order.
     pub fn pieces(&self) -> &[Piece]
         ensures { map piece_of result.now ≡ self.now.pieces }
     {
-        self.pieces.as_slice()
+        self.output.pieces()
     }
 
     /// The symbols that the line defines, each once.
     pub fn names_defined(&self) -> &[Name]
         ensures { result.now ≡ self.now.defined }
     {
-        self.defined.as_slice()
+        self.symbols.defined()
     }
 
     /// The symbols that the line reads, each once.
     pub fn names_read(&self) -> &[Name]
         ensures { result.now ≡ self.now.read }
     {
-        self.read.as_slice()
+        self.symbols.read()
     }
 
     /// The flags of all rows.
     pub fn flags(&self) -> Flags
         ensures { result ≡ outcome.flags_of self.now.rows }
     {
-        let mut flags = Flags::none();
-        for row in &self.rows {
-            flags = flags.joined(row.flags);
-        }
-        flags
+        flags_of(self.rows())
     }
+}
+
+/// The flags of all rows of a line.
+pub fn flags_of(rows: &[Row]) -> Flags
+    ensures { result ≡ outcome.flags_of rows.now }
+{
+    let mut flags = Flags::none();
+    for row in rows {
+        flags = flags.joined(row.flags);
+    }
+    flags
 }

@@ -1,25 +1,21 @@
-//! The bits of a statement in pass two.
-ghost use Rattle.std.specs.Prelude.{◌≡◌, [], ◌∷◌, ◌++◌, ◌<◌, ◌≤◌, ◌%◌, ◌^◌, false, map, flat_map, OnOk, IfOk};
+//! Bits in the words of a block in pass two.
+ghost use Rattle.std.specs.Prelude.{◌≡◌, [], ◌∷◌, ◌++◌, ◌<◌, ◌≤◌, ◌%◌, ◌^◌, map, flat_map, OnOk, IfOk};
 ghost use Rattle.cps_code.specs.Image.{piece_of};
 ghost use Rattle.cps_expr.specs.Item.{bits_of};
-ghost use Rattle.cps_final.specs.Resolving.{resolved, view_of};
 ghost use Rattle.cps_final.specs.Pieces as bits;
 
-use crate::finals::Finals;
-use crate::standing::Standing;
-use crate::valued::value_content;
 use cps_code::Piece;
 use cps_expr::Machine;
-use cps_state::{Item, Made, WORD, behind, limit_of, word_bits};
-use std::alloc::{AllocError, Global};
+use cps_state::{Made, WORD, limit_of, word_bits};
+use std::alloc::AllocError;
 
 /// The `width` low bits of `number`, from a place of a block on. They may reach into the next words.
 #[derive(Clone, Copy)]
-struct Run {
-    machine: Machine,
-    at: u32,
-    width: u8,
-    number: u64,
+pub struct Run {
+    pub machine: Machine,
+    pub at: u32,
+    pub width: u8,
+    pub number: u64,
     ghost in_word: { at % 60 < bits_of machine },
     ghost has_bits: { 0 < width },
     ghost few: { width ≤ 60 },
@@ -62,30 +58,14 @@ impl Run {
     }
 }
 
-/// The bits of statements.
-pub fn make_pieces(alloc: Global, items: &[Item], finals: &Finals) -> Result<Vec<Piece>, AllocError>
-    ensures { IfOk result (λ pieces. map piece_of pieces.items ≡ flat_map (bits.pieces_of (resolved finals.now)) items.now) }
+/// The bits before the contents of a statement: what fills those that were skipped, and words of zeros.
+pub fn push_skipped(pieces: &mut Vec<Piece>, base: u64, made: &Made) -> Result<(), AllocError>
+    requires { base < 2 ^ 60 }
+    ensures { OnOk result (map piece_of pieces.new.items ≡ map piece_of pieces.old.items
+        ++ flat_map (bits.placed made.now.machine base) (made.now.filling ++ bits.zeros_at made.now.machine made.now.start made.now.zeros)) }
 {
-    let mut pieces = Vec::new(alloc);
-    for item in items {
-        push_pieces(&mut pieces, item, finals)?;
-    }
-    Ok(pieces)
-}
-
-fn push_pieces(pieces: &mut Vec<Piece>, item: &Item, finals: &Finals) -> Result<(), AllocError>
-    ensures { OnOk result (map piece_of pieces.new.items ≡ map piece_of pieces.old.items ++ bits.pieces_of (resolved finals.now) item.now) }
-{
-    let made = &item.made;
-    let standing = Standing::of(item, finals);
-    let base = standing.base();
     push_filling(pieces, base, made)?;
-    push_zeros(pieces, base, made)?;
-    if made.only_flags() {
-        Ok(())
-    } else {
-        push_contents(pieces, made, &standing)
-    }
+    push_zeros(pieces, base, made)
 }
 
 /// What fills the bits that were skipped.
@@ -119,40 +99,8 @@ fn push_zeros(pieces: &mut Vec<Piece>, base: u64, made: &Made) -> Result<(), All
     push_placed(pieces, machine, base, zeros)
 }
 
-/// The contents, one after another.
-fn push_contents(
-    pieces: &mut Vec<Piece>,
-    made: &Made,
-    standing: &Standing,
-) -> Result<(), AllocError>
-    requires same { (view_of standing.now).machine ≡ made.now.machine }
-    requires are_bits { made.now.only_flags ≡ false }
-    ensures { OnOk result (map piece_of pieces.new.items ≡ map piece_of pieces.old.items
-        ++ flat_map (bits.placed (view_of standing.now).machine (view_of standing.now).base) (bits.content_pieces (view_of standing.now) made.now.start made.now.contents)) }
-{
-    let machine = standing.machine();
-    let base = standing.base();
-    let mut at = made.start();
-    for content in made.contents() {
-        let width = content.width();
-        let number = value_content(content, standing).number;
-        push_run(
-            pieces,
-            base,
-            Run {
-                machine,
-                at,
-                width,
-                number,
-            },
-        )?;
-        at = behind(machine, at, width);
-    }
-    push_last_word(pieces, machine, base, at)
-}
-
 /// Bits in each word that they touch.
-fn push_run(pieces: &mut Vec<Piece>, base: u64, run: Run) -> Result<(), AllocError>
+pub fn push_run(pieces: &mut Vec<Piece>, base: u64, run: Run) -> Result<(), AllocError>
     requires { base < 2 ^ 60 }
     ensures { OnOk result (map piece_of pieces.new.items ≡ map piece_of pieces.old.items
         ++ flat_map (bits.placed run.machine base) (bits.pieces_at run.machine run.at run.width run.number)) }
@@ -164,7 +112,7 @@ fn push_run(pieces: &mut Vec<Piece>, base: u64, run: Run) -> Result<(), AllocErr
 }
 
 /// A peripheral processor's word that was begun is filled with zeros.
-fn push_last_word(
+pub fn push_last_word(
     pieces: &mut Vec<Piece>,
     machine: Machine,
     base: u64,

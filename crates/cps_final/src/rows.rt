@@ -1,10 +1,9 @@
 //! The rows of a statement in pass two.
-ghost use Rattle.std.specs.Prelude.{◌≡◌, ◌++◌, ◌≤◌, [], ◌∷◌, false, nat_le, map, flat_map, OnOk, IfOk};
+ghost use Rattle.std.specs.Prelude.{◌≡◌, ◌++◌, ◌≤◌, [], ◌∷◌, true, nat_le, flat_map, OnOk, IfOk};
 ghost use Rattle.std.specs.List.{list_any};
 ghost use Rattle.cps_code.specs.Operand.{operand_literals};
 ghost use Rattle.cps_state.specs.Machines.{limit};
 ghost use Rattle.cps_state.specs.Made.{IsContent};
-ghost use Rattle.cps_final.specs.Places.{with_places};
 ghost use Rattle.cps_final.specs.Resolving.{resolved, view_of};
 ghost use Rattle.cps_final.specs.Rows as shown;
 ghost use Rattle.cps_final.specs.Values as values;
@@ -12,11 +11,11 @@ ghost use Rattle.cps_final.specs.Values as values;
 use crate::finals::Finals;
 use crate::row::{Digits, Row};
 use crate::standing::Standing;
-use crate::valued::value_content;
+use crate::valued::{Placed, value_content};
 use cps_code::{Hole, Operand, complement};
 use cps_expr::Machine;
-use cps_state::{Content, Flags, Item, Shared, Shown, WORD, behind, limit_of};
-use std::alloc::{AllocError, Global};
+use cps_state::{Content, Flags, Item, Shared, Shown, WORD, limit_of};
+use std::alloc::AllocError;
 
 /// The bits of a central processor's word.
 const WORD_BITS: u8 = 60;
@@ -24,76 +23,36 @@ const WORD_BITS: u8 = 60;
 /// The bits of a peripheral processor's word.
 const PERIPHERAL_BITS: u8 = 12;
 
-/// The rows of statements.
-pub fn make_rows(alloc: Global, items: &[Item], finals: &Finals) -> Result<Vec<Row>, AllocError>
-    ensures { IfOk result (λ rows. rows.items ≡ flat_map (shown.rows_of (resolved finals.now)) items.now) }
-{
-    let mut rows = Vec::new(alloc);
-    for item in items {
-        push_rows(&mut rows, item, finals)?;
-    }
-    Ok(rows)
-}
-
-fn push_rows(rows: &mut Vec<Row>, item: &Item, finals: &Finals) -> Result<(), AllocError>
-    ensures { OnOk result (rows.new.items ≡ rows.old.items ++ shown.rows_of (resolved finals.now) item.now) }
-{
-    let made = &item.made;
-    if made.contents().is_empty() {
-        push_row(rows, item, statement_row(item, finals))
-    } else if made.only_flags() {
-        push_row(rows, item, blank_row(flags_with_contents(item, finals)))
-    } else {
-        push_content_rows(rows, item, finals)
-    }
-}
-
-/// A row of a statement.
-fn push_row(rows: &mut Vec<Row>, item: &Item, row: Row) -> Result<(), AllocError>
+/// A row, as one of a statement.
+pub fn push_row(rows: &mut Vec<Row>, item: &Item, row: Row) -> Result<(), AllocError>
     ensures { OnOk result (rows.new.items ≡ rows.old.items ++ shown.row_of item.now row ∷ []) }
 {
     rows.push(row.of_item(item)?)?;
     Ok(())
 }
 
-/// A row for each content.
-fn push_content_rows(rows: &mut Vec<Row>, item: &Item, finals: &Finals) -> Result<(), AllocError>
-    requires { item.now.made.only_flags ≡ false }
-    ensures { OnOk result (rows.new.items ≡ rows.old.items
-        ++ map (shown.row_of item.now) (shown.content_rows (values.standing_of (resolved finals.now) item.now) item.now.made.flags
-        (with_places item.now.made.machine item.now.made.start item.now.made.contents))) }
-{
-    let made = &item.made;
-    let standing = Standing::of(item, finals);
-    let machine = standing.machine();
-    let mut flags = made.flags();
-    let mut is_later = false;
-    let mut at = made.start();
-    for content in made.contents() {
-        let row = row_at(&standing, flags, is_later, at, content);
-        push_row(rows, item, row)?;
-        flags = Flags::none();
-        is_later = true;
-        at = behind(machine, at, content.width());
-    }
-    Ok(())
-}
-
 /// The row of a content at a place of its block.
-pub fn row_at(standing: &Standing, flags: Flags, is_later: bool, at: u32, content: &Content) -> Row
-    requires { IsContent content.now }
-    ensures { result ≡ shown.row_at (view_of standing.now) flags is_later at content.now }
+pub fn row_at(standing: &Standing, flags: Flags, is_later: bool, placed: Placed) -> Row
+    requires content { IsContent placed.content.now }
+    requires number { placed.valued.number ≡ values.number_of (view_of standing.now).known (view_of standing.now).here placed.content.now }
+    requires flags { placed.valued.flags ≡ values.value_flags (view_of standing.now).known (view_of standing.now).here placed.content.now }
+    ensures { result ≡ shown.row_at (view_of standing.now) flags is_later placed.entry.at placed.entry.content.now }
 {
+    let Placed {
+        content,
+        at,
+        valued,
+    } = placed;
+    let machine = standing.machine();
     let address = standing.base() + u64::from(at / WORD);
-    let valued = value_content(content, standing);
     Row {
         flags: flags
             .joined(valued.flags)
             .joined(literal_flags(content, standing))
-            .joined(limit_flags(standing.machine(), address)),
+            .joined(limit_flags(machine, address)),
         location: Some(address),
-        code: Some(first_digits(standing.machine(), content, valued.number)),
-        second: second_digits(standing.machine(), content, valued.number),
+        code: Some(first_digits(machine, content, valued.number)),
+        second: second_digits(machine, content, valued.number),
         is_later,
         depth: 0,
         text: Shared::empty(),
@@ -101,7 +60,7 @@ pub fn row_at(standing: &Standing, flags: Flags, is_later: bool, at: u32, conten
 }
 
 /// A row that shows nothing but flags.
-pub fn blank_row(flags: Flags) -> Row
+fn blank_row(flags: Flags) -> Row
     ensures { result ≡ shown.blank_row flags }
 {
     Row {
@@ -116,7 +75,7 @@ pub fn blank_row(flags: Flags) -> Row
 }
 
 /// The flags of a statement, and those that its contents give.
-pub fn flags_with_contents(item: &Item, finals: &Finals) -> Flags
+fn flags_with_contents(item: &Item, finals: &Finals) -> Flags
     ensures { let standing = values.standing_of (resolved finals.now) item.now in
         result ≡ shown.with_contents standing.known standing.here item.now.made.flags item.now.made.contents }
 {
@@ -126,6 +85,18 @@ pub fn flags_with_contents(item: &Item, finals: &Finals) -> Flags
         flags = flags.joined(value_content(content, &standing).flags);
     }
     flags
+}
+
+/// The row of a statement that only gives flags.
+pub fn flags_row(item: &Item, finals: &Finals) -> Row
+    requires { item.now.made.only_flags ≡ true }
+    ensures { shown.rows_made (resolved finals.now) item.now ≡ result ∷ [] }
+{
+    if item.made.contents().is_empty() {
+        statement_row(item, finals)
+    } else {
+        blank_row(flags_with_contents(item, finals))
+    }
 }
 
 /// E at or past the machine's words.

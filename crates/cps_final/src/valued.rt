@@ -19,6 +19,14 @@ pub struct Valued {
     pub flags: Flags,
 }
 
+/// A content at a place of its block, with its value.
+#[derive(Clone, Copy)]
+pub struct Placed<'a> {
+    pub content: &'a Content,
+    pub at: u32,
+    pub valued: Valued,
+}
+
 /// The value of an expression as a number, and the flags that it gives.
 #[derive(Clone, Copy)]
 struct Counted {

@@ -1,8 +1,0 @@
-use Rattle.std.proofs.Common.{◌≡◌, [], take, flat_map}
-use Rattle.cps_expr.specs.Value.{same_name}
-use Rattle.indexmap.specs.IndexSet.{insert_all}
-use Rattle.cps_final.specs.Names.{symbol_put}
-use Rattle.cps_final.proofs.names.defined_names.Given as goal
-
-abbrev pub invariant-loop-put : goal.invariant-loop-put
-invariant-loop-put l = l.names.keys ≡ insert_all same_name [] (flat_map (λ p. symbol_put p.key) (take l.put-index l.puts))

@@ -1,8 +1,0 @@
-use Rattle.std.proofs.Common.{◌≡◌, take, map, flat_map}
-use Rattle.cps_code.specs.Image.{piece_of}
-use Rattle.cps_final.specs.Pieces.{pieces_of}
-use Rattle.cps_final.specs.Resolving.{resolved}
-use Rattle.cps_final.proofs.pieces.make_pieces.Given as goal
-
-abbrev pub invariant-loop-item : goal.invariant-loop-item
-invariant-loop-item l = map piece_of l.pieces.items ≡ flat_map (pieces_of (resolved l.finals)) (take l.item-index l.items)
