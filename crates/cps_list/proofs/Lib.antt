@@ -3,3 +3,4 @@ pub mod SymbolLemmas
 pub mod RowLemmas
 pub mod TextLemmas
 pub mod ViewLemmas
+pub mod PrintoutLemmas

@@ -22,15 +22,15 @@ use Rattle.cps_list.specs.Columns.{Column, laid_out}
 -- ---- the lines on which symbols stand
 
 -- the symbols that a line defines, and those that it reads
-abbrev pub mentions_on : ℕ → Outcome → List Mention
-mentions_on line outcome =
-    map (λ name. record { name = name; line = line; is_definition = true }) outcome.defined
-    ++ map (λ name. record { name = name; line = line; is_definition = false }) outcome.read
+abbrev pub mentions_on : ℕ → List Name → List Name → List Mention
+mentions_on line defined read =
+    map (λ name. record { name = name; line = line; is_definition = true }) defined
+    ++ map (λ name. record { name = name; line = line; is_definition = false }) read
 
 -- on lines that have numbers from one on
 abbrev pub mentions_from : ℕ → List Outcome → List Mention
 mentions_from line [] = []
-mentions_from line (outcome ∷ outcomes) = mentions_on line outcome ++ mentions_from (line + 1) outcomes
+mentions_from line (outcome ∷ outcomes) = mentions_on line outcome.defined outcome.read ++ mentions_from (line + 1) outcomes
 
 -- the mentions of a symbol
 abbrev pub mentions_of : Name → List Mention → List Mention

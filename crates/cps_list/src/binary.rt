@@ -1,21 +1,20 @@
 //! The binary text.
-ghost use Rattle.std.specs.Prelude.{◌≡◌, ◌++◌, ℕ, IfOk, OnOk, List, Option, map, codes};
+ghost use Rattle.std.specs.Prelude.{◌≡◌, ◌++◌, ℕ, OnOk, List, Option, map, codes};
 ghost use Rattle.cps_text.specs.Octal.{octal};
 ghost use Rattle.cps_code.specs.Image as image;
 ghost use Rattle.cps_code.specs.Image.{piece_of, ArePacked};
 ghost use Rattle.cps_state.specs.Machines.{limit};
-ghost use Rattle.cps_final.specs.Finals.{final_value, literal};
+ghost use Rattle.cps_final.specs.Finals.{final_value, literal, machine_of};
 ghost use Rattle.cps_final.specs.Values.{address_of};
 ghost use Rattle.cps_list.specs.Making.{Adds};
 ghost use Rattle.cps_list.specs.Binary as texts;
 
-use crate::view::View;
 use cps_code::{Piece, Words};
 use cps_expr::Machine;
 use cps_final::{Finals, Gathered};
 use cps_state::{limit_of, word_bits};
 use cps_text::{Name, push_octal};
-use std::alloc::{AllocError, Global};
+use std::alloc::AllocError;
 
 /// The octal digits of an address and of a word of the central processor.
 const CP_ADDRESS_DIGITS: u8 = 6;
@@ -30,32 +29,20 @@ const PP_WORD_DIGITS: u8 = 4;
 /// The bits of a word that are behind those of a peripheral processor.
 const BITS_BEHIND: u32 = 48;
 
-/// The binary text of a source.
-pub fn push_binary<V: View>(alloc: Global, text: &mut Vec<u8>, view: &V) -> Result<(), AllocError>
-    ensures { OnOk result (text.new.items ≡ text.old.items ++ texts.binary_text (V.assembly view.now)) }
+/// The binary text, with the words of all lines.
+pub fn push_binary(text: &mut Vec<u8>, words: Words, finals: &Finals) -> Result<(), AllocError>
+    ensures { let finals = ⟦<Finals as Gathered>⟧.gathered finals.now in (pieces : List image.Piece) → ArePacked pieces words
+        → OnOk result (text.new.items ≡ text.old.items ++ (texts.first_row finals.program
+        ++ texts.rows_below (limit (machine_of finals)) (machine_of finals) (pieces ++ texts.pool_pieces finals))) }
 {
-    let words = make_words(alloc, view)?;
-    let finals = view.finals();
+    let mut words = words;
+    put_pool(&mut words, finals)?;
     push_first_row(text, finals.program())?;
     push_rows(text, finals.machine(), &words)
 }
 
-/// The words of all lines and of the literal pool.
-fn make_words<V: View>(alloc: Global, view: &V) -> Result<Words, AllocError>
-    ensures { IfOk result (λ words. ArePacked (texts.pieces_of (V.assembly view.now)) words) }
-{
-    let mut words = Words::new(alloc);
-    for before in 0..view.count() {
-        let Some(outcome) = view.outcome(before + 1) else {
-            unreachable!();
-        };
-        put_pieces(&mut words, outcome.pieces())?;
-    }
-    put_pool(&mut words, view.finals())?;
-    Ok(words)
-}
-
-fn put_pieces(words: &mut Words, pieces: &[Piece]) -> Result<(), AllocError>
+/// Puts the bits of a line.
+pub fn put_pieces(words: &mut Words, pieces: &[Piece]) -> Result<(), AllocError>
     ensures { OnOk result (Adds (map piece_of pieces.now) words.old words.new) }
 {
     for piece in pieces {

@@ -7,14 +7,16 @@ mod flagged;
 mod listing;
 mod mention;
 mod part;
+mod printout;
 mod symbols;
 mod view;
 mod writing;
 
-pub use mention::Mention;
+pub use mention::{Mention, push_mentions};
 pub use part::{
     Part, make_text, write_all_parts, write_binary, write_flags, write_listing, write_part,
     write_symbols,
 };
+pub use printout::Printout;
 pub use view::View;
 pub use writing::{ListFault, write_text};

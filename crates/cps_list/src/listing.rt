@@ -5,7 +5,6 @@ ghost use Rattle.cps_list.specs.Columns.{with_columns, with_column, at_right, la
 ghost use Rattle.cps_list.specs.Listing as texts;
 
 use crate::columns::{fill_columns, last_of, push_at_right};
-use crate::view::View;
 use cps_final::{Digits, Row};
 use cps_text::push_octal;
 use itoa::Buffer;
@@ -29,32 +28,13 @@ const TEXT_COLUMNS: usize = 90;
 /// The octal digits of an address.
 const ADDRESS_DIGITS: u8 = 6;
 
-/// The listing of a source.
-pub fn push_listing<V: View>(text: &mut Vec<u8>, view: &V) -> Result<(), AllocError>
-    ensures { OnOk result (text.new.items ≡ text.old.items ++ texts.listing_text (V.assembly view.now)) }
-{
-    push_lines(text, view)?;
-    push_open_row(text, view.open_at_end())
-}
-
-/// The rows of all lines.
-fn push_lines<V: View>(text: &mut Vec<u8>, view: &V) -> Result<(), AllocError>
-    ensures { OnOk result (text.new.items ≡ text.old.items ++ texts.listing_from 1 (V.assembly view.now).lines (V.assembly view.now).outcomes) }
-{
-    for before in 0..view.count() {
-        let Some(line) = view.line(before + 1) else {
-            unreachable!();
-        };
-        let Some(outcome) = view.outcome(before + 1) else {
-            unreachable!();
-        };
-        push_rows(text, before + 1, line.bytes(), outcome.rows())?;
-    }
-    Ok(())
-}
-
 /// The rows of a line.
-fn push_rows(text: &mut Vec<u8>, number: u32, line: &[u8], rows: &[Row]) -> Result<(), AllocError>
+pub fn push_rows(
+    text: &mut Vec<u8>,
+    number: u32,
+    line: &[u8],
+    rows: &[Row],
+) -> Result<(), AllocError>
     ensures { OnOk result (text.new.items ≡ text.old.items ++ texts.line_rows number line.now rows.now) }
 {
     for row in rows {
@@ -157,7 +137,7 @@ fn text_shown<'a>(row: &'a Row, line: &'a [u8]) -> &'a [u8]
 }
 
 /// The last row of a source that ends while a range is open.
-fn push_open_row(text: &mut Vec<u8>, is_open: bool) -> Result<(), AllocError>
+pub fn push_open_row(text: &mut Vec<u8>, is_open: bool) -> Result<(), AllocError>
     ensures { OnOk result (text.new.items ≡ text.old.items ++ texts.open_row is_open) }
 {
     if is_open {

@@ -3,7 +3,6 @@ ghost use Rattle.std.specs.Prelude.{◌≡◌, ◌++◌, ◌<◌, ◌^◌, IfOk,
 ghost use Rattle.cps_list.specs.Symbols as texts;
 
 use crate::view::View;
-use cps_final::Outcome;
 use cps_text::Name;
 use std::alloc::{AllocError, Global};
 
@@ -25,21 +24,27 @@ pub fn list_mentions<V: View>(alloc: Global, view: &V) -> Result<Vec<Mention>, A
         let Some(outcome) = view.outcome(before + 1) else {
             unreachable!();
         };
-        push_mentions(&mut mentions, before + 1, outcome)?;
+        push_mentions(
+            &mut mentions,
+            before + 1,
+            outcome.names_defined(),
+            outcome.names_read(),
+        )?;
     }
     Ok(mentions)
 }
 
-/// The symbols that a line defines, and those that it reads.
-fn push_mentions(
+/// The symbols that the line of a number defines, and those that it reads.
+pub fn push_mentions(
     mentions: &mut Vec<Mention>,
     line: u32,
-    outcome: &Outcome,
+    defined: &[Name],
+    read: &[Name],
 ) -> Result<(), AllocError>
-    ensures { OnOk result (mentions.new.items ≡ mentions.old.items ++ texts.mentions_on line outcome.now) }
+    ensures { OnOk result (mentions.new.items ≡ mentions.old.items ++ texts.mentions_on line defined.now read.now) }
 {
-    push_names(mentions, outcome.names_defined(), line, true)?;
-    push_names(mentions, outcome.names_read(), line, false)
+    push_names(mentions, defined, line, true)?;
+    push_names(mentions, read, line, false)
 }
 
 fn push_names(

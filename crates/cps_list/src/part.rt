@@ -1,11 +1,11 @@
 //! The four texts of an assembled source, and all of them.
-ghost use Rattle.std.specs.Prelude.{◌≡◌, ◌++◌, IfOk, OnOk};
+ghost use Rattle.std.specs.Prelude.{◌≡◌, ◌<◌, ◌^◌, IfOk};
+ghost use Rattle.cps_list.specs.Making.{IsPrintoutOf, shown, shows_listing, shows_binary, shows_symbols, shows_flags};
+ghost use Rattle.cps_list.specs.Symbols.{mentions_from};
 ghost use Rattle.cps_list.specs.Texts.{text_of, Writes};
 
-use crate::binary::push_binary;
-use crate::flagged::push_flagged;
-use crate::listing::push_listing;
-use crate::symbols::push_symbols;
+use crate::mention::{Mention, list_mentions};
+use crate::printout::Printout;
 use crate::view::View;
 use crate::writing::{ListFault, write_text};
 use cps_text::Counted;
@@ -20,6 +20,36 @@ pub enum Part {
     Symbols,
     Flags,
     All,
+}
+
+impl Part {
+    /// Whether the listing is shown.
+    pub fn shows_listing(self) -> bool
+        ensures { result ≡ shows_listing self }
+    {
+        matches!(self, Part::Listing | Part::All)
+    }
+
+    /// Whether the binary text is shown.
+    pub fn shows_binary(self) -> bool
+        ensures { result ≡ shows_binary self }
+    {
+        matches!(self, Part::Binary | Part::All)
+    }
+
+    /// Whether the cross-reference is shown.
+    pub fn shows_symbols(self) -> bool
+        ensures { result ≡ shows_symbols self }
+    {
+        matches!(self, Part::Symbols | Part::All)
+    }
+
+    /// Whether the flags text is shown.
+    pub fn shows_flags(self) -> bool
+        ensures { result ≡ shows_flags self }
+    {
+        matches!(self, Part::Flags | Part::All)
+    }
 }
 
 /// Writes a part. The text is made whole before the first byte is written; after a failed write nothing more is
@@ -42,35 +72,40 @@ pub fn write_part<V: View, W: Write>(
 pub fn make_text<V: View>(alloc: Global, view: &V, part: Part) -> Result<Vec<u8>, AllocError>
     ensures { IfOk result (λ text. text.items ≡ text_of part (V.assembly view.now)) }
 {
-    let mut text = Vec::new(alloc);
-    push_text(alloc, &mut text, view, part)?;
+    let printout = make_printout(alloc, view, part)?;
+    let mentions = mentions_shown(alloc, view, part)?;
+    let (text, _) = printout.finish(view.finals(), view.open_at_end(), mentions)?;
     Ok(text)
 }
 
-fn push_text<V: View>(
-    alloc: Global,
-    text: &mut Vec<u8>,
-    view: &V,
-    part: Part,
-) -> Result<(), AllocError>
-    ensures { OnOk result (text.new.items ≡ text.old.items ++ text_of part (V.assembly view.now)) }
+/// What a part shows of all lines.
+fn make_printout<V: View>(alloc: Global, view: &V, part: Part) -> Result<Printout, AllocError>
+    ensures printout { IfOk result (IsPrintoutOf (V.assembly view.now).lines (V.assembly view.now).outcomes) }
+    ensures part { IfOk result (λ printout. printout.part ≡ part) }
+    ensures few { IfOk result (λ printout. printout.flagged < 2 ^ 32) }
 {
-    match part {
-        Part::Listing => push_listing(text, view),
-        Part::Binary => push_binary(alloc, text, view),
-        Part::Symbols => push_symbols(alloc, text, view),
-        Part::Flags => push_flagged(text, view),
-        Part::All => push_all(alloc, text, view),
+    let mut printout = Printout::new(alloc, part);
+    for before in 0..view.count() {
+        let Some(line) = view.line(before + 1) else {
+            unreachable!();
+        };
+        let Some(outcome) = view.outcome(before + 1) else {
+            unreachable!();
+        };
+        printout.add(before + 1, line.bytes(), outcome.rows(), outcome.pieces())?;
     }
+    Ok(printout)
 }
 
-fn push_all<V: View>(alloc: Global, text: &mut Vec<u8>, view: &V) -> Result<(), AllocError>
-    ensures { OnOk result (text.new.items ≡ text.old.items ++ text_of Part.All (V.assembly view.now)) }
+/// The symbols of all lines, where a part shows them.
+fn mentions_shown<V: View>(alloc: Global, view: &V, part: Part) -> Result<Vec<Mention>, AllocError>
+    ensures { IfOk result (λ mentions. mentions.items ≡ shown (shows_symbols part) (mentions_from 1 (V.assembly view.now).outcomes)) }
 {
-    push_listing(text, view)?;
-    push_binary(alloc, text, view)?;
-    push_symbols(alloc, text, view)?;
-    push_flagged(text, view)
+    if part.shows_symbols() {
+        list_mentions(alloc, view)
+    } else {
+        Ok(Vec::new(alloc))
+    }
 }
 
 /// Writes the listing, as `write_part` does.

@@ -7,13 +7,12 @@ ghost use Rattle.cps_list.specs.Columns.{with_column};
 ghost use Rattle.cps_list.specs.Symbols as texts;
 
 use crate::columns::{fill_columns, push_decimal};
-use crate::mention::{Mention, list_mentions};
-use crate::view::View;
+use crate::mention::Mention;
 use cps_code::complement;
 use cps_expr::Value;
 use cps_final::{Finals, Gathered};
 use cps_text::{Name, push_octal};
-use std::alloc::{AllocError, Global};
+use std::alloc::AllocError;
 
 /// The columns before the value and before the lines.
 const BEFORE_VALUE: usize = 9;
@@ -23,13 +22,17 @@ const BEFORE_LINES: usize = 30;
 /// The octal digits of a value.
 const VALUE_DIGITS: u8 = 20;
 
-/// The cross-reference of a source.
-pub fn push_symbols<V: View>(alloc: Global, text: &mut Vec<u8>, view: &V) -> Result<(), AllocError>
-    ensures { OnOk result (text.new.items ≡ text.old.items ++ texts.symbols_text (V.assembly view.now)) }
+/// The cross-reference of symbols that are mentioned.
+pub fn push_symbols(
+    text: &mut Vec<u8>,
+    mentions: Vec<Mention>,
+    finals: &Finals,
+) -> Result<(), AllocError>
+    ensures { OnOk result (text.new.items ≡ text.old.items ++ texts.symbol_rows (⟦<Finals as Gathered>⟧.gathered finals.now) mentions.items) }
 {
-    let mut mentions = list_mentions(alloc, view)?;
+    let mut mentions = mentions;
     mentions.sort_by_key(|mention| mention.name)?;
-    push_rows(text, &mentions, view.finals())?;
+    push_rows(text, &mentions, finals)?;
     Ok(())
 }
 

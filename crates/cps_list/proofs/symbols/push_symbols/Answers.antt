@@ -12,15 +12,14 @@ abbrev name_of : Mention → Name
 name_of mention = mention.name
 
 pub push_rows-requires : goal.push_rows-requires
-push_rows-requires g c = subst (IsSortedByKey name_of name_order) (sym c.deref.ensures.value) (c.in_ok-sort_by_key.ensures.sorted name_of (answers_always _ _ _ (λ f a r q called. search rules)))
+push_rows-requires c = subst (IsSortedByKey name_of name_order) (sym c.deref.ensures.value) (c.in_ok-sort_by_key.ensures.sorted name_of (answers_always _ _ _ (λ f a r q called. search rules)))
 
 pub returns : goal.returns
-returns g c =
-    let source = g.V.View.assembly c.args.view.now in
+returns c =
     let text = c.args.text.now.items in
-    let listed = c.in_ok-mentions.mentions.items in
+    let finals = gathered-value.it c.args.finals.now in
     let sorted = c.sort_by_key.new.self.items in
     let stable = c.in_ok-sort_by_key.ensures.stable name_of (answers_always _ _ _ (λ f a r q called. search rules)) in
     c.in_ok-push_rows.ensures
-    ∙ (λ i. text ++ symbol_rows (c.finals.ensures i) (c.deref.ensures.value i))
-    ∙ ap (λ rows. text ++ rows) (rows-sorted source.finals listed sorted c.sort_by_key.ensures.permutation stable ∙ ap (symbol_rows source.finals) c.in_ok-mentions.ensures)
+    ∙ ap (λ mentions. text ++ symbol_rows finals mentions) c.deref.ensures.value
+    ∙ ap (λ rows. text ++ rows) (rows-sorted finals c.args.mentions.items sorted c.sort_by_key.ensures.permutation stable)
