@@ -1,5 +1,5 @@
 -- Lines of a source that come one after another, by their bytes.
-use Rattle.std.proofs.Common.{◌≡◌, ℕ, ◌+◌, ◌≤◌, List, [], ◌∷◌, ◌++◌, map, length, eqb, refl, sym, ap, subst, ◌∙◌, arith, append_assoc, append-nil, length-append, false}
+use Rattle.std.proofs.Common.{◌≡◌, ℕ, ◌+◌, ◌≤◌, List, [], ◌∷◌, ◌++◌, map, length, refl, sym, ap, subst, ◌∙◌, arith, append_assoc, append-nil, length-append, true}
 use Rattle.std.proofs.lemmas.List.{map-append}
 use Rattle.std.proofs.lemmas.List.Elements.{All-nil, All-push}
 use Rattle.std.specs.Prelude.{Option, Result, Ok, Err}
@@ -15,8 +15,8 @@ use Rattle.cps_live.specs.Batch.{IsSource, IsWrong, IsFirstWrong, Refuses, IsRea
 use Rattle.cps_live.specs.BegunLine.{IsBegun}
 use Rattle.cps_live.specs.Input.{IsIntake, HasCome}
 use Rattle.cps_live.specs.Reads.{EndsEarly}
-use Rattle.cps_live.specs.Lines.{HasText, newline, without_return, last_line, lines_of}
-use Rattle.cps_live.proofs.SplitLemmas.{splits-none, splits-line, splits-byte}
+use Rattle.cps_live.specs.Lines.{HasText, has_no_newline, newline, without_return, last_line, lines_of}
+use Rattle.cps_live.proofs.SplitLemmas.{splits-none, splits-line, splits-piece}
 
 -- ---- lines
 
@@ -57,12 +57,12 @@ wrong-before lines line fault first = record {
 pub come-none : (input : Input) → IsIntake input.intake [] → IsBegun input.begun [] → HasCome input []
 come-none input intake begun = record { lines = []; rest = []; splits = splits-none; begun = begun; intake = intake }
 
-pub come-byte : (old new : Input) (taken : List ℕ) (byte : ℕ) → HasCome old taken → eqb byte newline ≡ false → new.intake ≡ old.intake
-    → ((begun : List ℕ) → IsBegun old.begun begun → IsBegun new.begun (begun ++ byte ∷ [])) → HasCome new (taken ++ byte ∷ [])
-come-byte old new taken byte so_far other same push = record {
+pub come-piece : (old new : Input) (taken piece : List ℕ) → HasCome old taken → has_no_newline piece ≡ true → new.intake ≡ old.intake
+    → ((begun : List ℕ) → IsBegun old.begun begun → IsBegun new.begun (begun ++ piece)) → HasCome new (taken ++ piece)
+come-piece old new taken piece so_far other same push = record {
   lines = so_far.lines;
-  rest = so_far.rest ++ byte ∷ [];
-  splits = splits-byte taken so_far.lines so_far.rest byte so_far.splits other;
+  rest = so_far.rest ++ piece;
+  splits = splits-piece taken so_far.lines so_far.rest piece so_far.splits other;
   begun = push so_far.rest so_far.begun;
   intake = subst (λ i. IsIntake i (map without_return so_far.lines)) (sym same) so_far.intake;
 }

@@ -1,5 +1,7 @@
 -- A line of which some bytes have come.
-use Rattle.std.proofs.Common.{◌≡◌, ℕ, suc, ◌+◌, ◌-◌, ◌<◌, ◌≤◌, Bool, true, false, cond, ◌&&◌, eqb, ltb, List, [], ◌∷◌, ◌++◌, length, get_or, take, drop, refl, sym, ap, ◌∙◌, arith, length-append, length-take, length-drop, get_or-drop}
+use Rattle.std.proofs.Common.{◌≡◌, ℕ, suc, ◌+◌, ◌-◌, ◌<◌, ◌≤◌, Bool, true, false, cond, ◌&&◌, eqb, ltb, List, [], ◌∷◌, ◌++◌, length, get_or, take, drop, refl, sym, ap, ◌∙◌, arith, append-nil, length-append, length-take, length-drop, get_or-drop}
+use Rattle.std.specs.Prelude.{Result, Ok, Err}
+use Rattle.std.specs.Result.{is_ok, OnOk}
 use Rattle.std.proofs.lemmas.List.{take_all, drop_all, take-append-le, drop-append-le}
 use Rattle.std.proofs.lemmas.Bool.Decides.{nat_tests}
 use Rattle.cps_live.specs.declared.begun_line.BegunLine.{BegunLine}
@@ -7,13 +9,17 @@ use Rattle.cps_live.specs.declared.begun_line.Past.TheVariants.{Nothing, Return,
 use Rattle.cps_live.specs.BegunLine.{past_of, more_past, IsBegun}
 use Rattle.cps_live.specs.Lines.{without_return}
 
+pub of-ok : {T E P : Type 0} (result : Result T E) → is_ok result ≡ true → OnOk result P → P
+of-ok (Ok value) is holds = holds
+of-ok (Err error) is holds = cc
+
 -- with room left, all bytes were kept
-pub kept-room : (room : ℕ) (begun : List ℕ) (byte : ℕ) → length (take room begun) < room
-    → (take room begun ++ byte ∷ [] ≡ take room (begun ++ byte ∷ [])) × (drop room (begun ++ byte ∷ []) ≡ []) × (drop room begun ≡ [])
-kept-room room begun byte short =
+pub kept-room : (room : ℕ) (begun bytes : List ℕ) → 0 < length bytes → length (take room begun) + length bytes ≤ room
+    → (take room begun ++ bytes ≡ take room (begun ++ bytes)) × (drop room (begun ++ bytes) ≡ []) × (drop room begun ≡ [])
+kept-room room begun bytes some short =
     let fits : length begun < room = omega (arith, length-take room begun) in
-    let grown : length (begun ++ byte ∷ []) ≤ room = omega (arith, length-append begun (byte ∷ [])) in
-    (rw (take_all room begun (omega arith), take_all room (begun ++ byte ∷ []) grown) refl, drop_all room (begun ++ byte ∷ []) grown, drop_all room begun (omega arith))
+    let grown : length (begun ++ bytes) ≤ room = omega (arith, length-append begun bytes, length-take room begun) in
+    (rw (take_all room begun (omega arith), take_all room (begun ++ bytes) grown) refl, drop_all room (begun ++ bytes) grown, drop_all room begun (omega arith))
 
 pub kept-full : (room : ℕ) (begun : List ℕ) (byte : ℕ) → length (take room begun) ≡ room
     → (take room begun ≡ take room (begun ++ byte ∷ [])) × (drop room (begun ++ byte ∷ []) ≡ drop room begun ++ byte ∷ [])
@@ -43,12 +49,17 @@ something : (test : Bool) → cond test Return More ≡ Nothing → ⊥
 something true is = cc
 something false is = cc
 
-pub begun-room : (old new : BegunLine) (begun : List ℕ) (byte : ℕ) → IsBegun old begun → length old.bytes.items < 200
-    → new.bytes.items ≡ old.bytes.items ++ byte ∷ [] → new.past ≡ old.past → IsBegun new (begun ++ byte ∷ [])
-begun-room old new begun byte is short items past =
+-- where there is room for all
+pub begun-room : (old new : BegunLine) (begun bytes : List ℕ) → IsBegun old begun → length old.bytes.items + length bytes ≤ 200
+    → new.bytes.items ≡ old.bytes.items ++ bytes → new.past ≡ old.past → IsBegun new (begun ++ bytes)
+begun-room old new begun [] is short items past = record {
+  kept = items ∙ append-nil old.bytes.items ∙ is.kept ∙ ap (take 200) (sym (append-nil begun));
+  past = past ∙ is.past ∙ ap (λ b. past_of (drop 200 b)) (sym (append-nil begun));
+}
+begun-room old new begun (b ∷ bytes) is short items past =
     let kept = is.kept in
-    let short' : length (take 200 begun) < 200 = rw (← kept) short in
-    let k = kept-room 200 begun byte short' in
+    let short' : length (take 200 begun) + length (b ∷ bytes) ≤ 200 = rw (← kept) short in
+    let k = kept-room 200 begun (b ∷ bytes) (omega arith) short' in
     let k0 = k.0 in let k1 = k.1 in let k2 = k.2 in
     record { kept = rw (items, kept) k0; past = past ∙ is.past ∙ ap past_of (k2 ∙ sym k1) }
 

@@ -1,9 +1,13 @@
 -- Bytes cut at their newlines.
-use Rattle.std.proofs.Common.{◌≡◌, ℕ, Bool, true, false, not, ◌&&◌, eqb, List, [], ◌∷◌, ◌++◌, flat_map, refl, ap, ◌∙◌, arith, append_assoc}
-use Rattle.std.specs.List.{list_all}
+use Rattle.std.proofs.Common.{◌≡◌, ℕ, suc, ◌+◌, ◌<◌, Bool, true, false, cond, not, ◌&&◌, eqb, List, [], ◌∷◌, ◌++◌, length, get_or, take, drop, flat_map, None, Some, refl, sym, ap, subst, ◌∙◌, arith, append_assoc}
+use Rattle.std.specs.Prelude.{◌==◌}
+use Rattle.std.specs.List.{list_all, position, position_or_len}
+use Rattle.std.proofs.lemmas.List.{take_all, take-append-drop, drop_more}
+use Rattle.std.proofs.lemmas.List.Quantifiers.{position-Some}
 use Rattle.std.proofs.lemmas.List.Folds.{list_all-append}
-use Rattle.std.proofs.lemmas.Grind.{flat_map-append}
+use Rattle.std.proofs.lemmas.Grind.{flat_map-append, common_steps}
 use Rattle.std.proofs.lemmas.Bool.Decides.{nat_tests}
+use Rattle.cps_text.proofs.PlaceLemmas.{position_or_len-none}
 use Rattle.cps_live.specs.Lines.{Splits, has_no_newline, newline}
 
 abbrev ended : List ℕ → List ℕ
@@ -36,13 +40,18 @@ splits-line taken more lines later rest last front back = record {
   last = back.last;
 }
 
+-- bytes of the line that has begun
+pub splits-piece : (taken : List ℕ) (lines : List (List ℕ)) (rest piece : List ℕ) → Splits taken lines rest → has_no_newline piece ≡ true
+    → Splits (taken ++ piece) lines (rest ++ piece)
+splits-piece taken lines rest piece so_far other = record {
+  whole = ap (λ b. b ++ piece) so_far.whole ∙ append_assoc (flat_map ended lines) rest piece;
+  each = so_far.each;
+  last = list_all-append (λ b. not (eqb b newline)) rest piece ∙ both (has_no_newline rest) (has_no_newline piece) so_far.last other;
+}
+
 pub splits-byte : (taken : List ℕ) (lines : List (List ℕ)) (rest : List ℕ) (byte : ℕ) → Splits taken lines rest → eqb byte newline ≡ false
     → Splits (taken ++ byte ∷ []) lines (rest ++ byte ∷ [])
-splits-byte taken lines rest byte so_far other = record {
-  whole = ap (λ b. b ++ byte ∷ []) so_far.whole ∙ append_assoc (flat_map ended lines) rest (byte ∷ []);
-  each = so_far.each;
-  last = list_all-append (λ b. not (eqb b newline)) rest (byte ∷ []) ∙ both (has_no_newline rest) (not (eqb byte newline) && true) so_far.last (rw other refl);
-}
+splits-byte taken lines rest byte so_far other = splits-piece taken lines rest (byte ∷ []) so_far (rw other refl)
 
 pub record Split (bytes : List ℕ) : Type 0 where
   pub lines : List (List ℕ)
@@ -89,3 +98,42 @@ split_front byte bytes false is split = split_onto byte bytes split.lines split.
 pub split_of : (bytes : List ℕ) → Split bytes
 split_of [] = record { lines = []; rest = []; splits = splits-none }
 split_of (byte ∷ bytes) = split_front byte bytes (eqb byte newline) refl (split_of bytes)
+
+-- ---- the first newline
+
+abbrev is_newline : ℕ → Bool
+is_newline byte = byte == newline
+
+passing_front : (byte : ℕ) (bytes : List ℕ) (test : Bool) → not (eqb byte newline) ≡ test → has_no_newline (take (position_or_len is_newline bytes) bytes) ≡ true
+    → has_no_newline (take (cond test (1 + position_or_len is_newline bytes) 0) (byte ∷ bytes)) ≡ true
+passing_front byte bytes true is later =
+    let len = position_or_len is_newline bytes in
+    let next : suc len ≡ 1 + len = omega arith in
+    subst (λ n. has_no_newline (take n (byte ∷ bytes)) ≡ true) next (both (not (eqb byte newline)) (has_no_newline (take len bytes)) is later)
+passing_front byte bytes false is later = refl
+
+none_before : (bytes : List ℕ) → has_no_newline (take (position_or_len is_newline bytes) bytes) ≡ true
+none_before [] = refl
+none_before (byte ∷ bytes) = passing_front byte bytes (not (eqb byte newline)) refl (none_before bytes)
+
+-- what stands before the first newline, and behind it
+pub record Cut (bytes : List ℕ) (at : ℕ) : Type 0 where
+  pub within : at < length bytes
+  pub whole : bytes ≡ take at bytes ++ newline ∷ drop (at + 1) bytes
+  pub front : has_no_newline (take at bytes) ≡ true
+
+pub cut_at : (bytes : List ℕ) (at : ℕ) → Some at ≡ position is_newline bytes → Cut bytes at
+cut_at bytes at is =
+    let place : position_or_len is_newline bytes ≡ at = grind (arith, common_steps) in
+    let found = position-Some is_newline bytes at 0 (sym is) in
+    let here : get_or bytes at 0 ≡ newline = let test = found.1 in grind (arith, nat_tests) in
+    record {
+      within = found.0;
+      whole = sym (take-append-drop at bytes) ∙ ap (λ b. take at bytes ++ b) (drop_more bytes at 0 found.0 ∙ ap (λ b. b ∷ drop (at + 1) bytes) here);
+      front = subst (λ n. has_no_newline (take n bytes) ≡ true) place (none_before bytes);
+    }
+
+pub no_newline : (bytes : List ℕ) → None ≡ position is_newline bytes → has_no_newline bytes ≡ true
+no_newline bytes none =
+    let all = position_or_len-none is_newline bytes none in
+    subst (λ b. has_no_newline b ≡ true) (ap (λ n. take n bytes) (sym all) ∙ take_all (length bytes) bytes (omega arith)) (none_before bytes)

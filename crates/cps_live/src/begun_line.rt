@@ -55,6 +55,18 @@ impl BegunLine {
         self.past = past_after(self.past, byte);
     }
 
+    /// Takes the next bytes, as `push` does one by one.
+    pub fn push_all(&mut self, bytes: &[u8])
+        ensures { (begun : List ℕ) → IsBegun self.old begun → IsBegun self.new (begun ++ bytes.now) }
+    {
+        if self.bytes.try_extend_from_slice(bytes).is_ok() {
+            return;
+        }
+        for byte in bytes {
+            self.push(*byte);
+        }
+    }
+
     /// The line without the carriage return at its end, None where it has more than 200 bytes.
     pub fn text(&self) -> Option<&[u8]>
         ensures { (begun : List ℕ) → IsBegun self.now begun

@@ -1,8 +1,9 @@
 //! A source, as its bytes come.
-ghost use Rattle.std.specs.Prelude.{◌≡◌, ℕ, List, [], ◌∷◌, ◌++◌, MatchResult};
+ghost use Rattle.std.specs.Prelude.{◌≡◌, ◌==◌, ◌<◌, ℕ, List, [], ◌∷◌, ◌++◌, length, IfSome, MatchResult};
+ghost use Rattle.std.specs.List.{position};
 ghost use Rattle.cps_live.specs.Batch.{IsSource, Refuses};
 ghost use Rattle.cps_live.specs.Input.{HasCome};
-ghost use Rattle.cps_live.specs.Lines.{HasText};
+ghost use Rattle.cps_live.specs.Lines.{HasText, newline};
 
 use super::begun_line::BegunLine;
 use super::fault::BatchFault;
@@ -34,19 +35,19 @@ impl Input {
         requires { (taken : List ℕ) × HasCome self.old taken }
         ensures { (taken : List ℕ) → HasCome self.old taken → HasCome self.new (taken ++ bytes.now) }
     {
-        for byte in bytes {
-            self.take_byte(alloc, *byte);
+        let mut rest = bytes;
+        while let Some(at) = newline_at(rest) {
+            self.begun.push_all(&rest[..at]);
+            self.end_line(alloc);
+            rest = &rest[at + 1..];
         }
+        self.begun.push_all(rest);
     }
 
-    fn take_byte(&mut self, alloc: Global, byte: u8)
+    fn end_line(&mut self, alloc: Global)
         requires { (taken : List ℕ) × HasCome self.old taken }
-        ensures { (taken : List ℕ) → HasCome self.old taken → HasCome self.new (taken ++ byte ∷ []) }
+        ensures { (taken : List ℕ) → HasCome self.old taken → HasCome self.new (taken ++ newline ∷ []) }
     {
-        if byte != b'\n' {
-            self.begun.push(byte);
-            return;
-        }
         let intake = replace(&mut self.intake, Intake::Refused(0));
         self.intake = intake.with_line(alloc, &self.begun);
         self.begun = BegunLine::new();
@@ -65,4 +66,11 @@ impl Input {
         }
         intake.with_line(alloc, &begun).into_lines()
     }
+}
+
+fn newline_at(bytes: &[u8]) -> Option<usize>
+    ensures place { result ≡ position (λ byte. byte == newline) bytes.now }
+    ensures within { IfSome result (λ at. at < length bytes.now) }
+{
+    bytes.iter().position(|byte| *byte == b'\n')
 }
