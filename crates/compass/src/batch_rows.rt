@@ -142,6 +142,20 @@ fn measures_long_lines(rt: HostRuntime) -> Result<(), Fail> {
     Ok(())
 }
 
+/// 42 times 1,000 words, more statements than are kept from one pass for the other, and a label after them on line 85.
+#[test]
+fn goes_through_long_expansions(rt: HostRuntime) -> Result<(), Fail> {
+    let mut source = Vec::new(rt.alloc());
+    for _ in 0..42 {
+        source.extend_from_slice(b"   DUP 1000,1\n   BSS 1\n")?;
+    }
+    source.extend_from_slice(b"L  BSS 1\n")?;
+    let got = assemble(rt.alloc(), &source, Part::Symbols);
+    let want = "L        00000000000000122020 85\n";
+    assert_written(&rt, "the label", &got, Ok(0), want);
+    Ok(())
+}
+
 /// A failed read goes before a wrong line, and nothing is written.
 #[test]
 fn tells_a_failed_read(rt: HostRuntime) {

@@ -35,7 +35,7 @@ overwritten-append : (s : State) (puts more : List Put) → overwritten s (puts 
 overwritten-append s [] more = refl
 overwritten-append s (p ∷ puts) more = overwritten-append (with_put s p) puts more
 
-puts-state : (s : State) (lines : List (List ℕ)) → overwritten s (puts_of (traces_from s lines)) ≡ state_after s lines
+pub puts-state : (s : State) (lines : List (List ℕ)) → overwritten s (puts_of (traces_from s lines)) ≡ state_after s lines
 puts-state s [] = refl
 puts-state s (l ∷ lines) = overwritten-append s (trace_of l s).puts (puts_of (traces_from (after s l) lines)) ∙ puts-state (after s l) lines
 

@@ -4,3 +4,4 @@ pub mod BegunLemmas
 pub mod ReadLemmas
 pub mod SplitLemmas
 pub mod WorkLemmas
+pub mod PassLemmas

@@ -7,3 +7,4 @@ pub mod Flagged
 pub mod BegunLine
 pub mod Batch
 pub mod Input
+pub mod Passes

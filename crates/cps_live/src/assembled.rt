@@ -13,23 +13,30 @@ use super::pages::Pages;
 use super::session::MOST_LINES;
 use cps_final::{Gather, Gathered};
 use cps_list::View;
-use cps_pass::{Trace, Work, step_one};
+use cps_pass::{Sheet, Trace, Work, step_over};
 use cps_text::Line;
 use std::alloc::{AllocError, Global};
-use std::mem::swap;
+use std::mem::{replace, swap};
 
 /// What lines of a source do in pass one, and what was gathered of them and of those before them.
 pub struct Assembled {
     traces: Vec<Trace>,
     gather: Gather,
+    /// The lists that the next line uses.
+    sheet: Sheet,
 }
 
 // Written out: a derived drop is proved anew, with all that it goes through, at each place where a value is dropped.
 impl Drop for Assembled {
     fn drop(self) {
-        let Assembled { traces, gather } = self;
+        let Assembled {
+            traces,
+            gather,
+            sheet,
+        } = self;
         drop(traces);
         drop(gather);
+        drop(sheet);
     }
 }
 
@@ -52,6 +59,7 @@ impl Assembled {
         Assembled {
             traces: Vec::new(alloc),
             gather: Gather::new(alloc),
+            sheet: Sheet::new(alloc),
         }
     }
 
@@ -103,7 +111,10 @@ impl Assembled {
         ensures err { OnErr result (⟦<Assembled as Keeps>⟧.assembled self.new ≡ ⟦<Assembled as Keeps>⟧.assembled self.old) }
         ensures step { work.new ≡ raised Ones work.old }
     {
-        let trace = step_one(alloc, work, line, self.gather.state())?;
+        let sheet = replace(&mut self.sheet, Sheet::new(alloc));
+        let trace = step_over(alloc, work, sheet, line, self.gather.state())?;
+        let (trace, sheet) = trace.into_exact(alloc)?;
+        self.sheet = sheet;
         match self.gather_next(&trace) {
             Ok(()) => {
                 self.traces.push_reserved(trace);

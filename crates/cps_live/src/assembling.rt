@@ -10,14 +10,12 @@ ghost use Rattle.cps_live.specs.Input.{HasCome};
 ghost use Rattle.cps_live.specs.Lines.{HasText};
 ghost use Rattle.cps_live.specs.Reads.{EndsEarly};
 
-use super::assembled::Assembled;
 use super::fault::BatchFault;
 use super::input::Input;
-use super::session::MOST_LINES;
-use cps_list::{Part, make_text, write_text};
-use cps_pass::Work;
+use super::passes::make_part;
+use cps_list::{Part, write_text};
 use cps_text::{Counted, Line};
-use std::alloc::{AllocError, Global};
+use std::alloc::Global;
 use std::io::{Read, Write};
 
 /// How often an input is read at most.
@@ -106,15 +104,4 @@ fn write_source<W: Write>(
         Ok(()) => Ok(flagged),
         Err(_) => Err(BatchFault::WriteFault),
     }
-}
-
-/// A text of a source, and the number of flagged lines.
-fn make_part(alloc: Global, lines: &[Line], part: Part) -> Result<(Vec<u8>, u32), AllocError>
-    requires { length lines.now ≤ MOST_LINES }
-    ensures { IfOk result (λ made. (made.0.items ≡ text_of part (assembly_of lines.now)) × (made.1 ≡ flagged_lines lines.now)) }
-{
-    let assembled = Assembled::of(alloc, &mut Work::new(), lines)?;
-    let pages = assembled.pages(alloc, lines)?;
-    let text = make_text(alloc, &pages, part)?;
-    Ok((text, pages.flagged()))
 }

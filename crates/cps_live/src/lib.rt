@@ -9,6 +9,7 @@ mod flagged;
 mod input;
 mod intake;
 mod pages;
+mod passes;
 mod session;
 
 pub use assembling::{MOST_READS, batch};

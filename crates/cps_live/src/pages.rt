@@ -122,26 +122,4 @@ impl<'a> Pages<'a> {
         let rows = Rows { lines, outcomes };
         Ok(Pages { rows, finals })
     }
-
-    /// How many of the lines have a flag, and one more if a range is open after them. Takes no memory.
-    pub(crate) fn flagged(&self) -> u32
-        ensures { let assembly = ⟦<Pages<'a> as View>⟧.assembly self.now in result ≡ flagged_with assembly.is_open assembly.outcomes }
-    {
-        count_flagged(&self.rows.outcomes) + u32::from(self.finals.is_open_at_end())
-    }
-}
-
-/// How many lines have a flag of which pass two made this.
-fn count_flagged(outcomes: &[Outcome]) -> u32
-    requires { length outcomes.now ≤ MOST_LINES }
-    ensures count { result ≡ flagged_in outcomes.now }
-    ensures within { result ≤ length outcomes.now }
-{
-    let mut count = 0;
-    for outcome in outcomes {
-        if outcome.flags().has_flag() {
-            count += 1;
-        }
-    }
-    count
 }
