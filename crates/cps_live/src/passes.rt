@@ -20,7 +20,7 @@ use std::alloc::{AllocError, Global};
 use std::marker::Model;
 use std::mem::replace;
 
-/// Statements are kept for pass two up to so many. Where the lines make more, each line is gone through again.
+/// Statements and their contents are kept for pass two up to so many. Where the lines make more, each line is gone through again.
 const MOST_KEPT: usize = 40_000;
 
 /// A text of a source, and the number of flagged lines.
@@ -53,6 +53,7 @@ struct PassOne {
     gather: Gather,
     /// The statements of each line. None: they are too many.
     kept: Option<Vec<Statements>>,
+    /// How many statements and contents there are.
     count: usize,
     sheet: Sheet,
     symbols: LineSymbols,
@@ -123,7 +124,7 @@ impl PassOne {
             &mut self.symbols,
             &trace,
         )?;
-        self.count = self.count.saturating_add(trace.items().len());
+        self.count = counted(self.count, trace.items());
         let (items, sheet) = trace.into_parts();
         self.sheet = sheet;
         keep(&mut self.kept, self.count, Statements { items })?;
@@ -174,6 +175,15 @@ fn note_symbols(
     }
     symbols.replace(trace)?;
     push_mentions(mentions, number, symbols.defined(), symbols.read())
+}
+
+/// A count with some statements and their contents.
+fn counted(count: usize, items: &[Item]) -> usize {
+    let mut count = count.saturating_add(items.len());
+    for item in items {
+        count = count.saturating_add(item.made.contents().len());
+    }
+    count
 }
 
 /// Keeps the statements of a line, unless there are too many by now.
