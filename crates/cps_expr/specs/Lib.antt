@@ -12,6 +12,7 @@ pub mod Row
 pub mod Same
 pub mod Statement
 pub mod Term
+pub mod TermsKept
 pub mod TermsLeft
 pub mod Value
 pub mod ValuedSoFar

@@ -9,13 +9,12 @@ ghost use Rattle.cps_expr.specs.Value.{value_in, has_undefined, AgreeOn, IsInRan
 
 use crate::names::Names;
 use crate::radix::Radix;
-use crate::short_list::make_room;
 use crate::signs::{first_term, leading_sign};
-use crate::term::Term;
 use crate::term_text::read_term;
+use crate::terms::Terms;
 use crate::value::Value;
 use cps_text::Name;
-use std::alloc::{AllocError, Global};
+use std::alloc::Global;
 use std::marker::Model;
 use thiserror::Error;
 
@@ -42,19 +41,17 @@ pub struct Valued {
 /// An expression: terms of numbers, symbols and `*`.
 #[derive(Debug, Drop)]
 pub struct Expr {
-    terms: Vec<Term>,
-    names: Vec<Name>,
+    alloc: Global,
+    terms: Terms,
 }
 
 impl Model for Expr {
-    ghost use Rattle.std.specs.Prelude.{◌≡◌};
-    ghost use Rattle.cps_expr.specs.Expression.{Expression, names_of};
+    ghost use Rattle.cps_expr.specs.Expression.{Expression};
+    ghost use Rattle.cps_expr.specs.TermsKept.{terms_in};
 
     ghost Value = { Expression };
 
-    ghost view = { λ expression. expression.terms.items };
-
-    ghost invariant = { λ expression. expression.names.items ≡ names_of expression.terms.items };
+    ghost view = { λ expression. terms_in expression.terms };
 }
 
 impl Expr {
@@ -63,8 +60,8 @@ impl Expr {
         ensures { result ≡ [] }
     {
         Expr {
-            terms: Vec::new(alloc),
-            names: Vec::new(alloc),
+            alloc,
+            terms: Terms::Empty,
         }
     }
 
@@ -75,21 +72,11 @@ impl Expr {
         ensures unreadable { IsErrOf result ExprFault.Unreadable ↔ (term_of radix is_minus text.now ≡ None) }
         ensures memory { IsErrOf result ExprFault.Memory → IsSome (term_of radix is_minus text.now) }
     {
-        let term = read_term(*self.terms.allocator(), is_minus, text, radix)?;
-        match self.push(term) {
+        let term = read_term(self.alloc, is_minus, text, radix)?;
+        match self.terms.push(self.alloc, term) {
             Ok(()) => Ok(()),
             Err(_) => Err(ExprFault::Memory),
         }
-    }
-
-    fn push(&mut self, term: Term) -> Result<(), AllocError>
-        ensures ok { OnOk result (self.new ≡ self.old ++ term ∷ []) }
-        ensures err { OnErr result (self.new ≡ self.old) }
-    {
-        make_room(&mut self.terms)?;
-        term.push_names(&mut self.names)?;
-        self.terms.push_reserved(term);
-        Ok(())
     }
 
     /// Reads an expression; the first sign may be left out. Numbers with no letter go by the radix.
@@ -109,14 +96,14 @@ impl Expr {
     pub fn names(&self) -> &[Name]
         ensures { result.now ≡ names_of self.now }
     {
-        self.names.as_slice()
+        self.terms.names()
     }
 
     /// Whether `*` stands in it as an element.
     pub fn has_counter(&self) -> bool
         ensures { result ≡ has_counter self.now }
     {
-        any_counter(&self.terms)
+        self.terms.has_counter()
     }
 
     /// What it gives under some names, where `*` stands for `here`. Takes no memory.
@@ -127,7 +114,7 @@ impl Expr {
         ensures names_alone { (others : Name → Option Value) → AgreeOn others (N.value names.now) (names_of self.now)
             → (value_in others here self.now ≡ result.value) × (has_undefined others self.now ≡ result.undefined) }
     {
-        value_of_terms(&self.terms, names, here)
+        self.terms.value(names, here)
     }
 }
 
@@ -186,26 +173,4 @@ fn finished(expression: Expr, is_refused: bool) -> Result<Expr, ExprFault>
     } else {
         Ok(expression)
     }
-}
-
-fn any_counter(terms: &[Term]) -> bool
-    ensures { result ≡ has_counter terms.now }
-{
-    terms.iter().any(|term| term.has_counter())
-}
-
-/// The terms added and subtracted from left to right, each name asked for once.
-fn value_of_terms<N: Names>(terms: &[Term], names: &N, here: Value) -> Valued
-    ensures value { result.value ≡ value_in (N.value names.now) here terms.now }
-    ensures undefined { result.undefined ≡ has_undefined (N.value names.now) terms.now }
-    ensures range { IfSome result.value IsInRange }
-{
-    let mut so_far = Valued {
-        value: Some(Value::plain(0)),
-        undefined: false,
-    };
-    for term in terms {
-        so_far = term.added_to(so_far, names, here);
-    }
-    so_far
 }

@@ -27,6 +27,7 @@ mod statement;
 mod statement_table;
 mod term;
 mod term_text;
+mod terms;
 mod text;
 mod value;
 mod words;

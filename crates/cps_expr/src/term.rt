@@ -1,8 +1,10 @@
 //! Terms of an expression.
-ghost use Rattle.std.specs.Prelude.{◌≡◌, ◌++◌, ◌∷◌, ◌||◌, map, filter_map, take, length, pos, option_to_list, is_none, unwrap_or, fold, IfSome, OnOk, OnErr};
+ghost use Rattle.std.specs.Prelude.{◌≡◌, [], ◌++◌, ◌∷◌, ◌||◌, map, filter_map, take, length, pos, option_to_list, is_none, unwrap_or, fold, IfSome, OnOk, OnErr};
 ghost use Rattle.std.specs.List.{list_any};
+ghost use Rattle.cps_expr.specs.Expression.{names_of, has_counter};
 ghost use Rattle.cps_expr.specs.Term.{name_in, is_counter, term_names, term_has_counter};
-ghost use Rattle.cps_expr.specs.Value.{IsInRange, element_value, multiplied, added, both, term_value, limited, plain};
+ghost use Rattle.cps_expr.specs.TermsKept.{element_term};
+ghost use Rattle.cps_expr.specs.Value.{IsInRange, element_value, multiplied, added, both, term_value, value_in, has_undefined, limited, plain};
 ghost use Rattle.cps_expr.specs.ValuedSoFar.{is_undefined, term_has_undefined};
 
 use crate::expr::Valued;
@@ -10,8 +12,9 @@ use crate::names::Names;
 use crate::short_list::push_one;
 use crate::value::{GREATEST_PLAIN, Value, added, limited, multiplied};
 use cps_text::Name;
-use std::alloc::AllocError;
+use std::alloc::{AllocError, Global};
 use std::marker::Model;
+use std::slice::from_ref;
 
 /// An element of an expression: a number of at most `2^59 - 1`, a symbol, or `*`, the location counter.
 #[derive(Clone, Copy, Debug, PartialEq, Eq)]
@@ -51,6 +54,51 @@ impl Model for Term {
     ghost view = { λ term. record { is_minus = term.is_minus; first = term.first; factors = term.factors.items } };
 }
 
+/// An element with its sign: a term that has no factors.
+#[derive(Clone, Copy, Debug)]
+pub(crate) struct Signed {
+    is_minus: bool,
+    element: Element,
+}
+
+impl Signed {
+    pub(crate) fn as_term(self, alloc: Global) -> Term
+        ensures { result ≡ element_term self }
+    {
+        Term::new(self.is_minus, self.element, Vec::new(alloc))
+    }
+
+    /// The name that stands in it, if there is one.
+    pub(crate) fn names(&self) -> &[Name]
+        ensures { result.now ≡ names_of (element_term self.now ∷ []) }
+    {
+        match &self.element {
+            Element::Symbol(name) => from_ref(name),
+            Element::Number(_) | Element::Counter => &[],
+        }
+    }
+
+    /// Whether it is `*`.
+    pub(crate) fn is_counter(&self) -> bool
+        ensures { result ≡ has_counter (element_term self.now ∷ []) }
+    {
+        is_counter(self.element)
+    }
+
+    /// What it gives under some names, where `*` stands for `here`.
+    pub(crate) fn value<N: Names>(&self, names: &N, here: Value) -> Valued
+        ensures value { result.value ≡ value_in (N.value names.now) here (element_term self.now ∷ []) }
+        ensures undefined { result.undefined ≡ has_undefined (N.value names.now) (element_term self.now ∷ []) }
+        ensures range { IfSome result.value IsInRange }
+    {
+        let element = element_value(self.element, names, here);
+        Valued {
+            value: both_added(self.is_minus, Some(Value::plain(0)), element.value),
+            undefined: element.undefined,
+        }
+    }
+}
+
 impl Term {
     pub(crate) fn new(is_minus: bool, first: Element, factors: Vec<Factor>) -> Term
         ensures { result ≡ record { is_minus = is_minus; first = first; factors = factors.items } }
@@ -60,6 +108,19 @@ impl Term {
             first,
             factors,
         }
+    }
+
+    /// The element that it is, if it has no factors.
+    pub(crate) fn as_element(&self) -> Option<Signed>
+        ensures { IfSome result (λ signed. element_term signed ≡ self.now) }
+    {
+        if !self.factors.is_empty() {
+            return None;
+        }
+        Some(Signed {
+            is_minus: self.is_minus,
+            element: self.first,
+        })
     }
 
     /// Adds the names that stand in it, in their order; after a refusal the list is unchanged.
