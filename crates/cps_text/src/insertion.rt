@@ -28,10 +28,13 @@ pub fn insert_text(
     }
 }
 
+/// Few lines are longer with the texts in them.
+const ROOM: usize = 90;
+
 fn replace_runs(alloc: Global, body: &[u8], pairs: &[(Name, &[u8])]) -> Result<Vec<u8>, AllocError>
     ensures { IfOk result (λ text. text.items ≡ flat_map (replaced (pairs_value pairs.now)) (runs is_of_run body.now)) }
 {
-    let mut text = Vec::new(alloc);
+    let mut text = Vec::with_capacity(alloc, ROOM)?;
     let mut rest = body;
     while !rest.is_empty() {
         let (run, behind) = rest.split_at(run_len(rest));
