@@ -16,9 +16,9 @@ use std::marker::Model;
 #[derive(Drop)]
 pub struct CpForm {
     bits: u8,
+    forces_after: bool,
     code: u64,
     hole: Option<Hole>,
-    forces_after: bool,
 }
 
 impl Model for CpForm {
