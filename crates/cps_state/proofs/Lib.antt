@@ -1,4 +1,5 @@
 pub mod AskLemmas
+pub mod FlagLemmas
 pub mod KnownLemmas
 pub mod LineLemmas
 pub mod LogLemmas

@@ -47,14 +47,14 @@ impl Flags {
         ensures { result ≡ flags.joined self other }
     {
         Flags {
-            operand: self.operand || other.operand,
-            twice: self.twice || other.twice,
-            structure: self.structure || other.structure,
-            location: self.location || other.location,
-            operation: self.operation || other.operation,
-            cut: self.cut || other.cut,
-            undefined: self.undefined || other.undefined,
-            width: self.width || other.width,
+            operand: self.operand | other.operand,
+            twice: self.twice | other.twice,
+            structure: self.structure | other.structure,
+            location: self.location | other.location,
+            operation: self.operation | other.operation,
+            cut: self.cut | other.cut,
+            undefined: self.undefined | other.undefined,
+            width: self.width | other.width,
         }
     }
 
@@ -75,6 +75,9 @@ impl Flags {
     pub fn push_letters(self, text: &mut Vec<u8>) -> Result<(), AllocError>
         ensures { OnOk result (text.new.items ≡ text.old.items ++ flags.letters self) }
     {
+        if !self.has_flag() {
+            return Ok(());
+        }
         push_letter(text, self.operand, b'A')?;
         push_letter(text, self.twice, b'D')?;
         push_letter(text, self.structure, b'E')?;
