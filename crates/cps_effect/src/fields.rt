@@ -13,7 +13,7 @@ use crate::placing::{
 };
 use crate::value_now::{ValueNow, value_now};
 use cps_expr::{Expr, Field, Sequence, Value};
-use cps_state::{Content, Flags, Lookup, Recorder};
+use cps_state::{Content, Contents, Flags, Lookup, Recorder};
 use std::alloc::AllocError;
 
 /// The greatest width of a field.
@@ -117,8 +117,20 @@ fn place_sized<L: Lookup>(
 {
     let begun = start_for(site, 0);
     if are_sized(&sized.contents) {
-        return place(recorder, site, begun, sized.contents, false);
+        return place(
+            recorder,
+            site,
+            begun,
+            Contents::several(sized.contents),
+            false,
+        );
     }
     let flags = placing_flags(site).joined(sized.flags);
-    place_nothing(recorder, site, begun, flags, sized.contents)
+    place_nothing(
+        recorder,
+        site,
+        begun,
+        flags,
+        Contents::several(sized.contents),
+    )
 }

@@ -7,7 +7,7 @@ use crate::front::Front;
 use crate::placing::{ask_site, place, place_unread, start_for, word_start};
 use cps_code::CpForm;
 use cps_peripheral::PpForm;
-use cps_state::{Content, InstructionForm, Lookup, Recorder};
+use cps_state::{Content, Contents, InstructionForm, Lookup, Recorder};
 use std::alloc::AllocError;
 
 /// An instruction of the central processor; None where its operands are unreadable.
@@ -25,8 +25,7 @@ pub fn instruction<L: Lookup>(
     let begun = start_for(site, form.bits());
     let is_pending = form.forces_after();
     let content = Content::Instruction(InstructionForm::central(form));
-    let contents = vec![in recorder.alloc(); content]?;
-    place(recorder, site, begun, contents, is_pending)
+    place(recorder, site, begun, Contents::one(content), is_pending)
 }
 
 /// An instruction of a peripheral processor; None where its operands are unreadable.
@@ -43,8 +42,7 @@ pub fn peripheral_instruction<L: Lookup>(
         None => place_unread(recorder, site, begun),
         Some(form) => {
             let content = Content::Instruction(InstructionForm::peripheral(form));
-            let contents = vec![in recorder.alloc(); content]?;
-            place(recorder, site, begun, contents, false)
+            place(recorder, site, begun, Contents::one(content), false)
         }
     }
 }

@@ -16,7 +16,7 @@ use crate::places::{begin, go_on, here_at, leave_word, round_up, stand};
 use cps_code::{Force, Place};
 use cps_expr::Machine;
 use cps_reading::Location;
-use cps_state::{Begun, Content, Flags, Held, Lookup, Made, Recorder, end_of};
+use cps_state::{Begun, Contents, Flags, Held, Lookup, Made, Recorder, end_of};
 use cps_text::Name;
 use std::alloc::AllocError;
 
@@ -145,13 +145,13 @@ pub fn place_nothing<L: Lookup>(
     site: Site,
     begun: Begun,
     flags: Flags,
-    contents: Vec<Content>,
+    contents: Contents,
 ) -> Result<(), AllocError>
     requires filling { option_to_list (option_map piece_of begun.filling) ≡ filling_between (position site.place) begun.start }
-    requires each { All IsContent contents.items }
-    ensures { OnOk result (Does (placing.unplaced flags site begun.start contents.items) L.answer recorder.old recorder.new) }
+    requires each { All IsContent contents }
+    ensures { OnOk result (Does (placing.unplaced flags site begun.start contents) L.answer recorder.old recorder.new) }
 {
-    let held = hold(recorder, &contents)?;
+    let held = hold(recorder, contents.as_slice())?;
     settle(recorder, site, begun.start, begun.start, false)?;
     recorder.fill(Made::flagging(flags, site.machine, begun, contents, held));
     Ok(())
@@ -167,7 +167,13 @@ pub fn place_unread<L: Lookup>(
     ensures { OnOk result (Does (placing.unread_from site begun.start) L.answer recorder.old recorder.new) }
 {
     let alloc = recorder.alloc();
-    place_nothing(recorder, site, begun, unread_flags(site), Vec::new(alloc))
+    place_nothing(
+        recorder,
+        site,
+        begun,
+        unread_flags(site),
+        Contents::none(alloc),
+    )
 }
 
 /// One that would pass the machine's words makes nothing; nothing is put.
@@ -175,12 +181,12 @@ pub fn pass_limit<L: Lookup>(
     recorder: &mut Recorder<'_, L>,
     site: Site,
     start: u32,
-    contents: Vec<Content>,
+    contents: Contents,
     held: Vec<Held>,
 )
-    requires each { All IsContent contents.items }
+    requires each { All IsContent contents }
     requires held { All IsHeld held.items }
-    ensures { recorder.new ≡ line_filled recorder.old (placing.only_flagging (placing.far_flags site) site [] start contents.items held.items) }
+    ensures { recorder.new ≡ line_filled recorder.old (placing.only_flagging (placing.far_flags site) site [] start contents held.items) }
 {
     recorder.fill(Made::flagging(
         far_flags(site),
@@ -200,17 +206,17 @@ pub fn place<L: Lookup>(
     recorder: &mut Recorder<'_, L>,
     site: Site,
     begun: Begun,
-    contents: Vec<Content>,
+    contents: Contents,
     is_pending: bool,
 ) -> Result<(), AllocError>
     requires starts { Starts site begun.start }
     requires filling { option_to_list (option_map piece_of begun.filling) ≡ filling_between (position site.place) begun.start }
-    requires each { All IsContent contents.items }
-    requires some { All (λ content. 0 < width_of content) contents.items }
-    ensures { OnOk result (Does (placing.placed site begun.start contents.items is_pending) L.answer recorder.old recorder.new) }
+    requires each { All IsContent contents }
+    requires some { All (λ content. 0 < width_of content) contents }
+    ensures { OnOk result (Does (placing.placed site begun.start contents is_pending) L.answer recorder.old recorder.new) }
 {
-    let held = hold(recorder, &contents)?;
-    let Some(end) = end_of(site.machine, begun.start, &contents) else {
+    let held = hold(recorder, contents.as_slice())?;
+    let Some(end) = end_of(site.machine, begun.start, contents.as_slice()) else {
         pass_limit(recorder, site, begun.start, contents, held);
         return Ok(());
     };

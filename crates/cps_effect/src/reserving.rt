@@ -16,7 +16,7 @@ use crate::placing::{
 };
 use crate::value_now::value_now;
 use cps_expr::Expr;
-use cps_state::{Begun, Lookup, Made, Recorder, WORD, limit_of};
+use cps_state::{Begun, Contents, Lookup, Made, Recorder, WORD, limit_of};
 use std::alloc::AllocError;
 
 /// BSS: reserves words from the beginning of a word on.
@@ -58,7 +58,7 @@ fn reserve_by<L: Lookup>(
     let value = value_now(recorder, operand, here)?;
     let Some(words) = plain_number(value) else {
         let flags = no_number_flags(site, value);
-        return place_nothing(recorder, site, begun, flags, Vec::new(alloc));
+        return place_nothing(recorder, site, begun, flags, Contents::none(alloc));
     };
     reserve(recorder, site, begun, words, has_zeros)
 }
@@ -81,7 +81,7 @@ fn reserve<L: Lookup>(
             recorder,
             site,
             begun.start,
-            Vec::new(alloc),
+            Contents::none(alloc),
             Vec::new(alloc),
         );
         return Ok(());

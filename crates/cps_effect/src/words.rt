@@ -12,7 +12,7 @@ use crate::places::here_at;
 use crate::placing::{Site, ask_site, place, place_nothing, place_unread, word_start};
 use crate::value_now::value_now;
 use cps_expr::{DisText, Expr, Machine, Sequence, pack_characters};
-use cps_state::{Content, Lookup, Recorder, word_bits};
+use cps_state::{Content, Contents, Lookup, Recorder, word_bits};
 use std::alloc::{AllocError, Global};
 
 /// The most words that DIS counts.
@@ -42,7 +42,13 @@ fn place_words<L: Lookup>(
     requires some { All (λ content. 0 < width_of content) contents.items }
     ensures { OnOk result (Does (meaning.words contents.items site) L.answer recorder.old recorder.new) }
 {
-    place(recorder, site, word_start(site), contents, false)
+    place(
+        recorder,
+        site,
+        word_start(site),
+        Contents::several(contents),
+        false,
+    )
 }
 
 /// CON: a word for each value.
@@ -143,7 +149,7 @@ fn display_counted<L: Lookup>(
     let value = value_now(recorder, count, here)?;
     let Some(count) = between(1, MOST_WORDS, plain_number(value)) else {
         let flags = no_number_flags(site, value);
-        return place_nothing(recorder, site, begun, flags, Vec::new(alloc));
+        return place_nothing(recorder, site, begun, flags, Contents::none(alloc));
     };
     let contents = text_words(
         alloc,

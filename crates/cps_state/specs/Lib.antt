@@ -1,3 +1,4 @@
+pub mod ContentsKept
 pub mod Course
 pub mod Flags
 pub mod Instruction

@@ -2,6 +2,7 @@
 #![tactic(auto)]
 
 mod answers;
+mod contents;
 mod flags;
 mod instruction;
 mod item;
@@ -22,6 +23,7 @@ pub use answers::{
     control_of, count_of, first_control, is_no_range, is_normal, is_open, is_place, macro_of,
     mode_of, place_of, ranges_of, text_of, uses_of, value_of,
 };
+pub use contents::Contents;
 pub use flags::Flags;
 pub use instruction::InstructionForm;
 pub use item::{Item, Stand};

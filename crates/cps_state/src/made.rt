@@ -7,6 +7,7 @@ ghost use Rattle.cps_state.specs.Flags.{joined};
 ghost use Rattle.cps_state.specs.Machines.{limit};
 ghost use Rattle.cps_state.specs.Made.{nothing_made, width_of, end_of, IsContent, IsHeld, HaveRoom};
 
+use crate::contents::Contents;
 use crate::flags::Flags;
 use crate::instruction::InstructionForm;
 use crate::machines::{WORD, behind, limit_of};
@@ -90,13 +91,13 @@ pub struct Held {
 #[derive(Drop)]
 pub struct Made {
     flags: Flags,
+    only_flags: bool,
     program: Option<Name>,
     machine: Machine,
-    filling: Option<Piece>,
     start: u32,
-    contents: Vec<Content>,
     zeros: u32,
-    only_flags: bool,
+    filling: Option<Piece>,
+    contents: Contents,
     shown: Shown,
     held: Vec<Held>,
 }
@@ -115,14 +116,14 @@ impl Model for Made {
       machine = made.machine;
       filling = option_to_list (option_map piece_of made.filling);
       start = made.start;
-      contents = made.contents.items;
+      contents = made.contents;
       zeros = made.zeros;
       only_flags = made.only_flags;
       shown = made.shown;
       held = made.held.items;
     } };
 
-    ghost invariant = { λ made. All IsContent made.contents.items × All IsHeld made.held.items × (made.only_flags ≡ false → HaveRoom made.machine made.start made.contents.items) };
+    ghost invariant = { λ made. All IsContent made.contents × All IsHeld made.held.items × (made.only_flags ≡ false → HaveRoom made.machine made.start made.contents) };
 }
 
 impl Made {
@@ -136,7 +137,7 @@ impl Made {
             machine: Machine::Cp,
             filling: None,
             start: 0,
-            contents: Vec::new(alloc),
+            contents: Contents::none(alloc),
             zeros: 0,
             only_flags: false,
             shown: Shown::Nothing,
@@ -197,7 +198,7 @@ impl Made {
             machine,
             filling: begun.filling,
             start: begun.start,
-            contents: Vec::new(alloc),
+            contents: Contents::none(alloc),
             zeros,
             only_flags: false,
             shown: Shown::Start,
@@ -210,13 +211,13 @@ impl Made {
         flags: Flags,
         machine: Machine,
         begun: Begun,
-        contents: Vec<Content>,
+        contents: Contents,
         held: Vec<Held>,
     ) -> Made
-        requires each { All IsContent contents.items }
+        requires each { All IsContent contents }
         requires held { All IsHeld held.items }
-        requires room { HaveRoom machine begun.start contents.items }
-        ensures { result ≡ record (nothing_made flags) { machine = machine; filling = option_to_list (option_map piece_of begun.filling); start = begun.start; contents = contents.items; held = held.items } }
+        requires room { HaveRoom machine begun.start contents }
+        ensures { result ≡ record (nothing_made flags) { machine = machine; filling = option_to_list (option_map piece_of begun.filling); start = begun.start; contents = contents; held = held.items } }
     {
         Made {
             flags,
@@ -237,12 +238,12 @@ impl Made {
         flags: Flags,
         machine: Machine,
         begun: Begun,
-        contents: Vec<Content>,
+        contents: Contents,
         held: Vec<Held>,
     ) -> Made
-        requires each { All IsContent contents.items }
+        requires each { All IsContent contents }
         requires held { All IsHeld held.items }
-        ensures { result ≡ record (nothing_made flags) { machine = machine; filling = option_to_list (option_map piece_of begun.filling); start = begun.start; contents = contents.items; only_flags = true; held = held.items } }
+        ensures { result ≡ record (nothing_made flags) { machine = machine; filling = option_to_list (option_map piece_of begun.filling); start = begun.start; contents = contents; only_flags = true; held = held.items } }
     {
         Made {
             flags,
