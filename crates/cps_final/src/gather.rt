@@ -1,6 +1,7 @@
 //! Gathering the final values of a source, line by line.
 ghost use Rattle.std.specs.Prelude.{◌≡◌, [], ◌∷◌, ◌++◌, List, OnOk, OnErr, IfOk, IsOk};
 ghost use Rattle.cps_state.specs.Course.{Trace};
+ghost use Rattle.cps_state.specs.Keys.{overwritten};
 ghost use Rattle.cps_final.specs.Finals.{Gathers};
 
 use crate::finals::{Finals, Gathered};
@@ -30,6 +31,7 @@ impl Gather {
     /// Adds the next line. Where there is no memory, nothing changes.
     pub fn add(&mut self, trace: &Trace) -> Result<(), AllocError>
         ensures ok { OnOk result ((traces : List Trace) → Gathers (⟦<Gather as Gathered>⟧.gathered self.old) traces → Gathers (⟦<Gather as Gathered>⟧.gathered self.new) (traces ++ trace.now ∷ [])) }
+        ensures state { OnOk result ((⟦<Gather as Gathered>⟧.gathered self.new).state ≡ overwritten (⟦<Gather as Gathered>⟧.gathered self.old).state trace.now.puts) }
         ensures err { OnErr result (⟦<Gather as Gathered>⟧.gathered self.new ≡ ⟦<Gather as Gathered>⟧.gathered self.old) }
     {
         self.finals.add(trace)

@@ -1,43 +1,13 @@
 -- Parts of a source in pass one.
 use Rattle.std.proofs.Common.{◌≡◌, ℕ, zero, suc, ◌+◌, ◌<◌, ◌≤◌, refl, sym, ap, subst, ◌∙◌, List, [], ◌∷◌, ◌++◌, append_assoc, append-nil, length, get_or, take, drop, set, arith}
 use Rattle.std.proofs.lemmas.List.{take_more, take_all, set_split}
-use Rattle.cps_state.specs.declared.key.Put.{Put}
-use Rattle.cps_state.specs.Keys.{State, first_state, with_put, overwritten}
+use Rattle.cps_state.specs.Keys.{first_state}
 use Rattle.cps_state.specs.Course.{Trace}
 use Rattle.cps_pass.specs.Expansion.{trace_of}
-use Rattle.cps_final.specs.Layout.{puts_of}
 use Rattle.cps_final.specs.Finals.{Finals, finals_of, is_open_at_end}
+use Rattle.cps_edit.proofs.SpliceLemmas.{take-traces_from, length-traces_from, traces_from-append, state_after-append, puts-state}
 use Rattle.cps_live.specs.Assembly.{after, state_after, traces_from, traces_of, outcomes_under, outcomes_of, ends_open}
 use Rattle.cps_live.specs.Assembled.{Assembled, assembled_behind, assembled_of}
-
--- ---- two parts of a source
-
-pub state_after-append : (s : State) (front lines : List (List ℕ)) → state_after s (front ++ lines) ≡ state_after (state_after s front) lines
-state_after-append s [] lines = refl
-state_after-append s (l ∷ front) lines = state_after-append (after s l) front lines
-
-pub traces_from-append : (s : State) (front lines : List (List ℕ)) → traces_from s (front ++ lines) ≡ traces_from s front ++ traces_from (state_after s front) lines
-traces_from-append s [] lines = refl
-traces_from-append s (l ∷ front) lines = ap (λ traces. trace_of l s ∷ traces) (traces_from-append (after s l) front lines)
-
-pub traces_from-take : (s : State) (lines : List (List ℕ)) (n : ℕ) → take n (traces_from s lines) ≡ traces_from s (take n lines)
-traces_from-take s lines zero = refl
-traces_from-take s [] (suc n) = refl
-traces_from-take s (l ∷ lines) (suc n) = ap (λ traces. trace_of l s ∷ traces) (traces_from-take (after s l) lines n)
-
-pub traces_from-length : (s : State) (lines : List (List ℕ)) → length (traces_from s lines) ≡ length lines
-traces_from-length s [] = refl
-traces_from-length s (line ∷ lines) = ap (λ n. suc n) (traces_from-length (after s line) lines)
-
--- ---- the state after lines is what their puts leave
-
-overwritten-append : (s : State) (puts more : List Put) → overwritten s (puts ++ more) ≡ overwritten (overwritten s puts) more
-overwritten-append s [] more = refl
-overwritten-append s (p ∷ puts) more = overwritten-append (with_put s p) puts more
-
-pub puts-state : (s : State) (lines : List (List ℕ)) → overwritten s (puts_of (traces_from s lines)) ≡ state_after s lines
-puts-state s [] = refl
-puts-state s (l ∷ lines) = overwritten-append s (trace_of l s).puts (puts_of (traces_from (after s l) lines)) ∙ puts-state (after s l) lines
 
 -- ---- what is kept
 
@@ -91,7 +61,7 @@ line-behind old before lines line trace traces finals is stepped pushed gathers 
 pub front-kept : (kept : Assembled) (lines : List (List ℕ)) (keep : ℕ) (front : List Trace) → kept ≡ assembled_of lines → front ≡ take keep kept.traces
     → front ≡ traces_of (take keep lines)
 unfolding assembled_behind
-front-kept kept lines keep front is first = first ∙ ap (λ (a : Assembled). take keep a.traces) is ∙ traces_from-take first_state lines keep
+front-kept kept lines keep front is first = first ∙ ap (λ (a : Assembled). take keep a.traces) is ∙ take-traces_from keep first_state lines
 
 -- traces that are the same, as after a refusal
 pub same-assembled : (old : Assembled) (traces : List Trace) → traces ≡ old.traces → record { traces = traces; finals = old.finals } ≡ old
@@ -103,7 +73,7 @@ pub put-behind : (old later : Assembled) (keep : ℕ) (lines more : List (List �
     → finals ≡ later.finals → record { traces = traces; finals = finals } ≡ assembled_of (take keep lines ++ more)
 unfolding assembled_behind
 put-behind old later keep lines more traces finals is is-later appended moved =
-    let front : take keep old.traces ≡ traces_of (take keep lines) = ap (λ (a : Assembled). take keep a.traces) is ∙ traces_from-take first_state lines keep in
+    let front : take keep old.traces ≡ traces_of (take keep lines) = ap (λ (a : Assembled). take keep a.traces) is ∙ take-traces_from keep first_state lines in
     let traces-now : traces ≡ traces_of (take keep lines ++ more) =
     appended ∙ ap (λ (k : List Trace). k ++ later.traces) front ∙ ap (λ (a : Assembled). traces_of (take keep lines) ++ a.traces) is-later
     ∙ sym (traces_from-append first_state (take keep lines) more) in
@@ -115,7 +85,7 @@ put-behind old later keep lines more traces finals is is-later appended moved =
 -- each line has a trace
 pub assembled-length : (kept : Assembled) (lines : List (List ℕ)) → kept ≡ assembled_of lines → length kept.traces ≡ length lines
 unfolding assembled_behind
-assembled-length kept lines is = ap (λ (a : Assembled). length a.traces) is ∙ traces_from-length first_state lines
+assembled-length kept lines is = ap (λ (a : Assembled). length a.traces) is ∙ length-traces_from first_state lines
 
 pub outcomes-kept : (traces : List Trace) (finals : Finals) (kept : Assembled) (lines : List (List ℕ)) → traces ≡ kept.traces → finals ≡ kept.finals → kept ≡ assembled_of lines
     → outcomes_under finals traces ≡ outcomes_of lines

@@ -21,7 +21,7 @@ use Rattle.cps_live.specs.declared.passes.PassOne.{PassOne}
 use Rattle.cps_live.specs.declared.passes.PassTwo.{PassTwo}
 use Rattle.cps_final.specs.contracts.finals.FinalsGathered.TheImpl.{gathered-value}
 use Rattle.cps_live.specs.Passes.{statements_of, IsPassed, IsShown}
-use Rattle.cps_live.proofs.AssemblyLemmas.{traces_from-append, traces_from-take, traces_from-length, puts-state}
+use Rattle.cps_edit.proofs.SpliceLemmas.{traces_from-append, length-traces_from, puts-state}
 
 -- the trace of the line after those that were gathered
 pub step-next : (finals : Finals) (before : List (List ℕ)) (line : List ℕ) (trace : Trace) (state : State) → Gathers finals (traces_of before) → state ≡ finals.state
@@ -42,7 +42,7 @@ statements-more (t ∷ traces) trace = ap (λ statements. t.items ∷ statements
 
 -- as many outcomes as lines
 outcomes-length : (finals : Finals) (lines : List (List ℕ)) → length (outcomes_under finals (traces_of lines)) ≡ length lines
-outcomes-length finals lines = length-map (traces_of lines) (outcome_of (final_value finals)) ∙ traces_from-length first_state lines
+outcomes-length finals lines = length-map (traces_of lines) (outcome_of (final_value finals)) ∙ length-traces_from first_state lines
 
 -- the statements that are kept, one line more
 pub kept-more : (lines : List (List ℕ)) (line : List ℕ) (trace : Trace) → traces_of (lines ++ line ∷ []) ≡ traces_of lines ++ trace ∷ []
@@ -98,7 +98,7 @@ two-all finals two printout lines i past same is so =
 
 -- as many statements are kept as there are lines
 pub kept-length : (kept : List (List Item)) (lines : List (List ℕ)) → kept ≡ statements_of (traces_of lines) → length kept ≡ length lines
-kept-length kept lines is = ap length is ∙ length-map (traces_of lines) (λ (trace : Trace). trace.items) ∙ traces_from-length first_state lines
+kept-length kept lines is = ap length is ∙ length-map (traces_of lines) (λ (trace : Trace). trace.items) ∙ length-traces_from first_state lines
 
 -- the number of the line after the first so many
 pub number-taken : (lines : List (List ℕ)) (i : ℕ) → i < length lines → i + 1 ≡ length (take i lines) + 1

@@ -1,0 +1,47 @@
+-- New items in their places.
+use Rattle.std.proofs.Common.{◌≡◌, ℕ, ◌+◌, ◌<◌, ◌≤◌, sym, ap, subst, ◌∙◌, List, ◌∷◌, ◌++◌, append_assoc, length, get_or, insert, take, drop, ◌-◌, Option, arith}
+use Rattle.std.proofs.lemmas.Grind.{common_steps}
+use Rattle.std.proofs.lemmas.List.Edits.{insert-append_right}
+use Rattle.cps_edit.specs.Renewed.{merged, mended}
+use Rattle.cps_edit.proofs.TakenLemmas.{drop_at, mended_merged, mended_front}
+
+module _ {X : Type 0} where
+  take_front : (xs ys : List X) (n : ℕ) → length xs ≡ n → take n (xs ++ ys) ≡ xs
+  take_front xs ys n e = grind (arith, common_steps)
+
+  drop_front : (xs ys : List X) (n : ℕ) → length xs ≡ n → drop n (xs ++ ys) ≡ ys
+  drop_front xs ys n e = grind (arith, common_steps)
+
+  -- behind what was put in
+  pub behind : (T ts us F : List X) (N : List (Option X)) (keep from after : ℕ) → keep ≤ length T → from + length N ≡ length T → after ≡ keep + length F
+      → us ≡ take keep T ++ (F ++ drop from T) → ts ≡ take after us ++ mended N (drop after us) → ts ≡ take keep T ++ (F ++ merged N (drop from T))
+  behind T ts us F N keep from after within news at made over =
+      let split : us ≡ (take keep T ++ F) ++ drop from T = made ∙ sym (append_assoc (take keep T) F (drop from T)) in
+      let long : length (take keep T ++ F) ≡ after = grind (arith, common_steps) in
+      let same : length N ≡ length (drop from T) = grind (arith, common_steps) in
+      over ∙ ap (λ vs. take after vs ++ mended N (drop after vs)) split
+      ∙ ap (λ vs. vs ++ mended N (drop after ((take keep T ++ F) ++ drop from T))) (take_front (take keep T ++ F) (drop from T) after long)
+      ∙ ap (λ vs. (take keep T ++ F) ++ mended N vs) (drop_front (take keep T ++ F) (drop from T) after long)
+      ∙ ap (λ vs. (take keep T ++ F) ++ vs) (mended_merged N (drop from T) same)
+      ∙ append_assoc (take keep T) F (merged N (drop from T))
+
+  -- and before it
+  pub before : (T ts us rest : List X) (N : List (Option X)) (keep : ℕ) → keep ≤ length T → length N ≡ keep → us ≡ take keep T ++ rest → ts ≡ mended N us → ts ≡ merged N (take keep T) ++ rest
+  before T ts us rest N keep within len made over =
+      let long : length (take keep T) ≡ length N = grind (arith, common_steps) in
+      over ∙ mended_front N us (subst (λ xs. length N ≤ length xs) (sym made) (grind (arith, common_steps)))
+      ∙ ap (λ vs. merged N (take (length N) vs) ++ drop (length N) vs) made
+      ∙ ap (λ vs. merged N vs ++ drop (length N) (take keep T ++ rest)) (take_front (take keep T) rest (length N) long)
+      ∙ ap (λ vs. merged N (take keep T) ++ vs) (drop_front (take keep T) rest (length N) long)
+
+  -- one item more in its place, from the last to the first
+  pub put_place : (T F ts : List X) (a b from : ℕ) (x : X) → a ≡ b + 1 → b < length F → from ≤ length T → x ≡ get_or F b x
+      → ts ≡ take from T ++ (drop a F ++ drop from T) → insert ts from x ≡ take from T ++ (drop b F ++ drop from T)
+  put_place T F ts a b from x one lt within is before =
+      let long : length (take from T) ≡ from = grind (arith, common_steps) in
+      let none : from - from ≡ 0 = omega arith in
+      let split : drop b F ≡ x ∷ drop a F = drop_at F b x lt is ∙ ap (λ n. x ∷ drop n F) (sym one) in
+      ap (λ us. insert us from x) before
+      ∙ insert-append_right (take from T) (drop a F ++ drop from T) from from x long (omega arith)
+      ∙ ap (λ n. take from T ++ insert (drop a F ++ drop from T) n x) none
+      ∙ ap (λ us. take from T ++ (us ++ drop from T)) (sym split)

@@ -1,0 +1,11 @@
+pub mod AnswerLemmas
+pub mod AskedLemmas
+pub mod AgreeLemmas
+pub mod ReplayLemmas
+pub mod FrontLemmas
+pub mod RedoLemmas
+pub mod TakenLemmas
+pub mod CommitLemmas
+pub mod SpliceLemmas
+pub mod SecondLemmas
+pub mod WholeLemmas

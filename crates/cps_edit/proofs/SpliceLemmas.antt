@@ -1,0 +1,179 @@
+-- The traces and the count of a spliced source.
+use Rattle.std.proofs.Common.{◌≡◌, ℕ, zero, suc, ◌+◌, ◌≤◌, refl, sym, ap, subst, ◌∙◌, List, [], ◌∷◌, ◌++◌, append_assoc, zero-add, length, take, drop, map, Option, Some, false, not, arith}
+use Rattle.std.specs.Prelude.{if◌then◌else◌, is_some}
+use Rattle.cps_state.specs.declared.key.Put.{Put}
+use Rattle.cps_state.specs.Keys.{State, first_state, with_put, overwritten}
+use Rattle.cps_state.specs.Course.{Trace}
+use Rattle.cps_state.specs.Work.{counted_on}
+use Rattle.cps_pass.specs.Expansion.{trace_of}
+use Rattle.cps_final.specs.Layout.{puts_of}
+use Rattle.cps_final.specs.Finals.{Finals, finals_of}
+use Rattle.cps_edit.specs.Passes.{after, state_after, traces_from, traces_of}
+use Rattle.cps_edit.specs.Splice.{splice_at, spliced}
+use Rattle.cps_edit.specs.Disturbed.{Placed, kept, all_kept, fresh, is_disturbed, disturbed_from, ones_of}
+use Rattle.cps_edit.specs.Renewed.{merged, flags_from, AllWereMeant}
+use Rattle.cps_edit.proofs.AnswerLemmas.{asks-decide}
+use Rattle.cps_edit.proofs.AskedLemmas.{asked-here}
+
+pub length-traces_from : (f : State) (ls : List (List ℕ)) → length (traces_from f ls) ≡ length ls
+length-traces_from f [] = refl
+length-traces_from f (l ∷ ls) = ap suc (length-traces_from (after f l) ls)
+
+pub take-traces_from : (n : ℕ) (f : State) (ls : List (List ℕ)) → take n (traces_from f ls) ≡ traces_from f (take n ls)
+take-traces_from zero f ls = refl
+take-traces_from (suc n) f [] = refl
+take-traces_from (suc n) f (l ∷ ls) = ap (λ ts. trace_of l f ∷ ts) (take-traces_from n (after f l) ls)
+
+pub drop-traces_from : (n : ℕ) (f : State) (ls : List (List ℕ)) → drop n (traces_from f ls) ≡ traces_from (state_after f (take n ls)) (drop n ls)
+drop-traces_from zero f ls = refl
+drop-traces_from (suc n) f [] = refl
+drop-traces_from (suc n) f (l ∷ ls) = drop-traces_from n (after f l) ls
+
+pub traces_from-append : (f : State) (xs ys : List (List ℕ)) → traces_from f (xs ++ ys) ≡ traces_from f xs ++ traces_from (state_after f xs) ys
+traces_from-append f [] ys = refl
+traces_from-append f (x ∷ xs) ys = ap (λ ts. trace_of x f ∷ ts) (traces_from-append (after f x) xs ys)
+
+-- the state after lines is what their puts leave
+overwritten-append : (s : State) (puts more : List Put) → overwritten s (puts ++ more) ≡ overwritten (overwritten s puts) more
+overwritten-append s [] more = refl
+overwritten-append s (p ∷ puts) more = overwritten-append (with_put s p) puts more
+
+pub puts-state : (s : State) (lines : List (List ℕ)) → overwritten s (puts_of (traces_from s lines)) ≡ state_after s lines
+puts-state s [] = refl
+puts-state s (l ∷ lines) = overwritten-append s (trace_of l s).puts (puts_of (traces_from (after s l) lines)) ∙ puts-state (after s l) lines
+
+pub AllWereMeant-traces_from : (f : State) (ls : List (List ℕ)) → AllWereMeant ls (traces_from f ls)
+AllWereMeant-traces_from f [] = tt
+AllWereMeant-traces_from f (l ∷ ls) = ((f, refl), AllWereMeant-traces_from (after f l) ls)
+
+pub AllWereMeant-drop : (n : ℕ) (f : State) (ls : List (List ℕ)) → AllWereMeant (drop n ls) (drop n (traces_from f ls))
+AllWereMeant-drop n f ls = subst (λ (ts : List Trace). AllWereMeant (drop n ls) ts) (sym (drop-traces_from n f ls)) (AllWereMeant-traces_from (state_after f (take n ls)) (drop n ls))
+
+-- the traces of a spliced source
+pub traces_from-spliced : (ls new : List (List ℕ)) (keep from : ℕ) (firsts lasts : List Trace)
+    → firsts ≡ traces_from (state_after first_state (take keep ls)) new → lasts ≡ traces_from (state_after (state_after first_state (take keep ls)) new) (drop from ls)
+    → take keep (traces_from first_state ls) ++ (firsts ++ lasts) ≡ traces_from first_state (spliced ls (splice_at keep from new))
+traces_from-spliced ls new keep from firsts lasts p q =
+    let g = state_after first_state (take keep ls) in
+    ap (λ ts. take keep (traces_from first_state ls) ++ (ts ++ lasts)) p
+    ∙ ap (λ ts. take keep (traces_from first_state ls) ++ (traces_from g new ++ ts)) q
+    ∙ ap (λ ts. take keep (traces_from first_state ls) ++ ts) (sym (traces_from-append g new (drop from ls)))
+    ∙ ap (λ ts. ts ++ traces_from g (new ++ drop from ls)) (take-traces_from keep first_state ls)
+    ∙ sym (traces_from-append first_state (take keep ls) (new ++ drop from ls))
+
+pub kept-drop : (n : ℕ) (ls : List (List ℕ)) (ts : List Trace) → drop n (kept ls ts) ≡ kept (drop n ls) (drop n ts)
+kept-drop zero ls ts = refl
+kept-drop (suc n) [] ts = refl
+kept-drop (suc n) (l ∷ ls) [] = kept_none (drop n ls)
+  where
+    kept_none : (ms : List (List ℕ)) → [] ≡ kept ms []
+    kept_none [] = refl
+    kept_none (m ∷ ms) = refl
+kept-drop (suc n) (l ∷ ls) (t ∷ ts) = kept-drop n ls ts
+
+-- a line is not disturbed where it stood
+pub undisturbed : (l : List ℕ) (f : State) → is_disturbed (Some (trace_of l f)) f ≡ false
+undisturbed l f = ap not ((asks-decide (trace_of l f).asks f).1 (asked-here l f))
+
+disturbed_from-prefix : (n : ℕ) (f : State) (ls : List (List ℕ)) (ps : List Placed) → disturbed_from f (take n (kept ls (traces_from f ls)) ++ ps) ≡ disturbed_from (state_after f (take n ls)) ps
+disturbed_from-prefix zero f ls ps = refl
+disturbed_from-prefix (suc n) f [] ps = refl
+disturbed_from-prefix (suc n) f (l ∷ ls) ps =
+    let rest = disturbed_from (after f l) (take n (kept ls (traces_from (after f l) ls)) ++ ps) in
+    ap (λ b. (if b then 1 else 0) + rest) (undisturbed l f) ∙ zero-add rest ∙ disturbed_from-prefix n (after f l) ls ps
+
+disturbed_from-new : (f : State) (new : List (List ℕ)) (ps : List Placed) → disturbed_from f (map fresh new ++ ps) ≡ length new + disturbed_from (state_after f new) ps
+disturbed_from-new f [] ps = omega arith
+disturbed_from-new f (l ∷ new) ps = omega (arith, disturbed_from-new (after f l) new ps)
+
+pub disturbed-is : (ls new : List (List ℕ)) (keep from : ℕ) → ones_of ls (splice_at keep from new) ≡ length new + disturbed_from (state_after (state_after first_state (take keep ls)) new) (kept (drop from ls) (drop from (traces_from first_state ls)))
+disturbed-is ls new keep from =
+    let g = state_after first_state (take keep ls) in
+    disturbed_from-prefix keep first_state ls (map fresh new ++ drop from (all_kept ls))
+    ∙ disturbed_from-new g new (drop from (all_kept ls))
+    ∙ ap (λ ps. length new + disturbed_from (state_after g new) ps) (kept-drop from ls (traces_from first_state ls))
+
+-- the lines that are passed over, and the state behind them
+pub passed : (start front : Finals) (ts before : List Trace) (ls : List (List ℕ)) (keep : ℕ) → start ≡ finals_of [] → before ≡ take keep ts → ts ≡ traces_of ls
+    → ((done : List Trace) → start ≡ finals_of done → front ≡ finals_of (done ++ before)) → front ≡ finals_of (traces_of (take keep ls))
+passed start front ts before ls keep begun first is gathers =
+    gathers [] begun ∙ ap finals_of (first ∙ ap (take keep) is ∙ take-traces_from keep first_state ls)
+
+pub gathered-state : (front : Finals) (ls : List (List ℕ)) → front ≡ finals_of (traces_of ls) → front.state ≡ state_after first_state ls
+gathered-state front ls is = ap (λ (f : Finals). f.state) is ∙ puts-state first_state ls
+
+-- what is gathered of all lines
+pub planned_finals : (ls new rest : List (List ℕ)) (keep from : ℕ) (one two three : Finals)
+    → rest ≡ drop from ls → one ≡ finals_of (traces_of (take keep ls)) → two.state ≡ state_after one.state new
+    → ((done : List Trace) → one ≡ finals_of done → two ≡ finals_of (done ++ traces_from one.state new))
+    → ((done : List Trace) → two ≡ finals_of done → three ≡ finals_of (done ++ traces_from two.state rest))
+    → three ≡ finals_of (traces_of (spliced ls (splice_at keep from new)))
+planned_finals ls new rest keep from one two three lines at_one after_two gathers_two gathers_three =
+    let g = state_after first_state (take keep ls) in
+    let state : one.state ≡ g = gathered-state one (take keep ls) at_one in
+    let behind : two.state ≡ state_after g new = after_two ∙ ap (λ (s : State). state_after s new) state in
+    gathers_three (traces_of (take keep ls) ++ traces_from one.state new) (gathers_two (traces_of (take keep ls)) at_one)
+    ∙ ap (λ (s : State). finals_of ((traces_of (take keep ls) ++ traces_from s new) ++ traces_from two.state rest)) state
+    ∙ ap (λ (s : State). finals_of ((traces_of (take keep ls) ++ traces_from g new) ++ traces_from s rest)) behind
+    ∙ ap (λ xs. finals_of ((traces_of (take keep ls) ++ traces_from g new) ++ traces_from (state_after g new) xs)) lines
+    ∙ ap finals_of (append_assoc (traces_of (take keep ls)) (traces_from g new) (traces_from (state_after g new) (drop from ls)))
+    ∙ ap (λ ts. finals_of (traces_of (take keep ls) ++ ts)) (sym (traces_from-append g new (drop from ls)))
+    ∙ ap finals_of (sym (traces_from-append first_state (take keep ls) (new ++ drop from ls)))
+
+pub planned_traces : (ls new rest : List (List ℕ)) (keep from : ℕ) (ts left firsts : List Trace) (news : List (Option Trace)) (g h : State)
+    → ts ≡ traces_from first_state ls → rest ≡ drop from ls → left ≡ drop from ts → g ≡ state_after first_state (take keep ls)
+    → firsts ≡ traces_from g new → h ≡ state_after g new → merged news left ≡ traces_from h rest
+    → take keep ts ++ (firsts ++ merged news (drop from ts)) ≡ traces_from first_state (spliced ls (splice_at keep from new))
+planned_traces ls new rest keep from ts left firsts news g h were lines traces g_is made h_is merges =
+    let h_at : h ≡ state_after (state_after first_state (take keep ls)) new = h_is ∙ ap (λ (f : State). state_after f new) g_is in
+    let lasts : merged news (drop from ts) ≡ traces_from (state_after (state_after first_state (take keep ls)) new) (drop from ls) =
+    ap (merged news) (sym traces) ∙ merges ∙ ap (λ (f : State). traces_from f rest) h_at ∙ ap (traces_from (state_after (state_after first_state (take keep ls)) new)) lines in
+    ap (λ xs. take keep xs ++ (firsts ++ merged news (drop from ts))) were
+    ∙ traces_from-spliced ls new keep from firsts (merged news (drop from ts)) (made ∙ ap (λ (f : State). traces_from f new) g_is) lasts
+
+-- the count of a spliced source, by what the lines left count
+counted : (ls new rest : List (List ℕ)) (keep from : ℕ) (ts left : List Trace) (g h : State)
+    → ts ≡ traces_from first_state ls → rest ≡ drop from ls → left ≡ drop from ts → g ≡ state_after first_state (take keep ls) → h ≡ state_after g new
+    → ones_of ls (splice_at keep from new) ≡ length new + disturbed_from h (kept rest left)
+counted ls new rest keep from ts left g h were lines traces g_is h_is =
+    let h_at : h ≡ state_after (state_after first_state (take keep ls)) new = h_is ∙ ap (λ (f : State). state_after f new) g_is in
+    disturbed-is ls new keep from
+    ∙ ap (λ (f : State). length new + disturbed_from f (kept (drop from ls) (drop from (traces_from first_state ls)))) (sym h_at)
+    ∙ ap (λ xs. length new + disturbed_from h (kept xs (drop from (traces_from first_state ls)))) (sym lines)
+    ∙ ap (λ xs. length new + disturbed_from h (kept rest xs)) (sym (traces ∙ ap (drop from) were))
+
+both_more : (u v w by left all : ℕ) → v ≡ counted_on u by → w ≡ counted_on v left → all ≡ by + left → w ≡ counted_on u all
+both_more u v w by left all p q r = omega arith
+
+first_more : (u v by left all : ℕ) → v ≤ counted_on u by → all ≡ by + left → v ≤ counted_on u all
+first_more u v by left all p r = omega arith
+
+last_more : (u v w by left all : ℕ) → v ≡ counted_on u by → w ≤ counted_on v left → all ≡ by + left → w ≤ counted_on u all
+last_more u v w by left all p q r = omega arith
+
+pub planned_steps : (ls new rest : List (List ℕ)) (keep from : ℕ) (ts left : List Trace) (g h : State) (u v w : ℕ)
+    → ts ≡ traces_from first_state ls → rest ≡ drop from ls → left ≡ drop from ts → g ≡ state_after first_state (take keep ls) → h ≡ state_after g new
+    → v ≡ counted_on u (length new) → w ≡ counted_on v (disturbed_from h (kept rest left)) → w ≡ counted_on u (ones_of ls (splice_at keep from new))
+planned_steps ls new rest keep from ts left g h u v w were lines traces g_is h_is first last =
+    both_more u v w _ _ _ first last (counted ls new rest keep from ts left g h were lines traces g_is h_is)
+
+pub planned_first : (ls new : List (List ℕ)) (keep from : ℕ) (u v : ℕ) → v ≤ counted_on u (length new) → v ≤ counted_on u (ones_of ls (splice_at keep from new))
+planned_first ls new keep from u v first = first_more u v _ _ _ first (disturbed-is ls new keep from)
+
+pub planned_last : (ls new rest : List (List ℕ)) (keep from : ℕ) (ts left : List Trace) (g h : State) (u v w : ℕ)
+    → ts ≡ traces_from first_state ls → rest ≡ drop from ls → left ≡ drop from ts → g ≡ state_after first_state (take keep ls) → h ≡ state_after g new
+    → v ≡ counted_on u (length new) → w ≤ counted_on v (disturbed_from h (kept rest left)) → w ≤ counted_on u (ones_of ls (splice_at keep from new))
+planned_last ls new rest keep from ts left g h u v w were lines traces g_is h_is first last =
+    last_more u v w _ _ _ first last (counted ls new rest keep from ts left g h were lines traces g_is h_is)
+
+pub state_after-append : (f : State) (xs ys : List (List ℕ)) → state_after f (xs ++ ys) ≡ state_after (state_after f xs) ys
+state_after-append f [] ys = refl
+state_after-append f (x ∷ xs) ys = state_after-append (after f x) xs ys
+
+pub planned_flags : (ls new rest : List (List ℕ)) (keep from : ℕ) (ts left : List Trace) (news : List (Option Trace)) (g h : State)
+    → rest ≡ drop from ls → left ≡ drop from ts → g ≡ state_after first_state (take keep ls) → h ≡ state_after g new → map is_some news ≡ flags_from h rest left
+    → map is_some news ≡ flags_from (state_after (state_after first_state (take keep ls)) new) (drop from ls) (drop from ts)
+planned_flags ls new rest keep from ts left news g h lines traces g_is h_is new_is =
+    let h_at : h ≡ state_after (state_after first_state (take keep ls)) new = h_is ∙ ap (λ (f : State). state_after f new) g_is in
+    new_is ∙ ap (λ (f : State). flags_from f rest left) h_at ∙ ap (λ xs. flags_from (state_after (state_after first_state (take keep ls)) new) xs left) lines
+    ∙ ap (λ xs. flags_from (state_after (state_after first_state (take keep ls)) new) (drop from ls) xs) traces

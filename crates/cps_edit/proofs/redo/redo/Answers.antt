@@ -1,0 +1,34 @@
+use Rattle.std.proofs.Common.{rules, arith, ◌≡◌, ◌<◌, length, ◌∙◌, ◌++◌, ◌∷◌, []}
+use Rattle.std.proofs.lemmas.Grind.{common_steps}
+use Rattle.cps_final.specs.Resolving.{resolved}
+use Rattle.cps_edit.proofs.ReplayLemmas.{on-err}
+use Rattle.cps_edit.proofs.RedoLemmas.{outcomes-next, twos-next, twos-within}
+use Rattle.cps_edit.proofs.redo.redo.Goals as goal
+
+pub loop-i-preserved : goal.loop-i-preserved
+loop-i-preserved c =
+    let news = c.args.news.now in
+    let olds = c.args.olds.now in
+    let i = c.loop-i.i in
+    let was = resolved c.args.ends.before.now in
+    let now = resolved c.args.ends.after.now in
+    let in_olds : i < length olds = omega arith in
+    let in_news : i < length news = omega (arith, c.requires.same_len) in
+    let pushed : c.push.new.self.items ≡ c.loop-i.all.items ++ c.in_ok-made.made ∷ [] = search rules in
+    record {
+      made = grind (arith, common_steps);
+      outcomes = rw pushed (outcomes-next was now c.loop-i.all.items c.in_ok-made.made news olds i c.index-news-i.result c.index-olds-i.result _ in_news in_olds c.loop-i.invariant.made c.index-news-i.is c.index-olds-i.is c.in_ok-made.ensures.outcome c.loop-i.invariant.outcomes);
+      twos = twos-next was now news olds i c.index-news-i.result c.index-olds-i.result c.loop-i.work.twos c.redone.new.work.twos _ in_news in_olds c.index-news-i.is c.index-olds-i.is c.in_ok-made.ensures.twos c.loop-i.invariant.twos;
+      ones = c.in_ok-made.ensures.ones ∙ c.loop-i.invariant.ones;
+    }
+
+pub returns-in_err-made-clause-twos_err : goal.returns-in_err-made-clause-twos_err
+returns-in_err-made-clause-twos_err c =
+    let news = c.args.news.now in
+    let olds = c.args.olds.now in
+    let i = c.loop-i.i in
+    let in_olds : i < length olds = omega arith in
+    let in_news : i < length news = omega (arith, c.requires.same_len) in
+    on-err _
+    (twos-within (resolved c.args.ends.before.now) (resolved c.args.ends.after.now) news olds i c.index-news-i.result c.index-olds-i.result c.loop-i.work.twos c.redone.new.work.twos _ in_news in_olds
+    c.index-news-i.is c.index-olds-i.is c.in_err-made.ensures.twos_err c.loop-i.invariant.twos)

@@ -1,0 +1,6 @@
+pub mod Passes
+pub mod Holds
+pub mod Agreeing
+pub mod Splice
+pub mod Disturbed
+pub mod Renewed

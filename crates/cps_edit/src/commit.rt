@@ -1,0 +1,33 @@
+//! What was made beside takes the place of what was kept. Nothing here takes memory.
+ghost use Rattle.std.specs.Prelude.{◌≡◌, ◌+◌, ◌≤◌, ◌++◌, length, take, drop, vec_len, vec_capacity};
+ghost use Rattle.cps_edit.specs.Renewed.{mended};
+
+/// Puts each new item in the place of the old one, from a place on.
+pub fn take_over<T: Drop>(items: &mut Vec<T>, from: usize, news: Vec<Option<T>>)
+    requires { from + vec_len news ≤ vec_len items.old }
+    ensures { items.new.items ≡ take from items.old.items ++ mended news.items (drop from items.old.items) }
+{
+    let mut news = news;
+    while let Some(new) = news.pop() {
+        if let Some(item) = new {
+            let at = from + news.len();
+            items[at] = item;
+        }
+    }
+}
+
+/// Puts items in the place of those after the first `keep` up to the first `from`.
+pub fn put_at<T: Drop>(items: &mut Vec<T>, keep: usize, from: usize, first: Vec<T>)
+    requires ordered { keep ≤ from }
+    requires within { from ≤ vec_len items.old }
+    requires room { vec_len items.old + vec_len first ≤ vec_capacity items.old }
+    ensures items { items.new.items ≡ take keep items.old.items ++ (first.items ++ drop from items.old.items) }
+{
+    let mut first = first;
+    while let Some(item) = first.pop() {
+        let Ok(_) = items.insert(from, item) else {
+            unreachable!();
+        };
+    }
+    items.drain(keep..from);
+}

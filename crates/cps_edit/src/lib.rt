@@ -1,0 +1,20 @@
+//! An edit of a source: what its lines did in both passes is kept, and only what the edit disturbs is done again.
+#![tactic(auto)]
+
+mod agreeing;
+mod commit;
+mod edit;
+mod front;
+mod holding;
+mod lists;
+mod naming;
+mod plan;
+mod redo;
+mod second;
+
+pub use agreeing::same_finals;
+pub use edit::Edit;
+pub use front::Front;
+pub use holding::still_holds;
+pub use lists::Lists;
+pub use plan::{Kept, Plan};
