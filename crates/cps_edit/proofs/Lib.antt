@@ -9,3 +9,7 @@ pub mod CommitLemmas
 pub mod SpliceLemmas
 pub mod SecondLemmas
 pub mod WholeLemmas
+pub mod SettledLemmas
+pub mod OpenLemmas
+pub mod ThroughLemmas
+pub mod AppendLemmas

@@ -4,3 +4,4 @@ pub mod Agreeing
 pub mod Splice
 pub mod Disturbed
 pub mod Renewed
+pub mod Append

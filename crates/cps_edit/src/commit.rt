@@ -1,6 +1,10 @@
 //! What was made beside takes the place of what was kept. Nothing here takes memory.
 ghost use Rattle.std.specs.Prelude.{◌≡◌, ◌+◌, ◌≤◌, ◌++◌, length, take, drop, vec_len, vec_capacity};
 ghost use Rattle.cps_edit.specs.Renewed.{mended};
+ghost use Rattle.cps_edit.specs.Append.{changed, AreWithin};
+
+use crate::arrival::Change;
+use cps_final::Outcome;
 
 /// Puts each new item in the place of the old one, from a place on.
 pub fn take_over<T: Drop>(items: &mut Vec<T>, from: usize, news: Vec<Option<T>>)
@@ -30,4 +34,19 @@ pub fn put_at<T: Drop>(items: &mut Vec<T>, keep: usize, from: usize, first: Vec<
         };
     }
     items.drain(keep..from);
+}
+
+/// Puts what was changed in its place.
+pub fn change_all(outcomes: &mut Vec<Outcome>, changes: Vec<Change>)
+    requires { AreWithin (vec_len outcomes.old) changes.items }
+    ensures items { outcomes.new.items ≡ changed changes.items outcomes.old.items }
+    ensures len { vec_len outcomes.new ≡ vec_len outcomes.old }
+    ensures room { vec_capacity outcomes.new ≡ vec_capacity outcomes.old }
+{
+    let mut changes = changes;
+    changes.reverse();
+    while let Some(change) = changes.pop() {
+        let Change { at, outcome } = change;
+        outcomes[at] = outcome;
+    }
 }

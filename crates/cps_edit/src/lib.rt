@@ -2,17 +2,22 @@
 #![tactic(auto)]
 
 mod agreeing;
+mod append;
+mod arrival;
 mod commit;
 mod edit;
 mod front;
 mod holding;
 mod lists;
 mod naming;
+mod open;
 mod plan;
 mod redo;
 mod second;
 
 pub use agreeing::same_finals;
+pub use append::{Append, Follower};
+pub use arrival::Change;
 pub use edit::Edit;
 pub use front::Front;
 pub use holding::still_holds;

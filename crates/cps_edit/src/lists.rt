@@ -1,9 +1,11 @@
 //! What is kept of the lines of a source, and how an edit takes its place there.
-ghost use Rattle.std.specs.Prelude.{◌≡◌, ◌+◌, ◌≤◌, ◌++◌, IfOk, OnOk, OnErr, length, take, drop, vec_len};
+ghost use Rattle.std.specs.Prelude.{◌≡◌, ◌+◌, ◌<◌, ◌≤◌, ◌++◌, ◌∷◌, [], IfOk, OnOk, OnErr, length, take, drop, vec_len, vec_capacity};
 ghost use Rattle.cps_edit.specs.Splice.{splice_at, spliced};
 ghost use Rattle.cps_edit.specs.Renewed.{merged};
+ghost use Rattle.cps_edit.specs.Append.{changed, AreWithin};
 
-use crate::commit::{put_at, take_over};
+use crate::append::Append;
+use crate::commit::{change_all, put_at, take_over};
 use crate::edit::Edit;
 use crate::front::Front;
 use crate::second::Second;
@@ -79,5 +81,40 @@ impl Lists {
         take_over(&mut self.outcomes, after, behind);
         take_over(&mut self.outcomes, 0, before);
         Ok(front)
+    }
+
+    /// Room for one line more. Where there is no memory, nothing changes.
+    pub fn make_room(&mut self) -> Result<(), AllocError>
+        ensures lines { self.new.lines.items ≡ self.old.lines.items }
+        ensures traces { self.new.traces.items ≡ self.old.traces.items }
+        ensures outcomes { self.new.outcomes.items ≡ self.old.outcomes.items }
+        ensures room { OnOk result (vec_len self.new.lines < vec_capacity self.new.lines) }
+        ensures room_trace { OnOk result (vec_len self.new.traces < vec_capacity self.new.traces) }
+        ensures room_outcome { OnOk result (vec_len self.new.outcomes < vec_capacity self.new.outcomes) }
+    {
+        self.lines.reserve(1)?;
+        self.traces.reserve(1)?;
+        self.outcomes.reserve(1)
+    }
+
+    /// Puts a line behind the last, with what it makes and what it changed. There is room for it.
+    pub fn append(&mut self, line: Line, made: Append)
+        requires within { AreWithin (vec_len self.old.outcomes) made.changes.items }
+        requires room { vec_len self.old.lines < vec_capacity self.old.lines }
+        requires room_trace { vec_len self.old.traces < vec_capacity self.old.traces }
+        requires room_outcome { vec_len self.old.outcomes < vec_capacity self.old.outcomes }
+        ensures lines { self.new.lines.items ≡ self.old.lines.items ++ line ∷ [] }
+        ensures traces { self.new.traces.items ≡ self.old.traces.items ++ made.trace ∷ [] }
+        ensures outcomes { self.new.outcomes.items ≡ changed made.changes.items self.old.outcomes.items ++ made.outcome ∷ [] }
+    {
+        let Append {
+            trace,
+            outcome,
+            changes,
+        } = made;
+        change_all(&mut self.outcomes, changes);
+        self.lines.push_reserved(line);
+        self.traces.push_reserved(trace);
+        self.outcomes.push_reserved(outcome);
     }
 }

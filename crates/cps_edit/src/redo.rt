@@ -13,7 +13,7 @@ use cps_pass::{Trace, Work};
 use std::alloc::{AllocError, Global};
 
 /// What pass two makes of a line now, None where it is what it made.
-fn redone(
+pub fn redone(
     alloc: Global,
     new: &Option<Trace>,
     old: &Trace,
