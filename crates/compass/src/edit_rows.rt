@@ -8,14 +8,15 @@ use std::alloc::Global;
 use std::process::Abort;
 
 /// An edit of a session: of the lines after a number, at one, or from one to another.
-enum Edit {
+#[derive(Clone, Copy)]
+pub enum Edit {
     Insert(u32, &'static [u8]),
     Replace(u32, &'static [u8]),
     Delete(u32, u32),
 }
 
 /// What comes of an edit. A text that is no line counts as one for which there is no memory.
-fn carry_out(
+pub fn carry_out(
     alloc: Global,
     session: &mut Session,
     work: &mut Work,
@@ -54,20 +55,25 @@ fn replace(
     }
 }
 
-/// An edit, what comes of it, and then the number of lines, the first of them, and the steps of pass one so far.
-type Row = (Edit, Result<(), EditFault>, u32, Option<&'static [u8]>, u64);
+/// An edit, what comes of it, and then the number of lines, the first of them, and the steps of each pass so far.
+type Row = (
+    Edit,
+    Result<(), EditFault>,
+    u32,
+    Option<&'static [u8]>,
+    [u64; 2],
+);
 
 /// Asserts what comes of an edit.
 fn assert_edit(rt: &impl Abort, alloc: Global, session: &mut Session, work: &mut Work, row: &Row) {
-    let (edit, end, count, first, ones) = row;
+    let (edit, end, count, first, steps) = row;
     let done = carry_out(alloc, session, work, edit);
     assert_same(rt, "what came of it", &done, end);
     assert_same(rt, "lines", &session.count(), count);
     assert_line(rt, session, 0, None);
     assert_line(rt, session, 1, *first);
     assert_line(rt, session, count.saturating_add(1), None);
-    assert_same(rt, "steps of pass one", &work.ones(), ones);
-    assert_same(rt, "steps of pass two", &work.twos(), &0);
+    assert_same(rt, "steps", &[work.ones(), work.twos()], steps);
 }
 
 /// Asserts what a line of a source is, None where there is none.
@@ -115,20 +121,26 @@ const CLEAN: &str = "0 flagged lines\n";
 
 #[test]
 fn holds_lines(rt: HostRuntime) {
-    const ENTERED: Row = (Edit::Insert(0, b"  NO"), Ok(()), 1, Some(b"  NO"), 1);
+    const ENTERED: Row = (Edit::Insert(0, b"  NO"), Ok(()), 1, Some(b"  NO"), [1, 1]);
     const NONE: [Row; 0] = [];
     const ONE: [Row; 1] = [ENTERED];
     const ALL: [Row; 4] = [
         ENTERED,
-        (Edit::Replace(1, b"* none"), Ok(()), 1, Some(b"* none"), 2),
+        (
+            Edit::Replace(1, b"* none"),
+            Ok(()),
+            1,
+            Some(b"* none"),
+            [2, 2],
+        ),
         (
             Edit::Delete(1, 2),
             Err(EditFault::NoSuchLine),
             1,
             Some(b"* none"),
-            2,
+            [2, 2],
         ),
-        (Edit::Delete(1, 1), Ok(()), 0, None, 2),
+        (Edit::Delete(1, 1), Ok(()), 0, None, [2, 2]),
     ];
     let empty = ["", "IDENT\n", CLEAN];
     assert_edits(&rt, rt.alloc(), &NONE, empty);
@@ -141,24 +153,52 @@ fn holds_lines(rt: HostRuntime) {
     assert_edits(&rt, rt.alloc(), &ALL, empty);
 }
 
-/// An edit counts the steps of pass one of the lines from the first on that it touches, and none of pass two; a refused
-/// one counts none.
+/// An edit steps the new line, and each behind it whose place in a word moves, in both passes; a comment moves none, and a
+/// refused edit steps none.
 #[test]
 fn counts_steps(rt: HostRuntime) {
     const FIRST: Option<&[u8]> = Some(b"  NO");
     const ROWS: [Row; 8] = [
-        (Edit::Insert(0, b"  NO"), Ok(()), 1, FIRST, 1),
-        (Edit::Insert(1, b"  NO"), Ok(()), 2, FIRST, 2),
-        (Edit::Insert(2, b"  NO"), Ok(()), 3, FIRST, 3),
-        (Edit::Insert(3, b"  NO"), Ok(()), 4, FIRST, 4),
-        (Edit::Insert(1, b"* one"), Ok(()), 5, FIRST, 8),
-        (Edit::Replace(4, b"* two"), Ok(()), 5, FIRST, 10),
-        (Edit::Delete(2, 4), Ok(()), 2, FIRST, 11),
-        (Edit::Delete(2, 4), Err(EditFault::NoSuchLine), 2, FIRST, 11),
+        (Edit::Insert(0, b"  NO"), Ok(()), 1, FIRST, [1, 1]),
+        (Edit::Insert(1, b"  NO"), Ok(()), 2, FIRST, [2, 2]),
+        (Edit::Insert(2, b"  NO"), Ok(()), 3, FIRST, [3, 3]),
+        (Edit::Insert(3, b"  NO"), Ok(()), 4, FIRST, [4, 4]),
+        (Edit::Insert(1, b"* one"), Ok(()), 5, FIRST, [5, 5]),
+        (Edit::Replace(4, b"* two"), Ok(()), 5, FIRST, [7, 7]),
+        (Edit::Delete(2, 4), Ok(()), 2, FIRST, [8, 8]),
+        (
+            Edit::Delete(2, 4),
+            Err(EditFault::NoSuchLine),
+            2,
+            FIRST,
+            [8, 8],
+        ),
     ];
     let listing = "         000000 46000                     1   NO
          000000 46000                     2   NO
 ";
     let binary = "IDENT\n000000 46000460000000000000\n";
     assert_edits(&rt, rt.alloc(), &ROWS, [listing, binary, CLEAN]);
+}
+
+/// Inserts a line so many times after the last one. Where there is no memory it is missing.
+fn enter_times(alloc: Global, session: &mut Session, times: u32, text: &[u8]) {
+    for _ in 0..times {
+        let _ = insert(alloc, session, &mut Work::new(), session.count(), text);
+    }
+}
+
+/// Between 4,999 words a comment takes the place of another: one step of each pass.
+#[test]
+fn steps_few_of_many_lines(rt: HostRuntime) {
+    const WORD: &[u8] = b"   CON 1";
+    let mut session = Session::new(rt.alloc());
+    let mut work = Work::new();
+    enter_times(rt.alloc(), &mut session, 2_499, WORD);
+    enter_times(rt.alloc(), &mut session, 1, b"* one");
+    enter_times(rt.alloc(), &mut session, 2_500, WORD);
+    let edit = Edit::Replace(2_500, b"* two");
+    let row = (edit, Ok(()), 5_000, Some(WORD), [1, 1]);
+    assert_edit(&rt, rt.alloc(), &mut session, &mut work, &row);
+    drop(session);
 }

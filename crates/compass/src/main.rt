@@ -19,6 +19,8 @@ mod edit_rows;
 #[cfg(test)]
 mod list;
 #[cfg(test)]
+mod many_edits;
+#[cfg(test)]
 mod part_rows;
 #[cfg(test)]
 mod pass_rows;

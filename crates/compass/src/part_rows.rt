@@ -42,7 +42,7 @@ fn enter_source(alloc: Global, session: &mut Session, source: &str) {
     }
 }
 
-/// Writes a part of a source's texts from the view of a session.
+/// Writes a part of a source's texts from a session.
 fn write_session<W: Write>(
     alloc: Global,
     source: &str,
@@ -51,25 +51,9 @@ fn write_session<W: Write>(
 ) -> Result<(), ListFault> {
     let mut session = Session::new(alloc);
     enter_source(alloc, &mut session, source);
-    let done = write_viewed(alloc, &session, part, writer);
+    let done = write_view(alloc, &session, part, writer);
     drop(session);
     done
-}
-
-fn write_viewed<W: Write>(
-    alloc: Global,
-    session: &Session,
-    part: Part,
-    writer: &mut Counted<W>,
-) -> Result<(), ListFault> {
-    match session.view(alloc) {
-        Ok(view) => {
-            let done = write_view(alloc, &view, part, writer);
-            drop(view);
-            done
-        }
-        Err(_) => Err(ListFault::Memory),
-    }
 }
 
 /// Asserts what is written of a source, from a session and from a list.

@@ -1,6 +1,6 @@
 -- Pass two, one content or one statement further.
-use Rattle.std.proofs.Common.{◌≡◌, ℕ, ◌+◌, ◌*◌, ◌<◌, ◌≤◌, Bool, true, false, List, [], ◌∷◌, ◌++◌, length, get_or, take, drop, flat_map, refl, sym, ap, subst, ◌∙◌, arith, append-nil, append_assoc}
-use Rattle.std.specs.Prelude.{map, if◌then◌else◌}
+use Rattle.std.proofs.Common.{◌≡◌, ℕ, ◌+◌, ◌*◌, ◌<◌, ◌≤◌, Bool, true, false, List, [], ◌∷◌, ◌++◌, length, get_or, take, drop, flat_map, refl, sym, ap, subst, ◌∙◌, arith, append-nil, append_assoc, true≢false, Result, Ok, Err}
+use Rattle.std.specs.Prelude.{map, if◌then◌else◌, is_ok, OnOk}
 use Rattle.std.proofs.lemmas.Grind.{flat_map-append}
 use Rattle.std.proofs.lemmas.List.{take_more, take_all, drop_more}
 use Rattle.std.proofs.lemmas.List.Sums.{fold-append}
@@ -21,7 +21,7 @@ use Rattle.cps_final.specs.declared.row.Row.{Row}
 use Rattle.cps_final.specs.Values.{Resolved, known_in, Standing, standing_of, first_address}
 use Rattle.cps_final.specs.Places.{with_places}
 use Rattle.cps_final.specs.Rows.{row_at, later_rows, content_rows, with_contents, blank_row, rows_with, rows_made, row_of, rows_of}
-use Rattle.cps_final.specs.Names.{LineSymbols, later_names, symbol_put, names_read, names_defined}
+use Rattle.cps_final.specs.Names.{later_names, symbol_put, names_read, names_defined}
 use Rattle.cps_final.specs.Outcome.{Output, output_of, outcome_of, joined_with}
 use Rattle.cps_final.proofs.BlockLemmas.{same_name-laws}
 use Rattle.cps_final.proofs.GatherLemmas.{distinct-append}
@@ -141,31 +141,42 @@ flat_map-more f xs i x lt is =
     ap (flat_map f) (take_more xs i x lt) ∙ flat_map-append f (take i xs) (get_or xs i x ∷ []) ∙ ap (λ l. flat_map f (take i xs) ++ l) (append-nil (f (get_or xs i x)))
     ∙ ap (λ y. flat_map f (take i xs) ++ f y) (sym is)
 
+-- what a call that succeeded ensures
+pub at_ok : {T E P : Type 0} (r : Result T E) → is_ok r ≡ true → OnOk r P → P
+at_ok (Ok x) ok p = p
+at_ok (Err e) ok p = absurd (true≢false (sym ok))
+
 -- ---- a line
 
-pub symbols-made : (trace : Trace) (puts : List Put) (reads : List Name) (items : List Item) (none none' defined read read' : List Name) → puts ≡ trace.puts → reads ≡ trace.reads → items ≡ trace.items
-    → none ≡ [] → none' ≡ [] → defined ≡ insert_all same_name none (flat_map (λ p. symbol_put p.key) puts) → read ≡ insert_all same_name none' reads
-    → read' ≡ insert_all same_name read (flat_map (λ item. flat_map content_names item.made.contents) items)
-    → ◌≡◌ {A = LineSymbols} (record { defined = defined; read = read' }) (record { defined = names_defined trace; read = names_read trace })
-symbols-made trace puts reads items none none' defined read read' are_puts are_reads are_items is_none is_none' defines reads-first reads-later =
-    let defined-now : defined ≡ names_defined trace =
+-- the names of a line, inserted one after another into none
+pub defined-made : (trace : Trace) (puts : List Put) (none defined : List Name) → puts ≡ trace.puts → none ≡ []
+    → defined ≡ insert_all same_name none (flat_map (λ p. symbol_put p.key) puts) → defined ≡ names_defined trace
+defined-made trace puts none defined are_puts is_none defines =
     defines ∙ (λ i. insert_all same_name (is_none i) (flat_map (λ p. symbol_put p.key) (are_puts i)))
-    ∙ sym (distinct-append same_name same_name-laws [] (flat_map (λ p. symbol_put p.key) trace.puts)) in
-    let read-now : read' ≡ names_read trace =
-    reads-later ∙ (λ i. insert_all same_name ((reads-first ∙ (λ j. insert_all same_name (is_none' j) (are_reads j))) i) (flat_map (λ item. flat_map content_names item.made.contents) (are_items i)))
-    ∙ sym (fold-append (insert_key same_name) [] trace.reads (later_names trace))
-    ∙ sym (distinct-append same_name same_name-laws [] (trace.reads ++ later_names trace)) in
-    λ i. record { defined = defined-now i; read = read-now i }
+    ∙ sym (distinct-append same_name same_name-laws [] (flat_map (λ p. symbol_put p.key) trace.puts))
 
-pub outcome-made : (finals : Resolved) (trace : Trace) (output : Output) (symbols : LineSymbols) (items : List Item) → items ≡ trace.items
-    → output ≡ output_of finals items → symbols ≡ record { defined = names_defined trace; read = names_read trace }
-    → record { rows = output.rows; pieces = output.pieces; defined = symbols.defined; read = symbols.read } ≡ outcome_of finals trace
-outcome-made finals trace output symbols items is shows names =
+pub read-made : (trace : Trace) (none read : List Name) → none ≡ [] → read ≡ insert_all same_name none (trace.reads ++ later_names trace) → read ≡ names_read trace
+read-made trace none read is_none reads =
+    reads ∙ ap (λ (l : List Name). insert_all same_name l (trace.reads ++ later_names trace)) is_none
+    ∙ sym (distinct-append same_name same_name-laws [] (trace.reads ++ later_names trace))
+
+-- those that are read now, and then those that are read later
+pub reads-join : (trace : Trace) (reads : List Name) (items : List Item) (old mid new : List Name) → reads ≡ trace.reads → items ≡ trace.items
+    → mid ≡ insert_all same_name old reads → new ≡ insert_all same_name mid (flat_map (λ item. flat_map content_names item.made.contents) items)
+    → new ≡ insert_all same_name old (trace.reads ++ later_names trace)
+reads-join trace reads items old mid new are_reads are_items first later =
+    later ∙ (λ i. insert_all same_name ((first ∙ ap (insert_all same_name old) are_reads) i) (flat_map (λ item. flat_map content_names item.made.contents) (are_items i)))
+    ∙ sym (fold-append (insert_key same_name) old trace.reads (later_names trace))
+
+pub outcome-made : (finals : Resolved) (trace : Trace) (output : Output) (defined read : List Name) (items : List Item) → items ≡ trace.items
+    → output ≡ output_of finals items → defined ≡ names_defined trace → read ≡ names_read trace
+    → record { rows = output.rows; pieces = output.pieces; defined = defined; read = read } ≡ outcome_of finals trace
+outcome-made finals trace output defined read items is shows defines reads =
     λ i. record {
       rows = ((shows ∙ ap (output_of finals) is) i).rows;
       pieces = ((shows ∙ ap (output_of finals) is) i).pieces;
-      defined = (names i).defined;
-      read = (names i).read;
+      defined = defines i;
+      read = reads i;
     }
 
 pub appends-more : {X Y : Type 0} (f : X → List Y) (xs : List X) (i : ℕ) (x : X) (mid new : List Y) → i < length xs → x ≡ get_or xs i x

@@ -1,8 +1,9 @@
 //! Final values.
-ghost use Rattle.std.specs.Prelude.{◌≡◌, ◌+◌, ◌<◌, ◌≤◌, ◌^◌, [], length, nat_abs, nat_eq, OnOk, OnErr, IfSome};
+ghost use Rattle.std.specs.Prelude.{◌≡◌, ◌+◌, ◌<◌, ◌≤◌, ◌^◌, [], length, nat_abs, nat_eq, nat_le, OnOk, OnErr, IfSome};
 ghost use Rattle.std.specs.Option.{option_or};
 ghost use Rattle.cps_expr.specs.Value.{plain, limited, IsInRange};
 ghost use Rattle.cps_state.specs.Keys.{overwritten};
+ghost use Rattle.cps_state.specs.Machines.{limit};
 ghost use Rattle.cps_final.specs.Finals.{first_program, Gathers, machine_of, is_open_at_end, words_to_named, base_of, final_value, label, setting, block as block_named, literal};
 ghost use Rattle.cps_final.specs.Gathering.{grown_by};
 ghost use Rattle.cps_final.specs.Values.{address_of, address_in, base_in, final_of};
@@ -12,7 +13,7 @@ ghost use Rattle.indexmap.specs.IndexSet.{insert_all, insert_key, spare};
 use crate::blocks::Blocks;
 use crate::literals::list_literals;
 use cps_expr::{Machine, Names, Value};
-use cps_state::{Item, Key, Lookup, Stand, State, Trace, control_of, is_open, value_of};
+use cps_state::{Item, Key, Lookup, Stand, State, Trace, control_of, is_open, limit_of, value_of};
 use cps_text::Name;
 use indexmap::IndexSet;
 use std::alloc::{AllocError, Global};
@@ -181,6 +182,15 @@ impl Finals {
             Some(address) => magnitude(address),
             None => 0,
         }
+    }
+
+    /// Whether a literal stands at or past the machine's words.
+    pub(crate) fn is_far_literal(&self, machine: Machine, word: u64) -> bool
+        ensures { result ≡ nat_le (limit machine) (address_of (final_value (⟦<Finals as Gathered>⟧.gathered self.now) (literal word))) }
+    {
+        let limit = limit_of(machine);
+        // All literals stand before the pool's end, so none is looked up while that is near.
+        self.words_to_named() > u128::from(limit) && self.literal_address(word) >= u64::from(limit)
     }
 
     /// A value with its block at its final address.

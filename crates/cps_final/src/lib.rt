@@ -4,12 +4,14 @@
 mod blocks;
 mod finals;
 mod gather;
-mod line_flags;
+mod line_symbols;
 mod literals;
+mod name_lists;
 mod names;
 mod outcome;
 mod output;
 mod pieces;
+mod room;
 mod row;
 mod rows;
 mod standing;
@@ -19,8 +21,7 @@ mod valued;
 
 pub use finals::{Finals, Gathered};
 pub use gather::Gather;
-pub use line_flags::flags_under;
-pub use names::LineSymbols;
+pub use line_symbols::LineSymbols;
 pub use outcome::{Outcome, flags_of, step_two};
 pub use output::Output;
 pub use row::{Digits, Row};

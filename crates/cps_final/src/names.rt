@@ -1,73 +1,43 @@
 //! The symbols that a line reads, and those that it defines.
-ghost use Rattle.std.specs.Prelude.{◌≡◌, [], flat_map, OnOk};
+ghost use Rattle.std.specs.Prelude.{◌≡◌, ◌++◌, flat_map, OnOk};
 ghost use Rattle.cps_code.specs.Operand.{operand_names};
 ghost use Rattle.cps_expr.specs.Value.{same_name};
 ghost use Rattle.cps_state.specs.Made.{content_names};
-ghost use Rattle.cps_final.specs.Names.{names_defined, names_read, symbol_put};
+ghost use Rattle.cps_final.specs.Names.{later_names, symbol_put};
 ghost use Rattle.indexmap.specs.IndexSet.{insert_all};
 
 use cps_code::Hole;
 use cps_state::{Content, Item, Key, Put, Trace};
 use cps_text::Name;
 use indexmap::IndexSet;
-use std::alloc::{AllocError, Global};
-use std::marker::Model;
+use std::alloc::AllocError;
 
-/// The symbols that a line defines and those that it reads, each once. Those of one line can be put in the place of another's.
-#[derive(Drop)]
-pub struct LineSymbols {
-    defined: IndexSet<Name>,
-    read: IndexSet<Name>,
+/// Names, each once, in the order in which they were added.
+pub trait NameSet {
+    ghost use Rattle.std.specs.Prelude.{◌≡◌, List, OnOk};
+    ghost use Rattle.cps_text.specs.declared.name.Name.{Name};
+    ghost use Rattle.cps_expr.specs.Value.{same_name};
+    ghost use Rattle.indexmap.specs.IndexSet.{insert_key};
+
+    ghost names: { Self → List Name };
+
+    /// Adds a name, unless it is there. An error says that there is no room for it.
+    fn add(&mut self, name: Name) -> Result<(), AllocError>
+        ensures { OnOk result (names self.new ≡ insert_key same_name (names self.old) name) };
 }
 
-impl Model for LineSymbols {
-    ghost use Rattle.cps_final.specs.Names.{LineSymbols};
+impl NameSet for IndexSet<Name> {
+    ghost names = { λ set. set.keys };
 
-    ghost Value = { LineSymbols };
-
-    ghost view = { λ symbols. record { defined = symbols.defined.keys; read = symbols.read.keys } };
-}
-
-impl LineSymbols {
-    /// Of a line without symbols. Takes no memory yet.
-    pub fn new(alloc: Global) -> LineSymbols
-        ensures { result ≡ record { defined = []; read = [] } }
-    {
-        LineSymbols {
-            defined: IndexSet::new(alloc),
-            read: IndexSet::new(alloc),
-        }
-    }
-
-    /// Puts the symbols of a line in the place of those that stood here.
-    pub fn replace(&mut self, trace: &Trace) -> Result<(), AllocError>
-        ensures { OnOk result (self.new ≡ record { defined = names_defined trace.now; read = names_read trace.now }) }
-    {
-        self.defined.clear();
-        self.read.clear();
-        insert_defined(&mut self.defined, trace.puts())?;
-        insert_names(&mut self.read, trace.reads())?;
-        insert_later_names(&mut self.read, trace.items())
-    }
-
-    /// The symbols that the line defines.
-    pub fn defined(&self) -> &[Name]
-        ensures { result.now ≡ self.now.defined }
-    {
-        self.defined.as_slice()
-    }
-
-    /// The symbols that the line reads, now or later.
-    pub fn read(&self) -> &[Name]
-        ensures { result.now ≡ self.now.read }
-    {
-        self.read.as_slice()
+    fn add(&mut self, name: Name) -> Result<(), AllocError> {
+        self.insert(name)?;
+        Ok(())
     }
 }
 
 /// Inserts the symbols that puts define.
-fn insert_defined(names: &mut IndexSet<Name>, puts: &[Put]) -> Result<(), AllocError>
-    ensures { OnOk result (names.new.keys ≡ insert_all same_name names.old.keys (flat_map (λ p. symbol_put p.key) puts.now)) }
+pub fn insert_defined<S: NameSet>(names: &mut S, puts: &[Put]) -> Result<(), AllocError>
+    ensures { OnOk result (S.names names.new ≡ insert_all same_name (S.names names.old) (flat_map (λ p. symbol_put p.key) puts.now)) }
 {
     for put in puts {
         insert_symbol(names, put.key)?;
@@ -75,18 +45,26 @@ fn insert_defined(names: &mut IndexSet<Name>, puts: &[Put]) -> Result<(), AllocE
     Ok(())
 }
 
-fn insert_symbol(names: &mut IndexSet<Name>, key: Key) -> Result<(), AllocError>
-    ensures { OnOk result (names.new.keys ≡ insert_all same_name names.old.keys (symbol_put key)) }
+fn insert_symbol<S: NameSet>(names: &mut S, key: Key) -> Result<(), AllocError>
+    ensures { OnOk result (S.names names.new ≡ insert_all same_name (S.names names.old) (symbol_put key)) }
 {
     match key {
-        Key::Label(name) => insert_names(names, &[name]),
-        Key::Setting(name) => insert_names(names, &[name]),
+        Key::Label(name) => names.add(name),
+        Key::Setting(name) => names.add(name),
         _ => Ok(()),
     }
 }
 
-fn insert_later_names(names: &mut IndexSet<Name>, items: &[Item]) -> Result<(), AllocError>
-    ensures { OnOk result (names.new.keys ≡ insert_all same_name names.old.keys (flat_map (λ item. flat_map content_names item.made.contents) items.now)) }
+/// Inserts the symbols that a line reads, now or later.
+pub fn insert_read<S: NameSet>(names: &mut S, trace: &Trace) -> Result<(), AllocError>
+    ensures { OnOk result (S.names names.new ≡ insert_all same_name (S.names names.old) (trace.now.reads ++ later_names trace.now)) }
+{
+    insert_names(names, trace.reads())?;
+    insert_later_names(names, trace.items())
+}
+
+fn insert_later_names<S: NameSet>(names: &mut S, items: &[Item]) -> Result<(), AllocError>
+    ensures { OnOk result (S.names names.new ≡ insert_all same_name (S.names names.old) (flat_map (λ item. flat_map content_names item.made.contents) items.now)) }
 {
     for item in items {
         insert_contents_names(names, item.made.contents())?;
@@ -94,8 +72,8 @@ fn insert_later_names(names: &mut IndexSet<Name>, items: &[Item]) -> Result<(), 
     Ok(())
 }
 
-fn insert_contents_names(names: &mut IndexSet<Name>, contents: &[Content]) -> Result<(), AllocError>
-    ensures { OnOk result (names.new.keys ≡ insert_all same_name names.old.keys (flat_map content_names contents.now)) }
+fn insert_contents_names<S: NameSet>(names: &mut S, contents: &[Content]) -> Result<(), AllocError>
+    ensures { OnOk result (S.names names.new ≡ insert_all same_name (S.names names.old) (flat_map content_names contents.now)) }
 {
     for content in contents {
         insert_content_names(names, content)?;
@@ -103,8 +81,8 @@ fn insert_contents_names(names: &mut IndexSet<Name>, contents: &[Content]) -> Re
     Ok(())
 }
 
-fn insert_content_names(names: &mut IndexSet<Name>, content: &Content) -> Result<(), AllocError>
-    ensures { OnOk result (names.new.keys ≡ insert_all same_name names.old.keys (content_names content.now)) }
+fn insert_content_names<S: NameSet>(names: &mut S, content: &Content) -> Result<(), AllocError>
+    ensures { OnOk result (S.names names.new ≡ insert_all same_name (S.names names.old) (content_names content.now)) }
 {
     match content {
         Content::Instruction(form) => insert_hole_names(names, form.holes()),
@@ -114,8 +92,8 @@ fn insert_content_names(names: &mut IndexSet<Name>, content: &Content) -> Result
     }
 }
 
-fn insert_hole_names(names: &mut IndexSet<Name>, holes: &[Hole]) -> Result<(), AllocError>
-    ensures { OnOk result (names.new.keys ≡ insert_all same_name names.old.keys (flat_map (λ hole. operand_names hole.operand) holes.now)) }
+fn insert_hole_names<S: NameSet>(names: &mut S, holes: &[Hole]) -> Result<(), AllocError>
+    ensures { OnOk result (S.names names.new ≡ insert_all same_name (S.names names.old) (flat_map (λ hole. operand_names hole.operand) holes.now)) }
 {
     for hole in holes {
         insert_names(names, hole.operand.names())?;
@@ -123,11 +101,11 @@ fn insert_hole_names(names: &mut IndexSet<Name>, holes: &[Hole]) -> Result<(), A
     Ok(())
 }
 
-fn insert_names(names: &mut IndexSet<Name>, found: &[Name]) -> Result<(), AllocError>
-    ensures { OnOk result (names.new.keys ≡ insert_all same_name names.old.keys found.now) }
+fn insert_names<S: NameSet>(names: &mut S, found: &[Name]) -> Result<(), AllocError>
+    ensures { OnOk result (S.names names.new ≡ insert_all same_name (S.names names.old) found.now) }
 {
     for name in found {
-        names.insert(*name)?;
+        names.add(*name)?;
     }
     Ok(())
 }

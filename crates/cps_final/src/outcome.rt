@@ -8,7 +8,7 @@ ghost use Rattle.cps_final.specs.Outcome as outcome;
 ghost use Rattle.cps_final.specs.Resolving.{resolved};
 
 use crate::finals::{Finals, Gathered};
-use crate::names::LineSymbols;
+use crate::name_lists::{list_defined, list_read};
 use crate::output::Output;
 use crate::row::Row;
 use cps_code::Piece;
@@ -21,7 +21,8 @@ use std::marker::Model;
 #[derive(Drop)]
 pub struct Outcome {
     output: Output,
-    symbols: LineSymbols,
+    defined: Vec<Name>,
+    read: Vec<Name>,
 }
 
 impl Model for Outcome {
@@ -29,7 +30,7 @@ impl Model for Outcome {
 
     ghost Value = { Outcome };
 
-    ghost view = { λ outcome. record { rows = outcome.output.rows; pieces = outcome.output.pieces; defined = outcome.symbols.defined; read = outcome.symbols.read } };
+    ghost view = { λ outcome. record { rows = outcome.output.rows; pieces = outcome.output.pieces; defined = outcome.defined.items; read = outcome.read.items } };
 }
 
 /// Pass two of a line. It counts as one step, whatever is answered.
@@ -53,11 +54,16 @@ fn make_outcome(alloc: Global, trace: &Trace, finals: &Finals) -> Result<Outcome
     ensures alone { IfOk result (λ made. (others : outcome.Resolved) → outcome.AgreeOnNamed others (resolved finals.now) trace.now
         → outcome.outcome_of others trace.now ≡ made) }
 {
-    let mut output = Output::new(alloc);
-    output.replace(trace.items(), finals)?;
-    let mut symbols = LineSymbols::new(alloc);
-    symbols.replace(trace)?;
-    Ok(Outcome { output, symbols })
+    let items = trace.items();
+    let mut output = Output::with_room(alloc, items)?;
+    output.replace(items, finals)?;
+    let defined = list_defined(alloc, trace)?;
+    let read = list_read(alloc, trace)?;
+    Ok(Outcome {
+        output,
+        defined,
+        read,
+    })
 }
 
 impl Outcome {
@@ -79,14 +85,14 @@ impl Outcome {
     pub fn names_defined(&self) -> &[Name]
         ensures { result.now ≡ self.now.defined }
     {
-        self.symbols.defined()
+        self.defined.as_slice()
     }
 
     /// The symbols that the line reads, each once.
     pub fn names_read(&self) -> &[Name]
         ensures { result.now ≡ self.now.read }
     {
-        self.symbols.read()
+        self.read.as_slice()
     }
 
     /// The flags of all rows.

@@ -1,10 +1,11 @@
 //! The rows and the bits of a line.
-ghost use Rattle.std.specs.Prelude.{◌≡◌, [], map, OnOk};
+ghost use Rattle.std.specs.Prelude.{◌≡◌, [], map, IfOk, OnOk};
 ghost use Rattle.cps_code.specs.Image.{piece_of};
 ghost use Rattle.cps_final.specs.Finals.{final_value};
 ghost use Rattle.cps_final.specs.Outcome.{output_of};
 
 use crate::finals::{Finals, Gathered};
+use crate::room::{count_pieces, count_rows};
 use crate::row::Row;
 use crate::statement::push_statement;
 use cps_code::Piece;
@@ -38,6 +39,15 @@ impl Output {
             rows: Vec::new(alloc),
             pieces: Vec::new(alloc),
         }
+    }
+
+    /// Of a line without a row, with room for the rows and the bits of a line with these statements.
+    pub(crate) fn with_room(alloc: Global, items: &[Item]) -> Result<Output, AllocError>
+        ensures { IfOk result (λ output. output ≡ record { rows = []; pieces = [] }) }
+    {
+        let rows = Vec::with_capacity(alloc, count_rows(items))?;
+        let pieces = Vec::with_capacity(alloc, count_pieces(items))?;
+        Ok(Output { rows, pieces })
     }
 
     /// Puts the rows and the bits of a line with these statements in the place of what stood here.

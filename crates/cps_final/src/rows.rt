@@ -138,9 +138,7 @@ fn is_far_literal(operand: &Operand, standing: &Standing) -> bool
 {
     match operand {
         Operand::Expression(_) => false,
-        Operand::Literal(word) => {
-            standing.literal_address(*word) >= u64::from(limit_of(standing.machine()))
-        }
+        Operand::Literal(word) => standing.is_far_literal(*word),
     }
 }
 

@@ -1,5 +1,5 @@
 //! Statements at their final addresses.
-ghost use Rattle.std.specs.Prelude.{◌≡◌, ◌<◌, ◌^◌, pos, IfSome};
+ghost use Rattle.std.specs.Prelude.{◌≡◌, ◌<◌, ◌^◌, pos, nat_le, IfSome};
 
 use crate::finals::Finals;
 use crate::symbols::Symbols;
@@ -19,6 +19,7 @@ pub struct Standing<'a> {
 
 impl<'a> Standing<'a> {
     ghost use Rattle.cps_expr.specs.Value.{IsInRange, plain, value_in, has_undefined};
+    ghost use Rattle.cps_state.specs.Machines.{limit};
     ghost use Rattle.cps_final.specs.Resolving.{resolved, view_of};
     ghost use Rattle.cps_final.specs.Values.{standing_of};
 
@@ -70,6 +71,13 @@ impl<'a> Standing<'a> {
             held: self.item.made.held(),
         };
         expression.value(&symbols, Value::plain(self.here as i64))
+    }
+
+    /// Whether a literal stands at or past the machine's words.
+    pub fn is_far_literal(&self, word: u64) -> bool
+        ensures { result ≡ nat_le (limit (view_of self.now).machine) ((view_of self.now).known.literals word) }
+    {
+        self.finals.is_far_literal(self.machine(), word)
     }
 
     /// The address of a literal; a word that is none counts as at 0.

@@ -1,7 +1,6 @@
-pub mod AssemblyLemmas
+pub mod SessionLemmas
 pub mod BatchLemmas
 pub mod BegunLemmas
 pub mod ReadLemmas
 pub mod SplitLemmas
-pub mod WorkLemmas
 pub mod PassLemmas

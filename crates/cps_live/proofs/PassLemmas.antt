@@ -1,22 +1,18 @@
 -- The two passes of batch assembly, one line more, and the whole.
-use Rattle.std.proofs.Common.{◌≡◌, ℕ, Bool, true, false, ◌+◌, ◌<◌, ◌≤◌, refl, sym, ap, subst, ◌∙◌, List, [], ◌∷◌, ◌++◌, append-nil, length, get_or, take, map, arith}
-use Rattle.std.specs.Prelude.{Option, None, Some, IfSome}
+use Rattle.std.proofs.Common.{◌≡◌, ℕ, Bool, true, false, ◌+◌, ◌<◌, ◌≤◌, refl, sym, ap, subst, ◌∙◌, List, [], ◌∷◌, ◌++◌, length, get_or, take, arith}
 use Rattle.std.proofs.lemmas.List.{length-map, take_more, take_all}
-use Rattle.cps_text.specs.declared.name.Name.{Name}
 use Rattle.cps_state.specs.declared.item.Item.{Item}
 use Rattle.cps_state.specs.Keys.{State, first_state}
 use Rattle.cps_state.specs.Course.{Trace}
 use Rattle.cps_pass.specs.Expansion.{trace_of}
-use Rattle.cps_final.specs.Finals.{Finals, finals_of, Gathers, final_value, is_open_at_end}
+use Rattle.cps_final.specs.Finals.{Finals, finals_of, Gathers, final_value}
 use Rattle.cps_final.specs.Names.{names_defined, names_read}
-use Rattle.cps_final.specs.Outcome.{Output, Outcome, output_of, outcome_of}
+use Rattle.cps_final.specs.Outcome.{outcome_of}
 use Rattle.cps_list.specs.declared.mention.Mention.{Mention}
-use Rattle.cps_list.specs.declared.part.Part.{Part}
-use Rattle.cps_list.specs.Assembly.{Assembly}
 use Rattle.cps_list.specs.Making.{Printout, IsPrintoutOf, shown}
 use Rattle.cps_list.specs.Symbols.{mentions_from, mentions_on}
 use Rattle.cps_list.proofs.PrintoutLemmas.{mentions-more, shown-more}
-use Rattle.cps_live.specs.Assembly.{after, state_after, traces_from, traces_of, outcomes_under, assembly_of, ends_open}
+use Rattle.cps_live.specs.Assembly.{after, state_after, traces_from, traces_of, outcomes_under}
 use Rattle.cps_live.specs.declared.passes.PassOne.{PassOne}
 use Rattle.cps_live.specs.declared.passes.PassTwo.{PassTwo}
 use Rattle.cps_final.specs.contracts.finals.FinalsGathered.TheImpl.{gathered-value}

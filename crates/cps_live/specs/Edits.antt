@@ -1,6 +1,8 @@
 -- A source as a list of lines, and what an edit makes of it. Our own.
 use Rattle.std.specs.Prelude.{◌≡◌, ℕ, ◌-◌, ◌<◌, ◌≤◌, ◌⊎◌, List, ◌++◌, length, take, drop, Result, Ok, Err}
-use Rattle.cps_state.specs.Work.{Counts, stepped, IsSteppedUpTo}
+use Rattle.cps_state.specs.Work.{Counts, counted_on}
+use Rattle.cps_edit.specs.Splice.{Splice}
+use Rattle.cps_edit.specs.Disturbed.{ones_of, twos_of}
 use Rattle.cps_live.specs.declared.session.EditFault.{EditFault}
 use Rattle.cps_live.specs.declared.session.EditFault.TheVariants as faults
 
@@ -32,11 +34,21 @@ LacksLines source first last = (first ≡ 0) ⊎ ((last < first) ⊎ (length sou
 abbrev pub without_lines : List (List ℕ) → ℕ → ℕ → List (List ℕ)
 without_lines source first last = take (first - 1) source ++ drop last source
 
--- ---- steps
+-- ---- work
 
--- An edit counts so many steps of pass one where it is accepted; none where it is wrong; at most as many where there is no memory.
-abbrev pub StepsOfEdit : {T : Type 0} → Result T EditFault → ℕ → Counts → Counts → Type 0
-StepsOfEdit (Ok done) count old new = new ≡ stepped count old
-StepsOfEdit (Err faults.NoSuchLine) count old new = new ≡ old
-StepsOfEdit (Err faults.TooManyLines) count old new = new ≡ old
-StepsOfEdit (Err faults.Memory) count old new = IsSteppedUpTo count old new
+-- so many steps of each pass were made
+pub record HaveStepped (ones twos : ℕ) (old new : Counts) : Type 0 where
+  pub first : new.ones ≡ counted_on old.ones ones
+  pub second : new.twos ≡ counted_on old.twos twos
+
+-- at most so many
+pub record HaveSteppedUpTo (ones twos : ℕ) (old new : Counts) : Type 0 where
+  pub first : new.ones ≤ counted_on old.ones ones
+  pub second : new.twos ≤ counted_on old.twos twos
+
+-- An edit steps the lines that it disturbs in each pass, once, where it is accepted; none where it is wrong; at most these where there is no memory.
+abbrev pub WorkOfEdit : {T : Type 0} → Result T EditFault → List (List ℕ) → Splice → Counts → Counts → Type 0
+WorkOfEdit (Ok done) lines splice old new = HaveStepped (ones_of lines splice) (twos_of lines splice) old new
+WorkOfEdit (Err faults.NoSuchLine) lines splice old new = new ≡ old
+WorkOfEdit (Err faults.TooManyLines) lines splice old new = new ≡ old
+WorkOfEdit (Err faults.Memory) lines splice old new = HaveSteppedUpTo (ones_of lines splice) (twos_of lines splice) old new

@@ -2,8 +2,8 @@ pub mod Edits
 pub mod Lines
 pub mod Reads
 pub mod Assembly
-pub mod Assembled
 pub mod Flagged
+pub mod Kept
 pub mod BegunLine
 pub mod Batch
 pub mod Input

@@ -1,18 +1,19 @@
 //! A source that is edited line by line.
-ghost use Rattle.std.specs.Prelude.{◌≡◌, ◌+◌, ◌-◌, ◌<◌, ◌≤◌, ◌↔◌, [], ◌++◌, length, insert, take, drop, slice_get, slice_set, Some, IsTrue, IsOk, IsSome, IfSome, OnOk, OnErr, IfOk, IsErrOf};
+ghost use Rattle.std.specs.Prelude.{◌≡◌, ◌-◌, ◌<◌, ◌≤◌, ◌↔◌, [], ◌∷◌, ◌++◌, length, insert, slice_get, slice_set, Some, IsTrue, IsSome, IfSome, OnOk, OnErr, IfOk, IsErrOf};
 ghost use Rattle.cps_list.specs.Texts.{text_of};
+ghost use Rattle.cps_edit.specs.Splice.{splice_at, spliced, insertion, replacement, deletion};
 ghost use Rattle.cps_live.specs.Assembly.{assembly_of};
-ghost use Rattle.cps_live.specs.Flagged.{flagged_lines};
-ghost use Rattle.cps_live.specs.Edits.{HasLine, LacksLine, HasLines, LacksLines, without_lines, StepsOfEdit};
+ghost use Rattle.cps_live.specs.Flagged.{flagged_lines as flagged_in};
+ghost use Rattle.cps_live.specs.Edits.{HasLine, LacksLine, HasLines, LacksLines, without_lines, WorkOfEdit};
 
-use super::assembled::{Assembled, Keeps};
-use super::pages::Pages;
+use super::flagged::flagged_lines;
+use cps_edit::{Follower, Front, Kept, Lists};
+use cps_final::{Finals, Gathered, Outcome};
 use cps_list::{Part, View, make_text};
 use cps_pass::Work;
 use cps_text::Line;
 use std::alloc::{AllocError, Global};
 use std::marker::Model;
-use std::slice::from_ref;
 use thiserror::Error;
 
 /// The most lines that a source has.
@@ -34,12 +35,15 @@ pub enum EditFault {
 
 /// A source that is edited line by line. It has at most 9,999 lines.
 ///
-/// What its lines do in pass one is kept. An edit makes that anew from the first line on that it touches, before it is
-/// accepted, and counts these steps in the caller's work.
+/// What its lines do in pass one and what pass two makes of them is kept. An edit makes anew what it disturbs, beside what is
+/// kept, and counts these steps in the caller's work; where it is refused, nothing changes.
 pub struct Session {
     alloc: Global,
-    lines: Vec<Line>,
-    assembled: Assembled,
+    lists: Lists,
+    /// What was gathered of all lines.
+    front: Front,
+    /// What was gathered before the latest append.
+    follower: Follower,
 }
 
 // Written out, as that of what is kept: what holds a session drops it by a call.
@@ -47,24 +51,57 @@ impl Drop for Session {
     fn drop(self) {
         let Session {
             alloc: _,
-            lines,
-            assembled,
+            lists,
+            front,
+            follower,
         } = self;
-        drop(lines);
-        drop(assembled);
+        drop(lists);
+        drop(front);
+        drop(follower);
     }
 }
 
 impl Model for Session {
-    ghost use Rattle.std.specs.Prelude.{◌≡◌, ◌≤◌, length};
-    ghost use Rattle.cps_live.specs.Edits.{Source, most_lines};
-    ghost use Rattle.cps_live.specs.Assembled.{assembled_of};
+    ghost use Rattle.cps_live.specs.Edits.{Source};
+    ghost use Rattle.cps_live.specs.Kept.{IsKept};
 
     ghost Value = { Source };
 
-    ghost view = { λ session. record { lines = session.lines.items } };
+    ghost view = { λ session. record { lines = session.lists.lines.items } };
 
-    ghost invariant = { λ session. (length session.lines.items ≤ most_lines) × (⟦<Assembled as Keeps>⟧.assembled session.assembled ≡ assembled_of session.lines.items) };
+    ghost invariant = { λ session. IsKept session.lists.lines.items session.lists.traces.items (⟦<Front as Gathered>⟧.gathered session.front) session.lists.outcomes.items session.follower };
+}
+
+impl View for Session {
+    ghost use Rattle.cps_live.specs.Assembly.{assembly_of};
+
+    ghost assembly = { λ session. assembly_of session.lines };
+
+    fn count(&self) -> u32 {
+        self.lists.lines.len() as u32
+    }
+
+    fn line(&self, n: u32) -> Option<&Line> {
+        if n == 0 {
+            return None;
+        }
+        self.lists.lines.get(n as usize - 1)
+    }
+
+    fn outcome(&self, n: u32) -> Option<&Outcome> {
+        if n == 0 {
+            return None;
+        }
+        self.lists.outcomes.get(n as usize - 1)
+    }
+
+    fn finals(&self) -> &Finals {
+        self.front.finals()
+    }
+
+    fn open_at_end(&self) -> bool {
+        self.front.finals().is_open_at_end()
+    }
 }
 
 impl Session {
@@ -74,8 +111,9 @@ impl Session {
     {
         Session {
             alloc,
-            lines: Vec::new(alloc),
-            assembled: Assembled::new(alloc),
+            lists: Lists::new(alloc),
+            front: Front::new(alloc),
+            follower: Follower::new(alloc),
         }
     }
 
@@ -84,7 +122,7 @@ impl Session {
         ensures count { result ≡ length self.now.lines }
         ensures within { result ≤ MOST_LINES }
     {
-        self.lines.len() as u32
+        self.lists.lines.len() as u32
     }
 
     /// Line `n`, where lines count from 1.
@@ -95,7 +133,7 @@ impl Session {
         if n == 0 {
             return None;
         }
-        self.lines.get(n as usize - 1)
+        self.lists.lines.get(n as usize - 1)
     }
 
     /// Whether the source has as many lines as it may have.
@@ -103,7 +141,7 @@ impl Session {
         ensures full { IsTrue result ↔ (length self.now.lines ≡ MOST_LINES) }
         ensures within { length self.now.lines ≤ MOST_LINES }
     {
-        self.lines.len() == MOST_LINES
+        self.lists.lines.len() == MOST_LINES
     }
 
     /// Inserts a line after line `after`, 0 for the front. A line that is refused is dropped.
@@ -114,67 +152,22 @@ impl Session {
         ensures no_line { IsErrOf result EditFault.NoSuchLine ↔ (length self.old.lines < after) }
         ensures too_many { IsErrOf result EditFault.TooManyLines ↔ ((after ≤ length self.old.lines) × (length self.old.lines ≡ MOST_LINES)) }
         ensures memory { IsErrOf result EditFault.Memory → (after ≤ length self.old.lines) × (length self.old.lines < MOST_LINES) }
-        ensures steps { StepsOfEdit result (length self.old.lines + 1 - after) work.old work.new }
+        ensures work { WorkOfEdit result self.old.lines (insertion after line) work.old work.new }
     {
-        if after as usize > self.lines.len() {
+        let after = after as usize;
+        if after > self.lists.lines.len() {
             return Err(EditFault::NoSuchLine);
         }
-        if self.lines.len() == MOST_LINES {
+        if self.lists.lines.len() == MOST_LINES {
             return Err(EditFault::TooManyLines);
         }
-        if after as usize == self.lines.len() {
-            self.append(line, work)
-        } else {
-            self.insert_before_end(after as usize, line, work)
+        if after == self.lists.lines.len() {
+            return self.append(line, work);
         }
-    }
-
-    fn append(&mut self, line: Line, work: &mut Work) -> Result<(), EditFault>
-        requires { length self.old.lines < MOST_LINES }
-        ensures ok { OnOk result (self.new.lines ≡ insert self.old.lines (length self.old.lines) line) }
-        ensures err { OnErr result (self.new ≡ self.old) }
-        ensures only { OnErr result (IsErrOf result EditFault.Memory) }
-        ensures steps { StepsOfEdit result 1 work.old work.new }
-    {
-        let Ok(_) = self.lines.reserve(1) else {
+        let Ok(new) = list_of(self.alloc, line) else {
             return Err(EditFault::Memory);
         };
-        let Ok(_) = self.assembled.take_line(self.alloc, work, &line) else {
-            return Err(EditFault::Memory);
-        };
-        let Ok(_) = self.lines.push(line) else {
-            unreachable!();
-        };
-        Ok(())
-    }
-
-    fn insert_before_end(
-        &mut self,
-        after: usize,
-        line: Line,
-        work: &mut Work,
-    ) -> Result<(), EditFault>
-        requires few { length self.old.lines < MOST_LINES }
-        requires within { after ≤ length self.old.lines }
-        ensures ok { OnOk result (self.new.lines ≡ insert self.old.lines after line) }
-        ensures err { OnErr result (self.new ≡ self.old) }
-        ensures only { OnErr result (IsErrOf result EditFault.Memory) }
-        ensures steps { StepsOfEdit result (length self.old.lines + 1 - after) work.old work.new }
-    {
-        let Ok(_) = self.lines.reserve(1) else {
-            return Err(EditFault::Memory);
-        };
-        let (_, back) = self.lines.split_at(after);
-        let Ok(_) = self
-            .assembled
-            .redo(self.alloc, work, after, from_ref(&line), back)
-        else {
-            return Err(EditFault::Memory);
-        };
-        let Ok(_) = self.lines.insert(after, line) else {
-            unreachable!();
-        };
-        Ok(())
+        self.splice(after, after, new, work)
     }
 
     /// Puts a line in place of line `at`, where lines count from 1. A line that is refused is dropped.
@@ -185,31 +178,16 @@ impl Session {
         ensures no_line { IsErrOf result EditFault.NoSuchLine ↔ LacksLine self.old.lines at }
         ensures too_many { IsErrOf result EditFault.TooManyLines → ⊥ }
         ensures memory { IsErrOf result EditFault.Memory → HasLine self.old.lines at }
-        ensures steps { StepsOfEdit result (length self.old.lines + 1 - at) work.old work.new }
+        ensures work { WorkOfEdit result self.old.lines (replacement at line) work.old work.new }
     {
-        if at == 0 || at as usize > self.lines.len() {
+        let at = at as usize;
+        if at == 0 || at > self.lists.lines.len() {
             return Err(EditFault::NoSuchLine);
         }
-        self.put_at(at as usize - 1, line, work)
-    }
-
-    /// Puts a line in place of the one after the first `before`.
-    fn put_at(&mut self, before: usize, line: Line, work: &mut Work) -> Result<(), EditFault>
-        requires { before < length self.old.lines }
-        ensures ok { OnOk result (self.new.lines ≡ slice_set self.old.lines before line) }
-        ensures err { OnErr result (self.new ≡ self.old) }
-        ensures only { OnErr result (IsErrOf result EditFault.Memory) }
-        ensures steps { StepsOfEdit result (length self.old.lines - before) work.old work.new }
-    {
-        let (_, back) = self.lines.split_at(before + 1);
-        let Ok(_) = self
-            .assembled
-            .redo(self.alloc, work, before, from_ref(&line), back)
-        else {
+        let Ok(new) = list_of(self.alloc, line) else {
             return Err(EditFault::Memory);
         };
-        self.lines[before] = line;
-        Ok(())
+        self.splice(at - 1, at, new, work)
     }
 
     /// Deletes the lines from `first` to `last`, where lines count from 1.
@@ -220,50 +198,97 @@ impl Session {
         ensures no_line { IsErrOf result EditFault.NoSuchLine ↔ LacksLines self.old.lines first last }
         ensures too_many { IsErrOf result EditFault.TooManyLines → ⊥ }
         ensures memory { IsErrOf result EditFault.Memory → HasLines self.old.lines first last }
-        ensures steps { StepsOfEdit result (length self.old.lines - last) work.old work.new }
+        ensures work { WorkOfEdit result self.old.lines (deletion first last) work.old work.new }
     {
-        if first == 0 || last < first || last as usize > self.lines.len() {
+        if first == 0 || last < first || last as usize > self.lists.lines.len() {
             return Err(EditFault::NoSuchLine);
         }
-        self.cut(first as usize - 1, last as usize, work)
+        self.splice(
+            first as usize - 1,
+            last as usize,
+            Vec::new(self.alloc),
+            work,
+        )
     }
 
-    /// Deletes the lines after the first `from`, up to the first `to`.
-    fn cut(&mut self, from: usize, to: usize, work: &mut Work) -> Result<(), EditFault>
-        requires forwards { from ≤ to }
-        requires within { to ≤ length self.old.lines }
-        ensures ok { OnOk result (self.new.lines ≡ take from self.old.lines ++ drop to self.old.lines) }
+    /// Puts a line behind the last.
+    fn append(&mut self, line: Line, work: &mut Work) -> Result<(), EditFault>
+        requires { length self.old.lines < MOST_LINES }
+        ensures ok { OnOk result (self.new.lines ≡ self.old.lines ++ line ∷ []) }
         ensures err { OnErr result (self.new ≡ self.old) }
         ensures only { OnErr result (IsErrOf result EditFault.Memory) }
-        ensures steps { StepsOfEdit result (length self.old.lines - to) work.old work.new }
+        ensures work { WorkOfEdit result self.old.lines (insertion (length self.old.lines) line) work.old work.new }
     {
-        let (_, back) = self.lines.split_at(to);
-        let Ok(_) = self.assembled.redo(self.alloc, work, from, &[], back) else {
+        let Ok(()) = self.lists.make_room() else {
             return Err(EditFault::Memory);
         };
-        self.lines.drain(from..to);
+        let kept = Kept {
+            alloc: self.alloc,
+            lines: &self.lists.lines,
+            traces: &self.lists.traces,
+            finals: self.front.finals(),
+        };
+        let Ok(made) = self.follower.append(kept, &line, work) else {
+            return Err(EditFault::Memory);
+        };
+        self.lists.append(line, made);
+        self.follower.swap(&mut self.front);
         Ok(())
     }
 
-    /// What the texts of the source are written from.
-    pub fn view<'a>(&'a self, alloc: Global) -> Result<Pages<'a>, AllocError>
-        ensures { IfOk result (λ pages. ⟦<Pages<'a> as View>⟧.assembly pages ≡ assembly_of self.now.lines) }
+    /// Puts new lines in the place of those after the first `keep` up to the first `from`.
+    fn splice(
+        &mut self,
+        keep: usize,
+        from: usize,
+        new: Vec<Line>,
+        work: &mut Work,
+    ) -> Result<(), EditFault>
+        requires ordered { keep ≤ from }
+        requires within { from ≤ length self.old.lines }
+        requires few { length (spliced self.old.lines (splice_at keep from new.items)) ≤ MOST_LINES }
+        ensures ok { OnOk result (self.new.lines ≡ spliced self.old.lines (splice_at keep from new.items)) }
+        ensures err { OnErr result (self.new ≡ self.old) }
+        ensures only { OnErr result (IsErrOf result EditFault.Memory) }
+        ensures work { WorkOfEdit result self.old.lines (splice_at keep from new.items) work.old work.new }
     {
-        self.assembled.pages(alloc, &self.lines)
+        let kept = Kept {
+            alloc: self.alloc,
+            lines: &self.lists.lines,
+            traces: &self.lists.traces,
+            finals: self.front.finals(),
+        };
+        let Ok(edit) = kept.edit(keep, from, &new, work) else {
+            return Err(EditFault::Memory);
+        };
+        let Ok(front) = self.lists.commit(keep, from, new, edit) else {
+            return Err(EditFault::Memory);
+        };
+        self.front = front;
+        self.follower = Follower::new(self.alloc);
+        Ok(())
     }
 
     /// A text of the source.
     pub fn text(&self, alloc: Global, part: Part) -> Result<Vec<u8>, AllocError>
         ensures { IfOk result (λ text. text.items ≡ text_of part (assembly_of self.now.lines)) }
     {
-        let pages = self.view(alloc)?;
-        make_text(alloc, &pages, part)
+        make_text(alloc, self, part)
     }
 
     /// How many lines of the source have a flag, and one more if it ends while a range is open. Takes no memory.
     pub fn flagged(&self) -> u32
-        ensures { result ≡ flagged_lines self.now.lines }
+        ensures { result ≡ flagged_in self.now.lines }
     {
-        self.assembled.flagged()
+        flagged_lines(&self.lists.outcomes, self.front.finals().is_open_at_end()) as u32
     }
+}
+
+/// A list of one line.
+fn list_of(alloc: Global, line: Line) -> Result<Vec<Line>, AllocError>
+    ensures { IfOk result (λ list. list.items ≡ line ∷ []) }
+{
+    let mut list = Vec::with_capacity(alloc, 1)?;
+    list.push(line)?;
+    Ok(list)
 }

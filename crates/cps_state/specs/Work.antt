@@ -21,11 +21,3 @@ abbrev pub raised : Tally → Counts → Counts
 raised Ones counts = record counts { ones = counted_on counts.ones 1 }
 raised Twos counts = record counts { twos = counted_on counts.twos 1 }
 raised Looked counts = record counts { looked = counted_on counts.looked 1 }
-
--- so many steps of pass one more
-abbrev pub stepped : ℕ → Counts → Counts
-stepped count counts = record counts { ones = counted_on counts.ones count }
-
--- so many at most
-abbrev pub IsSteppedUpTo : ℕ → Counts → Counts → Type 0
-IsSteppedUpTo most old new = (count : ℕ) × (count ≤ most) × (new ≡ stepped count old)

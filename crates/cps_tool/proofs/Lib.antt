@@ -1,4 +1,5 @@
 pub mod CommandLemmas
+pub mod EditLemmas
 pub mod NumberLemmas
 pub mod OrderLemmas
 pub mod ProgressLemmas

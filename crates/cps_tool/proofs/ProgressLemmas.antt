@@ -1,13 +1,11 @@
 -- How far a script has come, byte by byte and line by line.
-use Rattle.std.proofs.Common.{◌≡◌, ℕ, Bool, true, false, not, ◌&&◌, eqb, List, [], ◌∷◌, ◌++◌, map, flat_map, Option, Result, Ok, Err, refl, sym, ap, subst, ◌∙◌, arith, append_assoc, append-nil, inl, inr}
+use Rattle.std.proofs.Common.{◌≡◌, ℕ, Bool, true, false, not, ◌&&◌, eqb, List, [], ◌∷◌, ◌++◌, map, Option, Result, Ok, Err, refl, sym, ap, subst, ◌∙◌, append_assoc, append-nil, inl, inr}
 use Rattle.std.specs.List.{list_all}
 use Rattle.std.specs.Io.KnownBytes.{Appends, Consumes, IsAtEnd}
 use Rattle.std.specs.Prelude.{IfSome, None, Some}
 use Rattle.std.proofs.KnownBytes.{Appends-nil, Appends-trans}
 use Rattle.std.proofs.lemmas.List.Folds.{list_all-append}
 use Rattle.std.proofs.lemmas.List.{map-append}
-use Rattle.std.proofs.lemmas.Grind.{flat_map-append}
-use Rattle.std.proofs.lemmas.Bool.Decides.{nat_tests}
 use Rattle.cps_live.specs.declared.begun_line.BegunLine.{BegunLine}
 use Rattle.cps_state.specs.Work.{Counts, no_work}
 use Rattle.cps_text.specs.declared.counted.Counted.{Counted}
@@ -18,8 +16,8 @@ use Rattle.cps_tool.specs.declared.script.Flow.TheVariants.{GoesOn, Ends}
 use Rattle.cps_live.specs.BegunLine.{IsBegun}
 use Rattle.cps_tool.specs.Command.{is_quit}
 use Rattle.cps_tool.specs.EditReplies.{Standing, at, beginning}
-use Rattle.cps_live.proofs.SplitLemmas.{both, left_true, right_true, splits-none, splits-line, splits-byte, split_of}
-use Rattle.cps_live.specs.Lines.{Splits, without_return, last_line, has_no_newline, newline}
+use Rattle.cps_live.proofs.SplitLemmas.{left_true, right_true, splits-none, splits-line, splits-byte, split_of}
+use Rattle.cps_live.specs.Lines.{Splits, without_return, last_line, newline}
 use Rattle.cps_tool.specs.Reply.{Response, reply_text}
 use Rattle.cps_tool.specs.Script.{Run, RunsScript, Script, FrontOfScript, LinesOfScript, IsAnswered, HasQuit, LacksQuit, IsReadToEnd, AreAnswered, goes_on, command_lines, before_quit}
 use Rattle.cps_tool.specs.Progress.{MatchFlow, IsReplied, IsPartlyReplied, IsLast, Progress, Takes, Finishes}

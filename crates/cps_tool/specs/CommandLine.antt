@@ -1,5 +1,5 @@
 -- What a call of the program does, and the status that it ends with. Our own.
-use Rattle.std.specs.Prelude.{◌≡◌, ℕ, ◌⊎◌, List, [], Option, Some, Result, Ok, Err, if◌then◌else◌, ◌==◌}
+use Rattle.std.specs.Prelude.{◌≡◌, ℕ, ◌⊎◌, List, [], Option, Result, Ok, Err, if◌then◌else◌, ◌==◌}
 use Rattle.cps_text.specs.declared.counted.Counted.{Counted}
 use Rattle.cps_text.specs.Counted.{failures_of, FailsOnce}
 use Rattle.cps_live.specs.declared.fault.BatchFault.{BatchFault}

@@ -1,8 +1,10 @@
 -- How a command that edits is answered: what it makes of the source, why it is refused, and the steps that it takes. Our own.
-use Rattle.std.specs.Prelude.{◌≡◌, ℕ, ◌+◌, ◌-◌, ◌<◌, ◌≤◌, List, length, insert, slice_set}
+use Rattle.std.specs.Prelude.{◌≡◌, ℕ, ◌-◌, ◌<◌, ◌≤◌, List, length, insert, slice_set}
 use Rattle.cps_text.specs.Line.{longest_line, IsLine, HasBadCharacter}
-use Rattle.cps_state.specs.Work.{Counts, no_work, stepped, IsSteppedUpTo}
-use Rattle.cps_live.specs.Edits.{most_lines, HasLine, LacksLine, HasLines, LacksLines, without_lines}
+use Rattle.cps_state.specs.Work.{Counts, no_work}
+use Rattle.cps_edit.specs.Splice.{Splice, insertion, replacement, deletion}
+use Rattle.cps_edit.specs.Disturbed.{ones_of, twos_of}
+use Rattle.cps_live.specs.Edits.{most_lines, HasLine, LacksLine, HasLines, LacksLines, without_lines, HaveStepped, HaveSteppedUpTo}
 use Rattle.cps_tool.specs.declared.reply.Refusal.{Refusal}
 use Rattle.cps_tool.specs.declared.reply.Refusal.TheVariants as refusals
 use Rattle.cps_tool.specs.Reply.{Response, accepted, refused, shown, worked}
@@ -19,21 +21,15 @@ at source work = record { source = source; work = work }
 abbrev pub beginning : List (List ℕ) → Standing
 beginning source = at source no_work
 
--- ---- steps: one for each line from the first on that the edit touches
+-- ---- steps: those of the lines that an edit disturbs
 
-abbrev pub steps_of_insertion : List (List ℕ) → ℕ → ℕ
-steps_of_insertion source after = length source + 1 - after
+abbrev pub StepsOf : List (List ℕ) → Splice → Counts → Type 0
+StepsOf source edit work = HaveStepped (ones_of source edit) (twos_of source edit) no_work work
 
-abbrev pub steps_of_replacement : List (List ℕ) → ℕ → ℕ
-steps_of_replacement source number = length source + 1 - number
-
-abbrev pub steps_of_deletion : List (List ℕ) → ℕ → ℕ
-steps_of_deletion source last = length source - last
-
--- a refused command takes none; one for which there was no memory as many at most
-abbrev pub StepsOfRefused : Refusal → ℕ → Counts → Type 0
-StepsOfRefused refusals.NoMemory steps work = IsSteppedUpTo steps no_work work
-StepsOfRefused refusal steps work = work ≡ no_work
+-- a refused command takes none; one for which there was no memory these at most
+abbrev pub StepsOfRefused : Refusal → List (List ℕ) → Splice → Counts → Type 0
+StepsOfRefused refusals.NoMemory source edit work = HaveSteppedUpTo (ones_of source edit) (twos_of source edit) no_work work
+StepsOfRefused refusal source edit work = work ≡ no_work
 
 -- why a text is no line
 abbrev pub IsNoLine : List ℕ → Refusal → Type 0
@@ -59,9 +55,9 @@ IsNotInserted source after text refusals.NoMemory = (after ≤ length source) ×
 abbrev pub Inserted : List (List ℕ) → ℕ → List ℕ → Response → Standing → Type 0
 Inserted old after text (accepted count) new =
     (after ≤ length old) × IsLine text × (length old < most_lines) × (new.source ≡ insert old after text) × (count ≡ length new.source)
-    × (new.work ≡ stepped (steps_of_insertion old after) no_work)
+    × StepsOf old (insertion after text) new.work
 Inserted old after text (refused refusal) new =
-    IsNotInserted old after text refusal × (new.source ≡ old) × StepsOfRefused refusal (steps_of_insertion old after) new.work
+    IsNotInserted old after text refusal × (new.source ≡ old) × StepsOfRefused refusal old (insertion after text) new.work
 Inserted old after text (shown bytes) new = ⊥
 Inserted old after text (worked counts) new = ⊥
 
@@ -80,9 +76,9 @@ IsNotReplaced source number text refusals.NoMemory = HasLine source number × Is
 abbrev pub Replaced : List (List ℕ) → ℕ → List ℕ → Response → Standing → Type 0
 Replaced old number text (accepted count) new =
     HasLine old number × IsLine text × (new.source ≡ slice_set old (number - 1) text) × (count ≡ length new.source)
-    × (new.work ≡ stepped (steps_of_replacement old number) no_work)
+    × StepsOf old (replacement number text) new.work
 Replaced old number text (refused refusal) new =
-    IsNotReplaced old number text refusal × (new.source ≡ old) × StepsOfRefused refusal (steps_of_replacement old number) new.work
+    IsNotReplaced old number text refusal × (new.source ≡ old) × StepsOfRefused refusal old (replacement number text) new.work
 Replaced old number text (shown bytes) new = ⊥
 Replaced old number text (worked counts) new = ⊥
 
@@ -101,8 +97,8 @@ IsNotDeleted source first last refusals.NoMemory = HasLines source first last
 abbrev pub Deleted : List (List ℕ) → ℕ → ℕ → Response → Standing → Type 0
 Deleted old first last (accepted count) new =
     HasLines old first last × (new.source ≡ without_lines old first last) × (count ≡ length new.source)
-    × (new.work ≡ stepped (steps_of_deletion old last) no_work)
+    × StepsOf old (deletion first last) new.work
 Deleted old first last (refused refusal) new =
-    IsNotDeleted old first last refusal × (new.source ≡ old) × StepsOfRefused refusal (steps_of_deletion old last) new.work
+    IsNotDeleted old first last refusal × (new.source ≡ old) × StepsOfRefused refusal old (deletion first last) new.work
 Deleted old first last (shown bytes) new = ⊥
 Deleted old first last (worked counts) new = ⊥

@@ -8,7 +8,7 @@ use std::process::ExitCode;
 use transcript::Transcript;
 
 /// The files, each of one subject.
-const NAMES: [&str; 16] = [
+const NAMES: [&str; 17] = [
     "blocks",
     "central",
     "columns",
@@ -25,6 +25,7 @@ const NAMES: [&str; 16] = [
     "sources",
     "symbols",
     "words",
+    "work",
 ];
 
 fn main(rt: HostRuntime) -> ExitCode {

@@ -5,4 +5,4 @@ use Rattle.cps_state.specs.Made.{content_names}
 use Rattle.cps_final.proofs.names.insert_contents_names.Given as goal
 
 abbrev pub invariant-loop-content : goal.invariant-loop-content
-invariant-loop-content l = l.names.keys ≡ insert_all same_name l.fn.names.keys (flat_map content_names (take l.content-index l.contents))
+invariant-loop-content g l = g.S.NameSet.names l.names ≡ insert_all same_name (g.S.NameSet.names l.fn.names) (flat_map content_names (take l.content-index l.contents))

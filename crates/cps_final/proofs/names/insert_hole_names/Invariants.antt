@@ -5,4 +5,4 @@ use Rattle.indexmap.specs.IndexSet.{insert_all}
 use Rattle.cps_final.proofs.names.insert_hole_names.Given as goal
 
 abbrev pub invariant-loop-hole : goal.invariant-loop-hole
-invariant-loop-hole l = l.names.keys ≡ insert_all same_name l.fn.names.keys (flat_map (λ hole. operand_names hole.operand) (take l.hole-index l.holes))
+invariant-loop-hole g l = g.S.NameSet.names l.names ≡ insert_all same_name (g.S.NameSet.names l.fn.names) (flat_map (λ hole. operand_names hole.operand) (take l.hole-index l.holes))

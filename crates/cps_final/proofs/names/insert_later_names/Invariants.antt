@@ -5,5 +5,5 @@ use Rattle.cps_state.specs.Made.{content_names}
 use Rattle.cps_final.proofs.names.insert_later_names.Given as goal
 
 abbrev pub invariant-loop-item : goal.invariant-loop-item
-invariant-loop-item l =
-    l.names.keys ≡ insert_all same_name l.fn.names.keys (flat_map (λ item. flat_map content_names item.made.contents) (take l.item-index l.items))
+invariant-loop-item g l =
+    g.S.NameSet.names l.names ≡ insert_all same_name (g.S.NameSet.names l.fn.names) (flat_map (λ item. flat_map content_names item.made.contents) (take l.item-index l.items))

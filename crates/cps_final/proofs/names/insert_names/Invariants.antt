@@ -4,4 +4,4 @@ use Rattle.indexmap.specs.IndexSet.{insert_all}
 use Rattle.cps_final.proofs.names.insert_names.Given as goal
 
 abbrev pub invariant-loop-name : goal.invariant-loop-name
-invariant-loop-name l = l.names.keys ≡ insert_all same_name l.fn.names.keys (take l.name-index l.found)
+invariant-loop-name g l = g.S.NameSet.names l.names ≡ insert_all same_name (g.S.NameSet.names l.fn.names) (take l.name-index l.found)

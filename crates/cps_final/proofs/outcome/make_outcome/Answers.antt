@@ -7,5 +7,5 @@ use Rattle.cps_final.proofs.outcome.make_outcome.Goals as goal
 pub returns : goal.returns
 returns c =
     let finals = resolved c.args.finals.now in
-    let made = outcome-made finals c.args.trace.now _ _ c.items.result.now c.items.ensures c.in_ok-replace.ensures c.in_ok-replace-2.ensures in
+    let made = outcome-made finals c.args.trace.now _ _ _ c.items-items.result.now c.items-items.ensures c.in_ok-replace.ensures c.in_ok-defined.ensures c.in_ok-read.ensures in
     record { outcome = made; alone = λ others agree. outcome-alone others finals c.args.trace.now agree ∙ sym made }

@@ -1,8 +1,7 @@
-use Rattle.std.proofs.Common.{rules, ap, ap₂, refl, codes, ◌≡◌, ◌∙◌}
+use Rattle.std.proofs.Common.{rules, ap, ap₂, codes, ◌≡◌, ◌∙◌}
 use Rattle.std.proofs.lemmas.Result.{IfOk-weaker}
 use Rattle.clap.specs.Words.{App, app_of, new_app, with_rule}
 use Rattle.clap.specs.Simple.{app_of_fields}
-use Rattle.cps_tool.specs.Request.{part_rule}
 use Rattle.cps_tool.proofs.request.batch_command.Goals as goal
 
 -- names of steps to be taken from the check's note

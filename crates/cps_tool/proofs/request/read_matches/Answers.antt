@@ -1,4 +1,4 @@
-use Rattle.std.proofs.Common.{◌≡◌, ap, sym, ◌∙◌, rules, inr, codes, Some, None, refl}
+use Rattle.std.proofs.Common.{◌≡◌, ap, sym, ◌∙◌, rules, inr, codes, Some, refl}
 use Rattle.std.specs.Prelude.{option_map}
 use Rattle.clap.specs.Words.{found_of, rows_of}
 use Rattle.clap.specs.Matches.{subcommand_name_of}

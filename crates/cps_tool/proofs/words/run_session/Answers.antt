@@ -1,5 +1,5 @@
 use Rattle.std.proofs.Common.{ℕ, List, subst}
-use Rattle.std.specs.Prelude.{Ok, Err}
+use Rattle.std.specs.Prelude.{Ok}
 use Rattle.cps_tool.specs.Script.{RunsScript}
 use Rattle.cps_tool.proofs.words.run_session.Goals as goal
 

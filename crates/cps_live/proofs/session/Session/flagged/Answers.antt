@@ -1,14 +1,20 @@
-use Rattle.std.proofs.Common.{ap, arith, ◌∙◌}
+use Rattle.std.proofs.Common.{arith, length, ap, ◌∙◌}
+use Rattle.cps_final.specs.Finals.{is_open_at_end}
+use Rattle.cps_list.specs.Flagged.{flagged_with}
 use Rattle.cps_live.specs.Edits.{Source}
 use Rattle.cps_live.specs.Flagged.{flagged_lines}
-use Rattle.cps_live.proofs.AssemblyLemmas.{assembled-length}
+use Rattle.cps_live.proofs.SessionLemmas.{length-outcomes}
 use Rattle.cps_live.proofs.session.Session.flagged.Goals as goal
 
-pub flagged-requires : goal.flagged-requires
-flagged-requires c =
-    let same = assembled-length _ _ c.self.invariant.1 in
-    let few = c.self.invariant.0 in
-    omega arith
+pub overflow_cast-result : goal.overflow_cast-result
+overflow_cast-result c =
+    let kept = c.self.invariant in
+    let each = ap length (c.deref.ensures.value ∙ kept.made) ∙ length-outcomes c.self.inside.lists.lines.items in
+    omega (arith, each, kept.few, c.flagged_lines.ensures.within)
 
 pub returns : goal.returns
-returns c = c.flagged.ensures c.self.inside.lines.items c.self.invariant.1 ∙ ap flagged_lines (ap (λ (s : Source). s.lines) c.self.view_is)
+returns c =
+    let kept = c.self.invariant in
+    let outcomes = c.deref.ensures.value ∙ kept.made in
+    let is_open = c.is_open_at_end.ensures ∙ ap is_open_at_end (c.finals.ensures ∙ kept.gathered) in
+    c.flagged_lines.ensures.count ∙ (λ i. flagged_with (is_open i) (outcomes i)) ∙ ap (λ (s : Source). flagged_lines s.lines) c.self.view_is

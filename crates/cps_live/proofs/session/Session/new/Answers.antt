@@ -1,8 +1,11 @@
-use Rattle.std.proofs.Common.{ℕ, ◌≤◌, List, length, sym, ap, subst, ◌∙◌, arith}
-use Rattle.cps_live.specs.Assembled.{assembled_of}
-use Rattle.cps_live.specs.Edits.{most_lines}
+use Rattle.std.proofs.Common.{[], arith}
+use Rattle.std.proofs.lemmas.List.{nil_from_length}
+use Rattle.cps_edit.specs.contracts.front.FrontGathered.TheImpl.{gathered-value}
+use Rattle.cps_live.proofs.SessionLemmas.{kept_now}
 use Rattle.cps_live.proofs.session.Session.new.Goals as goal
 
 pub invariant_of-result : goal.invariant_of-result
 invariant_of-result c =
-    (subst (λ (lines : List (List ℕ)). length lines ≤ most_lines) (sym c.new.ensures.items) (omega arith), c.new-2.ensures ∙ ap assembled_of (sym c.new.ensures.items))
+    let lists = c.new.result in
+    kept_now [] lists.lines.items lists.traces.items (gathered-value.it c.new-2.result) lists.outcomes.items c.new-3.result (omega arith) (nil_from_length lists.lines.items c.new.ensures.lines)
+    (nil_from_length lists.traces.items c.new.ensures.traces) c.new-2.ensures (nil_from_length lists.outcomes.items c.new.ensures.outcomes) (c.new-3.ensures lists.traces.items)

@@ -1,0 +1,10 @@
+use Rattle.std.proofs.lemmas.Result.{on_ok_weaker}
+use Rattle.cps_final.proofs.OutcomeLemmas.{reads-join}
+use Rattle.cps_final.proofs.names.insert_read.Goals as goal
+
+pub returns : goal.returns
+returns g c =
+    let names = g.S.NameSet.names in
+    on_ok_weaker c.insert_later_names.result
+    (reads-join c.args.trace.now c.reads.result.now c.items.result.now (names c.args.names.now) (names c.insert_names.new.names) _ c.reads.ensures c.items.ensures c.in_ok-insert_names.ensures)
+    c.insert_later_names.ensures

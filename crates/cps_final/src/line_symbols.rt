@@ -1,0 +1,61 @@
+//! The symbols of one line after another.
+ghost use Rattle.std.specs.Prelude.{◌≡◌, [], OnOk};
+ghost use Rattle.cps_final.specs.Names.{names_defined, names_read};
+
+use crate::names::{insert_defined, insert_read};
+use cps_state::Trace;
+use cps_text::Name;
+use indexmap::IndexSet;
+use std::alloc::{AllocError, Global};
+use std::marker::Model;
+
+/// The symbols that a line defines and those that it reads, each once. Those of one line can be put in the place of another's.
+#[derive(Drop)]
+pub struct LineSymbols {
+    defined: IndexSet<Name>,
+    read: IndexSet<Name>,
+}
+
+impl Model for LineSymbols {
+    ghost use Rattle.cps_final.specs.Names.{LineSymbols};
+
+    ghost Value = { LineSymbols };
+
+    ghost view = { λ symbols. record { defined = symbols.defined.keys; read = symbols.read.keys } };
+}
+
+impl LineSymbols {
+    /// Of a line without symbols. Takes no memory yet.
+    pub fn new(alloc: Global) -> LineSymbols
+        ensures { result ≡ record { defined = []; read = [] } }
+    {
+        LineSymbols {
+            defined: IndexSet::new(alloc),
+            read: IndexSet::new(alloc),
+        }
+    }
+
+    /// Puts the symbols of a line in the place of those that stood here.
+    pub fn replace(&mut self, trace: &Trace) -> Result<(), AllocError>
+        ensures { OnOk result (self.new ≡ record { defined = names_defined trace.now; read = names_read trace.now }) }
+    {
+        self.defined.clear();
+        self.read.clear();
+        insert_defined(&mut self.defined, trace.puts())?;
+        insert_read(&mut self.read, trace)
+    }
+
+    /// The symbols that the line defines.
+    pub fn defined(&self) -> &[Name]
+        ensures { result.now ≡ self.now.defined }
+    {
+        self.defined.as_slice()
+    }
+
+    /// The symbols that the line reads, now or later.
+    pub fn read(&self) -> &[Name]
+        ensures { result.now ≡ self.now.read }
+    {
+        self.read.as_slice()
+    }
+}
