@@ -13,3 +13,4 @@ pub mod SettledLemmas
 pub mod OpenLemmas
 pub mod ThroughLemmas
 pub mod AppendLemmas
+pub mod QuietLemmas

@@ -4,11 +4,12 @@ use Rattle.std.proofs.lemmas.List.{drop_all, length-append}
 use Rattle.std.proofs.lemmas.List.Folds.{list_all-append}
 use Rattle.std.specs.Prelude.{IfSome}
 use Rattle.cps_text.specs.declared.name.Name.{Name}
+use Rattle.cps_state.specs.declared.item.Item.{Item}
 use Rattle.cps_state.specs.Course.{Trace}
 use Rattle.cps_edit.specs.declared.open.Open.{Open}
 use Rattle.cps_edit.specs.Append.{Test, IsOpen, Stands, all_stay, Covers, listed}
 use Rattle.cps_edit.proofs.TakenLemmas.{drop_at}
-use Rattle.cps_edit.proofs.SettledLemmas.{and_all}
+use Rattle.cps_edit.proofs.SettledLemmas.{and_all, list_all-more}
 
 stay-append : (test : Test) (ts us : List Trace) → all_stay test ts ≡ true → all_stay test us ≡ true → all_stay test (ts ++ us) ≡ true
 stay-append test ts us a b = list_all-append (λ (t : Trace). test None t.items) ts us ∙ and_all (all_stay test ts) (all_stay test us) a b
@@ -75,3 +76,33 @@ opened-any test ts entries i entry lt at none opened rest covers =
     let here : Covers test i (entry ∷ rest) (t ∷ drop (i + 1) ts) = covers-here test i t (drop (i + 1) ts) (Some entry) rest stands covers in
     subst (λ (es : List Open). Covers test 0 es ts) (sym (append_assoc entries (entry ∷ []) rest))
     (opened (entry ∷ rest) (subst (λ (us : List Trace). Covers test i (entry ∷ rest) us) (sym there) here))
+
+-- ---- another test
+
+module _ (test test' : Test) (more : (awaited : Option Name) (items : List Item) → test awaited items ≡ true → test' awaited items ≡ true) where
+  all-map : (ts : List Trace) → all_stay test ts ≡ true → all_stay test' ts ≡ true
+  all-map ts h = list_all-more (λ (t : Trace). test None t.items) (λ (t : Trace). test' None t.items) (λ t. more None t.items) ts h
+
+  awaits-map : (awaits : Option Name) (items : List Item) → IfSome awaits (λ name. test (Some name) items ≡ true) → IfSome awaits (λ name. test' (Some name) items ≡ true)
+  awaits-map None items h = tt
+  awaits-map (Some name) items h = more (Some name) items h
+
+  pub covers-map : (at : ℕ) (entries : List Open) (ts : List Trace) → Covers test at entries ts → Covers test' at entries ts
+  covers-map at [] ts h = all-map ts h
+  covers-map at (e ∷ es) ts (before, t, behind, whole, stay, (there, awaits), rest) =
+      (before, t, behind, whole, all-map before stay, (there, awaits-map e.awaits t.items awaits), covers-map (at + length before + 1) es behind rest)
+
+-- more lines behind
+pub covers-append : (test : Test) (at : ℕ) (entries : List Open) (ts : List Trace) (rest : List Open) (tail : List Trace) → Covers test at entries ts → Covers test (at + length ts) rest tail
+    → Covers test at (entries ++ rest) (ts ++ tail)
+covers-append test at [] ts rest tail h covers = covers-skip test at ts tail rest h covers
+covers-append test at (e ∷ es) ts rest tail (before, t, behind, whole, stay, is_open, more) covers =
+    let there : at + length ts ≡ at + length before + 1 + length behind = omega (arith, ap length whole, length-append before (t ∷ behind)) in (
+      before,
+      t,
+      behind ++ tail,
+      ap (λ xs. xs ++ tail) whole ∙ append_assoc before (t ∷ behind) tail,
+      stay,
+      is_open,
+      covers-append test (at + length before + 1) es behind rest tail more (subst (λ (n : ℕ). Covers test n rest tail) there covers),
+    )

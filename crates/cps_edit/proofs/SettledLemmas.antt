@@ -28,7 +28,7 @@ or_false : (a b : Bool) → (a || b) ≡ false → (a ≡ false) × (b ≡ false
 or_false true b h = cc
 or_false false b h = (refl, h)
 
-or-none : (a b : Bool) → a ≡ false → b ≡ false → (a || b) ≡ false
+pub or-none : (a b : Bool) → a ≡ false → b ≡ false → (a || b) ≡ false
 or-none true b p q = cc
 or-none false b p q = q
 
@@ -53,7 +53,7 @@ or-end false b h = h
 -- ---- puts and keys
 
 -- a key that no put is at
-untouched : (k : Key) (puts : List Put) (state : State) → puts_at k puts ≡ false → overwritten state puts k ≡ state k
+pub untouched : (k : Key) (puts : List Put) (state : State) → puts_at k puts ≡ false → overwritten state puts k ≡ state k
 untouched k [] state h = refl
 untouched k (p ∷ puts) state h =
     let parts = or_false (same_key p.key k) (puts_at k puts) h in
@@ -125,7 +125,7 @@ unfolding valued
 same-label was now awaited name is h =
     same-valued was now awaited name (labels_of was.state name) h ∙ sym (ap (λ (o : Option Value). valued now o) is)
 
-at-same : (was now : Resolved) (named : Named) → was named ≡ now named → same_at was now named ≡ true
+pub at-same : (was now : Resolved) (named : Named) → was named ≡ now named → same_at was now named ≡ true
 at-same was now named is = (option-decides same_value value-decides (was named) (now named)).1 is
 
 module _ (was now : Finals) (puts : List Put) (awaited : Option Name) (put : now.state ≡ overwritten was.state puts) (fresh : are_fresh was.state puts ≡ true) (away : NotPut awaited puts) where
@@ -167,7 +167,7 @@ item-more p q more item h =
     (list_all-more (λ name. p (block name)) (λ name. q (block name)) (λ name. more (block name)) (blocks_named item) two.0)
     (list_all-more (λ word. p (literal word)) (λ word. q (literal word)) (λ word. more (literal word)) (flat_map content_literals item.made.contents) two.1))
 
-items-more : (p q : Named → Bool) → ((named : Named) → p named ≡ true → q named ≡ true) → (items : List Item) → list_all (all_named p) items ≡ true → list_all (all_named q) items ≡ true
+pub items-more : (p q : Named → Bool) → ((named : Named) → p named ≡ true → q named ≡ true) → (items : List Item) → list_all (all_named p) items ≡ true → list_all (all_named q) items ≡ true
 items-more p q more items h = list_all-more (all_named p) (all_named q) (item-more p q more) items h
 
 module _ (was now : Finals) (puts : List Put) (is_fresh : Bool) (arrives : Arrives was now puts is_fresh) where

@@ -34,7 +34,7 @@ traces_from-append f [] ys = refl
 traces_from-append f (x ∷ xs) ys = ap (λ ts. trace_of x f ∷ ts) (traces_from-append (after f x) xs ys)
 
 -- the state after lines is what their puts leave
-overwritten-append : (s : State) (puts more : List Put) → overwritten s (puts ++ more) ≡ overwritten (overwritten s puts) more
+pub overwritten-append : (s : State) (puts more : List Put) → overwritten s (puts ++ more) ≡ overwritten (overwritten s puts) more
 overwritten-append s [] more = refl
 overwritten-append s (p ∷ puts) more = overwritten-append (with_put s p) puts more
 

@@ -71,6 +71,21 @@ abbrev pub is_left : Option Name → List Put → Bool
 is_left None puts = false
 is_left (Some name) puts = not (puts_at (key.Label name) puts)
 
+-- it is no label and no counter
+abbrev pub is_quiet_key : Key → Bool
+is_quiet_key (key.Label name) = false
+is_quiet_key (key.Counter name) = false
+is_quiet_key other = true
+
+-- a label or a block, and no literal
+abbrev pub is_no_literal : Named → Bool
+is_no_literal (literal word) = false
+is_no_literal other = true
+
+-- a line that puts no label and moves no counter, and whose statements name no literal
+abbrev pub is_quiet : Trace → Bool
+is_quiet trace = list_all (λ p. is_quiet_key p.key) trace.puts && list_all (all_named is_no_literal) trace.items
+
 -- ---- lines that are open
 
 -- a test of what the statements of a line name, but for a label

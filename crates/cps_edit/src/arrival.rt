@@ -4,17 +4,19 @@ ghost use Rattle.cps_state.specs.Course.{Trace as Course};
 ghost use Rattle.cps_state.specs.Work.{counted_on};
 ghost use Rattle.cps_state.specs.Keys.{overwritten, same_key};
 ghost use Rattle.cps_state.specs.declared.key.Key.TheVariants.{Label as label_key};
+ghost use Rattle.cps_final.specs.Finals.{Gathers};
 ghost use Rattle.cps_final.specs.Outcome.{outcome_of};
 ghost use Rattle.cps_final.specs.Resolving.{resolved};
 ghost use Rattle.cps_edit.specs.declared.open.Open.{Open as Entry};
 ghost use Rattle.cps_edit.specs.Passes.{outcomes_by};
 ghost use Rattle.cps_edit.specs.Disturbed.{is_redone};
 ghost use Rattle.cps_edit.specs.Renewed.{picked, redone_kept};
-ghost use Rattle.cps_edit.specs.Append.{are_fresh as all_fresh, is_fresh_at, puts_at, is_left, is_settled as settled, stays_before, stays_after, finals_before, finals_after, IsArrival, Stands, Covers, listed, changed, change_at, AreWithin};
+ghost use Rattle.cps_edit.specs.Append.{are_fresh as all_fresh, is_fresh_at, puts_at, is_left, is_quiet as quiet, is_settled as settled, stays_before, stays_after, finals_before, finals_after, IsArrival, Stands, Covers, listed, changed, change_at, AreWithin};
 
 use crate::agreeing::Ends;
 use crate::open::{Open, all_lines, entry_of, open_lines, push_entry};
 use crate::plan::Kept;
+use crate::quiet::is_quiet;
 use crate::redo::redone;
 use cps_expr::{Names, is_same_name};
 use cps_final::{Finals, Gathered, Outcome};
@@ -207,6 +209,32 @@ impl<'a> Arrival<'a> {
         if self.is_fresh { Some(entries) } else { None }
     }
 
+    /// The same of a line that changes no final value: it looks at nothing.
+    fn pass_by(
+        self,
+        known: Option<Vec<Open>>,
+        traces: &[Trace],
+        trace: &Trace,
+    ) -> Result<Changed, AllocError>
+        requires before { Gathers (finals_before self) traces.now }
+        requires after { Gathers (finals_after self) (traces.now ++ trace.now ∷ []) }
+        requires quiet { quiet trace.now ≡ true }
+        requires known { IfSome known (λ known. Covers (settled (finals_before self).state) 0 known.items traces.now) }
+        ensures changes { IfOk result (λ made. made.changes.items ≡ []) }
+        ensures opened { IfOk result (λ made. IfSome made.«open» (λ known. Covers (settled (finals_after self.entry).state) 0 known.items (traces.now ++ trace.now ∷ []))) }
+    {
+        let changes = Vec::new(self.alloc);
+        let open = match known {
+            Some(entries) => {
+                let mut entries = entries;
+                push_entry(&mut entries, entry_of(traces.len(), trace, self.ends.after))?;
+                Some(entries)
+            }
+            None => None,
+        };
+        Ok(Changed { changes, open })
+    }
+
     /// What the line changes, and the entries with it; those before it may be known.
     pub fn change(
         self,
@@ -216,6 +244,8 @@ impl<'a> Arrival<'a> {
         work: &mut Work,
     ) -> Result<Changed, AllocError>
         requires arrives { IsArrival self }
+        requires before { Gathers (finals_before self) traces.now }
+        requires after { Gathers (finals_after self) (traces.now ++ trace.now ∷ []) }
         requires known { IfSome known (λ known. Covers (settled (finals_before self).state) 0 known.items traces.now) }
         ensures outcomes { IfOk result (λ made. changed made.changes.items (outcomes_by (resolved self.entry.ends.before.now) traces.now) ≡ outcomes_by (resolved self.entry.ends.after.now) traces.now) }
         ensures within { IfOk result (λ made. AreWithin (length traces.now) made.changes.items) }
@@ -224,6 +254,9 @@ impl<'a> Arrival<'a> {
         ensures twos_err { OnErr result (work.new.twos ≤ counted_on work.old.twos (redone_kept (resolved self.entry.ends.before.now) (resolved self.entry.ends.after.now) traces.now)) }
         ensures ones { work.new.ones ≡ work.old.ones }
     {
+        if is_quiet(trace) {
+            return self.pass_by(known, traces, trace);
+        }
         let entries = self.entries(known, traces)?;
         let walked = self.walk(&entries, traces, work)?;
         let Walked {

@@ -12,6 +12,7 @@ mod lists;
 mod naming;
 mod open;
 mod plan;
+mod quiet;
 mod redo;
 mod second;
 

@@ -29,6 +29,20 @@ of-arrival-requires c =
     let trace = c.in_ok-trace.trace in
     step-state lines line traces trace caught next was c.requires.kept c.requires.finals c.in_ok-catch_up.ensures.gathered c.in_ok-trace.ensures.trace c.in_ok-trace.ensures.ok (gathered-value.it c.finals.result.now) c.puts.result.now c.finals.ensures c.in_ok-trace.ensures.state c.puts.ensures
 
+pub change-requires-clause-before : goal.change-requires-clause-before
+change-requires-clause-before c = c.of-arrival.ensures.before ∙ c.requires.finals ∙ ap finals_of (sym c.requires.kept)
+
+pub change-requires-clause-after : goal.change-requires-clause-after
+change-requires-clause-after c =
+    let lines = c.args.kept.lines.now in
+    let line = c.args.line.now in
+    let traces = c.args.kept.traces.now in
+    let caught = front.gathered-value.it c.catch_up.new.self.front in
+    let next = front.gathered-value.it c.step.new.self in
+    let was = gathered-value.it c.args.kept.finals.now in
+    let trace = c.in_ok-trace.trace in
+    c.of-arrival.ensures.after ∙ c.finals.ensures ∙ step-gathers lines line traces trace caught next was c.requires.kept c.requires.finals c.in_ok-catch_up.ensures.gathered c.in_ok-trace.ensures.trace c.in_ok-trace.ensures.ok
+
 pub change-requires-clause-known : goal.change-requires-clause-known
 change-requires-clause-known c =
     let traces = c.args.kept.traces.now in

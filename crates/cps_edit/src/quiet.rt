@@ -1,0 +1,53 @@
+//! Lines that change no final value.
+ghost use Rattle.std.specs.Prelude.{◌≡◌};
+ghost use Rattle.std.specs.List.{list_all};
+ghost use Rattle.cps_edit.specs.Append.{is_quiet as quiet, is_quiet_key as quiet_key};
+
+use crate::naming::{Naming, all_pass};
+use cps_state::{Key, Put, Trace};
+use cps_text::Name;
+
+/// All but literals.
+#[derive(Clone, Copy)]
+struct NoLiteral;
+
+impl Naming for NoLiteral {
+    ghost use Rattle.cps_edit.specs.Append.{is_no_literal};
+
+    ghost passes = { λ _. is_no_literal };
+
+    fn label(&self, _name: Name) -> bool {
+        true
+    }
+
+    fn block(&self, _name: Option<Name>) -> bool {
+        true
+    }
+
+    fn literal(&self, _word: u64) -> bool {
+        false
+    }
+}
+
+/// Whether a line puts no label and moves no counter, and its statements name no literal. Behind the last line it changes no final value.
+pub fn is_quiet(trace: &Trace) -> bool
+    ensures { result ≡ quiet trace.now }
+{
+    are_quiet(trace.puts()) && all_pass(trace.items(), &NoLiteral)
+}
+
+fn are_quiet(puts: &[Put]) -> bool
+    ensures { result ≡ list_all (λ p. quiet_key p.key) puts.now }
+{
+    puts.iter().all(|put| is_quiet_key(put.key))
+}
+
+fn is_quiet_key(key: Key) -> bool
+    ensures { result ≡ quiet_key key }
+{
+    match key {
+        Key::Label(_) => false,
+        Key::Counter(_) => false,
+        _ => true,
+    }
+}
