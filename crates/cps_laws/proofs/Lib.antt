@@ -3,3 +3,4 @@ mod StandLemmas
 mod PlacingStands
 mod StatementStands
 mod LineStands
+pub mod EditCounts

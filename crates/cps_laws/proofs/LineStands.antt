@@ -3,7 +3,7 @@ use Rattle.cps_effect.specs.Head.{in_body}
 use Rattle.cps_effect.specs.Located.{has_value, present_flags}
 use Rattle.cps_effect.specs.Making.{flagged, misplaced}
 use Rattle.cps_effect.specs.Numbers.{plain_number}
-use Rattle.cps_effect.specs.Placing.{placed, settling, word_start}
+use Rattle.cps_effect.specs.Placing.{settling, word_start}
 use Rattle.cps_effect.specs.ValueNow.{now_here}
 use Rattle.cps_effect.specs.declared.value_now.ValueNow.{ValueNow}
 use Rattle.cps_expr.specs.Expression.{Expression}
@@ -52,7 +52,6 @@ use Rattle.cps_state.specs.declared.key.Macro.{Macro}
 use Rattle.cps_state.specs.declared.key.MacroBody.{MacroBody}
 use Rattle.cps_state.specs.declared.key.Mode.TheVariants.{KeepDup, KeepMacro, Normal, SkipLines, SkipRange}
 use Rattle.cps_state.specs.declared.key.Mode.{Mode}
-use Rattle.cps_state.specs.declared.key.Phase.TheVariants as phase
 use Rattle.cps_state.specs.declared.key.Phase.TheVariants.{AfterEnd, Body, Head}
 use Rattle.cps_state.specs.declared.key.Phase.{Phase}
 use Rattle.cps_state.specs.declared.key.Range.TheVariants.{BeforeElse, BehindElse}

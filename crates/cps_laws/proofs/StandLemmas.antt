@@ -1,18 +1,17 @@
 -- Courses that stand only where they ask the counter of one block.
-use Rattle.std.proofs.Common.{◌≡◌, refl, sym, ap, ◌∙◌, subst, arith, ℕ, zero, ◌+◌, Bool, true, false, ◌||◌, ◌&&◌, List, [], ◌∷◌, ◌++◌, Option, Some, None, ◌==◌}
+use Rattle.std.proofs.Common.{◌≡◌, refl, sym, ap, ◌∙◌, subst, arith, ℕ, zero, Bool, true, false, ◌||◌, ◌&&◌, List, [], ◌∷◌, ◌++◌, Option, Some, None, ◌==◌}
 use Rattle.std.specs.Prelude.{if◌then◌else◌, is_some}
 use Rattle.std.specs.List.{list_any}
 use Rattle.std.proofs.lemmas.Bool.Decides.{nat_tests}
 use Rattle.std.specs.Cmp.Lexicographic.{pointwise}
 use Rattle.cps_text.specs.declared.name.Name.{Name}
-use Rattle.cps_expr.specs.Value.{same_name}
 use Rattle.cps_state.specs.declared.item.Stand.{Stand}
 use Rattle.cps_state.specs.declared.item.Stand.TheVariants.{Nowhere, In}
 use Rattle.cps_state.specs.declared.key.Key.{Key}
 use Rattle.cps_state.specs.declared.key.Key.TheVariants as key
 use Rattle.cps_state.specs.declared.key.Answer.{Answer}
-use Rattle.cps_state.specs.Course.{Course, stop, ask, put, stand, fill, mark, tell, settle, begin, Part, asking, Running, known_at, answer_at, with_ask, with_put_made, stood, filled, marked, with_read, settled_by}
-use Rattle.cps_state.specs.Keys.{State, same_key, same_block}
+use Rattle.cps_state.specs.Course.{Course, stop, ask, put, stand, fill, mark, tell, settle, begin, Part, Running, known_at, answer_at, with_ask, with_put_made, stood, filled, marked, with_read, settled_by}
+use Rattle.cps_state.specs.Keys.{State, same_key}
 use Rattle.cps_laws.specs.Listed.{reached}
 use Rattle.cps_laws.specs.Standing.{asked_by, stand_by}
 

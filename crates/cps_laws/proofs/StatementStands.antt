@@ -12,7 +12,7 @@ use Rattle.cps_effect.specs.Located.{defining, is_labelled, present_flags, symbo
 use Rattle.cps_effect.specs.Making.{flagged, unmatched, unread}
 use Rattle.cps_effect.specs.Numbers.{not_negative}
 use Rattle.cps_effect.specs.Places.{asking_place, going_on, here_at, place_left}
-use Rattle.cps_effect.specs.Placing.{placed, start_for, word_start}
+use Rattle.cps_effect.specs.Placing.{start_for, word_start}
 use Rattle.cps_effect.specs.Reserving.{reserving}
 use Rattle.cps_effect.specs.Statements.{obeyed_plainly, unreadable_plainly}
 use Rattle.cps_effect.specs.Symbols.{asking_settable, equate, equate_flags, equate_to, listing_value, set_symbol, set_to, setting, unread_equate, unread_set, with_known}
@@ -46,10 +46,9 @@ use Rattle.cps_state.specs.declared.key.Answer.{Answer}
 use Rattle.cps_state.specs.declared.key.Control.{Control}
 use Rattle.cps_state.specs.declared.key.Key.TheVariants as key
 use Rattle.cps_state.specs.declared.key.Mode.{Mode}
-use Rattle.cps_state.specs.declared.key.Phase.TheVariants as phase
 use Rattle.cps_state.specs.declared.made.Shown.TheVariants as shown
 use Rattle.cps_text.specs.declared.name.Name.{Name}
-use Rattle.std.proofs.Common.{Bool, List, None, Option, Some, [], false, not, refl, true, ℕ, ◌*◌, ◌+◌, ◌||◌}
+use Rattle.std.proofs.Common.{Bool, List, None, Option, Some, false, not, refl, true, ℕ, ◌*◌, ◌+◌, ◌||◌}
 use Rattle.std.specs.Prelude.{nat_lt, pos}
 
 -- ---- ORG, USE and END

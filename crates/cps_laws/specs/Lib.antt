@@ -2,3 +2,4 @@ pub mod CourseLaws
 pub mod Listed
 pub mod LineLaws
 pub mod Standing
+pub mod EditLaws

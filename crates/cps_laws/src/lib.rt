@@ -1,5 +1,6 @@
 //! What the definitions of an expansion say, in the words of whole lists: laws alone, and nothing that runs.
 #![tactic(auto)]
 
+pub mod edits;
 pub mod laws;
 pub mod lines;
