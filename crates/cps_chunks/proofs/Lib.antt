@@ -1,0 +1,6 @@
+mod KeyLemmas
+mod PutLemmas
+mod AskLemmas
+mod RunLemmas
+mod DivisionLemmas
+mod DeletionLemmas

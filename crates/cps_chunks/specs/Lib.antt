@@ -1,0 +1,3 @@
+pub mod Run
+pub mod LastPuts
+pub mod Division
