@@ -1,4 +1,4 @@
-//! The same of the lines that an edit disturbs.
+//! What the counts of the lines that an edit disturbs say of each line.
 ghost use Rattle.cps_laws.specs.EditLaws.{OnesAreCounted, TwosAreCounted};
 
 /// How many lines an edit disturbs in pass one is how many are disturbed, each told by the state in front of it.
@@ -6,7 +6,7 @@ pub fn disturbed_lines_are_counted()
     ensures { OnesAreCounted }
 {}
 
-/// And in pass two, by the state in front of it and the final values of both sources.
+/// So it is in pass two, by the state in front of each line and the final values of both sources.
 pub fn redone_lines_are_counted()
     ensures { TwosAreCounted }
 {}

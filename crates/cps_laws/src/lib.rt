@@ -1,4 +1,4 @@
-//! What the definitions of an expansion say, in the words of whole lists: laws alone, and nothing that runs.
+//! What the definitions of an expansion say, in the words of whole lists, and those of an edit, line by line: laws alone, and nothing that runs.
 #![tactic(auto)]
 
 pub mod edits;
