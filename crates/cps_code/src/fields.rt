@@ -2,7 +2,7 @@ ghost use Rattle.std.specs.Prelude.{◌≡◌, ◌<◌, Some, None, [], ◌∷�
 ghost use Rattle.cps_expr.specs.Reads.{Reads};
 ghost use Rattle.cps_text.specs.Operands.{operands_of};
 ghost use Rattle.cps_text.specs.OperandsLeft.{operands_left};
-ghost use Rattle.cps_code.specs.Rows.{registers_in, form_in, form_in_row, form_of_rows, operands_in};
+ghost use Rattle.cps_code.specs.Rows.{registers_in, form_in_row, form_of_rows, operands_in};
 ghost use Rattle.cps_code.specs.Operations.{texts, no_sum, registers_alone, constant_in, row_of_fields};
 ghost use Rattle.cps_code.specs.Terms.{AreDigits};
 ghost use Rattle.cps_code.specs.Operand.{IsOperand};
@@ -18,7 +18,6 @@ use cps_text::{Operands, operands};
 use std::alloc::Global;
 
 /// The form of the first row that fits the operands of a tail.
-#[tactic(auto, using(crate::proofs::FieldLemmas::without_sum))]
 pub fn form_of_fields(
     alloc: Global,
     rows: &[FieldForm],
@@ -28,19 +27,6 @@ pub fn form_of_fields(
 ) -> Result<CpForm, ExprFault>
     requires { AreDigits digits }
     ensures { Reads result (form_of_rows radix digits (map row_of_fields rows.now) (operands_in radix tail.now)) }
-{
-    first_form(alloc, rows, digits, tail, radix)
-}
-
-fn first_form(
-    alloc: Global,
-    rows: &[FieldForm],
-    digits: Digits,
-    tail: &[u8],
-    radix: Radix,
-) -> Result<CpForm, ExprFault>
-    requires { AreDigits digits }
-    ensures { Reads result (form_in radix digits (map row_of_fields rows.now) (no_sum (operands_of tail.now))) }
 {
     for row in rows {
         match form_of_row(alloc, *row, digits, tail, radix) {

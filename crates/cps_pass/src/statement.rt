@@ -82,7 +82,7 @@ fn step_after_end<L: Lookup>(recorder: &mut Recorder<'_, L>, fields: Fields<'_>)
     }
 }
 
-/// END on a source line is obeyed in every mode.
+/// A statement that is assembled, skipped or kept. END on a source line is obeyed in every mode.
 fn step_before_end<L: Lookup>(
     recorder: &mut Recorder<'_, L>,
     control: Control,
@@ -98,39 +98,6 @@ fn step_before_end<L: Lookup>(
         return Ok(None);
     }
     let mode = mode_in(mode, scope)?;
-    step_in_mode(recorder, control, mode, scope, written)
-}
-
-/// The location field of END on a source line.
-fn end_in(scope: &Scope, fields: Fields<'_>) -> Option<Location>
-    ensures { result ≡ meaning.end_in scope.now (fields_value fields.entry) }
-{
-    match (scope, fields) {
-        (Scope::Source, Fields::Statement(statement)) => end_location(statement),
-        _ => None,
-    }
-}
-
-fn end_location(statement: StatementFields<'_>) -> Option<Location>
-    ensures { result ≡ meaning.end_location (statement_value statement.entry) (operation_named statement.entry.operation.now) }
-{
-    match Operation::named(statement.operation) {
-        Some(Operation::End) => Some(read_location(statement.location)),
-        _ => None,
-    }
-}
-
-/// A statement that is assembled, skipped or kept.
-fn step_in_mode<L: Lookup>(
-    recorder: &mut Recorder<'_, L>,
-    control: Control,
-    mode: Mode,
-    scope: &mut Scope,
-    written: Written<'_>,
-) -> Result<Option<Opened>, AllocError>
-    requires { fields_value written.fields ≡ meaning.card_in written.text.now }
-    ensures { IfOk result (λ opened. HandsOn (meaning.in_mode control scope.old written.entry.text.now mode) scope.new (lines_of opened) L.answer recorder.old recorder.new) }
-{
     let Written { text, fields } = written;
     let passing = Passing {
         control,
@@ -152,6 +119,25 @@ fn step_in_mode<L: Lookup>(
             let seen = seen_in(fields);
             treat(recorder, passing, scope, kept_for_dup(*body, seen))
         }
+    }
+}
+
+/// The location field of END on a source line.
+fn end_in(scope: &Scope, fields: Fields<'_>) -> Option<Location>
+    ensures { result ≡ meaning.end_in scope.now (fields_value fields.entry) }
+{
+    match (scope, fields) {
+        (Scope::Source, Fields::Statement(statement)) => end_location(statement),
+        _ => None,
+    }
+}
+
+fn end_location(statement: StatementFields<'_>) -> Option<Location>
+    ensures { result ≡ meaning.end_location (statement_value statement.entry) (operation_named statement.entry.operation.now) }
+{
+    match Operation::named(statement.operation) {
+        Some(Operation::End) => Some(read_location(statement.location)),
+        _ => None,
     }
 }
 

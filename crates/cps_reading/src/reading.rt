@@ -5,7 +5,7 @@ ghost use Rattle.cps_expr.specs.Statement.{row_with};
 ghost use Rattle.cps_text.specs.Name.{name_of};
 ghost use Rattle.cps_reading.specs.declared.reading.Stating.TheVariants.{Unknown};
 ghost use Rattle.cps_reading.specs.Readings.{IsStating};
-ghost use Rattle.cps_reading.specs.Reading.{symbol_or_none, location_in, instruction_in, row_or_none, stating_in};
+ghost use Rattle.cps_reading.specs.Reading.{symbol_or_none, location_in, row_or_none, stating_in};
 
 use cps_code::{CpForm, FormFault, cp_form};
 use cps_expr::{Machine, Operation, Radix, Stmt, StmtFault};
@@ -88,9 +88,18 @@ pub fn read_stating(
     if is_text(operation, b"") {
         return Ok(Stating::Missing);
     }
-    match Operation::named(operation) {
-        None => read_instruction(alloc, operation, tail, machine, radix),
-        Some(named) => read_statement(alloc, named, operation, tail, machine, radix),
+    if let Some(named) = Operation::named(operation) {
+        return read_statement(alloc, named, operation, tail, machine, radix);
+    }
+    match machine {
+        Machine::Cp => match cp_form(alloc, operation, tail, radix) {
+            Ok(form) => Ok(Stating::Instruction(Some(form))),
+            Err(fault) => without_form(operation, fault, Stating::Instruction(None)),
+        },
+        Machine::Pp => match pp_form(alloc, operation, tail, radix) {
+            Ok(form) => Ok(Stating::Peripheral(Some(form))),
+            Err(fault) => without_form(operation, fault, Stating::Peripheral(None)),
+        },
     }
 }
 
@@ -111,28 +120,6 @@ fn read_statement(
         Err(StmtFault::NoOperation) => unreachable!(),
         Err(StmtFault::Unreadable) => Ok(Stating::Unreadable(named)),
         Err(StmtFault::Memory) => Err(AllocError),
-    }
-}
-
-fn read_instruction(
-    alloc: Global,
-    operation: &[u8],
-    tail: &[u8],
-    machine: Machine,
-    radix: Radix,
-) -> Result<Stating, AllocError>
-    ensures stating { IfOk result (λ stating. stating ≡ instruction_in machine radix operation.now tail.now) }
-    ensures bounded { IfOk result (IsStating machine) }
-{
-    match machine {
-        Machine::Cp => match cp_form(alloc, operation, tail, radix) {
-            Ok(form) => Ok(Stating::Instruction(Some(form))),
-            Err(fault) => without_form(operation, fault, Stating::Instruction(None)),
-        },
-        Machine::Pp => match pp_form(alloc, operation, tail, radix) {
-            Ok(form) => Ok(Stating::Peripheral(Some(form))),
-            Err(fault) => without_form(operation, fault, Stating::Peripheral(None)),
-        },
     }
 }
 

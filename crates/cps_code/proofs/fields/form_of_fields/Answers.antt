@@ -1,7 +1,10 @@
-use Rattle.std.proofs.Common.{rules}
+use Rattle.std.proofs.Common.{rules, sym}
 use Rattle.cps_text.specs.Operands.{operands_of}
-use Rattle.cps_code.proofs.FieldLemmas.{row_found, row_missed}
-use Rattle.cps_code.proofs.fields.first_form.Goals as goal
+use Rattle.cps_code.proofs.FieldLemmas.{without_sum, row_found, row_missed}
+use Rattle.cps_code.proofs.fields.form_of_fields.Goals as goal
+
+pub loop-row-init : goal.loop-row-init
+loop-row-init c = sym (without_sum c.args.radix c.args.digits c.args.rows.now c.args.tail.now)
 
 pub returns-in-Err-Memory : goal.returns-in-Err-Memory
 returns-in-Err-Memory c =
