@@ -8,7 +8,7 @@ use crate::located::present_flags;
 use crate::making::flag;
 use cps_expr::{Machine, Radix};
 use cps_reading::Location;
-use cps_state::{Answer, Control, Flags, Head, Key, Lookup, Made, Mode, Phase, Recorder};
+use cps_state::{Answer, Control, Flags, Head, Key, Lookup, Made, Phase, Recorder, SharedMode};
 use cps_text::Name;
 use std::alloc::AllocError;
 
@@ -19,7 +19,7 @@ pub fn put_control<L: Lookup>(
 ) -> Result<(), AllocError>
     ensures { OnOk result (recorder.new ≡ line_put recorder.old (head.control_put control)) }
 {
-    recorder.put(Key::Control, Answer::Control(control, Mode::Normal))
+    recorder.put(Key::Control, Answer::Control(control, SharedMode::normal()))
 }
 
 /// The program is in another part; all else stays.

@@ -5,7 +5,9 @@ ghost use Rattle.cps_pass.specs.Own.{new_expansion};
 ghost use Rattle.cps_pass.specs.Scope as meaning;
 ghost use Rattle.cps_pass.specs.Taking.{TakesBody};
 
-use cps_state::{Answer, Control, Key, Lookup, Mode, Range, Recorder, Shared, ranges_of, text_of};
+use cps_state::{
+    Answer, Control, Key, Lookup, Mode, Range, Recorder, Shared, SharedMode, ranges_of, text_of,
+};
 use std::alloc::{AllocError, Global};
 use std::marker::Model;
 use std::mem;
@@ -75,7 +77,10 @@ pub fn go_by<L: Lookup>(
     ensures { OnOk result (Hands (meaning.going_by control scope.old mode) scope.new L.answer recorder.old recorder.new) }
 {
     match scope {
-        Scope::Source => recorder.put(Key::Control, Answer::Control(control, mode)),
+        Scope::Source => {
+            let mode = SharedMode::new(recorder.alloc(), mode)?;
+            recorder.put(Key::Control, Answer::Control(control, mode))
+        }
         Scope::Expansion(own) => {
             own.mode = mode;
             Ok(())
@@ -165,7 +170,7 @@ pub fn take_body<L: Lookup>(
     match scope {
         Scope::Source => {
             let lines = ask_lines(recorder, count)?;
-            recorder.put(Key::Control, Answer::Control(control, Mode::Normal))?;
+            recorder.put(Key::Control, Answer::Control(control, SharedMode::normal()))?;
             Ok(lines)
         }
         Scope::Expansion(own) => {

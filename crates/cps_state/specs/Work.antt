@@ -1,5 +1,5 @@
 -- The steps that were made. Our own.
-use Rattle.std.specs.Prelude.{◌≡◌, ℕ, ◌+◌, ◌-◌, ◌^◌, ◌≤◌, min, max}
+use Rattle.std.specs.Prelude.{ℕ, ◌+◌, ◌-◌, ◌^◌, min, max}
 use Rattle.cps_state.specs.declared.work.Tally.{Tally}
 use Rattle.cps_state.specs.declared.work.Tally.TheVariants.{Ones, Twos, Looked}
 

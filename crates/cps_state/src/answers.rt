@@ -51,7 +51,7 @@ pub fn mode_of(answer: Option<&Answer>) -> Result<Mode, AllocError>
     ensures { IfOk result (λ mode. mode ≡ mode_of (option_copied answer.entry)) }
 {
     match answer {
-        Some(Answer::Control(_, mode)) => mode.share(),
+        Some(Answer::Control(_, mode)) => mode.to_mode(),
         _ => Ok(Mode::Normal),
     }
 }
@@ -176,7 +176,7 @@ fn is_assembled(answer: Option<&Answer>) -> bool
     ensures { result ≡ is_normal (mode_of (option_copied answer.entry)) }
 {
     match answer {
-        Some(Answer::Control(_, mode)) => is_normal(mode),
+        Some(Answer::Control(_, mode)) => mode.is_normal(),
         _ => true,
     }
 }

@@ -3,6 +3,7 @@ ghost use Rattle.std.specs.Prelude.{◌≡◌, IfOk, OnOk, reverse};
 ghost use Rattle.cps_state.specs.Keys.{same_block, same_key};
 
 use crate::shared::Shared;
+use crate::shared_mode::SharedMode;
 use cps_code::Place;
 use cps_expr::{Machine, Radix, Value, is_same_name};
 use cps_text::Name;
@@ -175,7 +176,7 @@ pub struct Control {
 /// What stands at a key.
 #[derive(Debug, PartialEq, Eq, Drop)]
 pub enum Answer {
-    Control(Control, Mode),
+    Control(Control, SharedMode),
     Counter(Place),
     Value(Value),
     /// The last block in front; None is the nominal block.

@@ -6,9 +6,10 @@ ghost use Rattle.cps_state.specs.Keys.{first_state, with_put, overwritten};
 ghost use Rattle.cps_state.specs.declared.key.Key.{Key};
 
 use crate::answers::{first_control, first_place, value_of};
-use crate::key::{Answer, Key, Mode, Put, share_puts};
+use crate::key::{Answer, Key, Put, share_puts};
 use crate::lookup::Lookup;
 use crate::shared::Shared;
+use crate::shared_mode::SharedMode;
 use crate::trace::Trace;
 use cps_expr::{Names, Value};
 use cps_text::Name;
@@ -66,7 +67,7 @@ impl State {
     {
         State {
             alloc,
-            control: Answer::Control(first_control(), Mode::Normal),
+            control: Answer::Control(first_control(), SharedMode::normal()),
             nominal: Answer::Counter(first_place()),
             uses: Answer::Uses(Shared::empty()),
             blocks: Answer::Count(0),
