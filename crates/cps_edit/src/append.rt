@@ -17,7 +17,7 @@ use cps_final::{Finals, Gathered, Outcome, step_two};
 use cps_pass::{Trace, Work};
 use cps_text::Line;
 use std::alloc::{AllocError, Global};
-use std::mem::swap;
+use std::mem::{replace, swap};
 
 /// What an appended line does in pass one, what pass two makes of it, and what it makes now of kept lines that it changed.
 #[derive(Drop)]
@@ -78,40 +78,19 @@ impl Follower {
         ensures ones_err { OnErr result (work.new.ones ≤ counted_on work.old.ones (ones_of kept.entry.lines.now (insertion (length kept.entry.lines.now) line.now))) }
         ensures twos_err { OnErr result (work.new.twos ≤ counted_on work.old.twos (twos_of kept.entry.lines.now (insertion (length kept.entry.lines.now) line.now))) }
     {
-        match self.try_append(kept, line, work) {
-            Ok(append) => Ok(append),
-            Err(refused) => {
-                *self = Follower::new(kept.alloc);
-                Err(refused)
-            }
-        }
-    }
-
-    fn try_append(&mut self, kept: Kept, line: &Line, work: &mut Work) -> Result<Append, AllocError>
-        requires kept { kept.traces.now ≡ traces_of kept.lines.now }
-        requires finals { ⟦<Finals as Gathered>⟧.gathered kept.finals.now ≡ finals_of (traces_of kept.lines.now) }
-        requires follows { Follows self.old kept.traces.now }
-        ensures traces { IfOk result (λ append. kept.entry.traces.now ++ append.trace ∷ [] ≡ traces_of (kept.entry.lines.now ++ line.now ∷ [])) }
-        ensures outcomes { IfOk result (λ append. (olds : List Made) → olds ≡ outcomes_by (finals_in kept.entry.lines.now) kept.entry.traces.now
-            → changed append.changes.items olds ++ append.outcome ∷ [] ≡ outcomes_by (finals_in (kept.entry.lines.now ++ line.now ∷ [])) (traces_of (kept.entry.lines.now ++ line.now ∷ []))) }
-        ensures within { IfOk result (λ append. AreWithin (length kept.entry.traces.now) append.changes.items) }
-        ensures ahead { IfOk result (λ append. IsAhead self.new kept.entry.traces.now append.trace) }
-        ensures ones { OnOk result (work.new.ones ≡ counted_on work.old.ones (ones_of kept.entry.lines.now (insertion (length kept.entry.lines.now) line.now))) }
-        ensures twos { OnOk result (work.new.twos ≡ counted_on work.old.twos (twos_of kept.entry.lines.now (insertion (length kept.entry.lines.now) line.now))) }
-        ensures ones_err { OnErr result (work.new.ones ≤ counted_on work.old.ones (ones_of kept.entry.lines.now (insertion (length kept.entry.lines.now) line.now))) }
-        ensures twos_err { OnErr result (work.new.twos ≤ counted_on work.old.twos (twos_of kept.entry.lines.now (insertion (length kept.entry.lines.now) line.now))) }
-    {
-        self.catch_up(kept.traces)?;
-        let trace = self.front.step(line, work)?;
-        let arrival = Arrival::of(kept, trace.puts(), self.front.finals());
+        let mut follower = replace(self, Follower::new(kept.alloc));
+        follower.catch_up(kept.traces)?;
+        let trace = follower.front.step(line, work)?;
+        let arrival = Arrival::of(kept, trace.puts(), follower.front.finals());
         let Changed { changes, open } = arrival.change(
-            self.open.take(),
+            follower.open.take(),
             kept.traces,
             &trace,
             work,
         )?;
-        let outcome = step_two(kept.alloc, work, &trace, self.front.finals())?;
-        self.open = open;
+        let outcome = step_two(kept.alloc, work, &trace, follower.front.finals())?;
+        follower.open = open;
+        *self = follower;
         Ok(Append {
             trace,
             outcome,

@@ -1,10 +1,22 @@
-//! What was made beside takes the place of what was kept. Nothing here takes memory.
-ghost use Rattle.std.specs.Prelude.{◌≡◌, ◌+◌, ◌≤◌, ◌++◌, length, take, drop, vec_len, vec_capacity};
+//! What was made beside takes the place of what was kept, without memory; and room for one item more.
+ghost use Rattle.std.specs.Prelude.{◌≡◌, ◌+◌, ◌<◌, ◌≤◌, ◌++◌, OnOk, length, take, drop, vec_len, vec_capacity};
 ghost use Rattle.cps_edit.specs.Renewed.{mended};
 ghost use Rattle.cps_edit.specs.Append.{changed, AreWithin};
 
 use crate::arrival::Change;
 use cps_final::Outcome;
+use std::alloc::AllocError;
+
+/// Room for one item more. A list that is full grows by an eighth.
+pub fn make_room_for_one<T: Drop>(items: &mut Vec<T>) -> Result<(), AllocError>
+    ensures items { items.new.items ≡ items.old.items }
+    ensures room { OnOk result (vec_len items.new < vec_capacity items.new) }
+{
+    if items.len() < items.capacity() {
+        return Ok(());
+    }
+    items.reserve_exact(items.len() / 8 + 4)
+}
 
 /// Puts each new item in the place of the old one, from a place on.
 pub fn take_over<T: Drop>(items: &mut Vec<T>, from: usize, news: Vec<Option<T>>)

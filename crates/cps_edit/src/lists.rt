@@ -5,7 +5,7 @@ ghost use Rattle.cps_edit.specs.Renewed.{merged};
 ghost use Rattle.cps_edit.specs.Append.{changed, AreWithin};
 
 use crate::append::Append;
-use crate::commit::{change_all, put_at, take_over};
+use crate::commit::{change_all, make_room_for_one, put_at, take_over};
 use crate::edit::Edit;
 use crate::front::Front;
 use crate::second::Second;
@@ -92,9 +92,9 @@ impl Lists {
         ensures room_trace { OnOk result (vec_len self.new.traces < vec_capacity self.new.traces) }
         ensures room_outcome { OnOk result (vec_len self.new.outcomes < vec_capacity self.new.outcomes) }
     {
-        self.lines.reserve(1)?;
-        self.traces.reserve(1)?;
-        self.outcomes.reserve(1)
+        make_room_for_one(&mut self.lines)?;
+        make_room_for_one(&mut self.traces)?;
+        make_room_for_one(&mut self.outcomes)
     }
 
     /// Puts a line behind the last, with what it makes and what it changed. There is room for it.

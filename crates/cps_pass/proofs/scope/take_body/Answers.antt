@@ -17,4 +17,4 @@ returns-in_ok-put-in-Source g c =
     let takes : Scope → Type 0 = λ scope. TakesBody (taking_body c.args.control scope c.args.count) lines scope state c.args.recorder.now c.put.new.self in
     subst takes (sym c.in-Source.is) (λ next rest.
     c.in_ok-lines-in-Source.ensures (λ taken. putting key.Control (answer.Control c.args.control Normal) before next taken Source) rest
-    ∙ ap (λ r. runs (next lines Source rest) state r) (sym c.in_ok-put-in-Source.ensures))
+    ∙ ap (λ r. runs (next lines Source rest) state r) (sym (rw c.normal.ensures at c.in_ok-put-in-Source.ensures)))

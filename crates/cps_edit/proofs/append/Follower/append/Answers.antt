@@ -1,4 +1,4 @@
-use Rattle.std.proofs.Common.{◌≡◌, ◌≤◌, ◌++◌, ◌∷◌, [], Option, Vec, Global, sym, ap, subst, ◌∙◌}
+use Rattle.std.proofs.Common.{◌≡◌, ◌≤◌, ◌++◌, ◌∷◌, [], List, Option, Vec, Global, sym, ap, subst, ◌∙◌}
 use Rattle.std.specs.Prelude.{IfSome}
 use Rattle.cps_state.specs.Work.{Counts, counted_on}
 use Rattle.cps_final.specs.Finals.{Finals, finals_of, final_value}
@@ -6,12 +6,37 @@ use Rattle.cps_final.specs.contracts.finals.FinalsGathered.TheImpl.{gathered-val
 use Rattle.cps_final.specs.Outcome.{outcome_of}
 use Rattle.cps_edit.specs.declared.open.Open.{Open}
 use Rattle.cps_edit.specs.Renewed.{redone_kept}
-use Rattle.cps_edit.specs.Append.{is_settled, Covers, finals_before, finals_after}
+use Rattle.cps_state.specs.Course.{Trace}
+use Rattle.cps_edit.specs.declared.append.Follower.{Follower}
+use Rattle.cps_edit.specs.Append.{Follows, is_settled, Covers, finals_before, finals_after}
 use Rattle.cps_edit.specs.contracts.front.FrontGathered.TheImpl as front
 use Rattle.cps_edit.proofs.AppendLemmas.{ones-appended, step-whole, step-gathers, step-finals, step-twos, step-state, twos-first, twos-last, appended-outcomes}
 use Rattle.cps_edit.proofs.ReplayLemmas.{on-err, le-same}
 use Rattle.cps_edit.proofs.WholeLemmas.{more_up, more_under}
-use Rattle.cps_edit.proofs.append.Follower.try_append.Goals as goal
+use Rattle.cps_edit.proofs.append.Follower.append.Goals as goal
+
+-- what follows is taken out, and what it followed it follows still
+taken : (follower old : Follower) (traces : List Trace) → follower ≡ old → Follows old traces → Follows follower traces
+taken follower old traces same follows = subst (λ (f : Follower). Follows f traces) (sym same) follows
+
+-- what is left in its place follows any lines
+left : (follower fresh : Follower) → follower ≡ fresh → ((traces : List Trace) → Follows fresh traces) → (traces : List Trace) → Follows follower traces
+left follower fresh same follows traces = taken follower fresh traces same (follows traces)
+
+pub catch_up-requires : goal.catch_up-requires
+catch_up-requires c = taken c.replace-follower.result c.args.self.now c.args.kept.traces.now c.replace-follower.ensures.value c.requires.follows
+
+pub returns-in_err-catch_up-clause-err : goal.returns-in_err-catch_up-clause-err
+returns-in_err-catch_up-clause-err c = on-err _ (left c.replace-follower.new.dest c.new.result c.replace-follower.ensures.after c.new.ensures)
+
+pub returns-in_err-trace-clause-err : goal.returns-in_err-trace-clause-err
+returns-in_err-trace-clause-err c = on-err _ (left c.replace-follower.new.dest c.new.result c.replace-follower.ensures.after c.new.ensures)
+
+pub returns-in_err-changes-clause-err : goal.returns-in_err-changes-clause-err
+returns-in_err-changes-clause-err c = on-err _ (left c.replace-follower.new.dest c.new.result c.replace-follower.ensures.after c.new.ensures)
+
+pub returns-in_err-outcome-clause-err : goal.returns-in_err-outcome-clause-err
+returns-in_err-outcome-clause-err c = on-err _ (left c.replace-follower.new.dest c.new.result c.replace-follower.ensures.after c.new.ensures)
 
 pub returns-in_err-trace-clause-ones_err : goal.returns-in_err-trace-clause-ones_err
 returns-in_err-trace-clause-ones_err c =
@@ -49,7 +74,7 @@ change-requires-clause-known c =
     let before = finals_before c.of-arrival.result in
     let same : finals_of traces ≡ before = ap finals_of c.requires.kept ∙ sym c.requires.finals ∙ sym c.of-arrival.ensures.before in
     subst (λ (o : Option (Vec Open Global)). IfSome o (λ known. Covers (is_settled before.state) 0 known.items traces)) (sym (c.take.ensures.value ∙ c.in_ok-catch_up.ensures.opened))
-    (subst (λ (f : Finals). IfSome c.args.self.now.«open» (λ known. Covers (is_settled f.state) 0 known.items traces)) same c.requires.follows.opened)
+    (subst (λ (f : Finals). IfSome c.replace-follower.result.«open» (λ known. Covers (is_settled f.state) 0 known.items traces)) same (taken c.replace-follower.result c.args.self.now traces c.replace-follower.ensures.value c.requires.follows).opened)
 
 pub returns-in_err-changes-clause-ones_err : goal.returns-in_err-changes-clause-ones_err
 returns-in_err-changes-clause-ones_err c =
