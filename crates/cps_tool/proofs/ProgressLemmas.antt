@@ -136,13 +136,6 @@ takes-quit line fresh old new before after answer = λ start taken text so_far.
           ),
     )
 
-pub takes-answered : (flow : Flow) (line fresh : BegunLine) (old new : Standing) (before after : Option (List ℕ)) → IsBegun fresh []
-    → ((begun : List ℕ) → IsBegun line begun → MatchFlow flow
-    (IsReplied (without_return begun) old new before after) (IsLast (without_return begun) old new before after))
-    → Takes (Ok flow) line fresh old new before after (newline ∷ [])
-takes-answered GoesOn line fresh old new before after empty answer = takes-line line fresh old new before after empty answer
-takes-answered Ends line fresh old new before after empty answer = takes-quit line fresh old new before after answer
-
 pub takes-fault : (fault : RunFault) (line fresh : BegunLine) (old new : Standing) (before after : Option (List ℕ))
     → ((begun : List ℕ) → IsBegun line begun → IsPartlyReplied (without_return begun) old new before after)
     → Takes (Err fault) line fresh old new before after (newline ∷ [])

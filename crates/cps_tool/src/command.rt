@@ -54,13 +54,7 @@ impl<'a> Command<'a> {
         if line.len() > LONGEST_COMMAND {
             return Err(ScriptFault::BadCommand);
         }
-        if let Some(command) = read_insert(line) {
-            return Ok(command);
-        }
-        if let Some(command) = read_replace(line) {
-            return Ok(command);
-        }
-        if let Some(command) = read_delete(line) {
+        if let Some(command) = read_edit(line) {
             return Ok(command);
         }
         if let Some(command) = read_query(line) {
@@ -110,49 +104,24 @@ fn read_query(line: &[u8]) -> Option<Command<'_>>
     }
 }
 
-/// The command to insert a text after a line, None where the line spells another or none.
-fn read_insert(line: &[u8]) -> Option<Command<'_>>
+/// The command to insert a text after a line, to put one in place of a line, or to delete lines, None where the line spells another or none.
+fn read_edit(line: &[u8]) -> Option<Command<'_>>
     requires { length line.now ≤ LONGEST_COMMAND }
-    ensures order { MatchOption result
-        ((after : ℕ) (text : List ℕ) → Spells line.now (insert after text) → ⊥)
-        (λ command. Spells line.now (order_of command)) }
+    ensures order { IfSome result (λ command. Spells line.now (order_of command)) }
     ensures quit { IfSome result (λ command. is_quit line.now ≡ is_quit_order (order_of command)) }
+    ensures no_insert { IfNone result ((after : ℕ) (text : List ℕ) → Spells line.now (insert after text) → ⊥) }
+    ensures no_replace { IfNone result ((at : ℕ) (text : List ℕ) → Spells line.now (replace at text) → ⊥) }
+    ensures no_delete { IfNone result ((first last : ℕ) → Spells line.now (delete first last) → ⊥) }
 {
     match line {
         [b'i', b' ', bytes @ ..] => {
             let (after, text) = read_numbered(bytes)?;
             Some(Command::Insert(after, text))
         }
-        _ => None,
-    }
-}
-
-/// The command to put a text in place of a line, None where the line spells another or none.
-fn read_replace(line: &[u8]) -> Option<Command<'_>>
-    requires { length line.now ≤ LONGEST_COMMAND }
-    ensures order { MatchOption result
-        ((at : ℕ) (text : List ℕ) → Spells line.now (replace at text) → ⊥)
-        (λ command. Spells line.now (order_of command)) }
-    ensures quit { IfSome result (λ command. is_quit line.now ≡ is_quit_order (order_of command)) }
-{
-    match line {
         [b'r', b' ', bytes @ ..] => {
             let (at, text) = read_numbered(bytes)?;
             Some(Command::Replace(at, text))
         }
-        _ => None,
-    }
-}
-
-/// The command to delete lines, None where the line spells another or none.
-fn read_delete(line: &[u8]) -> Option<Command<'_>>
-    requires { length line.now ≤ LONGEST_COMMAND }
-    ensures order { MatchOption result
-        ((first last : ℕ) → Spells line.now (delete first last) → ⊥)
-        (λ command. Spells line.now (order_of command)) }
-    ensures quit { IfSome result (λ command. is_quit line.now ≡ is_quit_order (order_of command)) }
-{
-    match line {
         [b'd', b' ', bytes @ ..] => {
             let (first, last) = read_range(bytes)?;
             Some(Command::Delete(first, last))

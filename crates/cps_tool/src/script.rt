@@ -134,37 +134,17 @@ fn take_bytes<W: Write>(
     ensures failures { OnOk result (failures_of writer.new ≡ failures_of writer.old) }
 {
     for byte in bytes {
-        match take_byte(alloc, *byte, line, writer, session, work) {
-            Ok(Flow::GoesOn) => {}
+        if *byte != b'\n' {
+            line.push(*byte);
+            continue;
+        }
+        match answer_line(alloc, line, writer, session, work) {
+            Ok(Flow::GoesOn) => *line = BegunLine::new(),
             Ok(Flow::Ends) => return Ok(Flow::Ends),
             Err(fault) => return Err(fault),
         }
     }
     Ok(Flow::GoesOn)
-}
-
-/// Takes a byte of a script, and answers the line that ends in it.
-fn take_byte<W: Write>(
-    alloc: Global,
-    byte: u8,
-    line: &mut BegunLine,
-    writer: &mut Counted<W>,
-    session: &mut Session,
-    work: &mut Work,
-) -> Result<Flow, RunFault>
-    ensures takes { Takes result line.old line.new (at session.old.lines work.old) (at session.new.lines work.new)
-        (W.contents (inner_of writer.old)) (W.contents (inner_of writer.new)) (byte ∷ []) }
-    ensures fault { IsErrOf result RunFault.ReadFault → ⊥ }
-    ensures failed { OnErr result (FailsOnce writer.old writer.new) }
-    ensures failures { OnOk result (failures_of writer.new ≡ failures_of writer.old) }
-{
-    if byte != b'\n' {
-        line.push(byte);
-        return Ok(Flow::GoesOn);
-    }
-    let flow = answer_line(alloc, line, writer, session, work)?;
-    *line = BegunLine::new();
-    Ok(flow)
 }
 
 /// The reply to a command line that has come, None to the one that ends the script.

@@ -9,17 +9,11 @@ returns-in-Some-clause-only c = only_order c.args.line.now (order_of c.in-Some.c
 pub returns-in-Some-read_plain-clause-only : goal.returns-in-Some-read_plain-clause-only
 returns-in-Some-read_plain-clause-only c = only_order c.args.line.now (order_of c.in-Some-read_plain.command) c.in-Some-read_plain.ensures.order
 
-pub returns-in-Some-read_replace-clause-only : goal.returns-in-Some-read_replace-clause-only
-returns-in-Some-read_replace-clause-only c = only_order c.args.line.now (order_of c.in-Some-read_replace.command) c.in-Some-read_replace.ensures.order
-
-pub returns-in-Some-read_delete-clause-only : goal.returns-in-Some-read_delete-clause-only
-returns-in-Some-read_delete-clause-only c = only_order c.args.line.now (order_of c.in-Some-read_delete.command) c.in-Some-read_delete.ensures.order
-
 pub returns-in-Some-read_query-clause-only : goal.returns-in-Some-read_query-clause-only
 returns-in-Some-read_query-clause-only c = only_order c.args.line.now (order_of c.in-Some-read_query.command) c.in-Some-read_query.ensures.order
 
 pub returns-in-None-clause-order : goal.returns-in-None-clause-order
 returns-in-None-clause-order c = no_order c.args.line.now c.in-None.ensures.no_append
-    c.in_default.ensures.order c.in_default-read_replace.ensures.order c.in_default-read_delete.ensures.order
+    c.in_default.ensures.no_insert c.in_default.ensures.no_replace c.in_default.ensures.no_delete
     c.in_default-read_query.ensures.no_list c.in_default-read_query.ensures.no_binary c.in_default-read_query.ensures.no_symbols c.in_default-read_query.ensures.no_flags c.in_default-read_query.ensures.no_work
     c.in-None.ensures.no_quit
