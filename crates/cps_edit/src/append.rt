@@ -76,7 +76,9 @@ impl Follower {
         ensures ones { OnOk result (work.new.ones ≡ counted_on work.old.ones (ones_of kept.entry.lines.now (insertion (length kept.entry.lines.now) line.now))) }
         ensures twos { OnOk result (work.new.twos ≡ counted_on work.old.twos (twos_of kept.entry.lines.now (insertion (length kept.entry.lines.now) line.now))) }
         ensures ones_err { OnErr result (work.new.ones ≤ counted_on work.old.ones (ones_of kept.entry.lines.now (insertion (length kept.entry.lines.now) line.now))) }
+        ensures ones_least { work.old.ones ≤ work.new.ones }
         ensures twos_err { OnErr result (work.new.twos ≤ counted_on work.old.twos (twos_of kept.entry.lines.now (insertion (length kept.entry.lines.now) line.now))) }
+        ensures twos_least { work.old.twos ≤ work.new.twos }
     {
         let mut follower = replace(self, Follower::new(kept.alloc));
         follower.catch_up(kept.traces)?;

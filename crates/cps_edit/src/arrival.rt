@@ -150,6 +150,7 @@ impl<'a> Arrival<'a> {
         ensures stands { IfOk result (λ looked. Stands (stays_after self.entry) «open».at looked.entry trace.now) }
         ensures twos { OnOk result (work.new.twos ≡ counted_on work.old.twos (if is_redone (resolved self.entry.ends.before.now) (resolved self.entry.ends.after.now) false trace.now then 1 else 0)) }
         ensures twos_err { OnErr result (work.new.twos ≤ counted_on work.old.twos (if is_redone (resolved self.entry.ends.before.now) (resolved self.entry.ends.after.now) false trace.now then 1 else 0)) }
+        ensures twos_least { work.old.twos ≤ work.new.twos }
         ensures ones { work.new.ones ≡ work.old.ones }
     {
         if self.leaves(open.awaits) {
@@ -178,6 +179,7 @@ impl<'a> Arrival<'a> {
         ensures opened { IfOk result (λ walked. (rest : List Entry) (tail : List Course) → Covers (stays_after self.entry) (length traces.now) rest tail → Covers (stays_after self.entry) 0 (walked.entries.items ++ rest) (traces.now ++ tail)) }
         ensures twos { OnOk result (work.new.twos ≡ counted_on work.old.twos (redone_kept (resolved self.entry.ends.before.now) (resolved self.entry.ends.after.now) traces.now)) }
         ensures twos_err { OnErr result (work.new.twos ≤ counted_on work.old.twos (redone_kept (resolved self.entry.ends.before.now) (resolved self.entry.ends.after.now) traces.now)) }
+        ensures twos_least { work.old.twos ≤ work.new.twos }
         ensures ones { work.new.ones ≡ work.old.ones }
     {
         let mut walked = Walked::new(self.alloc, entries.len())?;
@@ -252,6 +254,7 @@ impl<'a> Arrival<'a> {
         ensures opened { IfOk result (λ made. IfSome made.«open» (λ known. Covers (settled (finals_after self.entry).state) 0 known.items (traces.now ++ trace.now ∷ []))) }
         ensures twos { OnOk result (work.new.twos ≡ counted_on work.old.twos (redone_kept (resolved self.entry.ends.before.now) (resolved self.entry.ends.after.now) traces.now)) }
         ensures twos_err { OnErr result (work.new.twos ≤ counted_on work.old.twos (redone_kept (resolved self.entry.ends.before.now) (resolved self.entry.ends.after.now) traces.now)) }
+        ensures twos_least { work.old.twos ≤ work.new.twos }
         ensures ones { work.new.ones ≡ work.old.ones }
     {
         if is_quiet(trace) {

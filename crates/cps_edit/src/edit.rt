@@ -69,7 +69,9 @@ impl<'a> Kept<'a> {
         ensures ones { OnOk result (work.new.ones ≡ counted_on work.old.ones (ones_of self.entry.lines.now (splice_at keep from new.now))) }
         ensures twos { OnOk result (work.new.twos ≡ counted_on work.old.twos (twos_of self.entry.lines.now (splice_at keep from new.now))) }
         ensures ones_err { OnErr result (work.new.ones ≤ counted_on work.old.ones (ones_of self.entry.lines.now (splice_at keep from new.now))) }
+        ensures ones_least { work.old.ones ≤ work.new.ones }
         ensures twos_err { OnErr result (work.new.twos ≤ counted_on work.old.twos (twos_of self.entry.lines.now (splice_at keep from new.now))) }
+        ensures twos_least { work.old.twos ≤ work.new.twos }
     {
         let plan = self.plan(keep, from, new, work)?;
         let second = self.second(keep, from, &plan, work)?;

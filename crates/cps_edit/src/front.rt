@@ -107,6 +107,7 @@ impl Front {
         ensures state { OnOk result ((⟦<Front as Gathered>⟧.gathered self.new).state ≡ state_after (⟦<Front as Gathered>⟧.gathered self.old).state lines.now) }
         ensures ones { OnOk result (work.new.ones ≡ counted_on work.old.ones (length lines.now)) }
         ensures ones_err { OnErr result (work.new.ones ≤ counted_on work.old.ones (length lines.now)) }
+        ensures ones_least { work.old.ones ≤ work.new.ones }
         ensures twos { work.new.twos ≡ work.old.twos }
     {
         let mut traces = Vec::with_capacity(self.alloc, lines.len())?;
@@ -131,6 +132,7 @@ impl Front {
         ensures state { OnOk result ((⟦<Front as Gathered>⟧.gathered self.new).state ≡ after (⟦<Front as Gathered>⟧.gathered self.old).state line.now) }
         ensures ones { OnOk result (work.new.ones ≡ counted_on work.old.ones (if is_disturbed (Some old.now) (⟦<Front as Gathered>⟧.gathered self.old).state then 1 else 0)) }
         ensures ones_err { OnErr result (work.new.ones ≤ counted_on work.old.ones (if is_disturbed (Some old.now) (⟦<Front as Gathered>⟧.gathered self.old).state then 1 else 0)) }
+        ensures ones_least { work.old.ones ≤ work.new.ones }
         ensures twos { work.new.twos ≡ work.old.twos }
     {
         if still_holds(old, self.gather.state(), work) {
@@ -156,6 +158,7 @@ impl Front {
         ensures ok { OnOk result (GathersMore (⟦<Front as Gathered>⟧.gathered self.old) (⟦<Front as Gathered>⟧.gathered self.new) (traces_from (⟦<Front as Gathered>⟧.gathered self.old).state lines.now)) }
         ensures ones { OnOk result (work.new.ones ≡ counted_on work.old.ones (disturbed_from (⟦<Front as Gathered>⟧.gathered self.old).state (kept lines.now olds.now))) }
         ensures ones_err { OnErr result (work.new.ones ≤ counted_on work.old.ones (disturbed_from (⟦<Front as Gathered>⟧.gathered self.old).state (kept lines.now olds.now))) }
+        ensures ones_least { work.old.ones ≤ work.new.ones }
         ensures twos { work.new.twos ≡ work.old.twos }
     {
         let mut news = Vec::with_capacity(self.alloc, lines.len())?;

@@ -76,6 +76,7 @@ impl<'a> Kept<'a> {
             ≡ flags_from (state_after (state_after first_state (take keep self.entry.lines.now)) new.now) (drop from self.entry.lines.now) (drop from self.entry.traces.now)) }
         ensures ones { OnOk result (work.new.ones ≡ counted_on work.old.ones (ones_of self.entry.lines.now (splice_at keep from new.now))) }
         ensures ones_err { OnErr result (work.new.ones ≤ counted_on work.old.ones (ones_of self.entry.lines.now (splice_at keep from new.now))) }
+        ensures ones_least { work.old.ones ≤ work.new.ones }
         ensures twos { work.new.twos ≡ work.old.twos }
     {
         let mut front = Front::new(self.alloc);

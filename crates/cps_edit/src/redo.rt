@@ -23,6 +23,7 @@ pub fn redone(
     ensures outcome { IfOk result (λ made. picked made (outcome_of (resolved ends.entry.before.now) old.now) ≡ outcome_of (resolved ends.entry.after.now) (picked new.now old.now)) }
     ensures twos { OnOk result (work.new.twos ≡ counted_on work.old.twos (if is_redone (resolved ends.entry.before.now) (resolved ends.entry.after.now) (is_some new.now) old.now then 1 else 0)) }
     ensures twos_err { OnErr result (work.new.twos ≤ counted_on work.old.twos (if is_redone (resolved ends.entry.before.now) (resolved ends.entry.after.now) (is_some new.now) old.now then 1 else 0)) }
+    ensures twos_least { work.old.twos ≤ work.new.twos }
     ensures ones { work.new.ones ≡ work.old.ones }
 {
     match new {
@@ -49,6 +50,7 @@ pub fn redo(
     ensures len { IfOk result (λ made. length made.items ≡ length olds.now) }
     ensures twos { OnOk result (work.new.twos ≡ counted_on work.old.twos (redone_from (resolved ends.entry.before.now) (resolved ends.entry.after.now) (map is_some news.now) olds.now)) }
     ensures twos_err { OnErr result (work.new.twos ≤ counted_on work.old.twos (redone_from (resolved ends.entry.before.now) (resolved ends.entry.after.now) (map is_some news.now) olds.now)) }
+    ensures twos_least { work.old.twos ≤ work.new.twos }
     ensures ones { work.new.ones ≡ work.old.ones }
 {
     let mut all = Vec::with_capacity(alloc, olds.len())?;
@@ -70,6 +72,7 @@ pub fn redo_kept(
     ensures len { IfOk result (λ made. length made.items ≡ length olds.now) }
     ensures twos { OnOk result (work.new.twos ≡ counted_on work.old.twos (redone_kept (resolved ends.entry.before.now) (resolved ends.entry.after.now) olds.now)) }
     ensures twos_err { OnErr result (work.new.twos ≤ counted_on work.old.twos (redone_kept (resolved ends.entry.before.now) (resolved ends.entry.after.now) olds.now)) }
+    ensures twos_least { work.old.twos ≤ work.new.twos }
     ensures ones { work.new.ones ≡ work.old.ones }
 {
     let mut all = Vec::with_capacity(alloc, olds.len())?;

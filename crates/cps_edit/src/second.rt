@@ -35,6 +35,7 @@ fn step_two_all(
     ensures outcomes { IfOk result (λ made. made.items ≡ outcomes_by (resolved finals.now) traces.now) }
     ensures twos { OnOk result (work.new.twos ≡ counted_on work.old.twos (length traces.now)) }
     ensures twos_err { OnErr result (work.new.twos ≤ counted_on work.old.twos (length traces.now)) }
+    ensures twos_least { work.old.twos ≤ work.new.twos }
     ensures ones { work.new.ones ≡ work.old.ones }
 {
     let mut all = Vec::with_capacity(alloc, traces.len())?;
@@ -68,6 +69,7 @@ impl<'a> Kept<'a> {
             ≡ counted_on work.old.twos (redone_parts (resolved self.entry.finals.now) (final_value (⟦<Front as Gathered>⟧.gathered plan.now.front)) self.entry.traces.now keep from plan.now.first.items plan.now.news.items)) }
         ensures twos_err { OnErr result (work.new.twos
             ≤ counted_on work.old.twos (redone_parts (resolved self.entry.finals.now) (final_value (⟦<Front as Gathered>⟧.gathered plan.now.front)) self.entry.traces.now keep from plan.now.first.items plan.now.news.items)) }
+        ensures twos_least { work.old.twos ≤ work.new.twos }
         ensures ones { work.new.ones ≡ work.old.ones }
     {
         let ends = Ends {

@@ -1,4 +1,4 @@
-use Rattle.std.proofs.Common.{◌≡◌, ◌++◌, length, drop, map, is_some}
+use Rattle.std.proofs.Common.{◌≡◌, ◌≤◌, ◌++◌, length, drop, map, is_some}
 use Rattle.cps_state.specs.Course.{Trace}
 use Rattle.cps_state.specs.Work.{counted_on}
 use Rattle.cps_final.specs.Resolving.{resolved}
@@ -16,4 +16,5 @@ invariant-loop-i l = record {
   twos : counted_on l.work.twos (redone_from (resolved l.ends.before.now) (resolved l.ends.after.now) (map is_some (drop l.i (nones {X = Trace} (length l.olds)))) (drop l.i l.olds))
       ≡ counted_on l.fn.work.twos (redone_from (resolved l.ends.before.now) (resolved l.ends.after.now) (map is_some (nones {X = Trace} (length l.olds))) l.olds);
   ones : l.work.ones ≡ l.fn.work.ones;
+  least : l.fn.work.twos ≤ l.work.twos;
 }

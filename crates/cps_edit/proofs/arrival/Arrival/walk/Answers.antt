@@ -31,6 +31,7 @@ loop-entry-preserved c =
     record {
       through = through-as was now (stays_before c.args.self) (stays_after c.args.self) traces (drop (i + 1) entries) _ _ _ _ c.look.new.work.twos total c.in_ok-note.ensures.changes c.in_ok-note.ensures.entries next;
       ones = c.in_ok-looked.ensures.ones ∙ c.loop-entry.invariant.ones;
+      least = omega (arith, c.loop-entry.invariant.least, c.in_ok-looked.ensures.twos_least);
     }
 
 pub returns-in_err-looked-clause-twos_err : goal.returns-in_err-looked-clause-twos_err

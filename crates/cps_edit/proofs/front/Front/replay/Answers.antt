@@ -22,6 +22,7 @@ loop-i-preserved c =
       new = rw pushed (flags-next c.loop-i.news.items c.in_ok-new.new olds lines i c.index-lines-i.result c.index-olds-i.result a.state b.state _ in_lines in_olds c.index-lines-i.is c.index-olds-i.is c.in_ok-new.ensures.new c.in_ok-new.ensures.state c.loop-i.invariant.new);
       gathers = λ end rest. c.loop-i.invariant.gathers end (gathered-next lines i c.index-lines-i.result a b end in_lines c.index-lines-i.is c.in_ok-new.ensures.ok c.in_ok-new.ensures.state rest);
       twos = c.in_ok-new.ensures.twos ∙ c.loop-i.invariant.twos;
+      least = omega (arith, c.loop-i.invariant.least, c.in_ok-new.ensures.ones_least);
       ones = steps-next lines olds i c.index-lines-i.result c.index-olds-i.result a.state b.state c.loop-i.work.ones c.renew.new.work.ones _ in_lines in_olds c.index-lines-i.is c.index-olds-i.is c.in_ok-new.ensures.state c.in_ok-new.ensures.ones c.loop-i.invariant.ones;
     }
 
