@@ -57,7 +57,7 @@ replaced lines at line (first, last) =
 
 -- so many steps are at most so many
 pub stepped_up_to : (ones twos : ℕ) (old new : Counts) → new.ones ≡ counted_on old.ones ones → new.twos ≡ counted_on old.twos twos → HaveSteppedUpTo ones twos old new
-stepped_up_to ones twos old new first second = record { first = omega (arith, first); second = omega (arith, second) }
+stepped_up_to ones twos old new first second = record { first = omega (arith, first); second = omega (arith, second); first_kept = omega (arith, first); second_kept = omega (arith, second) }
 
 -- the same of lines and new lines that were lent
 pub renamed : (P : List (List ℕ) → List (List ℕ) → Type 0) (lines lines' new new' : List (List ℕ)) → lines ≡ lines' → new ≡ new' → P lines new → P lines' new'

@@ -41,10 +41,12 @@ pub record HaveStepped (ones twos : ℕ) (old new : Counts) : Type 0 where
   pub first : new.ones ≡ counted_on old.ones ones
   pub second : new.twos ≡ counted_on old.twos twos
 
--- at most so many
+-- at most so many, and no count is less than it was
 pub record HaveSteppedUpTo (ones twos : ℕ) (old new : Counts) : Type 0 where
   pub first : new.ones ≤ counted_on old.ones ones
   pub second : new.twos ≤ counted_on old.twos twos
+  pub first_kept : old.ones ≤ new.ones
+  pub second_kept : old.twos ≤ new.twos
 
 -- An edit steps the lines that it disturbs in each pass, once, where it is accepted; none where it is wrong; at most these where there is no memory.
 abbrev pub WorkOfEdit : {T : Type 0} → Result T EditFault → List (List ℕ) → Splice → Counts → Counts → Type 0

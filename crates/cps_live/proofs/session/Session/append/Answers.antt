@@ -35,7 +35,7 @@ returns-in_default-append-clause-work c =
     let lines = c.deref.ensures.value ∙ c.make_room.ensures.lines ∙ ap (λ (s : Source). s.lines) c.self.view_is in
     let made = c.in_default-append.ensures in
     subst (λ (ls : List (List ℕ)). HaveSteppedUpTo (ones_of ls (insertion (length ls) c.args.line)) (twos_of ls (insertion (length ls) c.args.line)) c.args.work.now c.append.new.work) lines
-    (record { first = made.ones_err; second = made.twos_err })
+    (record { first = made.ones_err; second = made.twos_err; first_kept = made.ones_least; second_kept = made.twos_least })
 
 pub invariant_of-self-2 : goal.invariant_of-self-2
 invariant_of-self-2 c =

@@ -13,7 +13,7 @@ pub returns-in_default-clause-work : goal.returns-in_default-clause-work
 returns-in_default-clause-work c =
     let lines = c.deref.ensures.value ∙ ap (λ (s : Source). s.lines) c.self.view_is in
     renamed (λ ls ns. HaveSteppedUpTo (ones_of ls (splice_at c.args.keep c.args.from ns)) (twos_of ls (splice_at c.args.keep c.args.from ns)) c.args.work.now c.edit.new.work)
-    _ _ _ _ lines c.deref-3.ensures.value (record { first = c.in_default.ensures.ones_err; second = c.in_default.ensures.twos_err })
+    _ _ _ _ lines c.deref-3.ensures.value (record { first = c.in_default.ensures.ones_err; second = c.in_default.ensures.twos_err; first_kept = c.in_default.ensures.ones_least; second_kept = c.in_default.ensures.twos_least })
 
 pub edit-requires-clause-finals : goal.edit-requires-clause-finals
 edit-requires-clause-finals c = c.finals.ensures ∙ c.self.invariant.gathered ∙ ap (λ lines. finals_of (traces_of lines)) (sym c.deref.ensures.value)
