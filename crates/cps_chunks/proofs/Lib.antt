@@ -2,5 +2,3 @@ mod KeyLemmas
 mod PutLemmas
 mod AskLemmas
 mod RunLemmas
-mod DivisionLemmas
-mod DeletionLemmas

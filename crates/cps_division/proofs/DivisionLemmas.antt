@@ -3,7 +3,7 @@ use Rattle.std.proofs.Common.{◌≡◌, ℕ, suc, ◌+◌, ◌-◌, ◌<◌, �
 use Rattle.std.specs.Prelude.{if◌then◌else◌, nat_lt, sum}
 use Rattle.std.proofs.lemmas.List.Sums.{sum_by-cons}
 use Rattle.std.proofs.lemmas.Bool.{ltb-true, ltb-false, lt-ltb}
-use Rattle.cps_chunks.specs.Division.{full, IsApart, AreChunks, joined, grown, inserted_at, without, cut_in, deleted_at, chunk_of, StayAround}
+use Rattle.cps_division.specs.Division.{full, IsApart, AreChunks, joined, grown, inserted_at, without, cut_in, deleted_at, chunk_of, StayAround}
 
 -- ---- sums and tests
 

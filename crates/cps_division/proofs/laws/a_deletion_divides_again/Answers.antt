@@ -1,7 +1,7 @@
 use Rattle.std.proofs.Common.{ap, sym, subst, ◌∙◌, ◌+◌, ◌-◌, ◌≤◌}
-use Rattle.cps_chunks.proofs.DivisionLemmas.{deleted-chunks, deleted-sum}
-use Rattle.cps_chunks.proofs.DeletionLemmas.{deleted-stay}
-use Rattle.cps_chunks.proofs.laws.a_deletion_divides_again.Goals as goal
+use Rattle.cps_division.proofs.DivisionLemmas.{deleted-chunks, deleted-sum}
+use Rattle.cps_division.proofs.DeletionLemmas.{deleted-stay}
+use Rattle.cps_division.proofs.laws.a_deletion_divides_again.Goals as goal
 
 pub returns : goal.returns
 returns c = λ keep gone count lengths division within. (

@@ -2,8 +2,8 @@
 use Rattle.std.proofs.Common.{◌≡◌, ◌⊎◌, inl, inr, ℕ, zero, suc, ◌+◌, ◌-◌, ◌<◌, ◌≤◌, refl, sym, ap, subst, ◌∙◌, List, [], ◌∷◌, ◌++◌, take, drop, true, false, Bool, arith}
 use Rattle.std.specs.Prelude.{if◌then◌else◌, nat_lt}
 use Rattle.std.proofs.lemmas.Bool.{lt-ltb, le-ltb}
-use Rattle.cps_chunks.specs.Division.{full, IsApart, AreChunks, joined, without, cut_in, deleted_at, chunk_of, StayAround}
-use Rattle.cps_chunks.proofs.DivisionLemmas.{lt-true, lt-false, joined-again}
+use Rattle.cps_division.specs.Division.{full, IsApart, AreChunks, joined, without, cut_in, deleted_at, chunk_of, StayAround}
+use Rattle.cps_division.proofs.DivisionLemmas.{lt-true, lt-false, joined-again}
 
 -- ---- chunks that end as others do
 

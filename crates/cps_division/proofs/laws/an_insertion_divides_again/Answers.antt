@@ -1,6 +1,6 @@
 use Rattle.std.proofs.Common.{ap, ◌∙◌, ◌+◌}
-use Rattle.cps_chunks.proofs.DivisionLemmas.{inserted-chunks, inserted-sum, inserted-stay}
-use Rattle.cps_chunks.proofs.laws.an_insertion_divides_again.Goals as goal
+use Rattle.cps_division.proofs.DivisionLemmas.{inserted-chunks, inserted-sum, inserted-stay}
+use Rattle.cps_division.proofs.laws.an_insertion_divides_again.Goals as goal
 
 pub returns : goal.returns
 returns c = λ after count lengths division. (

@@ -1,0 +1,4 @@
+mod DivisionLemmas
+mod DeletionLemmas
+mod PlaceLemmas
+mod InsertionLemmas

@@ -1,0 +1,17 @@
+//! What holds of the chunks into which a source is divided, after an edit.
+ghost use Rattle.cps_division.specs.Division.{Insertions, Deletions, Joins};
+
+/// Behind an insertion the lengths divide one line more, and all chunks stay but that of the line before it and the next one.
+pub fn an_insertion_divides_again()
+    ensures { Insertions }
+{}
+
+/// Behind a deletion the lengths divide so many lines fewer, and all chunks stay but those of the lines that go, the one before them and the next one.
+pub fn a_deletion_divides_again()
+    ensures { Deletions }
+{}
+
+/// Lines that are set before chunks change the first of them alone, and a chunk before them stays where the first of them only grew.
+pub fn joining_changes_one_chunk()
+    ensures { Joins }
+{}
