@@ -30,11 +30,11 @@ joined-ends n last ns (inr some) = subst (λ xs. EndsWith last (joined n xs)) (s
 
 -- ---- behind the deletion
 
-joined-apart-same : (n : ℕ) (ns : List ℕ) → 1 ≤ n → IsApart n ns → joined n ns ≡ n ∷ ns
+pub joined-apart-same : (n : ℕ) (ns : List ℕ) → 1 ≤ n → IsApart n ns → joined n ns ≡ n ∷ ns
 joined-apart-same n [] one apart = ap (λ b. if b then n ∷ [] else []) (lt-ltb 0 n one)
 joined-apart-same n (m ∷ ms) one apart = ap (λ b. if b then n ∷ m ∷ ms else (n + m) ∷ ms) (lt-ltb full (n + m) apart)
 
-without-none : (m : ℕ) (ms : List ℕ) → AreChunks (m ∷ ms) → without 0 (m ∷ ms) ≡ m ∷ ms
+pub without-none : (m : ℕ) (ms : List ℕ) → AreChunks (m ∷ ms) → without 0 (m ∷ ms) ≡ m ∷ ms
 without-none m ms d =
     let same : m - 0 ≡ m = omega arith in
     ap (λ b. if b then joined (m - 0) ms else without (0 - m) ms) (lt-ltb 0 m d.0) ∙ ap (λ k. joined k ms) same ∙ joined-apart-same m ms d.0 d.2
@@ -95,13 +95,13 @@ before-cut n m ms (suc from) to news cut (inr stays) =
     let two : suc from ≡ suc (suc from) - 1 = omega arith in
     (cut.0, stays ∙ ap (λ xs. n ∷ xs) (cut.1 ∙ ap (λ k. take k (m ∷ ms) ++ cut.0) one) ∙ ap (λ k. take k (n ∷ m ∷ ms) ++ cut.0) two, cut.2)
 
-first-chunk : (keep m : ℕ) (ms : List ℕ) → keep < m → chunk_of (keep + 1) (m ∷ ms) ≡ 0
+pub first-chunk : (keep m : ℕ) (ms : List ℕ) → keep < m → chunk_of (keep + 1) (m ∷ ms) ≡ 0
 first-chunk keep m [] lt = refl
 first-chunk keep m (k ∷ ks) lt =
     let short : keep + 1 ≤ m = omega (arith, lt) in
     ap (λ b. if b then suc (chunk_of (keep + 1 - m) (k ∷ ks)) else 0) (le-ltb m (keep + 1) short)
 
-later-chunk : (at n m : ℕ) (ms : List ℕ) → n < at → chunk_of at (n ∷ m ∷ ms) ≡ suc (chunk_of (at - n) (m ∷ ms))
+pub later-chunk : (at n m : ℕ) (ms : List ℕ) → n < at → chunk_of at (n ∷ m ∷ ms) ≡ suc (chunk_of (at - n) (m ∷ ms))
 later-chunk at n m ms lt = ap (λ b. if b then suc (chunk_of (at - n) (m ∷ ms)) else 0) (lt-ltb n at lt)
 
 -- a chunk before one that is whole stays

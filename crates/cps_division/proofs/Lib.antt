@@ -2,3 +2,4 @@ mod DivisionLemmas
 mod DeletionLemmas
 mod PlaceLemmas
 mod InsertionLemmas
+mod CutLemmas

@@ -1,6 +1,7 @@
 //! What an edit makes of the division.
-ghost use Rattle.std.specs.Prelude.{◌≡◌, ◌<◌, ◌≤◌, ◌^◌, [], ◌∷◌, length, take, sum};
-ghost use Rattle.cps_division.specs.Division.{AreChunks, inserted_at};
+ghost use Rattle.std.specs.Prelude.{◌≡◌, ◌+◌, ◌-◌, ◌<◌, ◌≤◌, ◌^◌, [], ◌∷◌, length, take, drop, sum};
+ghost use Rattle.arrayvec.specs.ArrayVec.{array_vec_len};
+ghost use Rattle.cps_division.specs.Division.{AreChunks, joined, inserted_at, deleted_at};
 ghost use Rattle.cps_division.specs.Recut.{recut};
 
 use crate::place::{Place, place_of};
@@ -51,6 +52,75 @@ pub fn recut_insertion(lengths: &[usize], after: usize) -> Recut
         return Recut::by_two(place, next, 1);
     }
     Recut::by_two(place, next + 1, lengths[next] + 1)
+}
+
+/// Lines go: those after the first `keep`, up to the first `from`.
+pub fn recut_deletion(lengths: &[usize], keep: usize, from: usize) -> Recut
+    requires chunks { AreChunks lengths.now }
+    requires some { keep < from }
+    requires within { from ≤ sum lengths.now }
+    requires few { sum lengths.now < 2 ^ 63 }
+    ensures chunks { recut result.start result.end result.lengths.items lengths.now ≡ deleted_at keep (from - keep) lengths.now }
+    ensures ordered { result.start ≤ result.end }
+    ensures within { result.end ≤ length lengths.now }
+    ensures before { result.before ≡ sum (take result.start lengths.now) }
+{
+    let first = place_of(lengths, keep + 1);
+    let last = place_of(lengths, from);
+    let behind = last.chunk + 1;
+    let mut news = one_of(lengths, behind);
+    let end = behind + news.len();
+    set_before(&mut news, last.before + lengths[last.chunk] - from);
+    set_before(&mut news, keep - first.before);
+    if first.chunk == 0 {
+        return Recut {
+            start: 0,
+            end,
+            lengths: news,
+            before: 0,
+        };
+    }
+    let start = first.chunk - 1;
+    set_before(&mut news, lengths[start]);
+    Recut {
+        start,
+        end,
+        lengths: news,
+        before: first.before - lengths[start],
+    }
+}
+
+/// The chunk at a number, if there is one.
+fn one_of(lengths: &[usize], at: usize) -> ArrayVec<usize, MOST_NEW>
+    ensures items { result.items ≡ take 1 (drop at lengths.now) }
+    ensures len { array_vec_len result ≤ 1 }
+    ensures within { at ≤ length lengths.now → at + array_vec_len result ≤ length lengths.now }
+{
+    let mut one = ArrayVec::new();
+    if at < lengths.len() {
+        one.push(lengths[at]);
+    }
+    one
+}
+
+/// So many lines before chunks: with the first of them where both fit in one.
+fn set_before(lengths: &mut ArrayVec<usize, MOST_NEW>, lines: usize)
+    requires room { array_vec_len lengths.old < MOST_NEW }
+    ensures items { lengths.new.items ≡ joined lines lengths.old.items }
+    ensures len { array_vec_len lengths.new ≤ array_vec_len lengths.old + 1 }
+{
+    if lengths.is_empty() {
+        if lines > 0 {
+            lengths.push(lines);
+        }
+        return;
+    }
+    let both = lines.saturating_add(lengths.as_slice()[0]);
+    if both > FULL {
+        lengths.insert(0, lines);
+    } else {
+        lengths.as_mut_slice()[0] = both;
+    }
 }
 
 impl Recut {

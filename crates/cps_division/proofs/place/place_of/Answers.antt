@@ -1,6 +1,8 @@
-use Rattle.std.proofs.Common.{◌≡◌, suc, ◌+◌, ◌-◌, ◌<◌, ◌≤◌, sym, ap, ◌∙◌, length, get_or, drop, arith}
+use Rattle.std.proofs.Common.{◌≡◌, suc, ◌+◌, ◌-◌, ◌<◌, ◌≤◌, sym, ap, ◌∙◌, length, get_or, take, drop, arith}
 use Rattle.std.proofs.lemmas.Bool.Decides.{nat_tests}
+use Rattle.std.proofs.lemmas.List.{take_all}
 use Rattle.std.proofs.lemmas.List.Sums.{sum_by_more}
+use Rattle.std.specs.Prelude.{sum}
 use Rattle.cps_division.specs.Division.{chunk_of}
 use Rattle.cps_division.proofs.PlaceLemmas.{past-chunk, in-chunk, last-chunk}
 use Rattle.cps_division.proofs.place.place_of.Goals as goal
@@ -30,6 +32,7 @@ loop-chunk-preserved c =
     record {
       chunk = omega (arith, c.loop-chunk.invariant.chunk, next, there);
       before = ap (λ k. k + n) c.loop-chunk.invariant.before ∙ sym (sum_by_more (λ x. x) ns i 0 at);
+      above = λ some. grind (arith, nat_tests, c.if-line-next.false);
     }
 
 pub returns-clause-chunk : goal.returns-clause-chunk
@@ -39,3 +42,14 @@ returns-clause-chunk c =
     let last : suc i ≡ length ns = grind (arith, nat_tests, c.loop-chunk-test.false, c.loop-chunk.auto.chunk-end, c.requires.some) in
     let here = last-chunk (c.args.line - c.loop-chunk.before) i ns last in
     omega (arith, c.loop-chunk.invariant.chunk, here, last)
+
+pub returns-clause-below : goal.returns-clause-below
+returns-clause-below c le =
+    let ns = c.args.lengths.now in
+    let i = c.loop-chunk.chunk in
+    let last : suc i ≡ length ns = grind (arith, nat_tests, c.loop-chunk-test.false, c.loop-chunk.auto.chunk-end, c.requires.some) in
+    let at : i < length ns = omega (arith, last) in
+    let all : sum ns ≡ sum (take i ns) + get_or ns i 0 = ap sum (sym (take_all (i + 1) ns (omega (arith, last)))) ∙ sum_by_more (λ x. x) ns i 0 at in
+    let same : length ns - 1 ≡ i = omega (arith, last) in
+    let here : get_or ns (length ns - 1) 0 ≡ get_or ns i 0 = ap (λ k. get_or ns k 0) same in
+    omega (arith, le, all, c.loop-chunk.invariant.before, here)
