@@ -3,9 +3,9 @@ use Rattle.std.proofs.Common.{◌≡◌, ◌⊎◌, inl, inr, ℕ, zero, suc, �
 use Rattle.std.specs.Prelude.{if◌then◌else◌, nat_lt, sum}
 use Rattle.std.proofs.lemmas.Bool.{lt-ltb, le-ltb}
 use Rattle.std.proofs.lemmas.List.Sums.{sum_by-cons, sum_by_more}
-use Rattle.cps_division.specs.Division.{full, IsApart, AreChunks, joined, without, cut_in, deleted_at, chunk_of}
+use Rattle.cps_division.specs.Division.{full, AreChunks, joined, without, cut_in, deleted_at, chunk_of}
 use Rattle.cps_division.proofs.DivisionLemmas.{lt-true, lt-false, joined-again}
-use Rattle.cps_division.proofs.DeletionLemmas.{first-chunk, later-chunk, joined-apart-same, without-none}
+use Rattle.cps_division.proofs.DeletionLemmas.{first-chunk, later-chunk, without-none}
 
 -- the sum of the first chunks, which computes by the first of them
 abbrev pub first_of : ℕ → List ℕ → ℕ

@@ -3,3 +3,4 @@ mod DeletionLemmas
 mod PlaceLemmas
 mod InsertionLemmas
 mod CutLemmas
+mod DivisionRows

@@ -6,4 +6,4 @@ mod place;
 mod recut;
 
 pub use place::{Place, place_of};
-pub use recut::{FULL, Recut, recut_deletion, recut_insertion};
+pub use recut::{FULL, Recut, recut_deletion, recut_insertion, recut_replacement};

@@ -1,7 +1,7 @@
 //! What an edit makes of the division.
 ghost use Rattle.std.specs.Prelude.{◌≡◌, ◌+◌, ◌-◌, ◌<◌, ◌≤◌, ◌^◌, [], ◌∷◌, length, take, drop, sum};
 ghost use Rattle.arrayvec.specs.ArrayVec.{array_vec_len};
-ghost use Rattle.cps_division.specs.Division.{AreChunks, joined, inserted_at, deleted_at};
+ghost use Rattle.cps_division.specs.Division.{AreChunks, chunk_of, joined, inserted_at, deleted_at};
 ghost use Rattle.cps_division.specs.Recut.{recut};
 
 use crate::place::{Place, place_of};
@@ -52,6 +52,20 @@ pub fn recut_insertion(lengths: &[usize], after: usize) -> Recut
         return Recut::by_two(place, next, 1);
     }
     Recut::by_two(place, next + 1, lengths[next] + 1)
+}
+
+/// Another line in the place of one: its chunk gives way to one of the same length.
+pub fn recut_replacement(lengths: &[usize], line: usize) -> Recut
+    requires some { 0 < length lengths.now }
+    requires few { sum lengths.now < 2 ^ 63 }
+    ensures chunk { result.start ≡ chunk_of line lengths.now }
+    ensures one { result.end ≡ result.start + 1 }
+    ensures chunks { recut result.start result.end result.lengths.items lengths.now ≡ lengths.now }
+    ensures within { result.end ≤ length lengths.now }
+    ensures before { result.before ≡ sum (take result.start lengths.now) }
+{
+    let place = place_of(lengths, line);
+    Recut::by_one(place, place.chunk + 1, lengths[place.chunk])
 }
 
 /// Lines go: those after the first `keep`, up to the first `from`.

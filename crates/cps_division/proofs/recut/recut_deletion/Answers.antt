@@ -1,9 +1,8 @@
-use Rattle.std.proofs.Common.{rules, arith, ◌≡◌, ℕ, suc, ◌+◌, ◌-◌, ◌<◌, ◌≤◌, List, ◌++◌, length, get_or, take, drop, sym, ap, subst, ◌∙◌}
+use Rattle.std.proofs.Common.{rules, arith, ◌≡◌, suc, ◌+◌, ◌-◌, ◌<◌, ◌≤◌, ◌++◌, length, get_or, take, drop, sym, ap, ◌∙◌}
 use Rattle.std.specs.Prelude.{sum}
 use Rattle.std.proofs.lemmas.Bool.Decides.{nat_tests}
 use Rattle.std.proofs.lemmas.List.Sums.{sum_by_more}
-use Rattle.cps_division.specs.Division.{joined, deleted_at, chunk_of}
-use Rattle.cps_division.specs.Recut.{recut}
+use Rattle.cps_division.specs.Division.{joined, chunk_of}
 use Rattle.cps_division.proofs.CutLemmas.{set_before, left_of, deleted-left, both-set, left-is, joined-append, chunk-order}
 use Rattle.cps_division.proofs.recut.recut_deletion.Goals as goal
 
