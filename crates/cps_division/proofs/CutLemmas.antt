@@ -41,7 +41,7 @@ left-next i keep gone n ns past =
     let same : keep - n - first_of i ns ≡ keep - (n + first_of i ns) = omega arith in
     ap (λ k. cut_in (get_or ns i 0) k gone (drop (suc i) ns)) same
 
-pub deleted-left : (keep gone : ℕ) (ns : List ℕ) → AreChunks ns → keep < sum ns → deleted_at keep gone ns ≡ set_before (chunk_of (keep + 1) ns) ns (left_of (chunk_of (keep + 1) ns) keep gone ns)
+deleted-left : (keep gone : ℕ) (ns : List ℕ) → AreChunks ns → keep < sum ns → deleted_at keep gone ns ≡ set_before (chunk_of (keep + 1) ns) ns (left_of (chunk_of (keep + 1) ns) keep gone ns)
 deleted-left keep gone [] d lt = absurd (omega (arith, lt))
 deleted-left keep gone (n ∷ []) d lt =
     let all : sum (n ∷ []) ≡ n + 0 = sum_by-cons (λ x. x) n [] in
@@ -211,7 +211,7 @@ past-one (suc at) (n ∷ ns) =
     ap (λ k. drop k (n ∷ ns)) same ∙ past-one at ns
 
 -- what is left of the first and of the last, and the chunk behind them
-pub both-set : (ns : List ℕ) (j head tail len : ℕ) (news one two : List ℕ) → news ≡ take 1 (drop (j + 1) ns) → one ≡ joined tail news → two ≡ joined head one → len ≡ length news
+both-set : (ns : List ℕ) (j head tail len : ℕ) (news one two : List ℕ) → news ≡ take 1 (drop (j + 1) ns) → one ≡ joined tail news → two ≡ joined head one → len ≡ length news
     → (two ++ drop (j + 1 + len) ns ≡ joined head (joined tail (drop (suc j) ns))) × IsWhole two (drop (j + 1 + len) ns)
 both-set ns j head tail len news one two n o t l =
     let rest = drop (j + 1) ns in
@@ -228,7 +228,7 @@ both-set ns j head tail len news one two n o t l =
       subst (λ xs. IsWhole xs (drop (j + 1 + len) ns)) (sym made) (subst (λ xs. IsWhole (joined head (joined tail (take 1 rest))) xs) (sym behind) whole),
     )
 
-pub left-is : (keep gone : ℕ) (ns : List ℕ) → AreChunks ns → 1 ≤ gone → keep + gone ≤ sum ns → (i j head tail : ℕ) → i ≡ chunk_of (keep + 1) ns → j ≡ chunk_of (keep + gone) ns → j < length ns
+left-is : (keep gone : ℕ) (ns : List ℕ) → AreChunks ns → 1 ≤ gone → keep + gone ≤ sum ns → (i j head tail : ℕ) → i ≡ chunk_of (keep + 1) ns → j ≡ chunk_of (keep + gone) ns → j < length ns
     → head ≡ keep - sum (take i ns) → tail ≡ sum (take j ns) + get_or ns j 0 - (keep + gone) → left_of i keep gone ns ≡ joined head (joined tail (drop (suc j) ns))
 left-is keep gone ns d one le i j head tail first last within h t =
     let next : j + 1 ≡ suc j = omega arith in
@@ -239,6 +239,25 @@ left-is keep gone ns d one le i j head tail first last within h t =
     ∙ ap (λ k. joined (keep - first_of k ns) (rest_of (chunk_of (keep + gone) ns) (keep + gone) ns)) (sym first)
     ∙ ap (λ k. joined (keep - first_of i ns) (rest_of k (keep + gone) ns)) (sym last)
     ∙ (λ k. joined (begins k) (joined (same k) (drop (suc j) ns)))
+
+-- the same of lines that go after the first `keep`, up to the first `from`
+pub cut-both : (keep from : ℕ) (ns : List ℕ) → AreChunks ns → keep < from → from ≤ sum ns → (i j before under len : ℕ) (news one two : List ℕ)
+    → i ≡ chunk_of (keep + 1) ns → before ≡ sum (take i ns) → j ≡ chunk_of from ns → j < length ns → under ≡ sum (take j ns)
+    → news ≡ take 1 (drop (j + 1) ns) → len ≡ length news → one ≡ joined (under + get_or ns j 0 - from) news → two ≡ joined (keep - before) one
+    → (two ++ drop (j + 1 + len) ns ≡ left_of i keep (from - keep) ns) × IsWhole two (drop (j + 1 + len) ns)
+cut-both keep from ns d some within i j before under len news one two first b last lt u n l o t =
+    let gone = from - keep in
+    let all : keep + gone ≡ from = omega (arith, some) in
+    let at : j ≡ chunk_of (keep + gone) ns = last ∙ ap (λ k. chunk_of k ns) (sym all) in
+    let head : keep - before ≡ keep - sum (take i ns) = ap (λ k. keep - k) b in
+    let tail : under + get_or ns j 0 - from ≡ sum (take j ns) + get_or ns j 0 - (keep + gone) = omega (arith, u, all) in
+    let both = both-set ns j (keep - before) (under + get_or ns j 0 - from) len news one two n o t l in
+    (both.0 ∙ sym (left-is keep gone ns d (omega (arith, some)) (omega (arith, all, within)) i j _ _ first at lt head tail), both.1)
+
+pub deleted-cut-at : (keep from : ℕ) (ns : List ℕ) → AreChunks ns → keep < from → from ≤ sum ns → (i : ℕ) → i ≡ chunk_of (keep + 1) ns
+    → set_before i ns (left_of i keep (from - keep) ns) ≡ deleted_at keep (from - keep) ns
+deleted-cut-at keep from ns d some within i first =
+    ap (λ k. set_before k ns (left_of k keep (from - keep) ns)) first ∙ sym (deleted-left keep (from - keep) ns d (omega (arith, some, within)))
 
 pub chunk-order : (a b : ℕ) (ns : List ℕ) → a ≤ b → chunk_of a ns ≤ chunk_of b ns
 chunk-order a b [] le = omega arith
