@@ -270,3 +270,13 @@ chunk-order a b (n ∷ m ∷ ms) le = at (nat_lt n a) refl (nat_lt n b) refl (ch
     at true f false l rest = absurd (omega (arith, lt-true n a f, lt-false n b l, le))
     at false f true l rest = omega arith
     at false f false l rest = omega arith
+
+first-order : (a b : ℕ) (ns : List ℕ) → a ≤ b → first_of a ns ≤ first_of b ns
+first-order zero b ns le = omega arith
+first-order (suc a) zero ns le = absurd (omega (arith, le))
+first-order (suc a) (suc b) [] le = omega arith
+first-order (suc a) (suc b) (n ∷ ns) le = omega (arith, first-order a b ns (omega (arith, le)))
+
+-- more chunks have no fewer lines
+pub sum-order : (a b : ℕ) (ns : List ℕ) → a ≤ b → sum (take a ns) ≤ sum (take b ns)
+sum-order a b ns le = omega (arith, first-order a b ns le, first-sum a ns, first-sum b ns)

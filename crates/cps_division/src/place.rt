@@ -18,6 +18,8 @@ pub fn place_of(lengths: &[usize], line: usize) -> Place
     ensures before { result.before ≡ sum (take result.chunk lengths.now) }
     ensures above { 1 ≤ line → result.before < line }
     ensures below { line ≤ sum lengths.now → line ≤ result.before + get_or lengths.now result.chunk 0 }
+    ensures past { line ≤ sum lengths.now → line ≤ sum (take (result.chunk + 1) lengths.now) }
+    ensures first { result.before ≤ line }
 {
     let last = lengths.len() - 1;
     let mut before = 0;

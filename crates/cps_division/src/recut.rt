@@ -26,11 +26,14 @@ pub struct Recut {
 /// A line more after so many others.
 pub fn recut_insertion(lengths: &[usize], after: usize) -> Recut
     requires chunks { AreChunks lengths.now }
+    requires within { after ≤ sum lengths.now }
     requires few { sum lengths.now < 2 ^ 63 }
     ensures chunks { recut result.start result.end result.lengths.items lengths.now ≡ inserted_at after lengths.now }
     ensures ordered { result.start ≤ result.end }
     ensures within { result.end ≤ length lengths.now }
     ensures before { result.before ≡ sum (take result.start lengths.now) }
+    ensures begins { result.before ≤ after }
+    ensures ends { after ≤ sum (take result.end lengths.now) }
 {
     if lengths.is_empty() {
         return Recut::by_one(
@@ -56,13 +59,16 @@ pub fn recut_insertion(lengths: &[usize], after: usize) -> Recut
 
 /// Another line in the place of one: its chunk gives way to one of the same length.
 pub fn recut_replacement(lengths: &[usize], line: usize) -> Recut
-    requires some { 0 < length lengths.now }
+    requires some { 1 ≤ line }
+    requires within { line ≤ sum lengths.now }
     requires few { sum lengths.now < 2 ^ 63 }
     ensures chunk { result.start ≡ chunk_of line lengths.now }
     ensures one { result.end ≡ result.start + 1 }
     ensures chunks { recut result.start result.end result.lengths.items lengths.now ≡ lengths.now }
     ensures within { result.end ≤ length lengths.now }
     ensures before { result.before ≡ sum (take result.start lengths.now) }
+    ensures begins { result.before < line }
+    ensures ends { line ≤ sum (take result.end lengths.now) }
 {
     let place = place_of(lengths, line);
     Recut::by_one(place, place.chunk + 1, lengths[place.chunk])
@@ -78,6 +84,8 @@ pub fn recut_deletion(lengths: &[usize], keep: usize, from: usize) -> Recut
     ensures ordered { result.start ≤ result.end }
     ensures within { result.end ≤ length lengths.now }
     ensures before { result.before ≡ sum (take result.start lengths.now) }
+    ensures begins { result.before ≤ keep }
+    ensures ends { from ≤ sum (take result.end lengths.now) }
 {
     let first = place_of(lengths, keep + 1);
     let last = place_of(lengths, from);

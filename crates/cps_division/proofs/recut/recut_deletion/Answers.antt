@@ -3,7 +3,7 @@ use Rattle.std.specs.Prelude.{sum}
 use Rattle.std.proofs.lemmas.Bool.Decides.{nat_tests}
 use Rattle.std.proofs.lemmas.List.Sums.{sum_by_more}
 use Rattle.cps_division.specs.Division.{joined}
-use Rattle.cps_division.proofs.CutLemmas.{set_before, left_of, cut-both, deleted-cut-at, joined-append, chunk-order}
+use Rattle.cps_division.proofs.CutLemmas.{set_before, left_of, cut-both, deleted-cut-at, joined-append, chunk-order, sum-order}
 use Rattle.cps_division.proofs.recut.recut_deletion.Goals as goal
 
 pub returns-then-first-eq0-clause-chunks : goal.returns-then-first-eq0-clause-chunks
@@ -50,3 +50,17 @@ returns-clause-before c =
     let within : k < length ns = omega (arith, c.place_of-first.ensures.within, next) in
     let more : sum (take i ns) ≡ sum (take k ns) + get_or ns k 0 = ap (λ n. sum (take n ns)) (sym next) ∙ sum_by_more (λ x. x) ns k 0 within in
     omega (arith, c.place_of-first.ensures.before, more)
+
+pub returns-then-first-eq0-clause-ends : goal.returns-then-first-eq0-clause-ends
+returns-then-first-eq0-clause-ends c =
+    let j = c.place_of-last.result.chunk in
+    let more = sum-order (j + 1) (j + 1 + c.len.result) c.args.lengths.now (omega arith) in
+    let past = c.place_of-last.ensures.past c.requires.within in
+    omega (arith, more, past)
+
+pub returns-clause-ends : goal.returns-clause-ends
+returns-clause-ends c =
+    let j = c.place_of-last.result.chunk in
+    let more = sum-order (j + 1) (j + 1 + c.len.result) c.args.lengths.now (omega arith) in
+    let past = c.place_of-last.ensures.past c.requires.within in
+    omega (arith, more, past)
