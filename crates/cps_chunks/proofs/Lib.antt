@@ -2,3 +2,4 @@ mod KeyLemmas
 mod PutLemmas
 mod AskLemmas
 mod RunLemmas
+mod NamedLemmas

@@ -1,6 +1,7 @@
 //! What holds of runs of lines.
 ghost use Rattle.cps_chunks.specs.Run.{RunLaw, RunAsksNoMore};
 ghost use Rattle.cps_chunks.specs.LastPuts.{LastPutsLaw, LastPutsAreOnce};
+ghost use Rattle.cps_chunks.specs.Named.{NamedLaw, NamedNoMore};
 
 /// What lines did in one state stands in each that answers what their run asked as that one does: there they do the same, none is disturbed, and their puts
 /// lead to the state after them.
@@ -21,4 +22,14 @@ pub fn last_puts_make_the_state()
 /// No two of the last puts are at one key.
 pub fn last_puts_are_once()
     ensures { LastPutsAreOnce }
+{}
+
+/// Where all that the statements of a run name has the same final values, pass two makes the same of each of its lines, and does none again.
+pub fn a_run_makes_what_it_names()
+    ensures { NamedLaw }
+{}
+
+/// A run names no more than that: where none of its lines is done again, all that it names has the same final values.
+pub fn a_run_names_no_more()
+    ensures { NamedNoMore }
 {}
