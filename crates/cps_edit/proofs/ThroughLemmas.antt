@@ -1,7 +1,9 @@
 -- One open line more is gone through.
-use Rattle.std.proofs.Common.{◌≡◌, ℕ, ◌+◌, ◌<◌, ◌≤◌, refl, sym, ap, subst, ◌∙◌, Bool, true, false, List, [], ◌∷◌, ◌++◌, append_assoc, Option, None, Some, length, get_or, set, zero-add, arith}
-use Rattle.std.proofs.lemmas.List.{length-append}
-use Rattle.std.specs.Prelude.{IfSome, if◌then◌else◌}
+use Rattle.std.proofs.Common.{◌≡◌, ℕ, ◌+◌, ◌<◌, ◌≤◌, refl, sym, ap, subst, ◌∙◌, Bool, true, false, List, [], ◌∷◌, ◌++◌, append_assoc, append-nil, Option, None, Some, length, get_or, set, take, zero-add, arith}
+use Rattle.std.proofs.lemmas.List.{length-append, take_more}
+use Rattle.std.proofs.lemmas.List.Folds.{list_all-append}
+use Rattle.std.proofs.lemmas.Bool.{and_parts}
+use Rattle.std.specs.Prelude.{IfSome, not, if◌then◌else◌}
 use Rattle.cps_state.specs.declared.key.Put.{Put}
 use Rattle.cps_state.specs.Course.{Trace}
 use Rattle.cps_state.specs.Work.{counted_on}
@@ -12,12 +14,13 @@ use Rattle.cps_edit.specs.declared.arrival.Change.{Change}
 use Rattle.cps_edit.specs.Passes.{outcomes_by}
 use Rattle.cps_edit.specs.Disturbed.{is_redone}
 use Rattle.cps_edit.specs.Renewed.{picked, redone_kept}
-use Rattle.cps_edit.specs.Append.{Test, stays, Stands, Covers, listed, Arrives, changed, change_at, with_change, AreWithin, IsThrough}
+use Rattle.cps_edit.specs.Append.{Test, is_left, all_left, stays, Stands, Covers, listed, Arrives, changed, change_at, with_change, AreWithin, IsThrough}
 use Rattle.cps_edit.proofs.OpenLemmas.{covers-skip, covers-here}
 use Rattle.cps_edit.proofs.RedoLemmas.{append-outcomes, length-outcomes}
 use Rattle.cps_edit.proofs.ReplayLemmas.{counted-left, counted-before}
-use Rattle.cps_edit.proofs.SettledLemmas.{all-still, outcomes-stay, none-redone, redone-append}
+use Rattle.cps_edit.proofs.SettledLemmas.{all-still, outcomes-stay, none-redone, redone-append, and_all, left-same, left-still}
 use Rattle.cps_edit.proofs.FrontLemmas.{none-more}
+use Rattle.cps_edit.proofs.AgreeLemmas.{named-alone}
 
 -- ---- a place in a list
 
@@ -107,6 +110,13 @@ module _ (was now : Finals) (puts : List Put) (is_fresh : Bool) (arrives : Arriv
           let same : t ≡ u = is ∙ ap (λ xs. get_or xs entry.at t) (parts-whole traces through.before through.left pre post u through.whole more) ∙ get-past (through.before ++ pre) post u t entry.at there in
           subst (λ (x : Trace). IfSome entry.awaits (λ name. stays is_fresh was.state (Some name) x.items ≡ true)) (sym same) awaits
 
+      -- that line
+      pub through-line : (t : Trace) × (t ≡ get_or traces entry.at t) × IfSome entry.awaits (λ name. stays is_fresh was.state (Some name) t.items ≡ true)
+      through-line =
+          let (pre, u, post, more, stay, (at, awaits), rest) = through.covers in
+          let there : entry.at ≡ length (through.before ++ pre) = at ∙ sym (length-append through.before pre) in
+          (u, sym (ap (λ xs. get_or xs entry.at u) (parts-whole traces through.before through.left pre post u through.whole more) ∙ get-past (through.before ++ pre) post u u entry.at there), awaits)
+
       pub through-fault : (t : Trace) (twos' : ℕ) → t ≡ get_or traces entry.at t → twos' ≤ counted_on twos (if is_redone (final_value was) (final_value now) false t then 1 else 0) → twos' ≤ total
       through-fault t twos' is counted =
           let (pre, u, post, more, stay, (at, awaits), rest) = through.covers in
@@ -173,3 +183,39 @@ pub through-as : (was now : Finals) (old new : Test) (traces : List Trace) (entr
 through-as was now old new traces entries changes changes' still still' twos total a b through =
     subst (λ (cs : List Change). IsThrough was now old new traces entries cs still' twos total) (sym a)
     (subst (λ (es : List Open). IsThrough was now old new traces entries changes es twos total) (sym b) through)
+
+-- open lines in front that are left as they are
+module _ (was now : Finals) (puts : List Put) (is_fresh : Bool) (arrives : Arrives was now puts is_fresh) (traces : List Trace) (changes : List Change) (twos total : ℕ) where
+  pub through-left : (left rest still : List Open) → all_left puts left ≡ true
+      → IsThrough was now (stays is_fresh was.state) (stays is_fresh now.state) traces (left ++ rest) changes still twos total
+      → IsThrough was now (stays is_fresh was.state) (stays is_fresh now.state) traces rest changes (still ++ left) twos total
+  through-left [] rest still h through = subst (λ (es : List Open). IsThrough was now (stays is_fresh was.state) (stays is_fresh now.state) traces rest changes es twos total) (sym (append-nil still)) through
+  through-left (e ∷ left) rest still h through =
+      let both = and_parts (is_left e.awaits puts) (all_left puts left) h in
+      let (t, is, awaits) = through-line was now puts is_fresh arrives traces changes still twos total e (left ++ rest) through in
+      let same = left-same was now puts is_fresh arrives t e.awaits both.0 awaits in
+      let none : twos ≡ counted_on twos (if is_redone (final_value was) (final_value now) false t then 1 else 0) =
+      none-more twos ∙ ap (λ (b : Bool). counted_on twos (if not b then 1 else 0)) (sym same) in
+      let next = through-next was now puts is_fresh arrives traces changes still twos total e (left ++ rest) through t None (Some e) twos is (named-alone (final_value was) (final_value now) t same)
+      (refl, left-still was now puts is_fresh arrives t e.awaits both.0 awaits) none in
+      let as_were = through-as was now (stays is_fresh was.state) (stays is_fresh now.state) traces (left ++ rest) (changes ++ []) changes (still ++ e ∷ []) (still ++ e ∷ []) twos total (sym (append-nil changes)) refl next in
+      subst (λ (es : List Open). IsThrough was now (stays is_fresh was.state) (stays is_fresh now.state) traces rest changes es twos total) (append_assoc still (e ∷ []) left)
+      (through-left left rest (still ++ e ∷ []) both.1 as_were)
+
+-- the open lines in front, and one more
+pub left-next : (puts : List Put) (entries : List Open) (i : ℕ) (e : Open) → i < length entries → e ≡ get_or entries i e → is_left e.awaits puts ≡ true → all_left puts (take i entries) ≡ true
+    → all_left puts (take (i + 1) entries) ≡ true
+left-next puts entries i e lt is left so_far =
+    ap (all_left puts) (take_more entries i e lt ∙ ap (λ x. take i entries ++ x ∷ []) (sym is))
+    ∙ list_all-append (λ (entry : Open). is_left entry.awaits puts) (take i entries) (e ∷ [])
+    ∙ and_all (all_left puts (take i entries)) (all_left puts (e ∷ [])) so_far (and_all (is_left e.awaits puts) true left refl)
+
+-- open lines behind them, to be gone through
+module _ (was now : Finals) (puts : List Put) (is_fresh : Bool) (arrives : Arrives was now puts is_fresh) (traces : List Trace) (changes : List Change) (twos : ℕ) where
+  pub through-front : (left entries still : List Open) → all_left puts left ≡ true → Covers (stays is_fresh was.state) 0 (left ++ entries) traces → changes ≡ [] → still ≡ []
+      → IsThrough was now (stays is_fresh was.state) (stays is_fresh now.state) traces entries changes (left ++ still) twos (counted_on twos (redone_kept (final_value was) (final_value now) traces))
+  through-front left entries still h covers none none' =
+      let total = counted_on twos (redone_kept (final_value was) (final_value now) traces) in
+      let begun = through-start was now puts is_fresh arrives traces changes [] twos total (left ++ entries) covers refl none refl in
+      through-as was now (stays is_fresh was.state) (stays is_fresh now.state) traces entries changes changes left (left ++ still) twos total refl (ap (λ es. left ++ es) none' ∙ append-nil left)
+      (through-left was now puts is_fresh arrives traces changes twos total left entries [] h begun)

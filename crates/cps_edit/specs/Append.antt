@@ -71,6 +71,10 @@ abbrev pub is_left : Option Name → List Put → Bool
 is_left None puts = false
 is_left (Some name) puts = not (puts_at (key.Label name) puts)
 
+-- entries of which each is left
+abbrev pub all_left : List Put → List Open → Bool
+all_left puts entries = list_all (λ (entry : Open). is_left entry.awaits puts) entries
+
 -- it is no label and no counter
 abbrev pub is_quiet_key : Key → Bool
 is_quiet_key (key.Label name) = false

@@ -1,5 +1,5 @@
 //! A line that arrives behind all others, and the kept lines that it changes.
-ghost use Rattle.std.specs.Prelude.{◌≡◌, ◌≤◌, ◌++◌, ◌∷◌, [], true, false, List, IfOk, IfSome, OnOk, OnErr, length, if◌then◌else◌, Some as Just};
+ghost use Rattle.std.specs.Prelude.{◌≡◌, ◌≤◌, ◌++◌, ◌∷◌, [], true, false, List, IfOk, IfSome, OnOk, OnErr, length, take, if◌then◌else◌, Some as Just};
 ghost use Rattle.cps_state.specs.Course.{Trace as Course};
 ghost use Rattle.cps_state.specs.Work.{counted_on};
 ghost use Rattle.cps_state.specs.Keys.{overwritten, same_key};
@@ -11,10 +11,10 @@ ghost use Rattle.cps_edit.specs.declared.open.Open.{Open as Entry};
 ghost use Rattle.cps_edit.specs.Passes.{outcomes_by};
 ghost use Rattle.cps_edit.specs.Disturbed.{is_redone};
 ghost use Rattle.cps_edit.specs.Renewed.{picked, redone_kept};
-ghost use Rattle.cps_edit.specs.Append.{are_fresh as all_fresh, is_fresh_at, puts_at, is_left, is_quiet as quiet, is_settled as settled, stays_before, stays_after, finals_before, finals_after, IsArrival, Stands, Covers, listed, changed, change_at, AreWithin};
+ghost use Rattle.cps_edit.specs.Append.{are_fresh as all_fresh, is_fresh_at, puts_at, is_left, all_left, is_quiet as quiet, is_settled as settled, stays_before, stays_after, finals_before, finals_after, IsArrival, Stands, Covers, listed, changed, change_at, AreWithin};
 
 use crate::agreeing::Ends;
-use crate::open::{Open, all_lines, entry_of, open_lines, push_entry};
+use crate::open::{Open, all_lines, entry_of, open_lines, push_entries, push_entry};
 use crate::plan::Kept;
 use crate::quiet::is_quiet;
 use crate::redo::redone;
@@ -170,13 +170,33 @@ impl<'a> Arrival<'a> {
         Ok(Looked { outcome, entry })
     }
 
-    /// What becomes of open lines.
-    fn walk(self, entries: &[Open], traces: &[Trace], work: &mut Work) -> Result<Walked, AllocError>
+    /// How many open lines in front are left as they are.
+    fn left_in_front(self, entries: &[Open]) -> usize
+        ensures within { result ≤ length entries.now }
+        ensures left { all_left self.entry.puts.now (take result entries.now) ≡ true }
+    {
+        for count in 0..entries.len() {
+            if !self.leaves(entries[count].awaits) {
+                return count;
+            }
+        }
+        entries.len()
+    }
+
+    /// What becomes of open lines behind those in front that are left as they are.
+    fn walk(
+        self,
+        left: &[Open],
+        entries: &[Open],
+        traces: &[Trace],
+        work: &mut Work,
+    ) -> Result<Walked, AllocError>
         requires arrives { IsArrival self }
-        requires covers { Covers (stays_before self) 0 entries.now traces.now }
+        requires left { all_left self.puts.now left.now ≡ true }
+        requires covers { Covers (stays_before self) 0 (left.now ++ entries.now) traces.now }
         ensures outcomes { IfOk result (λ walked. changed walked.changes.items (outcomes_by (resolved self.entry.ends.before.now) traces.now) ≡ outcomes_by (resolved self.entry.ends.after.now) traces.now) }
         ensures within { IfOk result (λ walked. AreWithin (length traces.now) walked.changes.items) }
-        ensures opened { IfOk result (λ walked. (rest : List Entry) (tail : List Course) → Covers (stays_after self.entry) (length traces.now) rest tail → Covers (stays_after self.entry) 0 (walked.entries.items ++ rest) (traces.now ++ tail)) }
+        ensures opened { IfOk result (λ walked. (rest : List Entry) (tail : List Course) → Covers (stays_after self.entry) (length traces.now) rest tail → Covers (stays_after self.entry) 0 ((left.now ++ walked.entries.items) ++ rest) (traces.now ++ tail)) }
         ensures twos { OnOk result (work.new.twos ≡ counted_on work.old.twos (redone_kept (resolved self.entry.ends.before.now) (resolved self.entry.ends.after.now) traces.now)) }
         ensures twos_err { OnErr result (work.new.twos ≤ counted_on work.old.twos (redone_kept (resolved self.entry.ends.before.now) (resolved self.entry.ends.after.now) traces.now)) }
         ensures twos_least { work.old.twos ≤ work.new.twos }
@@ -260,12 +280,16 @@ impl<'a> Arrival<'a> {
         if is_quiet(trace) {
             return self.pass_by(known, traces, trace);
         }
-        let entries = self.entries(known, traces)?;
-        let walked = self.walk(&entries, traces, work)?;
+        let mut entries = self.entries(known, traces)?;
+        let count = self.left_in_front(&entries);
+        let (left, behind) = entries.split_at(count);
+        let walked = self.walk(left, behind, traces, work)?;
         let Walked {
             changes,
-            mut entries,
+            entries: still,
         } = walked;
+        entries.truncate(count);
+        push_entries(&mut entries, &still)?;
         push_entry(&mut entries, self.stand(traces.len(), trace))?;
         let open = self.known(entries);
         Ok(Changed { changes, open })
@@ -273,12 +297,12 @@ impl<'a> Arrival<'a> {
 }
 
 impl Walked {
-    /// Of no line, with room for so many entries and one more.
+    /// Of no line, with room for so many entries.
     fn new(alloc: Global, count: usize) -> Result<Walked, AllocError>
         ensures changes { IfOk result (λ walked. walked.changes.items ≡ []) }
         ensures entries { IfOk result (λ walked. walked.entries.items ≡ []) }
     {
-        let entries = Vec::with_capacity(alloc, count.saturating_add(1))?;
+        let entries = Vec::with_capacity(alloc, count)?;
         let changes = Vec::new(alloc);
         Ok(Walked { changes, entries })
     }

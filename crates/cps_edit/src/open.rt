@@ -90,6 +90,16 @@ pub fn push_entry(entries: &mut Vec<Open>, entry: Option<Open>) -> Result<(), Al
     Ok(())
 }
 
+/// Adds entries.
+pub fn push_entries(entries: &mut Vec<Open>, more: &[Open]) -> Result<(), AllocError>
+    ensures { OnOk result (entries.new.items ≡ entries.old.items ++ more.now) }
+{
+    for entry in more {
+        entries.push(*entry)?;
+    }
+    Ok(())
+}
+
 /// The entries of lines of which each is to be looked at.
 pub fn all_lines(alloc: Global, traces: &[Trace]) -> Result<Vec<Open>, AllocError>
     ensures { IfOk result (λ entries. (test : Test) → Covers test 0 entries.items traces.now) }
