@@ -12,8 +12,8 @@ use Rattle.cps_state.specs.Keys.{ranges_of, is_normal, is_no_range}
 use Rattle.cps_reading.specs.declared.reading.Location.{Location}
 use Rattle.cps_effect.specs.Head.{putting_control}
 use Rattle.cps_effect.specs.Leaving.{left}
-use Rattle.cps_effect.specs.Located.{present_flags}
-use Rattle.cps_effect.specs.Places.{place_left, going_on, asking_place}
+use Rattle.cps_site.specs.Located.{present_flags}
+use Rattle.cps_site.specs.Places.{place_left, going_on, asking_place}
 
 -- E where lines are skipped or kept, or not all ranges are closed
 abbrev pub end_flags : Mode → Location → Bool → Flags

@@ -11,13 +11,13 @@ use Rattle.cps_state.specs.declared.made.Content.TheVariants as content
 use Rattle.cps_state.specs.Course.{Part}
 use Rattle.cps_state.specs.Flags.{joined}
 use Rattle.cps_state.specs.Made.{no_flags, width_of}
-use Rattle.cps_effect.specs.declared.placing.Site.{Site}
+use Rattle.cps_site.specs.declared.placing.Site.{Site}
 use Rattle.cps_reading.specs.declared.reading.Location.{Location}
 use Rattle.cps_effect.specs.declared.value_now.ValueNow.{ValueNow}
 use Rattle.cps_effect.specs.declared.value_now.ValueNow.TheVariants.{Undefined, NoValue, Known}
 use Rattle.cps_effect.specs.Numbers.{plain_number, between}
-use Rattle.cps_effect.specs.Places.{here_at}
-use Rattle.cps_effect.specs.Placing.{asking_site, start_for, placing_flags, unread_from, unplaced, placed}
+use Rattle.cps_site.specs.Places.{here_at}
+use Rattle.cps_site.specs.Placing.{asking_site, start_for, placing_flags, unread_from, unplaced, placed}
 use Rattle.cps_effect.specs.ValueNow.{now}
 
 -- ---- a field and the value of its width

@@ -10,8 +10,8 @@ use Rattle.cps_state.specs.Keys.{same_block}
 use Rattle.cps_state.specs.Made.{Made, nothing_made}
 use Rattle.cps_reading.specs.declared.reading.Location.{Location}
 use Rattle.cps_effect.specs.Head.{putting_control}
-use Rattle.cps_effect.specs.Located.{present_flags}
-use Rattle.cps_effect.specs.Places.{filling_between, place_left}
+use Rattle.cps_site.specs.Located.{present_flags}
+use Rattle.cps_site.specs.Places.{filling_between, place_left}
 
 -- the word of a block is left; what fills it belongs to the statement
 abbrev pub left : Control → Location → Place → Made

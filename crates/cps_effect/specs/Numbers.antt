@@ -2,10 +2,10 @@
 use Rattle.std.specs.Prelude.{ℕ, true, ◌&&◌, nat_le, pos, negsuc, ℤ, Option, None, Some, if◌then◌else◌}
 use Rattle.cps_text.specs.declared.name.Name.{Name}
 use Rattle.cps_state.specs.declared.flags.Flags.{Flags}
-use Rattle.cps_effect.specs.declared.placing.Site.{Site}
+use Rattle.cps_site.specs.declared.placing.Site.{Site}
 use Rattle.cps_effect.specs.declared.value_now.ValueNow.{ValueNow}
 use Rattle.cps_effect.specs.declared.value_now.ValueNow.TheVariants.{Undefined, NoValue, Known}
-use Rattle.cps_effect.specs.Placing.{placing_flags, unread_flags}
+use Rattle.cps_site.specs.Placing.{placing_flags, unread_flags}
 
 -- no number below 0
 abbrev pub not_negative : ℤ → Option ℕ

@@ -11,10 +11,10 @@ use Rattle.cps_reading.specs.declared.reading.Location.{Location}
 use Rattle.cps_effect.specs.declared.value_now.ValueNow.{ValueNow}
 use Rattle.cps_effect.specs.declared.value_now.ValueNow.TheVariants.{Undefined, NoValue, Known}
 use Rattle.cps_effect.specs.Leaving.{left, using}
-use Rattle.cps_effect.specs.Located.{present_flags}
+use Rattle.cps_site.specs.Located.{present_flags}
 use Rattle.cps_effect.specs.Making.{flagged, unmatched, unread}
 use Rattle.cps_effect.specs.Numbers.{not_negative}
-use Rattle.cps_effect.specs.Places.{place_left, here_at, going_on, asking_place}
+use Rattle.cps_site.specs.Places.{place_left, here_at, going_on, asking_place}
 use Rattle.cps_effect.specs.ValueNow.{now}
 
 -- E where the machine ends before that address

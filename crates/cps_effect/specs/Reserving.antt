@@ -8,12 +8,12 @@ use Rattle.cps_state.specs.declared.made.Shown.TheVariants as shown
 use Rattle.cps_state.specs.Course.{Part, ◌before◌, fill}
 use Rattle.cps_state.specs.Machines.{limit}
 use Rattle.cps_state.specs.Made.{nothing_made}
-use Rattle.cps_effect.specs.declared.placing.Site.{Site}
+use Rattle.cps_site.specs.declared.placing.Site.{Site}
 use Rattle.cps_reading.specs.declared.reading.Location.{Location}
 use Rattle.cps_effect.specs.declared.value_now.ValueNow.{ValueNow}
 use Rattle.cps_effect.specs.Numbers.{plain_number, no_number_flags}
-use Rattle.cps_effect.specs.Places.{filling_between, here_at}
-use Rattle.cps_effect.specs.Placing.{asking_site, word_start, placing_flags, settling, unplaced, too_far}
+use Rattle.cps_site.specs.Places.{filling_between, here_at}
+use Rattle.cps_site.specs.Placing.{asking_site, word_start, placing_flags, settling, unplaced, too_far}
 use Rattle.cps_effect.specs.ValueNow.{now}
 
 abbrev pub zeros_for : Bool → ℕ → ℕ

@@ -10,7 +10,7 @@ use Rattle.cps_state.specs.Course.{Part}
 use Rattle.cps_reading.specs.declared.reading.Location.{Location}
 use Rattle.cps_effect.specs.Fields.{vfd, unread_vfd}
 use Rattle.cps_effect.specs.Head.{ident, declaration, base}
-use Rattle.cps_effect.specs.Located.{present_flags}
+use Rattle.cps_site.specs.Located.{present_flags}
 use Rattle.cps_effect.specs.Making.{flagged, unknown, unread}
 use Rattle.cps_effect.specs.Origin.{org, unread_org}
 use Rattle.cps_effect.specs.Reserving.{bss, bssz}

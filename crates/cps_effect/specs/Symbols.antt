@@ -11,12 +11,12 @@ use Rattle.cps_state.specs.declared.key.Key.TheVariants as key
 use Rattle.cps_state.specs.declared.made.Shown.TheVariants as shown
 use Rattle.cps_state.specs.Course.{Part, nothing, ◌before◌, putting, tell, telling_if, fill}
 use Rattle.cps_state.specs.Made.{Made, nothing_made, no_flags}
-use Rattle.cps_effect.specs.declared.located.Standing.{Standing}
-use Rattle.cps_effect.specs.declared.located.Standing.TheVariants.{Free, Labelled, Set}
+use Rattle.cps_site.specs.declared.located.Standing.{Standing}
+use Rattle.cps_site.specs.declared.located.Standing.TheVariants.{Free, Labelled, Set}
 use Rattle.cps_reading.specs.declared.reading.Location.{Location}
 use Rattle.cps_effect.specs.declared.value_now.ValueNow.{ValueNow}
 use Rattle.cps_effect.specs.declared.value_now.ValueNow.TheVariants.{Undefined, NoValue, Known}
-use Rattle.cps_effect.specs.Located.{symbol_in, is_labelled, asking_standing, asking_taken, defining}
+use Rattle.cps_site.specs.Located.{symbol_in, is_labelled, asking_standing, asking_taken, defining}
 use Rattle.cps_effect.specs.Making.{flagged}
 use Rattle.cps_effect.specs.ValueNow.{now_here}
 

@@ -14,7 +14,7 @@ use Rattle.cps_state.specs.Keys.{most_uses, same_block, is_place, uses_of, count
 use Rattle.cps_reading.specs.declared.reading.Location.{Location}
 use Rattle.cps_effect.specs.Leaving.{left, using}
 use Rattle.cps_effect.specs.Making.{unmatched, unread}
-use Rattle.cps_effect.specs.Places.{place_left, going_on, asking_place}
+use Rattle.cps_site.specs.Places.{place_left, going_on, asking_place}
 
 -- how many named blocks there may be
 abbrev pub most_blocks : ℕ

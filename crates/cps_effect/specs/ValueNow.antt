@@ -14,7 +14,7 @@ use Rattle.cps_state.specs.Course.{Part, ◌before◌, asking, tell}
 use Rattle.cps_state.specs.Keys.{value_of}
 use Rattle.cps_effect.specs.declared.value_now.ValueNow.{ValueNow}
 use Rattle.cps_effect.specs.declared.value_now.ValueNow.TheVariants.{Undefined, NoValue, Known}
-use Rattle.cps_effect.specs.Places.{here_at, asking_place}
+use Rattle.cps_site.specs.Places.{here_at, asking_place}
 
 abbrev pub known_or_none : Option AValue → ValueNow
 known_or_none None = NoValue

@@ -3,11 +3,9 @@ ghost use Rattle.std.specs.Prelude.{◌≡◌, OnOk};
 ghost use Rattle.cps_state.specs.Line.{Does};
 ghost use Rattle.cps_effect.specs.End as meaning;
 
-use crate::front::Front;
 use crate::head::put_control;
-use crate::located::present_flags;
-use crate::places::{go_on, leave_word, stand};
 use cps_reading::Location;
+use cps_site::{Front, go_on, leave_word, present_flags, stand};
 use cps_state::{
     Answer, Control, Flags, Key, Lookup, Made, Mode, Phase, Recorder, Shared, Shown, is_no_range,
     is_normal,

@@ -3,16 +3,14 @@ ghost use Rattle.std.specs.Prelude.{◌≡◌, ◌<◌, ◌≤◌, All, IfOk, If
 ghost use Rattle.cps_state.specs.Line.{Does, Hands};
 ghost use Rattle.cps_state.specs.Made.{IsContent};
 ghost use Rattle.cps_effect.specs.Fields as meaning;
-ghost use Rattle.cps_effect.specs.Sites.{IsSite};
+ghost use Rattle.cps_site.specs.Sites.{IsSite};
 
-use crate::front::Front;
 use crate::numbers::{between, plain_number};
-use crate::places::here_at;
-use crate::placing::{
-    Site, ask_site, place, place_nothing, place_unread, placing_flags, start_for,
-};
 use crate::value_now::{ValueNow, value_now};
 use cps_expr::{Expr, Field, Sequence, Value};
+use cps_site::{
+    Front, Site, ask_site, here_at, place, place_nothing, place_unread, placing_flags, start_for,
+};
 use cps_state::{Content, Contents, Flags, Lookup, Recorder};
 use std::alloc::AllocError;
 

@@ -3,11 +3,10 @@ ghost use Rattle.std.specs.Prelude.{◌≡◌, Option, Some, OnOk, IfOk};
 ghost use Rattle.cps_state.specs.Line.{Does, Hands, line_put};
 ghost use Rattle.cps_effect.specs.Head as head;
 
-use crate::front::Front;
-use crate::located::present_flags;
 use crate::making::flag;
 use cps_expr::{Machine, Radix};
 use cps_reading::Location;
+use cps_site::{Front, present_flags};
 use cps_state::{Answer, Control, Flags, Head, Key, Lookup, Made, Phase, Recorder, SharedMode};
 use cps_text::Name;
 use std::alloc::AllocError;

@@ -1,20 +1,14 @@
 //! What the statements do that neither skip lines nor keep nor open them: what each asks of the state of an assembly, what it puts there, and what it makes.
 #![tactic(auto)]
 
-mod asking;
 mod ends;
 mod fields;
-mod front;
 mod head;
-mod holding;
 mod instructions;
 mod leaving;
-mod located;
 mod making;
 mod numbers;
 mod origin;
-mod places;
-mod placing;
 mod reserving;
 mod statements;
 mod symbols;
@@ -23,13 +17,9 @@ mod value_now;
 mod words;
 
 pub use ends::end;
-pub use front::Front;
 pub use head::leave_head;
 pub use instructions::{instruction, peripheral_instruction};
-pub use located::{Standing, ask_standing, has_value, present_flags};
 pub use making::{flag, misplaced, unknown, unmatched, unread};
 pub use numbers::{not_negative, plain_number};
-pub use places::{here_at, stand};
-pub use placing::{Site, ask_site, placing_flags, settle, word_start};
 pub use statements::{obey_plainly, obey_unread_plainly};
 pub use value_now::{ValueNow, value_here};

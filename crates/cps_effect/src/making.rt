@@ -2,10 +2,10 @@
 ghost use Rattle.std.specs.Prelude.{◌≡◌, true};
 ghost use Rattle.cps_state.specs.Line.{line_filled};
 ghost use Rattle.cps_state.specs.Made.{nothing_made, no_flags};
-ghost use Rattle.cps_effect.specs.Located.{present_flags};
+ghost use Rattle.cps_site.specs.Located.{present_flags};
 
-use crate::located::present_flags;
 use cps_reading::Location;
+use cps_site::present_flags;
 use cps_state::{Flags, Lookup, Made, Recorder};
 
 /// A statement that does nothing but have flags.

@@ -2,8 +2,8 @@
 ghost use Rattle.std.specs.Prelude.{◌≡◌, ◌≤◌, IfSome};
 ghost use Rattle.cps_effect.specs.Numbers as numbers;
 
-use crate::placing::{Site, placing_flags, unread_flags};
 use crate::value_now::ValueNow;
+use cps_site::{Site, placing_flags, unread_flags};
 use cps_state::Flags;
 
 /// No number below 0.

@@ -3,15 +3,13 @@ ghost use Rattle.std.specs.Prelude.{◌≡◌, ◌<◌, ◌^◌, OnOk};
 ghost use Rattle.cps_state.specs.Line.{Does};
 ghost use Rattle.cps_effect.specs.Origin as meaning;
 
-use crate::front::Front;
 use crate::leaving::select;
-use crate::located::present_flags;
 use crate::making::{flag, unmatched, unread};
 use crate::numbers::not_negative;
-use crate::places::{go_on, here_at, leave_word, stand};
 use crate::value_now::{ValueNow, value_now};
 use cps_code::Place;
 use cps_expr::{Expr, Value};
+use cps_site::{Front, go_on, here_at, leave_word, present_flags, stand};
 use cps_state::{Lookup, Made, Recorder, Shown, WORD, limit_of};
 use cps_text::Name;
 use std::alloc::AllocError;

@@ -4,18 +4,16 @@ ghost use Rattle.std.specs.Option.{option_to_list};
 ghost use Rattle.cps_code.specs.Image.{piece_of};
 ghost use Rattle.cps_code.specs.Place.{position};
 ghost use Rattle.cps_state.specs.Line.{Does};
-ghost use Rattle.cps_effect.specs.Places.{filling_between};
+ghost use Rattle.cps_site.specs.Places.{filling_between};
 ghost use Rattle.cps_effect.specs.Reserving as meaning;
-ghost use Rattle.cps_effect.specs.Sites.{IsSite, Starts};
+ghost use Rattle.cps_site.specs.Sites.{IsSite, Starts};
 
-use crate::front::Front;
 use crate::numbers::{no_number_flags, plain_number};
-use crate::places::here_at;
-use crate::placing::{
-    Site, ask_site, pass_limit, place_nothing, placing_flags, settle, word_start,
-};
 use crate::value_now::value_now;
 use cps_expr::Expr;
+use cps_site::{
+    Front, Site, ask_site, here_at, pass_limit, place_nothing, placing_flags, settle, word_start,
+};
 use cps_state::{Begun, Contents, Lookup, Made, Recorder, WORD, limit_of};
 use std::alloc::AllocError;
 

@@ -5,9 +5,7 @@ ghost use Rattle.cps_state.specs.Line.{Does};
 ghost use Rattle.cps_effect.specs.Statements as statements;
 
 use crate::fields::{unread_vfd, vfd};
-use crate::front::Front;
 use crate::head::{base, declaration, ident};
-use crate::located::present_flags;
 use crate::making::{flag, unknown, unread};
 use crate::origin::{org, unread_org};
 use crate::reserving::{bss, bssz};
@@ -15,6 +13,7 @@ use crate::symbols::{equate, set_symbol, unread_equate, unread_set};
 use crate::uses::{unread_use, use_block};
 use crate::words::{con, data_words, dis, unread_words};
 use cps_expr::{Machine, Operation, Row};
+use cps_site::{Front, present_flags};
 use cps_state::{Lookup, Recorder};
 use std::alloc::AllocError;
 

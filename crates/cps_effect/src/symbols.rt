@@ -2,14 +2,13 @@
 ghost use Rattle.std.specs.Prelude.{◌≡◌, OnOk, IfOk};
 ghost use Rattle.cps_state.specs.Line.{Does, Hands, line_filled};
 ghost use Rattle.cps_effect.specs.Symbols as symbols;
-ghost use Rattle.cps_effect.specs.Located.{symbol_in, defining};
+ghost use Rattle.cps_site.specs.Located.{symbol_in, defining};
 
-use crate::front::Front;
-use crate::located::{Standing, ask_standing, define, is_labelled, is_taken, symbol_in, tell_if};
 use crate::making::flag;
 use crate::value_now::{ValueNow, value_here};
 use cps_expr::{Expr, Value};
 use cps_reading::Location;
+use cps_site::{Front, Standing, ask_standing, define, is_labelled, is_taken, symbol_in, tell_if};
 use cps_state::{Answer, Flags, Key, Lookup, Made, Recorder, Shown};
 use std::alloc::AllocError;
 

@@ -5,13 +5,11 @@ ghost use Rattle.cps_state.specs.Keys.{uses_of};
 ghost use Rattle.cps_state.specs.Line.{Does, line_answer, line_asked};
 ghost use Rattle.cps_effect.specs.Use as use_of;
 
-use crate::front::Front;
 use crate::leaving::select;
-use crate::located::present_flags;
 use crate::making::{unmatched, unread};
-use crate::places::{go_on, leave_word, stand};
 use cps_code::Place;
 use cps_expr::Block;
+use cps_site::{Front, go_on, leave_word, present_flags, stand};
 use cps_state::{
     Answer, Key, Lookup, Made, Recorder, Shared, Shown, count_of, is_place, is_same_block, uses_of,
     uses_with,

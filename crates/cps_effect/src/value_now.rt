@@ -4,9 +4,8 @@ ghost use Rattle.cps_state.specs.Line.{Hands};
 ghost use Rattle.cps_effect.specs.ValueNow as now;
 ghost use Rattle.cps_effect.specs.NamesNow.{values_in, name_now};
 
-use crate::asking::ask_value;
-use crate::places::{here_at, stand};
 use cps_expr::{Expr, Names, Value, is_same_name};
+use cps_site::{ask_value, here_at, stand};
 use cps_state::{Control, Key, Lookup, Recorder, WORD};
 use cps_text::Name;
 use std::alloc::AllocError;

@@ -3,15 +3,13 @@ ghost use Rattle.std.specs.Prelude.{◌≡◌, ◌<◌, ◌^◌, ◌*◌, ◌/�
 ghost use Rattle.cps_expr.specs.Item.{bits_of, characters_in_word, packed_characters};
 ghost use Rattle.cps_state.specs.Line.{Does};
 ghost use Rattle.cps_state.specs.Made.{width_of, IsContent};
-ghost use Rattle.cps_effect.specs.Sites.{IsSite};
+ghost use Rattle.cps_site.specs.Sites.{IsSite};
 ghost use Rattle.cps_effect.specs.Words as meaning;
 
-use crate::front::Front;
 use crate::numbers::{between, no_number_flags, plain_number};
-use crate::places::here_at;
-use crate::placing::{Site, ask_site, place, place_nothing, place_unread, word_start};
 use crate::value_now::value_now;
 use cps_expr::{DisText, Expr, Machine, Sequence, pack_characters};
+use cps_site::{Front, Site, ask_site, here_at, place, place_nothing, place_unread, word_start};
 use cps_state::{Content, Contents, Lookup, Recorder, word_bits};
 use std::alloc::{AllocError, Global};
 

@@ -1,9 +1,9 @@
 -- Each statement of a line stands only where it asks the counter of the block in use.
 use Rattle.cps_effect.specs.Head.{in_body}
-use Rattle.cps_effect.specs.Located.{has_value, present_flags}
+use Rattle.cps_site.specs.Located.{has_value, present_flags}
 use Rattle.cps_effect.specs.Making.{flagged, misplaced}
 use Rattle.cps_effect.specs.Numbers.{plain_number}
-use Rattle.cps_effect.specs.Placing.{settling, word_start}
+use Rattle.cps_site.specs.Placing.{settling, word_start}
 use Rattle.cps_effect.specs.ValueNow.{now_here}
 use Rattle.cps_effect.specs.declared.value_now.ValueNow.{ValueNow}
 use Rattle.cps_expr.specs.Expression.{Expression}
@@ -18,20 +18,20 @@ use Rattle.cps_laws.proofs.PlacingStands.{asked-place-fits, settling-settles, si
 use Rattle.cps_laws.proofs.StandLemmas.{Fits, Mark, ask-fits, asked-stand, fresh, if-fits, mark_of, settled, stands, stop-fits}
 use Rattle.cps_laws.proofs.StatementStands.{end-fits, here-fits, instruction-fits, leaving-head-fits, obeyed-fits, peripheral-fits, unreadable-fits}
 use Rattle.cps_laws.specs.Standing.{StandsWhereItAsks}
-use Rattle.cps_pass.specs.Keeping.{kept_for_dup, kept_for_macro, no_lines}
-use Rattle.cps_pass.specs.Macros.{bound, call_at, calling, calling_with, labelled, labelling}
-use Rattle.cps_pass.specs.Meaning.{assembled, before_end, after_end, calling_if, calling_named, card_in, end_in, endm, in_mode, in_phase, macro, obeyed, stated, statement, stays_in_head, unreadable}
-use Rattle.cps_pass.specs.Ranges.{beginning_range, closed, compared, count_flags, counting, defined, else_of, endif_of, hanging, if_compared, if_defined, line_count, opening, skipping_lines, test_flags, turned_round}
-use Rattle.cps_pass.specs.Repeating.{body_count, dup, repeating, repeating_by, repeating_lines, times_flags, times_in}
-use Rattle.cps_pass.specs.Scope.{Behind, asking_lines, asking_ranges, flagging, going_by, keeping, mode_in, opens_nothing, putting_ranges, taking_body}
-use Rattle.cps_pass.specs.Seen.{seen_in}
-use Rattle.cps_pass.specs.Skipping.{skipped_in_range, skipped_line}
-use Rattle.cps_pass.specs.Treating.{changing, defining_macro, keeping_at, last_line, passing, repeated, resuming, treated}
-use Rattle.cps_pass.specs.declared.ranges.Tested.{Tested}
-use Rattle.cps_pass.specs.declared.scope.Scope.TheVariants.{Expansion, Source}
-use Rattle.cps_pass.specs.declared.scope.Scope.{Scope}
-use Rattle.cps_pass.specs.declared.treatment.Treatment.TheVariants.{Defines, Opens, Passes, Resumes}
-use Rattle.cps_pass.specs.declared.treatment.Treatment.{Treatment}
+use Rattle.cps_statement.specs.Keeping.{kept_for_dup, kept_for_macro, no_lines}
+use Rattle.cps_statement.specs.Macros.{bound, call_at, calling, calling_with, labelled, labelling}
+use Rattle.cps_statement.specs.Meaning.{assembled, before_end, after_end, calling_if, calling_named, card_in, end_in, endm, in_mode, in_phase, macro, obeyed, stated, statement, stays_in_head, unreadable}
+use Rattle.cps_statement.specs.Ranges.{beginning_range, closed, compared, count_flags, counting, defined, else_of, endif_of, hanging, if_compared, if_defined, line_count, opening, skipping_lines, test_flags, turned_round}
+use Rattle.cps_statement.specs.Repeating.{body_count, dup, repeating, repeating_by, repeating_lines, times_flags, times_in}
+use Rattle.cps_statement.specs.Scope.{Behind, asking_lines, asking_ranges, flagging, going_by, keeping, mode_in, opens_nothing, putting_ranges, taking_body}
+use Rattle.cps_statement.specs.Seen.{seen_in}
+use Rattle.cps_statement.specs.Skipping.{skipped_in_range, skipped_line}
+use Rattle.cps_statement.specs.Treating.{changing, defining_macro, keeping_at, last_line, passing, repeated, resuming, treated}
+use Rattle.cps_statement.specs.declared.ranges.Tested.{Tested}
+use Rattle.cps_statement.specs.declared.scope.Scope.TheVariants.{Expansion, Source}
+use Rattle.cps_statement.specs.declared.scope.Scope.{Scope}
+use Rattle.cps_statement.specs.declared.treatment.Treatment.TheVariants.{Defines, Opens, Passes, Resumes}
+use Rattle.cps_statement.specs.declared.treatment.Treatment.{Treatment}
 use Rattle.cps_reading.specs.Reading.{location_in, stating_in}
 use Rattle.cps_reading.specs.declared.reading.Location.TheVariants.{Absent, Minus, NoSymbol, Plus, Symbol}
 use Rattle.cps_reading.specs.declared.reading.Location.{Location}

@@ -4,15 +4,15 @@ use Rattle.cps_code.specs.Place.{position}
 use Rattle.cps_code.specs.declared.place.Place.{Place}
 use Rattle.cps_effect.specs.Fields.{Sized, are_sized, fields_in, no_fields_sized, placing_fields, sizing, with_field}
 use Rattle.cps_effect.specs.Instruction.{coded, peripheral_coded}
-use Rattle.cps_effect.specs.Located.{asking_standing, asking_taken, defining, has_value, standing_by, symbol_in}
+use Rattle.cps_site.specs.Located.{asking_standing, asking_taken, defining, has_value, standing_by, symbol_in}
 use Rattle.cps_effect.specs.Numbers.{between, no_number_flags, plain_number}
-use Rattle.cps_effect.specs.Places.{asking_place, filling_between, here_at, rounded_up}
-use Rattle.cps_effect.specs.Placing.{asking_site, held_of, holding, only_flagging, placed, placed_to, placing_flags, settings_now, settling, start_for, too_far, unplaced, unread_flags, unread_from, word_start}
+use Rattle.cps_site.specs.Places.{asking_place, filling_between, here_at, rounded_up}
+use Rattle.cps_site.specs.Placing.{asking_site, held_of, holding, only_flagging, placed, placed_to, placing_flags, settings_now, settling, start_for, too_far, unplaced, unread_flags, unread_from, word_start}
 use Rattle.cps_effect.specs.Reserving.{reserved, reserved_or_not, reserving, zeros_for}
 use Rattle.cps_effect.specs.ValueNow.{meant, names_now, no_values, now, value_now, with_value}
 use Rattle.cps_effect.specs.Words.{counted_or_not, delimited_words, displaying, number_words, text_words, words}
-use Rattle.cps_effect.specs.declared.located.Standing.{Standing}
-use Rattle.cps_effect.specs.declared.placing.Site.{Site}
+use Rattle.cps_site.specs.declared.located.Standing.{Standing}
+use Rattle.cps_site.specs.declared.placing.Site.{Site}
 use Rattle.cps_effect.specs.declared.value_now.ValueNow.{ValueNow}
 use Rattle.cps_expr.specs.Expression.{Expression, names_of}
 use Rattle.cps_expr.specs.Item.{blank_code}

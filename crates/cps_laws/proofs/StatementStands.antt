@@ -8,19 +8,19 @@ use Rattle.cps_effect.specs.Origin.{moving, moving_by, moving_to, org, org_from,
 use Rattle.cps_effect.specs.Fields.{fields_in, unread_fields_at}
 use Rattle.cps_effect.specs.Head.{base, declaration, declaration_flags, entering, ident, ident_flags, in_body, is_in_head, is_late_declaration, is_late_name, leaving_head, putting_control, same_radix, with_declaration, with_name}
 use Rattle.cps_effect.specs.Instruction.{coded, instruction, peripheral_coded, peripheral_instruction}
-use Rattle.cps_effect.specs.Located.{defining, is_labelled, present_flags, symbol_in}
+use Rattle.cps_site.specs.Located.{defining, is_labelled, present_flags, symbol_in}
 use Rattle.cps_effect.specs.Making.{flagged, unmatched, unread}
 use Rattle.cps_effect.specs.Numbers.{not_negative}
-use Rattle.cps_effect.specs.Places.{asking_place, going_on, here_at, place_left}
-use Rattle.cps_effect.specs.Placing.{start_for, word_start}
+use Rattle.cps_site.specs.Places.{asking_place, going_on, here_at, place_left}
+use Rattle.cps_site.specs.Placing.{start_for, word_start}
 use Rattle.cps_effect.specs.Reserving.{reserving}
 use Rattle.cps_effect.specs.Statements.{obeyed_plainly, unreadable_plainly}
 use Rattle.cps_effect.specs.Symbols.{asking_settable, equate, equate_flags, equate_to, listing_value, set_symbol, set_to, setting, unread_equate, unread_set, with_known}
 use Rattle.cps_effect.specs.Use.{before_previous, beginning_block, going_to, going_to_named, going_to_new, has_begun, leaving, left_behind, most_blocks, previous, unread_use, use_block}
 use Rattle.cps_effect.specs.ValueNow.{now, now_here}
 use Rattle.cps_effect.specs.Words.{displaying, unread_words_at, number_words, unread_words, value_words, words}
-use Rattle.cps_effect.specs.declared.located.Standing.TheVariants.{Free, Labelled, Set}
-use Rattle.cps_effect.specs.declared.located.Standing.{Standing}
+use Rattle.cps_site.specs.declared.located.Standing.TheVariants.{Free, Labelled, Set}
+use Rattle.cps_site.specs.declared.located.Standing.{Standing}
 use Rattle.cps_effect.specs.declared.value_now.ValueNow.TheVariants.{Known, NoValue, Undefined}
 use Rattle.cps_effect.specs.declared.value_now.ValueNow.{ValueNow}
 use Rattle.cps_expr.specs.Expression.{Expression, has_counter}

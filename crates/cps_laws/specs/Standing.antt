@@ -8,8 +8,8 @@ use Rattle.cps_state.specs.declared.key.Key.{Key}
 use Rattle.cps_state.specs.declared.key.Key.TheVariants as key
 use Rattle.cps_state.specs.Course.{Course, stop, ask, put, stand, fill, mark, tell, settle, begin, nothing, Running, answer_at, with_ask, with_put_made, stood, filled, marked, with_read, settled_by}
 use Rattle.cps_state.specs.Keys.{State, same_key, control_of}
-use Rattle.cps_pass.specs.declared.scope.Scope.{Scope}
-use Rattle.cps_pass.specs.Meaning.{statement}
+use Rattle.cps_statement.specs.declared.scope.Scope.{Scope}
+use Rattle.cps_statement.specs.Meaning.{statement}
 use Rattle.cps_laws.specs.Listed.{reached}
 
 -- a statement, and nothing after it

@@ -5,15 +5,15 @@ use Rattle.cps_state.specs.Course.{Course, stop, begin, settle, Part, ◌before�
 use Rattle.cps_state.specs.Line.{Line, runs, line_started, line_settled, goes_on, Goes}
 use Rattle.cps_state.proofs.LineLemmas.{runs-done}
 use Rattle.cps_state.specs.Keys.{State}
-use Rattle.cps_pass.specs.declared.opened.Opened.{Opened}
-use Rattle.cps_pass.specs.declared.scope.Scope.{Scope}
-use Rattle.cps_pass.specs.declared.scope.Scope.TheVariants.{Source, Expansion}
+use Rattle.cps_statement.specs.declared.opened.Opened.{Opened}
+use Rattle.cps_statement.specs.declared.scope.Scope.{Scope}
+use Rattle.cps_statement.specs.declared.scope.Scope.TheVariants.{Source, Expansion}
 use Rattle.cps_pass.specs.Expansion.{ended, walk, body, too_deep, line_part}
-use Rattle.cps_pass.specs.Treating.{repeated}
-use Rattle.cps_pass.specs.Meaning.{statement}
-use Rattle.cps_pass.specs.Opened.{lines_of}
-use Rattle.cps_pass.specs.Own.{new_expansion}
-use Rattle.cps_pass.specs.Taking.{HandsOn, Walks}
+use Rattle.cps_statement.specs.Treating.{repeated}
+use Rattle.cps_statement.specs.Meaning.{statement}
+use Rattle.cps_statement.specs.Opened.{lines_of}
+use Rattle.cps_statement.specs.Own.{new_expansion}
+use Rattle.cps_statement.specs.Taking.{HandsOn, Walks}
 
 -- a statement, and then those after it
 pub walked : {S : Type 0} (nested : ℕ → List (List ℕ) → Part) (depth : ℕ) (texts : List (List ℕ)) (i : ℕ) (text : List ℕ) (scope later : Scope) (opened : List (List ℕ)) (complete : Bool) (f : S → State) (s t u v : Line S)

@@ -1,14 +1,2 @@
 pub mod Bounded
 pub mod Expansion
-pub mod Keeping
-pub mod Macros
-pub mod Meaning
-pub mod Opened
-pub mod Own
-pub mod Ranges
-pub mod Repeating
-pub mod Scope
-pub mod Seen
-pub mod Skipping
-pub mod Taking
-pub mod Treating

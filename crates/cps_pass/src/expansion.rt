@@ -3,13 +3,11 @@ ghost use Rattle.std.specs.Prelude.{◌≡◌, ◌≤◌, ◌+◌, ◌-◌, IfOk
 ghost use Rattle.cps_state.specs.Line.{Does, Goes};
 ghost use Rattle.cps_pass.specs.Expansion.{walk, body, ended, too_deep};
 ghost use Rattle.cps_pass.specs.Expansion as expansion;
-ghost use Rattle.cps_pass.specs.Taking.{Walks};
-ghost use Rattle.cps_pass.specs.Treating.{repeated};
+ghost use Rattle.cps_statement.specs.Taking.{Walks};
+ghost use Rattle.cps_statement.specs.Treating.{repeated};
 
-use crate::opened::Opened;
-use crate::scope::{Own, Scope};
-use crate::statement::step_statement;
 use cps_state::{Flags, Lookup, Mode, Recorder, Shared, Sheet, Trace};
+use cps_statement::{Opened, Own, Scope, step_statement};
 use std::alloc::{AllocError, Global};
 
 /// Statements, each followed by those that it opens. False where one is too much.

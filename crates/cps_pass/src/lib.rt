@@ -2,20 +2,8 @@
 #![tactic(auto)]
 
 mod expansion;
-mod keeping;
-mod macros;
-mod opened;
-mod ranges;
-mod repeating;
-mod scope;
-mod seen;
-mod skipping;
-mod statement;
 mod step;
-mod treating;
-mod treatment;
 
-pub use cps_effect::here_at;
 pub use cps_state::{
     Answer, Asked, Content, Control, DupBody, Extent, Flags, Head, Held, Item, Kept, Key, Lookup,
     Macro, MacroBody, Made, Mode, Phase, Put, Range, Shared, Sheet, Shown, Skip, State, Tally,

@@ -2,7 +2,7 @@ use Rattle.std.proofs.Common.{Bool, sym, ap, ◌∙◌}
 use Rattle.cps_state.specs.declared.flags.Flags.{Flags}
 use Rattle.cps_state.specs.Course.{fill}
 use Rattle.cps_state.specs.Line.{line_filled, runs}
-use Rattle.cps_effect.specs.Located.{is_labelled}
+use Rattle.cps_site.specs.Located.{is_labelled}
 use Rattle.cps_effect.specs.Symbols.{equate_flags, set_to, listing_value}
 use Rattle.cps_effect.specs.ValueNow.{now_here}
 use Rattle.cps_effect.proofs.symbols.set_symbol.Goals as goal

@@ -2,7 +2,7 @@ use Rattle.std.proofs.Common.{sym, subst}
 use Rattle.std.specs.Prelude.{OnOk}
 use Rattle.cps_expr.specs.declared.row.DisText.{DisText}
 use Rattle.cps_state.specs.Line.{Does}
-use Rattle.cps_effect.specs.Placing.{asking_site}
+use Rattle.cps_site.specs.Placing.{asking_site}
 use Rattle.cps_effect.specs.Words.{displaying}
 use Rattle.cps_effect.proofs.PartLemmas.{handed-then}
 use Rattle.cps_effect.proofs.words.dis.Goals as goal

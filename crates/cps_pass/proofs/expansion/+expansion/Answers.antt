@@ -2,10 +2,10 @@ use Rattle.std.proofs.Common.{rules, arith, ◌+◌, ◌-◌, sym, ◌∙◌, tr
 use Rattle.cps_state.specs.Course.{begin}
 use Rattle.cps_state.specs.Line.{Goes}
 use Rattle.cps_pass.specs.Expansion.{walk, body, ended, too_deep}
-use Rattle.cps_pass.specs.Treating.{repeated}
-use Rattle.cps_pass.specs.Meaning.{statement}
-use Rattle.cps_pass.specs.Opened.{lines_of}
-use Rattle.cps_pass.specs.Taking.{HandsOn, Walks}
+use Rattle.cps_statement.specs.Treating.{repeated}
+use Rattle.cps_statement.specs.Meaning.{statement}
+use Rattle.cps_statement.specs.Opened.{lines_of}
+use Rattle.cps_statement.specs.Taking.{HandsOn, Walks}
 use Rattle.cps_pass.proofs.WalkLemmas.{walked, cut, begins-as, obeys-as, walks-as, opened-some, opened-none, one-turn, body-as, no-turn}
 use Rattle.cps_pass.proofs.expansion.+expansion.Goals as goal
 use Rattle.cps_pass.proofs.expansion.+expansion.Goals.{go_through-in-Some+in_ok-expand+else-not-branch-2, go_through-in_default}

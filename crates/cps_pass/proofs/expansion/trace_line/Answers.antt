@@ -2,11 +2,11 @@ use Rattle.std.proofs.Common.{◌≡◌, ◌+◌, ◌-◌, subst, refl, true, Bo
 use Rattle.std.specs.Prelude.{IfOk}
 use Rattle.cps_state.specs.Course.{Running, stop, traced}
 use Rattle.cps_state.specs.Line.{line_started, runs}
-use Rattle.cps_pass.specs.declared.scope.Scope.TheVariants.{Source}
+use Rattle.cps_statement.specs.declared.scope.Scope.TheVariants.{Source}
 use Rattle.cps_pass.specs.Expansion.{line_part, too_deep}
-use Rattle.cps_pass.specs.Meaning.{statement}
-use Rattle.cps_pass.specs.Opened.{lines_of}
-use Rattle.cps_pass.specs.Taking.{HandsOn}
+use Rattle.cps_statement.specs.Meaning.{statement}
+use Rattle.cps_statement.specs.Opened.{lines_of}
+use Rattle.cps_statement.specs.Taking.{HandsOn}
 use Rattle.cps_pass.proofs.WalkLemmas.{lined, done-is, opened-some, opened-none}
 use Rattle.cps_pass.proofs.expansion.trace_line.Goals as goal
 use Rattle.cps_pass.proofs.expansion.trace_line.Goals.{in-Some+in_ok-complete-in-Some, in-None}

@@ -1,8 +1,0 @@
--- For the code of pass one, not part of what a reader believes: the statements that are opened.
-use Rattle.std.specs.Prelude.{ℕ, List, [], Option, None, Some}
-use Rattle.cps_pass.specs.declared.opened.Opened.{Opened}
-use Rattle.cps_pass.specs.Treating.{repeated}
-
-abbrev pub lines_of : Option Opened → List (List ℕ)
-lines_of None = []
-lines_of (Some opened) = repeated opened.times opened.lines.items

@@ -1,0 +1,4 @@
+pub mod KeepingLemmas
+pub mod MacroLemmas
+pub mod ScopeLemmas
+pub mod StatementLemmas

@@ -1,0 +1,19 @@
+-- For the code of pass one, not part of what a reader believes: what the functions that hand more than one value on do.
+use Rattle.std.specs.Prelude.{◌≡◌, ℕ, Bool, List}
+use Rattle.cps_state.specs.Course.{Course, Part}
+use Rattle.cps_state.specs.Keys.{State}
+use Rattle.cps_state.specs.Line.{Line, runs, goes_on}
+use Rattle.cps_statement.specs.declared.scope.Scope.{Scope}
+use Rattle.cps_statement.specs.Scope.{Behind}
+
+-- the lines that were kept were taken
+abbrev pub TakesBody : {S : Type 0} → ((List (List ℕ) → Scope → Part) → Part) → List (List ℕ) → Scope → (S → State) → Line S → Line S → Type 0
+TakesBody part lines scope answer old new = (next : List (List ℕ) → Scope → Part) (rest : Course) → runs (part next rest) answer old ≡ runs (next lines scope rest) answer new
+
+-- a statement was done, and hands on where it stands by then and what it opens
+abbrev pub HandsOn : {S : Type 0} → (Behind → Part) → Scope → List (List ℕ) → (S → State) → Line S → Line S → Type 0
+HandsOn part scope opened answer old new = (behind : Behind) (rest : Course) → runs (part behind rest) answer old ≡ runs (behind scope opened rest) answer new
+
+-- statements were completed, and hand on where they stand by then, or came to one that is too much
+abbrev pub Walks : {S : Type 0} → ((Scope → Part) → Part) → Bool → Scope → (S → State) → Line S → Line S → Type 0
+Walks part complete scope answer old new = (next : Scope → Part) (rest : Course) → runs (part next rest) answer old ≡ goes_on complete (next scope rest) answer new

@@ -1,0 +1,213 @@
+//! MACRO, and calls of macros.
+ghost use Rattle.std.specs.Prelude.{◌≡◌, Some, OnOk, IfOk, option_map, map};
+ghost use Rattle.cps_text.specs.Insertion.{pairs_value, inserted};
+ghost use Rattle.cps_state.specs.Line.{Hands};
+ghost use Rattle.cps_statement.specs.Macros as macros;
+ghost use Rattle.cps_statement.specs.Opened.{lines_of};
+ghost use Rattle.cps_statement.specs.Taking.{HandsOn};
+
+use crate::keeping::no_lines;
+use crate::opened::Opened;
+use crate::scope::{Scope, go_by};
+use cps_effect::flag;
+use cps_peripheral::is_builtin;
+use cps_reading::Location;
+use cps_site::{Front, ask_site, here_at, placing_flags, settle, word_start};
+use cps_state::{Flags, Lookup, Macro, MacroBody, Made, Mode, Recorder, Shared, Shown};
+use cps_text::{ArgFault, Name, arguments, insert_text};
+use std::alloc::{AllocError, Global};
+
+/// MACRO: the lines to come are kept; None where the parameters can't be read.
+pub fn define<L: Lookup>(
+    recorder: &mut Recorder<'_, L>,
+    front: Front,
+    scope: &mut Scope,
+    parameters: Option<&[Name]>,
+) -> Result<(), AllocError>
+    ensures { OnOk result (Hands (macros.macro_from front.control scope.old front.location (option_map (λ p. p.now) parameters.entry)) scope.new L.answer recorder.old recorder.new) }
+{
+    let alloc = recorder.alloc();
+    let name = macro_name(front.location);
+    let mut flags = Flags::none();
+    flags.location = name.is_none();
+    flags.operand = parameters.is_none();
+    let mode = macro_mode(alloc, name, parameters)?;
+    go_by(recorder, front.control, scope, mode)?;
+    flag(recorder, flags);
+    Ok(())
+}
+
+/// A macro's name is a symbol, and no operation of either machine or of the statement table.
+fn macro_name(location: Location) -> Option<Name>
+    ensures { result ≡ macros.macro_name location }
+{
+    match location {
+        Location::Symbol(name) if !is_builtin(name.text()) => Some(name),
+        _ => None,
+    }
+}
+
+/// Without a name, or with parameters that can't be read, the definition is kept and dropped at its end.
+fn macro_mode(
+    alloc: Global,
+    name: Option<Name>,
+    parameters: Option<&[Name]>,
+) -> Result<Mode, AllocError>
+    ensures { IfOk result (λ mode. mode ≡ macros.macro_mode name (option_map (λ p. p.now) parameters.entry)) }
+{
+    match (name, parameters) {
+        (Some(name), Some(parameters)) => Ok(Mode::KeepMacro(MacroBody {
+            name: Some(name),
+            parameters: Shared::new(alloc, parameters)?,
+            kept: no_lines(),
+        })),
+        _ => Ok(Mode::KeepMacro(MacroBody {
+            name: None,
+            parameters: Shared::empty(),
+            kept: no_lines(),
+        })),
+    }
+}
+
+/// A call of a macro: its symbol is defined, and the lines of the body are opened with the arguments.
+pub fn call<L: Lookup>(
+    recorder: &mut Recorder<'_, L>,
+    front: Front,
+    scope: &Scope,
+    named: &Macro,
+    tail: &[u8],
+) -> Result<Option<Opened>, AllocError>
+    ensures { IfOk result (λ opened. HandsOn (macros.calling front.control scope.now front.location named.now tail.now) scope.now (lines_of opened) L.answer recorder.old recorder.new) }
+{
+    let alloc = recorder.alloc();
+    let made = call_at(recorder, front)?;
+    let lines = open_body(alloc, named, tail)?;
+    recorder.fill(call_made(made, lines.is_some()));
+    Ok(lines)
+}
+
+/// What a call made, with A where it opens nothing.
+fn call_made(made: Made, is_bound: bool) -> Made
+    ensures { result ≡ macros.call_made made is_bound }
+{
+    let mut made = made;
+    if !is_bound {
+        let mut flags = Flags::none();
+        flags.operand = true;
+        made.mark(flags);
+    }
+    made
+}
+
+/// The location field of a call: its symbol is defined at the beginning of a word.
+fn call_at<L: Lookup>(recorder: &mut Recorder<'_, L>, front: Front) -> Result<Made, AllocError>
+    ensures { IfOk result (λ made. Hands (macros.call_at front.control front.location) made L.answer recorder.old recorder.new) }
+{
+    let alloc = recorder.alloc();
+    match front.location {
+        Location::Absent => Ok(Made::nothing(alloc, Flags::none())),
+        Location::Symbol(_) => label(recorder, front),
+        _ => {
+            let mut flags = Flags::none();
+            flags.location = true;
+            Ok(Made::nothing(alloc, flags))
+        }
+    }
+}
+
+fn label<L: Lookup>(recorder: &mut Recorder<'_, L>, front: Front) -> Result<Made, AllocError>
+    ensures { IfOk result (λ made. Hands (macros.labelling front.control front.location) made L.answer recorder.old recorder.new) }
+{
+    let alloc = recorder.alloc();
+    let site = ask_site(recorder, front)?;
+    let begun = word_start(site);
+    settle(recorder, site, begun.start, begun.start, false)?;
+    Ok(Made::leaving(
+        alloc,
+        placing_flags(site),
+        site.machine,
+        begun.filling,
+        Shown::Address(here_at(site.block, begun.start)),
+    ))
+}
+
+/// The lines of a macro with the arguments of a call; None where a parenthesis stays open, or there are too many.
+fn open_body(alloc: Global, named: &Macro, tail: &[u8]) -> Result<Option<Opened>, AllocError>
+    ensures { IfOk result (λ opened. option_map (λ o. lines_of (Some o)) opened ≡ option_map (λ pairs. map (inserted pairs) named.now.lines) (macros.bound named.now.parameters tail.now)) }
+{
+    let parameters = named.parameters.as_slice();
+    let lines = named.lines.as_slice();
+    if parameters.is_empty() {
+        return Ok(Some(open_once(alloc, lines, &[])?));
+    }
+    match arguments(alloc, tail) {
+        Ok(list) => open_with(alloc, parameters, lines, &list),
+        Err(ArgFault::Unclosed) => Ok(None),
+        Err(ArgFault::Memory) => Err(AllocError),
+    }
+}
+
+fn open_with(
+    alloc: Global,
+    parameters: &[Name],
+    lines: &[Shared<u8>],
+    list: &[&[u8]],
+) -> Result<Option<Opened>, AllocError>
+    ensures { IfOk result (λ opened. option_map (λ o. lines_of (Some o)) opened ≡ option_map (λ pairs. map (inserted pairs) lines.now) (macros.paired parameters.now (map (λ text. text.now) list.now))) }
+{
+    if list.len() > parameters.len() {
+        return Ok(None);
+    }
+    let pairs = pair(alloc, parameters, list)?;
+    Ok(Some(open_once(alloc, lines, &pairs)?))
+}
+
+fn open_once(
+    alloc: Global,
+    lines: &[Shared<u8>],
+    pairs: &[(Name, &[u8])],
+) -> Result<Opened, AllocError>
+    ensures { IfOk result (λ opened. lines_of (Some opened) ≡ map (inserted (pairs_value pairs.now)) lines.now) }
+{
+    let lines = insert_all(alloc, lines, pairs)?;
+    Ok(Opened { lines, times: 1 })
+}
+
+/// Each parameter with its argument; those that are missing are empty.
+fn pair<'a>(
+    alloc: Global,
+    parameters: &[Name],
+    list: &[&'a [u8]],
+) -> Result<Vec<(Name, &'a [u8])>, AllocError>
+    ensures { IfOk result (λ pairs. pairs_value pairs.items ≡ macros.pairs_of parameters.now (map (λ text. text.now) list.now)) }
+{
+    let mut pairs = Vec::new(alloc);
+    let mut rest = list;
+    for name in parameters {
+        let text: &[u8] = match rest {
+            [text, others @ ..] => {
+                rest = others;
+                *text
+            }
+            [] => &[],
+        };
+        pairs.push((*name, text))?;
+    }
+    Ok(pairs)
+}
+
+/// The lines of a body with these texts in place of names.
+fn insert_all(
+    alloc: Global,
+    lines: &[Shared<u8>],
+    pairs: &[(Name, &[u8])],
+) -> Result<Vec<Shared<u8>>, AllocError>
+    ensures { IfOk result (λ texts. texts.items ≡ map (inserted (pairs_value pairs.now)) lines.now) }
+{
+    let mut texts = Vec::with_capacity(alloc, lines.len())?;
+    for line in lines {
+        let text = insert_text(alloc, line.as_slice(), pairs)?;
+        texts.push(Shared::from_vec(text)?)?;
+    }
+    Ok(texts)
+}
