@@ -1,42 +1,55 @@
-//! Assembles the examples that lie where it runs, and compares the texts of each with those that lie beside it.
+//! Goes through the examples that lie where it runs: sessions, of which it tells how many of each file are replied to as
+//! their transcripts say, and sources, whose texts it compares with those beside them. Where all agree it assembles what is
+//! given to it, a source with a line that none may have, and ends with the status of a fault; where one differs, with
+//! another.
 #![tactic(auto)]
 
-use cps_list::Part;
-use cps_live::batch;
-use cps_text::Counted;
-use std::fs;
+mod call;
+mod source;
+mod transcript;
+
+use anyhow::Context;
 use std::process::ExitCode;
 
-const NAMES: [&str; 4] = ["devices", "flags", "reader", "sum"];
+/// The files of sessions, each of one subject.
+const SESSIONS: [&str; 17] = [
+    "blocks",
+    "central",
+    "columns",
+    "commands",
+    "edits",
+    "expansions",
+    "literals",
+    "macros",
+    "peripheral",
+    "processors",
+    "ranges",
+    "repetitions",
+    "settings",
+    "sources",
+    "symbols",
+    "words",
+    "work",
+];
+
+const SOURCES: [&str; 4] = ["devices", "flags", "reader", "sum"];
 
 fn main(rt: HostRuntime) -> ExitCode {
-    for name in NAMES.iter() {
-        if let Err(fault) = compare(&rt, name) {
-            let _ = rt.eprintln(format_args!("{name}: {fault}"));
-            return ExitCode::FAILURE;
+    match go_through(&rt) {
+        Ok(()) => ExitCode::from(call::assemble_input(&rt)),
+        Err(fault) => {
+            let _ = rt.eprintln(format_args!("{fault:#}"));
+            ExitCode::FAILURE
         }
     }
-    ExitCode::SUCCESS
 }
 
-/// Assembles `name.cps`, and compares its texts with `name.texts`.
-fn compare(rt: &HostRuntime, name: &str) -> anyhow::Result<()> {
-    let source = format!(in rt.alloc(); "{name}.cps")?;
-    let texts = format!(in rt.alloc(); "{name}.texts")?;
-    let want = fs::read_to_string(rt, &texts)?;
-    let got = assemble(rt, &source)?;
-    if got.as_slice() != want.as_bytes() {
-        rt.println(str::from_utf8(&got)?)?;
-        anyhow::bail!("other texts than those of {texts}");
+fn go_through(rt: &HostRuntime) -> anyhow::Result<()> {
+    for name in SESSIONS.iter() {
+        transcript::replay(rt, name).context(*name)?;
     }
-    rt.println(format_args!("{name}: as it stands"))?;
+    for name in SOURCES.iter() {
+        source::compare(rt, name).context(*name)?;
+    }
     Ok(())
-}
-
-/// All texts of a source.
-fn assemble(rt: &HostRuntime, name: &str) -> anyhow::Result<Vec<u8>> {
-    let mut reader = Counted::new(fs::open(rt, name)?);
-    let mut writer = Counted::new(Vec::new(rt.alloc()));
-    batch(rt.alloc(), &mut reader, &mut writer, Part::All)?;
-    Ok(writer.into_inner())
 }

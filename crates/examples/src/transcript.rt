@@ -1,30 +1,22 @@
 //! A session as its file has it: what it shows, what is entered, and the replies.
-use cps_text::Counted;
-use cps_tool::run_words;
+use super::call::call;
+use anyhow::Context;
 use std::alloc::Global;
+use std::fs;
 
 /// `* ` stands before what a session shows, which goes on after `- `; `|` before a line that is entered after the last
 /// one, whose reply `ok N lines` isn't written down; `>` before any other line of the script. The rest are replies; a
 /// blank line says nothing.
 #[derive(Drop)]
-pub struct Transcript {
-    alloc: Global,
+struct Transcript {
     script: String,
     replies: String,
     entered: u32,
 }
 
-/// What came of a script: the status of its run, and the replies.
-#[derive(Drop)]
-pub struct Replied {
-    pub status: u8,
-    pub text: Vec<u8>,
-}
-
 impl Transcript {
-    pub fn new(alloc: Global) -> Transcript {
+    fn new(alloc: Global) -> Transcript {
         Transcript {
-            alloc,
             script: String::new(alloc),
             replies: String::new(alloc),
             entered: 0,
@@ -32,7 +24,7 @@ impl Transcript {
     }
 
     /// Adds a line after the first.
-    pub fn add(&mut self, line: &str) -> anyhow::Result<()> {
+    fn add(&mut self, line: &str) -> anyhow::Result<()> {
         if let Some(source) = line.strip_prefix("|") {
             self.entered = self.entered.saturating_add(1);
             writeln!(self.script, "a {source}")?;
@@ -44,22 +36,29 @@ impl Transcript {
         }
         Ok(())
     }
+}
 
-    /// Runs the script from a source without a line.
-    pub fn run(&self) -> Replied {
-        let mut reader = Counted::new(self.script.as_bytes());
-        let mut writer = Counted::new(Vec::new(self.alloc));
-        let mut errors = Counted::new(Vec::new(self.alloc));
-        let words = ["compass", "session"];
-        let status = run_words(self.alloc, &words, &mut reader, &mut writer, &mut errors);
-        Replied {
-            status,
-            text: writer.into_inner(),
-        }
+/// Replays the sessions of `name.session`.
+pub fn replay(rt: &HostRuntime, name: &str) -> anyhow::Result<()> {
+    let file = format!(in rt.alloc(); "{name}.session")?;
+    let text = fs::read_to_string(rt, &file)?;
+    let mut count: u32 = 0;
+    for session in text.split("\n* ") {
+        compare(rt, session)?;
+        count = count.saturating_add(1);
     }
+    rt.println(format_args!("{name}: {count} sessions"))?;
+    Ok(())
+}
 
-    /// Whether the replies are those of the transcript, and the run had no fault.
-    pub fn is_replied(&self, replied: &Replied) -> bool {
-        replied.status < 2 && replied.text.as_slice() == self.replies.as_bytes()
+/// Replays a session, whose first line says what it shows, from a source without a line.
+fn compare(rt: &HostRuntime, session: &str) -> anyhow::Result<()> {
+    let mut transcript = Transcript::new(rt.alloc());
+    let mut lines = session.lines();
+    let title = lines.next().unwrap_or("");
+    for line in lines {
+        transcript.add(line)?;
     }
+    let called = call(rt.alloc(), "session", &transcript.script);
+    called.expect(rt, &transcript.replies).context(title)
 }
