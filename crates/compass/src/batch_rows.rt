@@ -1,13 +1,14 @@
 //! Sources that are read whole.
 use super::assertions::{assert_bytes, assert_same};
 use super::devices::{Resuming, SlowReader, SlowWriter};
-use super::running::{Written, assemble, assemble_byte_by_byte, assemble_from};
+use super::running::{
+    Written, assemble, assemble_byte_by_byte, assemble_from, assemble_into, long_input,
+};
 use cps_list::Part;
-use cps_live::{BatchFault, batch};
+use cps_live::BatchFault;
 use cps_text::Counted;
 use std::alloc::{AllocError, Global};
 use std::process::Abort;
-use std::test::Fail;
 
 /// Asserts what batch assembly answers and writes, however the source is read.
 fn assert_batch(
@@ -35,11 +36,20 @@ fn assert_written(
     assert_bytes(rt, how, &got.text, text);
 }
 
+/// A source that has no flagged line, and what is written of it.
+type Clean = (&'static [u8], &'static str);
+
+fn assert_texts(rt: &impl Abort, alloc: Global, part: Part, rows: &[Clean]) {
+    for (source, want) in rows.iter() {
+        assert_batch(rt, alloc, source, part, Ok(0), want);
+    }
+}
+
 /// The lines that bytes are: what they stand for is told by the words of their binary text.
 #[test]
 fn cuts_lines(rt: HostRuntime) {
     const ONE: &str = "IDENT\n000000 46000000000000000000\n";
-    const ROWS: [(&[u8], &str); 9] = [
+    const ROWS: [Clean; 9] = [
         (b"  NO", ONE),
         (b"  NO\r\n", ONE),
         (b"  NO\n", ONE),
@@ -50,106 +60,92 @@ fn cuts_lines(rt: HostRuntime) {
         (b"\n", "IDENT\n"),
         (b"  NO\n  NO", "IDENT\n000000 46000460000000000000\n"),
     ];
-    for (source, want) in ROWS.iter() {
-        assert_batch(&rt, rt.alloc(), source, Part::Binary, Ok(0), want);
-    }
+    assert_texts(&rt, rt.alloc(), Part::Binary, &ROWS);
 }
 
 /// How many rows the listing has: a lone carriage return is an empty line.
 #[test]
 fn counts_last_lines(rt: HostRuntime) {
     const ROW: &str = "                                          1\n";
-    const ROWS: [(&[u8], &str); 4] = [(b"", ""), (b"\n", ROW), (b"\r", ROW), (b"\r\n", ROW)];
-    for (source, want) in ROWS.iter() {
-        assert_batch(&rt, rt.alloc(), source, Part::Listing, Ok(0), want);
+    const ROWS: [Clean; 4] = [(b"", ""), (b"\n", ROW), (b"\r", ROW), (b"\r\n", ROW)];
+    assert_texts(&rt, rt.alloc(), Part::Listing, &ROWS);
+}
+
+/// The front, the text that is repeated, and the end of a source, how often it is repeated, and what comes of it.
+type Long = (
+    [&'static [u8]; 3],
+    u32,
+    Result<u32, BatchFault>,
+    &'static str,
+);
+
+/// Asserts what batch assembly answers and writes of long sources.
+fn assert_long(
+    rt: &impl Abort,
+    alloc: Global,
+    part: Part,
+    rows: &[Long],
+) -> Result<(), AllocError> {
+    for ([front, text, end], times, want, written) in rows.iter() {
+        let source = long_input(alloc, front, text, *times, end)?;
+        assert_batch(rt, alloc, &source, part, *want, written);
     }
+    Ok(())
 }
 
 /// The first line that no source may have decides, and of one line its length before its characters.
 #[test]
-fn tells_the_first_wrong_line(rt: HostRuntime) -> Result<(), Fail> {
-    // The bytes of the first three lines.
-    const LONG: [u8; 91] = [b'X'; 91];
-    const ROWS: [([&[u8]; 3], BatchFault); 6] = [
-        ([&LONG, b"`", b""], BatchFault::LineTooLong(1)),
-        ([b"", b"A`", &LONG], BatchFault::BadCharacter(2)),
-        ([b"A", b"\t", b"{"], BatchFault::BadCharacter(2)),
-        ([b"A", b"B", &LONG], BatchFault::LineTooLong(3)),
-        ([b"A", b"B", b"\r\r"], BatchFault::BadCharacter(3)),
-        ([b"A", b"B", b"\xff"], BatchFault::BadCharacter(3)),
+fn tells_the_first_wrong_line(rt: HostRuntime) -> Result<(), AllocError> {
+    const FIRST: Result<u32, BatchFault> = Err(BatchFault::LineTooLong(1));
+    const SECOND: Result<u32, BatchFault> = Err(BatchFault::BadCharacter(2));
+    const THIRD: Result<u32, BatchFault> = Err(BatchFault::BadCharacter(3));
+    const LAST: Result<u32, BatchFault> = Err(BatchFault::LineTooLong(3));
+    const ROWS: [Long; 6] = [
+        ([b"", b"X", b"\n`\n\n"], 91, FIRST, ""),
+        ([b"\nA`\n", b"X", b"\n"], 91, SECOND, ""),
+        ([b"A\n\t\n{\n", b"", b""], 0, SECOND, ""),
+        ([b"A\nB\n", b"X", b"\n"], 91, LAST, ""),
+        ([b"A\nB\n\r\r\n", b"", b""], 0, THIRD, ""),
+        ([b"A\nB\n\xff\n", b"", b""], 0, THIRD, ""),
     ];
-    for (lines, want) in ROWS.iter() {
-        let mut source = Vec::new(rt.alloc());
-        for line in lines.iter() {
-            source.extend_from_slice(line)?;
-            source.push(b'\n')?;
-        }
-        assert_batch(&rt, rt.alloc(), &source, Part::All, Err(*want), "");
-    }
-    Ok(())
-}
-
-/// So many empty lines and a last line.
-pub fn long_source(alloc: Global, count: u32, last: &[u8]) -> Result<Vec<u8>, AllocError> {
-    let mut source = Vec::new(alloc);
-    for _ in 0..count {
-        source.push(b'\n')?;
-    }
-    source.extend_from_slice(last)?;
-    Ok(source)
+    assert_long(&rt, rt.alloc(), Part::All, &ROWS)
 }
 
 #[test]
-fn limits_the_lines(rt: HostRuntime) -> Result<(), Fail> {
+fn limits_the_lines(rt: HostRuntime) -> Result<(), AllocError> {
     const FLAGGED: &str = "9999 O\n1 flagged lines\n";
-    const ROWS: [(u32, &[u8], Result<u32, BatchFault>, &str); 4] = [
-        (9_998, b"A", Ok(1), FLAGGED),
-        (9_999, b"A", Err(BatchFault::TooManyLines), ""),
-        (10_000, b"~", Err(BatchFault::TooManyLines), ""),
-        (9_999, b"~", Err(BatchFault::BadCharacter(10_000)), ""),
+    const TOO_MANY: Result<u32, BatchFault> = Err(BatchFault::TooManyLines);
+    const BAD: Result<u32, BatchFault> = Err(BatchFault::BadCharacter(10_000));
+    const ROWS: [Long; 4] = [
+        ([b"", b"\n", b"A"], 9_998, Ok(1), FLAGGED),
+        ([b"", b"\n", b"A"], 9_999, TOO_MANY, ""),
+        ([b"", b"\n", b"~"], 10_000, TOO_MANY, ""),
+        ([b"", b"\n", b"~"], 9_999, BAD, ""),
     ];
-    for (count, last, want, text) in ROWS.iter() {
-        let source = long_source(rt.alloc(), *count, last)?;
-        assert_batch(&rt, rt.alloc(), &source, Part::Flags, *want, text);
-    }
-    Ok(())
+    assert_long(&rt, rt.alloc(), Part::Flags, &ROWS)
 }
 
 /// A line that is far too long is told like any other.
 #[test]
-fn measures_long_lines(rt: HostRuntime) -> Result<(), Fail> {
-    const ROWS: [(usize, &[u8], Result<u32, BatchFault>); 6] = [
-        (90, b"", Ok(0)),
-        (90, b"\r", Ok(0)),
-        (91, b"", Err(BatchFault::LineTooLong(1))),
-        (200, b"", Err(BatchFault::LineTooLong(1))),
-        (200, b"\r\n", Err(BatchFault::LineTooLong(1))),
-        (1_000, b"`\n", Err(BatchFault::LineTooLong(1))),
+fn measures_long_lines(rt: HostRuntime) -> Result<(), AllocError> {
+    const NONE: &str = "0 flagged lines\n";
+    const TOO_LONG: Result<u32, BatchFault> = Err(BatchFault::LineTooLong(1));
+    const ROWS: [Long; 6] = [
+        ([b"", b"*", b""], 90, Ok(0), NONE),
+        ([b"", b"*", b"\r"], 90, Ok(0), NONE),
+        ([b"", b"*", b""], 91, TOO_LONG, ""),
+        ([b"", b"*", b""], 200, TOO_LONG, ""),
+        ([b"", b"*", b"\r\n"], 200, TOO_LONG, ""),
+        ([b"", b"*", b"`\n"], 1_000, TOO_LONG, ""),
     ];
-    for (count, end, want) in ROWS.iter() {
-        let mut source = Vec::new(rt.alloc());
-        for _ in 0..*count {
-            source.push(b'*')?;
-        }
-        source.extend_from_slice(end)?;
-        let text = if want.is_ok() {
-            "0 flagged lines\n"
-        } else {
-            ""
-        };
-        assert_batch(&rt, rt.alloc(), &source, Part::Flags, *want, text);
-    }
-    Ok(())
+    assert_long(&rt, rt.alloc(), Part::Flags, &ROWS)
 }
 
 /// 42 times 1,000 words, more statements than are kept from one pass for the other, and a label after them on line 85.
 #[test]
-fn goes_through_long_expansions(rt: HostRuntime) -> Result<(), Fail> {
-    let mut source = Vec::new(rt.alloc());
-    for _ in 0..42 {
-        source.extend_from_slice(b"   DUP 1000,1\n   BSS 1\n")?;
-    }
-    source.extend_from_slice(b"L  BSS 1\n")?;
+fn goes_through_long_expansions(rt: HostRuntime) -> Result<(), AllocError> {
+    const WORDS: &[u8] = b"   DUP 1000,1\n   BSS 1\n";
+    let source = long_input(rt.alloc(), b"", WORDS, 42, b"L  BSS 1\n")?;
     let got = assemble(rt.alloc(), &source, Part::Symbols);
     let want = "L        00000000000000122020 85\n";
     assert_written(&rt, "the label", &got, Ok(0), want);
@@ -164,7 +160,7 @@ fn tells_a_failed_read(rt: HostRuntime) {
         fails: true,
     });
     let mut writer = Counted::new(Vec::new(rt.alloc()));
-    let end = batch(rt.alloc(), &mut reader, &mut writer, Part::All);
+    let end = assemble_into(rt.alloc(), &mut reader, &mut writer, Part::All);
     assert_same(&rt, "the end", &end, &Err(BatchFault::ReadFault));
     assert_same(&rt, "calls", &reader.calls(), &3);
     assert_same(&rt, "failures", &reader.failures(), &1);
@@ -193,7 +189,7 @@ fn assert_failed_write(rt: &impl Abort, alloc: Global, room: usize, want: &[u8])
         taken: Vec::new(alloc),
         room,
     });
-    let end = batch(alloc, &mut reader, &mut writer, Part::Flags);
+    let end = assemble_into(alloc, &mut reader, &mut writer, Part::Flags);
     assert_same(rt, "the end", &end, &Err(BatchFault::WriteFault));
     assert_same(rt, "failures", &writer.failures(), &1);
     let taken = writer.into_inner().taken;

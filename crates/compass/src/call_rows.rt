@@ -1,11 +1,11 @@
 //! Calls of the program, by their words.
 use super::assertions::{assert_bytes, assert_same};
-use super::batch_rows::long_source;
 use super::devices::{SlowReader, SlowWriter};
+use super::running::long_input;
 use cps_text::Counted;
 use cps_tool::run_words;
 use std::alloc::{AllocError, Global};
-use std::io::Read;
+use std::io::{Read, Write};
 use std::process::Abort;
 
 /// What a call gives: its status, and what is written and told.
@@ -23,7 +23,7 @@ fn call(alloc: Global, words: &[&str], input: &[u8]) -> Ending {
 fn call_with<R: Read>(alloc: Global, words: &[&str], reader: &mut Counted<R>) -> Ending {
     let mut writer = Counted::new(Vec::new(alloc));
     let mut errors = Counted::new(Vec::new(alloc));
-    let status = run_words(alloc, words, reader, &mut writer, &mut errors);
+    let status = call_into(alloc, words, reader, &mut writer, &mut errors);
     Ending {
         status,
         written: writer.into_inner(),
@@ -31,11 +31,33 @@ fn call_with<R: Read>(alloc: Global, words: &[&str], reader: &mut Counted<R>) ->
     }
 }
 
+/// Makes a call with devices. Only here the program is called.
+fn call_into<R: Read, W: Write, E: Write>(
+    alloc: Global,
+    words: &[&str],
+    reader: &mut Counted<R>,
+    writer: &mut Counted<W>,
+    errors: &mut Counted<E>,
+) -> u8 {
+    run_words(alloc, words, reader, writer, errors)
+}
+
 /// Asserts the status of a call, and what is written and told.
 fn assert_call(rt: &impl Abort, got: &Ending, status: u8, written: &str, told: &str) {
     assert_same(rt, "the status", &got.status, &status);
     assert_bytes(rt, "what is written", &got.written, written);
     assert_bytes(rt, "what is told", &got.told, told);
+}
+
+/// An input, and what comes of it: the status, what is written and what is told.
+type Row = (&'static str, u8, &'static str, &'static str);
+
+/// Asserts what comes of calls with the same words.
+fn assert_calls(rt: &impl Abort, alloc: Global, words: &[&str], rows: &[Row]) {
+    for (input, status, written, told) in rows.iter() {
+        let got = call(alloc, words, input.as_bytes());
+        assert_call(rt, &got, *status, written, told);
+    }
 }
 
 pub const PROGRAM: &str = "         IDENT   T1
@@ -64,52 +86,56 @@ pub const SYMBOLS: &str = "START    00000000000000000100 4 7\n";
 
 pub const FLAGS: &str = "0 flagged lines\n";
 
+/// All texts of the program.
+pub fn whole_text(alloc: Global) -> Result<String, AllocError> {
+    format!(in alloc; "{LISTING}{BINARY}{SYMBOLS}{FLAGS}")
+}
+
+/// Asserts what a call writes of the program.
+fn assert_program(rt: &impl Abort, alloc: Global, words: &[&str], want: &str) {
+    let got = call(alloc, words, PROGRAM.as_bytes());
+    assert_call(rt, &got, 0, want, "");
+}
+
 #[test]
 fn writes_each_part(rt: HostRuntime) -> Result<(), AllocError> {
-    const ROWS: [(&str, &str); 4] = [
-        ("listing", LISTING),
-        ("binary", BINARY),
-        ("symbols", SYMBOLS),
-        ("flags", FLAGS),
+    const ROWS: [(&[&str], &str); 4] = [
+        (&["compass", "batch", "--part", "listing"], LISTING),
+        (&["compass", "batch", "--part", "binary"], BINARY),
+        (&["compass", "batch", "--part", "symbols"], SYMBOLS),
+        (&["compass", "batch", "--part", "flags"], FLAGS),
     ];
-    for (part, want) in ROWS.iter() {
-        let words = ["compass", "batch", "--part", *part];
-        let got = call(rt.alloc(), &words, PROGRAM.as_bytes());
-        assert_call(&rt, &got, 0, want, "");
-    }
-    let whole = format!(in rt.alloc(); "{LISTING}{BINARY}{SYMBOLS}{FLAGS}")?;
     const ALL: [&[&str]; 2] = [&["compass", "batch"], &["compass", "batch", "--part=all"]];
+    for (words, want) in ROWS.iter() {
+        assert_program(&rt, rt.alloc(), words, want);
+    }
+    let whole = whole_text(rt.alloc())?;
     for words in ALL.iter() {
-        let got = call(rt.alloc(), words, PROGRAM.as_bytes());
-        assert_call(&rt, &got, 0, &whole, "");
+        assert_program(&rt, rt.alloc(), words, &whole);
     }
     Ok(())
 }
 
 #[test]
 fn ends_with_a_status(rt: HostRuntime) {
-    const LONG: [u8; 91] = [b'X'; 91];
-    const ROWS: [(&[u8], u8, &str, &str); 5] = [
-        (
-            b"A        CON     1\nA        CON     2\n",
-            1,
-            "2 D\n1 flagged lines\n",
-            "",
-        ),
-        (b"         IFEQ    1,2\n", 1, "end E\n1 flagged lines\n", ""),
-        (b"  NO\n", 0, "0 flagged lines\n", ""),
-        (&LONG, 2, "", "line 1: line too long\n"),
-        (b"\n`", 2, "", "line 2: bad character\n"),
+    const WORDS: &[&str] = &["compass", "batch", "--part", "flags"];
+    const TWICE: &str = "A        CON     1\nA        CON     2\n";
+    const OPEN: &str = "         IFEQ    1,2\n";
+    const LONG: &str =
+        "XXXXXXXXXXXXXXXXXXXXXXXXXXXXXXXXXXXXXXXXXXXXXXXXXXXXXXXXXXXXXXXXXXXXXXXXXXXXXXXXXXXXXXXXXXX";
+    const ROWS: [Row; 5] = [
+        (TWICE, 1, "2 D\n1 flagged lines\n", ""),
+        (OPEN, 1, "end E\n1 flagged lines\n", ""),
+        ("  NO\n", 0, "0 flagged lines\n", ""),
+        (LONG, 2, "", "line 1: line too long\n"),
+        ("\n`", 2, "", "line 2: bad character\n"),
     ];
-    for (input, status, written, told) in ROWS.iter() {
-        let got = call(rt.alloc(), &["compass", "batch", "--part", "flags"], input);
-        assert_call(&rt, &got, *status, written, told);
-    }
+    assert_calls(&rt, rt.alloc(), WORDS, &ROWS);
 }
 
 #[test]
 fn tells_too_many_lines(rt: HostRuntime) -> Result<(), AllocError> {
-    let source = long_source(rt.alloc(), 9_999, b"A")?;
+    let source = long_input(rt.alloc(), b"", b"\n", 9_999, b"A")?;
     let got = call(rt.alloc(), &["compass", "batch"], &source);
     assert_call(&rt, &got, 2, "", "too many lines\n");
     Ok(())
@@ -118,28 +144,29 @@ fn tells_too_many_lines(rt: HostRuntime) -> Result<(), AllocError> {
 /// A read that fails: of a script the replies up to there stand, of a source nothing is written.
 #[test]
 fn tells_failed_reads(rt: HostRuntime) {
-    const ROWS: [(&str, &str); 2] = [("session", "ok 1 lines\n"), ("batch", "")];
-    for (word, written) in ROWS.iter() {
+    const ROWS: [(&[&str], &str); 2] = [
+        (&["compass", "session"], "ok 1 lines\n"),
+        (&["compass", "batch"], ""),
+    ];
+    for (words, written) in ROWS.iter() {
         let mut reader = Counted::new(SlowReader {
             rest: b"a\nb",
             fails: true,
         });
-        let got = call_with(rt.alloc(), &["compass", *word], &mut reader);
+        let got = call_with(rt.alloc(), words, &mut reader);
         assert_call(&rt, &got, 2, written, "read fault\n");
     }
 }
 
 #[test]
 fn runs_scripts(rt: HostRuntime) {
-    const ROWS: [(&[u8], u8, &str); 3] = [
-        (b"a   NO\nflags\n", 0, "ok 1 lines\n0 flagged lines\n"),
-        (b"a A\nquit\n", 1, "ok 1 lines\n"),
-        (b"a A\nd 1\n", 0, "ok 1 lines\nok 0 lines\n"),
+    const WORDS: &[&str] = &["compass", "session"];
+    const ROWS: [Row; 3] = [
+        ("a   NO\nflags\n", 0, "ok 1 lines\n0 flagged lines\n", ""),
+        ("a A\nquit\n", 1, "ok 1 lines\n", ""),
+        ("a A\nd 1\n", 0, "ok 1 lines\nok 0 lines\n", ""),
     ];
-    for (input, status, written) in ROWS.iter() {
-        let got = call(rt.alloc(), &["compass", "session"], input);
-        assert_call(&rt, &got, *status, written, "");
-    }
+    assert_calls(&rt, rt.alloc(), WORDS, &ROWS);
 }
 
 /// Wrong words are told, and nothing is read or written.
@@ -241,7 +268,7 @@ fn assert_told(rt: &impl Abort, alloc: Global, words: &[&str], room: usize, told
     let mut reader = Counted::new(b"a A\n".as_slice());
     let mut writer = Counted::new(full(alloc, 0));
     let mut errors = Counted::new(full(alloc, room));
-    let status = run_words(alloc, words, &mut reader, &mut writer, &mut errors);
+    let status = call_into(alloc, words, &mut reader, &mut writer, &mut errors);
     assert_same(rt, "the status", &status, &2);
     assert_bytes(rt, "what is told", &errors.into_inner().taken, told);
 }

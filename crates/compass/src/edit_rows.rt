@@ -29,7 +29,8 @@ pub fn carry_out(
     }
 }
 
-fn insert(
+/// Inserts a line after a number.
+pub fn insert(
     alloc: Global,
     session: &mut Session,
     work: &mut Work,

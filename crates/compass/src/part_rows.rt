@@ -1,14 +1,15 @@
 //! The texts of a view, one by one and all at once: of a session's, and of a plain list.
 use super::assertions::{assert_row, assert_same};
-use super::call_rows::{BINARY, FLAGS, LISTING, PROGRAM, SYMBOLS};
+use super::call_rows::{BINARY, FLAGS, LISTING, PROGRAM, SYMBOLS, whole_text};
 use super::devices::SlowWriter;
+use super::edit_rows::insert;
 use super::list::write_list;
 use cps_list::{
     ListFault, Part, View, write_all_parts, write_binary, write_flags, write_listing, write_symbols,
 };
 use cps_live::Session;
 use cps_pass::Work;
-use cps_text::{Counted, Line};
+use cps_text::Counted;
 use std::alloc::{AllocError, Global};
 use std::io::Write;
 use std::process::Abort;
@@ -29,16 +30,11 @@ pub fn write_view<V: View, W: Write>(
     }
 }
 
-/// Enters a line after the last one. Where there is no memory it is missing.
-fn enter(alloc: Global, session: &mut Session, text: &str) {
-    if let Ok(line) = Line::new(alloc, text.as_bytes()) {
-        let _ = session.insert(session.count(), line, &mut Work::new());
-    }
-}
-
+/// Enters lines after the last one. Where there is no memory one is missing.
 fn enter_source(alloc: Global, session: &mut Session, source: &str) {
     for text in source.lines() {
-        enter(alloc, session, text);
+        let after = session.count();
+        let _ = insert(alloc, session, &mut Work::new(), after, text.as_bytes());
     }
 }
 
@@ -79,7 +75,7 @@ fn writes_parts(rt: HostRuntime) -> Result<(), AllocError> {
     for (at, (part, want)) in ROWS.iter().enumerate() {
         assert_part(&rt, rt.alloc(), at, *part, want);
     }
-    let whole = format!(in rt.alloc(); "{LISTING}{BINARY}{SYMBOLS}{FLAGS}")?;
+    let whole = whole_text(rt.alloc())?;
     assert_part(&rt, rt.alloc(), 4, Part::All, &whole);
     Ok(())
 }

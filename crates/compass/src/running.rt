@@ -4,8 +4,25 @@ use cps_list::Part;
 use cps_live::{BatchFault, Session, batch};
 use cps_text::Counted;
 use cps_tool::{RunFault, run_script};
-use std::alloc::Global;
+use std::alloc::{AllocError, Global};
 use std::io::{Read, Write};
+
+/// A front, then a text so many times, and then an end.
+pub fn long_input(
+    alloc: Global,
+    front: &[u8],
+    text: &[u8],
+    times: u32,
+    end: &[u8],
+) -> Result<Vec<u8>, AllocError> {
+    let mut input = Vec::new(alloc);
+    input.extend_from_slice(front)?;
+    for _ in 0..times {
+        input.extend_from_slice(text)?;
+    }
+    input.extend_from_slice(end)?;
+    Ok(input)
+}
 
 /// What a run of a script gives, and the source that it leaves.
 #[derive(Clone, Copy)]
@@ -101,9 +118,19 @@ pub fn assemble_byte_by_byte(alloc: Global, source: &[u8], part: Part) -> Writte
 /// Assembles a source that a reader gives.
 pub fn assemble_from<R: Read>(alloc: Global, reader: &mut Counted<R>, part: Part) -> Written {
     let mut writer = Counted::new(Vec::new(alloc));
-    let end = batch(alloc, reader, &mut writer, part);
+    let end = assemble_into(alloc, reader, &mut writer, part);
     Written {
         end,
         text: writer.into_inner(),
     }
+}
+
+/// Assembles a source that a reader gives, and writes its text to a writer. Only here batch assembly is called.
+pub fn assemble_into<R: Read, W: Write>(
+    alloc: Global,
+    reader: &mut Counted<R>,
+    writer: &mut Counted<W>,
+    part: Part,
+) -> Result<u32, BatchFault> {
+    batch(alloc, reader, writer, part)
 }
