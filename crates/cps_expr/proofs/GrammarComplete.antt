@@ -82,7 +82,7 @@ factors-complete radix text (factor ∷ factors) parts =
 term-joined : (first : Option Element) (factors : Option (List Factor)) (term : Term) → first ≡ Some term.first → factors ≡ Some term.factors → term_with term.is_minus first factors ≡ Some term
 term-joined first factors term is more = rw (is, more) refl
 
-term-complete : (radix : Radix) (text : List ℕ) (term : Term) → WritesTerm radix text term → term_of radix term.is_minus text ≡ Some term
+pub term-complete : (radix : Radix) (text : List ℕ) (term : Term) → WritesTerm radix text term → term_of radix term.is_minus text ≡ Some term
 term-complete radix text term parts =
     let element = element-complete radix parts.0 term.first parts.3 in
     ap (term_of radix term.is_minus) parts.2

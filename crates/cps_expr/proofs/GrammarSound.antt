@@ -75,7 +75,7 @@ element-from false None None Counter is = cc
 element-from false None None (Number n) is = cc
 element-from false None None (Symbol s) is = cc
 
-element-sound : (radix : Radix) (text : List ℕ) (element : Element) → element_of radix text ≡ Some element → WritesElement radix text element
+pub element-sound : (radix : Radix) (text : List ℕ) (element : Element) → element_of radix text ≡ Some element → WritesElement radix text element
 element-sound radix text (Number n) is = element-from (is_star text) (number_of (2 ^ 59) radix text) (name_of text) (Number n) is
 element-sound radix text (Symbol s) is = element-from (is_star text) (number_of (2 ^ 59) radix text) (name_of text) (Symbol s) is
 element-sound radix text Counter is = star-text text (element-from (is_star text) (number_of (2 ^ 59) radix text) (name_of text) Counter is)

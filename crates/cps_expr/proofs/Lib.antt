@@ -6,6 +6,7 @@ pub mod GrammarSound
 pub mod ItemBounds
 pub mod ItemRows
 pub mod JoinLemmas
+pub mod LoneElements
 pub mod NumberReading
 pub mod OperationLemmas
 pub mod PackingLemmas

@@ -5,12 +5,14 @@ ghost use Rattle.cps_expr.specs.declared.value.Value.{Value};
 ghost use Rattle.cps_expr.specs.Expression.{Expression, expression_of, names_of, has_counter, terms_of, signed_texts};
 ghost use Rattle.cps_expr.specs.Grammar.{Writes};
 ghost use Rattle.cps_expr.specs.Term.{term_of};
+ghost use Rattle.cps_expr.specs.TermsKept.{element_term};
 ghost use Rattle.cps_expr.specs.Value.{value_in, has_undefined, AgreeOn, IsInRange};
 
 use crate::names::Names;
 use crate::radix::Radix;
 use crate::signs::{first_term, leading_sign};
-use crate::term_text::read_term;
+use crate::term::Signed;
+use crate::term_text::{read_element, read_term};
 use crate::terms::Terms;
 use crate::value::Value;
 use cps_text::Name;
@@ -72,6 +74,12 @@ impl Expr {
         ensures unreadable { IsErrOf result ExprFault.Unreadable ↔ (term_of radix is_minus text.now ≡ None) }
         ensures memory { IsErrOf result ExprFault.Memory → IsSome (term_of radix is_minus text.now) }
     {
+        if let Terms::Empty = self.terms {
+            if let Some(element) = lone_element(is_minus, text, radix) {
+                self.terms = Terms::One(element);
+                return Ok(());
+            }
+        }
         let term = read_term(self.alloc, is_minus, text, radix)?;
         match self.terms.push(self.alloc, term) {
             Ok(()) => Ok(()),
@@ -118,8 +126,34 @@ impl Expr {
     }
 }
 
-/// Reads the terms one after another, to the last one also where memory is refused.
+/// The element that a text without signs writes, if it writes one alone.
+fn lone_element(is_minus: bool, text: &[u8], radix: Radix) -> Option<Signed>
+    ensures term { IfSome result (λ element. term_of radix is_minus text.now ≡ Some (element_term element)) }
+    ensures expression { IfSome result (λ element. is_minus ≡ false → terms_of radix (signed_texts text.now) ≡ Some (element_term element ∷ [])) }
+{
+    match read_element(text, radix) {
+        Some(element) => Some(Signed::new(is_minus, element)),
+        None => None,
+    }
+}
+
+/// Most texts write one element alone.
 fn read_terms(alloc: Global, text: &[u8], radix: Radix) -> Result<Expr, ExprFault>
+    ensures expression { IfOk result (λ expression. terms_of radix (signed_texts text.now) ≡ Some expression) }
+    ensures unreadable { IsErrOf result ExprFault.Unreadable ↔ (terms_of radix (signed_texts text.now) ≡ None) }
+    ensures memory { IsErrOf result ExprFault.Memory → IsSome (terms_of radix (signed_texts text.now)) }
+{
+    match lone_element(false, text, radix) {
+        Some(element) => Ok(Expr {
+            alloc,
+            terms: Terms::One(element),
+        }),
+        None => read_signed_terms(alloc, text, radix),
+    }
+}
+
+/// Reads the terms one after another, to the last one also where memory is refused.
+fn read_signed_terms(alloc: Global, text: &[u8], radix: Radix) -> Result<Expr, ExprFault>
     ensures expression { IfOk result (λ expression. terms_of radix (signed_texts text.now) ≡ Some expression) }
     ensures unreadable { IsErrOf result ExprFault.Unreadable ↔ (terms_of radix (signed_texts text.now) ≡ None) }
     ensures memory { IsErrOf result ExprFault.Memory → IsSome (terms_of radix (signed_texts text.now)) }

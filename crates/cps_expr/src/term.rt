@@ -62,6 +62,12 @@ pub(crate) struct Signed {
 }
 
 impl Signed {
+    pub(crate) fn new(is_minus: bool, element: Element) -> Signed
+        ensures { result ≡ record { is_minus = is_minus; element = element } }
+    {
+        Signed { is_minus, element }
+    }
+
     pub(crate) fn as_term(self, alloc: Global) -> Term
         ensures { result ≡ element_term self }
     {

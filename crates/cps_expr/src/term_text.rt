@@ -106,7 +106,7 @@ fn read_operator(text: &[u8]) -> Option<Operator>
     }
 }
 
-fn read_element(text: &[u8], radix: Radix) -> Option<Element>
+pub(crate) fn read_element(text: &[u8], radix: Radix) -> Option<Element>
     ensures { result ≡ element_of radix text.now }
 {
     if is_star(text) {

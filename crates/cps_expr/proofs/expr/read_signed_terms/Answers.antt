@@ -6,7 +6,7 @@ use Rattle.cps_expr.specs.Term.{term_of}
 use Rattle.cps_expr.specs.TermsLeft.{terms_left, terms_behind}
 use Rattle.cps_expr.proofs.FactorReading.{some_of}
 use Rattle.cps_expr.proofs.TermsReading.{next-term, not_none}
-use Rattle.cps_expr.proofs.expr.read_terms.Goals as goal
+use Rattle.cps_expr.proofs.expr.read_signed_terms.Goals as goal
 
 pub terms-preserved : goal.terms-preserved
 terms-preserved c =
