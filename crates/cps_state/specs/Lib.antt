@@ -9,4 +9,5 @@ pub mod Line
 pub mod Log
 pub mod Machines
 pub mod Made
+pub mod MadeKept
 pub mod Work

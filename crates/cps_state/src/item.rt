@@ -22,8 +22,8 @@ pub enum Stand {
 #[derive(Drop)]
 pub struct Item {
     pub depth: u8,
-    pub text: Shared<u8>,
     pub stand: Stand,
+    pub text: Shared<u8>,
     pub made: Made,
 }
 

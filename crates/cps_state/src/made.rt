@@ -87,85 +87,90 @@ pub struct Held {
     pub value: Value,
 }
 
+/// What a statement made beside its flags, as it is kept.
+#[derive(Drop)]
+enum Making {
+    /// It names the program.
+    Naming(Name),
+    /// It leaves bits of a block, if it fills some, and perhaps shows something.
+    Leaving {
+        machine: Machine,
+        filling: Option<Piece>,
+        shown: Shown,
+    },
+    /// It reserves words, or makes so many words of zeros.
+    Reserving {
+        machine: Machine,
+        start: u32,
+        zeros: u32,
+        filling: Option<Piece>,
+    },
+    /// It has contents.
+    Placing {
+        machine: Machine,
+        only_flags: bool,
+        start: u32,
+        filling: Option<Piece>,
+        contents: Contents,
+        held: Vec<Held>,
+    },
+}
+
 /// What a statement made, for pass two.
 #[derive(Drop)]
 pub struct Made {
     flags: Flags,
-    only_flags: bool,
-    program: Option<Name>,
-    machine: Machine,
-    start: u32,
-    zeros: u32,
-    filling: Option<Piece>,
-    contents: Contents,
-    shown: Shown,
-    held: Vec<Held>,
+    making: Making,
 }
 
 impl Model for Made {
-    ghost use Rattle.std.specs.Prelude.{◌≡◌, All, false, option_map};
-    ghost use Rattle.std.specs.Option.{option_to_list};
-    ghost use Rattle.cps_code.specs.Image.{piece_of};
+    ghost use Rattle.std.specs.Prelude.{◌≡◌, All, false};
     ghost use Rattle.cps_state.specs.Made.{Made, IsContent, IsHeld, HaveRoom};
+    ghost use Rattle.cps_state.specs.MadeKept.{made_in};
 
     ghost Value = { Made };
 
-    ghost view = { λ made. record {
-      flags = made.flags;
-      program = made.program;
-      machine = made.machine;
-      filling = option_to_list (option_map piece_of made.filling);
-      start = made.start;
-      contents = made.contents;
-      zeros = made.zeros;
-      only_flags = made.only_flags;
-      shown = made.shown;
-      held = made.held.items;
-    } };
+    ghost view = { λ made. made_in made.flags made.making };
 
-    ghost invariant = { λ made. All IsContent made.contents × All IsHeld made.held.items × (made.only_flags ≡ false → HaveRoom made.machine made.start made.contents) };
+    ghost invariant = { λ made. let seen = made_in made.flags made.making in
+        All IsContent seen.contents × All IsHeld seen.held × (seen.only_flags ≡ false → HaveRoom seen.machine seen.start seen.contents) };
 }
 
 impl Made {
     /// Of a statement that does nothing but have flags.
-    pub fn nothing(alloc: Global, flags: Flags) -> Made
+    pub fn nothing(_alloc: Global, flags: Flags) -> Made
         ensures { result ≡ nothing_made flags }
     {
         Made {
             flags,
-            program: None,
-            machine: Machine::Cp,
-            filling: None,
-            start: 0,
-            contents: Contents::none(alloc),
-            zeros: 0,
-            only_flags: false,
-            shown: Shown::Nothing,
-            held: Vec::new(alloc),
+            making: Making::Leaving {
+                machine: Machine::Cp,
+                filling: None,
+                shown: Shown::Nothing,
+            },
         }
     }
 
     /// Of a statement that names the program.
-    pub fn naming(alloc: Global, flags: Flags, name: Name) -> Made
+    pub fn naming(_alloc: Global, flags: Flags, name: Name) -> Made
         ensures { result ≡ record (nothing_made flags) { program = Some name } }
     {
-        let mut made = Made::nothing(alloc, flags);
-        made.program = Some(name);
-        made
+        Made {
+            flags,
+            making: Making::Naming(name),
+        }
     }
 
     /// Of a statement whose row shows something.
     pub fn showing(alloc: Global, flags: Flags, shown: Shown) -> Made
         ensures { result ≡ record (nothing_made flags) { shown = shown } }
     {
-        let mut made = Made::nothing(alloc, flags);
-        made.shown = shown;
-        made
+        Made::leaving(alloc, flags, Machine::Cp, None, shown)
     }
 
     /// Of a statement that leaves bits of a block, and perhaps shows something.
     pub fn leaving(
-        alloc: Global,
+        _alloc: Global,
         flags: Flags,
         machine: Machine,
         filling: Option<Piece>,
@@ -173,16 +178,19 @@ impl Made {
     ) -> Made
         ensures { result ≡ record (nothing_made flags) { machine = machine; filling = option_to_list (option_map piece_of filling); shown = shown } }
     {
-        let mut made = Made::nothing(alloc, flags);
-        made.machine = machine;
-        made.filling = filling;
-        made.shown = shown;
-        made
+        Made {
+            flags,
+            making: Making::Leaving {
+                machine,
+                filling,
+                shown,
+            },
+        }
     }
 
     /// Of a statement that reserves words, or that makes so many words of zeros.
     pub fn reserving(
-        alloc: Global,
+        _alloc: Global,
         flags: Flags,
         machine: Machine,
         begun: Begun,
@@ -194,15 +202,12 @@ impl Made {
     {
         Made {
             flags,
-            program: None,
-            machine,
-            filling: begun.filling,
-            start: begun.start,
-            contents: Contents::none(alloc),
-            zeros,
-            only_flags: false,
-            shown: Shown::Start,
-            held: Vec::new(alloc),
+            making: Making::Reserving {
+                machine,
+                start: begun.start,
+                zeros,
+                filling: begun.filling,
+            },
         }
     }
 
@@ -221,15 +226,14 @@ impl Made {
     {
         Made {
             flags,
-            program: None,
-            machine,
-            filling: begun.filling,
-            start: begun.start,
-            contents,
-            zeros: 0,
-            only_flags: false,
-            shown: Shown::Nothing,
-            held,
+            making: Making::Placing {
+                machine,
+                only_flags: false,
+                start: begun.start,
+                filling: begun.filling,
+                contents,
+                held,
+            },
         }
     }
 
@@ -247,15 +251,14 @@ impl Made {
     {
         Made {
             flags,
-            program: None,
-            machine,
-            filling: begun.filling,
-            start: begun.start,
-            contents,
-            zeros: 0,
-            only_flags: true,
-            shown: Shown::Nothing,
-            held,
+            making: Making::Placing {
+                machine,
+                only_flags: true,
+                start: begun.start,
+                filling: begun.filling,
+                contents,
+                held,
+            },
         }
     }
 
@@ -277,28 +280,44 @@ impl Made {
     pub fn program(&self) -> Option<Name>
         ensures { result ≡ self.now.program }
     {
-        self.program
+        match &self.making {
+            Making::Naming(name) => Some(*name),
+            _ => None,
+        }
     }
 
     /// The machine whose words the bits are.
     pub fn machine(&self) -> Machine
         ensures { result ≡ self.now.machine }
     {
-        self.machine
+        match &self.making {
+            Making::Naming(_) => Machine::Cp,
+            Making::Leaving { machine, .. }
+            | Making::Reserving { machine, .. }
+            | Making::Placing { machine, .. } => *machine,
+        }
     }
 
     /// What fills the bits that were skipped.
     pub fn filling(&self) -> Option<Piece>
         ensures { option_to_list (option_map piece_of result) ≡ self.now.filling }
     {
-        self.filling
+        match &self.making {
+            Making::Naming(_) => None,
+            Making::Leaving { filling, .. }
+            | Making::Reserving { filling, .. }
+            | Making::Placing { filling, .. } => *filling,
+        }
     }
 
     /// Where the statement starts: the bits before it in its block.
     pub fn start(&self) -> u32
         ensures { result ≡ self.now.start }
     {
-        self.start
+        match &self.making {
+            Making::Reserving { start, .. } | Making::Placing { start, .. } => *start,
+            _ => 0,
+        }
     }
 
     /// The contents, in their order.
@@ -307,28 +326,41 @@ impl Made {
         ensures each { All IsContent self.now.contents }
         ensures room { self.now.only_flags ≡ false → HaveRoom self.now.machine self.now.start self.now.contents }
     {
-        self.contents.as_slice()
+        match &self.making {
+            Making::Placing { contents, .. } => contents.as_slice(),
+            _ => &[],
+        }
     }
 
     /// How many words of zeros there are from the start on.
     pub fn zeros(&self) -> u32
         ensures { result ≡ self.now.zeros }
     {
-        self.zeros
+        match &self.making {
+            Making::Reserving { zeros, .. } => *zeros,
+            _ => 0,
+        }
     }
 
     /// Whether the contents only give flags.
     pub fn only_flags(&self) -> bool
         ensures { result ≡ self.now.only_flags }
     {
-        self.only_flags
+        match &self.making {
+            Making::Placing { only_flags, .. } => *only_flags,
+            _ => false,
+        }
     }
 
     /// What the row shows beside codes.
     pub fn shown(&self) -> Shown
         ensures { result ≡ self.now.shown }
     {
-        self.shown
+        match &self.making {
+            Making::Leaving { shown, .. } => *shown,
+            Making::Reserving { .. } => Shown::Start,
+            _ => Shown::Nothing,
+        }
     }
 
     /// The symbols that the contents read and that SET had given a value by then.
@@ -336,6 +368,9 @@ impl Made {
         ensures held { result.now ≡ self.now.held }
         ensures each { All IsHeld self.now.held }
     {
-        self.held.as_slice()
+        match &self.making {
+            Making::Placing { held, .. } => held.as_slice(),
+            _ => &[],
+        }
     }
 }
