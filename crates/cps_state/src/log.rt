@@ -27,13 +27,12 @@ pub struct Log {
     alloc: Global,
     asks: Vec<Asked>,
     puts: Vec<Put>,
-    /// What is known of each key, where the log is long.
-    index: HashMap<Key, Known>,
-    is_long: bool,
+    /// What is known of each key. None: the log is short.
+    index: Option<Box<HashMap<Key, Known>>>,
 }
 
 impl Model for Log {
-    ghost use Rattle.std.specs.Prelude.{◌≡◌, true};
+    ghost use Rattle.std.specs.Prelude.{IfSome};
     ghost use Rattle.std.specs.HashMap as hash;
     ghost use Rattle.cps_state.specs.declared.key.Key.{Key};
     ghost use Rattle.cps_state.specs.Log.{Log, Indexes};
@@ -42,7 +41,7 @@ impl Model for Log {
 
     ghost view = { λ log. record { asks = log.asks.items; puts = log.puts.items } };
 
-    ghost invariant = { λ log. log.is_long ≡ true → (k : Key) → Indexes log.asks.items log.puts.items k (hash.get ⟦<Key as PartialEq>⟧.eq log.index k) };
+    ghost invariant = { λ log. IfSome log.index (λ index. (k : Key) → Indexes log.asks.items log.puts.items k (hash.get ⟦<Key as PartialEq>⟧.eq index.value k)) };
 }
 
 impl Log {
@@ -54,8 +53,7 @@ impl Log {
             alloc,
             asks,
             puts,
-            index: HashMap::new(alloc),
-            is_long: false,
+            index: None,
         }
     }
 
@@ -64,8 +62,8 @@ impl Log {
         ensures found { option_and_then (found_at self.now) result ≡ known_of self.now key }
         ensures is_there { IfSome result (λ known. is_some (found_at self.now known) ≡ true) }
     {
-        if self.is_long {
-            return self.index.get(&key).copied();
+        if let Some(index) = &self.index {
+            return index.get(&key).copied();
         }
         match newest_put(&self.puts, &key) {
             Some(place) => Some(Known::Put(place)),
@@ -93,43 +91,36 @@ impl Log {
     }
 
     /// One more ask, of a key of which nothing is known.
+    #[inline(always)]
     pub fn push_ask(&mut self, asked: Asked) -> Result<Known, AllocError>
         requires { known_of self.old asked.key ≡ None }
         ensures log { OnOk result (self.new ≡ record self.old { asks = self.old.asks ++ asked ∷ [] }) }
         ensures answer { IfOk result (λ known. found_at self.new known ≡ Some asked.answer) }
     {
-        let key = asked.key;
         let known = Known::Asked(self.asks.len());
-        self.asks.reserve(1)?;
-        self.index.reserve(usize::from(self.is_long))?;
-        let Ok(_) = self.asks.push(asked) else {
-            unreachable!();
-        };
-        if self.is_long {
-            let Ok(_) = self.index.insert(key, known) else {
-                unreachable!();
-            };
+        if let Some(index) = &mut self.index {
+            self.asks.reserve(1)?;
+            index.insert(asked.key, known)?;
+            self.asks.push_reserved(asked);
+            return Ok(known);
         }
+        self.asks.push(asked)?;
         self.lengthen()?;
         Ok(known)
     }
 
     /// One more put.
+    #[inline(always)]
     pub fn push_put(&mut self, put: Put) -> Result<(), AllocError>
         ensures { OnOk result (self.new ≡ record self.old { puts = self.old.puts ++ put ∷ [] }) }
     {
-        let key = put.key;
-        let known = Known::Put(self.puts.len());
-        self.puts.reserve(1)?;
-        self.index.reserve(usize::from(self.is_long))?;
-        let Ok(_) = self.puts.push(put) else {
-            unreachable!();
-        };
-        if self.is_long {
-            let Ok(_) = self.index.insert(key, known) else {
-                unreachable!();
-            };
+        if let Some(index) = &mut self.index {
+            self.puts.reserve(1)?;
+            index.insert(put.key, Known::Put(self.puts.len()))?;
+            self.puts.push_reserved(put);
+            return Ok(());
         }
+        self.puts.push(put)?;
         self.lengthen()
     }
 
@@ -150,28 +141,29 @@ impl Log {
             asks,
             puts,
             index: _,
-            is_long: _,
         } = self;
         (asks, puts)
     }
 
-    /// A log that has become long gets its index.
+    /// A short log that has become long gets its index.
+    #[inline(always)]
     fn lengthen(&mut self) -> Result<(), AllocError>
         ensures { self.new ≡ self.old }
     {
-        if self.is_long || self.puts.len() <= SHORT && self.asks.len() <= SHORT {
+        if self.puts.len() <= SHORT && self.asks.len() <= SHORT {
             return Ok(());
         }
         self.make_index()
     }
 
     /// The index of all asks and puts.
+    #[cold]
     fn make_index(&mut self) -> Result<(), AllocError>
         ensures { self.new ≡ self.old }
     {
         let index = index_of_asks(self.alloc, &self.asks)?;
-        self.index = with_puts(index, &self.asks, &self.puts)?;
-        self.is_long = true;
+        let index = with_puts(index, &self.asks, &self.puts)?;
+        self.index = Some(Box::new(self.alloc, index)?);
         Ok(())
     }
 }
