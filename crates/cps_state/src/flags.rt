@@ -72,12 +72,20 @@ impl Flags {
     }
 
     /// Appends the letters in alphabetical order.
+    #[inline(always)]
     pub fn push_letters(self, text: &mut Vec<u8>) -> Result<(), AllocError>
         ensures { OnOk result (text.new.items ≡ text.old.items ++ flags.letters self) }
     {
         if !self.has_flag() {
             return Ok(());
         }
+        self.push_each(text)
+    }
+
+    /// Appends the letters, where there are some.
+    fn push_each(self, text: &mut Vec<u8>) -> Result<(), AllocError>
+        ensures { OnOk result (text.new.items ≡ text.old.items ++ flags.letters self) }
+    {
         push_letter(text, self.operand, b'A')?;
         push_letter(text, self.twice, b'D')?;
         push_letter(text, self.structure, b'E')?;

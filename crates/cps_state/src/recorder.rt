@@ -1,7 +1,7 @@
 //! What a line has asked, put, made and read so far, over what answers its keys.
-ghost use Rattle.std.specs.Prelude.{◌≡◌, ◌≤◌, IsTrue, OnOk, IfOk};
+ghost use Rattle.std.specs.Prelude.{◌≡◌, ◌≤◌, [], ◌∷◌, None, IsTrue, OnOk, IfOk};
 ghost use Rattle.std.specs.Option.{option_copied};
-ghost use Rattle.cps_state.specs.Course.{begin, first_item, dropped_item, control_puts, traced, deepest};
+ghost use Rattle.cps_state.specs.Course.{begin, first_item, dropped_item, control_puts, traced, deepest, known_in};
 ghost use Rattle.cps_state.specs.Line.{Goes, known_answer, line_started, line_answer, line_asked, line_put, line_stood, line_filled, line_marked, line_told, line_settled};
 
 use crate::flags::Flags;
@@ -81,9 +81,18 @@ impl<'a, L: Lookup> Recorder<'a, L> {
         ensures asks { OnOk result (self.new ≡ line_asked L.answer self.old key) }
         ensures answer { IfOk result (λ known. known_answer self.new known ≡ line_answer L.answer self.old key) }
     {
-        if let Some(known) = self.log.find(key) {
-            return Ok(known);
+        match self.log.find(key) {
+            Some(known) => Ok(known),
+            None => self.ask(key),
         }
+    }
+
+    /// Asks a key of which nothing is known.
+    fn ask(&mut self, key: Key) -> Result<Known, AllocError>
+        requires { known_in self.old.done.asks self.old.done.puts key ≡ None }
+        ensures asks { OnOk result (self.new ≡ line_asked L.answer self.old key) }
+        ensures answer { IfOk result (λ known. known_answer self.new known ≡ line_answer L.answer self.old key) }
+    {
         match self.state.ask(&key) {
             Some(answer) => {
                 let answer = Some(answer.share()?);
@@ -179,23 +188,42 @@ impl<'a, L: Lookup> Recorder<'a, L> {
             items.push(present)?;
             return Ok(Trace::new(asks, puts, items, reads));
         }
-        let own = dropped_item(alloc, &items, &present);
-        let mut only = Vec::with_capacity(alloc, 1)?;
-        only.push(own)?;
         puts.truncate(settled);
-        let puts = control_puts(alloc, &puts)?;
-        Ok(Trace::new(asks, puts, only, Vec::new(alloc)))
+        dropped_trace(alloc, asks, &puts, first_item(&items, &present))
     }
 }
 
-/// The statement of a line that is dropped.
-fn dropped_item(alloc: Global, finished: &[Item], present: &Item) -> Item
-    ensures { result ≡ dropped_item (first_item finished.now present.now) }
+/// The statement that began first.
+fn first_item<'a>(finished: &'a [Item], present: &'a Item) -> &'a Item
+    ensures { result.now ≡ first_item finished.now present.now }
 {
-    let own = match finished.first() {
+    match finished.first() {
         Some(item) => item,
         None => present,
-    };
+    }
+}
+
+/// What is left of a line that is dropped: what it asked, what its own statement put at the control, and that statement.
+#[cold]
+#[inline(never)]
+fn dropped_trace(
+    alloc: Global,
+    asks: Vec<Asked>,
+    puts: &[Put],
+    own: &Item,
+) -> Result<Trace, AllocError>
+    ensures { IfOk result (λ trace. trace ≡ record { asks = asks.items; puts = control_puts puts.now; items = dropped_item own.now ∷ []; reads = [] }) }
+{
+    let mut only = Vec::with_capacity(alloc, 1)?;
+    only.push(dropped_item(alloc, own))?;
+    let puts = control_puts(alloc, puts)?;
+    Ok(Trace::new(asks, puts, only, Vec::new(alloc)))
+}
+
+/// The statement of a line that is dropped.
+fn dropped_item(alloc: Global, own: &Item) -> Item
+    ensures { result ≡ dropped_item own.now }
+{
     let mut flags = Flags::none();
     flags.structure = true;
     Item {

@@ -37,6 +37,7 @@ impl Lookup for State {
 
     ghost answer = { λ state. answers_in state.control state.nominal state.uses state.blocks state.ranges (hash.get ⟦<Key as PartialEq>⟧.eq state.others) };
 
+    #[inline(always)]
     fn ask(&self, key: &Key) -> Option<&Answer> {
         match key {
             Key::Control => Some(&self.control),
