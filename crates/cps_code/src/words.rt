@@ -45,6 +45,7 @@ impl Words {
     }
 
     /// Puts a piece over what stands.
+    #[inline(always)]
     pub fn deposit(&mut self, piece: Piece) -> Result<(), AllocError>
         ensures ok { OnOk result (Deposits self.old (piece_of piece) self.new) }
         ensures packed { (pieces : List image.Piece) → ArePacked pieces self.old → OnOk result (ArePacked (pieces ++ piece_of piece ∷ []) self.new) }

@@ -5,6 +5,7 @@ ghost use Rattle.cps_text.specs.Octal.{octal};
 use std::alloc::AllocError;
 
 /// Appends the low octal digits of a number, so many; after a refusal the text is unchanged.
+#[inline(always)]
 pub fn push_octal(text: &mut Vec<u8>, number: u64, digits: u8) -> Result<(), AllocError>
     ensures ok { OnOk result (text.new.items ≡ text.old.items ++ octal digits number) }
     ensures err { OnErr result (text.new.items ≡ text.old.items) }

@@ -38,6 +38,7 @@ impl<'a> Iterator for Operands<'a> {
 
     ghost remaining = { item_count operands_left };
 
+    #[inline(always)]
     fn next(&mut self) -> Option<&'a [u8]> {
         let rest = self.rest?;
         let (operand, behind) = rest.split_at(operand_len(rest));
