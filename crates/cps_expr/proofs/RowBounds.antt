@@ -1,10 +1,11 @@
 -- Each row that is read is in bounds.
 use Rattle.std.proofs.Common.{◌≡◌, ℕ, zero, suc, ◌+◌, ◌^◌, ◌<◌, Bool, true, false, cond, List, [], ◌∷◌, length, take, drop, Option, None, Some, refl, subst, arith}
-use Rattle.std.specs.Prelude.{IsTrue, option_map, option_and_then}
+use Rattle.std.specs.Prelude.{IsTrue, Result, Ok, Err, IfOk, option_map, option_and_then}
 use Rattle.std.specs.List.{list_all, position}
 use Rattle.cps_text.specs.Display.{has_display}
 use Rattle.cps_text.specs.Operands.{operands_of}
 use Rattle.cps_text.specs.Text.{is_blank}
+use Rattle.cps_expr.specs.declared.expr.ExprFault.{ExprFault}
 use Rattle.cps_expr.specs.declared.machine.Machine.{Machine}
 use Rattle.cps_expr.specs.declared.operation.Operation.{Operation}
 use Rattle.cps_expr.specs.declared.operation.Operation.TheVariants.{Ident, Abs, Periph, Base, Equate, Set, Org, Use, Bss, Bssz, Con, Data, Vfd, Dis, Compare, If, Else, Endif, Dup, Endd, Macro, Endm, End, Listing}
@@ -18,6 +19,7 @@ use Rattle.cps_expr.specs.Expression.{Expression, expression_of}
 use Rattle.cps_expr.specs.Item.{bits_of, item_of}
 use Rattle.cps_expr.specs.OperandList.{paired, all_some, one_or_more}
 use Rattle.cps_expr.specs.Operation.{operation_named}
+use Rattle.cps_expr.specs.Reads.{Reads}
 use Rattle.cps_expr.specs.Row.{is_comma, displayed, counted_at, counted_of, may_enclose, closes, delimited_at, delimited_of, dis_text_of, field_of, words_behind, words_up_to}
 use Rattle.cps_expr.specs.Statement.{row_with, row_of}
 use Rattle.cps_expr.proofs.ItemBounds.{AreBelow, all-below, item-fits}
@@ -141,6 +143,10 @@ row-bounded Macro tail machine radix made is = mapped row.Macro _ made (IsBounde
 row-bounded Endm tail machine radix made is = constant machine row.Endm made tt is
 row-bounded End tail machine radix made is = constant machine row.End made tt is
 row-bounded Listing tail machine radix made is = constant machine row.Listing made tt is
+
+pub reads-bounded : (operation : Operation) (tail : List ℕ) (machine : Machine) (radix : Radix) (outcome : Result Row ExprFault) → Reads outcome (row_with operation tail machine radix) → IfOk outcome (IsBounded machine)
+reads-bounded operation tail machine radix (Ok made) is = row-bounded operation tail machine radix made is
+reads-bounded operation tail machine radix (Err fault) is = tt
 
 pub bounded : (operation tail : List ℕ) (machine : Machine) (radix : Radix) (made : Row) → row_of operation tail machine radix ≡ Some made → IsBounded machine made
 bounded operation tail machine radix made is =

@@ -44,4 +44,5 @@ pub use row::{Block, Comparison, DisText, Field, Repetition, Row, SymbolTest};
 pub use sequence::Sequence;
 pub use signs::{leading_sign, sign_at};
 pub use statement::{Stmt, StmtFault};
+pub use statement_table::Stated;
 pub use value::{Value, is_same_name};

@@ -34,6 +34,7 @@ impl Operand for Expr {
 }
 
 /// A text as an expression; numbers with no letter go by the radix.
+#[inline(always)]
 pub fn read_expression(alloc: Global, text: &[u8], radix: Radix) -> Result<Expr, ExprFault>
     ensures { Reads result (expression_of radix text.now) }
 {
@@ -45,6 +46,7 @@ pub fn read_expression(alloc: Global, text: &[u8], radix: Radix) -> Result<Expr,
 }
 
 /// Two readings as one. Where one is unreadable, so are both, also if memory was refused for the other.
+#[inline(always)]
 pub fn paired<T: Drop, U: Drop>(
     first: Result<T, ExprFault>,
     second: Result<U, ExprFault>,

@@ -1,5 +1,6 @@
 //! The statement table: an operation's operands as its row.
-ghost use Rattle.std.specs.Prelude.{◌≡◌, Option};
+ghost use Rattle.std.specs.Prelude.{◌≡◌, Option, IfOk};
+ghost use Rattle.cps_expr.specs.Bounds.{IsBounded};
 ghost use Rattle.cps_expr.specs.Reads.{Reads};
 ghost use Rattle.cps_expr.specs.Statement.{row_with};
 
@@ -15,9 +16,69 @@ use crate::reads::{read_only, read_some};
 use crate::row::Row;
 use crate::words::read_words;
 use std::alloc::Global;
+use std::marker::Model;
+
+/// The operands of an operation of the statement table, as they are read. A clause sees their row.
+#[derive(Debug, Drop)]
+pub struct Stated {
+    row: Row,
+}
+
+impl Model for Stated {
+    ghost use Rattle.cps_expr.specs.declared.row.Row.{Row};
+
+    ghost Value = { Row };
+
+    ghost view = { λ stated. stated.row };
+}
+
+impl Stated {
+    /// Reads the operands of an operation in its tail, which is the text from the variable field's first column on. Numbers with no letter go by the
+    /// radix.
+    pub fn read(
+        alloc: Global,
+        operation: Operation,
+        tail: &[u8],
+        machine: Machine,
+        radix: Radix,
+    ) -> Result<Stated, ExprFault>
+        ensures row { Reads result (row_with operation tail.now machine radix) }
+        ensures bounded { IfOk result (IsBounded machine) }
+    {
+        let row = read_row(alloc, operation, tail, machine, radix)?;
+        Ok(Stated { row })
+    }
+
+    /// The operands as data.
+    pub fn row(&self) -> &Row
+        ensures { result.now ≡ self.now }
+    {
+        &self.row
+    }
+
+    /// The operands, to be taken out of it.
+    pub fn into_row(self) -> Row
+        ensures { result ≡ self }
+    {
+        self.row
+    }
+}
 
 /// The row of an operation's operands.
 pub(crate) fn read_row(
+    alloc: Global,
+    operation: Operation,
+    tail: &[u8],
+    machine: Machine,
+    radix: Radix,
+) -> Result<Row, ExprFault>
+    ensures row { Reads result (row_with operation tail.now machine radix) }
+    ensures bounded { IfOk result (IsBounded machine) }
+{
+    read_operands(alloc, operation, tail, machine, radix)
+}
+
+fn read_operands(
     alloc: Global,
     operation: Operation,
     tail: &[u8],
