@@ -156,7 +156,11 @@ impl Finals {
         ensures address { result ≡ base_in (final_value (⟦<Finals as Gathered>⟧.gathered self.now)) block }
         ensures bound { result < 2 ^ 60 }
     {
-        match self.base(block) {
+        let base = match block {
+            None => return 0,
+            Some(_) => self.base(block),
+        };
+        match base {
             Some(base) => magnitude(base),
             None => 0,
         }
@@ -197,7 +201,12 @@ impl Finals {
     pub(crate) fn final_of(&self, value: Value) -> Option<Value>
         ensures { result ≡ final_of (final_value (⟦<Finals as Gathered>⟧.gathered self.now)) value }
     {
-        plain_in_range(i128::from(value.offset) + i128::from(self.address_of(value.block)))
+        match value.block {
+            None => value.limited(),
+            Some(_) => plain_in_range(
+                i128::from(value.offset) + i128::from(self.address_of(value.block)),
+            ),
+        }
     }
 
     /// The words before a block.

@@ -29,6 +29,7 @@ pub trait NameSet {
 impl NameSet for IndexSet<Name> {
     ghost names = { λ set. set.keys };
 
+    #[inline(always)]
     fn add(&mut self, name: Name) -> Result<(), AllocError> {
         self.insert(name)?;
         Ok(())

@@ -31,6 +31,7 @@ pub struct Row {
 
 impl Row {
     /// The same row, as one of this statement. Takes no memory.
+    #[inline(always)]
     pub(crate) fn of_item(self, item: &Item) -> Result<Row, AllocError>
         ensures { IfOk result (λ row. row ≡ shown.row_of item.now self) }
     {

@@ -24,6 +24,7 @@ const WORD_BITS: u8 = 60;
 const PERIPHERAL_BITS: u8 = 12;
 
 /// A row, as one of a statement.
+#[inline(always)]
 pub fn push_row(rows: &mut Vec<Row>, item: &Item, row: Row) -> Result<(), AllocError>
     ensures { OnOk result (rows.new.items ≡ rows.old.items ++ shown.row_of item.now row ∷ []) }
 {

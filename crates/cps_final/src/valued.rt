@@ -35,6 +35,7 @@ struct Counted {
 }
 
 /// A content of a statement; a value that there is not counts as 0.
+#[inline(always)]
 pub fn value_content(content: &Content, standing: &Standing) -> Valued
     requires { IsContent content.now }
     ensures number { result.number ≡ values.number_of (view_of standing.now).known (view_of standing.now).here content.now }
@@ -142,6 +143,7 @@ fn value_operand(operand: &Operand, standing: &Standing) -> Counted
 }
 
 /// The value of an expression in which `*` stands for the address of the statement's first word.
+#[inline(always)]
 fn value_of(expression: &Expr, standing: &Standing) -> Counted
     ensures number { result.number ≡ values.number_at (view_of standing.now).known.symbols (view_of standing.now).here expression.now }
     ensures flags { result.flags ≡ values.expression_flags (view_of standing.now).known.symbols (view_of standing.now).here expression.now }
