@@ -1,8 +1,11 @@
+pub mod DigitsKept
 pub mod Distinct
 pub mod Finals
 pub mod Gathering
+pub mod ItemsKept
 pub mod Layout
 pub mod Names
+pub mod NamesKept
 pub mod Outcome
 pub mod Pieces
 pub mod Places

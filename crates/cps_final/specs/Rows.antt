@@ -17,7 +17,7 @@ use Rattle.cps_state.specs.Flags.{joined}
 use Rattle.cps_state.specs.Machines.{limit}
 use Rattle.cps_state.specs.Made.{no_flags, width_of, content_literals}
 use Rattle.cps_final.specs.declared.row.Row.{Row}
-use Rattle.cps_final.specs.declared.row.Digits.{Digits}
+use Rattle.cps_final.specs.declared.digits.Digits.{Digits}
 use Rattle.cps_final.specs.Places.{with_places}
 use Rattle.cps_final.specs.Values.{Resolved, final_of, first_address, Known, Standing, standing_of, number_of, value_flags}
 

@@ -2,8 +2,11 @@
 #![tactic(auto)]
 
 mod blocks;
+mod digits;
 mod finals;
 mod gather;
+mod kept_list;
+mod kept_names;
 mod line_symbols;
 mod literals;
 mod name_lists;
@@ -19,9 +22,10 @@ mod statement;
 mod symbols;
 mod valued;
 
+pub use digits::{Code, Digits, ShortCode};
 pub use finals::{Finals, Gathered};
 pub use gather::Gather;
 pub use line_symbols::LineSymbols;
 pub use outcome::{Outcome, flags_of, step_two};
 pub use output::Output;
-pub use row::{Digits, Row};
+pub use row::Row;

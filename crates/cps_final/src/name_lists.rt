@@ -4,6 +4,7 @@ ghost use Rattle.std.specs.List.{list_any};
 ghost use Rattle.cps_expr.specs.Value.{same_name};
 ghost use Rattle.cps_final.specs.Names.{names_defined, names_read};
 
+use crate::kept_names::KeptNames;
 use crate::names::{NameSet, insert_defined, insert_read};
 use cps_expr::is_same_name;
 use cps_state::Trace;
@@ -15,8 +16,8 @@ use std::alloc::{AllocError, Global};
 const FEW: usize = 8;
 
 /// The symbols that a line defines, each once.
-pub fn list_defined(alloc: Global, trace: &Trace) -> Result<Vec<Name>, AllocError>
-    ensures { IfOk result (λ names. names.items ≡ names_defined trace.now) }
+pub fn list_defined(alloc: Global, trace: &Trace) -> Result<KeptNames, AllocError>
+    ensures { IfOk result (λ names. names ≡ names_defined trace.now) }
 {
     let mut few = FewNames::new(alloc);
     if insert_defined(&mut few, trace.puts()).is_ok() {
@@ -24,12 +25,12 @@ pub fn list_defined(alloc: Global, trace: &Trace) -> Result<Vec<Name>, AllocErro
     }
     let mut names = IndexSet::new(alloc);
     insert_defined(&mut names, trace.puts())?;
-    copy_of(alloc, names.as_slice())
+    KeptNames::copy_of(alloc, names.as_slice())
 }
 
 /// The symbols that a line reads, now or later, each once.
-pub fn list_read(alloc: Global, trace: &Trace) -> Result<Vec<Name>, AllocError>
-    ensures { IfOk result (λ names. names.items ≡ names_read trace.now) }
+pub fn list_read(alloc: Global, trace: &Trace) -> Result<KeptNames, AllocError>
+    ensures { IfOk result (λ names. names ≡ names_read trace.now) }
 {
     let mut few = FewNames::new(alloc);
     if insert_read(&mut few, trace).is_ok() {
@@ -37,47 +38,40 @@ pub fn list_read(alloc: Global, trace: &Trace) -> Result<Vec<Name>, AllocError>
     }
     let mut names = IndexSet::new(alloc);
     insert_read(&mut names, trace)?;
-    copy_of(alloc, names.as_slice())
-}
-
-fn copy_of(alloc: Global, names: &[Name]) -> Result<Vec<Name>, AllocError>
-    ensures { IfOk result (λ copy. copy.items ≡ names.now) }
-{
-    let mut copy = Vec::with_capacity(alloc, names.len())?;
-    copy.extend_from_slice(names)?;
-    Ok(copy)
+    KeptNames::copy_of(alloc, names.as_slice())
 }
 
 /// A few names, each once, in a list that takes room for one after another. It has no room for more than a few.
 #[derive(Drop)]
 struct FewNames {
-    names: Vec<Name>,
+    alloc: Global,
+    names: KeptNames,
 }
 
 impl FewNames {
     /// None. Takes no memory yet.
     fn new(alloc: Global) -> FewNames
-        ensures { result.names.items ≡ [] }
+        ensures { result.names ≡ [] }
     {
         FewNames {
-            names: Vec::new(alloc),
+            alloc,
+            names: KeptNames::new(),
         }
     }
 }
 
 impl NameSet for FewNames {
-    ghost names = { λ few. few.names.items };
+    ghost names = { λ few. few.names };
 
     fn add(&mut self, name: Name) -> Result<(), AllocError> {
-        if has_name(&self.names, name) {
+        let names = self.names.as_slice();
+        if has_name(names, name) {
             return Ok(());
         }
-        if self.names.len() >= FEW {
+        if names.len() >= FEW {
             return Err(AllocError);
         }
-        self.names.reserve_exact(1)?;
-        self.names.push_reserved(name);
-        Ok(())
+        self.names.push(self.alloc, name)
     }
 }
 

@@ -8,6 +8,8 @@ ghost use Rattle.cps_final.specs.Outcome as outcome;
 ghost use Rattle.cps_final.specs.Resolving.{resolved};
 
 use crate::finals::{Finals, Gathered};
+use crate::kept_list::KeptList;
+use crate::kept_names::KeptNames;
 use crate::name_lists::{list_defined, list_read};
 use crate::output::Output;
 use crate::row::Row;
@@ -17,20 +19,29 @@ use cps_text::Name;
 use std::alloc::{AllocError, Global};
 use std::marker::Model;
 
-/// What pass two makes of a line: its rows, its bits, and the symbols that it defines and reads.
+/// What pass two makes of a line: its rows, its bits, and the symbols that it defines and reads. It is one piece of memory, so that it moves cheaply.
 #[derive(Drop)]
 pub struct Outcome {
-    output: Output,
-    defined: Vec<Name>,
-    read: Vec<Name>,
+    kept: Box<KeptOutcome>,
+}
+
+/// An outcome, as it is kept.
+#[derive(Drop)]
+struct KeptOutcome {
+    rows: KeptList<Row>,
+    pieces: KeptList<Piece>,
+    defined: KeptNames,
+    read: KeptNames,
 }
 
 impl Model for Outcome {
+    ghost use Rattle.std.specs.Prelude.{map};
+    ghost use Rattle.cps_code.specs.Image.{piece_of};
     ghost use Rattle.cps_final.specs.Outcome.{Outcome};
 
     ghost Value = { Outcome };
 
-    ghost view = { λ outcome. record { rows = outcome.output.rows; pieces = outcome.output.pieces; defined = outcome.defined.items; read = outcome.read.items } };
+    ghost view = { λ outcome. let kept = outcome.kept.value in record { rows = kept.rows; pieces = map piece_of kept.pieces; defined = kept.defined; read = kept.read } };
 }
 
 /// Pass two of a line. It counts as one step, whatever is answered.
@@ -59,40 +70,58 @@ fn make_outcome(alloc: Global, trace: &Trace, finals: &Finals) -> Result<Outcome
     output.replace(items, finals)?;
     let defined = list_defined(alloc, trace)?;
     let read = list_read(alloc, trace)?;
-    Ok(Outcome {
-        output,
-        defined,
-        read,
-    })
+    let made = Outcome::of(alloc, output, defined, read)?;
+    Ok(made)
 }
 
 impl Outcome {
+    /// Of these rows and bits and these symbols.
+    fn of(
+        alloc: Global,
+        output: Output,
+        defined: KeptNames,
+        read: KeptNames,
+    ) -> Result<Outcome, AllocError>
+        ensures { IfOk result (λ made. made ≡ record { rows = output.rows; pieces = output.pieces; defined = defined; read = read }) }
+    {
+        let (rows, pieces) = output.into_parts();
+        let kept = KeptOutcome {
+            rows: KeptList::of(rows),
+            pieces: KeptList::of(pieces),
+            defined,
+            read,
+        };
+        Ok(Outcome {
+            kept: Box::new(alloc, kept)?,
+        })
+    }
+
     /// The rows, in their order.
     pub fn rows(&self) -> &[Row]
         ensures { result.now ≡ self.now.rows }
     {
-        self.output.rows()
+        self.kept.rows.as_slice()
     }
 
     /// The bits, in their order.
     pub fn pieces(&self) -> &[Piece]
         ensures { map piece_of result.now ≡ self.now.pieces }
     {
-        self.output.pieces()
+        self.kept.pieces.as_slice()
     }
 
     /// The symbols that the line defines, each once.
     pub fn names_defined(&self) -> &[Name]
         ensures { result.now ≡ self.now.defined }
     {
-        self.defined.as_slice()
+        self.kept.defined.as_slice()
     }
 
     /// The symbols that the line reads, each once.
     pub fn names_read(&self) -> &[Name]
         ensures { result.now ≡ self.now.read }
     {
-        self.read.as_slice()
+        self.kept.read.as_slice()
     }
 
     /// The flags of all rows.

@@ -62,6 +62,15 @@ impl Output {
         Ok(())
     }
 
+    /// The rows and the bits.
+    pub(crate) fn into_parts(self) -> (Vec<Row>, Vec<Piece>)
+        ensures rows { result.0.items ≡ self.rows }
+        ensures pieces { map piece_of result.1.items ≡ self.pieces }
+    {
+        let Output { rows, pieces } = self;
+        (rows, pieces)
+    }
+
     /// The rows, in their order.
     pub fn rows(&self) -> &[Row]
         ensures { result.now ≡ self.now.rows }

@@ -2,29 +2,23 @@
 ghost use Rattle.std.specs.Prelude.{◌≡◌, IfOk};
 ghost use Rattle.cps_final.specs.Rows as shown;
 
+use crate::digits::{Code, ShortCode};
 use cps_state::{Flags, Item, Shared};
 use std::alloc::AllocError;
 
-/// So many octal digits of a number.
-#[derive(Clone, Copy, Debug, PartialEq, Eq)]
-pub struct Digits {
-    pub count: u8,
-    pub number: u64,
-}
-
 /// What a row of the listing shows of a statement.
-#[derive(Debug, PartialEq, Eq, Drop)]
+#[derive(Drop)]
 pub struct Row {
     pub flags: Flags,
-    /// A final address, in words.
-    pub location: Option<u64>,
-    pub code: Option<Digits>,
-    /// The second word of an instruction, where its words are shown apart.
-    pub second: Option<Digits>,
     /// Whether it is a later row of its statement, which shows neither the line nor its number.
     pub is_later: bool,
     /// How deep in expansions its statement stands, 0 for a source line and on later rows.
     pub depth: u8,
+    /// The second word of an instruction, where its words are shown apart.
+    pub second: ShortCode,
+    pub code: Code,
+    /// A final address, in words.
+    pub location: Option<u64>,
     /// The statement's text, empty for a source line's own statement and on later rows.
     pub text: Shared<u8>,
 }

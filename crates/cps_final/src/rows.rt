@@ -8,8 +8,9 @@ ghost use Rattle.cps_final.specs.Resolving.{resolved, view_of};
 ghost use Rattle.cps_final.specs.Rows as shown;
 ghost use Rattle.cps_final.specs.Values as values;
 
+use crate::digits::{Code, Digits, ShortCode};
 use crate::finals::Finals;
-use crate::row::{Digits, Row};
+use crate::row::Row;
 use crate::standing::Standing;
 use crate::valued::{Placed, value_content};
 use cps_code::{Hole, Operand, complement};
@@ -52,7 +53,7 @@ pub fn row_at(standing: &Standing, flags: Flags, is_later: bool, placed: Placed)
             .joined(literal_flags(content, standing))
             .joined(limit_flags(machine, address)),
         location: Some(address),
-        code: Some(first_digits(machine, content, valued.number)),
+        code: Code::of(first_digits(machine, content, valued.number)),
         second: second_digits(machine, content, valued.number),
         is_later,
         depth: 0,
@@ -67,8 +68,8 @@ fn blank_row(flags: Flags) -> Row
     Row {
         flags,
         location: None,
-        code: None,
-        second: None,
+        code: Code::absent(),
+        second: ShortCode::absent(),
         is_later: false,
         depth: 0,
         text: Shared::empty(),
@@ -152,7 +153,7 @@ pub fn statement_row(item: &Item, finals: &Finals) -> Row
         Shown::Nothing => {}
         Shown::Value(value) => {
             if let Some(value) = finals.final_of(value) {
-                row.code = Some(digits_for(WORD_BITS, complement(value.offset)));
+                row.code = Code::of(digits_for(WORD_BITS, complement(value.offset)));
             }
         }
         Shown::Address(value) => {
@@ -195,13 +196,13 @@ fn first_digits(machine: Machine, content: &Content, number: u64) -> Digits
 }
 
 /// The digits of the second word, where the words of an instruction are shown apart.
-fn second_digits(machine: Machine, content: &Content, number: u64) -> Option<Digits>
+fn second_digits(machine: Machine, content: &Content, number: u64) -> ShortCode
     ensures { result ≡ shown.second_digits machine content.now number }
 {
     if is_parted(machine, content) {
-        Some(digits_for(PERIPHERAL_BITS, number % (1 << PERIPHERAL_BITS)))
+        ShortCode::of(digits_for(PERIPHERAL_BITS, number % (1 << PERIPHERAL_BITS)))
     } else {
-        None
+        ShortCode::absent()
     }
 }
 

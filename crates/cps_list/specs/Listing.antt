@@ -7,7 +7,7 @@ use Rattle.cps_text.specs.Octal.{octal}
 use Rattle.cps_state.specs.Flags.{letters}
 use Rattle.cps_text.specs.Line.{longest_line}
 use Rattle.cps_final.specs.declared.row.Row.{Row}
-use Rattle.cps_final.specs.declared.row.Digits.{Digits}
+use Rattle.cps_final.specs.declared.digits.Digits.{Digits}
 use Rattle.cps_final.specs.Outcome.{Outcome}
 use Rattle.cps_list.specs.Assembly.{Assembly}
 use Rattle.cps_list.specs.Columns.{Column, at_right, last_of, laid_out}

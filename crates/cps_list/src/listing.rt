@@ -49,7 +49,9 @@ fn push_row(text: &mut Vec<u8>, number: u32, line: &[u8], row: &Row) -> Result<(
     let before = text.len();
     row.flags.push_letters(text)?;
     push_address(text, before, row.location)?;
-    push_code(text, before, row.code, row.second)?;
+    let code = row.code.digits();
+    let second = row.second.digits();
+    push_code(text, before, code, second)?;
     push_statement(text, before, number, line, row)?;
     cut_blanks(text, before);
     text.push(b'\n')?;

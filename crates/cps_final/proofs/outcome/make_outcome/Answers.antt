@@ -8,4 +8,5 @@ pub returns : goal.returns
 returns c =
     let finals = resolved c.args.finals.now in
     let made = outcome-made finals c.args.trace.now _ _ _ c.items-items.result.now c.items-items.ensures c.in_ok-replace.ensures c.in_ok-defined.ensures c.in_ok-read.ensures in
-    record { outcome = made; alone = λ others agree. outcome-alone others finals c.args.trace.now agree ∙ sym made }
+    let whole = c.in_ok-made.ensures ∙ made in
+    record { outcome = whole; alone = λ others agree. outcome-alone others finals c.args.trace.now agree ∙ sym whole }
