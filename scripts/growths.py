@@ -86,7 +86,7 @@ class Program:
 
     def run(self, words, given=b"", refused=(), memory=None, stdin=None, counted=True):
         """Runs it on bytes, or on an open file, with the growths of these numbers refused, the first being 1, and at most so many bytes of
-        address space. `refused` may be a range. Where nothing is refused and growths aren't counted it runs at its own speed."""
+        address space. `refused` is a tuple or a range. Where nothing is refused and growths aren't counted it runs at its own speed."""
         files = bytes_file(given) if stdin is None else stdin, bytes_file(), bytes_file()
         process = os.fork()
         if process == 0:
@@ -131,7 +131,7 @@ class Program:
         if not os.WIFSTOPPED(status):
             return 0, 0, status
         base = self._put(process, BREAKPOINT)
-        last = max(refused, default=None)
+        last = refused[-1] if refused else None
         seen = met = passed_on = 0
         while True:
             trace(CONTINUE, process, 0, passed_on)
