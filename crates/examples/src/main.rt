@@ -12,13 +12,15 @@ use anyhow::Context;
 use std::process::ExitCode;
 
 /// The files of sessions, each of one subject.
-const SESSIONS: [&str; 17] = [
+const SESSIONS: [&str; 19] = [
     "blocks",
+    "bytes",
     "central",
     "columns",
     "commands",
     "edits",
     "expansions",
+    "limits",
     "literals",
     "macros",
     "peripheral",
