@@ -11,25 +11,38 @@ NAMES = ["A", "B", "C", "K", "N", "S", "LP", "b", "Q", "P.1", "A=", "LONGNAME", 
 BLOCKS = ["W", "V", "BUF", "0", "*", "A", "X1", "W,V", "00"]
 MACROS = ["M", "M2", "MAC", "m", "LOCAL"]
 PARAMETERS = ["P", "P,N", "P,Q,R", "", "P,P", "X1", "P="]
-NUMBERS = ["0", "1", "2", "3", "5", "7", "10B", "17", "18B", "100B", "777777B", "131071", "377776B", "4095", "262143", "576460752303423487", "1000000B", "59", "61"]
+NUMBERS = [
+    "0", "1", "2", "3", "5", "7", "10B", "17", "18B", "100B", "777777B", "131071", "377776B", "4095", "262143", "576460752303423487",
+    "1000000B", "59", "61",
+]
 CENTRAL = [
-    ("NO", [""]), ("PS", [""]), ("RJ", ["K"]), ("JP", ["K", "B2", "B2+K", "K-B1"]), ("EQ", ["K", "B1,K", "B1,B2,K"]), ("LE", ["B1,B2,K"]), ("GT", ["B1,K"]),
-    ("ZR", ["X1,K", "B3,K", "X1"]), ("NG", ["X2,K"]), ("BX6", ["X1", "-X1", "X1*X2", "-X2+X3"]), ("LX3", ["n", "B1,X2", "X2,B1"]), ("MX0", ["n"]), ("AX1", ["n"]),
+    ("NO", [""]), ("PS", [""]), ("RJ", ["K"]), ("JP", ["K", "B2", "B2+K", "K-B1"]), ("EQ", ["K", "B1,K", "B1,B2,K"]), ("LE", ["B1,B2,K"]),
+    ("GT", ["B1,K"]),
+    ("ZR", ["X1,K", "B3,K", "X1"]), ("NG", ["X2,K"]), ("BX6", ["X1", "-X1", "X1*X2", "-X2+X3"]), ("LX3", ["n", "B1,X2", "X2,B1"]),
+    ("MX0", ["n"]), ("AX1", ["n"]),
     ("NX1", ["B1,X2", "X2"]), ("FX2", ["X1+X2", "X1/X3"]), ("IX3", ["X1-X2", "X1*X2"]), ("CX1", ["X2"]), ("RX4", ["X1*X2"]), ("DX1", ["X1/X2"]),
     ("SA1", ["K", "A1+K", "B1+K", "X1+K", "B1+B2", "A1-B1", "-B1", "=L", "K-A1+K", "A1+A2", "B1+X1"]), ("SB2", ["K", "B1-B2", "X1", "X1+B1"]),
     ("SX1", ["K", "X2", "B1+K", "-K", "=L", "K+=L"]), ("LDN", ["n"]),
 ]
 PERIPHERAL = [
-    ("PSN", [""]), ("LDN", ["n"]), ("SHN", ["n", "-n"]), ("LDC", ["K", "=L"]), ("LDM", ["K", "K,n", "=L", "=L,n"]), ("UJN", ["*+n", "K", "*-n"]), ("ZJN", ["K"]), ("LJM", ["K", "K,n"]),
+    ("PSN", [""]), ("LDN", ["n"]), ("SHN", ["n", "-n"]), ("LDC", ["K", "=L"]), ("LDM", ["K", "K,n", "=L", "=L,n"]),
+    ("UJN", ["*+n", "K", "*-n"]), ("ZJN", ["K"]), ("LJM", ["K", "K,n"]),
     ("RJM", ["K"]), ("FNC", ["K,n"]), ("STD", ["n"]), ("ACN", ["n"]), ("SA1", ["K"]),
 ]
 STATEMENTS = [
-    ("EQU", "e"), ("=", "e"), ("SET", "e"), ("SET", "N+1"), ("BSS", "n"), ("BSS", "e"), ("BSSZ", "n"), ("CON", "e"), ("CON", "e,e,e"), ("DATA", "i,i"), ("DATA", "i"), ("VFD", "w/e"), ("VFD", "w/e,w/e,w/e"),
-    ("VFD", "e/e"), ("DIS", "n,HELLO, WORLD"), ("DIS", ",*TEXT*"), ("DIS", "2,AB"), ("DIS", ",*TEXT"), ("ORG", "e"), ("ORG", "100B"), ("ORG", "*"), ("USE", "b"), ("USE", ""), ("USE", "*"), ("USE", "W"), ("BASE", "O"), ("BASE", "D"), ("IDENT", "T1"),
-    ("ABS", ""), ("PERIPH", ""), ("TITLE", "SOMETHING"), ("LIST", "X"), ("END", ""), ("XYZ", "e"), ("", ""), ("IFEQ", "e,e"), ("IFEQ", "e,e,n"), ("IFGT", "N,n"), ("IFLE", "*,e"), ("IF", "DEF,s"), ("IF", "-DEF,s,n"), ("IF", "e"),
-    ("ELSE", ""), ("ENDIF", ""), ("ENDIF", ""), ("DUP", "2,1"), ("DUP", "r,n"), ("DUP", "r"), ("ENDD", ""), ("ENDD", ""), ("MACRO", "p"), ("ENDM", ""), ("ENDM", ""), ("call", "a"), ("call", "a,a"), ("call", "(a,a),a"), ("call", ""),
+    ("EQU", "e"), ("=", "e"), ("SET", "e"), ("SET", "N+1"), ("BSS", "n"), ("BSS", "e"), ("BSSZ", "n"), ("CON", "e"), ("CON", "e,e,e"),
+    ("DATA", "i,i"), ("DATA", "i"), ("VFD", "w/e"), ("VFD", "w/e,w/e,w/e"),
+    ("VFD", "e/e"), ("DIS", "n,HELLO, WORLD"), ("DIS", ",*TEXT*"), ("DIS", "2,AB"), ("DIS", ",*TEXT"), ("ORG", "e"), ("ORG", "100B"),
+    ("ORG", "*"), ("USE", "b"), ("USE", ""), ("USE", "*"), ("USE", "W"), ("BASE", "O"), ("BASE", "D"), ("IDENT", "T1"),
+    ("ABS", ""), ("PERIPH", ""), ("TITLE", "SOMETHING"), ("LIST", "X"), ("END", ""), ("XYZ", "e"), ("", ""), ("IFEQ", "e,e"),
+    ("IFEQ", "e,e,n"), ("IFGT", "N,n"), ("IFLE", "*,e"), ("IF", "DEF,s"), ("IF", "-DEF,s,n"), ("IF", "e"),
+    ("ELSE", ""), ("ENDIF", ""), ("ENDIF", ""), ("DUP", "2,1"), ("DUP", "r,n"), ("DUP", "r"), ("ENDD", ""), ("ENDD", ""), ("MACRO", "p"),
+    ("ENDM", ""), ("ENDM", ""), ("call", "a"), ("call", "a,a"), ("call", "(a,a),a"), ("call", ""),
 ]
-ITEMS = ["1", "-1", "-0", "17B", "777777777777777777777", "3LABC", "2RAB", "3HA,B", "03LABC", "L*AB*", "H/A B/", "1L", "R.X.", "11LABCDEFGHIJK", "18B", "X"]
+ITEMS = [
+    "1", "-1", "-0", "17B", "777777777777777777777", "3LABC", "2RAB", "3HA,B", "03LABC", "L*AB*", "H/A B/", "1L", "R.X.", "11LABCDEFGHIJK",
+    "18B", "X",
+]
 ARGUMENTS = ["1", "A", "P", "S+1", "", "(A)", "60/1", "=1", "X1", "A B", "_", "N_1"]
 
 
@@ -61,22 +74,22 @@ class Lines:
         return "".join(made)
 
     def statement(self):
+        """Location, operation and operands."""
         chance = self.chance
         location = chance.choice(["", "", "", chance.choice(NAMES[:8]), chance.choice(NAMES), "+", "-"])
         if chance.random() < 0.4:
             operation, shapes = chance.choice(self.machine if chance.random() < 0.95 else CENTRAL + PERIPHERAL)
-            return location, operation, self.filled(chance.choice(shapes)) if operation != "DIS" else chance.choice(shapes)
+            return location, operation, self.filled(chance.choice(shapes))
         operation, shape = chance.choice(STATEMENTS)
         if operation == "call":
-            return location, chance.choice(MACROS), self.filled(shape)
-        if operation in ("EQU", "=", "SET"):
+            operation = chance.choice(MACROS)
+        elif operation in ("EQU", "=", "SET"):
             location = chance.choice(NAMES[:8])
-        if operation == "MACRO":
+        elif operation == "MACRO":
             location = chance.choice(MACROS)
-        elif operation not in ("BSS", "BSSZ", "CON", "DATA", "VFD", "DIS", "EQU", "=", "SET") and chance.random() < 0.85:
+        elif operation not in ("BSS", "BSSZ", "CON", "DATA", "VFD", "DIS") and chance.random() < 0.85:
             location = ""
-        is_plain = operation in ("DIS", "TITLE", "IDENT") or not shape or shape[0].isupper()
-        return location, operation, shape if is_plain and "," not in shape else self.filled(shape) if operation != "DIS" else shape.replace("n", chance.choice("123N0"))
+        return location, operation, shape.replace("n", chance.choice("123N0")) if operation == "DIS" else self.filled(shape)
 
     def good(self):
         """A line that a source may have."""
@@ -102,8 +115,10 @@ class Lines:
         chance, body = self.chance, [self.good() for _ in range(self.chance.randrange(1, 4))]
         name = chance.choice(MACROS[:3])
         front, end = chance.choice([
-            (f"{name:<9}MACRO   {chance.choice(PARAMETERS[:3])}", "         ENDM"), (f"         IFEQ    {self.expression()},{self.expression()}", "         ENDIF"),
-            (f"         DUP     {chance.choice(['2', '3', 'N', '0', '40'])}", "         ENDD"), ("         USE     " + chance.choice(BLOCKS[:3]), "         USE     *"),
+            (f"{name:<9}MACRO   {chance.choice(PARAMETERS[:3])}", "         ENDM"),
+            (f"         IFEQ    {self.expression()},{self.expression()}", "         ENDIF"),
+            (f"         DUP     {chance.choice(['2', '3', 'N', '0', '40'])}", "         ENDD"),
+            ("         USE     " + chance.choice(BLOCKS[:3]), "         USE     *"),
             ("         IF      DEF," + chance.choice(NAMES[:5]), "         ELSE"),
         ])
         lines = [front[:MOST_BYTES].encode(), *body, end.encode()]
@@ -228,7 +243,9 @@ class Edits:
         chance, good, wrong = self.chance, self.lines.good(), self.lines.wrong()
         number = chance.choice([0, 1, count, count + 1, count + 2, 9_999, 10_000, 99_999])
         return chance.choice([
-            b"a " + wrong, b"i %d %s" % (number, wrong), b"r %d %s" % (number, wrong), b"i %d %s" % (number, good), b"r %d %s" % (number, good), b"d %d" % number,
-            b"d %d %d" % (number, chance.randrange(count + 2)), b"d 00001", b"a", b"r 1", b"i 0", b"x 1", b"", b"d", b"d  1", b"i 100000 X", b"i -1 X", b"list ", b"LIST", b"ax", b"a" + b"X" * 300,
+            b"a " + wrong, b"i %d %s" % (number, wrong), b"r %d %s" % (number, wrong), b"i %d %s" % (number, good), b"r %d %s" % (number,
+            good), b"d %d" % number,
+            b"d %d %d" % (number, chance.randrange(count + 2)), b"d 00001", b"a", b"r 1", b"i 0", b"x 1", b"", b"d", b"d  1",
+            b"i 100000 X", b"i -1 X", b"list ", b"LIST", b"ax", b"a" + b"X" * 300,
             b"a " + b"X" * chance.randrange(195, 202), good.replace(b"\n", b"") or b"z", b"d 1 1 1", b"i 1\t", b"\x00", b"r 1  " + good[:80],
         ])
