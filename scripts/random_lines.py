@@ -8,6 +8,7 @@ WRONG = set(range(32)) | set(b"`{|}~") | set(range(127, 256))
 QUERIES = (b"list", b"binary", b"symbols", b"flags")
 
 NAMES = ["A", "B", "C", "K", "N", "S", "LP", "b", "Q", "P.1", "A=", "LONGNAME", "TOOLONGNAME", "X1", ".", "1A"]
+LABELS = [f"L{number}" for number in range(30)]
 BLOCKS = ["W", "V", "BUF", "0", "*", "A", "X1", "W,V", "00"]
 MACROS = ["M", "M2", "MAC", "m", "LOCAL"]
 PARAMETERS = ["P", "P,N", "P,Q,R", "", "P,P", "X1", "P="]
@@ -29,15 +30,19 @@ PERIPHERAL = [
     ("UJN", ["*+n", "K", "*-n"]), ("ZJN", ["K"]), ("LJM", ["K", "K,n"]),
     ("RJM", ["K"]), ("FNC", ["K,n"]), ("STD", ["n"]), ("ACN", ["n"]), ("SA1", ["K"]),
 ]
+# What is placed, defined or called.
 STATEMENTS = [
-    ("EQU", "e"), ("=", "e"), ("SET", "e"), ("SET", "N+1"), ("BSS", "n"), ("BSS", "e"), ("BSSZ", "n"), ("CON", "e"), ("CON", "e,e,e"),
-    ("DATA", "i,i"), ("DATA", "i"), ("VFD", "w/e"), ("VFD", "w/e,w/e,w/e"),
-    ("VFD", "e/e"), ("DIS", "n,HELLO, WORLD"), ("DIS", ",*TEXT*"), ("DIS", "2,AB"), ("DIS", ",*TEXT"), ("ORG", "e"), ("ORG", "100B"),
-    ("ORG", "*"), ("USE", "b"), ("USE", ""), ("USE", "*"), ("USE", "W"), ("BASE", "O"), ("BASE", "D"), ("IDENT", "T1"),
-    ("ABS", ""), ("PERIPH", ""), ("TITLE", "SOMETHING"), ("LIST", "X"), ("END", ""), ("XYZ", "e"), ("", ""), ("IFEQ", "e,e"),
-    ("IFEQ", "e,e,n"), ("IFGT", "N,n"), ("IFLE", "*,e"), ("IF", "DEF,s"), ("IF", "-DEF,s,n"), ("IF", "e"),
-    ("ELSE", ""), ("ENDIF", ""), ("ENDIF", ""), ("DUP", "2,1"), ("DUP", "r,n"), ("DUP", "r"), ("ENDD", ""), ("ENDD", ""), ("MACRO", "p"),
-    ("ENDM", ""), ("ENDM", ""), ("call", "a"), ("call", "a,a"), ("call", "(a,a),a"), ("call", ""),
+    ("EQU", "e"), ("=", "e"), ("EQU", "n"), ("SET", "e"), ("SET", "N+1"), ("SET", "n"), ("BSS", "n"), ("BSS", "e"), ("BSSZ", "n"), ("CON", "e"),
+    ("CON", "e,e,e"), ("CON", "n"), ("DATA", "i,i"), ("DATA", "i"), ("VFD", "w/e"), ("VFD", "w/e,w/e,w/e"), ("VFD", "30/e,30/e"), ("VFD", "e/e"),
+    ("DIS", "n,HELLO, WORLD"), ("DIS", ",*TEXT*"), ("DIS", "2,AB"), ("DIS", ",*TEXT"), ("ORG", "100B"), ("ORG", "*"), ("ORG", "e"), ("USE", "b"),
+    ("USE", ""), ("USE", "*"), ("USE", "W"), ("BASE", "O"), ("BASE", "D"), ("TITLE", "SOMETHING"), ("LIST", "X"), ("XYZ", "e"), ("", ""),
+    ("call", "a"), ("call", "a,a"), ("call", "(a,a),a"), ("call", ""), ("call", "n,e"),
+]
+# What opens or closes something, or stands in the head.
+BOUNDS = [
+    ("IFEQ", "e,e"), ("IFEQ", "e,e,n"), ("IFGT", "N,n"), ("IFLE", "*,e,n"), ("IF", "DEF,s"), ("IF", "-DEF,s,n"), ("IF", "e"), ("ELSE", ""),
+    ("ENDIF", ""), ("ENDIF", ""), ("DUP", "2,1"), ("DUP", "r,n"), ("DUP", "r"), ("ENDD", ""), ("ENDD", ""), ("MACRO", "p"), ("ENDM", ""),
+    ("ENDM", ""), ("ENDM", ""), ("END", ""), ("IDENT", "T1"), ("ABS", ""), ("PERIPH", ""),
 ]
 ITEMS = [
     "1", "-1", "-0", "17B", "777777777777777777777", "3LABC", "2RAB", "3HA,B", "03LABC", "L*AB*", "H/A B/", "1L", "R.X.", "11LABCDEFGHIJK",
@@ -57,7 +62,7 @@ class Lines:
         chance, text = self.chance, ""
         for term in range(chance.choice([1, 1, 1, 2, 2, 3])):
             text += chance.choice(["", "", "-", "+"] if term == 0 else ["+", "-", "*", "/", "+", "-"])
-            text += chance.choice([chance.choice(NAMES), chance.choice(NAMES[:7]), chance.choice(NUMBERS[:8]), chance.choice(NUMBERS), "*"])
+            text += chance.choice([chance.choice(pool) for pool in (NAMES, NAMES[:7], LABELS, NUMBERS[:8], NUMBERS, "*")])
         return text
 
     def filled(self, shape):
@@ -76,18 +81,19 @@ class Lines:
     def statement(self):
         """Location, operation and operands."""
         chance = self.chance
-        location = chance.choice(["", "", "", chance.choice(NAMES[:8]), chance.choice(NAMES), "+", "-"])
-        if chance.random() < 0.4:
-            operation, shapes = chance.choice(self.machine if chance.random() < 0.95 else CENTRAL + PERIPHERAL)
+        location = chance.choice(["", "", "", "", chance.choice(LABELS), chance.choice(LABELS), chance.choice(NAMES), chance.choice("+-")])
+        kind = chance.random()
+        if kind < 0.5:
+            operation, shapes = chance.choice(self.machine if chance.random() < 0.97 else CENTRAL + PERIPHERAL)
             return location, operation, self.filled(chance.choice(shapes))
-        operation, shape = chance.choice(STATEMENTS)
+        operation, shape = chance.choice(STATEMENTS if kind < 0.93 else BOUNDS)
         if operation == "call":
             operation = chance.choice(MACROS)
         elif operation in ("EQU", "=", "SET"):
             location = chance.choice(NAMES[:8])
         elif operation == "MACRO":
             location = chance.choice(MACROS)
-        elif operation not in ("BSS", "BSSZ", "CON", "DATA", "VFD", "DIS") and chance.random() < 0.85:
+        elif operation not in ("BSS", "BSSZ", "CON", "DATA", "VFD", "DIS") and chance.random() < 0.95:
             location = ""
         return location, operation, shape.replace("n", chance.choice("123N0")) if operation == "DIS" else self.filled(shape)
 
@@ -110,19 +116,30 @@ class Lines:
             text = text.lower()
         return text[:MOST_BYTES].encode() if chance.random() < 0.05 else text[:MOST_BYTES].rstrip().encode()
 
+    def head(self):
+        """Lines that a program begins with."""
+        chance = self.chance
+        lines = [b"         IDENT   T1"] * chance.randrange(2)
+        return lines + ([b"         PERIPH"] if self.machine is PERIPHERAL else [b"         ABS"] * chance.randrange(2))
+
     def structure(self):
         """Some lines that belong together."""
         chance, body = self.chance, [self.good() for _ in range(self.chance.randrange(1, 4))]
-        name = chance.choice(MACROS[:3])
+        name, test = chance.choice(MACROS[:3]), chance.choice([self.expression(), chance.choice("0123N"), "1"])
         front, end = chance.choice([
-            (f"{name:<9}MACRO   {chance.choice(PARAMETERS[:3])}", "         ENDM"),
-            (f"         IFEQ    {self.expression()},{self.expression()}", "         ENDIF"),
-            (f"         DUP     {chance.choice(['2', '3', 'N', '0', '40'])}", "         ENDD"),
+            (f"{name:<9}MACRO   {chance.choice(PARAMETERS[:3])}", "         ENDM"), (f"{name:<9}MACRO   P", "         ENDM"),
+            (f"         IFEQ    1,{test}", "         ENDIF"), (f"         IFGE    N,{test},{chance.randrange(4)}", ""),
+            (f"         DUP     {chance.choice(['2', '3', 'N', '0', '40'])}", "         ENDD"), (f"         DUP     3,{len(body)}", ""),
             ("         USE     " + chance.choice(BLOCKS[:3]), "         USE     *"),
-            ("         IF      DEF," + chance.choice(NAMES[:5]), "         ELSE"),
+            ("         IF      DEF," + chance.choice(NAMES[:5]), "         ENDIF"),
         ])
-        lines = [front[:MOST_BYTES].encode(), *body, end.encode()]
-        return lines + ([f"{chance.choice(['', 'A', 'LP']):<9}{name:<8}{self.filled('a,a')}"[:MOST_BYTES].encode()] if "MACRO" in front else [])
+        if "MACRO" in front:
+            body = [line.replace(b"N", b"P") for line in body]
+            call = f"{chance.choice(['', 'LP']):<9}{name:<8}{self.filled('a,a')}"
+            return [front.encode(), *body, end.encode()] + [call.encode()] * chance.randrange(3)
+        if "IF" in front and chance.random() < 0.4:
+            body.insert(chance.randrange(len(body) + 1), b"         ELSE")
+        return [front[:MOST_BYTES].encode(), *body] + [end.encode()] * bool(end)
 
     def wrong(self):
         """A line that no source may have: too long, with a wrong byte, or both."""
@@ -214,6 +231,13 @@ class Edits:
     def __init__(self, chance, target):
         self.chance, self.lines, self.target, self.waiting = chance, Lines(chance), target, []
 
+    def entered(self):
+        """A line behind the last."""
+        if not self.waiting:
+            lines = self.lines.structure() if self.chance.random() < 0.12 else [self.lines.good()]
+            self.waiting = [b"a " + line for line in lines]
+        return self.waiting.pop(0)
+
     def command(self, count):
         chance = self.chance
         if self.waiting:
@@ -227,12 +251,12 @@ class Edits:
             first = chance.randrange(1, count + 1)
             last = min(count, first + chance.choice([0, 0, 1, 2, count // 4]))
             return chance.choice([b"d %d" % first, b"d %d %d" % (first, last)])
-        if count and kind < 0.4:
+        if count and kind < 0.36:
             return b"r %d %s" % (chance.randrange(1, count + 1), self.lines.good())
         if kind < 0.5:
             after = chance.randrange(count + 1)
-            lines = self.lines.structure()
-            self.waiting = [b"i %d %s" % (after + n, line) for n, line in enumerate(lines)]
+            lines = self.lines.structure() if after or chance.random() < 0.5 else self.lines.head()
+            self.waiting = [b"i %d %s" % (after + n, line) for n, line in enumerate(lines)] or [b"work"]
             return self.waiting.pop(0)
         if kind < 0.85:
             return b"i %d %s" % (chance.randrange(count + 1), self.lines.good())
