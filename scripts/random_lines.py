@@ -32,11 +32,12 @@ PERIPHERAL = [
 ]
 # What is placed, defined or called.
 STATEMENTS = [
-    ("EQU", "e"), ("=", "e"), ("EQU", "n"), ("SET", "e"), ("SET", "N+1"), ("SET", "n"), ("BSS", "n"), ("BSS", "e"), ("BSSZ", "n"), ("CON", "e"),
-    ("CON", "e,e,e"), ("CON", "n"), ("DATA", "i,i"), ("DATA", "i"), ("VFD", "w/e"), ("VFD", "w/e,w/e,w/e"), ("VFD", "30/e,30/e"), ("VFD", "e/e"),
+    ("EQU", "e"), ("=", "e"), ("EQU", "n"), ("SET", "e"), ("SET", "N+1"), ("SET", "n"), ("SET", "*"), ("BSS", "n"), ("BSS", "e"), ("BSSZ", "n"),
+    ("CON", "e"), ("CON", "e,e,e"), ("CON", "n"), ("DATA", "i,i"), ("DATA", "i"), ("VFD", "w/e"), ("VFD", "w/e,w/e,w/e"),
+    ("VFD", "30/e,30/e"), ("VFD", "e/e"),
     ("DIS", "n,HELLO, WORLD"), ("DIS", ",*TEXT*"), ("DIS", "2,AB"), ("DIS", ",*TEXT"), ("ORG", "100B"), ("ORG", "*"), ("ORG", "e"), ("USE", "b"),
-    ("USE", ""), ("USE", "*"), ("USE", "W"), ("BASE", "O"), ("BASE", "D"), ("TITLE", "SOMETHING"), ("LIST", "X"), ("XYZ", "e"), ("", ""),
-    ("call", "a"), ("call", "a,a"), ("call", "(a,a),a"), ("call", ""), ("call", "n,e"),
+    ("USE", ""), ("USE", "*"), ("USE", "W"), ("CON", "S"), ("BASE", "O"), ("BASE", "D"), ("TITLE", "SOMETHING"), ("LIST", "X"), ("XYZ", "e"),
+    ("", ""), ("call", "a"), ("call", "a,a"), ("call", "(a,a),a"), ("call", ""), ("call", "n,e"),
 ]
 # What opens or closes something, or stands in the head.
 BOUNDS = [
@@ -90,7 +91,7 @@ class Lines:
         if operation == "call":
             operation = chance.choice(MACROS)
         elif operation in ("EQU", "=", "SET"):
-            location = chance.choice(NAMES[:8])
+            location = chance.choice([chance.choice("SN" if operation == "SET" else "ABCK"), chance.choice(NAMES[:8])])
         elif operation == "MACRO":
             location = chance.choice(MACROS)
         elif operation not in ("BSS", "BSSZ", "CON", "DATA", "VFD", "DIS") and chance.random() < 0.95:
@@ -137,6 +138,9 @@ class Lines:
             body = [line.replace(b"N", b"P") for line in body]
             call = f"{chance.choice(['', 'LP']):<9}{name:<8}{self.filled('a,a')}"
             return [front.encode(), *body, end.encode()] + [call.encode()] * chance.randrange(3)
+        if "USE" in front and chance.random() < 0.5:
+            value = chance.choice(["S        SET     *", "S        EQU     *", "LP       BSS     0"])
+            return [front.encode(), *body, value.encode(), end.encode(), f"         CON     {value[:2]}".encode()]
         if "IF" in front and chance.random() < 0.4:
             body.insert(chance.randrange(len(body) + 1), b"         ELSE")
         return [front[:MOST_BYTES].encode(), *body] + [end.encode()] * bool(end)
