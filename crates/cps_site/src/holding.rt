@@ -64,6 +64,7 @@ fn hold_holes<L: Lookup>(
 }
 
 /// The same of symbols.
+#[inline(always)]
 fn hold_names<L: Lookup>(
     recorder: &mut Recorder<'_, L>,
     held: &mut Vec<Held>,
