@@ -3,3 +3,4 @@ mod PutLemmas
 mod AskLemmas
 mod RunLemmas
 mod NamedLemmas
+mod InPlaceLemmas

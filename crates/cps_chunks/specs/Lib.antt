@@ -1,3 +1,4 @@
 pub mod Run
 pub mod LastPuts
 pub mod Named
+pub mod InPlace
