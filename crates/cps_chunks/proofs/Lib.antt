@@ -1,6 +1,4 @@
-mod KeyLemmas
 mod PutLemmas
 mod AskLemmas
 mod RunLemmas
 mod NamedLemmas
-mod InPlaceLemmas

@@ -1,24 +1,12 @@
 -- New lines that leave the same for all others as those in whose place they stand. Our own.
-use Rattle.std.specs.Prelude.{◌≡◌, ℕ, ◌≤◌, List, ◌++◌, flat_map, length, take, drop, Option}
-use Rattle.cps_text.specs.declared.name.Name.{Name}
-use Rattle.cps_state.specs.declared.key.Put.{Put}
+use Rattle.std.specs.Prelude.{◌≡◌, ℕ, ◌≤◌, List, ◌++◌, length, take, drop}
 use Rattle.cps_state.specs.Course.{Trace}
 use Rattle.cps_state.specs.Keys.{first_state}
-use Rattle.cps_final.specs.Finals.{finals_of, program_of}
-use Rattle.cps_final.specs.Layout.{puts_of}
-use Rattle.cps_final.specs.Pool.{literals_in}
+use Rattle.cps_final.specs.Finals.{finals_of}
 use Rattle.cps_edit.specs.Passes.{state_after, traces_from, traces_of}
 use Rattle.cps_edit.specs.Splice.{Splice, spliced}
 use Rattle.cps_edit.specs.Disturbed.{ones_of, twos_of}
-
--- what lines leave for the others: their puts, their literals, and the name that they give the program
-pub record Left : Type 0 where
-  pub puts : List Put
-  pub literals : List ℕ
-  pub program : Option Name
-
-abbrev pub left_by : List Trace → Left
-left_by traces = record { puts = puts_of traces; literals = flat_map literals_in traces; program = program_of traces }
+use Rattle.cps_edit.specs.LeftBy.{left_by}
 
 -- what the lines did that give way
 abbrev pub did_give_way : List (List ℕ) → Splice → List Trace

@@ -1,9 +1,9 @@
 -- New items in their places.
-use Rattle.std.proofs.Common.{◌≡◌, ℕ, ◌+◌, ◌<◌, ◌≤◌, sym, ap, subst, ◌∙◌, List, ◌∷◌, ◌++◌, append_assoc, length, get_or, insert, take, drop, ◌-◌, Option, arith}
+use Rattle.std.proofs.Common.{◌≡◌, ℕ, ◌+◌, ◌<◌, ◌≤◌, refl, sym, ap, ◌∙◌, List, [], ◌∷◌, ◌++◌, append_assoc, length, get_or, insert, take, drop, ◌-◌, Option, arith}
 use Rattle.std.proofs.lemmas.Grind.{common_steps}
 use Rattle.std.proofs.lemmas.List.Edits.{insert-append_right}
-use Rattle.cps_edit.specs.Renewed.{merged, mended}
-use Rattle.cps_edit.proofs.TakenLemmas.{drop_at, mended_merged, mended_front}
+use Rattle.cps_edit.specs.Renewed.{picked, mended}
+use Rattle.cps_edit.proofs.TakenLemmas.{drop_at}
 
 module _ {X : Type 0} where
   take_front : (xs ys : List X) (n : ℕ) → length xs ≡ n → take n (xs ++ ys) ≡ xs
@@ -13,26 +13,26 @@ module _ {X : Type 0} where
   drop_front xs ys n e = grind (arith, common_steps)
 
   -- behind what was put in
-  pub behind : (T ts us F : List X) (N : List (Option X)) (keep from after : ℕ) → keep ≤ length T → from + length N ≡ length T → after ≡ keep + length F
-      → us ≡ take keep T ++ (F ++ drop from T) → ts ≡ take after us ++ mended N (drop after us) → ts ≡ take keep T ++ (F ++ merged N (drop from T))
-  behind T ts us F N keep from after within news at made over =
+  pub behind : (T ts us F : List X) (N : List (Option X)) (keep from after : ℕ) → keep ≤ length T → after ≡ keep + length F
+      → us ≡ take keep T ++ (F ++ drop from T) → ts ≡ take after us ++ mended N (drop after us) → ts ≡ take keep T ++ (F ++ mended N (drop from T))
+  behind T ts us F N keep from after within at made over =
       let split : us ≡ (take keep T ++ F) ++ drop from T = made ∙ sym (append_assoc (take keep T) F (drop from T)) in
       let long : length (take keep T ++ F) ≡ after = grind (arith, common_steps) in
-      let same : length N ≡ length (drop from T) = grind (arith, common_steps) in
       over ∙ ap (λ vs. take after vs ++ mended N (drop after vs)) split
       ∙ ap (λ vs. vs ++ mended N (drop after ((take keep T ++ F) ++ drop from T))) (take_front (take keep T ++ F) (drop from T) after long)
       ∙ ap (λ vs. (take keep T ++ F) ++ mended N vs) (drop_front (take keep T ++ F) (drop from T) after long)
-      ∙ ap (λ vs. (take keep T ++ F) ++ vs) (mended_merged N (drop from T) same)
-      ∙ append_assoc (take keep T) F (merged N (drop from T))
+      ∙ append_assoc (take keep T) F (mended N (drop from T))
+
+  mended_left : (N : List (Option X)) (T rest : List X) → length N ≤ length T → mended N (T ++ rest) ≡ mended N T ++ rest
+  mended_left [] T rest le = refl
+  mended_left (n ∷ N) [] rest le = absurd (omega (arith, le))
+  mended_left (n ∷ N) (t ∷ T) rest le = ap (λ ts. picked n t ∷ ts) (mended_left N T rest (omega (arith, le)))
 
   -- and before it
-  pub before : (T ts us rest : List X) (N : List (Option X)) (keep : ℕ) → keep ≤ length T → length N ≡ keep → us ≡ take keep T ++ rest → ts ≡ mended N us → ts ≡ merged N (take keep T) ++ rest
-  before T ts us rest N keep within len made over =
-      let long : length (take keep T) ≡ length N = grind (arith, common_steps) in
-      over ∙ mended_front N us (subst (λ xs. length N ≤ length xs) (sym made) (grind (arith, common_steps)))
-      ∙ ap (λ vs. merged N (take (length N) vs) ++ drop (length N) vs) made
-      ∙ ap (λ vs. merged N vs ++ drop (length N) (take keep T ++ rest)) (take_front (take keep T) rest (length N) long)
-      ∙ ap (λ vs. merged N (take keep T) ++ vs) (drop_front (take keep T) rest (length N) long)
+  pub before : (T ts us rest : List X) (N : List (Option X)) (keep : ℕ) → keep ≤ length T → length N ≤ keep → us ≡ take keep T ++ rest → ts ≡ mended N us → ts ≡ mended N (take keep T) ++ rest
+  before T ts us rest N keep within few made over =
+      let long : length (take keep T) ≡ keep = grind (arith, common_steps) in
+      over ∙ ap (mended N) made ∙ mended_left N (take keep T) rest (omega (arith, long, few))
 
   -- one item more in its place, from the last to the first
   pub put_place : (T F ts : List X) (a b from : ℕ) (x : X) → a ≡ b + 1 → b < length F → from ≤ length T → x ≡ get_or F b x

@@ -98,7 +98,7 @@ none-false : (words : List ℕ) → list_all (λ word. false) words ≡ true →
 none-false [] h = refl
 none-false (w ∷ words) h = cc
 
-no-literals : (items : List Item) → list_all (all_named is_no_literal) items ≡ true → flat_map (λ (item : Item). literals_of item.made) items ≡ []
+pub no-literals : (items : List Item) → list_all (all_named is_no_literal) items ≡ true → flat_map (λ (item : Item). literals_of item.made) items ≡ []
 no-literals [] h = refl
 no-literals (item ∷ items) h =
     let both = and_parts (all_named is_no_literal item) (list_all (all_named is_no_literal) items) h in

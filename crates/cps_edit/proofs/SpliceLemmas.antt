@@ -102,43 +102,45 @@ passed start front ts before ls keep begun first is gathers =
 pub gathered-state : (front : Finals) (ls : List (List ℕ)) → front ≡ finals_of (traces_of ls) → front.state ≡ state_after first_state ls
 gathered-state front ls is = ap (λ (f : Finals). f.state) is ∙ puts-state first_state ls
 
--- what is gathered of all lines
-pub planned_finals : (ls new rest : List (List ℕ)) (keep from : ℕ) (one two three : Finals)
-    → rest ≡ drop from ls → one ≡ finals_of (traces_of (take keep ls)) → two.state ≡ state_after one.state new
+-- and the new ones
+pub begun_finals : (ls new : List (List ℕ)) (keep : ℕ) (one two : Finals) → one ≡ finals_of (traces_of (take keep ls))
     → ((done : List Trace) → one ≡ finals_of done → two ≡ finals_of (done ++ traces_from one.state new))
+    → two ≡ finals_of (traces_of (take keep ls) ++ traces_from (state_after first_state (take keep ls)) new)
+begun_finals ls new keep one two at_one gathers =
+    gathers (traces_of (take keep ls)) at_one ∙ ap (λ (s : State). finals_of (traces_of (take keep ls) ++ traces_from s new)) (gathered-state one (take keep ls) at_one)
+
+-- what is gathered of all lines
+pub planned_finals : (ls new rest : List (List ℕ)) (keep from : ℕ) (two three : Finals)
+    → rest ≡ drop from ls → two ≡ finals_of (traces_of (take keep ls) ++ traces_from (state_after first_state (take keep ls)) new)
+    → two.state ≡ state_after (state_after first_state (take keep ls)) new
     → ((done : List Trace) → two ≡ finals_of done → three ≡ finals_of (done ++ traces_from two.state rest))
     → three ≡ finals_of (traces_of (spliced ls (splice_at keep from new)))
-planned_finals ls new rest keep from one two three lines at_one after_two gathers_two gathers_three =
+planned_finals ls new rest keep from two three lines at_two behind gathers =
     let g = state_after first_state (take keep ls) in
-    let state : one.state ≡ g = gathered-state one (take keep ls) at_one in
-    let behind : two.state ≡ state_after g new = after_two ∙ ap (λ (s : State). state_after s new) state in
-    gathers_three (traces_of (take keep ls) ++ traces_from one.state new) (gathers_two (traces_of (take keep ls)) at_one)
-    ∙ ap (λ (s : State). finals_of ((traces_of (take keep ls) ++ traces_from s new) ++ traces_from two.state rest)) state
+    gathers (traces_of (take keep ls) ++ traces_from g new) at_two
     ∙ ap (λ (s : State). finals_of ((traces_of (take keep ls) ++ traces_from g new) ++ traces_from s rest)) behind
     ∙ ap (λ xs. finals_of ((traces_of (take keep ls) ++ traces_from g new) ++ traces_from (state_after g new) xs)) lines
     ∙ ap finals_of (append_assoc (traces_of (take keep ls)) (traces_from g new) (traces_from (state_after g new) (drop from ls)))
     ∙ ap (λ ts. finals_of (traces_of (take keep ls) ++ ts)) (sym (traces_from-append g new (drop from ls)))
     ∙ ap finals_of (sym (traces_from-append first_state (take keep ls) (new ++ drop from ls)))
 
-pub planned_traces : (ls new rest : List (List ℕ)) (keep from : ℕ) (ts left firsts : List Trace) (news : List (Option Trace)) (g h : State)
-    → ts ≡ traces_from first_state ls → rest ≡ drop from ls → left ≡ drop from ts → g ≡ state_after first_state (take keep ls)
-    → firsts ≡ traces_from g new → h ≡ state_after g new → merged news left ≡ traces_from h rest
+pub planned_traces : (ls new rest : List (List ℕ)) (keep from : ℕ) (ts left firsts : List Trace) (news : List (Option Trace)) (h : State)
+    → ts ≡ traces_from first_state ls → rest ≡ drop from ls → left ≡ drop from ts
+    → firsts ≡ traces_from (state_after first_state (take keep ls)) new → h ≡ state_after (state_after first_state (take keep ls)) new → merged news left ≡ traces_from h rest
     → take keep ts ++ (firsts ++ merged news (drop from ts)) ≡ traces_from first_state (spliced ls (splice_at keep from new))
-planned_traces ls new rest keep from ts left firsts news g h were lines traces g_is made h_is merges =
-    let h_at : h ≡ state_after (state_after first_state (take keep ls)) new = h_is ∙ ap (λ (f : State). state_after f new) g_is in
+planned_traces ls new rest keep from ts left firsts news h were lines traces made h_is merges =
     let lasts : merged news (drop from ts) ≡ traces_from (state_after (state_after first_state (take keep ls)) new) (drop from ls) =
-    ap (merged news) (sym traces) ∙ merges ∙ ap (λ (f : State). traces_from f rest) h_at ∙ ap (traces_from (state_after (state_after first_state (take keep ls)) new)) lines in
+    ap (merged news) (sym traces) ∙ merges ∙ ap (λ (f : State). traces_from f rest) h_is ∙ ap (traces_from (state_after (state_after first_state (take keep ls)) new)) lines in
     ap (λ xs. take keep xs ++ (firsts ++ merged news (drop from ts))) were
-    ∙ traces_from-spliced ls new keep from firsts (merged news (drop from ts)) (made ∙ ap (λ (f : State). traces_from f new) g_is) lasts
+    ∙ traces_from-spliced ls new keep from firsts (merged news (drop from ts)) made lasts
 
 -- the count of a spliced source, by what the lines left count
-counted : (ls new rest : List (List ℕ)) (keep from : ℕ) (ts left : List Trace) (g h : State)
-    → ts ≡ traces_from first_state ls → rest ≡ drop from ls → left ≡ drop from ts → g ≡ state_after first_state (take keep ls) → h ≡ state_after g new
+counted : (ls new rest : List (List ℕ)) (keep from : ℕ) (ts left : List Trace) (h : State)
+    → ts ≡ traces_from first_state ls → rest ≡ drop from ls → left ≡ drop from ts → h ≡ state_after (state_after first_state (take keep ls)) new
     → ones_of ls (splice_at keep from new) ≡ length new + disturbed_from h (kept rest left)
-counted ls new rest keep from ts left g h were lines traces g_is h_is =
-    let h_at : h ≡ state_after (state_after first_state (take keep ls)) new = h_is ∙ ap (λ (f : State). state_after f new) g_is in
+counted ls new rest keep from ts left h were lines traces h_is =
     disturbed-is ls new keep from
-    ∙ ap (λ (f : State). length new + disturbed_from f (kept (drop from ls) (drop from (traces_from first_state ls)))) (sym h_at)
+    ∙ ap (λ (f : State). length new + disturbed_from f (kept (drop from ls) (drop from (traces_from first_state ls)))) (sym h_is)
     ∙ ap (λ xs. length new + disturbed_from h (kept xs (drop from (traces_from first_state ls)))) (sym lines)
     ∙ ap (λ xs. length new + disturbed_from h (kept rest xs)) (sym (traces ∙ ap (drop from) were))
 
@@ -151,29 +153,28 @@ first_more u v by left all p r = omega arith
 last_more : (u v w by left all : ℕ) → v ≡ counted_on u by → w ≤ counted_on v left → all ≡ by + left → w ≤ counted_on u all
 last_more u v w by left all p q r = omega arith
 
-pub planned_steps : (ls new rest : List (List ℕ)) (keep from : ℕ) (ts left : List Trace) (g h : State) (u v w : ℕ)
-    → ts ≡ traces_from first_state ls → rest ≡ drop from ls → left ≡ drop from ts → g ≡ state_after first_state (take keep ls) → h ≡ state_after g new
+pub planned_steps : (ls new rest : List (List ℕ)) (keep from : ℕ) (ts left : List Trace) (h : State) (u v w : ℕ)
+    → ts ≡ traces_from first_state ls → rest ≡ drop from ls → left ≡ drop from ts → h ≡ state_after (state_after first_state (take keep ls)) new
     → v ≡ counted_on u (length new) → w ≡ counted_on v (disturbed_from h (kept rest left)) → w ≡ counted_on u (ones_of ls (splice_at keep from new))
-planned_steps ls new rest keep from ts left g h u v w were lines traces g_is h_is first last =
-    both_more u v w _ _ _ first last (counted ls new rest keep from ts left g h were lines traces g_is h_is)
+planned_steps ls new rest keep from ts left h u v w were lines traces h_is first last =
+    both_more u v w _ _ _ first last (counted ls new rest keep from ts left h were lines traces h_is)
 
 pub planned_first : (ls new : List (List ℕ)) (keep from : ℕ) (u v : ℕ) → v ≤ counted_on u (length new) → v ≤ counted_on u (ones_of ls (splice_at keep from new))
 planned_first ls new keep from u v first = first_more u v _ _ _ first (disturbed-is ls new keep from)
 
-pub planned_last : (ls new rest : List (List ℕ)) (keep from : ℕ) (ts left : List Trace) (g h : State) (u v w : ℕ)
-    → ts ≡ traces_from first_state ls → rest ≡ drop from ls → left ≡ drop from ts → g ≡ state_after first_state (take keep ls) → h ≡ state_after g new
+pub planned_last : (ls new rest : List (List ℕ)) (keep from : ℕ) (ts left : List Trace) (h : State) (u v w : ℕ)
+    → ts ≡ traces_from first_state ls → rest ≡ drop from ls → left ≡ drop from ts → h ≡ state_after (state_after first_state (take keep ls)) new
     → v ≡ counted_on u (length new) → w ≤ counted_on v (disturbed_from h (kept rest left)) → w ≤ counted_on u (ones_of ls (splice_at keep from new))
-planned_last ls new rest keep from ts left g h u v w were lines traces g_is h_is first last =
-    last_more u v w _ _ _ first last (counted ls new rest keep from ts left g h were lines traces g_is h_is)
+planned_last ls new rest keep from ts left h u v w were lines traces h_is first last =
+    last_more u v w _ _ _ first last (counted ls new rest keep from ts left h were lines traces h_is)
 
 pub state_after-append : (f : State) (xs ys : List (List ℕ)) → state_after f (xs ++ ys) ≡ state_after (state_after f xs) ys
 state_after-append f [] ys = refl
 state_after-append f (x ∷ xs) ys = state_after-append (after f x) xs ys
 
-pub planned_flags : (ls new rest : List (List ℕ)) (keep from : ℕ) (ts left : List Trace) (news : List (Option Trace)) (g h : State)
-    → rest ≡ drop from ls → left ≡ drop from ts → g ≡ state_after first_state (take keep ls) → h ≡ state_after g new → map is_some news ≡ flags_from h rest left
+pub planned_flags : (ls new rest : List (List ℕ)) (keep from : ℕ) (ts left : List Trace) (news : List (Option Trace)) (h : State)
+    → rest ≡ drop from ls → left ≡ drop from ts → h ≡ state_after (state_after first_state (take keep ls)) new → map is_some news ≡ flags_from h rest left
     → map is_some news ≡ flags_from (state_after (state_after first_state (take keep ls)) new) (drop from ls) (drop from ts)
-planned_flags ls new rest keep from ts left news g h lines traces g_is h_is new_is =
-    let h_at : h ≡ state_after (state_after first_state (take keep ls)) new = h_is ∙ ap (λ (f : State). state_after f new) g_is in
-    new_is ∙ ap (λ (f : State). flags_from f rest left) h_at ∙ ap (λ xs. flags_from (state_after (state_after first_state (take keep ls)) new) xs left) lines
+planned_flags ls new rest keep from ts left news h lines traces h_is new_is =
+    new_is ∙ ap (λ (f : State). flags_from f rest left) h_is ∙ ap (λ xs. flags_from (state_after (state_after first_state (take keep ls)) new) xs left) lines
     ∙ ap (λ xs. flags_from (state_after (state_after first_state (take keep ls)) new) (drop from ls) xs) traces

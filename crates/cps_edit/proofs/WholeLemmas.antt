@@ -9,7 +9,7 @@ use Rattle.cps_final.specs.Outcome.{Resolved, Outcome}
 use Rattle.cps_edit.specs.Passes.{after, state_after, traces_from, outcomes_by}
 use Rattle.cps_edit.specs.Splice.{splice_at, spliced}
 use Rattle.cps_edit.specs.Disturbed.{Placed, kept, all_kept, fresh, placed, is_disturbed, is_redone, redone_places, finals_in, twos_of}
-use Rattle.cps_edit.specs.Renewed.{merged, flags_from, nones, redone_from, redone_parts}
+use Rattle.cps_edit.specs.Renewed.{mended, flags_from, nones, redone_from, redone_parts}
 use Rattle.cps_edit.proofs.SpliceLemmas.{kept-drop, undisturbed}
 use Rattle.cps_edit.proofs.RedoLemmas.{take-outcomes, drop-outcomes, append-outcomes}
 
@@ -58,18 +58,18 @@ twice_is was there ls new ts firsts news keep from a b c d e =
 
 pub outcomes_whole : (was now there : Resolved) (ls : List (List ℕ)) (ts firsts all : List Trace) (news : List (Option Trace)) (b h : List (Option Outcome)) (o : List Outcome) (os : List Outcome) (keep from : ℕ)
     → os ≡ outcomes_by was ts
-    → merged b (outcomes_by was (take keep ts)) ≡ outcomes_by now (take keep ts) → o ≡ outcomes_by now firsts → merged h (outcomes_by was (drop from ts)) ≡ outcomes_by now (merged news (drop from ts))
-    → take keep ts ++ (firsts ++ merged news (drop from ts)) ≡ all → now ≡ there
-    → merged b (take keep os) ++ (o ++ merged h (drop from os)) ≡ outcomes_by there all
+    → mended b (outcomes_by was (take keep ts)) ≡ outcomes_by now (take keep ts) → o ≡ outcomes_by now firsts → mended h (outcomes_by was (drop from ts)) ≡ outcomes_by now (mended news (drop from ts))
+    → take keep ts ++ (firsts ++ mended news (drop from ts)) ≡ all → now ≡ there
+    → mended b (take keep os) ++ (o ++ mended h (drop from os)) ≡ outcomes_by there all
 outcomes_whole was now there ls ts firsts all news b h o os keep from is p q r whole same =
-    ap (λ xs. merged b (take keep xs) ++ (o ++ merged h (drop from xs))) is
-    ∙ ap (λ xs. merged b xs ++ (o ++ merged h (drop from (outcomes_by was ts)))) (take-outcomes keep was ts)
-    ∙ ap (λ xs. merged b (outcomes_by was (take keep ts)) ++ (o ++ merged h xs)) (drop-outcomes from was ts)
-    ∙ ap (λ xs. xs ++ (o ++ merged h (outcomes_by was (drop from ts)))) p
-    ∙ ap (λ xs. outcomes_by now (take keep ts) ++ (xs ++ merged h (outcomes_by was (drop from ts)))) q
+    ap (λ xs. mended b (take keep xs) ++ (o ++ mended h (drop from xs))) is
+    ∙ ap (λ xs. mended b xs ++ (o ++ mended h (drop from (outcomes_by was ts)))) (take-outcomes keep was ts)
+    ∙ ap (λ xs. mended b (outcomes_by was (take keep ts)) ++ (o ++ mended h xs)) (drop-outcomes from was ts)
+    ∙ ap (λ xs. xs ++ (o ++ mended h (outcomes_by was (drop from ts)))) p
+    ∙ ap (λ xs. outcomes_by now (take keep ts) ++ (xs ++ mended h (outcomes_by was (drop from ts)))) q
     ∙ ap (λ xs. outcomes_by now (take keep ts) ++ (outcomes_by now firsts ++ xs)) r
-    ∙ ap (λ xs. outcomes_by now (take keep ts) ++ xs) (sym (append-outcomes now firsts (merged news (drop from ts))))
-    ∙ sym (append-outcomes now (take keep ts) (firsts ++ merged news (drop from ts)))
+    ∙ ap (λ xs. outcomes_by now (take keep ts) ++ xs) (sym (append-outcomes now firsts (mended news (drop from ts))))
+    ∙ sym (append-outcomes now (take keep ts) (firsts ++ mended news (drop from ts)))
     ∙ ap (outcomes_by now) whole ∙ ap (λ (e : Resolved). outcomes_by e all) same
 
 pub more_up : (u v a b : ℕ) → v ≡ counted_on u a → b ≡ a → v ≡ counted_on u b

@@ -3,5 +3,7 @@ pub mod Holds
 pub mod Agreeing
 pub mod Splice
 pub mod Disturbed
+pub mod LeftBy
 pub mod Renewed
 pub mod Append
+pub mod InPlace

@@ -2,9 +2,11 @@
 ghost use Rattle.std.specs.Prelude.{◌≡◌, ◌+◌, ◌<◌, ◌≤◌, ◌++◌, OnOk, length, take, drop, vec_len, vec_capacity};
 ghost use Rattle.cps_edit.specs.Renewed.{mended};
 ghost use Rattle.cps_edit.specs.Append.{changed, AreWithin};
+ghost use Rattle.cps_edit.specs.InPlace.{gathered_now};
 
 use crate::arrival::Change;
-use cps_final::Outcome;
+use crate::front::Front;
+use cps_final::{Gathered, Outcome};
 use std::alloc::AllocError;
 
 /// Room for one item more. A list that is full grows by an eighth.
@@ -46,6 +48,17 @@ pub fn put_at<T: Drop>(items: &mut Vec<T>, keep: usize, from: usize, first: Vec<
         };
     }
     items.drain(keep..from);
+}
+
+impl Front {
+    /// Gives way to what was gathered anew, if that was.
+    pub fn give_way(&mut self, new: Option<Front>)
+        ensures { ⟦<Front as Gathered>⟧.gathered self.new ≡ gathered_now (⟦<Front as Gathered>⟧.gathered self.old) new }
+    {
+        if let Some(front) = new {
+            *self = front;
+        }
+    }
 }
 
 /// Puts what was changed in its place.

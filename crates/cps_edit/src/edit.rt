@@ -6,9 +6,9 @@ ghost use Rattle.cps_final.specs.Outcome.{Outcome};
 ghost use Rattle.cps_edit.specs.Passes.{traces_of, outcomes_by};
 ghost use Rattle.cps_edit.specs.Splice.{splice_at, spliced};
 ghost use Rattle.cps_edit.specs.Disturbed.{finals_in, ones_of, twos_of};
-ghost use Rattle.cps_edit.specs.Renewed.{merged};
+ghost use Rattle.cps_edit.specs.Renewed.{mended};
+ghost use Rattle.cps_edit.specs.InPlace.{gathered_now};
 
-use crate::front::Front;
 use crate::plan::{Kept, Plan};
 use crate::second::Second;
 use cps_final::{Finals, Gathered};
@@ -55,17 +55,17 @@ impl<'a> Kept<'a> {
         requires finals { ⟦<Finals as Gathered>⟧.gathered self.finals.now ≡ finals_of (traces_of self.lines.now) }
         requires ordered { keep ≤ from }
         requires within { from ≤ length self.lines.now }
-        ensures traces { IfOk result (λ edit. take keep self.entry.traces.now ++ (edit.plan.first.items ++ merged edit.plan.news.items (drop from self.entry.traces.now))
+        ensures traces { IfOk result (λ edit. take keep self.entry.traces.now ++ (edit.plan.first.items ++ mended edit.plan.news.items (drop from self.entry.traces.now))
             ≡ traces_of (spliced self.entry.lines.now (splice_at keep from new.now))) }
-        ensures finals { IfOk result (λ edit. ⟦<Front as Gathered>⟧.gathered edit.plan.front ≡ finals_of (traces_of (spliced self.entry.lines.now (splice_at keep from new.now)))) }
+        ensures finals { IfOk result (λ edit. gathered_now (⟦<Finals as Gathered>⟧.gathered self.entry.finals.now) edit.plan.front ≡ finals_of (traces_of (spliced self.entry.lines.now (splice_at keep from new.now)))) }
         ensures outcomes { IfOk result (λ edit. (olds : List Outcome) → olds ≡ outcomes_by (finals_in self.entry.lines.now) self.entry.traces.now
-            → merged edit.second.before.items (take keep olds) ++ (edit.second.first.items ++ merged edit.second.behind.items (drop from olds))
+            → mended edit.second.before.items (take keep olds) ++ (edit.second.first.items ++ mended edit.second.behind.items (drop from olds))
             ≡ outcomes_by (finals_in (spliced self.entry.lines.now (splice_at keep from new.now))) (traces_of (spliced self.entry.lines.now (splice_at keep from new.now)))) }
         ensures first { IfOk result (λ edit. length edit.plan.first.items ≡ length new.now) }
         ensures first_two { IfOk result (λ edit. length edit.second.first.items ≡ length new.now) }
-        ensures news { IfOk result (λ edit. from + length edit.plan.news.items ≡ length self.entry.traces.now) }
-        ensures before { IfOk result (λ edit. length edit.second.before.items ≡ keep) }
-        ensures behind { IfOk result (λ edit. from + length edit.second.behind.items ≡ length self.entry.traces.now) }
+        ensures news { IfOk result (λ edit. from + length edit.plan.news.items ≤ length self.entry.traces.now) }
+        ensures before { IfOk result (λ edit. length edit.second.before.items ≤ keep) }
+        ensures behind { IfOk result (λ edit. from + length edit.second.behind.items ≤ length self.entry.traces.now) }
         ensures ones { OnOk result (work.new.ones ≡ counted_on work.old.ones (ones_of self.entry.lines.now (splice_at keep from new.now))) }
         ensures twos { OnOk result (work.new.twos ≡ counted_on work.old.twos (twos_of self.entry.lines.now (splice_at keep from new.now))) }
         ensures ones_err { OnErr result (work.new.ones ≤ counted_on work.old.ones (ones_of self.entry.lines.now (splice_at keep from new.now))) }

@@ -8,6 +8,7 @@ mod commit;
 mod edit;
 mod front;
 mod holding;
+mod in_place;
 mod lists;
 mod naming;
 mod open;

@@ -1,7 +1,8 @@
 //! Lines that change no final value.
 ghost use Rattle.std.specs.Prelude.{◌≡◌};
 ghost use Rattle.std.specs.List.{list_all};
-ghost use Rattle.cps_edit.specs.Append.{is_quiet as quiet, is_quiet_key as quiet_key};
+ghost use Rattle.cps_edit.specs.Agreeing.{all_named};
+ghost use Rattle.cps_edit.specs.Append.{is_quiet as quiet, is_quiet_key as quiet_key, is_no_literal};
 
 use crate::naming::{Naming, all_pass};
 use cps_state::{Key, Put, Trace};
@@ -33,7 +34,14 @@ impl Naming for NoLiteral {
 pub fn is_quiet(trace: &Trace) -> bool
     ensures { result ≡ quiet trace.now }
 {
-    are_quiet(trace.puts()) && all_pass(trace.items(), &NoLiteral)
+    are_quiet(trace.puts()) && names_no_literal(trace)
+}
+
+/// Whether the statements of a line name no literal.
+pub fn names_no_literal(trace: &Trace) -> bool
+    ensures { result ≡ list_all (all_named is_no_literal) trace.now.items }
+{
+    all_pass(trace.items(), &NoLiteral)
 }
 
 fn are_quiet(puts: &[Put]) -> bool

@@ -264,7 +264,7 @@ impl Session {
         let Ok(front) = self.lists.commit(keep, from, new, edit) else {
             return Err(EditFault::Memory);
         };
-        self.front = front;
+        self.front.give_way(front);
         self.follower = Follower::new(self.alloc);
         Ok(())
     }

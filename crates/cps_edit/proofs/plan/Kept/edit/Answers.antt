@@ -2,43 +2,38 @@ use Rattle.std.proofs.Common.{◌≤◌, sym, ap, subst, ◌∙◌}
 use Rattle.cps_state.specs.Work.{counted_on}
 use Rattle.cps_final.specs.Finals.{Finals, final_value}
 use Rattle.cps_final.specs.Resolving.{resolved}
+use Rattle.cps_edit.specs.InPlace.{gathered_now}
 use Rattle.cps_edit.specs.Passes.{traces_of, outcomes_by}
 use Rattle.cps_edit.specs.Splice.{splice_at, spliced}
 use Rattle.cps_edit.specs.Disturbed.{finals_in, twos_of}
 use Rattle.cps_edit.specs.Renewed.{redone_parts}
-use Rattle.cps_edit.specs.contracts.front.FrontGathered.TheImpl.{gathered-value}
 use Rattle.cps_edit.proofs.ReplayLemmas.{on-err}
-use Rattle.cps_edit.proofs.WholeLemmas.{twice_is, outcomes_whole, more_up, more_under}
+use Rattle.cps_edit.proofs.WholeLemmas.{outcomes_whole, more_up, more_under}
+use Rattle.cps_final.specs.contracts.finals.FinalsGathered.TheImpl.{gathered-value}
 use Rattle.cps_edit.proofs.plan.Kept.edit.Goals as goal
 
 pub returns-clause-twos : goal.returns-clause-twos
 returns-clause-twos c =
     let was = resolved c.args.self.finals.now in
     let plan = c.in_ok-plan.plan in
-    let there = final_value (gathered-value.it plan.front) in
-    let lines = c.args.self.lines.now in
-    let new = c.args.new.now in
-    let count = twice_is was there lines new c.args.self.traces.now plan.first.items plan.news.items c.args.keep c.args.from c.requires.kept (ap final_value c.requires.finals) (ap final_value c.in_ok-plan.ensures.finals)
-    c.in_ok-plan.ensures.first c.in_ok-plan.ensures.new in
-    more_up c.args.work.now.twos c.second.new.work.twos _ (twos_of lines (splice_at c.args.keep c.args.from new)) (c.in_ok-second.ensures.twos ∙ ap (λ n. counted_on n (redone_parts was there c.args.self.traces.now c.args.keep c.args.from plan.first.items plan.news.items)) c.in_ok-plan.ensures.twos) count
+    let there = final_value (gathered_now (gathered-value.it c.args.self.finals.now) plan.front) in
+    more_up c.args.work.now.twos c.second.new.work.twos _ (twos_of c.args.self.lines.now (splice_at c.args.keep c.args.from c.args.new.now))
+    (c.in_ok-second.ensures.twos ∙ ap (λ n. counted_on n (redone_parts was there c.args.self.traces.now c.args.keep c.args.from plan.first.items plan.news.items)) c.in_ok-plan.ensures.twos) c.in_ok-plan.ensures.count
 
 pub returns-in_err-second-clause-twos_err : goal.returns-in_err-second-clause-twos_err
 returns-in_err-second-clause-twos_err c =
     let was = resolved c.args.self.finals.now in
     let plan = c.in_ok-plan.plan in
-    let there = final_value (gathered-value.it plan.front) in
-    let lines = c.args.self.lines.now in
-    let new = c.args.new.now in
-    let count = twice_is was there lines new c.args.self.traces.now plan.first.items plan.news.items c.args.keep c.args.from c.requires.kept (ap final_value c.requires.finals) (ap final_value c.in_ok-plan.ensures.finals)
-    c.in_ok-plan.ensures.first c.in_ok-plan.ensures.new in
-    on-err _ (more_under c.args.work.now.twos c.second.new.work.twos _ (twos_of lines (splice_at c.args.keep c.args.from new)) (subst (λ n. c.second.new.work.twos ≤ counted_on n (redone_parts was there c.args.self.traces.now c.args.keep c.args.from plan.first.items plan.news.items)) c.in_ok-plan.ensures.twos c.in_err-second.ensures.twos_err) count)
+    let there = final_value (gathered_now (gathered-value.it c.args.self.finals.now) plan.front) in
+    on-err _ (more_under c.args.work.now.twos c.second.new.work.twos _ (twos_of c.args.self.lines.now (splice_at c.args.keep c.args.from c.args.new.now))
+    (subst (λ n. c.second.new.work.twos ≤ counted_on n (redone_parts was there c.args.self.traces.now c.args.keep c.args.from plan.first.items plan.news.items)) c.in_ok-plan.ensures.twos c.in_err-second.ensures.twos_err) c.in_ok-plan.ensures.count)
 
 pub returns-clause-outcomes : goal.returns-clause-outcomes
 returns-clause-outcomes c olds is =
     let was = resolved c.args.self.finals.now in
     let plan = c.in_ok-plan.plan in
     let second = c.in_ok-second.second in
-    let now = final_value (gathered-value.it plan.front) in
+    let now = final_value (gathered_now (gathered-value.it c.args.self.finals.now) plan.front) in
     let lines = c.args.self.lines.now in
     let all = spliced lines (splice_at c.args.keep c.args.from c.args.new.now) in
     outcomes_whole was now (finals_in all) lines c.args.self.traces.now plan.first.items (traces_of all) plan.news.items second.before.items second.behind.items second.first.items olds c.args.keep c.args.from

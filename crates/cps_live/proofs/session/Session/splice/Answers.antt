@@ -3,7 +3,8 @@ use Rattle.cps_final.specs.Finals.{finals_of}
 use Rattle.cps_edit.specs.Passes.{outcomes_by}
 use Rattle.cps_edit.specs.Splice.{splice_at, spliced}
 use Rattle.cps_edit.specs.Disturbed.{finals_in, ones_of, twos_of}
-use Rattle.cps_edit.specs.Renewed.{merged}
+use Rattle.cps_edit.specs.Renewed.{mended}
+use Rattle.cps_edit.specs.InPlace.{gathered_now}
 use Rattle.cps_live.specs.Assembly.{traces_of, outcomes_of}
 use Rattle.cps_live.specs.Edits.{Source, most_lines, HaveStepped, HaveSteppedUpTo}
 use Rattle.cps_live.proofs.SessionLemmas.{length-traces, length-outcomes, kept_still, kept_now, renamed, stepped_up_to}
@@ -65,9 +66,10 @@ invariant_of-self-2 c =
     let l = c.deref.ensures.value in
     let t = c.deref-2.ensures.value in
     let n = c.deref-3.ensures.value in
-    let did = put.traces ∙ sym (λ i. take keep (t i) ++ (edit.plan.first.items ++ merged edit.plan.news.items (drop from (t i)))) ∙ made.traces
+    let was = sym c.finals.ensures in
+    let did = put.traces ∙ sym (λ i. take keep (t i) ++ (edit.plan.first.items ++ mended edit.plan.news.items (drop from (t i)))) ∙ made.traces
     ∙ (λ i. traces_of (spliced (l i) (splice_at keep from (n i)))) in
-    let gathered = put.front ∙ made.finals ∙ (λ i. finals_of (traces_of (spliced (l i) (splice_at keep from (n i))))) in
+    let gathered = c.give_way.ensures ∙ (λ i. gathered_now (was i) (put.front i)) ∙ made.finals ∙ (λ i. finals_of (traces_of (spliced (l i) (splice_at keep from (n i))))) in
     let olds = kept.made ∙ ap (outcomes_by (finals_in lists.lines.items)) (sym kept.did) ∙ sym (λ i. outcomes_by (finals_in (l i)) (t i)) in
     let outcomes = put.outcomes ∙ made.outcomes lists.outcomes.items olds ∙ (λ i. outcomes_of (spliced (l i) (splice_at keep from (n i)))) in
     let few = subst (λ (s : Source). length (spliced s.lines (splice_at keep from c.args.new.items)) ≤ most_lines) (sym c.self.view_is) c.requires.few in

@@ -1,8 +1,7 @@
 -- New lines that leave the same as those in whose place they stand.
 use Rattle.std.proofs.Common.{◌≡◌, ℕ, zero, suc, ◌+◌, ◌≤◌, refl, sym, ap, ◌∙◌, Bool, true, List, [], ◌∷◌, ◌++◌, append_assoc, length, take, drop, map, Option, None, Some, arith}
-use Rattle.std.specs.Prelude.{not, flat_map, nat_eq, is_some, if◌then◌else◌}
+use Rattle.std.specs.Prelude.{not, flat_map, is_some, if◌then◌else◌}
 use Rattle.std.specs.List.{list_all}
-use Rattle.std.specs.Option.{option_or}
 use Rattle.std.proofs.lemmas.List.{take-take, take-append-drop}
 use Rattle.std.proofs.lemmas.Grind.{flat_map-append}
 use Rattle.cps_text.specs.declared.name.Name.{Name}
@@ -10,55 +9,19 @@ use Rattle.cps_state.specs.declared.item.Item.{Item}
 use Rattle.cps_state.specs.Course.{Trace}
 use Rattle.cps_state.specs.Keys.{State, first_state, overwritten}
 use Rattle.cps_state.specs.Made.{content_literals}
-use Rattle.cps_final.specs.Distinct.{distinct}
-use Rattle.cps_final.specs.Layout.{layout_of, puts_of}
-use Rattle.cps_final.specs.Pool.{literals_in}
-use Rattle.cps_final.specs.Finals.{Finals, finals_of, first_program, program_of, final_value, label, block, literal}
+use Rattle.cps_final.specs.Layout.{puts_of}
+use Rattle.cps_final.specs.Finals.{finals_of, final_value, label, block, literal}
 use Rattle.cps_final.specs.Outcome.{Resolved, labels_read, blocks_named}
 use Rattle.cps_edit.specs.Passes.{after, state_after, traces_from, traces_of}
 use Rattle.cps_edit.specs.Splice.{splice_at, spliced}
 use Rattle.cps_edit.specs.Agreeing.{all_named, same_at}
 use Rattle.cps_edit.specs.Disturbed.{kept, disturbed_from, finals_in, ones_of, twos_of}
+use Rattle.cps_edit.specs.LeftBy.{Left, left_by}
 use Rattle.cps_edit.specs.Renewed.{nones, flags_from, redone_from, redone_parts}
 use Rattle.cps_edit.proofs.SettledLemmas.{and_all, at-same}
+use Rattle.cps_edit.proofs.LeftLemmas.{same-finals}
 use Rattle.cps_edit.proofs.SpliceLemmas.{length-traces_from, take-traces_from, drop-traces_from, overwritten-append, puts-state, traces_from-spliced, undisturbed, disturbed-is}
 use Rattle.cps_edit.proofs.WholeLemmas.{twice_is}
-use Rattle.cps_chunks.specs.InPlace.{Left, left_by, new_ones_do, InPlaceLaw}
-
--- ---- what is gathered
-
-joined : Left → Left → Left
-joined a b = record { puts = a.puts ++ b.puts; literals = a.literals ++ b.literals; program = option_or a.program b.program }
-
-or-assoc : {X : Type 0} (a b c : Option X) → option_or (option_or a b) c ≡ option_or a (option_or b c)
-or-assoc None b c = refl
-or-assoc (Some x) b c = refl
-
-program-append : (xs ys : List Trace) → program_of (xs ++ ys) ≡ option_or (program_of xs) (program_of ys)
-program-append [] ys = refl
-program-append (x ∷ xs) ys = ap (option_or (first_program x.items)) (program-append xs ys) ∙ sym (or-assoc (first_program x.items) (program_of xs) (program_of ys))
-
-left-append : (xs ys : List Trace) → left_by (xs ++ ys) ≡ joined (left_by xs) (left_by ys)
-unfolding joined
-left-append xs ys =
-    let puts = flat_map-append (λ (t : Trace). t.puts) xs ys in
-    let literals = flat_map-append literals_in xs ys in
-    let program = program-append xs ys in
-    λ i. record { puts = puts i; literals = literals i; program = program i }
-
-finals_by : Left → Finals
-finals_by left = record { state = overwritten first_state left.puts; layout = layout_of left.puts; pool = distinct nat_eq left.literals; program = left.program }
-
-finals-are : (traces : List Trace) → finals_of traces ≡ finals_by (left_by traces)
-unfolding finals_by
-finals-are traces = refl
-
-same-finals : (before olds news behind : List Trace) → left_by olds ≡ left_by news → finals_of (before ++ (olds ++ behind)) ≡ finals_of (before ++ (news ++ behind))
-same-finals before olds news behind same =
-    let whole : (middle : List Trace) → left_by (before ++ (middle ++ behind)) ≡ joined (left_by before) (joined (left_by middle) (left_by behind)) =
-    λ middle. left-append before (middle ++ behind) ∙ ap (joined (left_by before)) (left-append middle behind) in
-    finals-are (before ++ (olds ++ behind)) ∙ ap finals_by (whole olds ∙ ap (λ (l : Left). joined (left_by before) (joined l (left_by behind))) same ∙ sym (whole news))
-    ∙ sym (finals-are (before ++ (news ++ behind)))
 
 -- ---- lines in the state in which they stood
 
@@ -85,12 +48,14 @@ none-again was zero ts = refl
 none-again was (suc n) [] = refl
 none-again was (suc n) (t ∷ ts) = λ i. (if not (all-true (all_named (same_at was was)) (item-itself was) t.items i) then 1 else 0) + none-again was n ts i
 
--- of all lines the new ones alone are done again
-pub in_place-parts : (was : Resolved) (ts firsts : List Trace) (keep from : ℕ) (news : List (Option Trace)) → news ≡ nones (length (drop from ts)) → redone_parts was was ts keep from firsts news ≡ length firsts
-in_place-parts was ts firsts keep from news is =
+-- of all lines the new ones alone are done again, whether none of the others is new or none is listed
+parts-none : (was : Resolved) (ts firsts : List Trace) (keep from : ℕ) (news : List (Option Trace)) → redone_from was was (map is_some news) (drop from ts) ≡ 0 → redone_parts was was ts keep from firsts news ≡ length firsts
+parts-none was ts firsts keep from news behind =
     let before = none-again was keep (take keep ts) in
-    let behind = ap (λ ns. redone_from was was (map is_some ns) (drop from ts)) is ∙ none-again was (length (drop from ts)) (drop from ts) in
     omega (arith, before, behind)
+
+pub in_place-parts : (was : Resolved) (ts firsts : List Trace) (keep from : ℕ) → redone_parts was was ts keep from firsts [] ≡ length firsts
+in_place-parts was ts firsts keep from = parts-none was ts firsts keep from [] refl
 
 -- ---- the new source
 
@@ -126,7 +91,7 @@ module _ (ls new : List (List ℕ)) (keep from : ℕ) (le : keep ≤ from) (ts f
   in_place-finals =
       ap finals_of (sym did ∙ whole) ∙ same-finals (take keep ts) (drop keep (take from ts)) firsts (drop from ts) same ∙ ap finals_of in_place-traces
 
-  pub in_place-flags : map is_some (nones {X = Trace} (length (drop from ts))) ≡ flags_from (state_after (state_after first_state (take keep ls)) new) (drop from ls) (drop from ts)
+  in_place-flags : map is_some (nones {X = Trace} (length (drop from ts))) ≡ flags_from (state_after (state_after first_state (take keep ls)) new) (drop from ls) (drop from ts)
   in_place-flags =
       let h = state_after (state_after first_state (take keep ls)) new in
       ap (λ us. map is_some (nones {X = Trace} (length us))) traces-behind ∙ still-flags h (drop from ls) ∙ ap (flags_from h (drop from ls)) (sym traces-behind)
@@ -142,15 +107,4 @@ module _ (ls new : List (List ℕ)) (keep from : ℕ) (le : keep ≤ from) (ts f
       let was = finals_in ls in
       let news = nones {X = Trace} (length (drop from ts)) in
       let long : length firsts ≡ length new = ap length made ∙ length-traces_from (state_after first_state (take keep ls)) new in
-      twice_is was was ls new ts firsts news keep from did refl (ap final_value in_place-finals) long in_place-flags ∙ in_place-parts was ts firsts keep from news refl ∙ long
-
-pub in-place : InPlaceLaw
-in-place lines splice le same =
-    let ts = traces_of lines in
-    let firsts = new_ones_do lines splice in
-    record {
-      ones = in_place-ones lines splice.new splice.keep splice.from le ts firsts refl refl same;
-      twos = in_place-twos lines splice.new splice.keep splice.from le ts firsts refl refl same;
-      traces = sym (in_place-traces lines splice.new splice.keep splice.from le ts firsts refl refl same);
-      finals = sym (in_place-finals lines splice.new splice.keep splice.from le ts firsts refl refl same);
-    }
+      twice_is was was ls new ts firsts news keep from did refl (ap final_value in_place-finals) long in_place-flags ∙ parts-none was ts firsts keep from news (none-again was (length (drop from ts)) (drop from ts)) ∙ long
