@@ -9,7 +9,7 @@ use Rattle.cps_state.specs.declared.key.Put.{Put}
 use Rattle.cps_state.specs.Course.{last_put, last_ask, known_in, Holds}
 use Rattle.cps_state.specs.Keys.{State, same_key, overwritten}
 use Rattle.cps_chunks.specs.Run.{with_ask, with_asks}
-use Rattle.cps_edit.proofs.KeyLemmas.{same_key-true}
+use Rattle.cps_state.proofs.KnownLemmas.{same_key-true}
 use Rattle.cps_chunks.proofs.PutLemmas.{overwritten-last}
 
 -- ---- lists of asks

@@ -11,7 +11,7 @@ use Rattle.cps_state.specs.declared.key.Put.{Put}
 use Rattle.cps_state.specs.Course.{last_put}
 use Rattle.cps_state.specs.Keys.{State, same_key, with_put, overwritten}
 use Rattle.cps_chunks.specs.LastPuts.{lasting, LastPutsAreOnce}
-use Rattle.cps_edit.proofs.KeyLemmas.{same_key-true}
+use Rattle.cps_state.proofs.KnownLemmas.{same_key-true}
 
 -- the answer behind puts is that of the last put, or the one before them
 pub overwritten-last : (s : State) (puts : List Put) (k : Key) → overwritten s puts k ≡ option_or (last_put puts k) (s k)

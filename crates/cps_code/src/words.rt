@@ -44,6 +44,13 @@ impl Words {
         slot_at(&self.slots, address)
     }
 
+    /// The address past the last slot: no word stands there or beyond.
+    pub fn end(&self) -> usize
+        ensures { result ≡ length self.now }
+    {
+        self.slots.len()
+    }
+
     /// Puts a piece over what stands.
     #[inline(always)]
     pub fn deposit(&mut self, piece: Piece) -> Result<(), AllocError>

@@ -13,7 +13,7 @@ use Rattle.cps_state.specs.contracts.key.KeyPartialEq.TheImpl.{eq-value as key_e
 use Rattle.cps_state.specs.contracts.key.PutPartialEq.TheImpl.{eq-value}
 use Rattle.cps_state.specs.Course.{Trace}
 use Rattle.cps_state.specs.Keys.{first_state, overwritten}
-use Rattle.cps_state.proofs.KnownLemmas.{same_key_is}
+use Rattle.cps_state.proofs.KnownLemmas.{same_key_is, same_key-true}
 use Rattle.cps_final.specs.Distinct.{distinct}
 use Rattle.cps_final.specs.Layout.{layout_of, puts_of}
 use Rattle.cps_final.specs.Pool.{literals_in}
@@ -23,7 +23,6 @@ use Rattle.cps_edit.specs.Append.{is_no_literal}
 use Rattle.cps_edit.specs.LeftBy.{Left, left_by}
 use Rattle.cps_edit.specs.InPlace.{same_puts, is_empty, leaves_puts_alone, leaves_nothing, leaves_same}
 use Rattle.cps_edit.proofs.AnswerLemmas.{answer-is}
-use Rattle.cps_edit.proofs.KeyLemmas.{same_key-true}
 use Rattle.cps_edit.proofs.QuietLemmas.{no-literals}
 
 -- ---- what is gathered

@@ -14,6 +14,5 @@ pub mod OpenLemmas
 pub mod ThroughLemmas
 pub mod AppendLemmas
 pub mod QuietLemmas
-pub mod KeyLemmas
 pub mod LeftLemmas
 pub mod InPlaceLemmas

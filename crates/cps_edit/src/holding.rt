@@ -18,8 +18,8 @@ pub fn still_holds<L: Lookup>(trace: &Trace, state: &L, work: &mut Work) -> bool
     asks_hold(trace.asks(), state)
 }
 
-/// Whether each of these keys has the same answer in a state.
-fn asks_hold<L: Lookup>(asks: &[Asked], state: &L) -> bool
+/// Whether each of these keys has the same answer in a state. It is counted nowhere, and takes no memory.
+pub fn asks_hold<L: Lookup>(asks: &[Asked], state: &L) -> bool
     ensures { result ≡ holds asks.now (L.answer state.now) }
 {
     for asked in asks {

@@ -22,6 +22,6 @@ pub use append::{Append, Follower};
 pub use arrival::Change;
 pub use edit::Edit;
 pub use front::Front;
-pub use holding::still_holds;
+pub use holding::{asks_hold, still_holds};
 pub use lists::Lists;
 pub use plan::{Kept, Plan};

@@ -106,7 +106,8 @@ fn push_rows(text: &mut Vec<u8>, machine: Machine, words: &Words) -> Result<(), 
     ensures { (pieces : List image.Piece) → ArePacked pieces words.now
         → OnOk result (text.new.items ≡ text.old.items ++ texts.rows_below (limit machine) machine pieces) }
 {
-    for address in 0..limit_of(machine) {
+    let end = words.end().min(limit_of(machine) as usize) as u32;
+    for address in 0..end {
         push_row(text, machine, address, words.get(address))?;
     }
     Ok(())

@@ -122,7 +122,7 @@ same_block-true (Some a) None h = cc
 same_block-true (Some a) (Some b) h = ap Some (same_name-true a b h)
 
 -- equal keys are one key
-same_key-true : (a b : Key) → same_key a b ≡ true → a ≡ b
+pub same_key-true : (a b : Key) → same_key a b ≡ true → a ≡ b
 same_key-true key.Control key.Control h = refl
 same_key-true key.Control (key.Counter b) h = cc
 same_key-true key.Control (key.Label b) h = cc

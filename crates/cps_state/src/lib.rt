@@ -32,7 +32,7 @@ pub use key::{
     Answer, Asked, Control, DupBody, Extent, Head, Kept, Key, Macro, MacroBody, Mode, Phase, Put,
     Range, Skip, is_same_block,
 };
-pub use log::Known;
+pub use log::{Known, Log};
 pub use lookup::Lookup;
 pub use machines::{WORD, behind, limit_of, word_bits};
 pub use made::{Begun, Content, Held, Made, Shown, end_of};
