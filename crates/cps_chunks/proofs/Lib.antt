@@ -2,3 +2,4 @@ mod PutLemmas
 mod AskLemmas
 mod RunLemmas
 mod NamedLemmas
+mod GatherLemmas

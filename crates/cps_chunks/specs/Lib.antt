@@ -1,4 +1,5 @@
 pub mod Run
+pub mod RunGathering
 pub mod LastPuts
 pub mod Named
 pub mod InPlace

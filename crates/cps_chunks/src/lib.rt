@@ -1,4 +1,9 @@
-//! Chunks of a source: runs of lines that are gone through as one line is. Laws alone, and nothing that runs.
+//! Chunks of a source: runs of lines that are gone through as one line is.
 #![tactic(auto)]
 
 pub mod laws;
+mod run;
+#[cfg(test)]
+mod run_rows;
+
+pub use run::Run;
