@@ -2,4 +2,5 @@ mod PutLemmas
 mod AskLemmas
 mod RunLemmas
 mod NamedLemmas
+mod NamesLemmas
 mod GatherLemmas

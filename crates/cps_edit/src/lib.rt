@@ -17,11 +17,12 @@ mod quiet;
 mod redo;
 mod second;
 
-pub use agreeing::same_finals;
+pub use agreeing::{Ends, same_finals};
 pub use append::{Append, Follower};
 pub use arrival::Change;
 pub use edit::Edit;
 pub use front::Front;
 pub use holding::{asks_hold, still_holds};
 pub use lists::Lists;
+pub use naming::Naming;
 pub use plan::{Kept, Plan};
