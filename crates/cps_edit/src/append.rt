@@ -14,7 +14,7 @@ use crate::front::Front;
 use crate::open::Open;
 use crate::plan::Kept;
 use cps_final::{Finals, Gathered, Outcome, step_two};
-use cps_pass::{Trace, Work};
+use cps_pass::{Hashing, Trace, Work};
 use cps_text::Line;
 use std::alloc::{AllocError, Global};
 use std::mem::{replace, swap};
@@ -52,11 +52,11 @@ impl Drop for Follower {
 
 impl Follower {
     /// Of no line. Takes no memory yet.
-    pub fn new(alloc: Global) -> Follower
+    pub fn new(alloc: Global, hashing: Hashing) -> Follower
         ensures { (traces : List Course) → Follows result traces }
     {
         Follower {
-            front: Front::new(alloc),
+            front: Front::new(alloc, hashing),
             count: 0,
             open: None,
         }
@@ -80,7 +80,7 @@ impl Follower {
         ensures twos_err { OnErr result (work.new.twos ≤ counted_on work.old.twos (twos_of kept.entry.lines.now (insertion (length kept.entry.lines.now) line.now))) }
         ensures twos_least { work.old.twos ≤ work.new.twos }
     {
-        let mut follower = replace(self, Follower::new(kept.alloc));
+        let mut follower = replace(self, Follower::new(kept.alloc, kept.finals.hashing()));
         follower.catch_up(kept.traces)?;
         let trace = follower.front.step(line, work)?;
         let arrival = Arrival::of(kept, trace.puts(), follower.front.finals());

@@ -11,7 +11,7 @@ ghost use Rattle.cps_edit.specs.Renewed.{picked, merged, flags_from, WasMeant, A
 
 use crate::holding::still_holds;
 use cps_final::{Finals, Gather, Gathered};
-use cps_pass::{Sheet, Trace, Work, step_over};
+use cps_pass::{Hashing, Sheet, Trace, Work, step_over};
 use cps_text::Line;
 use std::alloc::{AllocError, Global};
 use std::mem::replace;
@@ -43,12 +43,12 @@ impl Gathered for Front {
 
 impl Front {
     /// In front of the first line. Takes no memory yet.
-    pub fn new(alloc: Global) -> Front
+    pub fn new(alloc: Global, hashing: Hashing) -> Front
         ensures { Gathers (⟦<Front as Gathered>⟧.gathered result) [] }
     {
         Front {
             alloc,
-            gather: Gather::new(alloc),
+            gather: Gather::new(alloc, hashing),
             sheet: Sheet::new(alloc),
         }
     }

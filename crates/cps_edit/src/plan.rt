@@ -127,7 +127,7 @@ impl<'a> Kept<'a> {
         ensures ones_least { work.old.ones ≤ work.new.ones }
         ensures twos { work.new.twos ≡ work.old.twos }
     {
-        let mut front = Front::new(self.alloc);
+        let mut front = Front::new(self.alloc, self.finals.hashing());
         let (before, _) = self.traces.split_at(keep);
         front.pass_over_all(before)?;
         let first = front.step_all(new, work)?;
