@@ -2,4 +2,3 @@ pub mod Run
 pub mod RunGathering
 pub mod LastPuts
 pub mod Named
-pub mod InPlace
