@@ -11,8 +11,7 @@ use Rattle.cps_edit.specs.Passes.{after, state_after, traces_from, GathersMore}
 use Rattle.cps_edit.specs.Disturbed.{kept, is_disturbed, disturbed_from}
 use Rattle.cps_edit.specs.Renewed.{picked, merged, nones, flags_from, AllWereMeant}
 use Rattle.cps_edit.proofs.FrontLemmas.{more-none, none-more}
-use Rattle.cps_edit.proofs.InPlaceLemmas.{still-flags, none-disturbed}
-use Rattle.cps_edit.proofs.SpliceLemmas.{length-traces_from, take-traces_from, drop-traces_from, traces_from-append, puts-state, AllWereMeant-traces_from}
+use Rattle.cps_edit.proofs.SpliceLemmas.{length-traces_from, take-traces_from, drop-traces_from, traces_from-append, puts-state, still-flags, none-disturbed, AllWereMeant-traces_from}
 use Rattle.cps_edit.proofs.TakenLemmas.{drop_at, merged_nones, length_nones}
 use Rattle.cps_edit.specs.Holds.{holds}
 use Rattle.cps_chunks.specs.Run.{Run, run_of}

@@ -6,7 +6,7 @@ ghost use Rattle.cps_chunks.specs.Chunks.{IsSummary, stands, agrees as agrees_by
 use crate::names::Names;
 use crate::run::Run;
 use cps_edit::Naming;
-use cps_state::{Lookup, State, Trace};
+use cps_state::{Hashing, Lookup, State, Trace};
 use std::alloc::{AllocError, Global};
 
 /// What was gathered of the lines of a chunk.
@@ -18,11 +18,11 @@ pub struct Summary {
 
 impl Summary {
     /// Of lines that did this.
-    pub fn of(alloc: Global, traces: &[Trace]) -> Result<Summary, AllocError>
+    pub fn of(alloc: Global, hashing: Hashing, traces: &[Trace]) -> Result<Summary, AllocError>
         ensures { IfOk result (λ summary. IsSummary traces.now summary) }
     {
-        let run = Run::of(alloc, traces)?;
-        let names = Names::of(alloc, traces)?;
+        let run = Run::of(alloc, hashing, traces)?;
+        let names = Names::of(alloc, hashing, traces)?;
         Ok(Summary { run, names })
     }
 }

@@ -2,6 +2,7 @@
 ghost use Rattle.cps_chunks.specs.Run.{RunLaw, RunAsksNoMore};
 ghost use Rattle.cps_chunks.specs.LastPuts.{LastPutsLaw, LastPutsAreOnce};
 ghost use Rattle.cps_chunks.specs.Named.{NamedLaw, NamedNoMore};
+ghost use Rattle.cps_chunks.specs.Names.{NamesLaw};
 
 /// What lines did in one state stands in each that answers what their run asked as that one does: there they do the same, none is disturbed, and their puts
 /// lead to the state after them.
@@ -32,4 +33,9 @@ pub fn a_run_makes_what_it_names()
 /// A run names no more than that: where none of its lines is done again, all that it names has the same final values.
 pub fn a_run_names_no_more()
     ensures { NamedNoMore }
+{}
+
+/// A test passes for all that a run names, each once, exactly where it does for all that each of its statements names.
+pub fn a_run_names_each_once()
+    ensures { NamesLaw }
 {}

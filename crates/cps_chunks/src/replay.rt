@@ -9,11 +9,10 @@ use cps_edit::Front;
 use cps_final::Gathered;
 use cps_pass::{Trace, Work};
 use cps_text::Line;
-use std::alloc::{AllocError, Global};
+use std::alloc::AllocError;
 
 /// For each line of a chunk what it does now, None where it is what it did.
 fn replay_chunk(
-    alloc: Global,
     front: &mut Front,
     lines: &[Line],
     olds: &[Trace],
@@ -30,7 +29,7 @@ fn replay_chunk(
 {
     if chunk.stands_in(front.state()) {
         front.pass_over_all(olds)?;
-        return nones(alloc, olds.len());
+        return nones(front.alloc(), olds.len());
     }
     front.replay(lines, olds, work)
 }
@@ -38,7 +37,6 @@ fn replay_chunk(
 /// For each of the next lines, which are those of these chunks, what it does now, None where it is what it did. A chunk whose lines do what they did is
 /// passed at once; in all others each line is compared.
 pub fn replay_chunks(
-    alloc: Global,
     front: &mut Front,
     lines: &[Line],
     olds: &[Trace],
@@ -53,13 +51,13 @@ pub fn replay_chunks(
     ensures ones_least { work.old.ones ≤ work.new.ones }
     ensures twos { work.new.twos ≡ work.old.twos }
 {
-    let mut news = Vec::with_capacity(alloc, olds.len())?;
+    let mut news = Vec::with_capacity(front.alloc(), olds.len())?;
     let mut lines_left = lines;
     let mut olds_left = olds;
     for chunk in chunks {
         let (lines_here, lines_behind) = lines_left.split_at(chunk.lines);
         let (olds_here, olds_behind) = olds_left.split_at(chunk.lines);
-        let mut made = replay_chunk(alloc, front, lines_here, olds_here, chunk, work)?;
+        let mut made = replay_chunk(front, lines_here, olds_here, chunk, work)?;
         news.append(&mut made)?;
         lines_left = lines_behind;
         olds_left = olds_behind;

@@ -20,18 +20,10 @@ use Rattle.cps_edit.specs.LeftBy.{Left, left_by}
 use Rattle.cps_edit.specs.Renewed.{nones, flags_from, redone_from, redone_parts}
 use Rattle.cps_kept.proofs.SettledLemmas.{and_all, at-same}
 use Rattle.cps_kept.proofs.LeftLemmas.{same-finals}
-use Rattle.cps_edit.proofs.SpliceLemmas.{length-traces_from, take-traces_from, drop-traces_from, overwritten-append, puts-state, traces_from-spliced, undisturbed, disturbed-is}
+use Rattle.cps_edit.proofs.SpliceLemmas.{length-traces_from, take-traces_from, drop-traces_from, overwritten-append, puts-state, traces_from-spliced, still-flags, none-disturbed, disturbed-is}
 use Rattle.cps_kept.proofs.WholeLemmas.{twice_is}
 
--- ---- lines in the state in which they stood
-
-still-flags : (f : State) (ls : List (List ℕ)) → map is_some (nones {X = Trace} (length (traces_from f ls))) ≡ flags_from f ls (traces_from f ls)
-still-flags f [] = refl
-still-flags f (l ∷ ls) = λ i. sym (undisturbed l f) i ∷ still-flags (after f l) ls i
-
-none-disturbed : (f : State) (ls : List (List ℕ)) → disturbed_from f (kept ls (traces_from f ls)) ≡ 0
-none-disturbed f [] = refl
-none-disturbed f (l ∷ ls) = λ i. (if undisturbed l f i then 1 else 0) + none-disturbed (after f l) ls i
+-- ---- what lines name, by the same final values
 
 all-true : {X : Type 0} (p : X → Bool) → ((x : X) → p x ≡ true) → (xs : List X) → list_all p xs ≡ true
 all-true p each [] = refl

@@ -7,4 +7,4 @@ pub returns-clause-gathered : goal.returns-clause-gathered
 returns-clause-gathered c =
     let n = c.args.self.now.count in
     let traces = c.args.traces.now in
-    c.in_ok-pass_over_all.ensures (take n traces) c.requires.gathered ∙ ap finals_of (ap (λ xs. take n traces ++ xs) c.split_at.ensures.back ∙ take-append-drop n traces)
+    c.in_ok-pass_over_all.ensures.ok (take n traces) c.requires.gathered ∙ ap finals_of (ap (λ xs. take n traces ++ xs) c.split_at.ensures.back ∙ take-append-drop n traces)
