@@ -64,7 +64,7 @@ done-behind n ls os done = (state_after done.0 (take n ls), ap (drop n) done.1 �
 
 -- ---- what was found of them
 
-both : (u v w a b all : ℕ) → v ≡ counted_on u a → w ≡ counted_on v b → all ≡ a + b → w ≡ counted_on u all
+pub both : (u v w a b all : ℕ) → v ≡ counted_on u a → w ≡ counted_on v b → all ≡ a + b → w ≡ counted_on u all
 both u v w a b all p q r = omega arith
 
 pub replays-none : (a : Finals) (u : Counts) → Replays a a u u [] [] []
@@ -126,7 +126,7 @@ stood (Some s) f ls os done is yes =
 
 -- ---- chunk by chunk
 
-under : (u v e part rest : ℕ) → v ≤ counted_on u part → counted_on u (part + rest) ≤ e → counted_on v rest ≤ e
+pub under : (u v e part rest : ℕ) → v ≤ counted_on u part → counted_on u (part + rest) ≤ e → counted_on v rest ≤ e
 under u v e part rest p q = omega arith
 
 pub no-more : (w e : ℕ) → counted_on w 0 ≤ e → w ≤ e
@@ -156,3 +156,8 @@ looks-end chunks i f ls w e past before = no-more w e (subst (λ cs. counted_on 
 -- the front parts of lines and of what they did are as long
 pub done-parts : (n : ℕ) (ls : List (List ℕ)) (os : List Trace) → WereDone ls os → length (take n ls) ≡ length (take n os)
 done-parts n ls os done = sym (done-long (take n ls) (take n os) (done-front n ls os done))
+
+-- no line is left
+pub replays-end : (a : Finals) (u : Counts) (ls : List (List ℕ)) (os : List Trace) → WereDone ls os → os ≡ [] → Replays a a u u ls os []
+replays-end a u [] os done none = subst (λ (ts : List Trace). Replays a a u u [] ts []) (sym none) (replays-none a u)
+replays-end a u (l ∷ ls) os done none = absurd (omega (arith, done-long (l ∷ ls) os done, ap length none))
