@@ -4,6 +4,8 @@ A growth is a call of `rattle_alloc` or `rattle_realloc`, through which every pr
 The program is run as a debugger runs one: at both functions stands a breakpoint, in the place of a first instruction that
 does nothing. Each call is counted there, and one that is to be refused is made to ask for 2^62 bytes, so that it is the C
 library that refuses it. Nothing of the program's files is changed. It works on Linux on x86-64 alone, as the toolchain does.
+
+Called by itself it ends with 0 where a process can be traced so, and with 3 where none can.
 """
 import ctypes
 import os
@@ -56,6 +58,31 @@ def symbols(path, names):
             if word in names:
                 found[word] = place
     return found, is_anywhere
+
+
+def can_trace():
+    """Whether a process can be traced here, and its memory changed."""
+    process = os.fork()
+    if process == 0:
+        try:
+            trace(TRACE_ME, 0)
+            os.kill(os.getpid(), signal.SIGSTOP)
+        except OSError:
+            pass
+        finally:
+            os._exit(0)
+    _, status = os.waitpid(process, os.WUNTRACED)
+    if not os.WIFSTOPPED(status):
+        return False
+    try:
+        trace(POKE_REGISTER, process, RDI, trace(PEEK_REGISTER, process, RDI))
+        with open(f"/proc/{process}/mem", "r+b", buffering=0):
+            return True
+    except OSError:
+        return False
+    finally:
+        os.kill(process, signal.SIGKILL)
+        os.waitpid(process, 0)
 
 
 def bytes_file(data=b""):
@@ -152,4 +179,4 @@ class Program:
 
 
 if __name__ == "__main__":
-    sys.exit(__doc__)
+    sys.exit(0 if can_trace() else 3)

@@ -3,7 +3,7 @@ use super::assertions::{assert_bytes, assert_same};
 use super::devices::{SlowReader, SlowWriter};
 use super::running::long_input;
 use cps_text::Counted;
-use cps_tool::run_words;
+use cps_tool::{Hashing, run_words};
 use std::alloc::{AllocError, Global};
 use std::io::{Read, Write};
 use std::process::Abort;
@@ -39,7 +39,7 @@ fn call_into<R: Read, W: Write, E: Write>(
     writer: &mut Counted<W>,
     errors: &mut Counted<E>,
 ) -> u8 {
-    run_words(alloc, words, reader, writer, errors)
+    run_words(alloc, Hashing::by(1), words, reader, writer, errors)
 }
 
 /// Asserts the status of a call, and what is written and told.

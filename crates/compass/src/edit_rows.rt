@@ -2,7 +2,7 @@
 use super::assertions::{assert_bytes, assert_same};
 use cps_list::Part;
 use cps_live::{EditFault, Session};
-use cps_pass::Work;
+use cps_pass::{Hashing, Work};
 use cps_text::Line;
 use std::alloc::Global;
 use std::process::Abort;
@@ -92,7 +92,7 @@ fn assert_text(rt: &impl Abort, alloc: Global, session: &Session, part: Part, wa
 
 /// Asserts what edits of a session do, one after another, and then its listing, binary text and flags text.
 fn assert_edits(rt: &impl Abort, alloc: Global, rows: &[Row], texts: [&str; 3]) {
-    let mut session = Session::new(alloc);
+    let mut session = Session::new(alloc, Hashing::by(1));
     let mut work = Work::new();
     assert_rows(rt, alloc, &mut session, &mut work, rows);
     assert_texts(rt, alloc, &session, texts);
@@ -193,7 +193,7 @@ fn enter_times(alloc: Global, session: &mut Session, times: u32, text: &[u8]) {
 #[test]
 fn steps_few_of_many_lines(rt: HostRuntime) {
     const WORD: &[u8] = b"   CON 1";
-    let mut session = Session::new(rt.alloc());
+    let mut session = Session::new(rt.alloc(), Hashing::by(1));
     let mut work = Work::new();
     enter_times(rt.alloc(), &mut session, 2_499, WORD);
     enter_times(rt.alloc(), &mut session, 1, b"* one");

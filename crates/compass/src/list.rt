@@ -4,7 +4,7 @@ ghost use Rattle.std.specs.Prelude.{◌≡◌, ◌-◌, ◌≤◌, ◌↔◌, le
 use super::part_rows::write_view;
 use cps_final::{Finals, Gather, Gathered, Outcome, step_two};
 use cps_list::{ListFault, Part, View};
-use cps_pass::{Trace, Work, step_one};
+use cps_pass::{Hashing, Trace, Work, step_one};
 use cps_text::{Counted, Line};
 use std::alloc::Global;
 use std::io::Write;
@@ -116,7 +116,7 @@ pub fn write_list<W: Write>(
 ) -> Result<(), ListFault> {
     let mut lines = Vec::new(alloc);
     let mut traces = Vec::new(alloc);
-    let mut gather = Gather::new(alloc);
+    let mut gather = Gather::new(alloc, Hashing::by(1));
     take_source(alloc, &mut lines, &mut traces, &mut gather, source);
     let done = write_traces(alloc, &lines, &traces, gather.finals(), part, writer);
     drop(lines);

@@ -34,12 +34,15 @@ mod running;
 mod script_rows;
 
 use cps_text::Counted;
-use cps_tool::run_words;
+use cps_tool::{Hashing, run_words};
 use std::io::ErrorKind;
 use std::process::ExitCode;
+use std::random::RandomSource;
 use std::{env, io};
 
 const NO_MEMORY: &str = "no memory";
+
+const NO_RANDOM_BYTES: &str = "no random bytes";
 
 const NOT_UTF8: &str = "error: a word of the call is not UTF-8";
 
@@ -53,7 +56,7 @@ fn main(rt: HostRuntime) -> ExitCode {
     }
 }
 
-/// Does what the words of the call ask. An error is what is told where there are no words to be had.
+/// Does what the words of the call ask. An error is what is told where there are no words to be had, or no random bytes.
 fn call(rt: &HostRuntime) -> Result<u8, &'static str> {
     let words = read_call(rt)?;
     let Ok(words) = words
@@ -63,10 +66,18 @@ fn call(rt: &HostRuntime) -> Result<u8, &'static str> {
     else {
         return Err(NO_MEMORY);
     };
+    let hashing = draw_hashing(rt)?;
     let mut reader = Counted::new(rt.reader());
     let mut writer = Counted::new(io::writer(rt));
     let mut errors = Counted::new(rt.stderr());
-    Ok(run_words(rt.alloc(), &words, &mut reader, &mut writer, &mut errors))
+    Ok(run_words(
+        rt.alloc(),
+        hashing,
+        &words,
+        &mut reader,
+        &mut writer,
+        &mut errors,
+    ))
 }
 
 /// The words of the call.
@@ -75,5 +86,14 @@ fn read_call(rt: &HostRuntime) -> Result<Vec<String>, &'static str> {
         Ok(words) => words.collect(rt.alloc()).map_err(|_| NO_MEMORY),
         Err(error) if error.kind() == ErrorKind::InvalidData => Err(NOT_UTF8),
         Err(_) => Err(NO_MEMORY),
+    }
+}
+
+/// How the maps of this run hash. Nobody who writes a source can know it.
+fn draw_hashing(rt: &HostRuntime) -> Result<Hashing, &'static str> {
+    let mut secret = [0; 8];
+    match rt.fill_bytes(&mut secret) {
+        Ok(()) => Ok(Hashing::by(u64::from_le_bytes(secret))),
+        Err(_) => Err(NO_RANDOM_BYTES),
     }
 }

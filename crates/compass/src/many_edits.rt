@@ -4,7 +4,7 @@ use super::edit_rows::{Edit, carry_out};
 use super::running::assemble;
 use cps_list::Part;
 use cps_live::Session;
-use cps_pass::Work;
+use cps_pass::{Hashing, Work};
 use std::alloc::{AllocError, Global};
 use std::process::Abort;
 
@@ -169,7 +169,7 @@ fn assert_course(
     edits: usize,
     left: u32,
 ) {
-    let mut session = Session::new(alloc);
+    let mut session = Session::new(alloc, Hashing::by(1));
     let _ = carry_out(
         alloc,
         &mut session,

@@ -8,7 +8,7 @@ use cps_list::{
     ListFault, Part, View, write_all_parts, write_binary, write_flags, write_listing, write_symbols,
 };
 use cps_live::Session;
-use cps_pass::Work;
+use cps_pass::{Hashing, Work};
 use cps_text::Counted;
 use std::alloc::{AllocError, Global};
 use std::io::Write;
@@ -45,7 +45,7 @@ fn write_session<W: Write>(
     part: Part,
     writer: &mut Counted<W>,
 ) -> Result<(), ListFault> {
-    let mut session = Session::new(alloc);
+    let mut session = Session::new(alloc, Hashing::by(1));
     enter_source(alloc, &mut session, source);
     let done = write_view(alloc, &session, part, writer);
     drop(session);

@@ -3,7 +3,7 @@
 ghost use Rattle.std.specs.Prelude.{◌≡◌};
 
 use super::assertions::assert_same;
-use cps_pass::{Answer, Asked, Item, Key, Lookup, State, Trace, Work, step_one};
+use cps_pass::{Answer, Asked, Hashing, Item, Key, Lookup, State, Trace, Work, step_one};
 use cps_text::{Line, Name};
 use std::alloc::Global;
 use std::collections::HashMap;
@@ -11,7 +11,7 @@ use std::collections::HashMap;
 /// What stands at a few keys. Nothing stands at the others.
 #[derive(Drop)]
 struct Few {
-    answers: HashMap<Key, Answer>,
+    answers: HashMap<Key, Answer, Hashing>,
 }
 
 impl Lookup for Few {
@@ -21,6 +21,10 @@ impl Lookup for Few {
 
     fn ask(&self, key: &Key) -> Option<&Answer> {
         self.answers.get(key)
+    }
+
+    fn hashing(&self) -> Hashing {
+        *self.answers.hasher()
     }
 }
 
@@ -46,7 +50,7 @@ fn keep_all(few: &mut Few, asks: &[Asked]) -> bool {
 /// Whether a line does the same where nothing stands but what it asked.
 fn does_the_same(alloc: Global, line: &Line, trace: &Trace) -> bool {
     let mut few = Few {
-        answers: HashMap::new(alloc),
+        answers: HashMap::with_hasher(alloc, Hashing::by(2)),
     };
     let is_same = keep_all(&mut few, trace.asks()) && does_so_in(alloc, line, &few, trace);
     drop(few);
@@ -126,7 +130,7 @@ struct Reached {
 
 /// Pass one of lines, one after another, and what stands then.
 fn pass_one(alloc: Global, lines: &[&str], symbol: &[u8]) -> Reached {
-    let mut state = State::first(alloc);
+    let mut state = State::first(alloc, Hashing::by(1));
     let is_alike = take_all(alloc, &mut state, lines);
     let reached = Reached {
         is_alike,

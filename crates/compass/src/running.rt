@@ -3,7 +3,7 @@ use super::devices::{SlowReader, SlowWriter};
 use cps_list::Part;
 use cps_live::{BatchFault, Session, batch};
 use cps_text::Counted;
-use cps_tool::{RunFault, run_script};
+use cps_tool::{Hashing, RunFault, run_script};
 use std::alloc::{AllocError, Global};
 use std::io::{Read, Write};
 
@@ -42,7 +42,7 @@ pub fn run<R: Read, W: Write>(
     reader: &mut Counted<R>,
     writer: &mut Counted<W>,
 ) -> Ran {
-    let mut session = Session::new(alloc);
+    let mut session = Session::new(alloc, Hashing::by(1));
     let end = run_script(alloc, reader, writer, &mut session);
     let ran = Ran {
         end,
@@ -132,5 +132,5 @@ pub fn assemble_into<R: Read, W: Write>(
     writer: &mut Counted<W>,
     part: Part,
 ) -> Result<u32, BatchFault> {
-    batch(alloc, reader, writer, part)
+    batch(alloc, Hashing::by(1), reader, writer, part)
 }

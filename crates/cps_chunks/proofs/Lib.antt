@@ -4,3 +4,5 @@ mod RunLemmas
 mod NamedLemmas
 mod NamesLemmas
 mod GatherLemmas
+mod ChunkLemmas
+mod AgainLemmas

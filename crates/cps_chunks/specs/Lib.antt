@@ -4,4 +4,4 @@ pub mod LastPuts
 pub mod Named
 pub mod Names
 pub mod NamesGathering
-pub mod InPlace
+pub mod Chunks

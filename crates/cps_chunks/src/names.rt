@@ -18,7 +18,7 @@ use cps_code::Hole;
 use cps_edit::{Ends, Naming};
 use cps_expr::is_same_name;
 use cps_final::{Finals, Gathered, list_literals};
-use cps_state::{Content, Held, Item, Made, Shown, Stand, Trace};
+use cps_state::{Content, Hashing, Held, Item, Made, Shown, Stand, Trace};
 use cps_text::Name;
 use indexmap::IndexSet;
 use std::alloc::{AllocError, Global};
@@ -43,12 +43,12 @@ impl Model for Names {
 
 impl Names {
     /// Of the statements of lines that did this.
-    pub fn of(alloc: Global, traces: &[Trace]) -> Result<Names, AllocError>
+    pub fn of(alloc: Global, hashing: Hashing, traces: &[Trace]) -> Result<Names, AllocError>
         ensures { IfOk result (λ names. names ≡ names_in traces.now) }
     {
-        let labels = list_labels(alloc, traces)?;
-        let blocks = list_blocks(alloc, traces)?;
-        let literals = list_literals_once(alloc, traces)?;
+        let labels = list_labels(alloc, hashing, traces)?;
+        let blocks = list_blocks(alloc, hashing, traces)?;
+        let literals = list_literals_once(alloc, hashing, traces)?;
         Ok(Names {
             labels,
             blocks,
@@ -122,13 +122,13 @@ fn literals_pass<N: Naming>(literals: &[u64], naming: &N) -> bool
 // ---- each once
 
 /// What was found so far, each once.
-type Found<T> = IndexSet<T>;
+type Found<T> = IndexSet<T, Hashing>;
 
 /// Nothing yet.
-fn none_found<T: Eq + Hash>(alloc: Global) -> Found<T>
+fn none_found<T: Eq + Hash>(alloc: Global, hashing: Hashing) -> Found<T>
     ensures { result.keys ≡ [] }
 {
-    IndexSet::new(alloc)
+    IndexSet::with_hasher(alloc, hashing)
 }
 
 /// A list of it, without room for more.
@@ -142,10 +142,10 @@ fn list_of<T: Copy>(alloc: Global, found: &[T]) -> Result<Vec<T>, AllocError>
 
 // ---- labels
 
-fn list_labels(alloc: Global, traces: &[Trace]) -> Result<Vec<Name>, AllocError>
+fn list_labels(alloc: Global, hashing: Hashing, traces: &[Trace]) -> Result<Vec<Name>, AllocError>
     ensures { IfOk result (λ labels. labels.items ≡ labels_named (statements_of traces.now)) }
 {
-    let mut found = none_found(alloc);
+    let mut found = none_found(alloc, hashing);
     for trace in traces {
         insert_labels(&mut found, trace.items())?;
     }
@@ -235,10 +235,10 @@ fn is_held(held: &[Held], name: Name) -> bool
 
 // ---- blocks
 
-fn list_blocks(alloc: Global, traces: &[Trace]) -> Result<Vec<Option<Name>>, AllocError>
+fn list_blocks(alloc: Global, hashing: Hashing, traces: &[Trace]) -> Result<Vec<Option<Name>>, AllocError>
     ensures { IfOk result (λ blocks. blocks.items ≡ all_blocks_named (statements_of traces.now)) }
 {
-    let mut found = none_found(alloc);
+    let mut found = none_found(alloc, hashing);
     for trace in traces {
         insert_blocks(&mut found, trace.items())?;
     }
@@ -299,10 +299,10 @@ fn insert_block(found: &mut Found<Option<Name>>, block: Option<Name>) -> Result<
 
 // ---- literals
 
-fn list_literals_once(alloc: Global, traces: &[Trace]) -> Result<Vec<u64>, AllocError>
+fn list_literals_once(alloc: Global, hashing: Hashing, traces: &[Trace]) -> Result<Vec<u64>, AllocError>
     ensures { IfOk result (λ literals. literals.items ≡ literals_named (statements_of traces.now)) }
 {
-    let mut found = none_found(alloc);
+    let mut found = none_found(alloc, hashing);
     for trace in traces {
         let literals = list_literals(alloc, trace.items())?;
         insert_literals(&mut found, &literals)?;

@@ -2,7 +2,7 @@
 //! What a function holds is dropped by calls, whose proofs stand once.
 use super::names::Names;
 use super::run_rows::take_text;
-use cps_pass::{State, Trace};
+use cps_pass::{Hashing, State, Trace};
 use std::alloc::Global;
 
 /// How many labels, blocks and literals a run names.
@@ -22,7 +22,7 @@ fn counts_of(names: &Names) -> Counts {
 }
 
 fn count(alloc: Global, traces: &[Trace]) -> Option<Counts> {
-    match Names::of(alloc, traces) {
+    match Names::of(alloc, Hashing::by(1), traces) {
         Ok(names) => {
             let counts = counts_of(&names);
             drop(names);
@@ -34,7 +34,7 @@ fn count(alloc: Global, traces: &[Trace]) -> Option<Counts> {
 
 /// Of the run of these lines, the first of a source.
 fn counts_over(alloc: Global, lines: &[&str]) -> Option<Counts> {
-    let mut state = State::first(alloc);
+    let mut state = State::first(alloc, Hashing::by(1));
     let mut traces = Vec::new(alloc);
     let mut is_taken = true;
     for text in lines {

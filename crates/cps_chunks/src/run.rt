@@ -6,7 +6,7 @@ ghost use Rattle.cps_chunks.specs.LastPuts.{lasting, lasting_run};
 ghost use Rattle.cps_chunks.specs.RunGathering.{gathered, in_front};
 
 use cps_edit::asks_hold;
-use cps_state::{Asked, Log, Lookup, Put, Trace};
+use cps_state::{Asked, Hashing, Log, Lookup, Put, Trace};
 use std::alloc::{AllocError, Global};
 use std::marker::Model;
 
@@ -27,15 +27,15 @@ impl Model for Run {
 
 impl Run {
     /// Of lines that did this.
-    pub fn of(alloc: Global, traces: &[Trace]) -> Result<Run, AllocError>
+    pub fn of(alloc: Global, hashing: Hashing, traces: &[Trace]) -> Result<Run, AllocError>
         ensures { IfOk result (λ run. run ≡ lasting_run traces.now) }
     {
-        let mut log = Log::of(alloc, Vec::new(alloc), Vec::new(alloc));
+        let mut log = Log::of(alloc, hashing, Vec::new(alloc), Vec::new(alloc));
         for trace in traces {
             add_line(&mut log, trace)?;
         }
         let (asks, all) = log.into_parts();
-        let puts = last_puts(alloc, &all)?;
+        let puts = last_puts(alloc, hashing, &all)?;
         Ok(Run { asks, puts })
     }
 
@@ -98,10 +98,10 @@ fn add_puts(log: &mut Log, puts: &[Put]) -> Result<(), AllocError>
 }
 
 /// The last of some puts at each key, in their order.
-fn last_puts(alloc: Global, puts: &[Put]) -> Result<Vec<Put>, AllocError>
+fn last_puts(alloc: Global, hashing: Hashing, puts: &[Put]) -> Result<Vec<Put>, AllocError>
     ensures { IfOk result (λ last. last.items ≡ lasting puts.now) }
 {
-    let mut last = Log::of(alloc, Vec::new(alloc), Vec::new(alloc));
+    let mut last = Log::of(alloc, hashing, Vec::new(alloc), Vec::new(alloc));
     for put in puts.iter().rev() {
         add_if_last(&mut last, put)?;
     }

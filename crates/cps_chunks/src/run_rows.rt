@@ -1,7 +1,7 @@
 //! Runs of a few lines: how many keys they put at, and where they stand.
 //! What a function holds is dropped by calls, whose proofs stand once.
 use super::run::Run;
-use cps_pass::{State, Trace, Work, step_one};
+use cps_pass::{Hashing, Lookup, State, Trace, Work, step_one};
 use cps_text::Line;
 use std::alloc::Global;
 
@@ -43,7 +43,7 @@ fn seen_of(run: &Run, front: &State, behind: &State) -> Seen {
 }
 
 fn see(alloc: Global, traces: &[Trace], front: &State, behind: &State) -> Option<Seen> {
-    match Run::of(alloc, traces) {
+    match Run::of(alloc, front.hashing(), traces) {
         Ok(run) => {
             let seen = seen_of(&run, front, behind);
             drop(run);
@@ -55,8 +55,8 @@ fn see(alloc: Global, traces: &[Trace], front: &State, behind: &State) -> Option
 
 /// The run of these lines, the first of a source.
 fn run_over(alloc: Global, lines: &[&str]) -> Option<Seen> {
-    let front = State::first(alloc);
-    let mut state = State::first(alloc);
+    let front = State::first(alloc, Hashing::by(1));
+    let mut state = State::first(alloc, Hashing::by(1));
     let mut traces = Vec::new(alloc);
     let mut is_taken = true;
     for text in lines {

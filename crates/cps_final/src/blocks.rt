@@ -11,7 +11,7 @@ ghost use Rattle.indexmap.specs.IndexMap.{spare, keys};
 
 use cps_code::Place;
 use cps_expr::Machine;
-use cps_state::{Key, Put, place_of};
+use cps_state::{Hashing, Key, Put, place_of};
 use cps_text::Name;
 use indexmap::IndexMap;
 use std::alloc::{AllocError, Global};
@@ -20,16 +20,16 @@ use std::alloc::{AllocError, Global};
 #[derive(Drop)]
 pub struct Blocks {
     nominal: u32,
-    named: IndexMap<Name, u32>,
+    named: IndexMap<Name, u32, Hashing>,
 }
 
 impl Blocks {
-    pub fn new(alloc: Global) -> Blocks
+    pub fn new(alloc: Global, hashing: Hashing) -> Blocks
         ensures { layout_kept result.nominal result.named ≡ layout_of [] }
     {
         Blocks {
             nominal: 0,
-            named: IndexMap::new(alloc),
+            named: IndexMap::with_hasher(alloc, hashing),
         }
     }
 

@@ -13,7 +13,9 @@ ghost use Rattle.indexmap.specs.IndexSet.{insert_all, insert_key, spare};
 use crate::blocks::Blocks;
 use crate::literals::list_literals;
 use cps_expr::{Machine, Names, Value};
-use cps_state::{Item, Key, Lookup, Stand, State, Trace, control_of, is_open, limit_of, value_of};
+use cps_state::{
+    Hashing, Item, Key, Lookup, Stand, State, Trace, control_of, is_open, limit_of, value_of,
+};
 use cps_text::Name;
 use indexmap::IndexSet;
 use std::alloc::{AllocError, Global};
@@ -24,7 +26,7 @@ pub struct Finals {
     alloc: Global,
     state: State,
     blocks: Blocks,
-    pool: IndexSet<u64>,
+    pool: IndexSet<u64, Hashing>,
     program: Option<Name>,
 }
 
@@ -48,14 +50,14 @@ impl Gathered for Finals {
 
 impl Finals {
     /// Of a source without lines. Takes no memory.
-    pub(crate) fn new(alloc: Global) -> Finals
+    pub(crate) fn new(alloc: Global, hashing: Hashing) -> Finals
         ensures { Gathers (⟦<Finals as Gathered>⟧.gathered result) [] }
     {
         Finals {
             alloc,
-            state: State::first(alloc),
-            blocks: Blocks::new(alloc),
-            pool: IndexSet::new(alloc),
+            state: State::first(alloc, hashing),
+            blocks: Blocks::new(alloc, hashing),
+            pool: IndexSet::with_hasher(alloc, hashing),
             program: None,
         }
     }
@@ -87,6 +89,11 @@ impl Finals {
         ensures { ⟦<State as Lookup>⟧.answer result.now ≡ (⟦<Finals as Gathered>⟧.gathered self.now).state }
     {
         &self.state
+    }
+
+    /// How its maps hash.
+    pub fn hashing(&self) -> Hashing {
+        self.state.hashing()
     }
 
     /// The machine that the program is for.
@@ -231,7 +238,7 @@ impl Finals {
 }
 
 /// The pool with more literals, where there is room for them.
-fn insert_literals(pool: &mut IndexSet<u64>, literals: &[u64])
+fn insert_literals(pool: &mut IndexSet<u64, Hashing>, literals: &[u64])
     requires { length literals.now ≤ spare pool.old }
     ensures { pool.new.keys ≡ insert_all nat_eq pool.old.keys literals.now }
 {
@@ -241,7 +248,7 @@ fn insert_literals(pool: &mut IndexSet<u64>, literals: &[u64])
 }
 
 /// The pool with one more literal, once.
-fn insert_literal(pool: &mut IndexSet<u64>, literal: u64)
+fn insert_literal(pool: &mut IndexSet<u64, Hashing>, literal: u64)
     requires { 0 < spare pool.old }
     ensures keys { pool.new.keys ≡ insert_key nat_eq pool.old.keys literal }
     ensures room { spare pool.old ≤ spare pool.new + 1 }

@@ -5,7 +5,7 @@ ghost use Rattle.cps_state.specs.Keys.{overwritten};
 ghost use Rattle.cps_final.specs.Finals.{Gathers};
 
 use crate::finals::{Finals, Gathered};
-use cps_state::{Lookup, State, Trace};
+use cps_state::{Hashing, Lookup, State, Trace};
 use std::alloc::{AllocError, Global};
 
 /// What was gathered of the lines that were added, in their order.
@@ -20,11 +20,11 @@ impl Gathered for Gather {
 
 impl Gather {
     /// Of no line. Takes no memory yet.
-    pub fn new(alloc: Global) -> Gather
+    pub fn new(alloc: Global, hashing: Hashing) -> Gather
         ensures { Gathers (⟦<Gather as Gathered>⟧.gathered result) [] }
     {
         Gather {
-            finals: Finals::new(alloc),
+            finals: Finals::new(alloc, hashing),
         }
     }
 

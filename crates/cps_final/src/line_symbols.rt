@@ -3,7 +3,7 @@ ghost use Rattle.std.specs.Prelude.{◌≡◌, [], OnOk};
 ghost use Rattle.cps_final.specs.Names.{names_defined, names_read};
 
 use crate::names::{insert_defined, insert_read};
-use cps_state::Trace;
+use cps_state::{Hashing, Trace};
 use cps_text::Name;
 use indexmap::IndexSet;
 use std::alloc::{AllocError, Global};
@@ -12,8 +12,8 @@ use std::marker::Model;
 /// The symbols that a line defines and those that it reads, each once. Those of one line can be put in the place of another's.
 #[derive(Drop)]
 pub struct LineSymbols {
-    defined: IndexSet<Name>,
-    read: IndexSet<Name>,
+    defined: IndexSet<Name, Hashing>,
+    read: IndexSet<Name, Hashing>,
 }
 
 impl Model for LineSymbols {
@@ -26,12 +26,12 @@ impl Model for LineSymbols {
 
 impl LineSymbols {
     /// Of a line without symbols. Takes no memory yet.
-    pub fn new(alloc: Global) -> LineSymbols
+    pub fn new(alloc: Global, hashing: Hashing) -> LineSymbols
         ensures { result ≡ record { defined = []; read = [] } }
     {
         LineSymbols {
-            defined: IndexSet::new(alloc),
-            read: IndexSet::new(alloc),
+            defined: IndexSet::with_hasher(alloc, hashing),
+            read: IndexSet::with_hasher(alloc, hashing),
         }
     }
 

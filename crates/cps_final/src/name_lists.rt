@@ -7,7 +7,7 @@ ghost use Rattle.cps_final.specs.Names.{names_defined, names_read};
 use crate::kept_names::KeptNames;
 use crate::names::{NameSet, insert_defined, insert_read};
 use cps_expr::is_same_name;
-use cps_state::Trace;
+use cps_state::{Hashing, Trace};
 use cps_text::Name;
 use indexmap::IndexSet;
 use std::alloc::{AllocError, Global};
@@ -16,27 +16,27 @@ use std::alloc::{AllocError, Global};
 const FEW: usize = 8;
 
 /// The symbols that a line defines, each once.
-pub fn list_defined(alloc: Global, trace: &Trace) -> Result<KeptNames, AllocError>
+pub fn list_defined(alloc: Global, hashing: Hashing, trace: &Trace) -> Result<KeptNames, AllocError>
     ensures { IfOk result (λ names. names ≡ names_defined trace.now) }
 {
     let mut few = FewNames::new(alloc);
     if insert_defined(&mut few, trace.puts()).is_ok() {
         return Ok(few.names);
     }
-    let mut names = IndexSet::new(alloc);
+    let mut names = IndexSet::with_hasher(alloc, hashing);
     insert_defined(&mut names, trace.puts())?;
     KeptNames::copy_of(alloc, names.as_slice())
 }
 
 /// The symbols that a line reads, now or later, each once.
-pub fn list_read(alloc: Global, trace: &Trace) -> Result<KeptNames, AllocError>
+pub fn list_read(alloc: Global, hashing: Hashing, trace: &Trace) -> Result<KeptNames, AllocError>
     ensures { IfOk result (λ names. names ≡ names_read trace.now) }
 {
     let mut few = FewNames::new(alloc);
     if insert_read(&mut few, trace).is_ok() {
         return Ok(few.names);
     }
-    let mut names = IndexSet::new(alloc);
+    let mut names = IndexSet::with_hasher(alloc, hashing);
     insert_read(&mut names, trace)?;
     KeptNames::copy_of(alloc, names.as_slice())
 }

@@ -7,7 +7,7 @@ ghost use Rattle.cps_final.specs.Names.{later_names, symbol_put};
 ghost use Rattle.indexmap.specs.IndexSet.{insert_all};
 
 use cps_code::Hole;
-use cps_state::{Content, Item, Key, Put, Trace};
+use cps_state::{Content, Hashing, Item, Key, Put, Trace};
 use cps_text::Name;
 use indexmap::IndexSet;
 use std::alloc::AllocError;
@@ -26,7 +26,7 @@ pub trait NameSet {
         ensures { OnOk result (names self.new ≡ insert_key same_name (names self.old) name) };
 }
 
-impl NameSet for IndexSet<Name> {
+impl NameSet for IndexSet<Name, Hashing> {
     ghost names = { λ set. set.keys };
 
     #[inline(always)]

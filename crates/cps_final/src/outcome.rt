@@ -68,8 +68,8 @@ fn make_outcome(alloc: Global, trace: &Trace, finals: &Finals) -> Result<Outcome
     let items = trace.items();
     let mut output = Output::with_room(alloc, items)?;
     output.replace(items, finals)?;
-    let defined = list_defined(alloc, trace)?;
-    let read = list_read(alloc, trace)?;
+    let defined = list_defined(alloc, finals.hashing(), trace)?;
+    let read = list_read(alloc, finals.hashing(), trace)?;
     let made = Outcome::of(alloc, output, defined, read)?;
     Ok(made)
 }

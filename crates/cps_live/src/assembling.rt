@@ -14,6 +14,7 @@ use super::fault::BatchFault;
 use super::input::Input;
 use super::passes::make_part;
 use cps_list::{Part, write_text};
+use cps_pass::Hashing;
 use cps_text::{Counted, Line};
 use std::alloc::Global;
 use std::io::{Read, Write};
@@ -29,6 +30,7 @@ const CHUNK: usize = 16_384;
 /// The input is read to its end before anything is said of its lines, and nothing is written before the text is made.
 pub fn batch<R: Read, W: Write>(
     alloc: Global,
+    hashing: Hashing,
     reader: &mut Counted<R>,
     writer: &mut Counted<W>,
     part: Part,
@@ -38,7 +40,7 @@ pub fn batch<R: Read, W: Write>(
 {
     let mut input = Input::new(alloc);
     match read_all(alloc, reader, &mut input) {
-        Ok(()) => write_input(alloc, input, writer, part),
+        Ok(()) => write_input(alloc, hashing, input, writer, part),
         Err(fault) => Err(fault),
     }
 }
@@ -74,6 +76,7 @@ fn read_all<R: Read>(
 /// Writes a text of the lines that have come.
 fn write_input<W: Write>(
     alloc: Global,
+    hashing: Hashing,
     input: Input,
     writer: &mut Counted<W>,
     part: Part,
@@ -82,7 +85,7 @@ fn write_input<W: Write>(
     ensures { (taken : List ℕ) → HasCome input taken → (lines : List (List ℕ)) × HasText taken lines × Assembles W.contents part result lines writer.old writer.new }
 {
     match input.finish(alloc) {
-        Ok(lines) => write_source(alloc, &lines, writer, part),
+        Ok(lines) => write_source(alloc, hashing, &lines, writer, part),
         Err(fault) => Err(fault),
     }
 }
@@ -90,6 +93,7 @@ fn write_input<W: Write>(
 /// Writes a text of a source. It gives the number of flagged lines.
 fn write_source<W: Write>(
     alloc: Global,
+    hashing: Hashing,
     lines: &[Line],
     writer: &mut Counted<W>,
     part: Part,
@@ -97,7 +101,7 @@ fn write_source<W: Write>(
     requires { IsSource lines.now }
     ensures { Assembles W.contents part result lines.now writer.old writer.new }
 {
-    let Ok((text, flagged)) = make_part(alloc, lines, part) else {
+    let Ok((text, flagged)) = make_part(alloc, hashing, lines, part) else {
         return Err(BatchFault::Memory);
     };
     match write_text(writer, &text) {

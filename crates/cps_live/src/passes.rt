@@ -14,7 +14,7 @@ ghost use Rattle.cps_live.specs.Passes.{IsPassed, IsShown, statements_of};
 use super::session::MOST_LINES;
 use cps_final::{Finals, Gather, Gathered, LineSymbols, Output};
 use cps_list::{Mention, Part, Printout, push_mentions};
-use cps_pass::{Item, Sheet, Trace, Work, step_over};
+use cps_pass::{Hashing, Item, Sheet, Trace, Work, step_over};
 use cps_text::Line;
 use std::alloc::{AllocError, Global};
 use std::marker::Model;
@@ -24,11 +24,16 @@ use std::mem::replace;
 const MOST_KEPT: usize = 40_000;
 
 /// A text of a source, and the number of flagged lines.
-pub fn make_part(alloc: Global, lines: &[Line], part: Part) -> Result<(Vec<u8>, u32), AllocError>
+pub fn make_part(
+    alloc: Global,
+    hashing: Hashing,
+    lines: &[Line],
+    part: Part,
+) -> Result<(Vec<u8>, u32), AllocError>
     requires { length lines.now ≤ MOST_LINES }
     ensures { IfOk result (λ made. (made.0.items ≡ text_of part (assembly_of lines.now)) × (made.1 ≡ flagged_lines lines.now)) }
 {
-    let mut one = PassOne::of(alloc, lines, part)?;
+    let mut one = PassOne::of(alloc, hashing, lines, part)?;
     one.make_text(alloc, lines)
 }
 
@@ -82,28 +87,33 @@ impl Drop for PassOne {
 
 impl PassOne {
     /// Of no line. Takes no memory yet.
-    fn new(alloc: Global, part: Part) -> PassOne
+    fn new(alloc: Global, hashing: Hashing, part: Part) -> PassOne
         ensures passed { IsPassed [] result }
         ensures part { result.part ≡ part }
     {
         PassOne {
             part,
-            gather: Gather::new(alloc),
+            gather: Gather::new(alloc, hashing),
             kept: Some(Vec::new(alloc)),
             count: 0,
             sheet: Sheet::new(alloc),
-            symbols: LineSymbols::new(alloc),
+            symbols: LineSymbols::new(alloc, hashing),
             mentions: Vec::new(alloc),
         }
     }
 
     /// Of all lines.
-    fn of(alloc: Global, lines: &[Line], part: Part) -> Result<PassOne, AllocError>
+    fn of(
+        alloc: Global,
+        hashing: Hashing,
+        lines: &[Line],
+        part: Part,
+    ) -> Result<PassOne, AllocError>
         requires { length lines.now ≤ MOST_LINES }
         ensures passed { IfOk result (IsPassed lines.now) }
         ensures part { IfOk result (λ one. one.part ≡ part) }
     {
-        let mut one = PassOne::new(alloc, part);
+        let mut one = PassOne::new(alloc, hashing, part);
         for (before, line) in lines.iter().enumerate() {
             one.take_line(alloc, before as u32 + 1, line)?;
         }
@@ -348,7 +358,7 @@ impl<'a> Again<'a> {
         ensures few { result.two.printout.flagged ≡ 0 }
     {
         Again {
-            gather: Gather::new(alloc),
+            gather: Gather::new(alloc, finals.hashing()),
             sheet: Sheet::new(alloc),
             two: PassTwo::new(alloc, part, finals),
         }

@@ -7,10 +7,11 @@ ghost use Rattle.cps_live.specs.Flagged.{flagged_lines as flagged_in};
 ghost use Rattle.cps_live.specs.Edits.{HasLine, LacksLine, HasLines, LacksLines, without_lines, WorkOfEdit};
 
 use super::flagged::flagged_lines;
-use cps_edit::{Follower, Front, Kept, Lists};
+use cps_edit::Front;
 use cps_final::{Finals, Gathered, Outcome};
+use cps_kept::{Follower, Kept, Lists};
 use cps_list::{Part, View, make_text};
-use cps_pass::Work;
+use cps_pass::{Hashing, Work};
 use cps_text::Line;
 use std::alloc::{AllocError, Global};
 use std::marker::Model;
@@ -106,14 +107,14 @@ impl View for Session {
 
 impl Session {
     /// A source without a line. Takes no memory yet.
-    pub fn new(alloc: Global) -> Session
+    pub fn new(alloc: Global, hashing: Hashing) -> Session
         ensures { result.lines ≡ [] }
     {
         Session {
             alloc,
             lists: Lists::new(alloc),
-            front: Front::new(alloc),
-            follower: Follower::new(alloc),
+            front: Front::new(alloc, hashing),
+            follower: Follower::new(alloc, hashing),
         }
     }
 
@@ -265,7 +266,7 @@ impl Session {
             return Err(EditFault::Memory);
         };
         self.front.give_way(front);
-        self.follower = Follower::new(self.alloc);
+        self.follower = Follower::new(self.alloc, self.front.finals().hashing());
         Ok(())
     }
 

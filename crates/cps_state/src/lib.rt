@@ -4,6 +4,7 @@
 mod answers;
 mod contents;
 mod flags;
+mod hashing;
 mod instruction;
 mod item;
 mod key;
@@ -26,6 +27,7 @@ pub use answers::{
 };
 pub use contents::Contents;
 pub use flags::Flags;
+pub use hashing::Hashing;
 pub use instruction::InstructionForm;
 pub use item::{Item, Stand};
 pub use key::{

@@ -6,6 +6,7 @@ ghost use Rattle.cps_state.specs.declared.key.Key.{Key};
 ghost use Rattle.cps_state.specs.Course.{last_put, last_ask, known_in};
 ghost use Rattle.cps_state.specs.Log.{Log, known_of, put_at, asked_at, found_at, Indexes};
 
+use crate::hashing::Hashing;
 use crate::key::{Answer, Asked, Key, Put, is_same_key};
 use std::alloc::{AllocError, Global};
 use std::collections::HashMap;
@@ -25,10 +26,11 @@ pub enum Known {
 #[derive(Drop)]
 pub struct Log {
     alloc: Global,
+    hashing: Hashing,
     asks: Vec<Asked>,
     puts: Vec<Put>,
     /// What is known of each key. None: the log is short.
-    index: Option<Box<HashMap<Key, Known>>>,
+    index: Option<Box<HashMap<Key, Known, Hashing>>>,
 }
 
 impl Model for Log {
@@ -46,11 +48,12 @@ impl Model for Log {
 
 impl Log {
     /// Of these asks and puts. Takes no memory.
-    pub fn of(alloc: Global, asks: Vec<Asked>, puts: Vec<Put>) -> Log
+    pub fn of(alloc: Global, hashing: Hashing, asks: Vec<Asked>, puts: Vec<Put>) -> Log
         ensures { result ≡ record { asks = asks.items; puts = puts.items } }
     {
         Log {
             alloc,
+            hashing,
             asks,
             puts,
             index: None,
@@ -138,6 +141,7 @@ impl Log {
     {
         let Log {
             alloc: _,
+            hashing: _,
             asks,
             puts,
             index: _,
@@ -161,7 +165,7 @@ impl Log {
     fn make_index(&mut self) -> Result<(), AllocError>
         ensures { self.new ≡ self.old }
     {
-        let index = index_of_asks(self.alloc, &self.asks)?;
+        let index = index_of_asks(self.alloc, self.hashing, &self.asks)?;
         let index = with_puts(index, &self.asks, &self.puts)?;
         self.index = Some(Box::new(self.alloc, index)?);
         Ok(())
@@ -169,10 +173,14 @@ impl Log {
 }
 
 /// An index of asks.
-fn index_of_asks(alloc: Global, asks: &[Asked]) -> Result<HashMap<Key, Known>, AllocError>
+fn index_of_asks(
+    alloc: Global,
+    hashing: Hashing,
+    asks: &[Asked],
+) -> Result<HashMap<Key, Known, Hashing>, AllocError>
     ensures { IfOk result (λ index. (k : Key) → Indexes asks.now [] k (hash.get ⟦<Key as PartialEq>⟧.eq index k)) }
 {
-    let mut index = HashMap::new(alloc);
+    let mut index = HashMap::with_hasher(alloc, hashing);
     for place in 0..asks.len() {
         index.insert(asks[place].key, Known::Asked(place))?;
     }
@@ -181,10 +189,10 @@ fn index_of_asks(alloc: Global, asks: &[Asked]) -> Result<HashMap<Key, Known>, A
 
 /// An index of asks, and of puts.
 fn with_puts(
-    index: HashMap<Key, Known>,
+    index: HashMap<Key, Known, Hashing>,
     _asks: &[Asked],
     puts: &[Put],
-) -> Result<HashMap<Key, Known>, AllocError>
+) -> Result<HashMap<Key, Known, Hashing>, AllocError>
     requires { (k : Key) → Indexes _asks.now [] k (hash.get ⟦<Key as PartialEq>⟧.eq index k) }
     ensures { IfOk result (λ index. (k : Key) → Indexes _asks.now puts.now k (hash.get ⟦<Key as PartialEq>⟧.eq index k)) }
 {

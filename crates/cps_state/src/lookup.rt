@@ -1,6 +1,7 @@
 //! What answers the keys that a line asks.
 ghost use Rattle.std.specs.Prelude.{◌≡◌};
 
+use crate::hashing::Hashing;
 use crate::key::{Answer, Key};
 
 /// What answers the keys that a line asks.
@@ -15,4 +16,7 @@ pub trait Lookup {
     /// What stands at a key, None where nothing does.
     fn ask(&self, key: &Key) -> Option<&Answer>
         ensures { option_copied result ≡ answer self.now key.now };
+
+    /// How what a line asks and puts is hashed, where it is much.
+    fn hashing(&self) -> Hashing;
 }

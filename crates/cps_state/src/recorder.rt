@@ -63,7 +63,7 @@ impl<'a, L: Lookup> Recorder<'a, L> {
         Recorder {
             alloc,
             state,
-            log: Log::of(alloc, asks, puts),
+            log: Log::of(alloc, state.hashing(), asks, puts),
             settled: 0,
             finished: Vec::new(alloc),
             present: Item::blank(alloc, 0, Shared::empty()),

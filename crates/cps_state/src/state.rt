@@ -6,6 +6,7 @@ ghost use Rattle.cps_state.specs.Keys.{first_state, with_put, overwritten};
 ghost use Rattle.cps_state.specs.declared.key.Key.{Key};
 
 use crate::answers::{first_control, first_place, value_of};
+use crate::hashing::Hashing;
 use crate::key::{Answer, Key, Put, share_puts};
 use crate::lookup::Lookup;
 use crate::shared::Shared;
@@ -26,7 +27,7 @@ pub struct State {
     uses: Answer,
     blocks: Answer,
     ranges: Answer,
-    others: HashMap<Key, Answer>,
+    others: HashMap<Key, Answer, Hashing>,
     /// For the answers of a line, before they are put.
     shared: Vec<Put>,
 }
@@ -48,6 +49,11 @@ impl Lookup for State {
             _ => self.others.get(key),
         }
     }
+
+    #[inline(always)]
+    fn hashing(&self) -> Hashing {
+        *self.others.hasher()
+    }
 }
 
 /// The labels, by their names.
@@ -63,7 +69,7 @@ impl Names for State {
 
 impl State {
     /// The state before the first line. Takes no memory yet.
-    pub fn first(alloc: Global) -> State
+    pub fn first(alloc: Global, hashing: Hashing) -> State
         ensures { ⟦<State as Lookup>⟧.answer result ≡ first_state }
     {
         State {
@@ -73,7 +79,7 @@ impl State {
             uses: Answer::Uses(Shared::empty()),
             blocks: Answer::Count(0),
             ranges: Answer::Ifs(Shared::empty()),
-            others: HashMap::new(alloc),
+            others: HashMap::with_hasher(alloc, hashing),
             shared: Vec::new(alloc),
         }
     }

@@ -10,6 +10,7 @@ mod words;
 mod writing;
 
 pub use command::{Command, ScriptFault};
+pub use cps_pass::Hashing;
 pub use request::{Request, Unread, read_words};
 pub use script::run_script;
 pub use words::run_words;

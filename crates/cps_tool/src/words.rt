@@ -11,6 +11,7 @@ use super::writing::write_bytes;
 use arrayvec::ArrayString;
 use cps_list::Part;
 use cps_live::{Session, batch};
+use cps_pass::Hashing;
 use cps_text::Counted;
 use std::alloc::Global;
 use std::fmt::{Display, Write as _};
@@ -30,6 +31,7 @@ const FAULTY: u8 = 2;
 /// told to `errors`.
 pub fn run_words<'a, R: Read, W: Write, E: Write>(
     alloc: Global,
+    hashing: Hashing,
     words: &'a [&'a str],
     reader: &mut Counted<R>,
     writer: &mut Counted<W>,
@@ -39,8 +41,8 @@ pub fn run_words<'a, R: Read, W: Write, E: Write>(
     ensures quiet { IsQuiet result errors.old errors.new }
 {
     match read_words(alloc, words) {
-        Ok(Request::Batch(part)) => run_batch(alloc, reader, writer, errors, part),
-        Ok(Request::Session) => run_session(alloc, reader, writer, errors),
+        Ok(Request::Batch(part)) => run_batch(alloc, hashing, reader, writer, errors, part),
+        Ok(Request::Session) => run_session(alloc, hashing, reader, writer, errors),
         Err(Unread::Told(text)) => tell(writer, errors, text.as_str()),
         Err(Unread::Wrong(text)) => complain(errors, text.as_str()),
         Err(Unread::Memory) => complain(errors, "no memory\n"),
@@ -49,6 +51,7 @@ pub fn run_words<'a, R: Read, W: Write, E: Write>(
 
 fn run_batch<R: Read, W: Write, E: Write>(
     alloc: Global,
+    hashing: Hashing,
     reader: &mut Counted<R>,
     writer: &mut Counted<W>,
     errors: &mut Counted<E>,
@@ -57,7 +60,7 @@ fn run_batch<R: Read, W: Write, E: Write>(
     ensures calls { Calls R.remaining W.contents (requests.Batch part) result reader.old reader.new writer.old writer.new }
     ensures quiet { IsQuiet result errors.old errors.new }
 {
-    match batch(alloc, reader, writer, part) {
+    match batch(alloc, hashing, reader, writer, part) {
         Ok(count) => status_of_count(count),
         Err(fault) => complain_of(errors, fault),
     }
@@ -65,6 +68,7 @@ fn run_batch<R: Read, W: Write, E: Write>(
 
 fn run_session<R: Read, W: Write, E: Write>(
     alloc: Global,
+    hashing: Hashing,
     reader: &mut Counted<R>,
     writer: &mut Counted<W>,
     errors: &mut Counted<E>,
@@ -72,7 +76,7 @@ fn run_session<R: Read, W: Write, E: Write>(
     ensures calls { Calls R.remaining W.contents requests.Session result reader.old reader.new writer.old writer.new }
     ensures quiet { IsQuiet result errors.old errors.new }
 {
-    let mut session = Session::new(alloc);
+    let mut session = Session::new(alloc, hashing);
     match run_script(alloc, reader, writer, &mut session) {
         Ok(count) => status_of_count(count),
         Err(fault) => complain_of(errors, fault),

@@ -1,6 +1,6 @@
 //! Calls of the program.
 use cps_text::Counted;
-use cps_tool::run_words;
+use cps_tool::{Hashing, run_words};
 use std::alloc::Global;
 use std::io;
 
@@ -31,7 +31,14 @@ pub fn call(alloc: Global, command: &str, input: &str) -> Called {
     let mut writer = Counted::new(Vec::new(alloc));
     let mut errors = Counted::new(Vec::new(alloc));
     let words = ["compass", command];
-    let status = run_words(alloc, &words, &mut reader, &mut writer, &mut errors);
+    let status = run_words(
+        alloc,
+        Hashing::by(1),
+        &words,
+        &mut reader,
+        &mut writer,
+        &mut errors,
+    );
     Called {
         status,
         text: writer.into_inner(),
@@ -44,5 +51,12 @@ pub fn assemble_input(rt: &HostRuntime) -> u8 {
     let mut writer = Counted::new(io::writer(rt));
     let mut errors = Counted::new(rt.stderr());
     let words = ["compass", "batch"];
-    run_words(rt.alloc(), &words, &mut reader, &mut writer, &mut errors)
+    run_words(
+        rt.alloc(),
+        Hashing::by(1),
+        &words,
+        &mut reader,
+        &mut writer,
+        &mut errors,
+    )
 }
