@@ -7,6 +7,7 @@ use cps_pass::{Answer, Asked, Hashing, Item, Key, Lookup, State, Trace, Work, st
 use cps_text::{Line, Name};
 use std::alloc::Global;
 use std::collections::HashMap;
+use std::hash::BuildHasher;
 
 /// What stands at a few keys. Nothing stands at the others.
 #[derive(Drop)]
@@ -208,4 +209,12 @@ fn goes_by_what_it_asks(rt: HostRuntime) {
     assert_same(&rt, "each line alike", &got.is_alike, &true);
     assert_same(&rt, "B", &got.value, &Some(2));
     assert_same(&rt, "the place", &got.place, &Some((6, 0, false)));
+}
+
+/// Two numbers hash a key otherwise, which no contract says.
+#[test]
+fn hashes_by_a_number(rt: HostRuntime) {
+    let one = Hashing::by(1).hash_one(7u64);
+    let other = Hashing::by(2).hash_one(7u64);
+    assert_same(&rt, "alike", &(one == other), &false);
 }

@@ -1,6 +1,6 @@
 -- Pass two of lines that were there before, part by part.
 use Rattle.std.proofs.Common.{arith, ◌≡◌, ℕ, zero, suc, ◌+◌, ◌-◌, ◌<◌, ◌≤◌, get_or, refl, sym, ap, subst, ◌∙◌, add_assoc, Bool, true, false, List, [], ◌∷◌, ◌++◌, length, take, drop, map, Option, None, Some}
-use Rattle.std.specs.Prelude.{not, ◌&&◌, is_some, if◌then◌else◌}
+use Rattle.std.specs.Prelude.{not, ◌&&◌, is_some, Result, Ok, Err, IfOk, OnOk, if◌then◌else◌}
 use Rattle.std.specs.List.{list_all}
 use Rattle.std.proofs.lemmas.Bool.{and_parts}
 use Rattle.std.proofs.lemmas.List.{length-append, length-drop, map-append, take-append-drop, drop_all}
@@ -57,12 +57,13 @@ module _ (was now : Resolved) where
   }
 
   -- a part of them, and the lines behind it
-  pub redoes-next : (n : ℕ) (u v w : Counts) (ns : List (Option Trace)) (os : List Trace) (ms ks : List (Option Outcome)) → length (take n ns) ≡ length (take n os)
-      → Redoes was now u v (take n ns) (take n os) ms → Redoes was now v w (drop n ns) (drop n os) ks → Redoes was now u w ns os (ms ++ ks)
-  redoes-next n u v w ns os ms ks e one two =
-      subst (λ (xs : List (Option Trace)). Redoes was now u w xs os (ms ++ ks)) (take-append-drop n ns)
-      (subst (λ (ts : List Trace). Redoes was now u w (take n ns ++ drop n ns) ts (ms ++ ks)) (take-append-drop n os)
-      (redoes-join u v w (take n ns) (drop n ns) (take n os) (drop n os) ms ks e one two))
+  pub redoes-next : (n : ℕ) (u v w : Counts) (ns n1 n2 : List (Option Trace)) (os o1 o2 : List Trace) (ms ks : List (Option Outcome))
+      → n1 ≡ take n ns → n2 ≡ drop n ns → o1 ≡ take n os → o2 ≡ drop n os → length (take n ns) ≡ length (take n os)
+      → Redoes was now u v n1 o1 ms → Redoes was now v w n2 o2 ks → Redoes was now u w ns os (ms ++ ks)
+  redoes-next n u v w ns n1 n2 os o1 o2 ms ks p q r s e one two =
+      subst (λ (xs : List (Option Trace)). Redoes was now u w xs os (ms ++ ks)) ((λ i. p i ++ q i) ∙ take-append-drop n ns)
+      (subst (λ (ts : List Trace). Redoes was now u w (n1 ++ n2) ts (ms ++ ks)) ((λ i. r i ++ s i) ∙ take-append-drop n os)
+      (redoes-join u v w n1 n2 o1 o2 ms ks (ap length p ∙ e ∙ sym (ap length r)) one two))
 
   -- lines of which pass two makes what it made
   pub redoes-same : (u : Counts) (os : List Trace) (n : ℕ) → n ≡ length os → same_named was now (statements_of os) ≡ true
@@ -76,12 +77,13 @@ module _ (was now : Resolved) where
       }
 
   -- where memory fails in a part
-  pub redone-part : (n : ℕ) (ns : List (Option Trace)) (os : List Trace) → length (take n ns) ≡ length (take n os)
-      → redone_from was now (map is_some ns) os ≡ redone_from was now (map is_some (take n ns)) (take n os) + redone_from was now (map is_some (drop n ns)) (drop n os)
-  redone-part n ns os e =
-      (λ i. redone_from was now (map is_some (sym (take-append-drop n ns) i)) (sym (take-append-drop n os) i))
-      ∙ ap (λ bs. redone_from was now bs (take n os ++ drop n os)) (map-append is_some (take n ns) (drop n ns))
-      ∙ redone-append was now (map is_some (take n ns)) (map is_some (drop n ns)) (take n os) (drop n os) (length-map (take n ns) ∙ e)
+  pub redone-part : (n : ℕ) (ns n1 n2 : List (Option Trace)) (os o1 o2 : List Trace) → n1 ≡ take n ns → n2 ≡ drop n ns → o1 ≡ take n os → o2 ≡ drop n os
+      → length (take n ns) ≡ length (take n os)
+      → redone_from was now (map is_some ns) os ≡ redone_from was now (map is_some n1) o1 + redone_from was now (map is_some n2) o2
+  redone-part n ns n1 n2 os o1 o2 p q r s e =
+      (λ i. redone_from was now (map is_some (sym ((λ j. p j ++ q j) ∙ take-append-drop n ns) i)) (sym ((λ j. r j ++ s j) ∙ take-append-drop n os) i))
+      ∙ ap (λ bs. redone_from was now bs (o1 ++ o2)) (map-append is_some n1 n2)
+      ∙ redone-append was now (map is_some n1) (map is_some n2) o1 o2 (length-map n1 ∙ ap length p ∙ e ∙ sym (ap length r))
 
   -- all that a chunk's lines name has the same final values
   pub agreed : (summary : Option Summary) (os : List Trace) → IsSummed summary os → agrees summary (same_at was now) ≡ true → same_named was now (statements_of os) ≡ true
@@ -94,8 +96,8 @@ all-none [] none = refl
 all-none (None ∷ ns) none = ap (λ ms. None ∷ ms) (all-none ns none)
 all-none (Some t ∷ ns) none = cc
 
-pub nones-take : (n : ℕ) (os : List Trace) → nones {X = Trace} (length (take n os)) ++ nones {X = Trace} (length (drop n os)) ≡ nones {X = Trace} (length os)
-nones-take n os = nones-append (length (take n os)) (length (drop n os)) ∙ ap (nones {X = Trace}) (sym (length-append (take n os) (drop n os)) ∙ ap length (take-append-drop n os))
+pub nones-both : (os ps : List Trace) → nones {X = Trace} (length os) ++ nones {X = Trace} (length ps) ≡ nones {X = Trace} (length (os ++ ps))
+nones-both os ps = nones-append (length os) (length ps) ∙ ap (nones {X = Trace}) (sym (length-append os ps))
   where
     nones-append : (a b : ℕ) → nones {X = Trace} a ++ nones {X = Trace} b ≡ nones {X = Trace} (a + b)
     nones-append zero b = refl
@@ -104,14 +106,22 @@ nones-take n os = nones-append (length (take n os)) (length (drop n os)) ∙ ap 
 -- ---- chunk by chunk
 
 module _ (passes : Named → Bool) (chunks : List Chunk) (i : ℕ) (chunk : Chunk) (lt : i < length chunks) (is : chunk ≡ get_or chunks i chunk) where
-  pub again-next : (ns : List (Option Trace)) (os : List Trace) (u v e : ℕ)
-      → v ≤ counted_on u (if are_none (take chunk.lines ns) && agrees chunk.summary passes then 0 else length (take chunk.lines os))
-      → counted_on u (looks_again passes (drop i chunks) ns os) ≤ e → counted_on v (looks_again passes (drop (i + 1) chunks) (drop chunk.lines ns) (drop chunk.lines os)) ≤ e
-  again-next ns os u v e counted before = under u v e _ _ counted (subst (λ (cs : List Chunk). counted_on u (looks_again passes cs ns os) ≤ e) (drop_at chunks i chunk lt is) before)
+  pub again-next : (ns n1 n2 : List (Option Trace)) (os o1 o2 : List Trace) (u v e : ℕ) → n1 ≡ take chunk.lines ns → n2 ≡ drop chunk.lines ns → o1 ≡ take chunk.lines os → o2 ≡ drop chunk.lines os
+      → v ≤ counted_on u (if are_none n1 && agrees chunk.summary passes then 0 else length o1)
+      → counted_on u (looks_again passes (drop i chunks) ns os) ≤ e → counted_on v (looks_again passes (drop (i + 1) chunks) n2 o2) ≤ e
+  again-next ns n1 n2 os o1 o2 u v e p q r s counted before =
+      let all : looks_again passes (drop i chunks) ns os ≡ (if are_none n1 && agrees chunk.summary passes then 0 else length o1) + looks_again passes (drop (i + 1) chunks) n2 o2 =
+      ap (λ (cs : List Chunk). looks_again passes cs ns os) (drop_at chunks i chunk lt is)
+      ∙ (λ j. (if are_none (sym p j) && agrees chunk.summary passes then 0 else length (sym r j)) + looks_again passes (drop (i + 1) chunks) (sym q j) (sym s j)) in
+      under u v e _ _ counted (subst (λ n. counted_on u n ≤ e) all before)
 
-  pub kept-next : (os : List Trace) (u v e : ℕ) → v ≤ counted_on u (if agrees chunk.summary passes then 0 else length (take chunk.lines os))
-      → counted_on u (looks_kept passes (drop i chunks) os) ≤ e → counted_on v (looks_kept passes (drop (i + 1) chunks) (drop chunk.lines os)) ≤ e
-  kept-next os u v e counted before = under u v e _ _ counted (subst (λ (cs : List Chunk). counted_on u (looks_kept passes cs os) ≤ e) (drop_at chunks i chunk lt is) before)
+  pub kept-next : (os o1 o2 : List Trace) (u v e : ℕ) → o1 ≡ take chunk.lines os → o2 ≡ drop chunk.lines os → v ≤ counted_on u (if agrees chunk.summary passes then 0 else length o1)
+      → counted_on u (looks_kept passes (drop i chunks) os) ≤ e → counted_on v (looks_kept passes (drop (i + 1) chunks) o2) ≤ e
+  kept-next os o1 o2 u v e r s counted before =
+      let all : looks_kept passes (drop i chunks) os ≡ (if agrees chunk.summary passes then 0 else length o1) + looks_kept passes (drop (i + 1) chunks) o2 =
+      ap (λ (cs : List Chunk). looks_kept passes cs os) (drop_at chunks i chunk lt is)
+      ∙ (λ j. (if agrees chunk.summary passes then 0 else length (sym r j)) + looks_kept passes (drop (i + 1) chunks) (sym s j)) in
+      under u v e _ _ counted (subst (λ n. counted_on u n ≤ e) all before)
 
 pub again-end : (passes : Named → Bool) (chunks : List Chunk) (i : ℕ) (ns : List (Option Trace)) (os : List Trace) (w e : ℕ) → length chunks ≤ i
     → counted_on w (looks_again passes (drop i chunks) ns os) ≤ e → w ≤ e
@@ -133,16 +143,35 @@ module _ (was now : Resolved) where
   redoes-end u [] os e none = subst (λ (ts : List Trace). Redoes was now u u [] ts []) (sym none) (redoes-none was now u)
   redoes-end u (n ∷ ns) os e none = absurd (omega (arith, e, ap length none))
 
-  pub kept-redoes-next : (n : ℕ) (u v w : Counts) (os : List Trace) (ms ks : List (Option Outcome)) → Redoes was now u v (nones {X = Trace} (length (take n os))) (take n os) ms
-      → Redoes was now v w (nones {X = Trace} (length (drop n os))) (drop n os) ks → Redoes was now u w (nones {X = Trace} (length os)) os (ms ++ ks)
-  kept-redoes-next n u v w os ms ks one two =
-      subst (λ (ts : List Trace). Redoes was now u w (nones {X = Trace} (length os)) ts (ms ++ ks)) (take-append-drop n os)
-      (subst (λ (ns : List (Option Trace)). Redoes was now u w ns (take n os ++ drop n os) (ms ++ ks)) (nones-take n os)
-      (redoes-join was now u v w (nones {X = Trace} (length (take n os))) (nones {X = Trace} (length (drop n os))) (take n os) (drop n os) ms ks (length_nones Trace (length (take n os))) one two))
+  pub kept-redoes-next : (n : ℕ) (u v w : Counts) (os o1 o2 : List Trace) (ms ks : List (Option Outcome)) → o1 ≡ take n os → o2 ≡ drop n os
+      → Redoes was now u v (nones {X = Trace} (length o1)) o1 ms → Redoes was now v w (nones {X = Trace} (length o2)) o2 ks → Redoes was now u w (nones {X = Trace} (length os)) os (ms ++ ks)
+  kept-redoes-next n u v w os o1 o2 ms ks r s one two =
+      subst (λ (ts : List Trace). Redoes was now u w (nones {X = Trace} (length ts)) ts (ms ++ ks)) ((λ i. r i ++ s i) ∙ take-append-drop n os)
+      (subst (λ (ns : List (Option Trace)). Redoes was now u w ns (o1 ++ o2) (ms ++ ks)) (nones-both o1 o2)
+      (redoes-join was now u v w (nones {X = Trace} (length o1)) (nones {X = Trace} (length o2)) o1 o2 ms ks (length_nones Trace (length o1)) one two))
 
-  pub kept-part : (n : ℕ) (os : List Trace) → redone_kept was now os ≡ redone_kept was now (take n os) + redone_kept was now (drop n os)
-  kept-part n os =
-      (λ i. redone_from was now (map is_some (sym (nones-take n os) i)) (sym (take-append-drop n os) i))
-      ∙ ap (λ bs. redone_from was now bs (take n os ++ drop n os)) (map-append is_some (nones {X = Trace} (length (take n os))) (nones {X = Trace} (length (drop n os))))
-      ∙ redone-append was now (map is_some (nones {X = Trace} (length (take n os)))) (map is_some (nones {X = Trace} (length (drop n os)))) (take n os) (drop n os)
-      (length-map (nones {X = Trace} (length (take n os))) ∙ length_nones Trace (length (take n os)))
+  pub kept-part : (n : ℕ) (os o1 o2 : List Trace) → o1 ≡ take n os → o2 ≡ drop n os → redone_kept was now os ≡ redone_kept was now o1 + redone_kept was now o2
+  kept-part n os o1 o2 r s =
+      ap (λ (ts : List Trace). redone_kept was now ts) (sym ((λ i. r i ++ s i) ∙ take-append-drop n os))
+      ∙ ap (λ (ns : List (Option Trace)). redone_from was now (map is_some ns) (o1 ++ o2)) (sym (nones-both o1 o2))
+      ∙ ap (λ bs. redone_from was now bs (o1 ++ o2)) (map-append is_some (nones {X = Trace} (length o1)) (nones {X = Trace} (length o2)))
+      ∙ redone-append was now (map is_some (nones {X = Trace} (length o1))) (map is_some (nones {X = Trace} (length o2))) o1 o2
+      (length-map (nones {X = Trace} (length o1)) ∙ length_nones Trace (length o1))
+
+-- ---- results
+
+pub redoes-whole : {X E : Type 0} (r : Result X E) (items : X → List (Option Outcome)) (was now : Resolved) (u v : Counts) (ns : List (Option Trace)) (os : List Trace)
+    → IfOk r (λ x. merged (items x) (outcomes_by was os) ≡ outcomes_by now (merged ns os)) → IfOk r (λ x. length (items x) ≡ length os)
+    → OnOk r (v.twos ≡ counted_on u.twos (redone_from was now (map is_some ns) os)) → IfOk r (λ x. Redoes was now u v ns os (items x))
+redoes-whole (Ok x) items was now u v ns os p q t = record { outcomes = p; len = q; twos = t }
+redoes-whole (Err e) items was now u v ns os p q t = tt
+
+pub kept-one : (was now : Resolved) (u v : Counts) (os : List Trace) (ms : List (Option Outcome)) → merged ms (outcomes_by was os) ≡ outcomes_by now os → length ms ≡ length os
+    → v.twos ≡ counted_on u.twos (redone_kept was now os) → Redoes was now u v (nones {X = Trace} (length os)) os ms
+kept-one was now u v os ms p q t = record { outcomes = p ∙ ap (outcomes_by now) (sym (merged_nones os (length os) refl)); len = q; twos = t }
+
+pub kept-whole : {X E : Type 0} (r : Result X E) (items : X → List (Option Outcome)) (was now : Resolved) (u v : Counts) (os : List Trace)
+    → IfOk r (λ x. merged (items x) (outcomes_by was os) ≡ outcomes_by now os) → IfOk r (λ x. length (items x) ≡ length os)
+    → OnOk r (v.twos ≡ counted_on u.twos (redone_kept was now os)) → IfOk r (λ x. Redoes was now u v (nones {X = Trace} (length os)) os (items x))
+kept-whole (Ok x) items was now u v os p q t = kept-one was now u v os (items x) p q t
+kept-whole (Err e) items was now u v os p q t = tt

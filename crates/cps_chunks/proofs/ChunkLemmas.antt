@@ -1,6 +1,6 @@
 -- Lines that were there before, gone through part by part in pass one.
 use Rattle.std.proofs.Common.{arith, ◌≡◌, ℕ, ◌+◌, ◌<◌, ◌≤◌, get_or, refl, sym, ap, subst, ◌∙◌, add_assoc, List, [], ◌∷◌, ◌++◌, append_assoc, length, take, drop, map, Option, None, Some, true}
-use Rattle.std.specs.Prelude.{is_some, if◌then◌else◌}
+use Rattle.std.specs.Prelude.{is_some, Result, Ok, Err, IfOk, OnOk, if◌then◌else◌}
 use Rattle.std.proofs.lemmas.List.{length-append, map-append, take-append-drop, drop_all}
 use Rattle.cps_state.specs.Course.{Trace}
 use Rattle.cps_state.specs.Keys.{State, overwritten}
@@ -90,12 +90,13 @@ replays-join a b c u v w ls ms os ps ns rs e one two = record {
 }
 
 -- a part of them, and the lines behind it
-pub replays-next : (n : ℕ) (a b c : Finals) (u v w : Counts) (ls : List (List ℕ)) (os : List Trace) (ns rs : List (Option Trace)) → length (take n ls) ≡ length (take n os)
-    → Replays a b u v (take n ls) (take n os) ns → Replays b c v w (drop n ls) (drop n os) rs → Replays a c u w ls os (ns ++ rs)
-replays-next n a b c u v w ls os ns rs e one two =
-    subst (λ (xs : List (List ℕ)). Replays a c u w xs os (ns ++ rs)) (take-append-drop n ls)
-    (subst (λ (ts : List Trace). Replays a c u w (take n ls ++ drop n ls) ts (ns ++ rs)) (take-append-drop n os)
-    (replays-join a b c u v w (take n ls) (drop n ls) (take n os) (drop n os) ns rs e one two))
+pub replays-next : (n : ℕ) (a b c : Finals) (u v w : Counts) (ls l1 l2 : List (List ℕ)) (os o1 o2 : List Trace) (ns rs : List (Option Trace))
+    → l1 ≡ take n ls → l2 ≡ drop n ls → o1 ≡ take n os → o2 ≡ drop n os → length (take n ls) ≡ length (take n os)
+    → Replays a b u v l1 o1 ns → Replays b c v w l2 o2 rs → Replays a c u w ls os (ns ++ rs)
+replays-next n a b c u v w ls l1 l2 os o1 o2 ns rs p q r s e one two =
+    subst (λ (xs : List (List ℕ)). Replays a c u w xs os (ns ++ rs)) ((λ i. p i ++ q i) ∙ take-append-drop n ls)
+    (subst (λ (ts : List Trace). Replays a c u w (l1 ++ l2) ts (ns ++ rs)) ((λ i. r i ++ s i) ∙ take-append-drop n os)
+    (replays-join a b c u v w l1 l2 o1 o2 ns rs (ap length p ∙ e ∙ sym (ap length r)) one two))
 
 -- lines that all do what they did
 pub replays-same : (a b : Finals) (u : Counts) (ls : List (List ℕ)) (os : List Trace) (n : ℕ) → os ≡ traces_from a.state ls → n ≡ length os → GathersMore a b os
@@ -111,11 +112,15 @@ replays-same a b u ls os n is e gathers there = record {
 
 -- ---- where memory fails in a part
 
-pub within-part : (n : ℕ) (f : State) (ls : List (List ℕ)) (os : List Trace) → length (take n ls) ≡ length (take n os)
-    → disturbed_from f (kept ls os) ≡ disturbed_from f (kept (take n ls) (take n os)) + disturbed_from (state_after f (take n ls)) (kept (drop n ls) (drop n os))
-within-part n f ls os e =
-    (λ i. disturbed_from f (kept (sym (take-append-drop n ls) i) (sym (take-append-drop n os) i)))
-    ∙ disturbed-append f (take n ls) (drop n ls) (take n os) (drop n os) e
+pub within-part : (n : ℕ) (f g : State) (ls l1 l2 : List (List ℕ)) (os o1 o2 : List Trace) → l1 ≡ take n ls → l2 ≡ drop n ls → o1 ≡ take n os → o2 ≡ drop n os
+    → length (take n ls) ≡ length (take n os) → g ≡ state_after f l1
+    → disturbed_from f (kept ls os) ≡ disturbed_from f (kept l1 o1) + disturbed_from g (kept l2 o2)
+within-part n f g ls l1 l2 os o1 o2 p q r s e there =
+    (λ i. disturbed_from f (kept (sym ((λ j. p j ++ q j) ∙ take-append-drop n ls) i) (sym ((λ j. r j ++ s j) ∙ take-append-drop n os) i)))
+    ∙ disturbed-append f l1 l2 o1 o2 (ap length p ∙ e ∙ sym (ap length r))
+    ∙ ap (λ (h : State). disturbed_from f (kept l1 o1) + disturbed_from h (kept l2 o2)) (sym there)
+
+-- ---- chunks that stand
 
 -- what a chunk's lines did is what they do, where all that they asked has the same answers
 pub stood : (summary : Option Summary) (f : State) (ls : List (List ℕ)) (os : List Trace) → WereDone ls os → IsSummed summary os → stands summary f ≡ true → os ≡ traces_from f ls
@@ -141,13 +146,14 @@ summed-next chunks i chunk os lt is summed = subst (λ (cs : List Chunk). AreSum
 pub summed-end : (chunks : List Chunk) (i : ℕ) (os : List Trace) → length chunks ≤ i → AreSummed (drop i chunks) os → os ≡ []
 summed-end chunks i os past summed = subst (λ (cs : List Chunk). AreSummed cs os) (drop_all i chunks past) summed
 
-pub looks-next : (chunks : List Chunk) (i : ℕ) (chunk : Chunk) (f g : State) (ls : List (List ℕ)) (u v e : ℕ) → i < length chunks → chunk ≡ get_or chunks i chunk
-    → g ≡ state_after f (take chunk.lines ls) → v ≤ counted_on u (if stands chunk.summary f then 0 else length (take chunk.lines ls))
-    → counted_on u (looks_from f (drop i chunks) ls) ≤ e → counted_on v (looks_from g (drop (i + 1) chunks) (drop chunk.lines ls)) ≤ e
-looks-next chunks i chunk f g ls u v e lt is there counted before =
-    let all : looks_from f (drop i chunks) ls ≡ (if stands chunk.summary f then 0 else length (take chunk.lines ls)) + looks_from g (drop (i + 1) chunks) (drop chunk.lines ls) =
-    ap (λ cs. looks_from f cs ls) (drop_at chunks i chunk lt is)
-    ∙ ap (λ (s : State). (if stands chunk.summary f then 0 else length (take chunk.lines ls)) + looks_from s (drop (i + 1) chunks) (drop chunk.lines ls)) (sym there) in
+pub looks-next : (chunks : List Chunk) (i : ℕ) (chunk : Chunk) (f g : State) (ls here behind : List (List ℕ)) (u v e : ℕ) → i < length chunks → chunk ≡ get_or chunks i chunk
+    → here ≡ take chunk.lines ls → behind ≡ drop chunk.lines ls → g ≡ state_after f here → v ≤ counted_on u (if stands chunk.summary f then 0 else length here)
+    → counted_on u (looks_from f (drop i chunks) ls) ≤ e → counted_on v (looks_from g (drop (i + 1) chunks) behind) ≤ e
+looks-next chunks i chunk f g ls here behind u v e lt is p q there counted before =
+    let all : looks_from f (drop i chunks) ls ≡ (if stands chunk.summary f then 0 else length here) + looks_from g (drop (i + 1) chunks) behind =
+    ap (λ (cs : List Chunk). looks_from f cs ls) (drop_at chunks i chunk lt is)
+    ∙ (λ j. (if stands chunk.summary f then 0 else length (sym p j)) + looks_from (state_after f (sym p j)) (drop (i + 1) chunks) (sym q j))
+    ∙ ap (λ (s : State). (if stands chunk.summary f then 0 else length here) + looks_from s (drop (i + 1) chunks) behind) (sym there) in
     under u v e _ _ counted (subst (λ n. counted_on u n ≤ e) all before)
 
 pub looks-end : (chunks : List Chunk) (i : ℕ) (f : State) (ls : List (List ℕ)) (w e : ℕ) → length chunks ≤ i → counted_on w (looks_from f (drop i chunks) ls) ≤ e → w ≤ e
@@ -161,3 +167,32 @@ done-parts n ls os done = sym (done-long (take n ls) (take n os) (done-front n l
 pub replays-end : (a : Finals) (u : Counts) (ls : List (List ℕ)) (os : List Trace) → WereDone ls os → os ≡ [] → Replays a a u u ls os []
 replays-end a u [] os done none = subst (λ (ts : List Trace). Replays a a u u [] ts []) (sym none) (replays-none a u)
 replays-end a u (l ∷ ls) os done none = absurd (omega (arith, done-long (l ∷ ls) os done, ap length none))
+
+-- ---- results
+
+pub on-ok : {X E : Type 0} (r : Result X E) (P Q : X → Type 0) → ((x : X) → P x → Q x) → IfOk r P → IfOk r Q
+on-ok (Ok x) P Q next is = next x is
+on-ok (Err e) P Q next is = tt
+
+-- what was found line by line
+pub replays-whole : {X E : Type 0} (r : Result X E) (items : X → List (Option Trace)) (a b : Finals) (u v : Counts) (ls : List (List ℕ)) (os : List Trace)
+    → IfOk r (λ x. merged (items x) os ≡ traces_from a.state ls) → IfOk r (λ x. length (items x) ≡ length os) → IfOk r (λ x. map is_some (items x) ≡ flags_from a.state ls os)
+    → OnOk r (GathersMore a b (traces_from a.state ls)) → OnOk r (b.state ≡ state_after a.state ls) → OnOk r (v.ones ≡ counted_on u.ones (disturbed_from a.state (kept ls os)))
+    → IfOk r (λ x. Replays a b u v ls os (items x))
+replays-whole (Ok x) items a b u v ls os p q r s t o = record { traces = p; len = q; flags = r; gathers = s; state = t; ones = o }
+replays-whole (Err e) items a b u v ls os p q r s t o = tt
+
+pub looked-whole : {X E : Type 0} (r : Result X E) (u v a b : ℕ) → OnOk r (v ≡ counted_on u a) → a ≤ b → OnOk r (v ≤ counted_on u b)
+looked-whole (Ok x) u v a b is le = omega (arith, is, le)
+looked-whole (Err e) u v a b is le = tt
+
+-- ---- one count behind another
+
+pub both-under : (u v w a b all : ℕ) → v ≡ counted_on u a → w ≤ counted_on v b → all ≡ a + b → w ≤ counted_on u all
+both-under u v w a b all p q r = omega arith
+
+pub both-looked : (u v w a b all : ℕ) → v ≤ counted_on u a → w ≤ counted_on v b → a + b ≤ all → w ≤ counted_on u all
+both-looked u v w a b all p q r = omega arith
+
+pub first-under : (u v a b all : ℕ) → v ≤ counted_on u a → all ≡ a + b → v ≤ counted_on u all
+first-under u v a b all p r = omega arith

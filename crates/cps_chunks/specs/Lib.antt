@@ -5,3 +5,4 @@ pub mod Named
 pub mod Names
 pub mod NamesGathering
 pub mod Chunks
+pub mod Touched

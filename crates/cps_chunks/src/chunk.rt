@@ -34,6 +34,20 @@ pub struct Chunk {
     pub summary: Option<Summary>,
 }
 
+/// Lines in front of an edit: those of chunks, and so many behind these.
+#[derive(Clone, Copy)]
+pub struct InFront<'a> {
+    pub chunks: &'a [Chunk],
+    pub loose: usize,
+}
+
+/// Lines behind an edit: so many, and those of chunks behind these.
+#[derive(Clone, Copy)]
+pub struct Behind<'a> {
+    pub loose: usize,
+    pub chunks: &'a [Chunk],
+}
+
 impl Chunk {
     /// Whether its lines are known to do the same in a state. It is counted nowhere, and takes no memory.
     pub fn stands_in(&self, state: &State) -> bool

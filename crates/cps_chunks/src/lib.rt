@@ -13,9 +13,9 @@ mod run;
 mod run_rows;
 mod sum_up;
 
-pub use chunk::{Chunk, Summary};
+pub use chunk::{Behind, Chunk, InFront, Summary};
 pub use names::{Names, names_agree};
 pub use redo::Again;
-pub use replay::replay_chunks;
+pub use replay::{replay_behind, replay_chunks};
 pub use run::Run;
 pub use sum_up::sum_up;

@@ -1,12 +1,12 @@
 //! Pass two of an edit over lines that were there before, chunk by chunk.
-ghost use Rattle.std.specs.Prelude.{◌≡◌, ◌≤◌, ◌&&◌, IfOk, OnOk, OnErr, length, map, is_some, if◌then◌else◌};
+ghost use Rattle.std.specs.Prelude.{◌≡◌, ◌+◌, ◌-◌, ◌≤◌, ◌&&◌, IfOk, OnOk, OnErr, length, take, drop, map, is_some, if◌then◌else◌};
 ghost use Rattle.cps_state.specs.Work.{counted_on};
 ghost use Rattle.cps_final.specs.Resolving.{resolved};
 ghost use Rattle.cps_edit.specs.Agreeing.{same_at};
 ghost use Rattle.cps_edit.specs.Renewed.{nones as nones_of, redone_from, redone_kept};
 ghost use Rattle.cps_chunks.specs.Chunks.{IsSummed, AreSummed, Redoes, agrees, are_none as are_none_by, looks_again, looks_kept};
 
-use crate::chunk::{Chunk, nones};
+use crate::chunk::{Behind, Chunk, InFront, nones};
 use cps_edit::Ends;
 use cps_edit::redo::{redo, redo_kept};
 use cps_final::Outcome;
@@ -116,6 +116,55 @@ impl<'a> Again<'a> {
             all.append(&mut made)?;
             olds_left = olds_behind;
         }
+        Ok(all)
+    }
+
+    /// What pass two makes now of all lines behind an edit. Those that are in no chunk are compared one by one.
+    pub fn redo_behind(
+        self,
+        news: &[Option<Trace>],
+        olds: &[Trace],
+        behind: Behind,
+        work: &mut Work,
+    ) -> Result<Vec<Option<Outcome>>, AllocError>
+        requires same_len { length news.now ≡ length olds.now }
+        requires within { behind.loose ≤ length olds.now }
+        requires summed { AreSummed behind.chunks.now (drop behind.loose olds.now) }
+        ensures redoes { IfOk result (λ made. Redoes (resolved self.entry.ends.before.now) (resolved self.entry.ends.after.now) work.old work.new news.now olds.now made.items) }
+        ensures looked { OnOk result (work.new.looked ≤ counted_on work.old.looked
+            (behind.entry.loose + looks_again (same_at (resolved self.entry.ends.before.now) (resolved self.entry.ends.after.now)) behind.entry.chunks.now (drop behind.entry.loose news.now) (drop behind.entry.loose olds.now))) }
+        ensures twos_err { OnErr result (work.new.twos ≤ counted_on work.old.twos (redone_from (resolved self.entry.ends.before.now) (resolved self.entry.ends.after.now) (map is_some news.now) olds.now)) }
+        ensures twos_least { work.old.twos ≤ work.new.twos }
+        ensures ones { work.new.ones ≡ work.old.ones }
+    {
+        let (news_loose, news_behind) = news.split_at(behind.loose);
+        let (olds_loose, olds_behind) = olds.split_at(behind.loose);
+        let mut all = redo(self.alloc, news_loose, olds_loose, self.ends, work)?;
+        let mut rest = self.redo_chunks(news_behind, olds_behind, behind.chunks, work)?;
+        all.append(&mut rest)?;
+        Ok(all)
+    }
+
+    /// What it makes of all lines in front of an edit.
+    pub fn redo_in_front(
+        self,
+        olds: &[Trace],
+        in_front: InFront,
+        work: &mut Work,
+    ) -> Result<Vec<Option<Outcome>>, AllocError>
+        requires within { in_front.loose ≤ length olds.now }
+        requires summed { AreSummed in_front.chunks.now (take (length olds.now - in_front.loose) olds.now) }
+        ensures redoes { IfOk result (λ made. Redoes (resolved self.entry.ends.before.now) (resolved self.entry.ends.after.now) work.old work.new (nones_of (length olds.now)) olds.now made.items) }
+        ensures looked { OnOk result (work.new.looked ≤ counted_on work.old.looked
+            (looks_kept (same_at (resolved self.entry.ends.before.now) (resolved self.entry.ends.after.now)) in_front.entry.chunks.now (take (length olds.now - in_front.entry.loose) olds.now) + in_front.entry.loose)) }
+        ensures twos_err { OnErr result (work.new.twos ≤ counted_on work.old.twos (redone_kept (resolved self.entry.ends.before.now) (resolved self.entry.ends.after.now) olds.now)) }
+        ensures twos_least { work.old.twos ≤ work.new.twos }
+        ensures ones { work.new.ones ≡ work.old.ones }
+    {
+        let (olds_front, olds_loose) = olds.split_at(olds.len() - in_front.loose);
+        let mut all = self.redo_kept_chunks(olds_front, in_front.chunks, work)?;
+        let mut rest = redo_kept(self.alloc, olds_loose, self.ends, work)?;
+        all.append(&mut rest)?;
         Ok(all)
     }
 }

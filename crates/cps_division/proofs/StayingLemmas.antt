@@ -1,5 +1,5 @@
 -- How many chunks are the same in two divisions, from the front.
-use Rattle.std.proofs.Common.{◌≡◌, inl, inr, ℕ, suc, ◌+◌, ◌-◌, ◌<◌, ◌≤◌, min, refl, sym, ap, ◌∙◌, List, [], ◌∷◌, ◌++◌, length, get_or, take, drop, true, false, Bool, arith}
+use Rattle.std.proofs.Common.{◌≡◌, inl, inr, ℕ, suc, ◌+◌, ◌-◌, ◌<◌, ◌≤◌, min, refl, ap, ◌∙◌, List, [], ◌∷◌, ◌++◌, length, get_or, take, drop, true, false, Bool, arith}
 use Rattle.std.specs.Prelude.{if◌then◌else◌, nat_lt, nat_eq, sum}
 use Rattle.std.proofs.lemmas.Bool.{lt-ltb, le-ltb, ltb-false, eqb-true, eq-eqb, ne_eqb, cases_lt}
 use Rattle.std.proofs.lemmas.List.{drop_more, drop_all}
@@ -58,8 +58,8 @@ front-zero (n ∷ olds) (m ∷ news) some = front-beyond 0 n m olds news (omega 
 
 front-none : (lines : ℕ) (olds news : List ℕ) → lines ≤ 0 → AreSome olds → same_front lines olds news ≡ 0
 front-none lines olds news none some =
-    let zero : lines ≡ 0 = omega (arith, none) in
-    ap (λ k. same_front k olds news) zero ∙ front-zero olds news some
+    let left : lines ≡ 0 = omega (arith, none) in
+    ap (λ k. same_front k olds news) left ∙ front-zero olds news some
 
 pub front-nil : (lines : ℕ) (olds : List ℕ) → same_front lines olds [] ≡ 0
 front-nil lines [] = refl

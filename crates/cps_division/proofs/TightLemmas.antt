@@ -5,7 +5,7 @@ use Rattle.std.specs.Prelude.{sum}
 use Rattle.std.proofs.Math.Seq.{take-add}
 use Rattle.std.proofs.lemmas.List.{reverse-append, reverse-reverse, length-reverse, length-take-le, length-drop, take-take, take_at, drop-drop, drop_more, take_rest, drop-append-le, take-append-drop}
 use Rattle.std.proofs.lemmas.List.Edits.{split_between, length-between}
-use Rattle.std.proofs.lemmas.List.Sums.{sum_by-append, sum_by-take-drop}
+use Rattle.std.proofs.lemmas.List.Sums.{sum_by-append, sum_by-take-drop, sum_by_more}
 use Rattle.std.proofs.lemmas.Slice.{between_is}
 use Rattle.cps_division.specs.Division.{AreChunks}
 use Rattle.cps_division.specs.Recut.{recut}
@@ -152,8 +152,8 @@ back-tight keep from start end back news ns e counted =
     let lines = sum ns - from in
     let parts = split_between ns start end e.ordered in
     let some : AreSome (reverse part ++ reverse first) = some-append (reverse part) (reverse first)
-        (some-reverse part (some-first part last (some-second first (part ++ last) (subst AreSome parts e.some))))
-        (some-reverse first (some-first first (part ++ last) (subst AreSome parts e.some))) in
+    (some-reverse part (some-first part last (some-second first (part ++ last) (subst AreSome parts e.some))))
+    (some-reverse first (some-first first (part ++ last) (subst AreSome parts e.some))) in
     let behind = sum-reverse last in
     let whole = sum-split end ns in
     let ends : sum (reverse last) ≤ lines = omega (arith, behind, whole, e.ends) in
@@ -161,7 +161,7 @@ back-tight keep from start end back news ns e counted =
     let olds : lines - sum (reverse last) ≤ sum (reverse part) = omega (arith, behind, sum-reverse part, sum-parts start end ns e.ordered, e.order, e.begins) in
     let made : lines - sum (reverse last) ≤ sum (reverse news) = omega (arith, behind, sum-reverse news, sum-recut start end news ns, e.lines, e.begins) in
     let there : same_front lines (reverse ns) (reverse (recut start end news ns))
-        ≡ same_front lines (reverse last ++ (reverse part ++ reverse first)) (reverse last ++ (reverse news ++ reverse first)) =
+    ≡ same_front lines (reverse last ++ (reverse part ++ reverse first)) (reverse last ++ (reverse news ++ reverse first)) =
     λ i. same_front lines ((ap reverse parts ∙ reverse-three first part last) i) (reverse-three first news last i) in
     let past = front-past lines (reverse last) (reverse part ++ reverse first) (reverse news ++ reverse first) ends in
     let here = front-within (lines - sum (reverse last)) (reverse part) (reverse news) (reverse first) some olds made in
@@ -209,8 +209,8 @@ back-edit keep from start end back news ns e counted =
     let len = length-between ns start end e.within in
     let gone : sum (drop (length part - back) part) ≤ lines =
     subst (λ k. k ≤ lines)
-        (ap (λ k. sum (take k (reverse part))) (sym counted) ∙ ap sum (last-ones back part (omega (arith, within, len))) ∙ sum-reverse (drop (length part - back) part))
-        (front-lines lines (reverse part) (reverse news)) in
+    (ap (λ k. sum (take k (reverse part))) (sym counted) ∙ ap sum (last-ones back part (omega (arith, within, len))) ∙ sum-reverse (drop (length part - back) part))
+    (front-lines lines (reverse part) (reverse news)) in
     let behind = ap sum (drop-sooner back start end ns e.ordered e.within within) ∙ sum-append (drop (length part - back) part) (drop end ns) in
     let same = ap sum (back-recut keep from start end back news ns e counted) in
     record {
@@ -258,6 +258,10 @@ trimmed keep from start end front back news ns e first second =
 pub sum-part : (start end : ℕ) (ns : List ℕ) → start ≤ end → sum (take start ns) + sum (between start end ns) ≡ sum (take end ns)
 sum-part start end ns ordered = omega (arith, sum-parts start end ns ordered, sum-split end ns)
 
+-- those that come in its place
+pub sum-place : (start end : ℕ) (news ns : List ℕ) → start ≤ end → sum (recut start end news ns) + sum (between start end ns) ≡ sum ns + sum news
+sum-place start end news ns ordered = omega (arith, sum-recut start end news ns, sum-parts start end ns ordered)
+
 -- those of the first of the part
 pub sum-first : (front start end : ℕ) (ns : List ℕ) → end ≤ length ns → front ≤ length (between start end ns)
     → sum (take start ns) + sum (take front (between start end ns)) ≡ sum (take (start + front) ns)
@@ -294,7 +298,7 @@ trimmed-by keep from start end before past front back shown items made ns e are 
     let made_so : take (length (drop front shown) - back) (drop front shown) ≡ made = ap (λ k. take k (drop front shown)) count ∙ sym m in
     let all = trimmed keep from start end front back shown ns edit one two in
     subst (λ l. IsTrimmed keep from (start + front) (end - back) l (recut start end items ns) ns) made_so
-        (subst (λ o. IsTrimmed keep from (start + front) (end - back) (take (length (drop front shown) - back) (drop front shown)) o ns) (ap (λ l. recut start end l ns) are) all)
+    (subst (λ o. IsTrimmed keep from (start + front) (end - back) (take (length (drop front shown) - back) (drop front shown)) o ns) (ap (λ l. recut start end l ns) are) all)
 
 -- ---- a chunk in the place of one of the same length
 
@@ -330,4 +334,10 @@ replaced-tight line i start end news ns within above below s e n =
     let k = line - 1 in
     let b = sum ns - line in
     subst (λ x. IsTight k b x end news ns) (sym s)
-        (subst (λ x. IsTight k b i x news ns) (sym e) (subst (λ xs. IsTight k b i (i + 1) xs ns) (sym n) (same-tight line i ns within above below)))
+    (subst (λ x. IsTight k b i x news ns) (sym e) (subst (λ xs. IsTight k b i (i + 1) xs ns) (sym n) (same-tight line i ns within above below)))
+
+pub replaced-lines : (i start end : ℕ) (news ns : List ℕ) → i < length ns → start ≡ i → end ≡ i + 1 → news ≡ get_or ns i 0 ∷ [] → sum news ≡ sum (between start end ns)
+replaced-lines i start end news ns within s e n =
+    let one : sum (get_or ns i 0 ∷ []) ≡ get_or ns i 0 = omega arith in
+    let same : sum (between start end ns) ≡ sum (between i (i + 1) ns) = λ k. sum (between (s k) (e k) ns) in
+    omega (arith, ap sum n, one, same, sum-part i (i + 1) ns (omega arith), sum_by_more (λ x. x) ns i 0 within)

@@ -1,5 +1,5 @@
 //! What an edit makes of the division.
-ghost use Rattle.std.specs.Prelude.{◌≡◌, ◌+◌, ◌-◌, ◌<◌, ◌≤◌, ◌^◌, [], ◌∷◌, length, take, drop, sum};
+ghost use Rattle.std.specs.Prelude.{◌≡◌, ◌+◌, ◌-◌, ◌<◌, ◌≤◌, ◌^◌, [], ◌∷◌, length, slice_range, take, drop, sum};
 ghost use Rattle.arrayvec.specs.ArrayVec.{array_vec_len};
 ghost use Rattle.cps_division.specs.Division.{AreChunks, chunk_of, joined, inserted_at, deleted_at};
 ghost use Rattle.cps_division.specs.Recut.{recut};
@@ -37,6 +37,7 @@ pub fn recut_insertion(lengths: &[usize], after: usize) -> Recut
     ensures begins { result.before ≤ after }
     ensures ends { after ≤ sum (take result.end lengths.now) }
     ensures tight { IsTight after (sum lengths.now - after) result.start result.end result.lengths.items lengths.now }
+    ensures lines { sum result.lengths.items ≡ sum (slice_range lengths.now result.start result.end) + 1 }
 {
     around_insertion(lengths, after).without_staying(lengths, after, after)
 }
@@ -88,6 +89,7 @@ pub fn recut_replacement(lengths: &[usize], line: usize) -> Recut
     ensures begins { result.before < line }
     ensures ends { line ≤ sum (take result.end lengths.now) }
     ensures tight { IsTight (line - 1) (sum lengths.now - line) result.start result.end result.lengths.items lengths.now }
+    ensures lines { sum result.lengths.items ≡ sum (slice_range lengths.now result.start result.end) }
 {
     let place = place_of(lengths, line);
     Recut::by_one(place, place.chunk + 1, lengths[place.chunk])
@@ -106,6 +108,7 @@ pub fn recut_deletion(lengths: &[usize], keep: usize, from: usize) -> Recut
     ensures begins { result.before ≤ keep }
     ensures ends { from ≤ sum (take result.end lengths.now) }
     ensures tight { IsTight keep (sum lengths.now - from) result.start result.end result.lengths.items lengths.now }
+    ensures lines { sum result.lengths.items + (from - keep) ≡ sum (slice_range lengths.now result.start result.end) }
 {
     around_deletion(lengths, keep, from).without_staying(lengths, keep, from)
 }

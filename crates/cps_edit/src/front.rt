@@ -124,6 +124,7 @@ impl Front {
         ensures ones_err { OnErr result (work.new.ones ≤ counted_on work.old.ones (length lines.now)) }
         ensures ones_least { work.old.ones ≤ work.new.ones }
         ensures twos { work.new.twos ≡ work.old.twos }
+        ensures looked { work.new.looked ≡ work.old.looked }
     {
         let mut traces = Vec::with_capacity(self.alloc, lines.len())?;
         for line in lines {

@@ -47,9 +47,10 @@ loop-chunk-preserved c =
       summed = rw c.split_at-2.ensures.back next.2;
       replays = λ end w rest r.
           rw (pushed, append_assoc c.loop-chunk.news.items c.in_ok-made.made.items rest)
-          (c.loop-chunk.invariant.replays end w (c.in_ok-made.made.items ++ rest) (replays-next n a b end c.loop-chunk.work c.replay_chunk.new.work w ls os c.in_ok-made.made.items rest long found r));
-      looked = looks-next chunks i chunk a.state b.state ls c.loop-chunk.work.looked c.replay_chunk.new.work.looked _ lt c.chunk-item.is found.state c.in_ok-made.ensures.looked c.loop-chunk.invariant.looked;
-      ones = counted-left c.loop-chunk.work.ones c.replay_chunk.new.work.ones _ _ _ _ found.ones (within-part n a.state ls os long) c.loop-chunk.invariant.ones;
+          (c.loop-chunk.invariant.replays end w (c.in_ok-made.made.items ++ rest) (replays-next n a b end c.loop-chunk.work c.replay_chunk.new.work w ls c.split_at.result.0.now c.split_at.result.1.now os c.split_at-2.result.0.now c.split_at-2.result.1.now c.in_ok-made.made.items rest
+          c.split_at.ensures.front c.split_at.ensures.back c.split_at-2.ensures.front c.split_at-2.ensures.back long found r));
+      looked = looks-next chunks i chunk a.state b.state ls c.split_at.result.0.now c.split_at.result.1.now c.loop-chunk.work.looked c.replay_chunk.new.work.looked _ lt c.chunk-item.is c.split_at.ensures.front c.split_at.ensures.back found.state c.in_ok-made.ensures.looked c.loop-chunk.invariant.looked;
+      ones = counted-left c.loop-chunk.work.ones c.replay_chunk.new.work.ones _ _ _ _ found.ones (within-part n a.state b.state ls c.split_at.result.0.now c.split_at.result.1.now os c.split_at-2.result.0.now c.split_at-2.result.1.now c.split_at.ensures.front c.split_at.ensures.back c.split_at-2.ensures.front c.split_at-2.ensures.back long found.state) c.loop-chunk.invariant.ones;
       least = omega (arith, c.loop-chunk.invariant.least, c.in_ok-made.ensures.ones_least);
       twos = c.in_ok-made.ensures.twos ∙ c.loop-chunk.invariant.twos;
     }
@@ -59,16 +60,20 @@ returns-in_err-made-clause-ones_err c =
     let chunk = c.chunk-item.result in
     let ls = c.loop-chunk.lines_left in
     let os = c.loop-chunk.olds_left in
+    let a = gathered-value.it c.loop-chunk.front in
     on-err _ (counted-before c.loop-chunk.work.ones c.replay_chunk.new.work.ones _ _ _ _ c.in_err-made.ensures.ones_err
-    (within-part chunk.lines (gathered-value.it c.loop-chunk.front).state ls os (done-parts chunk.lines ls os c.loop-chunk.invariant.done)) c.loop-chunk.invariant.ones)
+    (within-part chunk.lines a.state (state_after a.state c.split_at.result.0.now) ls c.split_at.result.0.now c.split_at.result.1.now os c.split_at-2.result.0.now c.split_at-2.result.1.now
+    c.split_at.ensures.front c.split_at.ensures.back c.split_at-2.ensures.front c.split_at-2.ensures.back (done-parts chunk.lines ls os c.loop-chunk.invariant.done) refl) c.loop-chunk.invariant.ones)
 
 pub returns-in_err-append-clause-ones_err : goal.returns-in_err-append-clause-ones_err
 returns-in_err-append-clause-ones_err c =
     let chunk = c.chunk-item.result in
     let ls = c.loop-chunk.lines_left in
     let os = c.loop-chunk.olds_left in
+    let a = gathered-value.it c.loop-chunk.front in
     on-err _ (counted-before c.loop-chunk.work.ones c.replay_chunk.new.work.ones _ _ _ _ (le-same _ _ c.in_ok-made.ensures.replays.ones)
-    (within-part chunk.lines (gathered-value.it c.loop-chunk.front).state ls os (done-parts chunk.lines ls os c.loop-chunk.invariant.done)) c.loop-chunk.invariant.ones)
+    (within-part chunk.lines a.state (state_after a.state c.split_at.result.0.now) ls c.split_at.result.0.now c.split_at.result.1.now os c.split_at-2.result.0.now c.split_at-2.result.1.now
+    c.split_at.ensures.front c.split_at.ensures.back c.split_at-2.ensures.front c.split_at-2.ensures.back (done-parts chunk.lines ls os c.loop-chunk.invariant.done) refl) c.loop-chunk.invariant.ones)
 
 pub returns-clause-replays : goal.returns-clause-replays
 returns-clause-replays c =

@@ -45,9 +45,9 @@ loop-chunk-preserved c =
       summed = rw c.split_at-2.ensures.back next.2;
       redoes = λ w rest r.
           rw (pushed, append_assoc c.loop-chunk.all.items c.in_ok-made.made.items rest)
-          (c.loop-chunk.invariant.redoes w (c.in_ok-made.made.items ++ rest) (redoes-next was now n c.loop-chunk.work c.redo_chunk.new.work w ns os c.in_ok-made.made.items rest long found r));
-      looked = again-next (same_at was now) chunks i chunk lt c.chunk-item.is ns os c.loop-chunk.work.looked c.redo_chunk.new.work.looked _ c.in_ok-made.ensures.looked c.loop-chunk.invariant.looked;
-      twos = counted-left c.loop-chunk.work.twos c.redo_chunk.new.work.twos _ _ _ _ found.twos (redone-part was now n ns os long) c.loop-chunk.invariant.twos;
+          (c.loop-chunk.invariant.redoes w (c.in_ok-made.made.items ++ rest) (redoes-next was now n c.loop-chunk.work c.redo_chunk.new.work w ns c.split_at.result.0.now c.split_at.result.1.now os c.split_at-2.result.0.now c.split_at-2.result.1.now c.in_ok-made.made.items rest c.split_at.ensures.front c.split_at.ensures.back c.split_at-2.ensures.front c.split_at-2.ensures.back long found r));
+      looked = again-next (same_at was now) chunks i chunk lt c.chunk-item.is ns c.split_at.result.0.now c.split_at.result.1.now os c.split_at-2.result.0.now c.split_at-2.result.1.now c.loop-chunk.work.looked c.redo_chunk.new.work.looked _ c.split_at.ensures.front c.split_at.ensures.back c.split_at-2.ensures.front c.split_at-2.ensures.back c.in_ok-made.ensures.looked c.loop-chunk.invariant.looked;
+      twos = counted-left c.loop-chunk.work.twos c.redo_chunk.new.work.twos _ _ _ _ found.twos (redone-part was now n ns c.split_at.result.0.now c.split_at.result.1.now os c.split_at-2.result.0.now c.split_at-2.result.1.now c.split_at.ensures.front c.split_at.ensures.back c.split_at-2.ensures.front c.split_at-2.ensures.back long) c.loop-chunk.invariant.twos;
       least = omega (arith, c.loop-chunk.invariant.least, c.in_ok-made.ensures.twos_least);
       ones = c.in_ok-made.ensures.ones ∙ c.loop-chunk.invariant.ones;
     }
@@ -60,7 +60,7 @@ returns-in_err-made-clause-twos_err c =
     let ns = c.loop-chunk.news_left in
     let os = c.loop-chunk.olds_left in
     let long = same-parts n ns os c.loop-chunk.invariant.same_len in
-    on-err _ (counted-before c.loop-chunk.work.twos c.redo_chunk.new.work.twos _ _ _ _ c.in_err-made.ensures.twos_err (redone-part was now n ns os long) c.loop-chunk.invariant.twos)
+    on-err _ (counted-before c.loop-chunk.work.twos c.redo_chunk.new.work.twos _ _ _ _ c.in_err-made.ensures.twos_err (redone-part was now n ns c.split_at.result.0.now c.split_at.result.1.now os c.split_at-2.result.0.now c.split_at-2.result.1.now c.split_at.ensures.front c.split_at.ensures.back c.split_at-2.ensures.front c.split_at-2.ensures.back long) c.loop-chunk.invariant.twos)
 
 pub returns-in_err-append-clause-twos_err : goal.returns-in_err-append-clause-twos_err
 returns-in_err-append-clause-twos_err c =
@@ -70,7 +70,7 @@ returns-in_err-append-clause-twos_err c =
     let ns = c.loop-chunk.news_left in
     let os = c.loop-chunk.olds_left in
     let long = same-parts n ns os c.loop-chunk.invariant.same_len in
-    on-err _ (counted-before c.loop-chunk.work.twos c.redo_chunk.new.work.twos _ _ _ _ (le-same _ _ c.in_ok-made.ensures.redoes.twos) (redone-part was now n ns os long) c.loop-chunk.invariant.twos)
+    on-err _ (counted-before c.loop-chunk.work.twos c.redo_chunk.new.work.twos _ _ _ _ (le-same _ _ c.in_ok-made.ensures.redoes.twos) (redone-part was now n ns c.split_at.result.0.now c.split_at.result.1.now os c.split_at-2.result.0.now c.split_at-2.result.1.now c.split_at.ensures.front c.split_at.ensures.back c.split_at-2.ensures.front c.split_at-2.ensures.back long) c.loop-chunk.invariant.twos)
 
 pub returns-clause-redoes : goal.returns-clause-redoes
 returns-clause-redoes c =

@@ -42,9 +42,9 @@ loop-chunk-preserved c =
       summed = rw c.split_at.ensures.back next.2;
       redoes = λ w rest r.
           rw (pushed, append_assoc c.loop-chunk.all.items c.in_ok-made.made.items rest)
-          (c.loop-chunk.invariant.redoes w (c.in_ok-made.made.items ++ rest) (kept-redoes-next was now n c.loop-chunk.work c.redo_kept_chunk.new.work w os c.in_ok-made.made.items rest found r));
-      looked = kept-next (same_at was now) chunks i chunk lt c.chunk-item.is os c.loop-chunk.work.looked c.redo_kept_chunk.new.work.looked _ c.in_ok-made.ensures.looked c.loop-chunk.invariant.looked;
-      twos = counted-left c.loop-chunk.work.twos c.redo_kept_chunk.new.work.twos _ _ _ _ found.twos (kept-part was now n os) c.loop-chunk.invariant.twos;
+          (c.loop-chunk.invariant.redoes w (c.in_ok-made.made.items ++ rest) (kept-redoes-next was now n c.loop-chunk.work c.redo_kept_chunk.new.work w os c.split_at.result.0.now c.split_at.result.1.now c.in_ok-made.made.items rest c.split_at.ensures.front c.split_at.ensures.back found r));
+      looked = kept-next (same_at was now) chunks i chunk lt c.chunk-item.is os c.split_at.result.0.now c.split_at.result.1.now c.loop-chunk.work.looked c.redo_kept_chunk.new.work.looked _ c.split_at.ensures.front c.split_at.ensures.back c.in_ok-made.ensures.looked c.loop-chunk.invariant.looked;
+      twos = counted-left c.loop-chunk.work.twos c.redo_kept_chunk.new.work.twos _ _ _ _ found.twos (kept-part was now n os c.split_at.result.0.now c.split_at.result.1.now c.split_at.ensures.front c.split_at.ensures.back) c.loop-chunk.invariant.twos;
       least = omega (arith, c.loop-chunk.invariant.least, c.in_ok-made.ensures.twos_least);
       ones = c.in_ok-made.ensures.ones ∙ c.loop-chunk.invariant.ones;
     }
@@ -55,7 +55,7 @@ returns-in_err-made-clause-twos_err c =
     let now = resolved c.args.self.ends.after.now in
     let n = c.chunk-item.result.lines in
     let os = c.loop-chunk.olds_left in
-    on-err _ (counted-before c.loop-chunk.work.twos c.redo_kept_chunk.new.work.twos _ _ _ _ c.in_err-made.ensures.twos_err (kept-part was now n os) c.loop-chunk.invariant.twos)
+    on-err _ (counted-before c.loop-chunk.work.twos c.redo_kept_chunk.new.work.twos _ _ _ _ c.in_err-made.ensures.twos_err (kept-part was now n os c.split_at.result.0.now c.split_at.result.1.now c.split_at.ensures.front c.split_at.ensures.back) c.loop-chunk.invariant.twos)
 
 pub returns-in_err-append-clause-twos_err : goal.returns-in_err-append-clause-twos_err
 returns-in_err-append-clause-twos_err c =
@@ -63,7 +63,7 @@ returns-in_err-append-clause-twos_err c =
     let now = resolved c.args.self.ends.after.now in
     let n = c.chunk-item.result.lines in
     let os = c.loop-chunk.olds_left in
-    on-err _ (counted-before c.loop-chunk.work.twos c.redo_kept_chunk.new.work.twos _ _ _ _ (le-same _ _ c.in_ok-made.ensures.redoes.twos) (kept-part was now n os) c.loop-chunk.invariant.twos)
+    on-err _ (counted-before c.loop-chunk.work.twos c.redo_kept_chunk.new.work.twos _ _ _ _ (le-same _ _ c.in_ok-made.ensures.redoes.twos) (kept-part was now n os c.split_at.result.0.now c.split_at.result.1.now c.split_at.ensures.front c.split_at.ensures.back) c.loop-chunk.invariant.twos)
 
 pub returns-clause-redoes : goal.returns-clause-redoes
 returns-clause-redoes c =
