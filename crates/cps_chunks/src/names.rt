@@ -235,7 +235,11 @@ fn is_held(held: &[Held], name: Name) -> bool
 
 // ---- blocks
 
-fn list_blocks(alloc: Global, hashing: Hashing, traces: &[Trace]) -> Result<Vec<Option<Name>>, AllocError>
+fn list_blocks(
+    alloc: Global,
+    hashing: Hashing,
+    traces: &[Trace],
+) -> Result<Vec<Option<Name>>, AllocError>
     ensures { IfOk result (λ blocks. blocks.items ≡ all_blocks_named (statements_of traces.now)) }
 {
     let mut found = none_found(alloc, hashing);
@@ -299,7 +303,11 @@ fn insert_block(found: &mut Found<Option<Name>>, block: Option<Name>) -> Result<
 
 // ---- literals
 
-fn list_literals_once(alloc: Global, hashing: Hashing, traces: &[Trace]) -> Result<Vec<u64>, AllocError>
+fn list_literals_once(
+    alloc: Global,
+    hashing: Hashing,
+    traces: &[Trace],
+) -> Result<Vec<u64>, AllocError>
     ensures { IfOk result (λ literals. literals.items ≡ literals_named (statements_of traces.now)) }
 {
     let mut found = none_found(alloc, hashing);
