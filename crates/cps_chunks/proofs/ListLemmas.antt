@@ -3,7 +3,7 @@ use Rattle.std.proofs.Common.{arith, ◌≡◌, ℕ, zero, suc, ◌+◌, ◌-◌
 use Rattle.std.specs.Prelude.{◌&&◌, is_some, if◌then◌else◌, sum}
 use Rattle.std.specs.List.{list_all}
 use Rattle.std.proofs.lemmas.Bool.{and_parts}
-use Rattle.std.proofs.lemmas.List.{length-append, length-drop, map-append, take-append-le, drop-append-le, take-append-drop, take-take, drop-take, drop-drop, drop_all, length-take-le, take_more_set, drop-set-lt, set_at, set-get_or, take_min, drop_min, get_or_default, take-map, drop-map, length-map, length-take, take_at, drop_at as behind_front}
+use Rattle.std.proofs.lemmas.List.{length-append, length-drop, map-append, take-append-le, drop-append-le, take-append-drop, take-take, drop-take, drop-drop, drop_all, length-take-le, take_more_set, drop-set-lt, set_at, set-get_or, take_min, drop_min, get_or_default, take-map, drop-map, length-map, length-take, map_more, take_all, take_at, drop_at as behind_front}
 use Rattle.std.proofs.lemmas.List.Sums.{sum_by-cons}
 use Rattle.std.proofs.lemmas.Bool.{lt-ltb}
 use Rattle.cps_state.specs.Course.{Trace}
@@ -75,6 +75,14 @@ lengths-unsummed (n ∷ ns) = ap (λ ms. n ∷ ms) (lengths-unsummed ns)
 
 lengths-append : (cs ds : List Chunk) → lengths_of (cs ++ ds) ≡ lengths_of cs ++ lengths_of ds
 lengths-append cs ds = map-append (λ (chunk : Chunk). chunk.lines) cs ds
+
+-- chunk by chunk
+pub lengths-more : (cs : List Chunk) (i : ℕ) (c : Chunk) (ns : List ℕ) → i < length cs → c ≡ get_or cs i c → ns ≡ lengths_of (take i cs) → ns ++ c.lines ∷ [] ≡ lengths_of (take (i + 1) cs)
+lengths-more cs i c ns lt is made =
+    (λ j. made j ++ (ap (λ (d : Chunk). d.lines) is j) ∷ []) ∙ sym (map_more (λ (chunk : Chunk). chunk.lines) cs i c lt)
+
+pub lengths-all : (cs : List Chunk) (i : ℕ) (ns : List ℕ) → length cs ≤ i → ns ≡ lengths_of (take i cs) → ns ≡ lengths_of cs
+lengths-all cs i ns past made = made ∙ ap lengths_of (take_all i cs past)
 
 -- lines of which nothing is gathered, as one chunk
 pub summed-one : (ts : List Trace) → AreSummed (unsummed (length ts) ∷ []) ts

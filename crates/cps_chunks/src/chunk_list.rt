@@ -24,7 +24,11 @@ pub fn unsummed(alloc: Global, lengths: &[usize]) -> Result<Vec<Chunk>, AllocErr
 pub fn lengths_in(alloc: Global, chunks: &[Chunk]) -> Result<Vec<usize>, AllocError>
     ensures { IfOk result (λ lengths. lengths.items ≡ lengths_of chunks.now) }
 {
-    chunks.iter().map(|chunk| chunk.lines).collect(alloc)
+    let mut lengths = Vec::with_capacity(alloc, chunks.len())?;
+    for chunk in chunks {
+        lengths.push(chunk.lines)?;
+    }
+    Ok(lengths)
 }
 
 /// From the chunk of a number on, counted from 0, each forgets what was gathered of its lines where one of them has something new; `news` says that of all
