@@ -1,17 +1,17 @@
 -- What both passes of an edit look at: no more than twice the lines of the chunks that the edit touches.
 use Rattle.std.proofs.Common.{arith, ◌≡◌, ℕ, zero, suc, ◌+◌, ◌*◌, ◌-◌, ◌≤◌, refl, sym, ap, subst, ◌∙◌, add_assoc, zero-add, Bool, true, false, List, [], ◌∷◌, ◌++◌, length, take, drop, map, Option, None, Some}
 use Rattle.std.specs.Prelude.{not, ◌&&◌, is_some, sum, slice_range, if◌then◌else◌}
-use Rattle.std.specs.List.{list_all}
+use Rattle.std.specs.List.{list_all, between}
 use Rattle.std.proofs.lemmas.Bool.{and_parts, and_from}
-use Rattle.std.proofs.lemmas.List.{length-append, length-drop, length-take-le, length-map, take-map, drop-map, take-take, drop-take, drop-drop, take-append-le, take_at, drop_at}
+use Rattle.std.proofs.lemmas.List.{length-append, length-drop, length-take-le, length-map, take-map, drop-map, take-take, drop-take, drop-drop, take-append-le, take-append-drop, take_at, drop_at}
 use Rattle.std.proofs.lemmas.List.Sums.{sum_by-append}
+use Rattle.std.proofs.lemmas.Slice.{between_is}
 use Rattle.cps_state.specs.Course.{Trace}
 use Rattle.cps_state.specs.Keys.{State, first_state}
 use Rattle.cps_final.specs.Outcome.{Resolved}
 use Rattle.cps_division.specs.Division.{AreChunks, IsDivision}
 use Rattle.cps_division.specs.Recut.{recut}
 use Rattle.cps_division.specs.Staying.{stay_in_front, stay_behind, IsTight}
-use Rattle.cps_division.proofs.TightLemmas.{sum-part}
 use Rattle.cps_edit.specs.Agreeing.{same_at, same_named}
 use Rattle.cps_edit.specs.Disturbed.{is_disturbed, finals_in}
 use Rattle.cps_edit.specs.Holds.{holds}
@@ -38,6 +38,14 @@ sum-append xs ys = sum_by-append (λ x. x) xs ys
 
 sum-cons : (n : ℕ) (ns : List ℕ) → sum (n ∷ ns) ≡ n + sum ns
 sum-cons n ns = sum-append (n ∷ []) ns ∙ (let one : sum (n ∷ []) ≡ n = omega arith in ap (λ k. k + sum ns) one)
+
+-- those of the first, and of the next ones up to a number
+sum-part : (start end : ℕ) (ns : List ℕ) → start ≤ end → sum (take start ns) + sum (between start end ns) ≡ sum (take end ns)
+sum-part start end ns ordered =
+    let first = take end ns in
+    (λ i. sum (sym (take-take start end ns ordered) i) + sum (between_is ns start end i))
+    ∙ sym (sum-append (take start first) (drop start first))
+    ∙ ap sum (take-append-drop start first)
 
 module _ {X : Type 0} where
   take-more : (m n : ℕ) (xs : List X) → take (m + n) xs ≡ take m xs ++ take n (drop m xs)
