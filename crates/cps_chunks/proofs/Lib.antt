@@ -7,4 +7,4 @@ mod GatherLemmas
 mod ChunkLemmas
 mod AgainLemmas
 pub mod ListLemmas
-mod TouchedLemmas
+pub mod TouchedLemmas
