@@ -2,4 +2,7 @@ mod PutLemmas
 mod AskLemmas
 mod RunLemmas
 mod NamedLemmas
+mod NamesLemmas
 mod GatherLemmas
+mod ChunkLemmas
+mod AgainLemmas

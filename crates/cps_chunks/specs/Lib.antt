@@ -2,4 +2,7 @@ pub mod Run
 pub mod RunGathering
 pub mod LastPuts
 pub mod Named
-pub mod InPlace
+pub mod Names
+pub mod NamesGathering
+pub mod Chunks
+pub mod Touched

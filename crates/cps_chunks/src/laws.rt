@@ -2,7 +2,7 @@
 ghost use Rattle.cps_chunks.specs.Run.{RunLaw, RunAsksNoMore};
 ghost use Rattle.cps_chunks.specs.LastPuts.{LastPutsLaw, LastPutsAreOnce};
 ghost use Rattle.cps_chunks.specs.Named.{NamedLaw, NamedNoMore};
-ghost use Rattle.cps_chunks.specs.InPlace.{InPlaceLaw};
+ghost use Rattle.cps_chunks.specs.Names.{NamesLaw};
 
 /// What lines did in one state stands in each that answers what their run asked as that one does: there they do the same, none is disturbed, and their puts
 /// lead to the state after them.
@@ -35,7 +35,7 @@ pub fn a_run_names_no_more()
     ensures { NamedNoMore }
 {}
 
-/// Where new lines leave what those left in whose place they stand, their puts, their literals and the program's name, an edit disturbs no other line.
-pub fn new_lines_that_leave_the_same_disturb_no_other()
-    ensures { InPlaceLaw }
+/// A test passes for all that a run names, each once, exactly where it does for all that each of its statements names.
+pub fn a_run_names_each_once()
+    ensures { NamesLaw }
 {}

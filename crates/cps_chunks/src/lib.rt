@@ -1,9 +1,21 @@
 //! Chunks of a source: runs of lines that are gone through as one line is.
 #![tactic(auto)]
 
+mod chunk;
 pub mod laws;
+mod names;
+#[cfg(test)]
+mod names_rows;
+mod redo;
+mod replay;
 mod run;
 #[cfg(test)]
 mod run_rows;
+mod sum_up;
 
+pub use chunk::{Behind, Chunk, InFront, Summary};
+pub use names::{Names, names_agree};
+pub use redo::Again;
+pub use replay::{replay_behind, replay_chunks};
 pub use run::Run;
+pub use sum_up::sum_up;

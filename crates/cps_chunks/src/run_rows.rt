@@ -23,7 +23,7 @@ fn take_line(alloc: Global, state: &mut State, traces: &mut Vec<Trace>, line: &L
     }
 }
 
-fn take_text(alloc: Global, state: &mut State, traces: &mut Vec<Trace>, text: &str) -> bool {
+pub fn take_text(alloc: Global, state: &mut State, traces: &mut Vec<Trace>, text: &str) -> bool {
     match Line::new(alloc, text.as_bytes()) {
         Ok(line) => {
             let is_taken = take_line(alloc, state, traces, &line);

@@ -4,3 +4,5 @@ mod PlaceLemmas
 mod InsertionLemmas
 mod CutLemmas
 mod DivisionRows
+mod StayingLemmas
+mod TightLemmas

@@ -4,6 +4,7 @@
 pub mod laws;
 mod place;
 mod recut;
+mod staying;
 
 pub use place::{Place, place_of};
 pub use recut::{FULL, Recut, recut_deletion, recut_insertion, recut_replacement};

@@ -5,14 +5,4 @@ pub mod ReplayLemmas
 pub mod FrontLemmas
 pub mod RedoLemmas
 pub mod TakenLemmas
-pub mod CommitLemmas
 pub mod SpliceLemmas
-pub mod SecondLemmas
-pub mod WholeLemmas
-pub mod SettledLemmas
-pub mod OpenLemmas
-pub mod ThroughLemmas
-pub mod AppendLemmas
-pub mod QuietLemmas
-pub mod LeftLemmas
-pub mod InPlaceLemmas

@@ -11,7 +11,7 @@ use Rattle.cps_final.specs.Finals.{Finals, finals_of}
 use Rattle.cps_edit.specs.Passes.{after, state_after, traces_from, traces_of}
 use Rattle.cps_edit.specs.Splice.{splice_at, spliced}
 use Rattle.cps_edit.specs.Disturbed.{Placed, kept, all_kept, fresh, is_disturbed, disturbed_from, ones_of}
-use Rattle.cps_edit.specs.Renewed.{merged, flags_from, AllWereMeant}
+use Rattle.cps_edit.specs.Renewed.{merged, nones, flags_from, AllWereMeant}
 use Rattle.cps_edit.proofs.AnswerLemmas.{asks-decide}
 use Rattle.cps_edit.proofs.AskedLemmas.{asked-here}
 
@@ -74,6 +74,15 @@ kept-drop (suc n) (l ∷ ls) (t ∷ ts) = kept-drop n ls ts
 -- a line is not disturbed where it stood
 pub undisturbed : (l : List ℕ) (f : State) → is_disturbed (Some (trace_of l f)) f ≡ false
 undisturbed l f = ap not ((asks-decide (trace_of l f).asks f).1 (asked-here l f))
+
+-- nor are lines
+pub still-flags : (f : State) (ls : List (List ℕ)) → map is_some (nones {X = Trace} (length (traces_from f ls))) ≡ flags_from f ls (traces_from f ls)
+still-flags f [] = refl
+still-flags f (l ∷ ls) = λ i. sym (undisturbed l f) i ∷ still-flags (after f l) ls i
+
+pub none-disturbed : (f : State) (ls : List (List ℕ)) → disturbed_from f (kept ls (traces_from f ls)) ≡ 0
+none-disturbed f [] = refl
+none-disturbed f (l ∷ ls) = λ i. (if undisturbed l f i then 1 else 0) + none-disturbed (after f l) ls i
 
 disturbed_from-prefix : (n : ℕ) (f : State) (ls : List (List ℕ)) (ps : List Placed) → disturbed_from f (take n (kept ls (traces_from f ls)) ++ ps) ≡ disturbed_from (state_after f (take n ls)) ps
 disturbed_from-prefix zero f ls ps = refl

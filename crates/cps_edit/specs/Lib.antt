@@ -5,5 +5,4 @@ pub mod Splice
 pub mod Disturbed
 pub mod LeftBy
 pub mod Renewed
-pub mod Append
-pub mod InPlace
+pub mod GatheredNow

@@ -5,6 +5,7 @@ ghost use Rattle.cps_state.specs.Work.{counted_on, raised};
 ghost use Rattle.cps_state.specs.declared.work.Tally.TheVariants.{Ones};
 ghost use Rattle.cps_pass.specs.Expansion.{trace_of};
 ghost use Rattle.cps_final.specs.Finals.{Gathers};
+ghost use Rattle.cps_final.specs.Layout.{puts_of};
 ghost use Rattle.cps_edit.specs.Passes.{after, state_after, traces_from, GathersMore};
 ghost use Rattle.cps_edit.specs.Disturbed.{kept, is_disturbed, disturbed_from};
 ghost use Rattle.cps_edit.specs.Renewed.{picked, merged, flags_from, WasMeant, AllWereMeant};
@@ -12,6 +13,7 @@ ghost use Rattle.cps_edit.specs.Renewed.{picked, merged, flags_from, WasMeant, A
 use crate::holding::still_holds;
 use cps_final::{Finals, Gather, Gathered};
 use cps_pass::{Hashing, Sheet, Trace, Work, step_over};
+use cps_state::{Lookup, State};
 use cps_text::Line;
 use std::alloc::{AllocError, Global};
 use std::mem::replace;
@@ -53,11 +55,23 @@ impl Front {
         }
     }
 
+    /// Where its memory is taken.
+    pub fn alloc(&self) -> Global {
+        self.alloc
+    }
+
     /// What stands after the lines so far.
     pub fn finals(&self) -> &Finals
         ensures { ⟦<Finals as Gathered>⟧.gathered result.now ≡ ⟦<Front as Gathered>⟧.gathered self.now }
     {
         self.gather.finals()
+    }
+
+    /// What stands at each key after the lines so far.
+    pub fn state(&self) -> &State
+        ensures { ⟦<State as Lookup>⟧.answer result.now ≡ (⟦<Front as Gathered>⟧.gathered self.now).state }
+    {
+        self.gather.state()
     }
 
     /// Goes over a line that did this. Where there is no memory, nothing changes.
@@ -71,7 +85,8 @@ impl Front {
 
     /// Goes over lines that did these.
     pub fn pass_over_all(&mut self, traces: &[Trace]) -> Result<(), AllocError>
-        ensures { OnOk result (GathersMore (⟦<Front as Gathered>⟧.gathered self.old) (⟦<Front as Gathered>⟧.gathered self.new) traces.now) }
+        ensures ok { OnOk result (GathersMore (⟦<Front as Gathered>⟧.gathered self.old) (⟦<Front as Gathered>⟧.gathered self.new) traces.now) }
+        ensures state { OnOk result ((⟦<Front as Gathered>⟧.gathered self.new).state ≡ overwritten (⟦<Front as Gathered>⟧.gathered self.old).state (puts_of traces.now)) }
     {
         for trace in traces {
             self.pass_over(trace)?;
@@ -109,6 +124,7 @@ impl Front {
         ensures ones_err { OnErr result (work.new.ones ≤ counted_on work.old.ones (length lines.now)) }
         ensures ones_least { work.old.ones ≤ work.new.ones }
         ensures twos { work.new.twos ≡ work.old.twos }
+        ensures looked { work.new.looked ≡ work.old.looked }
     {
         let mut traces = Vec::with_capacity(self.alloc, lines.len())?;
         for line in lines {
@@ -134,6 +150,7 @@ impl Front {
         ensures ones_err { OnErr result (work.new.ones ≤ counted_on work.old.ones (if is_disturbed (Some old.now) (⟦<Front as Gathered>⟧.gathered self.old).state then 1 else 0)) }
         ensures ones_least { work.old.ones ≤ work.new.ones }
         ensures twos { work.new.twos ≡ work.old.twos }
+        ensures looked { OnOk result (work.new.looked ≡ counted_on work.old.looked 1) }
     {
         if still_holds(old, self.gather.state(), work) {
             self.pass_over(old)?;
@@ -156,10 +173,12 @@ impl Front {
         ensures len { IfOk result (λ news. length news.items ≡ length olds.now) }
         ensures new { IfOk result (λ news. map is_some news.items ≡ flags_from (⟦<Front as Gathered>⟧.gathered self.old).state lines.now olds.now) }
         ensures ok { OnOk result (GathersMore (⟦<Front as Gathered>⟧.gathered self.old) (⟦<Front as Gathered>⟧.gathered self.new) (traces_from (⟦<Front as Gathered>⟧.gathered self.old).state lines.now)) }
+        ensures state { OnOk result ((⟦<Front as Gathered>⟧.gathered self.new).state ≡ state_after (⟦<Front as Gathered>⟧.gathered self.old).state lines.now) }
         ensures ones { OnOk result (work.new.ones ≡ counted_on work.old.ones (disturbed_from (⟦<Front as Gathered>⟧.gathered self.old).state (kept lines.now olds.now))) }
         ensures ones_err { OnErr result (work.new.ones ≤ counted_on work.old.ones (disturbed_from (⟦<Front as Gathered>⟧.gathered self.old).state (kept lines.now olds.now))) }
         ensures ones_least { work.old.ones ≤ work.new.ones }
         ensures twos { work.new.twos ≡ work.old.twos }
+        ensures looked { OnOk result (work.new.looked ≡ counted_on work.old.looked (length lines.now)) }
     {
         let mut news = Vec::with_capacity(self.alloc, lines.len())?;
         for i in 0..lines.len() {

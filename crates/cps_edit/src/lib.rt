@@ -1,27 +1,14 @@
-//! An edit of a source: what its lines did in both passes is kept, and only what the edit disturbs is done again.
+//! What an edit of a source disturbs: its lines are gone through beside what they did, and done again only where that stands no more.
 #![tactic(auto)]
 
 mod agreeing;
-mod append;
-mod arrival;
-mod commit;
-mod edit;
 mod front;
+mod giving_way;
 mod holding;
-mod in_place;
-mod lists;
 mod naming;
-mod open;
-mod plan;
-mod quiet;
-mod redo;
-mod second;
+pub mod redo;
 
-pub use agreeing::same_finals;
-pub use append::{Append, Follower};
-pub use arrival::Change;
-pub use edit::Edit;
+pub use agreeing::{Ends, same_finals};
 pub use front::Front;
 pub use holding::{asks_hold, still_holds};
-pub use lists::Lists;
-pub use plan::{Kept, Plan};
+pub use naming::{Naming, all_pass};

@@ -25,6 +25,7 @@ pub fn redone(
     ensures twos_err { OnErr result (work.new.twos ≤ counted_on work.old.twos (if is_redone (resolved ends.entry.before.now) (resolved ends.entry.after.now) (is_some new.now) old.now then 1 else 0)) }
     ensures twos_least { work.old.twos ≤ work.new.twos }
     ensures ones { work.new.ones ≡ work.old.ones }
+    ensures looked { OnOk result (work.new.looked ≤ counted_on work.old.looked 1) }
 {
     match new {
         Some(trace) => Ok(Some(step_two(alloc, work, trace, ends.after)?)),
@@ -52,6 +53,7 @@ pub fn redo(
     ensures twos_err { OnErr result (work.new.twos ≤ counted_on work.old.twos (redone_from (resolved ends.entry.before.now) (resolved ends.entry.after.now) (map is_some news.now) olds.now)) }
     ensures twos_least { work.old.twos ≤ work.new.twos }
     ensures ones { work.new.ones ≡ work.old.ones }
+    ensures looked { OnOk result (work.new.looked ≤ counted_on work.old.looked (length olds.now)) }
 {
     let mut all = Vec::with_capacity(alloc, olds.len())?;
     for i in 0..olds.len() {
@@ -74,6 +76,7 @@ pub fn redo_kept(
     ensures twos_err { OnErr result (work.new.twos ≤ counted_on work.old.twos (redone_kept (resolved ends.entry.before.now) (resolved ends.entry.after.now) olds.now)) }
     ensures twos_least { work.old.twos ≤ work.new.twos }
     ensures ones { work.new.ones ≡ work.old.ones }
+    ensures looked { OnOk result (work.new.looked ≤ counted_on work.old.looked (length olds.now)) }
 {
     let mut all = Vec::with_capacity(alloc, olds.len())?;
     for i in 0..olds.len() {

@@ -26,6 +26,7 @@ pub use digits::{Code, Digits, ShortCode};
 pub use finals::{Finals, Gathered};
 pub use gather::Gather;
 pub use line_symbols::LineSymbols;
+pub use literals::list_literals;
 pub use outcome::{Outcome, flags_of, step_two};
 pub use output::Output;
 pub use row::Row;

@@ -8,8 +8,8 @@ use Rattle.cps_state.specs.Course.{Trace}
 use Rattle.cps_state.specs.Work.{Counts, counted_on}
 use Rattle.cps_final.specs.Finals.{Finals, finals_of, final_value}
 use Rattle.cps_final.specs.Outcome.{Outcome, outcome_of}
-use Rattle.cps_edit.specs.declared.append.Follower.{Follower}
-use Rattle.cps_edit.specs.Append.{Follows}
+use Rattle.cps_kept.specs.declared.append.Follower.{Follower}
+use Rattle.cps_kept.specs.Append.{Follows}
 use Rattle.cps_edit.specs.Splice.{spliced, replacement}
 use Rattle.cps_edit.proofs.SpliceLemmas.{length-traces_from}
 use Rattle.cps_live.specs.Assembly.{traces_of, outcomes_of}

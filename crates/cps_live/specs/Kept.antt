@@ -3,8 +3,8 @@ use Rattle.std.specs.Prelude.{◌≡◌, ℕ, ◌≤◌, List, length}
 use Rattle.cps_state.specs.Course.{Trace}
 use Rattle.cps_final.specs.Finals.{Finals, finals_of}
 use Rattle.cps_final.specs.Outcome.{Outcome}
-use Rattle.cps_edit.specs.declared.append.Follower.{Follower}
-use Rattle.cps_edit.specs.Append.{Follows}
+use Rattle.cps_kept.specs.declared.append.Follower.{Follower}
+use Rattle.cps_kept.specs.Append.{Follows}
 use Rattle.cps_live.specs.Assembly.{traces_of, outcomes_of}
 use Rattle.cps_live.specs.Edits.{most_lines}
 

@@ -20,6 +20,7 @@ loop-i-preserved c =
       outcomes = rw pushed (outcomes-next was now c.loop-i.all.items c.in_ok-made.made news olds i c.index-news-i.result c.index-olds-i.result _ in_news in_olds c.loop-i.invariant.made c.index-news-i.is c.index-olds-i.is c.in_ok-made.ensures.outcome c.loop-i.invariant.outcomes);
       twos = twos-next was now news olds i c.index-news-i.result c.index-olds-i.result c.loop-i.work.twos c.redone.new.work.twos _ in_news in_olds c.index-news-i.is c.index-olds-i.is c.in_ok-made.ensures.twos c.loop-i.invariant.twos;
       ones = c.in_ok-made.ensures.ones ∙ c.loop-i.invariant.ones;
+      looked = omega (arith, c.in_ok-made.ensures.looked, c.loop-i.invariant.looked);
       least = omega (arith, c.loop-i.invariant.least, c.in_ok-made.ensures.twos_least);
     }
 

@@ -15,5 +15,6 @@ invariant-loop-i l = record {
   twos : counted_on l.work.twos (redone_from (resolved l.ends.before.now) (resolved l.ends.after.now) (map is_some (drop l.i l.news)) (drop l.i l.olds))
       ≡ counted_on l.fn.work.twos (redone_from (resolved l.ends.before.now) (resolved l.ends.after.now) (map is_some l.news) l.olds);
   ones : l.work.ones ≡ l.fn.work.ones;
+  looked : l.work.looked ≤ counted_on l.fn.work.looked l.i;
   least : l.fn.work.twos ≤ l.work.twos;
 }

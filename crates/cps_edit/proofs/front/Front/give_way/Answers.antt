@@ -1,5 +1,5 @@
 use Rattle.std.proofs.Common.{sym, ap}
-use Rattle.cps_edit.specs.InPlace.{gathered_now}
+use Rattle.cps_edit.specs.GatheredNow.{gathered_now}
 use Rattle.cps_edit.specs.contracts.front.FrontGathered.TheImpl.{gathered-value}
 use Rattle.cps_edit.proofs.front.Front.give_way.Goals as goal
 

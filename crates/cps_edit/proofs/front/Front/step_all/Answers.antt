@@ -20,6 +20,7 @@ loop-line-preserved c =
       over = over-next lines i c.line-item.result a.state b.state _ lt c.line-item.is c.in_ok-trace.ensures.state c.loop-line.invariant.over;
       ones = one-more c.args.work.now.ones c.loop-line.work.ones c.step.new.work.ones i c.loop-line.invariant.ones (ap (λ (w : Counts). w.ones) c.step.ensures.step);
       twos = ap (λ (w : Counts). w.twos) c.step.ensures.step ∙ c.loop-line.invariant.twos;
+      looked = ap (λ (w : Counts). w.looked) c.step.ensures.step ∙ c.loop-line.invariant.looked;
     }
 
 pub returns-clause-ok : goal.returns-clause-ok

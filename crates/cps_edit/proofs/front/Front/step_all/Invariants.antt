@@ -14,4 +14,5 @@ invariant-loop-line l = record {
   over : state_after (gathered-value.it l.self).state (drop l.line-index l.lines) ≡ state_after (gathered-value.it l.fn.self).state l.lines;
   ones : l.work.ones ≡ counted_on l.fn.work.ones l.line-index;
   twos : l.work.twos ≡ l.fn.work.twos;
+  looked : l.work.looked ≡ l.fn.work.looked;
 }

@@ -6,7 +6,7 @@ use Rattle.cps_final.specs.Outcome.{Outcome}
 use Rattle.cps_edit.specs.Passes.{outcomes_by}
 use Rattle.cps_edit.specs.Splice.{insertion}
 use Rattle.cps_edit.specs.Disturbed.{finals_in, ones_of, twos_of}
-use Rattle.cps_edit.specs.Append.{changed, Follows}
+use Rattle.cps_kept.specs.Append.{changed, Follows}
 use Rattle.cps_live.specs.Assembly.{traces_of, outcomes_of}
 use Rattle.cps_live.specs.Edits.{Source, most_lines, HaveStepped, HaveSteppedUpTo}
 use Rattle.cps_live.proofs.SessionLemmas.{kept_still, kept_now}

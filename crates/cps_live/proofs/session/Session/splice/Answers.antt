@@ -4,7 +4,7 @@ use Rattle.cps_edit.specs.Passes.{outcomes_by}
 use Rattle.cps_edit.specs.Splice.{splice_at, spliced}
 use Rattle.cps_edit.specs.Disturbed.{finals_in, ones_of, twos_of}
 use Rattle.cps_edit.specs.Renewed.{mended}
-use Rattle.cps_edit.specs.InPlace.{gathered_now}
+use Rattle.cps_edit.specs.GatheredNow.{gathered_now}
 use Rattle.cps_live.specs.Assembly.{traces_of, outcomes_of}
 use Rattle.cps_live.specs.Edits.{Source, most_lines, HaveStepped, HaveSteppedUpTo}
 use Rattle.cps_live.proofs.SessionLemmas.{length-traces, length-outcomes, kept_still, kept_now, renamed, stepped_up_to}

@@ -1,0 +1,177 @@
+-- Pass two of lines that were there before, part by part.
+use Rattle.std.proofs.Common.{arith, ◌≡◌, ℕ, zero, suc, ◌+◌, ◌-◌, ◌<◌, ◌≤◌, get_or, refl, sym, ap, subst, ◌∙◌, add_assoc, Bool, true, false, List, [], ◌∷◌, ◌++◌, length, take, drop, map, Option, None, Some}
+use Rattle.std.specs.Prelude.{not, ◌&&◌, is_some, Result, Ok, Err, IfOk, OnOk, if◌then◌else◌}
+use Rattle.std.specs.List.{list_all}
+use Rattle.std.proofs.lemmas.Bool.{and_parts}
+use Rattle.std.proofs.lemmas.List.{length-append, length-drop, map-append, take-append-drop, drop_all}
+use Rattle.std.proofs.lemmas.Grind.{common_steps}
+use Rattle.cps_state.specs.Course.{Trace}
+use Rattle.cps_state.specs.Work.{Counts, counted_on}
+use Rattle.cps_final.specs.Finals.{Named}
+use Rattle.cps_final.specs.Outcome.{Resolved, Outcome}
+use Rattle.cps_edit.specs.Agreeing.{same_at, same_named}
+use Rattle.cps_edit.specs.Passes.{outcomes_by}
+use Rattle.cps_edit.specs.Disturbed.{is_redone}
+use Rattle.cps_edit.specs.Renewed.{merged, nones, redone_from, redone_kept}
+use Rattle.cps_edit.proofs.FrontLemmas.{none-more}
+use Rattle.cps_edit.proofs.RedoLemmas.{append-outcomes, length-outcomes}
+use Rattle.cps_edit.proofs.TakenLemmas.{drop_at, merged_nones, length_nones}
+use Rattle.cps_chunks.specs.Named.{statements_of}
+use Rattle.cps_chunks.specs.Names.{all_pass, NamesLaw}
+use Rattle.cps_chunks.specs.declared.chunk.Summary.{Summary}
+use Rattle.cps_chunks.specs.declared.chunk.Chunk.{Chunk}
+use Rattle.cps_chunks.specs.Chunks.{IsSummed, agrees, are_none, looks_again, looks_kept, Redoes}
+use Rattle.cps_chunks.proofs.ChunkLemmas.{merged-append, both, under, no-more}
+use Rattle.cps_chunks.proofs.NamedLemmas.{named-same}
+use Rattle.cps_chunks.proofs.NamesLemmas.{names-law}
+
+pub redone-append : (was now : Resolved) (bs cs : List Bool) (os ps : List Trace) → length bs ≡ length os
+    → redone_from was now (bs ++ cs) (os ++ ps) ≡ redone_from was now bs os + redone_from was now cs ps
+redone-append was now [] cs [] ps e = omega arith
+redone-append was now [] cs (o ∷ os) ps e = absurd (omega (arith, e))
+redone-append was now (b ∷ bs) cs [] ps e = absurd (omega (arith, e))
+redone-append was now (b ∷ bs) cs (o ∷ os) ps e =
+    let one : ℕ = if is_redone was now b o then 1 else 0 in
+    ap (λ n. one + n) (redone-append was now bs cs os ps (omega (arith, e))) ∙ sym (add_assoc one (redone_from was now bs os) (redone_from was now cs ps))
+
+length-map : (ns : List (Option Trace)) → length (map is_some ns) ≡ length ns
+length-map [] = refl
+length-map (n ∷ ns) = ap suc (length-map ns)
+
+module _ (was now : Resolved) where
+  pub redoes-none : (u : Counts) → Redoes was now u u [] [] []
+  redoes-none u = record { outcomes = refl; len = refl; twos = none-more u.twos }
+
+  pub redoes-join : (u v w : Counts) (ns rs : List (Option Trace)) (os ps : List Trace) (ms ks : List (Option Outcome)) → length ns ≡ length os
+      → Redoes was now u v ns os ms → Redoes was now v w rs ps ks → Redoes was now u w (ns ++ rs) (os ++ ps) (ms ++ ks)
+  redoes-join u v w ns rs os ps ms ks e one two = record {
+    outcomes =
+        ap (merged (ms ++ ks)) (append-outcomes was os ps)
+        ∙ merged-append ms ks (outcomes_by was os) (outcomes_by was ps) (one.len ∙ sym (length-outcomes was os))
+        ∙ (λ i. one.outcomes i ++ two.outcomes i)
+        ∙ sym (append-outcomes now (merged ns os) (merged rs ps))
+        ∙ ap (outcomes_by now) (sym (merged-append ns rs os ps e));
+    len = length-append ms ks ∙ (λ i. one.len i + two.len i) ∙ sym (length-append os ps);
+    twos = both u.twos v.twos w.twos _ _ _ one.twos two.twos
+        (ap (λ bs. redone_from was now bs (os ++ ps)) (map-append is_some ns rs) ∙ redone-append was now (map is_some ns) (map is_some rs) os ps (length-map ns ∙ e));
+  }
+
+  -- a part of them, and the lines behind it
+  pub redoes-next : (n : ℕ) (u v w : Counts) (ns n1 n2 : List (Option Trace)) (os o1 o2 : List Trace) (ms ks : List (Option Outcome))
+      → n1 ≡ take n ns → n2 ≡ drop n ns → o1 ≡ take n os → o2 ≡ drop n os → length (take n ns) ≡ length (take n os)
+      → Redoes was now u v n1 o1 ms → Redoes was now v w n2 o2 ks → Redoes was now u w ns os (ms ++ ks)
+  redoes-next n u v w ns n1 n2 os o1 o2 ms ks p q r s e one two =
+      subst (λ (xs : List (Option Trace)). Redoes was now u w xs os (ms ++ ks)) ((λ i. p i ++ q i) ∙ take-append-drop n ns)
+      (subst (λ (ts : List Trace). Redoes was now u w (n1 ++ n2) ts (ms ++ ks)) ((λ i. r i ++ s i) ∙ take-append-drop n os)
+      (redoes-join u v w n1 n2 o1 o2 ms ks (ap length p ∙ e ∙ sym (ap length r)) one two))
+
+  -- lines of which pass two makes what it made
+  pub redoes-same : (u : Counts) (os : List Trace) (n : ℕ) → n ≡ length os → same_named was now (statements_of os) ≡ true
+      → Redoes was now u u (nones {X = Trace} (length os)) os (nones {X = Outcome} n)
+  redoes-same u os n e same =
+      let made = named-same was now os same in
+      record {
+        outcomes = merged_nones (outcomes_by was os) n (e ∙ sym (length-outcomes was os)) ∙ made.0 ∙ ap (outcomes_by now) (sym (merged_nones os (length os) refl));
+        len = length_nones Outcome n ∙ e;
+        twos = none-more u.twos ∙ ap (counted_on u.twos) (sym made.1);
+      }
+
+  -- where memory fails in a part
+  pub redone-part : (n : ℕ) (ns n1 n2 : List (Option Trace)) (os o1 o2 : List Trace) → n1 ≡ take n ns → n2 ≡ drop n ns → o1 ≡ take n os → o2 ≡ drop n os
+      → length (take n ns) ≡ length (take n os)
+      → redone_from was now (map is_some ns) os ≡ redone_from was now (map is_some n1) o1 + redone_from was now (map is_some n2) o2
+  redone-part n ns n1 n2 os o1 o2 p q r s e =
+      (λ i. redone_from was now (map is_some (sym ((λ j. p j ++ q j) ∙ take-append-drop n ns) i)) (sym ((λ j. r j ++ s j) ∙ take-append-drop n os) i))
+      ∙ ap (λ bs. redone_from was now bs (o1 ++ o2)) (map-append is_some n1 n2)
+      ∙ redone-append was now (map is_some n1) (map is_some n2) o1 o2 (length-map n1 ∙ ap length p ∙ e ∙ sym (ap length r))
+
+  -- all that a chunk's lines name has the same final values
+  pub agreed : (summary : Option Summary) (os : List Trace) → IsSummed summary os → agrees summary (same_at was now) ≡ true → same_named was now (statements_of os) ≡ true
+  agreed None os is no = cc
+  agreed (Some s) os is yes = sym (names-law (same_at was now) os) ∙ ap (all_pass (same_at was now)) (sym is.names) ∙ yes
+
+-- nothing is new
+pub all-none : (ns : List (Option Trace)) → are_none ns ≡ true → ns ≡ nones (length ns)
+all-none [] none = refl
+all-none (None ∷ ns) none = ap (λ ms. None ∷ ms) (all-none ns none)
+all-none (Some t ∷ ns) none = cc
+
+pub nones-both : (os ps : List Trace) → nones {X = Trace} (length os) ++ nones {X = Trace} (length ps) ≡ nones {X = Trace} (length (os ++ ps))
+nones-both os ps = nones-append (length os) (length ps) ∙ ap (nones {X = Trace}) (sym (length-append os ps))
+  where
+    nones-append : (a b : ℕ) → nones {X = Trace} a ++ nones {X = Trace} b ≡ nones {X = Trace} (a + b)
+    nones-append zero b = refl
+    nones-append (suc a) b = ap (λ ns. None ∷ ns) (nones-append a b)
+
+-- ---- chunk by chunk
+
+module _ (passes : Named → Bool) (chunks : List Chunk) (i : ℕ) (chunk : Chunk) (lt : i < length chunks) (is : chunk ≡ get_or chunks i chunk) where
+  pub again-next : (ns n1 n2 : List (Option Trace)) (os o1 o2 : List Trace) (u v e : ℕ) → n1 ≡ take chunk.lines ns → n2 ≡ drop chunk.lines ns → o1 ≡ take chunk.lines os → o2 ≡ drop chunk.lines os
+      → v ≤ counted_on u (if are_none n1 && agrees chunk.summary passes then 0 else length o1)
+      → counted_on u (looks_again passes (drop i chunks) ns os) ≤ e → counted_on v (looks_again passes (drop (i + 1) chunks) n2 o2) ≤ e
+  again-next ns n1 n2 os o1 o2 u v e p q r s counted before =
+      let all : looks_again passes (drop i chunks) ns os ≡ (if are_none n1 && agrees chunk.summary passes then 0 else length o1) + looks_again passes (drop (i + 1) chunks) n2 o2 =
+      ap (λ (cs : List Chunk). looks_again passes cs ns os) (drop_at chunks i chunk lt is)
+      ∙ (λ j. (if are_none (sym p j) && agrees chunk.summary passes then 0 else length (sym r j)) + looks_again passes (drop (i + 1) chunks) (sym q j) (sym s j)) in
+      under u v e _ _ counted (subst (λ n. counted_on u n ≤ e) all before)
+
+  pub kept-next : (os o1 o2 : List Trace) (u v e : ℕ) → o1 ≡ take chunk.lines os → o2 ≡ drop chunk.lines os → v ≤ counted_on u (if agrees chunk.summary passes then 0 else length o1)
+      → counted_on u (looks_kept passes (drop i chunks) os) ≤ e → counted_on v (looks_kept passes (drop (i + 1) chunks) o2) ≤ e
+  kept-next os o1 o2 u v e r s counted before =
+      let all : looks_kept passes (drop i chunks) os ≡ (if agrees chunk.summary passes then 0 else length o1) + looks_kept passes (drop (i + 1) chunks) o2 =
+      ap (λ (cs : List Chunk). looks_kept passes cs os) (drop_at chunks i chunk lt is)
+      ∙ (λ j. (if agrees chunk.summary passes then 0 else length (sym r j)) + looks_kept passes (drop (i + 1) chunks) (sym s j)) in
+      under u v e _ _ counted (subst (λ n. counted_on u n ≤ e) all before)
+
+pub again-end : (passes : Named → Bool) (chunks : List Chunk) (i : ℕ) (ns : List (Option Trace)) (os : List Trace) (w e : ℕ) → length chunks ≤ i
+    → counted_on w (looks_again passes (drop i chunks) ns os) ≤ e → w ≤ e
+again-end passes chunks i ns os w e past before = no-more w e (subst (λ (cs : List Chunk). counted_on w (looks_again passes cs ns os) ≤ e) (drop_all i chunks past) before)
+
+pub kept-end : (passes : Named → Bool) (chunks : List Chunk) (i : ℕ) (os : List Trace) (w e : ℕ) → length chunks ≤ i → counted_on w (looks_kept passes (drop i chunks) os) ≤ e → w ≤ e
+kept-end passes chunks i os w e past before = no-more w e (subst (λ (cs : List Chunk). counted_on w (looks_kept passes cs os) ≤ e) (drop_all i chunks past) before)
+
+-- the front parts of two lists are as long
+pub same-parts : (n : ℕ) (ns : List (Option Trace)) (os : List Trace) → length ns ≡ length os → length (take n ns) ≡ length (take n os)
+same-parts n ns os e = grind (arith, e, common_steps)
+
+pub same-behind : (n : ℕ) (ns : List (Option Trace)) (os : List Trace) → length ns ≡ length os → length (drop n ns) ≡ length (drop n os)
+same-behind n ns os e = length-drop n ns ∙ ap (λ k. k - n) e ∙ sym (length-drop n os)
+
+module _ (was now : Resolved) where
+  -- no line is left
+  pub redoes-end : (u : Counts) (ns : List (Option Trace)) (os : List Trace) → length ns ≡ length os → os ≡ [] → Redoes was now u u ns os []
+  redoes-end u [] os e none = subst (λ (ts : List Trace). Redoes was now u u [] ts []) (sym none) (redoes-none was now u)
+  redoes-end u (n ∷ ns) os e none = absurd (omega (arith, e, ap length none))
+
+  pub kept-redoes-next : (n : ℕ) (u v w : Counts) (os o1 o2 : List Trace) (ms ks : List (Option Outcome)) → o1 ≡ take n os → o2 ≡ drop n os
+      → Redoes was now u v (nones {X = Trace} (length o1)) o1 ms → Redoes was now v w (nones {X = Trace} (length o2)) o2 ks → Redoes was now u w (nones {X = Trace} (length os)) os (ms ++ ks)
+  kept-redoes-next n u v w os o1 o2 ms ks r s one two =
+      subst (λ (ts : List Trace). Redoes was now u w (nones {X = Trace} (length ts)) ts (ms ++ ks)) ((λ i. r i ++ s i) ∙ take-append-drop n os)
+      (subst (λ (ns : List (Option Trace)). Redoes was now u w ns (o1 ++ o2) (ms ++ ks)) (nones-both o1 o2)
+      (redoes-join was now u v w (nones {X = Trace} (length o1)) (nones {X = Trace} (length o2)) o1 o2 ms ks (length_nones Trace (length o1)) one two))
+
+  pub kept-part : (n : ℕ) (os o1 o2 : List Trace) → o1 ≡ take n os → o2 ≡ drop n os → redone_kept was now os ≡ redone_kept was now o1 + redone_kept was now o2
+  kept-part n os o1 o2 r s =
+      ap (λ (ts : List Trace). redone_kept was now ts) (sym ((λ i. r i ++ s i) ∙ take-append-drop n os))
+      ∙ ap (λ (ns : List (Option Trace)). redone_from was now (map is_some ns) (o1 ++ o2)) (sym (nones-both o1 o2))
+      ∙ ap (λ bs. redone_from was now bs (o1 ++ o2)) (map-append is_some (nones {X = Trace} (length o1)) (nones {X = Trace} (length o2)))
+      ∙ redone-append was now (map is_some (nones {X = Trace} (length o1))) (map is_some (nones {X = Trace} (length o2))) o1 o2
+      (length-map (nones {X = Trace} (length o1)) ∙ length_nones Trace (length o1))
+
+-- ---- results
+
+pub redoes-whole : {X E : Type 0} (r : Result X E) (items : X → List (Option Outcome)) (was now : Resolved) (u v : Counts) (ns : List (Option Trace)) (os : List Trace)
+    → IfOk r (λ x. merged (items x) (outcomes_by was os) ≡ outcomes_by now (merged ns os)) → IfOk r (λ x. length (items x) ≡ length os)
+    → OnOk r (v.twos ≡ counted_on u.twos (redone_from was now (map is_some ns) os)) → IfOk r (λ x. Redoes was now u v ns os (items x))
+redoes-whole (Ok x) items was now u v ns os p q t = record { outcomes = p; len = q; twos = t }
+redoes-whole (Err e) items was now u v ns os p q t = tt
+
+pub kept-one : (was now : Resolved) (u v : Counts) (os : List Trace) (ms : List (Option Outcome)) → merged ms (outcomes_by was os) ≡ outcomes_by now os → length ms ≡ length os
+    → v.twos ≡ counted_on u.twos (redone_kept was now os) → Redoes was now u v (nones {X = Trace} (length os)) os ms
+kept-one was now u v os ms p q t = record { outcomes = p ∙ ap (outcomes_by now) (sym (merged_nones os (length os) refl)); len = q; twos = t }
+
+pub kept-whole : {X E : Type 0} (r : Result X E) (items : X → List (Option Outcome)) (was now : Resolved) (u v : Counts) (os : List Trace)
+    → IfOk r (λ x. merged (items x) (outcomes_by was os) ≡ outcomes_by now os) → IfOk r (λ x. length (items x) ≡ length os)
+    → OnOk r (v.twos ≡ counted_on u.twos (redone_kept was now os)) → IfOk r (λ x. Redoes was now u v (nones {X = Trace} (length os)) os (items x))
+kept-whole (Ok x) items was now u v os p q t = kept-one was now u v os (items x) p q t
+kept-whole (Err e) items was now u v os p q t = tt

@@ -1,0 +1,6 @@
+use Rattle.std.proofs.Common.{◌≡◌}
+use Rattle.cps_edit.specs.Renewed.{nones}
+use Rattle.cps_chunks.proofs.chunk.nones.Given as goal
+
+abbrev pub invariant-loop : goal.invariant-loop
+invariant-loop l = l.list.items ≡ nones l.loop-index

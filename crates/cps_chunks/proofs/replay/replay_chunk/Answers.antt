@@ -1,0 +1,32 @@
+use Rattle.std.proofs.Common.{rules, arith, true, ◌≡◌, List, Option, length, refl, sym, ap, subst, ◌∙◌}
+use Rattle.std.specs.Prelude.{if◌then◌else◌}
+use Rattle.cps_state.specs.Course.{Trace}
+use Rattle.cps_state.specs.Keys.{State}
+use Rattle.cps_edit.specs.contracts.front.FrontGathered.TheImpl.{gathered-value}
+use Rattle.cps_chunks.specs.Chunks.{Replays, stands}
+use Rattle.cps_chunks.proofs.ChunkLemmas.{done-long, done-meant, replays-same, stood, on-ok, replays-whole, looked-whole}
+use Rattle.cps_chunks.proofs.replay.replay_chunk.Goals as goal
+
+pub replay-requires-clause-same_len : goal.replay-requires-clause-same_len
+replay-requires-clause-same_len c = sym (done-long c.args.lines.now c.args.olds.now c.requires.done)
+
+pub replay-requires-clause-meant : goal.replay-requires-clause-meant
+replay-requires-clause-meant c = done-meant c.args.lines.now c.args.olds.now c.requires.done
+
+pub returns-then-stands_in-clause-replays : goal.returns-then-stands_in-clause-replays
+returns-then-stands_in-clause-replays c =
+    let ls = c.args.lines.now in
+    let os = c.args.olds.now in
+    let a = gathered-value.it c.args.front.now in
+    let b = gathered-value.it c.pass_over_all.new.self in
+    let w = c.args.work.now in
+    let yes : c.stands_in.result ≡ true = search rules in
+    let here = ap (stands c.args.chunk.now.summary) (sym c.state.ensures) ∙ sym c.stands_in.ensures ∙ yes in
+    let same = stood c.args.chunk.now.summary a.state ls os c.requires.done c.requires.summed here in
+    on-ok c.nones.result _ _ (λ news is. subst (λ (ns : List (Option Trace)). Replays a b w w ls os ns) (sym is)
+    (replays-same a b w ls os c.len.result same c.len.ensures c.in_ok-pass_over_all.ensures.ok c.in_ok-pass_over_all.ensures.state)) c.nones.ensures
+
+pub returns-clause-replays : goal.returns-clause-replays
+returns-clause-replays c =
+    replays-whole c.replay.result (λ news. news.items) (gathered-value.it c.args.front.now) (gathered-value.it c.replay.new.self) c.args.work.now c.replay.new.work c.args.lines.now c.args.olds.now
+    c.replay.ensures.traces c.replay.ensures.len c.replay.ensures.new c.replay.ensures.ok c.replay.ensures.state c.replay.ensures.ones

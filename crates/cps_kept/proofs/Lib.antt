@@ -1,0 +1,10 @@
+pub mod CommitLemmas
+pub mod SecondLemmas
+pub mod WholeLemmas
+pub mod SettledLemmas
+pub mod OpenLemmas
+pub mod ThroughLemmas
+pub mod AppendLemmas
+pub mod QuietLemmas
+pub mod LeftLemmas
+pub mod InPlaceLemmas

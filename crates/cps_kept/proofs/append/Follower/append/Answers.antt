@@ -1,0 +1,189 @@
+use Rattle.std.proofs.Common.{◌≡◌, ◌≤◌, ◌++◌, ◌∷◌, [], List, Option, Vec, Global, sym, ap, subst, ◌∙◌}
+use Rattle.std.specs.Prelude.{IfSome}
+use Rattle.cps_state.specs.Work.{Counts, counted_on}
+use Rattle.cps_final.specs.Finals.{Finals, finals_of, final_value}
+use Rattle.cps_final.specs.contracts.finals.FinalsGathered.TheImpl.{gathered-value}
+use Rattle.cps_final.specs.Outcome.{outcome_of}
+use Rattle.cps_kept.specs.declared.open.Open.{Open}
+use Rattle.cps_edit.specs.Renewed.{redone_kept}
+use Rattle.cps_state.specs.Course.{Trace}
+use Rattle.cps_kept.specs.declared.append.Follower.{Follower}
+use Rattle.cps_kept.specs.Append.{Follows, is_settled, Covers, finals_before, finals_after}
+use Rattle.cps_edit.specs.contracts.front.FrontGathered.TheImpl as front
+use Rattle.cps_kept.proofs.AppendLemmas.{ones-appended, step-whole, step-gathers, step-finals, step-twos, step-state, twos-first, twos-last, appended-outcomes}
+use Rattle.cps_edit.proofs.ReplayLemmas.{on-err, le-same}
+use Rattle.cps_kept.proofs.WholeLemmas.{more_up, more_under}
+use Rattle.cps_kept.proofs.append.Follower.append.Goals as goal
+
+-- what follows is taken out, and what it followed it follows still
+taken : (follower old : Follower) (traces : List Trace) → follower ≡ old → Follows old traces → Follows follower traces
+taken follower old traces same follows = subst (λ (f : Follower). Follows f traces) (sym same) follows
+
+-- what is left in its place follows any lines
+left : (follower fresh : Follower) → follower ≡ fresh → ((traces : List Trace) → Follows fresh traces) → (traces : List Trace) → Follows follower traces
+left follower fresh same follows traces = taken follower fresh traces same (follows traces)
+
+pub catch_up-requires : goal.catch_up-requires
+catch_up-requires c = taken c.replace-follower.result c.args.self.now c.args.kept.traces.now c.replace-follower.ensures.value c.requires.follows
+
+pub returns-in_err-catch_up-clause-err : goal.returns-in_err-catch_up-clause-err
+returns-in_err-catch_up-clause-err c = on-err _ (left c.replace-follower.new.dest c.new.result c.replace-follower.ensures.after c.new.ensures)
+
+pub returns-in_err-trace-clause-err : goal.returns-in_err-trace-clause-err
+returns-in_err-trace-clause-err c = on-err _ (left c.replace-follower.new.dest c.new.result c.replace-follower.ensures.after c.new.ensures)
+
+pub returns-in_err-changes-clause-err : goal.returns-in_err-changes-clause-err
+returns-in_err-changes-clause-err c = on-err _ (left c.replace-follower.new.dest c.new.result c.replace-follower.ensures.after c.new.ensures)
+
+pub returns-in_err-outcome-clause-err : goal.returns-in_err-outcome-clause-err
+returns-in_err-outcome-clause-err c = on-err _ (left c.replace-follower.new.dest c.new.result c.replace-follower.ensures.after c.new.ensures)
+
+pub returns-in_err-trace-clause-ones_err : goal.returns-in_err-trace-clause-ones_err
+returns-in_err-trace-clause-ones_err c =
+    let one : c.step.new.work.ones ≡ counted_on c.args.work.now.ones 1 = ap (λ (w : Counts). w.ones) c.in_err-trace.ensures.step in
+    on-err _ (more_under c.args.work.now.ones c.step.new.work.ones 1 _ (le-same _ _ one) (ones-appended c.args.kept.lines.now c.args.line.now))
+
+pub of-arrival-requires : goal.of-arrival-requires
+of-arrival-requires c =
+    let lines = c.args.kept.lines.now in
+    let line = c.args.line.now in
+    let traces = c.args.kept.traces.now in
+    let caught = front.gathered-value.it c.catch_up.new.self.front in
+    let next = front.gathered-value.it c.step.new.self in
+    let was = gathered-value.it c.args.kept.finals.now in
+    let trace = c.in_ok-trace.trace in
+    step-state lines line traces trace caught next was c.requires.kept c.requires.finals c.in_ok-catch_up.ensures.gathered c.in_ok-trace.ensures.trace c.in_ok-trace.ensures.ok (gathered-value.it c.finals.result.now) c.puts.result.now c.finals.ensures c.in_ok-trace.ensures.state c.puts.ensures
+
+pub change-requires-clause-before : goal.change-requires-clause-before
+change-requires-clause-before c = c.of-arrival.ensures.before ∙ c.requires.finals ∙ ap finals_of (sym c.requires.kept)
+
+pub change-requires-clause-after : goal.change-requires-clause-after
+change-requires-clause-after c =
+    let lines = c.args.kept.lines.now in
+    let line = c.args.line.now in
+    let traces = c.args.kept.traces.now in
+    let caught = front.gathered-value.it c.catch_up.new.self.front in
+    let next = front.gathered-value.it c.step.new.self in
+    let was = gathered-value.it c.args.kept.finals.now in
+    let trace = c.in_ok-trace.trace in
+    c.of-arrival.ensures.after ∙ c.finals.ensures ∙ step-gathers lines line traces trace caught next was c.requires.kept c.requires.finals c.in_ok-catch_up.ensures.gathered c.in_ok-trace.ensures.trace c.in_ok-trace.ensures.ok
+
+pub change-requires-clause-known : goal.change-requires-clause-known
+change-requires-clause-known c =
+    let traces = c.args.kept.traces.now in
+    let before = finals_before c.of-arrival.result in
+    let same : finals_of traces ≡ before = ap finals_of c.requires.kept ∙ sym c.requires.finals ∙ sym c.of-arrival.ensures.before in
+    subst (λ (o : Option (Vec Open Global)). IfSome o (λ known. Covers (is_settled before.state) 0 known.items traces)) (sym (c.take.ensures.value ∙ c.in_ok-catch_up.ensures.opened))
+    (subst (λ (f : Finals). IfSome c.replace-follower.result.«open» (λ known. Covers (is_settled f.state) 0 known.items traces)) same (taken c.replace-follower.result c.args.self.now traces c.replace-follower.ensures.value c.requires.follows).opened)
+
+pub returns-in_err-changes-clause-ones_err : goal.returns-in_err-changes-clause-ones_err
+returns-in_err-changes-clause-ones_err c =
+    let one : c.step.new.work.ones ≡ counted_on c.args.work.now.ones 1 = ap (λ (w : Counts). w.ones) c.in_ok-trace.ensures.step in
+    on-err _ (more_under c.args.work.now.ones c.change.new.work.ones 1 _ (le-same _ _ (c.in_err-changes.ensures.ones ∙ one)) (ones-appended c.args.kept.lines.now c.args.line.now))
+
+pub returns-in_err-changes-clause-twos_err : goal.returns-in_err-changes-clause-twos_err
+returns-in_err-changes-clause-twos_err c =
+    let lines = c.args.kept.lines.now in
+    let line = c.args.line.now in
+    let traces = c.args.kept.traces.now in
+    let caught = front.gathered-value.it c.catch_up.new.self.front in
+    let next = front.gathered-value.it c.step.new.self in
+    let was = gathered-value.it c.args.kept.finals.now in
+    let trace = c.in_ok-trace.trace in
+    let before = finals_before c.of-arrival.result in
+    let after = finals_after c.of-arrival.result in
+    let twos = step-twos lines line traces trace caught next was c.requires.kept c.requires.finals c.in_ok-catch_up.ensures.gathered c.in_ok-trace.ensures.trace c.in_ok-trace.ensures.ok before after c.of-arrival.ensures.before (c.of-arrival.ensures.after ∙ c.finals.ensures) in
+    let same : c.step.new.work.twos ≡ c.args.work.now.twos = ap (λ (w : Counts). w.twos) c.in_ok-trace.ensures.step in
+    let by = redone_kept (final_value before) (final_value after) traces in
+    on-err _ (twos-first c.args.work.now.twos c.change.new.work.twos by _ (subst (λ n. c.change.new.work.twos ≤ counted_on n by) same c.in_err-changes.ensures.twos_err) twos)
+
+pub returns-in_err-outcome-clause-ones_err : goal.returns-in_err-outcome-clause-ones_err
+returns-in_err-outcome-clause-ones_err c =
+    let first : c.step.new.work.ones ≡ counted_on c.args.work.now.ones 1 = ap (λ (w : Counts). w.ones) c.in_ok-trace.ensures.step in
+    let one : c.step_two.new.work.ones ≡ counted_on c.args.work.now.ones 1 = ap (λ (w : Counts). w.ones) c.in_err-outcome.ensures.step ∙ c.in_ok-changes.ensures.ones ∙ first in
+    on-err _ (more_under c.args.work.now.ones c.step_two.new.work.ones 1 _ (le-same _ _ one) (ones-appended c.args.kept.lines.now c.args.line.now))
+
+pub returns-in_err-outcome-clause-twos_err : goal.returns-in_err-outcome-clause-twos_err
+returns-in_err-outcome-clause-twos_err c =
+    let lines = c.args.kept.lines.now in
+    let line = c.args.line.now in
+    let traces = c.args.kept.traces.now in
+    let caught = front.gathered-value.it c.catch_up.new.self.front in
+    let next = front.gathered-value.it c.step.new.self in
+    let was = gathered-value.it c.args.kept.finals.now in
+    let trace = c.in_ok-trace.trace in
+    let before = finals_before c.of-arrival.result in
+    let after = finals_after c.of-arrival.result in
+    let twos = step-twos lines line traces trace caught next was c.requires.kept c.requires.finals c.in_ok-catch_up.ensures.gathered c.in_ok-trace.ensures.trace c.in_ok-trace.ensures.ok before after c.of-arrival.ensures.before (c.of-arrival.ensures.after ∙ c.finals.ensures) in
+    let same : c.step.new.work.twos ≡ c.args.work.now.twos = ap (λ (w : Counts). w.twos) c.in_ok-trace.ensures.step in
+    let by = redone_kept (final_value before) (final_value after) traces in
+    let middle : c.change.new.work.twos ≡ counted_on c.args.work.now.twos by = c.in_ok-changes.ensures.twos ∙ ap (λ n. counted_on n by) same in
+    let all = twos-last c.args.work.now.twos c.change.new.work.twos c.step_two.new.work.twos by _ middle (ap (λ (w : Counts). w.twos) c.in_err-outcome.ensures.step) twos in
+    on-err _ (le-same _ _ all)
+
+pub returns-clause-traces : goal.returns-clause-traces
+returns-clause-traces c =
+    let lines = c.args.kept.lines.now in
+    let line = c.args.line.now in
+    let traces = c.args.kept.traces.now in
+    let caught = front.gathered-value.it c.catch_up.new.self.front in
+    let next = front.gathered-value.it c.step.new.self in
+    let was = gathered-value.it c.args.kept.finals.now in
+    let trace = c.in_ok-trace.trace in
+    step-whole lines line traces trace caught next was c.requires.kept c.requires.finals c.in_ok-catch_up.ensures.gathered c.in_ok-trace.ensures.trace c.in_ok-trace.ensures.ok
+
+pub returns-clause-outcomes : goal.returns-clause-outcomes
+returns-clause-outcomes c olds is =
+    let lines = c.args.kept.lines.now in
+    let line = c.args.line.now in
+    let traces = c.args.kept.traces.now in
+    let caught = front.gathered-value.it c.catch_up.new.self.front in
+    let next = front.gathered-value.it c.step.new.self in
+    let was = gathered-value.it c.args.kept.finals.now in
+    let trace = c.in_ok-trace.trace in
+    let before = finals_before c.of-arrival.result in
+    let after = finals_after c.of-arrival.result in
+    let there : after ≡ next = c.of-arrival.ensures.after ∙ c.finals.ensures in
+    let last : c.in_ok-outcome.outcome ≡ outcome_of (final_value after) trace = c.in_ok-outcome.ensures.outcome ∙ ap (λ (f : Finals). outcome_of (final_value f) trace) (c.finals-2.ensures ∙ sym there) in
+    appended-outcomes lines line traces trace before after c.in_ok-changes.field-0.changes.items c.in_ok-outcome.outcome olds (c.of-arrival.ensures.before ∙ c.requires.finals)
+    (there ∙ step-finals lines line traces trace caught next was c.requires.kept c.requires.finals c.in_ok-catch_up.ensures.gathered c.in_ok-trace.ensures.trace c.in_ok-trace.ensures.ok) (step-whole lines line traces trace caught next was c.requires.kept c.requires.finals c.in_ok-catch_up.ensures.gathered c.in_ok-trace.ensures.trace c.in_ok-trace.ensures.ok) c.in_ok-changes.ensures.outcomes last is
+
+pub returns-clause-ahead : goal.returns-clause-ahead
+returns-clause-ahead c =
+    let lines = c.args.kept.lines.now in
+    let line = c.args.line.now in
+    let traces = c.args.kept.traces.now in
+    let caught = front.gathered-value.it c.catch_up.new.self.front in
+    let next = front.gathered-value.it c.step.new.self in
+    let was = gathered-value.it c.args.kept.finals.now in
+    let trace = c.in_ok-trace.trace in
+    let there : finals_after c.of-arrival.result ≡ finals_of (traces ++ trace ∷ []) = c.of-arrival.ensures.after ∙ c.finals.ensures ∙ step-gathers lines line traces trace caught next was c.requires.kept c.requires.finals c.in_ok-catch_up.ensures.gathered c.in_ok-trace.ensures.trace c.in_ok-trace.ensures.ok in
+    record {
+      count = c.in_ok-catch_up.ensures.count;
+      gathered = step-gathers lines line traces trace caught next was c.requires.kept c.requires.finals c.in_ok-catch_up.ensures.gathered c.in_ok-trace.ensures.trace c.in_ok-trace.ensures.ok;
+      opened = subst (λ (f : Finals). IfSome c.in_ok-changes.field-0.«open» (λ known. Covers (is_settled f.state) 0 known.items (traces ++ trace ∷ []))) there c.in_ok-changes.ensures.opened;
+    }
+
+pub returns-clause-ones : goal.returns-clause-ones
+returns-clause-ones c =
+    let first : c.step.new.work.ones ≡ counted_on c.args.work.now.ones 1 = ap (λ (w : Counts). w.ones) c.in_ok-trace.ensures.step in
+    let one : c.step_two.new.work.ones ≡ counted_on c.args.work.now.ones 1 = ap (λ (w : Counts). w.ones) c.in_ok-outcome.ensures.step ∙ c.in_ok-changes.ensures.ones ∙ first in
+    more_up c.args.work.now.ones c.step_two.new.work.ones 1 _ one (ones-appended c.args.kept.lines.now c.args.line.now)
+
+pub returns-clause-twos : goal.returns-clause-twos
+returns-clause-twos c =
+    let lines = c.args.kept.lines.now in
+    let line = c.args.line.now in
+    let traces = c.args.kept.traces.now in
+    let caught = front.gathered-value.it c.catch_up.new.self.front in
+    let next = front.gathered-value.it c.step.new.self in
+    let was = gathered-value.it c.args.kept.finals.now in
+    let trace = c.in_ok-trace.trace in
+    let before = finals_before c.of-arrival.result in
+    let after = finals_after c.of-arrival.result in
+    let twos = step-twos lines line traces trace caught next was c.requires.kept c.requires.finals c.in_ok-catch_up.ensures.gathered c.in_ok-trace.ensures.trace c.in_ok-trace.ensures.ok before after c.of-arrival.ensures.before (c.of-arrival.ensures.after ∙ c.finals.ensures) in
+    let same : c.step.new.work.twos ≡ c.args.work.now.twos = ap (λ (w : Counts). w.twos) c.in_ok-trace.ensures.step in
+    let by = redone_kept (final_value before) (final_value after) traces in
+    let middle : c.change.new.work.twos ≡ counted_on c.args.work.now.twos by = c.in_ok-changes.ensures.twos ∙ ap (λ n. counted_on n by) same in
+    let all = twos-last c.args.work.now.twos c.change.new.work.twos c.step_two.new.work.twos by _ middle (ap (λ (w : Counts). w.twos) c.in_ok-outcome.ensures.step) twos in
+    all

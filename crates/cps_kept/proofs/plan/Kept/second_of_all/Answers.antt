@@ -1,0 +1,94 @@
+use Rattle.std.proofs.Common.{rules, arith, ◌≡◌, ◌≤◌, List, length, take, drop, sym, ap, subst, ◌∙◌}
+use Rattle.std.proofs.lemmas.List.{length-drop}
+use Rattle.cps_state.specs.Course.{Trace}
+use Rattle.cps_state.specs.Work.{counted_on}
+use Rattle.cps_final.specs.Finals.{final_value}
+use Rattle.cps_final.specs.Resolving.{resolved}
+use Rattle.cps_edit.specs.Passes.{outcomes_by}
+use Rattle.cps_edit.specs.Renewed.{merged, nones, redone_parts}
+use Rattle.cps_edit.specs.contracts.front.FrontGathered.TheImpl.{gathered-value}
+use Rattle.cps_edit.proofs.ReplayLemmas.{on-err}
+use Rattle.cps_kept.proofs.SecondLemmas.{second_steps, second_last, second_mid, second_first, mended-outcomes}
+use Rattle.cps_edit.proofs.TakenLemmas.{mended_merged}
+use Rattle.cps_kept.proofs.WholeLemmas.{renamed}
+use Rattle.cps_kept.proofs.plan.Kept.second_of_all.Goals as goal
+
+pub returns-in_err-before-clause-twos_err : goal.returns-in_err-before-clause-twos_err
+returns-in_err-before-clause-twos_err c =
+    let was = resolved c.args.self.finals.now in
+    let now = resolved c.finals.result.now in
+    let there = final_value (gathered-value.it c.args.front.now) in
+    let front = c.split_at.result.0.now in
+    on-err _ (second_first was now there (nones (length front)) c.args.plan.now.news.items front c.split_at-2.result.1.now c.args.self.traces.now c.args.plan.now.first.items c.args.keep c.args.from
+    c.args.work.now.twos c.redo_kept.new.work.twos 0 0 (ap final_value c.finals.ensures) (ap (nones {X = Trace}) c.split_at.ensures.front_len) c.split_at.ensures.front c.split_at-2.ensures.back
+    c.in_err-before.ensures.twos_err)
+
+pub returns-in_err-first-clause-twos_err : goal.returns-in_err-first-clause-twos_err
+returns-in_err-first-clause-twos_err c =
+    let was = resolved c.args.self.finals.now in
+    let now = resolved c.finals.result.now in
+    let there = final_value (gathered-value.it c.args.front.now) in
+    let front = c.split_at.result.0.now in
+    let firsts = c.args.plan.now.first.items in
+    let at_first : c.deref.result.now ≡ firsts = search rules in
+    let step : c.step_two_all.new.work.twos ≤ counted_on c.redo_kept.new.work.twos (length firsts) =
+    subst (λ (fs : List Trace). c.step_two_all.new.work.twos ≤ counted_on c.redo_kept.new.work.twos (length fs)) at_first c.in_err-first.ensures.twos_err in
+    on-err _ (second_mid was now there (nones (length front)) c.args.plan.now.news.items front c.split_at-2.result.1.now c.args.self.traces.now firsts c.args.keep c.args.from
+    c.args.work.now.twos c.redo_kept.new.work.twos c.step_two_all.new.work.twos 0 (ap final_value c.finals.ensures) (ap (nones {X = Trace}) c.split_at.ensures.front_len) c.split_at.ensures.front c.split_at-2.ensures.back
+    c.in_ok-before.ensures.twos step)
+
+pub returns-in_err-behind-clause-twos_err : goal.returns-in_err-behind-clause-twos_err
+returns-in_err-behind-clause-twos_err c =
+    let was = resolved c.args.self.finals.now in
+    let now = resolved c.finals.result.now in
+    let there = final_value (gathered-value.it c.args.front.now) in
+    let front = c.split_at.result.0.now in
+    let traces = c.args.self.traces.now in
+    let firsts = c.args.plan.now.first.items in
+    let news = c.args.plan.now.news.items in
+    let at_first : c.deref.result.now ≡ firsts = search rules in
+    let at_news : c.deref-2.result.now ≡ news = search rules in
+    on-err _ (renamed (λ F N. c.redo.new.work.twos ≤ counted_on c.args.work.now.twos (redone_parts was there traces c.args.keep c.args.from F N)) _ firsts _ news at_first at_news
+    (second_last was now there (nones (length front)) c.deref-2.result.now front c.split_at-2.result.1.now traces c.deref.result.now c.args.keep c.args.from
+    c.args.work.now.twos c.redo_kept.new.work.twos c.step_two_all.new.work.twos c.redo.new.work.twos (ap final_value c.finals.ensures) (ap (nones {X = Trace}) c.split_at.ensures.front_len) c.split_at.ensures.front c.split_at-2.ensures.back
+    c.in_ok-before.ensures.twos c.in_ok-first.ensures.twos c.in_err-behind.ensures.twos_err))
+
+pub returns-clause-before : goal.returns-clause-before
+returns-clause-before c =
+    let was = resolved c.args.self.finals.now in
+    let same = ap final_value c.finals.ensures in
+    mended-outcomes was c.in_ok-before.before.items c.split_at.result.0.now (take c.args.keep c.args.self.traces.now) c.split_at.ensures.front c.in_ok-before.ensures.len ∙ c.in_ok-before.ensures.outcomes
+    ∙ (λ i. outcomes_by (same i) (c.split_at.ensures.front i))
+
+pub returns-clause-first : goal.returns-clause-first
+returns-clause-first c =
+    let at_first : c.deref.result.now ≡ c.args.plan.now.first.items = search rules in
+    let same = ap final_value c.finals.ensures in
+    c.in_ok-first.ensures.outcomes ∙ (λ i. outcomes_by (same i) (at_first i))
+
+pub returns-clause-behind : goal.returns-clause-behind
+returns-clause-behind c =
+    let was = resolved c.args.self.finals.now in
+    let news = c.args.plan.now.news.items in
+    let left = drop c.args.from c.args.self.traces.now in
+    let at_news : c.deref-2.result.now ≡ news = search rules in
+    let same = ap final_value c.finals.ensures in
+    let long : length news ≡ length left = omega (arith, c.requires.len, c.requires.within, length-drop c.args.from c.args.self.traces.now) in
+    mended-outcomes was c.in_ok-behind.behind.items c.split_at-2.result.1.now left c.split_at-2.ensures.back c.in_ok-behind.ensures.len ∙ c.in_ok-behind.ensures.outcomes
+    ∙ (λ i. outcomes_by (same i) (merged (at_news i) (c.split_at-2.ensures.back i))) ∙ ap (outcomes_by (final_value (gathered-value.it c.args.front.now))) (sym (mended_merged news left long))
+
+pub returns-clause-twos : goal.returns-clause-twos
+returns-clause-twos c =
+    let was = resolved c.args.self.finals.now in
+    let now = resolved c.finals.result.now in
+    let there = final_value (gathered-value.it c.args.front.now) in
+    let front = c.split_at.result.0.now in
+    let traces = c.args.self.traces.now in
+    let firsts = c.args.plan.now.first.items in
+    let news = c.args.plan.now.news.items in
+    let at_first : c.deref.result.now ≡ firsts = search rules in
+    let at_news : c.deref-2.result.now ≡ news = search rules in
+    renamed (λ F N. c.redo.new.work.twos ≡ counted_on c.args.work.now.twos (redone_parts was there traces c.args.keep c.args.from F N)) _ firsts _ news at_first at_news
+    (second_steps was now there (nones (length front)) c.deref-2.result.now front c.split_at-2.result.1.now traces c.deref.result.now c.args.keep c.args.from
+    c.args.work.now.twos c.redo_kept.new.work.twos c.step_two_all.new.work.twos c.redo.new.work.twos (ap final_value c.finals.ensures) (ap (nones {X = Trace}) c.split_at.ensures.front_len) c.split_at.ensures.front c.split_at-2.ensures.back
+    c.in_ok-before.ensures.twos c.in_ok-first.ensures.twos c.in_ok-behind.ensures.twos)

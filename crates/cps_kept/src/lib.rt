@@ -1,0 +1,20 @@
+//! An edit of a source: what its lines did in both passes is kept, and only what the edit disturbs is done again.
+#![tactic(auto)]
+
+mod append;
+mod arrival;
+mod commit;
+mod edit;
+mod in_place;
+pub mod laws;
+mod lists;
+mod open;
+mod plan;
+mod quiet;
+mod second;
+
+pub use append::{Append, Follower};
+pub use arrival::Change;
+pub use edit::Edit;
+pub use lists::Lists;
+pub use plan::{Kept, Plan};

@@ -1,0 +1,136 @@
+//! Pass one of an edit, made beside what is kept.
+ghost use Rattle.std.specs.Prelude.{◌≡◌, ◌+◌, ◌≤◌, ◌++◌, [], IfOk, OnOk, OnErr, IfNone, IfSome, length, take, drop};
+ghost use Rattle.cps_state.specs.Keys.{first_state};
+ghost use Rattle.cps_state.specs.Work.{counted_on};
+ghost use Rattle.cps_final.specs.Finals.{finals_of, final_value};
+ghost use Rattle.cps_final.specs.Resolving.{resolved};
+ghost use Rattle.cps_edit.specs.Passes.{state_after, traces_from, traces_of};
+ghost use Rattle.cps_edit.specs.Splice.{splice_at, spliced};
+ghost use Rattle.cps_edit.specs.Disturbed.{ones_of, twos_of};
+ghost use Rattle.cps_edit.specs.Renewed.{mended, redone_parts};
+ghost use Rattle.cps_edit.specs.GatheredNow.{gathered_now};
+
+use crate::in_place::leave_same;
+use cps_edit::Front;
+use cps_final::{Finals, Gathered};
+use cps_pass::{Trace, Work};
+use cps_text::Line;
+use std::alloc::{AllocError, Global};
+
+/// What is kept of a source: its lines, what each did in pass one, and its final values.
+#[derive(Clone, Copy)]
+pub struct Kept<'a> {
+    pub alloc: Global,
+    pub lines: &'a [Line],
+    pub traces: &'a [Trace],
+    pub finals: &'a Finals,
+}
+
+/// What the lines of an edited source do in pass one.
+pub struct Plan {
+    /// The new lines.
+    pub first: Vec<Trace>,
+    /// The lines behind them, each None where it does what it did; where the list ends before them, the rest do too.
+    pub news: Vec<Option<Trace>>,
+    /// What was gathered of all lines. None: no line but the new ones is disturbed, what is kept of the others stands, and `news` is empty.
+    pub front: Option<Front>,
+}
+
+// Written out, as that of the front.
+impl Drop for Plan {
+    fn drop(self) {
+        let Plan { first, news, front } = self;
+        drop(first);
+        drop(news);
+        drop(front);
+    }
+}
+
+impl Plan {
+    /// Its parts: the new lines, those behind them, and what was gathered.
+    pub fn into_parts(self) -> (Vec<Trace>, Vec<Option<Trace>>, Option<Front>)
+        ensures first { result.0 ≡ self.first }
+        ensures news { result.1 ≡ self.news }
+        ensures front { result.2 ≡ self.front }
+    {
+        let Plan { first, news, front } = self;
+        (first, news, front)
+    }
+}
+
+/// What the new lines do, and what was gathered of the lines up to the last of them.
+struct Begun {
+    first: Vec<Trace>,
+    front: Front,
+}
+
+impl<'a> Kept<'a> {
+    /// Pass one with new lines in the place of those after the first `keep` up to the first `from`. Where they leave the same as these, no other line is
+    /// gone through behind them.
+    pub fn plan(
+        self,
+        keep: usize,
+        from: usize,
+        new: &[Line],
+        work: &mut Work,
+    ) -> Result<Plan, AllocError>
+        requires kept { self.traces.now ≡ traces_of self.lines.now }
+        requires finals { ⟦<Finals as Gathered>⟧.gathered self.finals.now ≡ finals_of (traces_of self.lines.now) }
+        requires ordered { keep ≤ from }
+        requires within { from ≤ length self.lines.now }
+        ensures traces { IfOk result (λ plan. take keep self.entry.traces.now ++ (plan.first.items ++ mended plan.news.items (drop from self.entry.traces.now))
+            ≡ traces_of (spliced self.entry.lines.now (splice_at keep from new.now))) }
+        ensures first { IfOk result (λ plan. length plan.first.items ≡ length new.now) }
+        ensures len { IfOk result (λ plan. from + length plan.news.items ≤ length self.entry.traces.now) }
+        ensures all { IfOk result (λ plan. IfSome plan.front (λ front. from + length plan.news.items ≡ length self.entry.traces.now)) }
+        ensures none { IfOk result (λ plan. IfNone plan.front (plan.news.items ≡ [])) }
+        ensures finals { IfOk result (λ plan. gathered_now (⟦<Finals as Gathered>⟧.gathered self.entry.finals.now) plan.front
+            ≡ finals_of (traces_of (spliced self.entry.lines.now (splice_at keep from new.now)))) }
+        ensures count { IfOk result (λ plan. twos_of self.entry.lines.now (splice_at keep from new.now)
+            ≡ redone_parts (resolved self.entry.finals.now) (final_value (gathered_now (⟦<Finals as Gathered>⟧.gathered self.entry.finals.now) plan.front)) self.entry.traces.now keep from plan.first.items plan.news.items) }
+        ensures ones { OnOk result (work.new.ones ≡ counted_on work.old.ones (ones_of self.entry.lines.now (splice_at keep from new.now))) }
+        ensures ones_err { OnErr result (work.new.ones ≤ counted_on work.old.ones (ones_of self.entry.lines.now (splice_at keep from new.now))) }
+        ensures ones_least { work.old.ones ≤ work.new.ones }
+        ensures twos { work.new.twos ≡ work.old.twos }
+    {
+        let begun = self.begin(keep, new, work)?;
+        let Begun { first, front } = begun;
+        let mut front = front;
+        let (_, lines_behind) = self.lines.split_at(from);
+        let (up_to, traces_behind) = self.traces.split_at(from);
+        let (_, olds) = up_to.split_at(keep);
+        if leave_same(olds, &first) {
+            return Ok(Plan {
+                first,
+                news: Vec::new(self.alloc),
+                front: None,
+            });
+        }
+        let news = front.replay(lines_behind, traces_behind, work)?;
+        Ok(Plan {
+            first,
+            news,
+            front: Some(front),
+        })
+    }
+
+    /// Goes over the first `keep` lines, and steps the new ones.
+    fn begin(self, keep: usize, new: &[Line], work: &mut Work) -> Result<Begun, AllocError>
+        requires kept { self.traces.now ≡ traces_of self.lines.now }
+        requires within { keep ≤ length self.lines.now }
+        ensures traces { IfOk result (λ begun. begun.first.items ≡ traces_from (state_after first_state (take keep self.entry.lines.now)) new.now) }
+        ensures state { IfOk result (λ begun. (⟦<Front as Gathered>⟧.gathered begun.front).state ≡ state_after (state_after first_state (take keep self.entry.lines.now)) new.now) }
+        ensures finals { IfOk result (λ begun. ⟦<Front as Gathered>⟧.gathered begun.front
+            ≡ finals_of (traces_of (take keep self.entry.lines.now) ++ traces_from (state_after first_state (take keep self.entry.lines.now)) new.now)) }
+        ensures ones { OnOk result (work.new.ones ≡ counted_on work.old.ones (length new.now)) }
+        ensures ones_err { OnErr result (work.new.ones ≤ counted_on work.old.ones (length new.now)) }
+        ensures ones_least { work.old.ones ≤ work.new.ones }
+        ensures twos { work.new.twos ≡ work.old.twos }
+    {
+        let mut front = Front::new(self.alloc, self.finals.hashing());
+        let (before, _) = self.traces.split_at(keep);
+        front.pass_over_all(before)?;
+        let first = front.step_all(new, work)?;
+        Ok(Begun { first, front })
+    }
+}
