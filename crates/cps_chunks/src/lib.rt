@@ -11,11 +11,11 @@ mod replay;
 mod run;
 #[cfg(test)]
 mod run_rows;
-mod sum_up;
+mod summing;
 
 pub use chunk::{Behind, Chunk, InFront, Summary};
 pub use names::{Names, names_agree};
 pub use redo::Again;
 pub use replay::{replay_behind, replay_chunks};
 pub use run::Run;
-pub use sum_up::sum_up;
+pub use summing::sum_up;

@@ -1,12 +1,12 @@
 //! What the statements of a run of lines name for pass two.
 ghost use Rattle.std.specs.Prelude.{◌≡◌, [], flat_map, map, nat_eq, List, IfOk, OnOk};
-ghost use Rattle.std.specs.List.{list_any};
+ghost use Rattle.std.specs.List.{list_all, list_any};
 ghost use Rattle.std.specs.Option.{option_eq};
 ghost use Rattle.cps_code.specs.Operand.{operand_names};
 ghost use Rattle.cps_expr.specs.Value.{same_name};
 ghost use Rattle.cps_state.specs.Course.{Trace as Did};
 ghost use Rattle.cps_state.specs.Made.{content_names};
-ghost use Rattle.cps_final.specs.Finals.{final_value};
+ghost use Rattle.cps_final.specs.Finals.{final_value, label, block as block_named, literal};
 ghost use Rattle.cps_final.specs.Outcome.{labels_read, blocks_named, blocks_shown, blocks_stood};
 ghost use Rattle.cps_edit.specs.Agreeing.{same_named};
 ghost use Rattle.cps_chunks.specs.Named.{statements_of};
@@ -81,9 +81,9 @@ impl Names {
     pub fn all_pass<N: Naming>(&self, naming: &N) -> bool
         ensures { result ≡ all_pass (N.passes naming.now) self.now }
     {
-        self.labels.iter().all(|name| naming.label(*name))
-            && self.blocks.iter().all(|name| naming.block(*name))
-            && self.literals.iter().all(|word| naming.literal(*word))
+        labels_pass(self.labels(), naming)
+            && blocks_pass(self.blocks(), naming)
+            && literals_pass(self.literals(), naming)
     }
 }
 
@@ -97,6 +97,26 @@ pub fn names_agree(names: &Names, was: &Finals, now: &Finals) -> bool
         after: now,
     };
     names.all_pass(&ends)
+}
+
+// ---- a test of each
+
+fn labels_pass<N: Naming>(labels: &[Name], naming: &N) -> bool
+    ensures { result ≡ list_all (λ name. N.passes naming.now (label name)) labels.now }
+{
+    labels.iter().all(|name| naming.label(*name))
+}
+
+fn blocks_pass<N: Naming>(blocks: &[Option<Name>], naming: &N) -> bool
+    ensures { result ≡ list_all (λ name. N.passes naming.now (block_named name)) blocks.now }
+{
+    blocks.iter().all(|name| naming.block(*name))
+}
+
+fn literals_pass<N: Naming>(literals: &[u64], naming: &N) -> bool
+    ensures { result ≡ list_all (λ word. N.passes naming.now (literal word)) literals.now }
+{
+    literals.iter().all(|word| naming.literal(*word))
 }
 
 // ---- each once
@@ -215,7 +235,11 @@ fn is_held(held: &[Held], name: Name) -> bool
 
 // ---- blocks
 
-fn list_blocks(alloc: Global, hashing: Hashing, traces: &[Trace]) -> Result<Vec<Option<Name>>, AllocError>
+fn list_blocks(
+    alloc: Global,
+    hashing: Hashing,
+    traces: &[Trace],
+) -> Result<Vec<Option<Name>>, AllocError>
     ensures { IfOk result (λ blocks. blocks.items ≡ all_blocks_named (statements_of traces.now)) }
 {
     let mut found = none_found(alloc, hashing);
@@ -279,7 +303,11 @@ fn insert_block(found: &mut Found<Option<Name>>, block: Option<Name>) -> Result<
 
 // ---- literals
 
-fn list_literals_once(alloc: Global, hashing: Hashing, traces: &[Trace]) -> Result<Vec<u64>, AllocError>
+fn list_literals_once(
+    alloc: Global,
+    hashing: Hashing,
+    traces: &[Trace],
+) -> Result<Vec<u64>, AllocError>
     ensures { IfOk result (λ literals. literals.items ≡ literals_named (statements_of traces.now)) }
 {
     let mut found = none_found(alloc, hashing);

@@ -12,5 +12,5 @@ returns-then-is_ok c =
 
 pub returns : goal.returns
 returns c =
-    let made = defined-made c.args.trace.now _ _ _ c.puts-2.ensures c.new-names.ensures.empty c.in_ok-insert_defined.ensures in
+    let made = defined-made c.args.trace.now _ _ _ c.puts-2.ensures c.with_hasher-names.ensures.empty c.in_ok-insert_defined.ensures in
     IfOk-weaker c.copy_of.result _ (λ names. names ≡ names_defined c.args.trace.now) (λ names is. is ∙ c.as_slice.ensures.keys ∙ made) c.copy_of.ensures

@@ -12,5 +12,5 @@ returns-then-is_ok c =
 
 pub returns : goal.returns
 returns c =
-    let made = read-made c.args.trace.now _ _ c.new-names.ensures.empty c.in_ok-insert_read.ensures in
+    let made = read-made c.args.trace.now _ _ c.with_hasher-names.ensures.empty c.in_ok-insert_read.ensures in
     IfOk-weaker c.copy_of.result _ (λ names. names ≡ names_read c.args.trace.now) (λ names is. is ∙ c.as_slice.ensures.keys ∙ made) c.copy_of.ensures

@@ -3,4 +3,4 @@ use Rattle.cps_final.proofs.GatherLemmas.{same-finals}
 use Rattle.cps_final.proofs.finals.Finals.new.Goals as goal
 
 pub returns : goal.returns
-returns c = same-finals _ _ c.first.ensures c.new.ensures c.new-2.ensures.empty refl
+returns c = same-finals _ _ c.first.ensures c.new.ensures c.with_hasher.ensures.empty refl
