@@ -1,5 +1,5 @@
 -- Pass two of lines that were there before, part by part.
-use Rattle.std.proofs.Common.{arith, ◌≡◌, ℕ, zero, suc, ◌+◌, ◌-◌, ◌<◌, ◌≤◌, get_or, refl, sym, ap, subst, ◌∙◌, add_assoc, Bool, true, false, List, [], ◌∷◌, ◌++◌, length, take, drop, map, Option, None, Some}
+use Rattle.std.proofs.Common.{arith, ◌≡◌, ℕ, zero, suc, ◌+◌, ◌-◌, ◌<◌, ◌≤◌, get_or, refl, sym, ap, subst, ◌∙◌, add_assoc, zero-add, Bool, true, false, List, [], ◌∷◌, ◌++◌, length, take, drop, map, Option, None, Some}
 use Rattle.std.specs.Prelude.{not, ◌&&◌, is_some, Result, Ok, Err, IfOk, OnOk, if◌then◌else◌}
 use Rattle.std.specs.List.{list_all}
 use Rattle.std.proofs.lemmas.Bool.{and_parts}
@@ -87,8 +87,8 @@ module _ (was now : Resolved) where
 
   -- all that a chunk's lines name has the same final values
   pub agreed : (summary : Option Summary) (os : List Trace) → IsSummed summary os → agrees summary (same_at was now) ≡ true → same_named was now (statements_of os) ≡ true
-  agreed None os is no = cc
-  agreed (Some s) os is yes = sym (names-law (same_at was now) os) ∙ ap (all_pass (same_at was now)) (sym is.names) ∙ yes
+  agreed None os is none = cc
+  agreed (Some s) os is here = sym (names-law (same_at was now) os) ∙ ap (all_pass (same_at was now)) (sym is.names) ∙ here
 
 -- nothing is new
 pub all-none : (ns : List (Option Trace)) → are_none ns ≡ true → ns ≡ nones (length ns)
@@ -100,8 +100,10 @@ pub nones-both : (os ps : List Trace) → nones {X = Trace} (length os) ++ nones
 nones-both os ps = nones-append (length os) (length ps) ∙ ap (nones {X = Trace}) (sym (length-append os ps))
   where
     nones-append : (a b : ℕ) → nones {X = Trace} a ++ nones {X = Trace} b ≡ nones {X = Trace} (a + b)
-    nones-append zero b = refl
-    nones-append (suc a) b = ap (λ ns. None ∷ ns) (nones-append a b)
+    nones-append zero b = ap (nones {X = Trace}) (sym (zero-add b))
+    nones-append (suc a) b =
+        let one : suc (a + b) ≡ suc a + b = omega arith in
+        ap (λ ns. None ∷ ns) (nones-append a b) ∙ ap (nones {X = Trace}) one
 
 -- ---- chunk by chunk
 

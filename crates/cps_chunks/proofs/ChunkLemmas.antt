@@ -2,6 +2,7 @@
 use Rattle.std.proofs.Common.{arith, ◌≡◌, ℕ, ◌+◌, ◌<◌, ◌≤◌, get_or, refl, sym, ap, subst, ◌∙◌, add_assoc, List, [], ◌∷◌, ◌++◌, append_assoc, length, take, drop, map, Option, None, Some, true}
 use Rattle.std.specs.Prelude.{is_some, Result, Ok, Err, IfOk, OnOk, if◌then◌else◌}
 use Rattle.std.proofs.lemmas.List.{length-append, map-append, take-append-drop, drop_all}
+use Rattle.cps_state.specs.declared.key.Asked.{Asked}
 use Rattle.cps_state.specs.Course.{Trace}
 use Rattle.cps_state.specs.Keys.{State, overwritten}
 use Rattle.cps_state.specs.Work.{Counts, counted_on}
@@ -124,10 +125,10 @@ within-part n f g ls l1 l2 os o1 o2 p q r s e there =
 
 -- what a chunk's lines did is what they do, where all that they asked has the same answers
 pub stood : (summary : Option Summary) (f : State) (ls : List (List ℕ)) (os : List Trace) → WereDone ls os → IsSummed summary os → stands summary f ≡ true → os ≡ traces_from f ls
-stood None f ls os done is no = cc
-stood (Some s) f ls os done is yes =
+stood None f ls os done is none = cc
+stood (Some s) f ls os done is here =
     let asks : s.run.asks ≡ (run_of (traces_from done.0 ls)).asks = ap (λ (r : Run). r.asks) is.run ∙ ap (λ ts. (run_of ts).asks) done.1 in
-    done.1 ∙ sym (run-law done.0 f ls (sym (ap (λ as. holds as f) asks) ∙ yes)).same
+    done.1 ∙ sym (run-law done.0 f ls (sym (ap (λ (qs : List Asked). holds qs f) asks) ∙ here)).same
 
 -- ---- chunk by chunk
 

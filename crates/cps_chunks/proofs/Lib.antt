@@ -6,3 +6,4 @@ mod NamesLemmas
 mod GatherLemmas
 mod ChunkLemmas
 mod AgainLemmas
+pub mod ListLemmas

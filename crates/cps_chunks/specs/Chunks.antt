@@ -86,3 +86,18 @@ pub record Redoes (was now : Resolved) (old new : Counts) (news : List (Option T
   pub outcomes : merged made (outcomes_by was olds) ≡ outcomes_by now (merged news olds)
   pub len : length made ≡ length olds
   pub twos : new.twos ≡ counted_on old.twos (redone_from was now (map is_some news) olds)
+
+-- ---- the list of them, kept up to date
+
+-- a chunk of so many lines of which nothing is gathered
+abbrev pub unsummed : ℕ → Chunk
+unsummed lines = record { lines = lines; summary = None }
+
+-- chunks of these lengths
+abbrev pub all_unsummed : List ℕ → List Chunk
+all_unsummed lengths = map unsummed lengths
+
+-- a chunk of which a line has something new forgets what was gathered
+abbrev pub forgotten : List Chunk → List (Option Trace) → List Chunk
+forgotten [] news = []
+forgotten (chunk ∷ chunks) news = (if are_none (take chunk.lines news) then chunk else unsummed chunk.lines) ∷ forgotten chunks (drop chunk.lines news)

@@ -1,7 +1,7 @@
 //! A chunk of a source: how many lines it has, and what was gathered of them.
 ghost use Rattle.std.specs.Prelude.{◌≡◌, IfOk};
 ghost use Rattle.cps_edit.specs.Renewed.{nones as nones_of};
-ghost use Rattle.cps_chunks.specs.Chunks.{IsSummary, stands, agrees as agrees_by};
+ghost use Rattle.cps_chunks.specs.Chunks.{IsSummary, stands, agrees as agrees_by, unsummed as unsummed_of};
 
 use crate::names::Names;
 use crate::run::Run;
@@ -49,6 +49,16 @@ pub struct Behind<'a> {
 }
 
 impl Chunk {
+    /// Of so many lines, of which nothing is gathered.
+    pub fn unsummed(lines: usize) -> Chunk
+        ensures { result ≡ unsummed_of lines }
+    {
+        Chunk {
+            lines,
+            summary: None,
+        }
+    }
+
     /// Whether its lines are known to do the same in a state. It is counted nowhere, and takes no memory.
     pub fn stands_in(&self, state: &State) -> bool
         ensures { result ≡ stands self.now.summary (⟦<State as Lookup>⟧.answer state.now) }

@@ -2,6 +2,7 @@
 #![tactic(auto)]
 
 mod chunk;
+mod chunk_list;
 pub mod laws;
 mod names;
 #[cfg(test)]
@@ -14,6 +15,7 @@ mod run_rows;
 mod summing;
 
 pub use chunk::{Behind, Chunk, InFront, Summary};
+pub use chunk_list::{forget_changed, grow, lengths_in, unsummed};
 pub use names::{Names, names_agree};
 pub use redo::Again;
 pub use replay::{replay_behind, replay_chunks};

@@ -170,7 +170,7 @@ impl<'a> Again<'a> {
 }
 
 /// Whether pass one made nothing of some lines.
-fn are_none(news: &[Option<Trace>]) -> bool
+pub fn are_none(news: &[Option<Trace>]) -> bool
     ensures { result ≡ are_none_by news.now }
 {
     news.iter().all(|new| new.is_none())

@@ -1,13 +1,16 @@
-//! Runs of a few lines: how many keys they put at, and where they stand.
+//! Runs of a few lines: how many keys they put at, and where they stand; and the chunk of these lines.
 //! What a function holds is dropped by calls, whose proofs stand once.
+use super::chunk_list::{lengths_in, unsummed};
 use super::run::Run;
+use super::summing::sum_up;
 use cps_pass::{Hashing, Lookup, State, Trace, Work, step_one};
 use cps_text::Line;
-use std::alloc::Global;
+use std::alloc::{AllocError, Global};
 
-/// How many keys a run puts at, and whether it stands in the state in front of it and in the one behind it.
+/// How many lines the chunk of a run has, how many keys the run puts at, and whether it stands in the state in front of it and in the one behind it.
 #[derive(Clone, Copy, Debug, PartialEq, Eq)]
 struct Seen {
+    lines: Option<usize>,
     keys: usize,
     in_front: bool,
     behind: bool,
@@ -34,8 +37,27 @@ pub fn take_text(alloc: Global, state: &mut State, traces: &mut Vec<Trace>, text
     }
 }
 
-fn seen_of(run: &Run, front: &State, behind: &State) -> Seen {
+/// How many lines the chunk of all these lines has, once what they did is gathered.
+fn gather_lines(alloc: Global, traces: &[Trace]) -> Result<Option<usize>, AllocError> {
+    let mut chunks = unsummed(alloc, &[traces.len()])?;
+    sum_up(alloc, Hashing::by(1), &mut chunks, traces)?;
+    let lengths = lengths_in(alloc, &chunks)?;
+    let lines = lengths.first().copied();
+    drop(lengths);
+    drop(chunks);
+    Ok(lines)
+}
+
+fn lines_gathered(alloc: Global, traces: &[Trace]) -> Option<usize> {
+    match gather_lines(alloc, traces) {
+        Ok(lines) => lines,
+        Err(_) => None,
+    }
+}
+
+fn seen_of(run: &Run, lines: Option<usize>, front: &State, behind: &State) -> Seen {
     Seen {
+        lines,
         keys: run.puts().len(),
         in_front: run.stands_in(front),
         behind: run.stands_in(behind),
@@ -43,9 +65,10 @@ fn seen_of(run: &Run, front: &State, behind: &State) -> Seen {
 }
 
 fn see(alloc: Global, traces: &[Trace], front: &State, behind: &State) -> Option<Seen> {
+    let lines = lines_gathered(alloc, traces);
     match Run::of(alloc, front.hashing(), traces) {
         Ok(run) => {
-            let seen = seen_of(&run, front, behind);
+            let seen = seen_of(&run, lines, front, behind);
             drop(run);
             Some(seen)
         }
@@ -88,17 +111,18 @@ fn puts_at_each_key_once(rt: HostRuntime) {
     // T, which both lines ask, in a head that goes on.
     let settings = run_over(rt.alloc(), &SETTINGS);
     let (none, four, one) = (
-        stands_in_front(0, true),
-        stands_in_front(4, false),
-        stands_in_front(1, false),
+        stands_in_front(2, 0, true),
+        stands_in_front(3, 4, false),
+        stands_in_front(2, 1, false),
     );
     assert_eq!(&rt; comments, none, "comments");
     assert_eq!(&rt; words, four, "words");
     assert_eq!(&rt; settings, one, "settings");
 }
 
-fn stands_in_front(keys: usize, behind: bool) -> Option<Seen> {
+fn stands_in_front(lines: usize, keys: usize, behind: bool) -> Option<Seen> {
     Some(Seen {
+        lines: Some(lines),
         keys,
         in_front: true,
         behind,

@@ -1,10 +1,29 @@
 //! Gathering of the lines of chunks.
-ghost use Rattle.std.specs.Prelude.{◌≡◌, OnOk};
-ghost use Rattle.cps_chunks.specs.Chunks.{AreSummed, AreMade, lengths_of};
+ghost use Rattle.std.specs.Prelude.{◌≡◌, true, is_some, OnOk};
+ghost use Rattle.cps_chunks.specs.Chunks.{IsSummed, AreSummed, AreMade, lengths_of};
 
 use crate::chunk::{Chunk, Summary};
 use cps_state::{Hashing, Trace};
 use std::alloc::{AllocError, Global};
+
+/// Gathers of the lines of a chunk, if nothing is gathered.
+fn gather(
+    alloc: Global,
+    hashing: Hashing,
+    chunk: &mut Chunk,
+    traces: &[Trace],
+) -> Result<(), AllocError>
+    requires { IsSummed chunk.old.summary traces.now }
+    ensures lines { chunk.new.lines ≡ chunk.old.lines }
+    ensures summed { IsSummed chunk.new.summary traces.now }
+    ensures made { OnOk result (is_some chunk.new.summary ≡ true) }
+{
+    if chunk.summary.is_none() {
+        let summary = Summary::of(alloc, hashing, traces)?;
+        chunk.summary = Some(summary);
+    }
+    Ok(())
+}
 
 /// Gathers of the lines of each chunk of which nothing is gathered. Where there is no memory, what was gathered so far stands.
 pub fn sum_up(
@@ -20,15 +39,8 @@ pub fn sum_up(
 {
     let mut left = traces;
     for i in 0..chunks.len() {
-        let lines = chunks[i].lines;
-        let (here, behind) = left.split_at(lines);
-        if chunks[i].summary.is_none() {
-            let summary = Summary::of(alloc, hashing, here)?;
-            chunks[i] = Chunk {
-                lines,
-                summary: Some(summary),
-            };
-        }
+        let (here, behind) = left.split_at(chunks[i].lines);
+        gather(alloc, hashing, &mut chunks[i], here)?;
         left = behind;
     }
     Ok(())

@@ -3,4 +3,4 @@ use Rattle.cps_edit.specs.Renewed.{nones}
 use Rattle.cps_chunks.proofs.chunk.nones.Given as goal
 
 abbrev pub invariant-loop : goal.invariant-loop
-invariant-loop l = l.list.items ≡ nones l.loop-index
+invariant-loop g l = l.list.items ≡ nones l.counter

@@ -1,7 +1,8 @@
-use Rattle.std.proofs.Common.{rules, arith, true, ◌≡◌, List, Option, length, refl, sym, ap, subst, ◌∙◌}
+use Rattle.std.proofs.Common.{rules, arith, true, false, ◌≡◌, List, Option, length, refl, sym, ap, subst, ◌∙◌}
 use Rattle.std.specs.Prelude.{if◌then◌else◌}
 use Rattle.cps_state.specs.Course.{Trace}
 use Rattle.cps_state.specs.Keys.{State}
+use Rattle.cps_edit.proofs.ReplayLemmas.{le-same}
 use Rattle.cps_edit.specs.contracts.front.FrontGathered.TheImpl.{gathered-value}
 use Rattle.cps_chunks.specs.Chunks.{Replays, stands}
 use Rattle.cps_chunks.proofs.ChunkLemmas.{done-long, done-meant, replays-same, stood, on-ok, replays-whole, looked-whole}
@@ -24,9 +25,16 @@ returns-then-stands_in-clause-replays c =
     let here = ap (stands c.args.chunk.now.summary) (sym c.state.ensures) ∙ sym c.stands_in.ensures ∙ yes in
     let same = stood c.args.chunk.now.summary a.state ls os c.requires.done c.requires.summed here in
     on-ok c.nones.result _ _ (λ news is. subst (λ (ns : List (Option Trace)). Replays a b w w ls os ns) (sym is)
-    (replays-same a b w ls os c.len.result same c.len.ensures c.in_ok-pass_over_all.ensures.ok c.in_ok-pass_over_all.ensures.state)) c.nones.ensures
+    (replays-same a b w ls os (length os) same refl c.in_ok-pass_over_all.ensures.ok c.in_ok-pass_over_all.ensures.state)) c.nones.ensures
 
 pub returns-clause-replays : goal.returns-clause-replays
 returns-clause-replays c =
     replays-whole c.replay.result (λ news. news.items) (gathered-value.it c.args.front.now) (gathered-value.it c.replay.new.self) c.args.work.now c.replay.new.work c.args.lines.now c.args.olds.now
     c.replay.ensures.traces c.replay.ensures.len c.replay.ensures.new c.replay.ensures.ok c.replay.ensures.state c.replay.ensures.ones
+
+pub returns-clause-looked : goal.returns-clause-looked
+returns-clause-looked c =
+    let a = gathered-value.it c.args.front.now in
+    let out : c.stands_in.result ≡ false = search rules in
+    let here : stands c.args.chunk.now.summary a.state ≡ false = ap (stands c.args.chunk.now.summary) (sym c.state.ensures) ∙ sym c.stands_in.ensures ∙ out in
+    looked-whole c.replay.result c.args.work.now.looked c.replay.new.work.looked _ _ c.replay.ensures.looked (le-same _ _ (ap (λ b. if b then 0 else length c.args.lines.now) (sym here)))

@@ -32,8 +32,8 @@ loop-chunk-preserved c =
     let i = c.loop-chunk.chunk-index in
     let chunk = c.chunk-item.result in
     let n = chunk.lines in
-    let ls = c.loop-chunk.lines_left in
-    let os = c.loop-chunk.olds_left in
+    let ls = c.loop-chunk.lines_left.now in
+    let os = c.loop-chunk.olds_left.now in
     let a = gathered-value.it c.loop-chunk.front in
     let b = gathered-value.it c.replay_chunk.new.front in
     let lt : i < length chunks = search rules in
@@ -43,14 +43,14 @@ loop-chunk-preserved c =
     let found = c.in_ok-made.ensures.replays in
     let pushed : c.append.new.self.items ≡ c.loop-chunk.news.items ++ c.in_ok-made.made.items = search rules in
     record {
-      done = rw (c.split_at.ensures.back, c.split_at-2.ensures.back) (done-behind n ls os done);
-      summed = rw c.split_at-2.ensures.back next.2;
+      done = rw (c.split_at.ensures.back, c.split_at-in-loop-chunk.ensures.back) (done-behind n ls os done);
+      summed = rw c.split_at-in-loop-chunk.ensures.back next.2;
       replays = λ end w rest r.
           rw (pushed, append_assoc c.loop-chunk.news.items c.in_ok-made.made.items rest)
-          (c.loop-chunk.invariant.replays end w (c.in_ok-made.made.items ++ rest) (replays-next n a b end c.loop-chunk.work c.replay_chunk.new.work w ls c.split_at.result.0.now c.split_at.result.1.now os c.split_at-2.result.0.now c.split_at-2.result.1.now c.in_ok-made.made.items rest
-          c.split_at.ensures.front c.split_at.ensures.back c.split_at-2.ensures.front c.split_at-2.ensures.back long found r));
+          (c.loop-chunk.invariant.replays end w (c.in_ok-made.made.items ++ rest) (replays-next n a b end c.loop-chunk.work c.replay_chunk.new.work w ls c.split_at.result.0.now c.split_at.result.1.now os c.split_at-in-loop-chunk.result.0.now c.split_at-in-loop-chunk.result.1.now c.in_ok-made.made.items rest
+          c.split_at.ensures.front c.split_at.ensures.back c.split_at-in-loop-chunk.ensures.front c.split_at-in-loop-chunk.ensures.back long found r));
       looked = looks-next chunks i chunk a.state b.state ls c.split_at.result.0.now c.split_at.result.1.now c.loop-chunk.work.looked c.replay_chunk.new.work.looked _ lt c.chunk-item.is c.split_at.ensures.front c.split_at.ensures.back found.state c.in_ok-made.ensures.looked c.loop-chunk.invariant.looked;
-      ones = counted-left c.loop-chunk.work.ones c.replay_chunk.new.work.ones _ _ _ _ found.ones (within-part n a.state b.state ls c.split_at.result.0.now c.split_at.result.1.now os c.split_at-2.result.0.now c.split_at-2.result.1.now c.split_at.ensures.front c.split_at.ensures.back c.split_at-2.ensures.front c.split_at-2.ensures.back long found.state) c.loop-chunk.invariant.ones;
+      ones = counted-left c.loop-chunk.work.ones c.replay_chunk.new.work.ones _ _ _ _ found.ones (within-part n a.state b.state ls c.split_at.result.0.now c.split_at.result.1.now os c.split_at-in-loop-chunk.result.0.now c.split_at-in-loop-chunk.result.1.now c.split_at.ensures.front c.split_at.ensures.back c.split_at-in-loop-chunk.ensures.front c.split_at-in-loop-chunk.ensures.back long found.state) c.loop-chunk.invariant.ones;
       least = omega (arith, c.loop-chunk.invariant.least, c.in_ok-made.ensures.ones_least);
       twos = c.in_ok-made.ensures.twos ∙ c.loop-chunk.invariant.twos;
     }
@@ -58,56 +58,50 @@ loop-chunk-preserved c =
 pub returns-in_err-made-clause-ones_err : goal.returns-in_err-made-clause-ones_err
 returns-in_err-made-clause-ones_err c =
     let chunk = c.chunk-item.result in
-    let ls = c.loop-chunk.lines_left in
-    let os = c.loop-chunk.olds_left in
+    let ls = c.loop-chunk.lines_left.now in
+    let os = c.loop-chunk.olds_left.now in
     let a = gathered-value.it c.loop-chunk.front in
     on-err _ (counted-before c.loop-chunk.work.ones c.replay_chunk.new.work.ones _ _ _ _ c.in_err-made.ensures.ones_err
-    (within-part chunk.lines a.state (state_after a.state c.split_at.result.0.now) ls c.split_at.result.0.now c.split_at.result.1.now os c.split_at-2.result.0.now c.split_at-2.result.1.now
-    c.split_at.ensures.front c.split_at.ensures.back c.split_at-2.ensures.front c.split_at-2.ensures.back (done-parts chunk.lines ls os c.loop-chunk.invariant.done) refl) c.loop-chunk.invariant.ones)
+    (within-part chunk.lines a.state (state_after a.state c.split_at.result.0.now) ls c.split_at.result.0.now c.split_at.result.1.now os c.split_at-in-loop-chunk.result.0.now c.split_at-in-loop-chunk.result.1.now
+    c.split_at.ensures.front c.split_at.ensures.back c.split_at-in-loop-chunk.ensures.front c.split_at-in-loop-chunk.ensures.back (done-parts chunk.lines ls os c.loop-chunk.invariant.done) refl) c.loop-chunk.invariant.ones)
 
 pub returns-in_err-append-clause-ones_err : goal.returns-in_err-append-clause-ones_err
 returns-in_err-append-clause-ones_err c =
     let chunk = c.chunk-item.result in
-    let ls = c.loop-chunk.lines_left in
-    let os = c.loop-chunk.olds_left in
+    let ls = c.loop-chunk.lines_left.now in
+    let os = c.loop-chunk.olds_left.now in
     let a = gathered-value.it c.loop-chunk.front in
     on-err _ (counted-before c.loop-chunk.work.ones c.replay_chunk.new.work.ones _ _ _ _ (le-same _ _ c.in_ok-made.ensures.replays.ones)
-    (within-part chunk.lines a.state (state_after a.state c.split_at.result.0.now) ls c.split_at.result.0.now c.split_at.result.1.now os c.split_at-2.result.0.now c.split_at-2.result.1.now
-    c.split_at.ensures.front c.split_at.ensures.back c.split_at-2.ensures.front c.split_at-2.ensures.back (done-parts chunk.lines ls os c.loop-chunk.invariant.done) refl) c.loop-chunk.invariant.ones)
+    (within-part chunk.lines a.state (state_after a.state c.split_at.result.0.now) ls c.split_at.result.0.now c.split_at.result.1.now os c.split_at-in-loop-chunk.result.0.now c.split_at-in-loop-chunk.result.1.now
+    c.split_at.ensures.front c.split_at.ensures.back c.split_at-in-loop-chunk.ensures.front c.split_at-in-loop-chunk.ensures.back (done-parts chunk.lines ls os c.loop-chunk.invariant.done) refl) c.loop-chunk.invariant.ones)
 
 pub returns-clause-replays : goal.returns-clause-replays
 returns-clause-replays c =
     let a = gathered-value.it c.loop-chunk.front in
     let past : length c.args.chunks.now ≤ c.loop-chunk.chunk-index = grind (arith, nat_tests) in
-    let none = summed-end c.args.chunks.now c.loop-chunk.chunk-index c.loop-chunk.olds_left past c.loop-chunk.invariant.summed in
+    let none = summed-end c.args.chunks.now c.loop-chunk.chunk-index c.loop-chunk.olds_left.now past c.loop-chunk.invariant.summed in
     subst (λ ns. Replays (gathered-value.it c.args.front.now) a c.args.work.now c.loop-chunk.work c.args.lines.now c.args.olds.now ns) (append-nil c.loop-chunk.news.items)
-    (c.loop-chunk.invariant.replays a c.loop-chunk.work [] (replays-end a c.loop-chunk.work c.loop-chunk.lines_left c.loop-chunk.olds_left c.loop-chunk.invariant.done none))
+    (c.loop-chunk.invariant.replays a c.loop-chunk.work [] (replays-end a c.loop-chunk.work c.loop-chunk.lines_left.now c.loop-chunk.olds_left.now c.loop-chunk.invariant.done none))
 
 pub returns-clause-looked : goal.returns-clause-looked
 returns-clause-looked c =
     let past : length c.args.chunks.now ≤ c.loop-chunk.chunk-index = grind (arith, nat_tests) in
-    looks-end c.args.chunks.now c.loop-chunk.chunk-index (gathered-value.it c.loop-chunk.front).state c.loop-chunk.lines_left c.loop-chunk.work.looked _ past c.loop-chunk.invariant.looked
+    looks-end c.args.chunks.now c.loop-chunk.chunk-index (gathered-value.it c.loop-chunk.front).state c.loop-chunk.lines_left.now c.loop-chunk.work.looked _ past c.loop-chunk.invariant.looked
 
 pub split_at-requires : goal.split_at-requires
 split_at-requires c =
     let chunk = c.chunk-item.result in
-    let os = c.loop-chunk.olds_left in
+    let os = c.loop-chunk.olds_left.now in
     let lt : c.loop-chunk.chunk-index < length c.args.chunks.now = search rules in
     let next = summed-next c.args.chunks.now c.loop-chunk.chunk-index chunk os lt c.chunk-item.is c.loop-chunk.invariant.summed in
-    omega (arith, next.0, done-long c.loop-chunk.lines_left os c.loop-chunk.invariant.done)
-
-pub split_at-requires-2 : goal.split_at-requires-2
-split_at-requires-2 c =
-    let chunk = c.chunk-item.result in
-    let lt : c.loop-chunk.chunk-index < length c.args.chunks.now = search rules in
-    (summed-next c.args.chunks.now c.loop-chunk.chunk-index chunk c.loop-chunk.olds_left lt c.chunk-item.is c.loop-chunk.invariant.summed).0
+    omega (arith, next.0, done-long c.loop-chunk.lines_left.now os c.loop-chunk.invariant.done)
 
 pub replay_chunk-requires-clause-done : goal.replay_chunk-requires-clause-done
 replay_chunk-requires-clause-done c =
-    rw (c.split_at.ensures.front, c.split_at-2.ensures.front) (done-front c.chunk-item.result.lines c.loop-chunk.lines_left c.loop-chunk.olds_left c.loop-chunk.invariant.done)
+    rw (c.split_at.ensures.front, c.split_at-in-loop-chunk.ensures.front) (done-front c.chunk-item.result.lines c.loop-chunk.lines_left.now c.loop-chunk.olds_left.now c.loop-chunk.invariant.done)
 
 pub replay_chunk-requires-clause-summed : goal.replay_chunk-requires-clause-summed
 replay_chunk-requires-clause-summed c =
     let chunk = c.chunk-item.result in
     let lt : c.loop-chunk.chunk-index < length c.args.chunks.now = search rules in
-    rw c.split_at-2.ensures.front (summed-next c.args.chunks.now c.loop-chunk.chunk-index chunk c.loop-chunk.olds_left lt c.chunk-item.is c.loop-chunk.invariant.summed).1
+    rw c.split_at-in-loop-chunk.ensures.front (summed-next c.args.chunks.now c.loop-chunk.chunk-index chunk c.loop-chunk.olds_left.now lt c.chunk-item.is c.loop-chunk.invariant.summed).1

@@ -16,7 +16,7 @@ pub split_at-requires : goal.split_at-requires
 split_at-requires c = omega (arith, c.requires.within, c.requires.same_len)
 
 pub redo-requires : goal.redo-requires
-redo-requires c = rw (c.split_at.ensures.front, c.split_at-2.ensures.front) (same-parts c.args.behind.loose c.args.news.now c.args.olds.now c.requires.same_len)
+redo-requires c = record { same_len = rw (c.split_at.ensures.front, c.split_at-2.ensures.front) (same-parts c.args.behind.loose c.args.news.now c.args.olds.now c.requires.same_len) }
 
 pub redo_chunks-requires-clause-same_len : goal.redo_chunks-requires-clause-same_len
 redo_chunks-requires-clause-same_len c = rw (c.split_at.ensures.back, c.split_at-2.ensures.back) (same-behind c.args.behind.loose c.args.news.now c.args.olds.now c.requires.same_len)

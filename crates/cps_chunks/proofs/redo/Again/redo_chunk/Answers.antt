@@ -1,4 +1,4 @@
-use Rattle.std.proofs.Common.{rules, true, ◌≡◌, List, Option, length, sym, ap, subst, ◌∙◌}
+use Rattle.std.proofs.Common.{rules, true, ◌≡◌, List, Option, length, refl, sym, ap, subst, ◌∙◌}
 use Rattle.cps_state.specs.Course.{Trace}
 use Rattle.cps_final.specs.Outcome.{Outcome}
 use Rattle.cps_final.specs.Resolving.{resolved}
@@ -8,8 +8,17 @@ use Rattle.cps_chunks.proofs.ChunkLemmas.{on-ok}
 use Rattle.cps_chunks.proofs.AgainLemmas.{all-none, agreed, redoes-same, redoes-whole}
 use Rattle.cps_chunks.proofs.redo.Again.redo_chunk.Goals as goal
 
-pub returns-then-clause-redoes : goal.returns-then-clause-redoes
-returns-then-clause-redoes c = c.requires
+pub returns-then-agrees-clause-redoes : goal.returns-then-agrees-clause-redoes
+returns-then-agrees-clause-redoes c =
+    let was = resolved c.args.self.ends.before.now in
+    let now = resolved c.args.self.ends.after.now in
+    let os = c.args.olds.now in
+    let w = c.args.work.now in
+    let none : c.are_none.result ≡ true = search rules in
+    let yes : c.agrees.result ≡ true = search rules in
+    let news = all-none c.args.news.now (sym c.are_none.ensures ∙ none) ∙ ap (nones {X = Trace}) c.requires.same_len in
+    let same = agreed was now c.args.chunk.now.summary os c.requires.summed (sym c.agrees.ensures ∙ yes) in
+    rw news (on-ok c.nones.result _ _ (λ made is. subst (λ (ms : List (Option Outcome)). Redoes was now w w (nones {X = Trace} (length os)) os ms) (sym is) (redoes-same was now w os (length os) refl same)) c.nones.ensures)
 
 pub returns-clause-redoes : goal.returns-clause-redoes
 returns-clause-redoes c =

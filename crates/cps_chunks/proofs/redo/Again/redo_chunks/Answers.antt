@@ -33,21 +33,21 @@ loop-chunk-preserved c =
     let i = c.loop-chunk.chunk-index in
     let chunk = c.chunk-item.result in
     let n = chunk.lines in
-    let ns = c.loop-chunk.news_left in
-    let os = c.loop-chunk.olds_left in
+    let ns = c.loop-chunk.news_left.now in
+    let os = c.loop-chunk.olds_left.now in
     let lt : i < length chunks = search rules in
     let next = summed-next chunks i chunk os lt c.chunk-item.is c.loop-chunk.invariant.summed in
     let long = same-parts n ns os c.loop-chunk.invariant.same_len in
     let found = c.in_ok-made.ensures.redoes in
     let pushed : c.append.new.self.items ≡ c.loop-chunk.all.items ++ c.in_ok-made.made.items = search rules in
     record {
-      same_len = rw (c.split_at.ensures.back, c.split_at-2.ensures.back) (same-behind n ns os c.loop-chunk.invariant.same_len);
-      summed = rw c.split_at-2.ensures.back next.2;
+      same_len = rw (c.split_at.ensures.back, c.split_at-in-loop-chunk.ensures.back) (same-behind n ns os c.loop-chunk.invariant.same_len);
+      summed = rw c.split_at-in-loop-chunk.ensures.back next.2;
       redoes = λ w rest r.
           rw (pushed, append_assoc c.loop-chunk.all.items c.in_ok-made.made.items rest)
-          (c.loop-chunk.invariant.redoes w (c.in_ok-made.made.items ++ rest) (redoes-next was now n c.loop-chunk.work c.redo_chunk.new.work w ns c.split_at.result.0.now c.split_at.result.1.now os c.split_at-2.result.0.now c.split_at-2.result.1.now c.in_ok-made.made.items rest c.split_at.ensures.front c.split_at.ensures.back c.split_at-2.ensures.front c.split_at-2.ensures.back long found r));
-      looked = again-next (same_at was now) chunks i chunk lt c.chunk-item.is ns c.split_at.result.0.now c.split_at.result.1.now os c.split_at-2.result.0.now c.split_at-2.result.1.now c.loop-chunk.work.looked c.redo_chunk.new.work.looked _ c.split_at.ensures.front c.split_at.ensures.back c.split_at-2.ensures.front c.split_at-2.ensures.back c.in_ok-made.ensures.looked c.loop-chunk.invariant.looked;
-      twos = counted-left c.loop-chunk.work.twos c.redo_chunk.new.work.twos _ _ _ _ found.twos (redone-part was now n ns c.split_at.result.0.now c.split_at.result.1.now os c.split_at-2.result.0.now c.split_at-2.result.1.now c.split_at.ensures.front c.split_at.ensures.back c.split_at-2.ensures.front c.split_at-2.ensures.back long) c.loop-chunk.invariant.twos;
+          (c.loop-chunk.invariant.redoes w (c.in_ok-made.made.items ++ rest) (redoes-next was now n c.loop-chunk.work c.redo_chunk.new.work w ns c.split_at.result.0.now c.split_at.result.1.now os c.split_at-in-loop-chunk.result.0.now c.split_at-in-loop-chunk.result.1.now c.in_ok-made.made.items rest c.split_at.ensures.front c.split_at.ensures.back c.split_at-in-loop-chunk.ensures.front c.split_at-in-loop-chunk.ensures.back long found r));
+      looked = again-next (same_at was now) chunks i chunk lt c.chunk-item.is ns c.split_at.result.0.now c.split_at.result.1.now os c.split_at-in-loop-chunk.result.0.now c.split_at-in-loop-chunk.result.1.now c.loop-chunk.work.looked c.redo_chunk.new.work.looked _ c.split_at.ensures.front c.split_at.ensures.back c.split_at-in-loop-chunk.ensures.front c.split_at-in-loop-chunk.ensures.back c.in_ok-made.ensures.looked c.loop-chunk.invariant.looked;
+      twos = counted-left c.loop-chunk.work.twos c.redo_chunk.new.work.twos _ _ _ _ found.twos (redone-part was now n ns c.split_at.result.0.now c.split_at.result.1.now os c.split_at-in-loop-chunk.result.0.now c.split_at-in-loop-chunk.result.1.now c.split_at.ensures.front c.split_at.ensures.back c.split_at-in-loop-chunk.ensures.front c.split_at-in-loop-chunk.ensures.back long) c.loop-chunk.invariant.twos;
       least = omega (arith, c.loop-chunk.invariant.least, c.in_ok-made.ensures.twos_least);
       ones = c.in_ok-made.ensures.ones ∙ c.loop-chunk.invariant.ones;
     }
@@ -57,50 +57,45 @@ returns-in_err-made-clause-twos_err c =
     let was = resolved c.args.self.ends.before.now in
     let now = resolved c.args.self.ends.after.now in
     let n = c.chunk-item.result.lines in
-    let ns = c.loop-chunk.news_left in
-    let os = c.loop-chunk.olds_left in
+    let ns = c.loop-chunk.news_left.now in
+    let os = c.loop-chunk.olds_left.now in
     let long = same-parts n ns os c.loop-chunk.invariant.same_len in
-    on-err _ (counted-before c.loop-chunk.work.twos c.redo_chunk.new.work.twos _ _ _ _ c.in_err-made.ensures.twos_err (redone-part was now n ns c.split_at.result.0.now c.split_at.result.1.now os c.split_at-2.result.0.now c.split_at-2.result.1.now c.split_at.ensures.front c.split_at.ensures.back c.split_at-2.ensures.front c.split_at-2.ensures.back long) c.loop-chunk.invariant.twos)
+    on-err _ (counted-before c.loop-chunk.work.twos c.redo_chunk.new.work.twos _ _ _ _ c.in_err-made.ensures.twos_err (redone-part was now n ns c.split_at.result.0.now c.split_at.result.1.now os c.split_at-in-loop-chunk.result.0.now c.split_at-in-loop-chunk.result.1.now c.split_at.ensures.front c.split_at.ensures.back c.split_at-in-loop-chunk.ensures.front c.split_at-in-loop-chunk.ensures.back long) c.loop-chunk.invariant.twos)
 
 pub returns-in_err-append-clause-twos_err : goal.returns-in_err-append-clause-twos_err
 returns-in_err-append-clause-twos_err c =
     let was = resolved c.args.self.ends.before.now in
     let now = resolved c.args.self.ends.after.now in
     let n = c.chunk-item.result.lines in
-    let ns = c.loop-chunk.news_left in
-    let os = c.loop-chunk.olds_left in
+    let ns = c.loop-chunk.news_left.now in
+    let os = c.loop-chunk.olds_left.now in
     let long = same-parts n ns os c.loop-chunk.invariant.same_len in
-    on-err _ (counted-before c.loop-chunk.work.twos c.redo_chunk.new.work.twos _ _ _ _ (le-same _ _ c.in_ok-made.ensures.redoes.twos) (redone-part was now n ns c.split_at.result.0.now c.split_at.result.1.now os c.split_at-2.result.0.now c.split_at-2.result.1.now c.split_at.ensures.front c.split_at.ensures.back c.split_at-2.ensures.front c.split_at-2.ensures.back long) c.loop-chunk.invariant.twos)
+    on-err _ (counted-before c.loop-chunk.work.twos c.redo_chunk.new.work.twos _ _ _ _ (le-same _ _ c.in_ok-made.ensures.redoes.twos) (redone-part was now n ns c.split_at.result.0.now c.split_at.result.1.now os c.split_at-in-loop-chunk.result.0.now c.split_at-in-loop-chunk.result.1.now c.split_at.ensures.front c.split_at.ensures.back c.split_at-in-loop-chunk.ensures.front c.split_at-in-loop-chunk.ensures.back long) c.loop-chunk.invariant.twos)
 
 pub returns-clause-redoes : goal.returns-clause-redoes
 returns-clause-redoes c =
     let was = resolved c.args.self.ends.before.now in
     let now = resolved c.args.self.ends.after.now in
     let past : length c.args.chunks.now ≤ c.loop-chunk.chunk-index = grind (arith, nat_tests) in
-    let none = summed-end c.args.chunks.now c.loop-chunk.chunk-index c.loop-chunk.olds_left past c.loop-chunk.invariant.summed in
+    let none = summed-end c.args.chunks.now c.loop-chunk.chunk-index c.loop-chunk.olds_left.now past c.loop-chunk.invariant.summed in
     subst (λ (ms : List (Option Outcome)). Redoes was now c.args.work.now c.loop-chunk.work (c.args.news.now) c.args.olds.now ms) (append-nil c.loop-chunk.all.items)
-    (c.loop-chunk.invariant.redoes c.loop-chunk.work [] (redoes-end was now c.loop-chunk.work c.loop-chunk.news_left c.loop-chunk.olds_left c.loop-chunk.invariant.same_len none))
+    (c.loop-chunk.invariant.redoes c.loop-chunk.work [] (redoes-end was now c.loop-chunk.work c.loop-chunk.news_left.now c.loop-chunk.olds_left.now c.loop-chunk.invariant.same_len none))
 
 pub returns-clause-looked : goal.returns-clause-looked
 returns-clause-looked c =
     let past : length c.args.chunks.now ≤ c.loop-chunk.chunk-index = grind (arith, nat_tests) in
-    again-end (same_at (resolved c.args.self.ends.before.now) (resolved c.args.self.ends.after.now)) c.args.chunks.now c.loop-chunk.chunk-index c.loop-chunk.news_left c.loop-chunk.olds_left c.loop-chunk.work.looked _ past c.loop-chunk.invariant.looked
+    again-end (same_at (resolved c.args.self.ends.before.now) (resolved c.args.self.ends.after.now)) c.args.chunks.now c.loop-chunk.chunk-index c.loop-chunk.news_left.now c.loop-chunk.olds_left.now c.loop-chunk.work.looked _ past c.loop-chunk.invariant.looked
 
 pub split_at-requires : goal.split_at-requires
 split_at-requires c =
     let lt : c.loop-chunk.chunk-index < length c.args.chunks.now = search rules in
-    omega (arith, (summed-next c.args.chunks.now c.loop-chunk.chunk-index c.chunk-item.result c.loop-chunk.olds_left lt c.chunk-item.is c.loop-chunk.invariant.summed).0, c.loop-chunk.invariant.same_len)
-
-pub split_at-requires-2 : goal.split_at-requires-2
-split_at-requires-2 c =
-    let lt : c.loop-chunk.chunk-index < length c.args.chunks.now = search rules in
-    (summed-next c.args.chunks.now c.loop-chunk.chunk-index c.chunk-item.result c.loop-chunk.olds_left lt c.chunk-item.is c.loop-chunk.invariant.summed).0
+    omega (arith, (summed-next c.args.chunks.now c.loop-chunk.chunk-index c.chunk-item.result c.loop-chunk.olds_left.now lt c.chunk-item.is c.loop-chunk.invariant.summed).0, c.loop-chunk.invariant.same_len)
 
 pub redo_chunk-requires-clause-same_len : goal.redo_chunk-requires-clause-same_len
 redo_chunk-requires-clause-same_len c =
-    rw (c.split_at.ensures.front, c.split_at-2.ensures.front) (same-parts c.chunk-item.result.lines c.loop-chunk.news_left c.loop-chunk.olds_left c.loop-chunk.invariant.same_len)
+    rw (c.split_at.ensures.front, c.split_at-in-loop-chunk.ensures.front) (same-parts c.chunk-item.result.lines c.loop-chunk.news_left.now c.loop-chunk.olds_left.now c.loop-chunk.invariant.same_len)
 
 pub redo_chunk-requires-clause-summed : goal.redo_chunk-requires-clause-summed
 redo_chunk-requires-clause-summed c =
     let lt : c.loop-chunk.chunk-index < length c.args.chunks.now = search rules in
-    rw c.split_at-2.ensures.front (summed-next c.args.chunks.now c.loop-chunk.chunk-index c.chunk-item.result c.loop-chunk.olds_left lt c.chunk-item.is c.loop-chunk.invariant.summed).1
+    rw c.split_at-in-loop-chunk.ensures.front (summed-next c.args.chunks.now c.loop-chunk.chunk-index c.chunk-item.result c.loop-chunk.olds_left.now lt c.chunk-item.is c.loop-chunk.invariant.summed).1

@@ -19,9 +19,8 @@ redo_kept_chunks-requires c =
     let os = c.args.olds.now in
     let n = length os - c.args.in_front.loose in
     let w = c.args.work.now in
-    let at : c.len.result - c.args.in_front.loose ≡ n = ap (λ k. k - c.args.in_front.loose) c.len.ensures in
-    let front = c.split_at.ensures.front ∙ ap (λ k. take k os) at in
-    let back = c.split_at.ensures.back ∙ ap (λ k. drop k os) at in
+    let front = c.split_at.ensures.front in
+    let back = c.split_at.ensures.back in
     rw front c.requires.summed
 
 pub returns-in_err-all-clause-twos_err : goal.returns-in_err-all-clause-twos_err
@@ -31,9 +30,8 @@ returns-in_err-all-clause-twos_err c =
     let os = c.args.olds.now in
     let n = length os - c.args.in_front.loose in
     let w = c.args.work.now in
-    let at : c.len.result - c.args.in_front.loose ≡ n = ap (λ k. k - c.args.in_front.loose) c.len.ensures in
-    let front = c.split_at.ensures.front ∙ ap (λ k. take k os) at in
-    let back = c.split_at.ensures.back ∙ ap (λ k. drop k os) at in
+    let front = c.split_at.ensures.front in
+    let back = c.split_at.ensures.back in
     on-err _ (first-under w.twos c.redo_kept_chunks.new.work.twos _ _ _ c.in_err-all.ensures.twos_err (kept-part was now n os c.split_at.result.0.now c.split_at.result.1.now front back))
 
 pub returns-in_err-rest-clause-twos_err : goal.returns-in_err-rest-clause-twos_err
@@ -43,9 +41,8 @@ returns-in_err-rest-clause-twos_err c =
     let os = c.args.olds.now in
     let n = length os - c.args.in_front.loose in
     let w = c.args.work.now in
-    let at : c.len.result - c.args.in_front.loose ≡ n = ap (λ k. k - c.args.in_front.loose) c.len.ensures in
-    let front = c.split_at.ensures.front ∙ ap (λ k. take k os) at in
-    let back = c.split_at.ensures.back ∙ ap (λ k. drop k os) at in
+    let front = c.split_at.ensures.front in
+    let back = c.split_at.ensures.back in
     on-err _ (both-under w.twos c.redo_kept_chunks.new.work.twos c.redo_kept.new.work.twos _ _ _ c.in_ok-all.ensures.redoes.twos c.in_err-rest.ensures.twos_err (kept-part was now n os c.split_at.result.0.now c.split_at.result.1.now front back))
 
 pub returns-in_err-append-clause-twos_err : goal.returns-in_err-append-clause-twos_err
@@ -55,9 +52,8 @@ returns-in_err-append-clause-twos_err c =
     let os = c.args.olds.now in
     let n = length os - c.args.in_front.loose in
     let w = c.args.work.now in
-    let at : c.len.result - c.args.in_front.loose ≡ n = ap (λ k. k - c.args.in_front.loose) c.len.ensures in
-    let front = c.split_at.ensures.front ∙ ap (λ k. take k os) at in
-    let back = c.split_at.ensures.back ∙ ap (λ k. drop k os) at in
+    let front = c.split_at.ensures.front in
+    let back = c.split_at.ensures.back in
     on-err _ (both-under w.twos c.redo_kept_chunks.new.work.twos c.redo_kept.new.work.twos _ _ _ c.in_ok-all.ensures.redoes.twos (le-same _ _ c.in_ok-rest.ensures.twos) (kept-part was now n os c.split_at.result.0.now c.split_at.result.1.now front back))
 
 pub returns-clause-redoes : goal.returns-clause-redoes
@@ -67,9 +63,8 @@ returns-clause-redoes c =
     let os = c.args.olds.now in
     let n = length os - c.args.in_front.loose in
     let w = c.args.work.now in
-    let at : c.len.result - c.args.in_front.loose ≡ n = ap (λ k. k - c.args.in_front.loose) c.len.ensures in
-    let front = c.split_at.ensures.front ∙ ap (λ k. take k os) at in
-    let back = c.split_at.ensures.back ∙ ap (λ k. drop k os) at in
+    let front = c.split_at.ensures.front in
+    let back = c.split_at.ensures.back in
     let pushed : c.append.new.self.items ≡ c.in_ok-all.all.items ++ c.in_ok-rest.rest.items = search rules in
     rw pushed (kept-redoes-next was now n w c.redo_kept_chunks.new.work c.redo_kept.new.work os c.split_at.result.0.now c.split_at.result.1.now c.in_ok-all.all.items c.in_ok-rest.rest.items front back c.in_ok-all.ensures.redoes
     (kept-one was now c.redo_kept_chunks.new.work c.redo_kept.new.work c.split_at.result.1.now c.in_ok-rest.rest.items c.in_ok-rest.ensures.outcomes c.in_ok-rest.ensures.len c.in_ok-rest.ensures.twos))
@@ -81,9 +76,8 @@ returns-clause-looked c =
     let os = c.args.olds.now in
     let n = length os - c.args.in_front.loose in
     let w = c.args.work.now in
-    let at : c.len.result - c.args.in_front.loose ≡ n = ap (λ k. k - c.args.in_front.loose) c.len.ensures in
-    let front = c.split_at.ensures.front ∙ ap (λ k. take k os) at in
-    let back = c.split_at.ensures.back ∙ ap (λ k. drop k os) at in
+    let front = c.split_at.ensures.front in
+    let back = c.split_at.ensures.back in
     let passes = same_at was now in
     let loose = c.args.in_front.loose in
     let last : c.redo_kept.new.work.looked ≤ counted_on c.redo_kept_chunks.new.work.looked loose =

@@ -1,4 +1,4 @@
-use Rattle.std.proofs.Common.{rules, true, ◌≡◌, List, Option, length, sym, ap, subst, ◌∙◌}
+use Rattle.std.proofs.Common.{rules, true, ◌≡◌, List, Option, length, refl, sym, ap, subst, ◌∙◌}
 use Rattle.cps_state.specs.Course.{Trace}
 use Rattle.cps_final.specs.Outcome.{Outcome}
 use Rattle.cps_final.specs.Resolving.{resolved}
@@ -16,7 +16,7 @@ returns-then-agrees-clause-redoes c =
     let w = c.args.work.now in
     let yes : c.agrees.result ≡ true = search rules in
     let same = agreed was now c.args.chunk.now.summary os c.requires (sym c.agrees.ensures ∙ yes) in
-    on-ok c.nones.result _ _ (λ made is. subst (λ (ms : List (Option Outcome)). Redoes was now w w (nones {X = Trace} (length os)) os ms) (sym is) (redoes-same was now w os c.len.result c.len.ensures same)) c.nones.ensures
+    on-ok c.nones.result _ _ (λ made is. subst (λ (ms : List (Option Outcome)). Redoes was now w w (nones {X = Trace} (length os)) os ms) (sym is) (redoes-same was now w os (length os) refl same)) c.nones.ensures
 
 pub returns-clause-redoes : goal.returns-clause-redoes
 returns-clause-redoes c =

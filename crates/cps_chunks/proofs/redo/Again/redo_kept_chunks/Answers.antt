@@ -33,7 +33,7 @@ loop-chunk-preserved c =
     let i = c.loop-chunk.chunk-index in
     let chunk = c.chunk-item.result in
     let n = chunk.lines in
-    let os = c.loop-chunk.olds_left in
+    let os = c.loop-chunk.olds_left.now in
     let lt : i < length chunks = search rules in
     let next = summed-next chunks i chunk os lt c.chunk-item.is c.loop-chunk.invariant.summed in
     let found = c.in_ok-made.ensures.redoes in
@@ -54,7 +54,7 @@ returns-in_err-made-clause-twos_err c =
     let was = resolved c.args.self.ends.before.now in
     let now = resolved c.args.self.ends.after.now in
     let n = c.chunk-item.result.lines in
-    let os = c.loop-chunk.olds_left in
+    let os = c.loop-chunk.olds_left.now in
     on-err _ (counted-before c.loop-chunk.work.twos c.redo_kept_chunk.new.work.twos _ _ _ _ c.in_err-made.ensures.twos_err (kept-part was now n os c.split_at.result.0.now c.split_at.result.1.now c.split_at.ensures.front c.split_at.ensures.back) c.loop-chunk.invariant.twos)
 
 pub returns-in_err-append-clause-twos_err : goal.returns-in_err-append-clause-twos_err
@@ -62,7 +62,7 @@ returns-in_err-append-clause-twos_err c =
     let was = resolved c.args.self.ends.before.now in
     let now = resolved c.args.self.ends.after.now in
     let n = c.chunk-item.result.lines in
-    let os = c.loop-chunk.olds_left in
+    let os = c.loop-chunk.olds_left.now in
     on-err _ (counted-before c.loop-chunk.work.twos c.redo_kept_chunk.new.work.twos _ _ _ _ (le-same _ _ c.in_ok-made.ensures.redoes.twos) (kept-part was now n os c.split_at.result.0.now c.split_at.result.1.now c.split_at.ensures.front c.split_at.ensures.back) c.loop-chunk.invariant.twos)
 
 pub returns-clause-redoes : goal.returns-clause-redoes
@@ -70,21 +70,21 @@ returns-clause-redoes c =
     let was = resolved c.args.self.ends.before.now in
     let now = resolved c.args.self.ends.after.now in
     let past : length c.args.chunks.now ≤ c.loop-chunk.chunk-index = grind (arith, nat_tests) in
-    let none = summed-end c.args.chunks.now c.loop-chunk.chunk-index c.loop-chunk.olds_left past c.loop-chunk.invariant.summed in
+    let none = summed-end c.args.chunks.now c.loop-chunk.chunk-index c.loop-chunk.olds_left.now past c.loop-chunk.invariant.summed in
     subst (λ (ms : List (Option Outcome)). Redoes was now c.args.work.now c.loop-chunk.work (nones {X = Trace} (length c.args.olds.now)) c.args.olds.now ms) (append-nil c.loop-chunk.all.items)
-    (c.loop-chunk.invariant.redoes c.loop-chunk.work [] (redoes-end was now c.loop-chunk.work (nones {X = Trace} (length c.loop-chunk.olds_left)) c.loop-chunk.olds_left (length_nones Trace (length c.loop-chunk.olds_left)) none))
+    (c.loop-chunk.invariant.redoes c.loop-chunk.work [] (redoes-end was now c.loop-chunk.work (nones {X = Trace} (length c.loop-chunk.olds_left.now)) c.loop-chunk.olds_left.now (length_nones Trace (length c.loop-chunk.olds_left.now)) none))
 
 pub returns-clause-looked : goal.returns-clause-looked
 returns-clause-looked c =
     let past : length c.args.chunks.now ≤ c.loop-chunk.chunk-index = grind (arith, nat_tests) in
-    kept-end (same_at (resolved c.args.self.ends.before.now) (resolved c.args.self.ends.after.now)) c.args.chunks.now c.loop-chunk.chunk-index c.loop-chunk.olds_left c.loop-chunk.work.looked _ past c.loop-chunk.invariant.looked
+    kept-end (same_at (resolved c.args.self.ends.before.now) (resolved c.args.self.ends.after.now)) c.args.chunks.now c.loop-chunk.chunk-index c.loop-chunk.olds_left.now c.loop-chunk.work.looked _ past c.loop-chunk.invariant.looked
 
 pub split_at-requires : goal.split_at-requires
 split_at-requires c =
     let lt : c.loop-chunk.chunk-index < length c.args.chunks.now = search rules in
-    (summed-next c.args.chunks.now c.loop-chunk.chunk-index c.chunk-item.result c.loop-chunk.olds_left lt c.chunk-item.is c.loop-chunk.invariant.summed).0
+    (summed-next c.args.chunks.now c.loop-chunk.chunk-index c.chunk-item.result c.loop-chunk.olds_left.now lt c.chunk-item.is c.loop-chunk.invariant.summed).0
 
 pub redo_kept_chunk-requires : goal.redo_kept_chunk-requires
 redo_kept_chunk-requires c =
     let lt : c.loop-chunk.chunk-index < length c.args.chunks.now = search rules in
-    rw c.split_at.ensures.front (summed-next c.args.chunks.now c.loop-chunk.chunk-index c.chunk-item.result c.loop-chunk.olds_left lt c.chunk-item.is c.loop-chunk.invariant.summed).1
+    rw c.split_at.ensures.front (summed-next c.args.chunks.now c.loop-chunk.chunk-index c.chunk-item.result c.loop-chunk.olds_left.now lt c.chunk-item.is c.loop-chunk.invariant.summed).1
