@@ -4,6 +4,7 @@ mod RunLemmas
 mod NamedLemmas
 mod NamesLemmas
 mod GatherLemmas
-mod ChunkLemmas
+pub mod ChunkLemmas
 mod AgainLemmas
 pub mod ListLemmas
+pub mod TouchedLemmas
