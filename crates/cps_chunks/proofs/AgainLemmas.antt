@@ -1,8 +1,6 @@
 -- Pass two of lines that were there before, part by part.
-use Rattle.std.proofs.Common.{arith, ◌≡◌, ℕ, zero, suc, ◌+◌, ◌-◌, ◌<◌, ◌≤◌, get_or, refl, sym, ap, subst, ◌∙◌, add_assoc, zero-add, Bool, true, false, List, [], ◌∷◌, ◌++◌, length, take, drop, map, Option, None, Some}
-use Rattle.std.specs.Prelude.{not, ◌&&◌, is_some, Result, Ok, Err, IfOk, OnOk, if◌then◌else◌}
-use Rattle.std.specs.List.{list_all}
-use Rattle.std.proofs.lemmas.Bool.{and_parts}
+use Rattle.std.proofs.Common.{arith, ◌≡◌, ℕ, zero, suc, ◌+◌, ◌-◌, ◌<◌, ◌≤◌, get_or, refl, sym, ap, subst, ◌∙◌, add_assoc, zero-add, Bool, true, List, [], ◌∷◌, ◌++◌, length, take, drop, map, Option, None, Some}
+use Rattle.std.specs.Prelude.{◌&&◌, is_some, Result, Ok, Err, IfOk, OnOk, if◌then◌else◌}
 use Rattle.std.proofs.lemmas.List.{length-append, length-drop, map-append, take-append-drop, drop_all}
 use Rattle.std.proofs.lemmas.Grind.{common_steps}
 use Rattle.cps_state.specs.Course.{Trace}
@@ -17,7 +15,7 @@ use Rattle.cps_edit.proofs.FrontLemmas.{none-more}
 use Rattle.cps_edit.proofs.RedoLemmas.{append-outcomes, length-outcomes}
 use Rattle.cps_edit.proofs.TakenLemmas.{drop_at, merged_nones, length_nones}
 use Rattle.cps_chunks.specs.Named.{statements_of}
-use Rattle.cps_chunks.specs.Names.{all_pass, NamesLaw}
+use Rattle.cps_chunks.specs.Names.{all_pass}
 use Rattle.cps_chunks.specs.declared.chunk.Summary.{Summary}
 use Rattle.cps_chunks.specs.declared.chunk.Chunk.{Chunk}
 use Rattle.cps_chunks.specs.Chunks.{IsSummed, agrees, are_none, looks_again, looks_kept, Redoes}

@@ -1,5 +1,5 @@
 -- A run that is gathered line by line.
-use Rattle.std.proofs.Common.{◌≡◌, ℕ, suc, suc-ne-zero, refl, sym, ap, ◌∙◌, Bool, true, false, List, [], ◌∷◌, ◌++◌, length, reverse, Option, Some, None}
+use Rattle.std.proofs.Common.{◌≡◌, suc-ne-zero, refl, sym, ap, ◌∙◌, Bool, true, false, List, [], ◌∷◌, ◌++◌, length, reverse, Option, Some, None}
 use Rattle.std.specs.Prelude.{◌||◌, is_some, option_and_then, option_map, IfSome, if◌then◌else◌}
 use Rattle.std.proofs.lemmas.List.{reverse-append}
 use Rattle.std.specs.Option.{option_or}

@@ -1,5 +1,5 @@
 -- What a run of lines names, each once.
-use Rattle.std.proofs.Common.{◌≡◌, ℕ, refl, sym, ap, ◌∙◌, Bool, true, false, List, [], ◌∷◌, ◌++◌, length, take, ◌≤◌, Option}
+use Rattle.std.proofs.Common.{◌≡◌, ℕ, refl, sym, ap, ◌∙◌, Bool, true, false, List, [], ◌∷◌, ◌++◌, length, take, ◌≤◌}
 use Rattle.std.specs.Prelude.{filter, flat_map, not, nat_eq, ◌&&◌, if◌then◌else◌}
 use Rattle.std.specs.Cmp.{IsEquivalence}
 use Rattle.std.specs.List.{list_all, list_any}

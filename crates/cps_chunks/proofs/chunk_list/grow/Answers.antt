@@ -1,4 +1,4 @@
-use Rattle.std.proofs.Common.{rules, arith, ◌≡◌, ◌<◌, ◌≤◌, ◌++◌, ◌∷◌, [], length, get_or, ◌+◌, ◌-◌, sym, ap, ◌∙◌}
+use Rattle.std.proofs.Common.{rules, arith, ◌≡◌, ◌++◌, ◌∷◌, [], length, get_or, ◌+◌, ◌-◌, ap, ◌∙◌}
 use Rattle.std.specs.Prelude.{sum}
 use Rattle.cps_division.specs.Division.{inserted_at}
 use Rattle.cps_chunks.specs.declared.chunk.Chunk.{Chunk}

@@ -1,13 +1,11 @@
-use Rattle.std.proofs.Common.{rules, arith, ◌≡◌, ◌+◌, ◌≤◌, ◌++◌, length, take, drop, refl, sym, ap, subst, ◌∙◌}
+use Rattle.std.proofs.Common.{rules, arith, ◌≡◌, ◌+◌, ◌≤◌, ◌++◌, length, take, drop, refl, ap, ◌∙◌}
 use Rattle.std.proofs.lemmas.List.{length-take}
-use Rattle.cps_state.specs.Keys.{State}
 use Rattle.cps_state.specs.Work.{counted_on}
 use Rattle.cps_edit.specs.Passes.{state_after}
-use Rattle.cps_edit.specs.Disturbed.{kept, disturbed_from}
 use Rattle.cps_edit.specs.contracts.front.FrontGathered.TheImpl.{gathered-value}
 use Rattle.cps_edit.proofs.ReplayLemmas.{on-err, le-same}
 use Rattle.cps_chunks.specs.Chunks.{Replays, looks_from}
-use Rattle.cps_chunks.proofs.ChunkLemmas.{done-long, done-meant, done-front, done-behind, done-parts, replays-next, within-part, both, both-under, both-looked, first-under}
+use Rattle.cps_chunks.proofs.ChunkLemmas.{done-long, done-meant, done-front, done-behind, done-parts, replays-next, within-part, both-under, both-looked, first-under}
 use Rattle.cps_chunks.proofs.replay.replay_behind.Goals as goal
 
 pub split_at-requires : goal.split_at-requires

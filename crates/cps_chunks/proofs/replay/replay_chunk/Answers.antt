@@ -1,7 +1,6 @@
-use Rattle.std.proofs.Common.{rules, arith, true, false, ◌≡◌, List, Option, length, refl, sym, ap, subst, ◌∙◌}
+use Rattle.std.proofs.Common.{rules, true, false, ◌≡◌, List, Option, length, refl, sym, ap, subst, ◌∙◌}
 use Rattle.std.specs.Prelude.{if◌then◌else◌}
 use Rattle.cps_state.specs.Course.{Trace}
-use Rattle.cps_state.specs.Keys.{State}
 use Rattle.cps_edit.proofs.ReplayLemmas.{le-same}
 use Rattle.cps_edit.specs.contracts.front.FrontGathered.TheImpl.{gathered-value}
 use Rattle.cps_chunks.specs.Chunks.{Replays, stands}

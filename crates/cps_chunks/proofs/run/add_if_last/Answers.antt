@@ -1,4 +1,4 @@
-use Rattle.std.proofs.Common.{rules, ◌≡◌, ◌++◌, ◌∷◌, [], reverse, true, false, ap}
+use Rattle.std.proofs.Common.{rules, ◌≡◌, reverse, true, false, ap}
 use Rattle.std.specs.Prelude.{is_some}
 use Rattle.cps_state.specs.Log.{Log}
 use Rattle.cps_chunks.proofs.GatherLemmas.{put-there, stays, goes_in_front}

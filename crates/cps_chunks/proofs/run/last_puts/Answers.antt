@@ -1,4 +1,4 @@
-use Rattle.std.proofs.Common.{rules, ◌≡◌, [], reverse, ap, ◌∙◌}
+use Rattle.std.proofs.Common.{rules, ◌≡◌, [], reverse, ◌∙◌}
 use Rattle.cps_chunks.specs.RunGathering.{lasting_before}
 use Rattle.cps_chunks.proofs.GatherLemmas.{none-before, last-next}
 use Rattle.cps_chunks.proofs.run.last_puts.Goals as goal

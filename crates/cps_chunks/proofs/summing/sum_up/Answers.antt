@@ -1,4 +1,4 @@
-use Rattle.std.proofs.Common.{rules, arith, ◌≡◌, ◌<◌, ◌≤◌, length, get_or, slice_set, ◌+◌, ap, ◌∙◌}
+use Rattle.std.proofs.Common.{rules, arith, ◌≡◌, ◌<◌, length, get_or, slice_set, ◌+◌, ap, ◌∙◌}
 use Rattle.cps_chunks.specs.declared.chunk.Chunk.{Chunk}
 use Rattle.cps_chunks.proofs.ChunkLemmas.{summed-next}
 use Rattle.cps_chunks.proofs.ListLemmas.{lengths-set, made-step, before-step, left-step, all-summed, same-read}

@@ -1,11 +1,8 @@
-use Rattle.std.proofs.Common.{rules, arith, ◌≡◌, ◌+◌, ◌-◌, ◌≤◌, ◌++◌, List, Option, length, take, drop, map, refl, sym, ap, subst, ◌∙◌}
-use Rattle.std.specs.Prelude.{is_some}
-use Rattle.std.proofs.lemmas.List.{length-take, length-drop}
-use Rattle.cps_state.specs.Course.{Trace}
+use Rattle.std.proofs.Common.{rules, arith, ◌≡◌, ◌+◌, ◌≤◌, ◌++◌, length, drop, ap}
+use Rattle.std.proofs.lemmas.List.{length-take}
 use Rattle.cps_state.specs.Work.{counted_on}
 use Rattle.cps_final.specs.Resolving.{resolved}
 use Rattle.cps_edit.specs.Agreeing.{same_at}
-use Rattle.cps_edit.specs.Renewed.{nones}
 use Rattle.cps_edit.proofs.ReplayLemmas.{on-err, le-same}
 use Rattle.cps_chunks.specs.Chunks.{Redoes, looks_again}
 use Rattle.cps_chunks.proofs.ChunkLemmas.{both-under, both-looked, first-under}

@@ -1,11 +1,8 @@
-use Rattle.std.proofs.Common.{rules, arith, ◌≡◌, ◌<◌, ◌≤◌, ◌++◌, [], List, append_assoc, append-nil, length, take, drop, map, Option, refl, sym, ap, subst, ◌∙◌}
-use Rattle.std.specs.Prelude.{is_some}
+use Rattle.std.proofs.Common.{rules, arith, ◌≡◌, ◌<◌, ◌≤◌, ◌++◌, [], List, append_assoc, append-nil, length, Option, refl, subst, ◌∙◌}
 use Rattle.std.proofs.lemmas.Bool.Decides.{nat_tests}
-use Rattle.cps_state.specs.Course.{Trace}
 use Rattle.cps_final.specs.Outcome.{Outcome}
 use Rattle.cps_final.specs.Resolving.{resolved}
 use Rattle.cps_edit.specs.Agreeing.{same_at}
-use Rattle.cps_edit.specs.Renewed.{nones}
 use Rattle.cps_edit.proofs.ReplayLemmas.{on-err, le-same, counted-left, counted-before}
 use Rattle.cps_chunks.specs.Chunks.{Redoes}
 use Rattle.cps_chunks.proofs.ChunkLemmas.{summed-next, summed-end}
