@@ -124,6 +124,8 @@ returns-clause-looked c =
     let at_news : c.deref-2.result.now ≡ c.args.plan.now.news.items = search rules in
     let parts = front-parts spot.keep spot.in_front.loose ts c.split_at.result.0.now c.split_at.ensures.front c.split_at.ensures.front_len in
     let first = subst (λ k. c.redo_in_front.new.work.looked ≤ counted_on c.args.work.now.looked k) (λ i. looks_kept (same_at was (same i)) spot.in_front.chunks.now (parts i) + spot.in_front.loose) c.in_ok-before.ensures.looked in
-    let mid = subst (λ k. k ≤ counted_on c.args.work.now.looked _) (sym c.step_two_all.ensures.looked) first in
+    let there = final_value (gathered-value.it c.args.front.now) in
+    let A = looks_kept (same_at was there) spot.in_front.chunks.now (take (spot.keep - spot.in_front.loose) ts) + spot.in_front.loose in
+    let mid : c.step_two_all.new.work.looked ≤ counted_on c.args.work.now.looked A = subst (λ k. k ≤ counted_on c.args.work.now.looked A) (sym c.step_two_all.ensures.looked) first in
     let last = subst (λ k. c.redo_behind.new.work.looked ≤ counted_on c.step_two_all.new.work.looked k) (λ i. n + looks_again (same_at was (same i)) spot.behind.chunks.now (drop n (at_news i)) (drop n (c.split_at-2.ensures.back i))) c.in_ok-behind.ensures.looked in
     both-looked c.args.work.now.looked c.step_two_all.new.work.looked c.redo_behind.new.work.looked _ _ _ mid last (le-same _ _ refl)
