@@ -1,9 +1,9 @@
 -- Chunks of a source, put together and changed.
-use Rattle.std.proofs.Common.{arith, ◌≡◌, ℕ, zero, suc, ◌+◌, ◌-◌, ◌<◌, ◌≤◌, refl, sym, ap, subst, ◌∙◌, min, Bool, true, false, List, [], ◌∷◌, ◌++◌, append_assoc, get_or, set, length, take, drop, Option, None, Some}
+use Rattle.std.proofs.Common.{arith, ◌≡◌, ℕ, zero, suc, ◌+◌, ◌-◌, ◌<◌, ◌≤◌, refl, sym, ap, subst, ◌∙◌, Bool, true, false, List, [], ◌∷◌, ◌++◌, append_assoc, get_or, set, length, take, drop, Option, None, Some}
 use Rattle.std.specs.Prelude.{◌&&◌, is_some, if◌then◌else◌, sum}
 use Rattle.std.specs.List.{list_all}
 use Rattle.std.proofs.lemmas.Bool.{and_parts}
-use Rattle.std.proofs.lemmas.List.{length-append, length-drop, map-append, take-append-le, drop-append-le, take-append-drop, take-take, drop-take, drop-drop, drop_all, length-take-le, take_more_set, drop-set-lt, set_at, set-get_or, take_min, drop_min, get_or_default, take-map, drop-map, length-map, length-take, map_more, take_all, take_at, drop_at as behind_front}
+use Rattle.std.proofs.lemmas.List.{length-append, length-drop, map-append, take-append-le, drop-append-le, take-append-drop, take-take, drop-take, drop-drop, drop_all, length-take-le, take_more_set, drop-set-lt, set_at, get_or_default, take-map, drop-map, length-map, length-take, map_more, take_all, take_at, drop_at as behind_front}
 use Rattle.std.proofs.lemmas.List.Sums.{sum_by-cons}
 use Rattle.std.proofs.lemmas.Bool.{lt-ltb}
 use Rattle.cps_state.specs.Course.{Trace}
@@ -251,27 +251,6 @@ summed-edit start end keep from a e ns cs ts first news s before behind p q r li
 -- one chunk more is gone through, and something else may be there
 at-step : (cs ds : List Chunk) (i : ℕ) (x : Chunk) → i < length cs → take (i + 1) (set cs i x) ++ ds ≡ take i cs ++ x ∷ ds
 at-step cs ds i x lt = ap (λ xs. xs ++ ds) (take_more_set cs i x lt) ∙ append_assoc (take i cs) (x ∷ []) ds
-
-same-there : (cs : List Chunk) (i : ℕ) (c : Chunk) → c ≡ get_or cs i c → set cs i c ≡ cs
-same-there cs i c is = ap (set cs i) is ∙ set-get_or cs i c
-
-pub forgotten-step : (cs : List Chunk) (i n : ℕ) (c x : Chunk) (left : List (Option Trace)) → i < length cs → c ≡ get_or cs i c → n ≡ min c.lines (length left)
-    → x ≡ (if are_none (take n left) then c else unsummed c.lines)
-    → take (i + 1) (set cs i x) ++ forgotten (drop (i + 1) (set cs i x)) (drop n left) ≡ take i cs ++ forgotten (drop i cs) left
-forgotten-step cs i n c x left lt is few made =
-    let here : take n left ≡ take c.lines left = ap (λ k. take k left) few ∙ take_min c.lines left in
-    let rest : drop n left ≡ drop c.lines left = ap (λ k. drop k left) few ∙ drop_min c.lines left in
-    let tail : forgotten (drop (i + 1) (set cs i x)) (drop n left) ≡ forgotten (drop (i + 1) cs) (drop c.lines left) =
-    (λ j. forgotten (drop-set-lt (i + 1) cs i x (omega arith) j) (rest j)) in
-    let head : x ≡ (if are_none (take c.lines left) then c else unsummed c.lines) = made ∙ ap (λ vs. if are_none vs then c else unsummed c.lines) here in
-    at-step cs (forgotten (drop (i + 1) (set cs i x)) (drop n left)) i x lt ∙ (λ j. take i cs ++ head j ∷ tail j)
-    ∙ ap (λ ds. take i cs ++ forgotten ds left) (sym (drop_at cs i c lt is))
-
-pub kept-step : (cs : List Chunk) (i n : ℕ) (c : Chunk) (left : List (Option Trace)) → i < length cs → c ≡ get_or cs i c → n ≡ min c.lines (length left) → are_none (take n left) ≡ true
-    → take (i + 1) cs ++ forgotten (drop (i + 1) cs) (drop n left) ≡ take i cs ++ forgotten (drop i cs) left
-kept-step cs i n c left lt is few none =
-    ap (λ ds. take (i + 1) ds ++ forgotten (drop (i + 1) ds) (drop n left)) (sym (same-there cs i c is))
-    ∙ forgotten-step cs i n c c left lt is few (sym (ap (λ b. if b then c else unsummed c.lines) none))
 
 -- ---- a line more
 

@@ -1,5 +1,5 @@
 //! The list of the chunks of a source, kept up to date.
-ghost use Rattle.std.specs.Prelude.{◌≡◌, ◌<◌, ◌≤◌, ◌++◌, ◌∷◌, [], IfOk, List, if◌then◌else◌, take, drop, sum, vec_len, vec_capacity};
+ghost use Rattle.std.specs.Prelude.{◌≡◌, ◌<◌, ◌≤◌, ◌++◌, ◌∷◌, [], IfOk, List, take, drop, sum, vec_len, vec_capacity};
 ghost use Rattle.cps_state.specs.Course.{Trace as Did};
 ghost use Rattle.cps_division.specs.Division.{AreChunks, inserted_at};
 ghost use Rattle.cps_chunks.specs.Chunks.{AreSummed, lengths_of, all_unsummed, forgotten};

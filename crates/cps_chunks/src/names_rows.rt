@@ -79,10 +79,10 @@ fn names_each_once(rt: HostRuntime) {
     // 5 and 6, in the nominal block.
     let literals = counts_over(rt.alloc(), &LITERALS);
     let (three, one, two, pool) = (
-        counts(3, 1, 0),
-        counts(0, 1, 0),
-        counts(0, 2, 0),
-        counts(0, 1, 2),
+        named(3, 1, 0),
+        named(0, 1, 0),
+        named(0, 2, 0),
+        named(0, 1, 2),
     );
     assert_eq!(&rt; words, three, "words");
     assert_eq!(&rt; settings, one, "settings");
@@ -90,7 +90,7 @@ fn names_each_once(rt: HostRuntime) {
     assert_eq!(&rt; literals, pool, "literals");
 }
 
-fn counts(labels: usize, blocks: usize, literals: usize) -> Option<Counts> {
+fn named(labels: usize, blocks: usize, literals: usize) -> Option<Counts> {
     Some(Counts {
         labels,
         blocks,
