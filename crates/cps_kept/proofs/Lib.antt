@@ -8,3 +8,4 @@ pub mod AppendLemmas
 pub mod QuietLemmas
 pub mod LeftLemmas
 pub mod InPlaceLemmas
+mod LookLemmas

@@ -1,3 +1,4 @@
 pub mod Append
 pub mod InPlace
 pub mod InPlaceLaw
+pub mod Looks

@@ -12,9 +12,11 @@ mod open;
 mod plan;
 mod quiet;
 mod second;
+mod spot;
 
 pub use append::{Append, Follower};
 pub use arrival::Change;
 pub use edit::Edit;
 pub use lists::Lists;
 pub use plan::{Kept, Plan};
+pub use spot::Spot;

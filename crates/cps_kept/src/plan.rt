@@ -1,5 +1,5 @@
 //! Pass one of an edit, made beside what is kept.
-ghost use Rattle.std.specs.Prelude.{◌≡◌, ◌+◌, ◌≤◌, ◌++◌, [], IfOk, OnOk, OnErr, IfNone, IfSome, length, take, drop};
+ghost use Rattle.std.specs.Prelude.{◌≡◌, ◌+◌, ◌≤◌, ◌++◌, [], IfOk, OnOk, OnErr, IfNone, IfSome, length, take, drop, map, is_some};
 ghost use Rattle.cps_state.specs.Keys.{first_state};
 ghost use Rattle.cps_state.specs.Work.{counted_on};
 ghost use Rattle.cps_final.specs.Finals.{finals_of, final_value};
@@ -9,8 +9,11 @@ ghost use Rattle.cps_edit.specs.Splice.{splice_at, spliced};
 ghost use Rattle.cps_edit.specs.Disturbed.{ones_of, twos_of};
 ghost use Rattle.cps_edit.specs.Renewed.{mended, redone_parts};
 ghost use Rattle.cps_edit.specs.GatheredNow.{gathered_now};
+ghost use Rattle.cps_kept.specs.Looks.{IsSummedAround, first_looks, flags_behind};
 
 use crate::in_place::leave_same;
+use crate::spot::Spot;
+use cps_chunks::replay_behind;
 use cps_edit::Front;
 use cps_final::{Finals, Gathered};
 use cps_pass::{Trace, Work};
@@ -65,40 +68,42 @@ struct Begun {
 }
 
 impl<'a> Kept<'a> {
-    /// Pass one with new lines in the place of those after the first `keep` up to the first `from`. Where they leave the same as these, no other line is
-    /// gone through behind them.
+    /// Pass one with new lines at a place. Where they leave the same as those in whose place they stand, no other line is gone through behind them.
     pub fn plan(
         self,
-        keep: usize,
-        from: usize,
+        spot: Spot,
         new: &[Line],
         work: &mut Work,
     ) -> Result<Plan, AllocError>
         requires kept { self.traces.now ≡ traces_of self.lines.now }
         requires finals { ⟦<Finals as Gathered>⟧.gathered self.finals.now ≡ finals_of (traces_of self.lines.now) }
-        requires ordered { keep ≤ from }
-        requires within { from ≤ length self.lines.now }
-        ensures traces { IfOk result (λ plan. take keep self.entry.traces.now ++ (plan.first.items ++ mended plan.news.items (drop from self.entry.traces.now))
-            ≡ traces_of (spliced self.entry.lines.now (splice_at keep from new.now))) }
+        requires ordered { spot.keep ≤ spot.from }
+        requires within { spot.from ≤ length self.lines.now }
+        requires around { IsSummedAround self.traces.now spot }
+        ensures traces { IfOk result (λ plan. take spot.entry.keep self.entry.traces.now ++ (plan.first.items ++ mended plan.news.items (drop spot.entry.from self.entry.traces.now))
+            ≡ traces_of (spliced self.entry.lines.now (splice_at spot.entry.keep spot.entry.from new.now))) }
         ensures first { IfOk result (λ plan. length plan.first.items ≡ length new.now) }
-        ensures len { IfOk result (λ plan. from + length plan.news.items ≤ length self.entry.traces.now) }
-        ensures all { IfOk result (λ plan. IfSome plan.front (λ front. from + length plan.news.items ≡ length self.entry.traces.now)) }
+        ensures len { IfOk result (λ plan. spot.entry.from + length plan.news.items ≤ length self.entry.traces.now) }
+        ensures all { IfOk result (λ plan. IfSome plan.front (λ front. spot.entry.from + length plan.news.items ≡ length self.entry.traces.now)) }
         ensures none { IfOk result (λ plan. IfNone plan.front (plan.news.items ≡ [])) }
         ensures finals { IfOk result (λ plan. gathered_now (⟦<Finals as Gathered>⟧.gathered self.entry.finals.now) plan.front
-            ≡ finals_of (traces_of (spliced self.entry.lines.now (splice_at keep from new.now)))) }
-        ensures count { IfOk result (λ plan. twos_of self.entry.lines.now (splice_at keep from new.now)
-            ≡ redone_parts (resolved self.entry.finals.now) (final_value (gathered_now (⟦<Finals as Gathered>⟧.gathered self.entry.finals.now) plan.front)) self.entry.traces.now keep from plan.first.items plan.news.items) }
-        ensures ones { OnOk result (work.new.ones ≡ counted_on work.old.ones (ones_of self.entry.lines.now (splice_at keep from new.now))) }
-        ensures ones_err { OnErr result (work.new.ones ≤ counted_on work.old.ones (ones_of self.entry.lines.now (splice_at keep from new.now))) }
+            ≡ finals_of (traces_of (spliced self.entry.lines.now (splice_at spot.entry.keep spot.entry.from new.now)))) }
+        ensures count { IfOk result (λ plan. twos_of self.entry.lines.now (splice_at spot.entry.keep spot.entry.from new.now)
+            ≡ redone_parts (resolved self.entry.finals.now) (final_value (gathered_now (⟦<Finals as Gathered>⟧.gathered self.entry.finals.now) plan.front)) self.entry.traces.now spot.entry.keep spot.entry.from plan.first.items plan.news.items) }
+        ensures ones { OnOk result (work.new.ones ≡ counted_on work.old.ones (ones_of self.entry.lines.now (splice_at spot.entry.keep spot.entry.from new.now))) }
+        ensures ones_err { OnErr result (work.new.ones ≤ counted_on work.old.ones (ones_of self.entry.lines.now (splice_at spot.entry.keep spot.entry.from new.now))) }
         ensures ones_least { work.old.ones ≤ work.new.ones }
         ensures twos { work.new.twos ≡ work.old.twos }
+        ensures looked { IfOk result (λ plan. IfNone plan.front (work.new.looked ≡ work.old.looked)) }
+        ensures looked_all { IfOk result (λ plan. IfSome plan.front (λ front. work.new.looked ≤ counted_on work.old.looked (first_looks self.entry.lines.now spot.entry new.now))) }
+        ensures flags { IfOk result (λ plan. IfSome plan.front (λ front. map is_some plan.news.items ≡ flags_behind self.entry.lines.now self.entry.traces.now spot.entry new.now)) }
     {
-        let begun = self.begin(keep, new, work)?;
+        let begun = self.begin(spot.keep, new, work)?;
         let Begun { first, front } = begun;
         let mut front = front;
-        let (_, lines_behind) = self.lines.split_at(from);
-        let (up_to, traces_behind) = self.traces.split_at(from);
-        let (_, olds) = up_to.split_at(keep);
+        let (_, lines_behind) = self.lines.split_at(spot.from);
+        let (up_to, traces_behind) = self.traces.split_at(spot.from);
+        let (_, olds) = up_to.split_at(spot.keep);
         if leave_same(olds, &first) {
             return Ok(Plan {
                 first,
@@ -106,7 +111,7 @@ impl<'a> Kept<'a> {
                 front: None,
             });
         }
-        let news = front.replay(lines_behind, traces_behind, work)?;
+        let news = replay_behind(&mut front, lines_behind, traces_behind, spot.behind, work)?;
         Ok(Plan {
             first,
             news,
@@ -126,6 +131,7 @@ impl<'a> Kept<'a> {
         ensures ones_err { OnErr result (work.new.ones ≤ counted_on work.old.ones (length new.now)) }
         ensures ones_least { work.old.ones ≤ work.new.ones }
         ensures twos { work.new.twos ≡ work.old.twos }
+        ensures looked { work.new.looked ≡ work.old.looked }
     {
         let mut front = Front::new(self.alloc, self.finals.hashing());
         let (before, _) = self.traces.split_at(keep);

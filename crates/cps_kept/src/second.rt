@@ -6,9 +6,11 @@ ghost use Rattle.cps_final.specs.Resolving.{resolved};
 ghost use Rattle.cps_edit.specs.Passes.{outcomes_by};
 ghost use Rattle.cps_edit.specs.Renewed.{mended, redone_parts};
 ghost use Rattle.cps_edit.specs.GatheredNow.{gathered_now};
+ghost use Rattle.cps_kept.specs.Looks.{IsSummedAround, second_looks};
 
 use crate::plan::{Kept, Plan};
-use cps_edit::redo::{redo, redo_kept};
+use crate::spot::Spot;
+use cps_chunks::Again;
 use cps_edit::{Ends, Front};
 use cps_final::{Finals, Gathered, Outcome, step_two};
 use cps_pass::{Trace, Work};
@@ -37,6 +39,7 @@ fn step_two_all(
     ensures twos_err { OnErr result (work.new.twos ≤ counted_on work.old.twos (length traces.now)) }
     ensures twos_least { work.old.twos ≤ work.new.twos }
     ensures ones { work.new.ones ≡ work.old.ones }
+    ensures looked { work.new.looked ≡ work.old.looked }
 {
     let mut all = Vec::with_capacity(alloc, traces.len())?;
     for trace in traces {
@@ -50,33 +53,35 @@ impl<'a> Kept<'a> {
     /// Pass two behind a pass one that was planned with the same place.
     pub fn second(
         self,
-        keep: usize,
-        from: usize,
+        spot: Spot,
         plan: &Plan,
         work: &mut Work,
     ) -> Result<Second, AllocError>
-        requires ordered { keep ≤ from }
-        requires within { from ≤ length self.traces.now }
-        requires len { from + length plan.now.news.items ≤ length self.traces.now }
+        requires ordered { spot.keep ≤ spot.from }
+        requires within { spot.from ≤ length self.traces.now }
+        requires len { spot.from + length plan.now.news.items ≤ length self.traces.now }
         requires none { IfNone plan.now.front (plan.now.news.items ≡ []) }
-        requires all { IfSome plan.now.front (λ front. from + length plan.now.news.items ≡ length self.traces.now) }
-        ensures before { IfOk result (λ second. mended second.before.items (outcomes_by (resolved self.entry.finals.now) (take keep self.entry.traces.now))
-            ≡ outcomes_by (final_value (gathered_now (⟦<Finals as Gathered>⟧.gathered self.entry.finals.now) plan.now.front)) (take keep self.entry.traces.now)) }
-        ensures before_len { IfOk result (λ second. length second.before.items ≤ keep) }
+        requires all { IfSome plan.now.front (λ front. spot.from + length plan.now.news.items ≡ length self.traces.now) }
+        requires around { IsSummedAround self.traces.now spot }
+        ensures before { IfOk result (λ second. mended second.before.items (outcomes_by (resolved self.entry.finals.now) (take spot.entry.keep self.entry.traces.now))
+            ≡ outcomes_by (final_value (gathered_now (⟦<Finals as Gathered>⟧.gathered self.entry.finals.now) plan.now.front)) (take spot.entry.keep self.entry.traces.now)) }
+        ensures before_len { IfOk result (λ second. length second.before.items ≤ spot.entry.keep) }
         ensures first { IfOk result (λ second. second.first.items ≡ outcomes_by (final_value (gathered_now (⟦<Finals as Gathered>⟧.gathered self.entry.finals.now) plan.now.front)) plan.now.first.items) }
-        ensures behind { IfOk result (λ second. mended second.behind.items (outcomes_by (resolved self.entry.finals.now) (drop from self.entry.traces.now))
-            ≡ outcomes_by (final_value (gathered_now (⟦<Finals as Gathered>⟧.gathered self.entry.finals.now) plan.now.front)) (mended plan.now.news.items (drop from self.entry.traces.now))) }
-        ensures behind_len { IfOk result (λ second. from + length second.behind.items ≤ length self.entry.traces.now) }
+        ensures behind { IfOk result (λ second. mended second.behind.items (outcomes_by (resolved self.entry.finals.now) (drop spot.entry.from self.entry.traces.now))
+            ≡ outcomes_by (final_value (gathered_now (⟦<Finals as Gathered>⟧.gathered self.entry.finals.now) plan.now.front)) (mended plan.now.news.items (drop spot.entry.from self.entry.traces.now))) }
+        ensures behind_len { IfOk result (λ second. spot.entry.from + length second.behind.items ≤ length self.entry.traces.now) }
         ensures twos { OnOk result (work.new.twos
-            ≡ counted_on work.old.twos (redone_parts (resolved self.entry.finals.now) (final_value (gathered_now (⟦<Finals as Gathered>⟧.gathered self.entry.finals.now) plan.now.front)) self.entry.traces.now keep from plan.now.first.items plan.now.news.items)) }
+            ≡ counted_on work.old.twos (redone_parts (resolved self.entry.finals.now) (final_value (gathered_now (⟦<Finals as Gathered>⟧.gathered self.entry.finals.now) plan.now.front)) self.entry.traces.now spot.entry.keep spot.entry.from plan.now.first.items plan.now.news.items)) }
         ensures twos_err { OnErr result (work.new.twos
-            ≤ counted_on work.old.twos (redone_parts (resolved self.entry.finals.now) (final_value (gathered_now (⟦<Finals as Gathered>⟧.gathered self.entry.finals.now) plan.now.front)) self.entry.traces.now keep from plan.now.first.items plan.now.news.items)) }
+            ≤ counted_on work.old.twos (redone_parts (resolved self.entry.finals.now) (final_value (gathered_now (⟦<Finals as Gathered>⟧.gathered self.entry.finals.now) plan.now.front)) self.entry.traces.now spot.entry.keep spot.entry.from plan.now.first.items plan.now.news.items)) }
         ensures twos_least { work.old.twos ≤ work.new.twos }
         ensures ones { work.new.ones ≡ work.old.ones }
+        ensures looked { IfNone plan.now.front (work.new.looked ≡ work.old.looked) }
+        ensures looked_all { OnOk result (IfSome plan.now.front (λ front. work.new.looked ≤ counted_on work.old.looked (second_looks (resolved self.entry.finals.now) (final_value (⟦<Front as Gathered>⟧.gathered front)) self.entry.traces.now spot.entry plan.now.news.items))) }
     {
         match &plan.front {
             None => self.second_in_place(plan, work),
-            Some(front) => self.second_of_all(keep, from, plan, front, work),
+            Some(front) => self.second_of_all(spot, plan, front, work),
         }
     }
 
@@ -89,6 +94,7 @@ impl<'a> Kept<'a> {
         ensures twos_err { OnErr result (work.new.twos ≤ counted_on work.old.twos (length plan.now.first.items)) }
         ensures twos_least { work.old.twos ≤ work.new.twos }
         ensures ones { work.new.ones ≡ work.old.ones }
+        ensures looked { work.new.looked ≡ work.old.looked }
     {
         let first = step_two_all(self.alloc, &plan.first, self.finals, work)?;
         Ok(Second {
@@ -101,38 +107,42 @@ impl<'a> Kept<'a> {
     /// Pass two of all lines.
     fn second_of_all(
         self,
-        keep: usize,
-        from: usize,
+        spot: Spot,
         plan: &Plan,
         front: &Front,
         work: &mut Work,
     ) -> Result<Second, AllocError>
-        requires ordered { keep ≤ from }
-        requires within { from ≤ length self.traces.now }
-        requires len { from + length plan.now.news.items ≡ length self.traces.now }
-        ensures before { IfOk result (λ second. mended second.before.items (outcomes_by (resolved self.entry.finals.now) (take keep self.entry.traces.now))
-            ≡ outcomes_by (final_value (⟦<Front as Gathered>⟧.gathered front.now)) (take keep self.entry.traces.now)) }
-        ensures before_len { IfOk result (λ second. length second.before.items ≤ keep) }
+        requires ordered { spot.keep ≤ spot.from }
+        requires within { spot.from ≤ length self.traces.now }
+        requires len { spot.from + length plan.now.news.items ≡ length self.traces.now }
+        requires around { IsSummedAround self.traces.now spot }
+        ensures before { IfOk result (λ second. mended second.before.items (outcomes_by (resolved self.entry.finals.now) (take spot.entry.keep self.entry.traces.now))
+            ≡ outcomes_by (final_value (⟦<Front as Gathered>⟧.gathered front.now)) (take spot.entry.keep self.entry.traces.now)) }
+        ensures before_len { IfOk result (λ second. length second.before.items ≤ spot.entry.keep) }
         ensures first { IfOk result (λ second. second.first.items ≡ outcomes_by (final_value (⟦<Front as Gathered>⟧.gathered front.now)) plan.now.first.items) }
-        ensures behind { IfOk result (λ second. mended second.behind.items (outcomes_by (resolved self.entry.finals.now) (drop from self.entry.traces.now))
-            ≡ outcomes_by (final_value (⟦<Front as Gathered>⟧.gathered front.now)) (mended plan.now.news.items (drop from self.entry.traces.now))) }
-        ensures behind_len { IfOk result (λ second. from + length second.behind.items ≤ length self.entry.traces.now) }
+        ensures behind { IfOk result (λ second. mended second.behind.items (outcomes_by (resolved self.entry.finals.now) (drop spot.entry.from self.entry.traces.now))
+            ≡ outcomes_by (final_value (⟦<Front as Gathered>⟧.gathered front.now)) (mended plan.now.news.items (drop spot.entry.from self.entry.traces.now))) }
+        ensures behind_len { IfOk result (λ second. spot.entry.from + length second.behind.items ≤ length self.entry.traces.now) }
         ensures twos { OnOk result (work.new.twos
-            ≡ counted_on work.old.twos (redone_parts (resolved self.entry.finals.now) (final_value (⟦<Front as Gathered>⟧.gathered front.now)) self.entry.traces.now keep from plan.now.first.items plan.now.news.items)) }
+            ≡ counted_on work.old.twos (redone_parts (resolved self.entry.finals.now) (final_value (⟦<Front as Gathered>⟧.gathered front.now)) self.entry.traces.now spot.entry.keep spot.entry.from plan.now.first.items plan.now.news.items)) }
         ensures twos_err { OnErr result (work.new.twos
-            ≤ counted_on work.old.twos (redone_parts (resolved self.entry.finals.now) (final_value (⟦<Front as Gathered>⟧.gathered front.now)) self.entry.traces.now keep from plan.now.first.items plan.now.news.items)) }
+            ≤ counted_on work.old.twos (redone_parts (resolved self.entry.finals.now) (final_value (⟦<Front as Gathered>⟧.gathered front.now)) self.entry.traces.now spot.entry.keep spot.entry.from plan.now.first.items plan.now.news.items)) }
         ensures twos_least { work.old.twos ≤ work.new.twos }
         ensures ones { work.new.ones ≡ work.old.ones }
+        ensures looked { OnOk result (work.new.looked ≤ counted_on work.old.looked (second_looks (resolved self.entry.finals.now) (final_value (⟦<Front as Gathered>⟧.gathered front.now)) self.entry.traces.now spot.entry plan.now.news.items)) }
     {
-        let ends = Ends {
-            before: self.finals,
-            after: front.finals(),
+        let again = Again {
+            alloc: self.alloc,
+            ends: Ends {
+                before: self.finals,
+                after: front.finals(),
+            },
         };
-        let (before, _) = self.traces.split_at(keep);
-        let (_, behind) = self.traces.split_at(from);
-        let before = redo_kept(self.alloc, before, ends, work)?;
-        let first = step_two_all(self.alloc, &plan.first, ends.after, work)?;
-        let behind = redo(self.alloc, &plan.news, behind, ends, work)?;
+        let (before, _) = self.traces.split_at(spot.keep);
+        let (_, behind) = self.traces.split_at(spot.from);
+        let before = again.redo_in_front(before, spot.in_front, work)?;
+        let first = step_two_all(self.alloc, &plan.first, again.ends.after, work)?;
+        let behind = again.redo_behind(&plan.news, behind, spot.behind, work)?;
         Ok(Second {
             before,
             first,

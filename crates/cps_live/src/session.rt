@@ -9,7 +9,8 @@ ghost use Rattle.cps_live.specs.Edits.{HasLine, LacksLine, HasLines, LacksLines,
 use super::flagged::flagged_lines;
 use cps_edit::Front;
 use cps_final::{Finals, Gathered, Outcome};
-use cps_kept::{Follower, Kept, Lists};
+use cps_chunks::{Behind, InFront};
+use cps_kept::{Follower, Kept, Lists, Spot};
 use cps_list::{Part, View, make_text};
 use cps_pass::{Hashing, Work};
 use cps_text::Line;
@@ -259,7 +260,19 @@ impl Session {
             traces: &self.lists.traces,
             finals: self.front.finals(),
         };
-        let Ok(edit) = kept.edit(keep, from, &new, work) else {
+        let spot = Spot {
+            keep,
+            from,
+            in_front: InFront {
+                chunks: &[],
+                loose: keep,
+            },
+            behind: Behind {
+                loose: self.lists.lines.len() - from,
+                chunks: &[],
+            },
+        };
+        let Ok(edit) = kept.edit(spot, &new, work) else {
             return Err(EditFault::Memory);
         };
         let Ok(front) = self.lists.commit(keep, from, new, edit) else {

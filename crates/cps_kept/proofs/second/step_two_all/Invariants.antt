@@ -9,4 +9,5 @@ invariant-loop-trace l = record {
   outcomes : l.all.items ++ outcomes_by (resolved l.finals) (drop l.trace-index l.traces) ≡ outcomes_by (resolved l.finals) l.traces;
   twos : l.work.twos ≡ counted_on l.fn.work.twos l.trace-index;
   ones : l.work.ones ≡ l.fn.work.ones;
+  looked : l.work.looked ≡ l.fn.work.looked;
 }

@@ -8,6 +8,7 @@ use Rattle.cps_edit.specs.Splice.{splice_at, spliced}
 use Rattle.cps_edit.specs.Disturbed.{finals_in, twos_of}
 use Rattle.cps_edit.specs.Renewed.{redone_parts}
 use Rattle.cps_edit.proofs.ReplayLemmas.{on-err}
+use Rattle.cps_kept.proofs.LookLemmas.{by_front}
 use Rattle.cps_kept.proofs.WholeLemmas.{outcomes_whole, more_up, more_under}
 use Rattle.cps_final.specs.contracts.finals.FinalsGathered.TheImpl.{gathered-value}
 use Rattle.cps_kept.proofs.plan.Kept.edit.Goals as goal
@@ -17,16 +18,16 @@ returns-clause-twos c =
     let was = resolved c.args.self.finals.now in
     let plan = c.in_ok-plan.plan in
     let there = final_value (gathered_now (gathered-value.it c.args.self.finals.now) plan.front) in
-    more_up c.args.work.now.twos c.second.new.work.twos _ (twos_of c.args.self.lines.now (splice_at c.args.keep c.args.from c.args.new.now))
-    (c.in_ok-second.ensures.twos ∙ ap (λ n. counted_on n (redone_parts was there c.args.self.traces.now c.args.keep c.args.from plan.first.items plan.news.items)) c.in_ok-plan.ensures.twos) c.in_ok-plan.ensures.count
+    more_up c.args.work.now.twos c.second.new.work.twos _ (twos_of c.args.self.lines.now (splice_at c.args.spot.keep c.args.spot.from c.args.new.now))
+    (c.in_ok-second.ensures.twos ∙ ap (λ n. counted_on n (redone_parts was there c.args.self.traces.now c.args.spot.keep c.args.spot.from plan.first.items plan.news.items)) c.in_ok-plan.ensures.twos) c.in_ok-plan.ensures.count
 
 pub returns-in_err-second-clause-twos_err : goal.returns-in_err-second-clause-twos_err
 returns-in_err-second-clause-twos_err c =
     let was = resolved c.args.self.finals.now in
     let plan = c.in_ok-plan.plan in
     let there = final_value (gathered_now (gathered-value.it c.args.self.finals.now) plan.front) in
-    on-err _ (more_under c.args.work.now.twos c.second.new.work.twos _ (twos_of c.args.self.lines.now (splice_at c.args.keep c.args.from c.args.new.now))
-    (subst (λ n. c.second.new.work.twos ≤ counted_on n (redone_parts was there c.args.self.traces.now c.args.keep c.args.from plan.first.items plan.news.items)) c.in_ok-plan.ensures.twos c.in_err-second.ensures.twos_err) c.in_ok-plan.ensures.count)
+    on-err _ (more_under c.args.work.now.twos c.second.new.work.twos _ (twos_of c.args.self.lines.now (splice_at c.args.spot.keep c.args.spot.from c.args.new.now))
+    (subst (λ n. c.second.new.work.twos ≤ counted_on n (redone_parts was there c.args.self.traces.now c.args.spot.keep c.args.spot.from plan.first.items plan.news.items)) c.in_ok-plan.ensures.twos c.in_err-second.ensures.twos_err) c.in_ok-plan.ensures.count)
 
 pub returns-clause-outcomes : goal.returns-clause-outcomes
 returns-clause-outcomes c olds is =
@@ -35,7 +36,14 @@ returns-clause-outcomes c olds is =
     let second = c.in_ok-second.second in
     let now = final_value (gathered_now (gathered-value.it c.args.self.finals.now) plan.front) in
     let lines = c.args.self.lines.now in
-    let all = spliced lines (splice_at c.args.keep c.args.from c.args.new.now) in
-    outcomes_whole was now (finals_in all) lines c.args.self.traces.now plan.first.items (traces_of all) plan.news.items second.before.items second.behind.items second.first.items olds c.args.keep c.args.from
+    let all = spliced lines (splice_at c.args.spot.keep c.args.spot.from c.args.new.now) in
+    outcomes_whole was now (finals_in all) lines c.args.self.traces.now plan.first.items (traces_of all) plan.news.items second.before.items second.behind.items second.first.items olds c.args.spot.keep c.args.spot.from
     (is ∙ ap (λ (f : Finals). outcomes_by (final_value f) c.args.self.traces.now) (sym c.requires.finals)) c.in_ok-second.ensures.before c.in_ok-second.ensures.first c.in_ok-second.ensures.behind
     c.in_ok-plan.ensures.traces (ap final_value c.in_ok-plan.ensures.finals)
+
+pub returns-clause-looked : goal.returns-clause-looked
+returns-clause-looked c =
+    let plan = c.in_ok-plan.plan in
+    by_front c.args.self.lines.now c.args.self.traces.now c.args.spot c.args.new.now (resolved c.args.self.finals.now) (gathered-value.it c.args.self.finals.now) plan.news.items
+    c.args.work.now.looked c.plan.new.work.looked c.second.new.work.looked plan.front
+    (ap final_value c.requires.finals) (ap final_value c.in_ok-plan.ensures.finals) c.in_ok-plan.ensures.looked c.in_ok-plan.ensures.looked_all c.in_ok-plan.ensures.flags c.second.ensures.looked c.in_ok-second.ensures.looked_all

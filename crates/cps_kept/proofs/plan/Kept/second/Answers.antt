@@ -6,12 +6,13 @@ use Rattle.cps_edit.specs.Passes.{outcomes_by}
 use Rattle.cps_edit.specs.Renewed.{mended, redone_parts}
 use Rattle.cps_kept.specs.declared.second.Second.{Second}
 use Rattle.cps_kept.proofs.InPlaceLemmas.{in_place-parts}
+use Rattle.cps_kept.proofs.LookLemmas.{on-unit}
 use Rattle.cps_kept.proofs.SecondLemmas.{none-made}
 use Rattle.cps_kept.proofs.plan.Kept.second.Goals as goal
 
 pub returns-in-None-clause-before : goal.returns-in-None-clause-before
 returns-in-None-clause-before c =
-    let olds = outcomes_by (resolved c.args.self.finals.now) (take c.args.keep c.args.self.traces.now) in
+    let olds = outcomes_by (resolved c.args.self.finals.now) (take c.args.spot.keep c.args.self.traces.now) in
     rw c.in-None.is (none-made c.second_in_place.result (λ (second : Second). second.before.items) olds olds refl c.second_in_place.ensures.before)
 
 pub returns-in-None-clause-first : goal.returns-in-None-clause-first
@@ -20,7 +21,7 @@ returns-in-None-clause-first c = rw c.in-None.is c.second_in_place.ensures.first
 pub returns-in-None-clause-behind : goal.returns-in-None-clause-behind
 returns-in-None-clause-behind c =
     let was = resolved c.args.self.finals.now in
-    let left = drop c.args.from c.args.self.traces.now in
+    let left = drop c.args.spot.from c.args.self.traces.now in
     let news = c.args.plan.now.news.items in
     let none : news ≡ [] = subst (λ front. IfNone front (news ≡ [])) c.in-None.is c.requires.none in
     rw c.in-None.is (none-made c.second_in_place.result (λ (second : Second). second.behind.items) (outcomes_by was left) (outcomes_by was (mended news left)) (ap (λ ns. outcomes_by was (mended ns left)) (sym none)) c.second_in_place.ensures.behind)
@@ -32,7 +33,7 @@ returns-in-None-clause-twos c =
     let firsts = c.args.plan.now.first.items in
     let news = c.args.plan.now.news.items in
     let none : news ≡ [] = subst (λ front. IfNone front (news ≡ [])) c.in-None.is c.requires.none in
-    let count = sym (ap (redone_parts was was traces c.args.keep c.args.from firsts) none ∙ in_place-parts was traces firsts c.args.keep c.args.from) in
+    let count = sym (ap (redone_parts was was traces c.args.spot.keep c.args.spot.from firsts) none ∙ in_place-parts was traces firsts c.args.spot.keep c.args.spot.from) in
     rw c.in-None.is (subst (λ n. OnOk c.second_in_place.result (c.second_in_place.new.work.twos ≡ counted_on c.args.work.now.twos n)) count c.second_in_place.ensures.twos)
 
 pub returns-in-Some-clause-before : goal.returns-in-Some-clause-before
@@ -49,3 +50,12 @@ returns-in-Some-clause-twos c = rw c.in-Some.is c.second_of_all.ensures.twos
 
 pub returns-in-Some-clause-twos_err : goal.returns-in-Some-clause-twos_err
 returns-in-Some-clause-twos_err c = rw c.in-Some.is c.second_of_all.ensures.twos_err
+
+pub returns-in-None-clause-looked : goal.returns-in-None-clause-looked
+returns-in-None-clause-looked c = rw c.in-None.is c.second_in_place.ensures.looked
+
+pub returns-in-Some-clause-looked_all : goal.returns-in-Some-clause-looked_all
+returns-in-Some-clause-looked_all c = rw c.in-Some.is c.second_of_all.ensures.looked
+
+pub returns-in-None-clause-looked_all : goal.returns-in-None-clause-looked_all
+returns-in-None-clause-looked_all c = rw c.in-None.is (on-unit c.second_in_place.result)

@@ -1,4 +1,4 @@
-use Rattle.std.proofs.Common.{rules, arith, ◌≡◌, ◌≤◌, List, length, take, drop, sym, ap, subst, ◌∙◌}
+use Rattle.std.proofs.Common.{rules, arith, ◌≡◌, ◌≤◌, List, length, take, drop, refl, sym, ap, subst, ◌∙◌, ◌+◌, ◌-◌}
 use Rattle.std.proofs.lemmas.List.{length-drop}
 use Rattle.cps_state.specs.Course.{Trace}
 use Rattle.cps_state.specs.Work.{counted_on}
@@ -7,9 +7,13 @@ use Rattle.cps_final.specs.Resolving.{resolved}
 use Rattle.cps_edit.specs.Passes.{outcomes_by}
 use Rattle.cps_edit.specs.Renewed.{merged, nones, redone_parts}
 use Rattle.cps_edit.specs.contracts.front.FrontGathered.TheImpl.{gathered-value}
-use Rattle.cps_edit.proofs.ReplayLemmas.{on-err}
+use Rattle.cps_edit.specs.Agreeing.{same_at}
+use Rattle.cps_edit.proofs.ReplayLemmas.{on-err, le-same}
+use Rattle.cps_chunks.specs.Chunks.{looks_kept, looks_again}
+use Rattle.cps_chunks.proofs.ChunkLemmas.{both-looked}
+use Rattle.cps_kept.proofs.LookLemmas.{front-parts}
 use Rattle.cps_kept.proofs.SecondLemmas.{second_steps, second_last, second_mid, second_first, mended-outcomes}
-use Rattle.cps_edit.proofs.TakenLemmas.{mended_merged}
+use Rattle.cps_edit.proofs.TakenLemmas.{mended_merged, merged_nones}
 use Rattle.cps_kept.proofs.WholeLemmas.{renamed}
 use Rattle.cps_kept.proofs.plan.Kept.second_of_all.Goals as goal
 
@@ -19,8 +23,8 @@ returns-in_err-before-clause-twos_err c =
     let now = resolved c.finals.result.now in
     let there = final_value (gathered-value.it c.args.front.now) in
     let front = c.split_at.result.0.now in
-    on-err _ (second_first was now there (nones (length front)) c.args.plan.now.news.items front c.split_at-2.result.1.now c.args.self.traces.now c.args.plan.now.first.items c.args.keep c.args.from
-    c.args.work.now.twos c.redo_kept.new.work.twos 0 0 (ap final_value c.finals.ensures) (ap (nones {X = Trace}) c.split_at.ensures.front_len) c.split_at.ensures.front c.split_at-2.ensures.back
+    on-err _ (second_first was now there (nones (length front)) c.args.plan.now.news.items front c.split_at-2.result.1.now c.args.self.traces.now c.args.plan.now.first.items c.args.spot.keep c.args.spot.from
+    c.args.work.now.twos c.redo_in_front.new.work.twos 0 0 (ap final_value c.finals.ensures) (ap (nones {X = Trace}) c.split_at.ensures.front_len) c.split_at.ensures.front c.split_at-2.ensures.back
     c.in_err-before.ensures.twos_err)
 
 pub returns-in_err-first-clause-twos_err : goal.returns-in_err-first-clause-twos_err
@@ -31,11 +35,11 @@ returns-in_err-first-clause-twos_err c =
     let front = c.split_at.result.0.now in
     let firsts = c.args.plan.now.first.items in
     let at_first : c.deref.result.now ≡ firsts = search rules in
-    let step : c.step_two_all.new.work.twos ≤ counted_on c.redo_kept.new.work.twos (length firsts) =
-    subst (λ (fs : List Trace). c.step_two_all.new.work.twos ≤ counted_on c.redo_kept.new.work.twos (length fs)) at_first c.in_err-first.ensures.twos_err in
-    on-err _ (second_mid was now there (nones (length front)) c.args.plan.now.news.items front c.split_at-2.result.1.now c.args.self.traces.now firsts c.args.keep c.args.from
-    c.args.work.now.twos c.redo_kept.new.work.twos c.step_two_all.new.work.twos 0 (ap final_value c.finals.ensures) (ap (nones {X = Trace}) c.split_at.ensures.front_len) c.split_at.ensures.front c.split_at-2.ensures.back
-    c.in_ok-before.ensures.twos step)
+    let step : c.step_two_all.new.work.twos ≤ counted_on c.redo_in_front.new.work.twos (length firsts) =
+    subst (λ (fs : List Trace). c.step_two_all.new.work.twos ≤ counted_on c.redo_in_front.new.work.twos (length fs)) at_first c.in_err-first.ensures.twos_err in
+    on-err _ (second_mid was now there (nones (length front)) c.args.plan.now.news.items front c.split_at-2.result.1.now c.args.self.traces.now firsts c.args.spot.keep c.args.spot.from
+    c.args.work.now.twos c.redo_in_front.new.work.twos c.step_two_all.new.work.twos 0 (ap final_value c.finals.ensures) (ap (nones {X = Trace}) c.split_at.ensures.front_len) c.split_at.ensures.front c.split_at-2.ensures.back
+    c.in_ok-before.ensures.redoes.twos step)
 
 pub returns-in_err-behind-clause-twos_err : goal.returns-in_err-behind-clause-twos_err
 returns-in_err-behind-clause-twos_err c =
@@ -48,16 +52,17 @@ returns-in_err-behind-clause-twos_err c =
     let news = c.args.plan.now.news.items in
     let at_first : c.deref.result.now ≡ firsts = search rules in
     let at_news : c.deref-2.result.now ≡ news = search rules in
-    on-err _ (renamed (λ F N. c.redo.new.work.twos ≤ counted_on c.args.work.now.twos (redone_parts was there traces c.args.keep c.args.from F N)) _ firsts _ news at_first at_news
-    (second_last was now there (nones (length front)) c.deref-2.result.now front c.split_at-2.result.1.now traces c.deref.result.now c.args.keep c.args.from
-    c.args.work.now.twos c.redo_kept.new.work.twos c.step_two_all.new.work.twos c.redo.new.work.twos (ap final_value c.finals.ensures) (ap (nones {X = Trace}) c.split_at.ensures.front_len) c.split_at.ensures.front c.split_at-2.ensures.back
-    c.in_ok-before.ensures.twos c.in_ok-first.ensures.twos c.in_err-behind.ensures.twos_err))
+    on-err _ (renamed (λ F N. c.redo_behind.new.work.twos ≤ counted_on c.args.work.now.twos (redone_parts was there traces c.args.spot.keep c.args.spot.from F N)) _ firsts _ news at_first at_news
+    (second_last was now there (nones (length front)) c.deref-2.result.now front c.split_at-2.result.1.now traces c.deref.result.now c.args.spot.keep c.args.spot.from
+    c.args.work.now.twos c.redo_in_front.new.work.twos c.step_two_all.new.work.twos c.redo_behind.new.work.twos (ap final_value c.finals.ensures) (ap (nones {X = Trace}) c.split_at.ensures.front_len) c.split_at.ensures.front c.split_at-2.ensures.back
+    c.in_ok-before.ensures.redoes.twos c.in_ok-first.ensures.twos c.in_err-behind.ensures.twos_err))
 
 pub returns-clause-before : goal.returns-clause-before
 returns-clause-before c =
     let was = resolved c.args.self.finals.now in
     let same = ap final_value c.finals.ensures in
-    mended-outcomes was c.in_ok-before.before.items c.split_at.result.0.now (take c.args.keep c.args.self.traces.now) c.split_at.ensures.front c.in_ok-before.ensures.len ∙ c.in_ok-before.ensures.outcomes
+    mended-outcomes was c.in_ok-before.before.items c.split_at.result.0.now (take c.args.spot.keep c.args.self.traces.now) c.split_at.ensures.front c.in_ok-before.ensures.redoes.len ∙ c.in_ok-before.ensures.redoes.outcomes
+    ∙ ap (outcomes_by (resolved c.finals.result.now)) (merged_nones c.split_at.result.0.now (length c.split_at.result.0.now) refl)
     ∙ (λ i. outcomes_by (same i) (c.split_at.ensures.front i))
 
 pub returns-clause-first : goal.returns-clause-first
@@ -70,11 +75,11 @@ pub returns-clause-behind : goal.returns-clause-behind
 returns-clause-behind c =
     let was = resolved c.args.self.finals.now in
     let news = c.args.plan.now.news.items in
-    let left = drop c.args.from c.args.self.traces.now in
+    let left = drop c.args.spot.from c.args.self.traces.now in
     let at_news : c.deref-2.result.now ≡ news = search rules in
     let same = ap final_value c.finals.ensures in
-    let long : length news ≡ length left = omega (arith, c.requires.len, c.requires.within, length-drop c.args.from c.args.self.traces.now) in
-    mended-outcomes was c.in_ok-behind.behind.items c.split_at-2.result.1.now left c.split_at-2.ensures.back c.in_ok-behind.ensures.len ∙ c.in_ok-behind.ensures.outcomes
+    let long : length news ≡ length left = omega (arith, c.requires.len, c.requires.within, length-drop c.args.spot.from c.args.self.traces.now) in
+    mended-outcomes was c.in_ok-behind.behind.items c.split_at-2.result.1.now left c.split_at-2.ensures.back c.in_ok-behind.ensures.redoes.len ∙ c.in_ok-behind.ensures.redoes.outcomes
     ∙ (λ i. outcomes_by (same i) (merged (at_news i) (c.split_at-2.ensures.back i))) ∙ ap (outcomes_by (final_value (gathered-value.it c.args.front.now))) (sym (mended_merged news left long))
 
 pub returns-clause-twos : goal.returns-clause-twos
@@ -88,7 +93,39 @@ returns-clause-twos c =
     let news = c.args.plan.now.news.items in
     let at_first : c.deref.result.now ≡ firsts = search rules in
     let at_news : c.deref-2.result.now ≡ news = search rules in
-    renamed (λ F N. c.redo.new.work.twos ≡ counted_on c.args.work.now.twos (redone_parts was there traces c.args.keep c.args.from F N)) _ firsts _ news at_first at_news
-    (second_steps was now there (nones (length front)) c.deref-2.result.now front c.split_at-2.result.1.now traces c.deref.result.now c.args.keep c.args.from
-    c.args.work.now.twos c.redo_kept.new.work.twos c.step_two_all.new.work.twos c.redo.new.work.twos (ap final_value c.finals.ensures) (ap (nones {X = Trace}) c.split_at.ensures.front_len) c.split_at.ensures.front c.split_at-2.ensures.back
-    c.in_ok-before.ensures.twos c.in_ok-first.ensures.twos c.in_ok-behind.ensures.twos)
+    renamed (λ F N. c.redo_behind.new.work.twos ≡ counted_on c.args.work.now.twos (redone_parts was there traces c.args.spot.keep c.args.spot.from F N)) _ firsts _ news at_first at_news
+    (second_steps was now there (nones (length front)) c.deref-2.result.now front c.split_at-2.result.1.now traces c.deref.result.now c.args.spot.keep c.args.spot.from
+    c.args.work.now.twos c.redo_in_front.new.work.twos c.step_two_all.new.work.twos c.redo_behind.new.work.twos (ap final_value c.finals.ensures) (ap (nones {X = Trace}) c.split_at.ensures.front_len) c.split_at.ensures.front c.split_at-2.ensures.back
+    c.in_ok-before.ensures.redoes.twos c.in_ok-first.ensures.twos c.in_ok-behind.ensures.redoes.twos)
+
+pub redo_in_front-requires-clause-within : goal.redo_in_front-requires-clause-within
+redo_in_front-requires-clause-within c = omega (arith, c.requires.around.loose_front, c.split_at.ensures.front_len)
+
+pub redo_in_front-requires-clause-summed : goal.redo_in_front-requires-clause-summed
+redo_in_front-requires-clause-summed c =
+    let spot = c.args.spot in
+    let ts = c.args.self.traces.now in
+    rw (front-parts spot.keep spot.in_front.loose ts c.split_at.result.0.now c.split_at.ensures.front c.split_at.ensures.front_len) c.requires.around.in_front
+
+pub redo_behind-requires-clause-within : goal.redo_behind-requires-clause-within
+redo_behind-requires-clause-within c =
+    omega (arith, c.requires.around.loose_behind, ap length c.split_at-2.ensures.back, length-drop c.args.spot.from c.args.self.traces.now)
+
+pub redo_behind-requires-clause-summed : goal.redo_behind-requires-clause-summed
+redo_behind-requires-clause-summed c = rw c.split_at-2.ensures.back c.requires.around.behind
+
+pub returns-clause-looked : goal.returns-clause-looked
+returns-clause-looked c =
+    let spot = c.args.spot in
+    let ts = c.args.self.traces.now in
+    let was = resolved c.args.self.finals.now in
+    let n = spot.behind.loose in
+    let same = ap final_value c.finals.ensures in
+    let at_news : c.deref-2.result.now ≡ c.args.plan.now.news.items = search rules in
+    let parts = front-parts spot.keep spot.in_front.loose ts c.split_at.result.0.now c.split_at.ensures.front c.split_at.ensures.front_len in
+    let first = subst (λ k. c.redo_in_front.new.work.looked ≤ counted_on c.args.work.now.looked k) (λ i. looks_kept (same_at was (same i)) spot.in_front.chunks.now (parts i) + spot.in_front.loose) c.in_ok-before.ensures.looked in
+    let there = final_value (gathered-value.it c.args.front.now) in
+    let A = looks_kept (same_at was there) spot.in_front.chunks.now (take (spot.keep - spot.in_front.loose) ts) + spot.in_front.loose in
+    let mid : c.step_two_all.new.work.looked ≤ counted_on c.args.work.now.looked A = subst (λ k. k ≤ counted_on c.args.work.now.looked A) (sym c.step_two_all.ensures.looked) first in
+    let last = subst (λ k. c.redo_behind.new.work.looked ≤ counted_on c.step_two_all.new.work.looked k) (λ i. n + looks_again (same_at was (same i)) spot.behind.chunks.now (drop n (at_news i)) (drop n (c.split_at-2.ensures.back i))) c.in_ok-behind.ensures.looked in
+    both-looked c.args.work.now.looked c.step_two_all.new.work.looked c.redo_behind.new.work.looked _ _ _ mid last (le-same _ _ refl)

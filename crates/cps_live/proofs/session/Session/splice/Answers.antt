@@ -1,4 +1,4 @@
-use Rattle.std.proofs.Common.{arith, ◌≤◌, ◌++◌, length, take, drop, sym, ap, subst, ◌∙◌}
+use Rattle.std.proofs.Common.{arith, ◌≡◌, ◌-◌, ◌≤◌, ◌++◌, length, take, drop, sym, ap, subst, ◌∙◌}
 use Rattle.cps_final.specs.Finals.{finals_of}
 use Rattle.cps_edit.specs.Passes.{outcomes_by}
 use Rattle.cps_edit.specs.Splice.{splice_at, spliced}
@@ -7,6 +7,7 @@ use Rattle.cps_edit.specs.Renewed.{mended}
 use Rattle.cps_edit.specs.GatheredNow.{gathered_now}
 use Rattle.cps_live.specs.Assembly.{traces_of, outcomes_of}
 use Rattle.cps_live.specs.Edits.{Source, most_lines, HaveStepped, HaveSteppedUpTo}
+use Rattle.std.proofs.lemmas.List.{length-drop, drop_all}
 use Rattle.cps_live.proofs.SessionLemmas.{length-traces, length-outcomes, kept_still, kept_now, renamed, stepped_up_to}
 use Rattle.cps_live.proofs.session.Session.splice.Goals as goal
 
@@ -18,6 +19,22 @@ returns-in_default-clause-work c =
 
 pub edit-requires-clause-finals : goal.edit-requires-clause-finals
 edit-requires-clause-finals c = c.finals.ensures ∙ c.self.invariant.gathered ∙ ap (λ lines. finals_of (traces_of lines)) (sym c.deref.ensures.value)
+
+pub edit-requires-clause-around : goal.edit-requires-clause-around
+edit-requires-clause-around c =
+    let lists = c.self.inside.lists in
+    let keep = c.args.keep in
+    let from = c.args.from in
+    let ts = c.deref-2.result.now in
+    let seen : length lists.lines.items ≡ length c.args.self.now.lines = ap (λ (s : Source). length s.lines) c.self.view_is in
+    let each : length ts ≡ length lists.lines.items = ap length (c.deref-2.ensures.value ∙ c.self.invariant.did) ∙ length-traces lists.lines.items in
+    let none : keep - keep ≡ 0 = omega arith in
+    record {
+      loose_front = omega arith;
+      in_front = ap (λ n. take n ts) none;
+      loose_behind = omega (arith, seen, each, c.requires.within, lists.lines.ok.0);
+      behind = drop_all _ (drop from ts) (omega (arith, length-drop from ts, seen, each, c.requires.within, lists.lines.ok.0));
+    }
 
 pub commit-requires-clause-traces : goal.commit-requires-clause-traces
 commit-requires-clause-traces c =
