@@ -46,12 +46,7 @@ impl Edit {
 
 impl<'a> Kept<'a> {
     /// Both passes with new lines at a place.
-    pub fn edit(
-        self,
-        spot: Spot,
-        new: &[Line],
-        work: &mut Work,
-    ) -> Result<Edit, AllocError>
+    pub fn edit(self, spot: Spot, new: &[Line], work: &mut Work) -> Result<Edit, AllocError>
         requires kept { self.traces.now ≡ traces_of self.lines.now }
         requires finals { ⟦<Finals as Gathered>⟧.gathered self.finals.now ≡ finals_of (traces_of self.lines.now) }
         requires ordered { spot.keep ≤ spot.from }

@@ -69,12 +69,7 @@ struct Begun {
 
 impl<'a> Kept<'a> {
     /// Pass one with new lines at a place. Where they leave the same as those in whose place they stand, no other line is gone through behind them.
-    pub fn plan(
-        self,
-        spot: Spot,
-        new: &[Line],
-        work: &mut Work,
-    ) -> Result<Plan, AllocError>
+    pub fn plan(self, spot: Spot, new: &[Line], work: &mut Work) -> Result<Plan, AllocError>
         requires kept { self.traces.now ≡ traces_of self.lines.now }
         requires finals { ⟦<Finals as Gathered>⟧.gathered self.finals.now ≡ finals_of (traces_of self.lines.now) }
         requires ordered { spot.keep ≤ spot.from }

@@ -51,12 +51,7 @@ fn step_two_all(
 
 impl<'a> Kept<'a> {
     /// Pass two behind a pass one that was planned with the same place.
-    pub fn second(
-        self,
-        spot: Spot,
-        plan: &Plan,
-        work: &mut Work,
-    ) -> Result<Second, AllocError>
+    pub fn second(self, spot: Spot, plan: &Plan, work: &mut Work) -> Result<Second, AllocError>
         requires ordered { spot.keep ≤ spot.from }
         requires within { spot.from ≤ length self.traces.now }
         requires len { spot.from + length plan.now.news.items ≤ length self.traces.now }

@@ -7,9 +7,9 @@ ghost use Rattle.cps_live.specs.Flagged.{flagged_lines as flagged_in};
 ghost use Rattle.cps_live.specs.Edits.{HasLine, LacksLine, HasLines, LacksLines, without_lines, WorkOfEdit};
 
 use super::flagged::flagged_lines;
+use cps_chunks::{Behind, InFront};
 use cps_edit::Front;
 use cps_final::{Finals, Gathered, Outcome};
-use cps_chunks::{Behind, InFront};
 use cps_kept::{Follower, Kept, Lists, Spot};
 use cps_list::{Part, View, make_text};
 use cps_pass::{Hashing, Work};
