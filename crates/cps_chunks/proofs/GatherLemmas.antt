@@ -1,5 +1,5 @@
 -- A run that is gathered line by line.
-use Rattle.std.proofs.Common.{◌≡◌, suc-ne-zero, refl, sym, ap, ◌∙◌, Bool, true, false, List, [], ◌∷◌, ◌++◌, length, reverse, Option, Some, None}
+use Rattle.std.proofs.Common.{◌≡◌, suc-ne-zero, refl, sym, ap, ◌∙◌, Bool, true, false, List, [], ◌∷◌, ◌++◌, append_assoc, append-nil, length, reverse, Option, Some, None}
 use Rattle.std.specs.Prelude.{◌||◌, is_some, option_and_then, option_map, IfSome, if◌then◌else◌}
 use Rattle.std.proofs.lemmas.List.{reverse-append}
 use Rattle.std.specs.Option.{option_or}
@@ -102,3 +102,13 @@ stays p last b is held = sym (ap (λ t. if t then last else p ∷ last) (is ∙ 
 pub goes_in_front : (p q : Put) (old new : List Put) (b : Bool) → is_some (last_put (reverse old) p.key) ≡ b → b ≡ false → q ≡ p → new ≡ old ++ q ∷ [] → reverse new ≡ in_front p (reverse old)
 goes_in_front p q old new b is absent same pushed =
     ap reverse pushed ∙ reverse-append old (q ∷ []) ∙ ap (λ r. r ∷ reverse old) same ∙ sym (ap (λ t. if t then reverse old else p ∷ reverse old) (is ∙ absent))
+
+-- ---- a list that is put from its end on
+
+pub put-next : (old new left rest all : List Put) (p : Put) → left ≡ rest ++ p ∷ [] → new ≡ old ++ p ∷ [] → old ++ reverse left ≡ all → new ++ reverse rest ≡ all
+put-next old new left rest all p is pushed before =
+    ap (λ ps. ps ++ reverse rest) pushed ∙ append_assoc old (p ∷ []) (reverse rest) ∙ ap (λ ps. old ++ ps) (sym (reverse-append rest (p ∷ [])) ∙ ap reverse (sym is)) ∙ before
+
+pub put-end : (done left all : List Put) → length left ≡ 0 → done ++ reverse left ≡ all → done ≡ all
+put-end done [] all none before = sym (append-nil done) ∙ before
+put-end done (p ∷ left) all none before = absurd (suc-ne-zero (length left) none)

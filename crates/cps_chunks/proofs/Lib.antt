@@ -8,3 +8,5 @@ pub mod ChunkLemmas
 mod AgainLemmas
 pub mod ListLemmas
 pub mod TouchedLemmas
+pub mod AppendedLemmas
+mod EntryLemmas

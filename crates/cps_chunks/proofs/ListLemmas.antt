@@ -194,20 +194,8 @@ lengths-recut start end ns cs news =
     ∙ (λ i. sym (take-map (λ (chunk : Chunk). chunk.lines) start cs) i
     ++ (lengths-unsummed ns i ++ (lengths-forgotten (drop end cs) news ∙ sym (drop-map (λ (chunk : Chunk). chunk.lines) end cs)) i))
 
--- chunks give way to others, and from those on, what has something new is forgotten
-pub recut-changed : (start end at : ℕ) (ns : List ℕ) (cs : List Chunk) (news : List (Option Trace)) → start ≤ length cs → at ≡ start + length ns
-    → take at (take start cs ++ (all_unsummed ns ++ drop end cs)) ++ forgotten (drop at (take start cs ++ (all_unsummed ns ++ drop end cs))) news
-    ≡ take start cs ++ (all_unsummed ns ++ forgotten (drop end cs) news)
-recut-changed start end at ns cs news le is =
-    let long : length (take start cs ++ all_unsummed ns) ≡ at =
-    length-append (take start cs) (all_unsummed ns) ∙ (λ i. length-take-le start cs le i + length-map ns unsummed i) ∙ sym is in
-    let split = append_assoc (take start cs) (all_unsummed ns) (drop end cs) in
-    ap (λ ds. take at ds ++ forgotten (drop at ds) news) (sym split)
-    ∙ (λ i. take_at (take start cs ++ all_unsummed ns) (drop end cs) at long i ++ forgotten (behind_front (take start cs ++ all_unsummed ns) (drop end cs) at long i) news)
-    ∙ append_assoc (take start cs) (all_unsummed ns) (forgotten (drop end cs) news)
-
 -- the lines of the first chunks are there
-within-lines : (n : ℕ) (cs : List Chunk) (ts : List Trace) → AreSummed cs ts → sum (lengths_of (take n cs)) ≤ length ts
+pub within-lines : (n : ℕ) (cs : List Chunk) (ts : List Trace) → AreSummed cs ts → sum (lengths_of (take n cs)) ≤ length ts
 within-lines n cs ts s =
     let e : ℕ = sum (lengths_of (take n cs)) in
     let long : length (take e ts) ≡ e = summed-long (take n cs) (take e ts) (summed-front n cs ts s) in
@@ -272,16 +260,16 @@ last-chunk : (ns : List ℕ) (n : ℕ) → AreChunks (ns ++ n ∷ []) → n ≤ 
 last-chunk [] n d = d.1
 last-chunk (m ∷ ns) n d = last-chunk ns n d.3
 
-grown-small : (n : ℕ) → n < full → grown n [] ≡ (n + 1) ∷ []
+pub grown-small : (n : ℕ) → n < full → grown n [] ≡ (n + 1) ∷ []
 grown-small n lt = ap (λ b. if b then (n + 1) ∷ [] else full ∷ joined 1 []) (lt-ltb n full lt)
 
-grown-full : (n : ℕ) → n ≤ full → full ≤ n → grown n [] ≡ n ∷ 1 ∷ []
+pub grown-full : (n : ℕ) → n ≤ full → full ≤ n → grown n [] ≡ n ∷ 1 ∷ []
 grown-full n le ge =
     let is : full ≡ n = omega arith in
     subst (λ (m : ℕ). grown m [] ≡ m ∷ 1 ∷ []) is refl
 
 -- chunks and their last one
-ends-with : (cs : List Chunk) (k : ℕ) (c : Chunk) → k + 1 ≡ length cs → c ≡ get_or cs k c → cs ≡ take k cs ++ c ∷ []
+pub ends-with : (cs : List Chunk) (k : ℕ) (c : Chunk) → k + 1 ≡ length cs → c ≡ get_or cs k c → cs ≡ take k cs ++ c ∷ []
 ends-with cs k c e is =
     let lt : k < length cs = omega arith in
     let past : length cs ≤ k + 1 = omega arith in
@@ -292,10 +280,10 @@ set-last cs k c x e is =
     let long : length (take k cs) ≡ k = length-take-le k cs (omega arith) in
     ap (λ ds. set ds k x) (ends-with cs k c e is) ∙ set_at (take k cs) c [] x k long
 
-lengths-last : (cs : List Chunk) (x : Chunk) → lengths_of (cs ++ x ∷ []) ≡ lengths_of cs ++ x.lines ∷ []
+pub lengths-last : (cs : List Chunk) (x : Chunk) → lengths_of (cs ++ x ∷ []) ≡ lengths_of cs ++ x.lines ∷ []
 lengths-last cs x = lengths-append cs (x ∷ [])
 
-inserted-lengths : (cs : List Chunk) (k : ℕ) (c : Chunk) → k + 1 ≡ length cs → c ≡ get_or cs k c → AreChunks (lengths_of cs)
+pub inserted-lengths : (cs : List Chunk) (k : ℕ) (c : Chunk) → k + 1 ≡ length cs → c ≡ get_or cs k c → AreChunks (lengths_of cs)
     → (inserted_at (sum (lengths_of cs)) (lengths_of cs) ≡ lengths_of (take k cs) ++ grown c.lines []) × (c.lines ≤ full)
 inserted-lengths cs k c e is d =
     let split : lengths_of cs ≡ lengths_of (take k cs) ++ c.lines ∷ [] = ap lengths_of (ends-with cs k c e is) ∙ lengths-last (take k cs) c in

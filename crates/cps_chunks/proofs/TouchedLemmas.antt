@@ -26,6 +26,7 @@ use Rattle.cps_chunks.specs.Names.{all_pass}
 use Rattle.cps_chunks.specs.declared.chunk.Summary.{Summary}
 use Rattle.cps_chunks.specs.declared.chunk.Chunk.{Chunk}
 use Rattle.cps_chunks.specs.Chunks.{WereDone, IsSummed, AreSummed, lengths_of, AreMade, stands, looks_from, agrees, are_none, looks_again, looks_kept}
+use Rattle.cps_chunks.specs.Recuts.{Recuts}
 use Rattle.cps_chunks.specs.Touched.{cut, done_before, is_touched, touched_from, touched_of}
 use Rattle.cps_chunks.proofs.RunLemmas.{asks-no-more}
 use Rattle.cps_chunks.proofs.NamesLemmas.{names-law}
@@ -33,10 +34,10 @@ use Rattle.cps_chunks.proofs.ChunkLemmas.{state-append, done-long, done-front, d
 
 -- ---- lengths, and lists cut by them
 
-sum-append : (xs ys : List ℕ) → sum (xs ++ ys) ≡ sum xs + sum ys
+pub sum-append : (xs ys : List ℕ) → sum (xs ++ ys) ≡ sum xs + sum ys
 sum-append xs ys = sum_by-append (λ x. x) xs ys
 
-sum-cons : (n : ℕ) (ns : List ℕ) → sum (n ∷ ns) ≡ n + sum ns
+pub sum-cons : (n : ℕ) (ns : List ℕ) → sum (n ∷ ns) ≡ n + sum ns
 sum-cons n ns = sum-append (n ∷ []) ns ∙ (let one : sum (n ∷ []) ≡ n = omega arith in ap (λ k. k + sum ns) one)
 
 -- those of the first, and of the next ones up to a number
@@ -73,11 +74,11 @@ module _ {X : Type 0} where
       let next : suc (length xs) + k ≡ suc (length xs + k) = omega arith in
       ap (λ j. drop j (x ∷ xs ++ ys)) next ∙ drop-past xs ys k
 
-  length-cut : (ms : List ℕ) (xs : List X) → length (cut ms xs) ≡ length ms
+  pub length-cut : (ms : List ℕ) (xs : List X) → length (cut ms xs) ≡ length ms
   length-cut [] xs = refl
   length-cut (m ∷ ms) xs = ap suc (length-cut ms (drop m xs))
 
-  take-cut : (i : ℕ) (ms : List ℕ) (xs : List X) → take i (cut ms xs) ≡ cut (take i ms) xs
+  pub take-cut : (i : ℕ) (ms : List ℕ) (xs : List X) → take i (cut ms xs) ≡ cut (take i ms) xs
   take-cut zero ms xs = refl
   take-cut (suc i) [] xs = refl
   take-cut (suc i) (m ∷ ms) xs = ap (λ ps. take m xs ∷ ps) (take-cut i ms (drop m xs))
@@ -101,11 +102,11 @@ module _ {X : Type 0} where
 
 -- ---- short chunks
 
-abbrev AreShort : List ℕ → Type 0
+abbrev pub AreShort : List ℕ → Type 0
 AreShort [] = Unit {0}
 AreShort (n ∷ ns) = (n ≤ 64) × AreShort ns
 
-chunks-short : (ns : List ℕ) → AreChunks ns → AreShort ns
+pub chunks-short : (ns : List ℕ) → AreChunks ns → AreShort ns
 chunks-short [] are = tt
 chunks-short (n ∷ ns) are = (are.1, chunks-short ns are.3)
 
@@ -131,7 +132,7 @@ short-sum : (ns : List ℕ) → AreShort ns → sum ns ≤ 64 * length ns
 short-sum [] are = omega arith
 short-sum (n ∷ ns) are = omega (arith, sum-cons n ns, short-sum ns are.1, are.0)
 
-few : {X : Type 0} (n : ℕ) (xs : List X) → n ≤ 64 → length (take n xs) ≤ 64
+pub few : {X : Type 0} (n : ℕ) (xs : List X) → n ≤ 64 → length (take n xs) ≤ 64
 few n xs le = omega (arith, short n xs, le)
   where
     short : {Y : Type 0} (k : ℕ) (ys : List Y) → length (take k ys) ≤ k
@@ -167,7 +168,7 @@ summed-behind (suc i) (c ∷ cs) os summed =
     drop-drop m c.lines os ∙ ap (λ k. drop k os) (sym (sum-cons c.lines (take i (lengths_of cs)))) in
     subst (λ (ts : List Trace). AreSummed (drop i cs) ts) all (summed-behind i cs (drop c.lines os) summed.2)
 
-made-front : (i : ℕ) (cs : List Chunk) → AreMade cs → AreMade (take i cs)
+pub made-front : (i : ℕ) (cs : List Chunk) → AreMade cs → AreMade (take i cs)
 made-front zero cs made = refl
 made-front (suc i) [] made = refl
 made-front (suc i) (c ∷ cs) made =
@@ -231,7 +232,7 @@ one-kept held same n sure le = subst (λ (b : Bool). (if same then 0 else n) ≤
     at true = omega arith
     at false = omega (arith, le)
 
-none-or-few : (none : Bool) (n : ℕ) → n ≤ 64 → (if none then 0 else n) ≤ 64
+pub none-or-few : (none : Bool) (n : ℕ) → n ≤ 64 → (if none then 0 else n) ≤ 64
 none-or-few true n le = omega arith
 none-or-few false n le = le
 
@@ -288,11 +289,11 @@ module _ (was now : Resolved) where
       (flagged-behind n f ls os flags (done-long ls os done) flagged))
 
   -- those that come in the place of others
-  new-touched : (f : State) (ns : List ℕ) (ls : List (List ℕ)) → touched_from was now f (cut ns ls) (nones {X = List Trace} (length ns)) ≡ length ns
+  pub new-touched : (f : State) (ns : List ℕ) (ls : List (List ℕ)) → touched_from was now f (cut ns ls) (nones {X = List Trace} (length ns)) ≡ length ns
   new-touched f [] ls = refl
   new-touched f (n ∷ ns) ls = omega (arith, new-touched (state_after f (take n ls)) ns (drop n ls))
 
-  touched-append : (f : State) (ms ns : List ℕ) (ls : List (List ℕ)) (ds es : List (Option (List Trace))) → length ds ≡ length ms
+  pub touched-append : (f : State) (ms ns : List ℕ) (ls : List (List ℕ)) (ds es : List (Option (List Trace))) → length ds ≡ length ms
       → touched_from was now f (cut (ms ++ ns) ls) (ds ++ es)
       ≡ touched_from was now f (cut ms ls) ds + touched_from was now (state_after f (take (sum ms) ls)) (cut ns (drop (sum ms) ls)) es
   touched-append f [] ns ls [] es e = sym (zero-add (touched_from was now f (cut ns ls) es))
@@ -324,6 +325,31 @@ module _ (was now : Resolved) where
       )
 
 -- ---- an edit
+
+-- the chunks in front of an edit, of which something was gathered
+pub front-touched : (was now : Resolved) (lines : List (List ℕ)) (splice : Splice) (i : ℕ) (cs : List Chunk) (ts : List Trace) → ts ≡ traces_of lines → splice.keep ≤ length lines
+    → sum (take i (lengths_of cs)) ≤ splice.keep → AreShort (lengths_of cs) → AreSummed cs ts → AreMade (take i cs)
+    → looks_kept (same_at was now) (take i cs) (take (sum (take i (lengths_of cs))) ts)
+    ≤ 64 * touched_from was now first_state (cut (take i (lengths_of cs)) (spliced lines splice)) (map Some (cut (take i (lengths_of cs)) ts))
+front-touched was now lines splice i cs ts done within begins are_short summed made =
+    let olds = lengths_of cs in
+    let first = take i olds in
+    let before = sum first in
+    let lens : take i olds ≡ lengths_of (take i cs) = take-map (λ (chunk : Chunk). chunk.lines) i cs in
+    let short : AreShort (lengths_of (take i cs)) = subst AreShort lens (short-take i olds are_short) in
+    let front = take splice.keep lines in
+    let len = length-take-le splice.keep lines within in
+    let same : take before lines ≡ take before (spliced lines splice) =
+    sym (take-append-le before front (splice.new ++ drop splice.from lines) (omega (arith, len, begins)) ∙ take-take before splice.keep lines begins) in
+    let here : cut first (take before lines) ≡ cut first (spliced lines splice) = ap (cut first) same ∙ cut-within first before (spliced lines splice) (omega arith) in
+    let there : cut first (take before ts) ≡ cut first ts = cut-within first before ts (omega arith) in
+    let touched : touched_from was now first_state (cut (lengths_of (take i cs)) (take before lines)) (map Some (cut (lengths_of (take i cs)) (take before ts)))
+    ≡ touched_from was now first_state (cut first (spliced lines splice)) (map Some (cut first ts)) =
+    (λ j. touched_from was now first_state (cut (sym lens j) (take before lines)) (map Some (cut (sym lens j) (take before ts))))
+    ∙ (λ j. touched_from was now first_state (here j) (map Some (there j))) in
+    subst (λ (k : ℕ). looks_kept (same_at was now) (take i cs) (take before ts) ≤ 64 * k) touched
+    (kept-touched was now (take i cs) first_state (take before lines) (take before ts) (ap (take before) done ∙ take-traces_from before first_state lines)
+    (summed-front i cs ts summed) made short)
 
 -- the state in which the chunks behind an edit begin
 entered : (f : State) (front new behind : List (List ℕ)) (before m k : ℕ) → before + m ≡ length front + (length new + k)
@@ -364,20 +390,6 @@ dones-parts ts front behind start end ns olds ordered within first last =
     ∙ (λ i. map Some (take-cut start olds ts i) ++ (nones {X = List Trace} (count i) ++ map Some (drop (past i) (cut olds ts))))
     ∙ ap (λ ds. map Some (cut (take start olds) ts) ++ (nones {X = List Trace} (length ns) ++ map Some ds)) (drop-cut end olds ts)
 
--- an edit of a source, and what it makes of the division: so many chunks come in the place of those from one number on, up to another
-pub record IsPlan (lines : List (List ℕ)) (splice : Splice) (start end : ℕ) (ns olds : List ℕ) : Type 0 where
-  pub order : splice.keep ≤ splice.from
-  pub within : splice.from ≤ length lines
-  pub total : sum olds ≡ length lines
-  pub chunks : AreChunks olds
-  pub made : AreChunks (recut start end ns olds)
-  pub ordered : start ≤ end
-  pub ends_within : end ≤ length olds
-  pub begins : sum (take start olds) ≤ splice.keep
-  pub ends : splice.from ≤ sum (take end olds)
-  pub tight : IsTight splice.keep (length lines - splice.from) start end ns olds
-  pub count : sum ns ≡ (splice.keep - sum (take start olds)) + (length splice.new + (sum (take end olds) - splice.from))
-
 -- the state behind the new lines
 abbrev pub behind_new : List (List ℕ) → Splice → State
 behind_new lines splice = state_after (state_after first_state (take splice.keep lines)) splice.new
@@ -386,7 +398,7 @@ all-parts : (front kept again from loose touched first new last lines some : ℕ
     → lines ≡ kept + (some + loose) → lines ≤ 64 * new → front + kept + (loose + from) + (loose + again) ≤ 128 * touched
 all-parts front kept again from loose touched first new last lines some t p q s l = omega arith
 
-module _ (lines : List (List ℕ)) (splice : Splice) (start end : ℕ) (ns : List ℕ) (cs : List Chunk) (plan : IsPlan lines splice start end ns (lengths_of cs)) (ts : List Trace)
+module _ (lines : List (List ℕ)) (splice : Splice) (start end : ℕ) (ns : List ℕ) (cs : List Chunk) (plan : Recuts lines splice start end ns (lengths_of cs)) (ts : List Trace)
     (done : ts ≡ traces_of lines) where
   places : sum (take start (lengths_of cs)) + sum ns
       ≡ length (take splice.keep lines) + (length splice.new + (sum (take end (lengths_of cs)) - splice.from))
@@ -420,28 +432,6 @@ module _ (lines : List (List ℕ)) (splice : Splice) (start end : ℕ) (ns : Lis
       (left-behind (take splice.keep lines) splice.new rest (sum first) (sum ns) k places)
 
   module _ (was now : Resolved) (summed : AreSummed cs ts) (made : AreMade cs) where
-    front-touched : looks_kept (same_at was now) (take start cs) (take (sum (take start (lengths_of cs))) ts)
-        ≤ 64 * touched_from was now first_state (cut (take start (lengths_of cs)) (spliced lines splice)) (map Some (cut (take start (lengths_of cs)) ts))
-    front-touched =
-        let olds = lengths_of cs in
-        let first = take start olds in
-        let before = sum first in
-        let lens : take start olds ≡ lengths_of (take start cs) = take-map (λ (chunk : Chunk). chunk.lines) start cs in
-        let short : AreShort (lengths_of (take start cs)) = subst AreShort lens (short-take start olds (chunks-short olds plan.chunks)) in
-        let front = take splice.keep lines in
-        let len = length-take-le splice.keep lines (omega (arith, plan.order, plan.within)) in
-        let same : take before lines ≡ take before (spliced lines splice) =
-        sym (take-append-le before front (splice.new ++ drop splice.from lines) (omega (arith, len, plan.begins)) ∙ take-take before splice.keep lines plan.begins) in
-        let here : cut first (take before lines) ≡ cut first (spliced lines splice) = ap (cut first) same ∙ cut-within first before (spliced lines splice) (omega arith) in
-        let there : cut first (take before ts) ≡ cut first ts = cut-within first before ts (omega arith) in
-        let touched : touched_from was now first_state (cut (lengths_of (take start cs)) (take before lines)) (map Some (cut (lengths_of (take start cs)) (take before ts)))
-        ≡ touched_from was now first_state (cut first (spliced lines splice)) (map Some (cut first ts)) =
-        (λ i. touched_from was now first_state (cut (sym lens i) (take before lines)) (map Some (cut (sym lens i) (take before ts))))
-        ∙ (λ i. touched_from was now first_state (here i) (map Some (there i))) in
-        subst (λ (k : ℕ). looks_kept (same_at was now) (take start cs) (take before ts) ≤ 64 * k) touched
-        (kept-touched was now (take start cs) first_state (take before lines) (take before ts) (ap (take before) done ∙ take-traces_from before first_state lines)
-        (summed-front start cs ts summed) (made-front start cs made) short)
-
     last-touched : (flags : List (Option Trace)) → map is_some flags ≡ flags_from (behind_new lines splice) (drop splice.from lines) (drop splice.from ts)
         → looks_from (state_after (behind_new lines splice) (take (sum (take end (lengths_of cs)) - splice.from) (drop splice.from lines))) (drop end cs)
         (drop (sum (take end (lengths_of cs)) - splice.from) (drop splice.from lines))
@@ -472,7 +462,7 @@ module _ (lines : List (List ℕ)) (splice : Splice) (start end : ℕ) (ns : Lis
 
 -- what both passes look at beside the lines of an edit is at most 128 lines for each chunk that it touches
 pub looks-touched : (lines : List (List ℕ)) (splice : Splice) (start end : ℕ) (ns : List ℕ) (cs : List Chunk) (ts : List Trace) (flags : List (Option Trace))
-    → IsPlan lines splice start end ns (lengths_of cs) → ts ≡ traces_of lines → AreSummed cs ts → AreMade cs
+    → Recuts lines splice start end ns (lengths_of cs) → ts ≡ traces_of lines → AreSummed cs ts → AreMade cs
     → map is_some flags ≡ flags_from (behind_new lines splice) (drop splice.from lines) (drop splice.from ts)
     → looks_kept (same_at (finals_in lines) (finals_in (spliced lines splice))) (take start cs) (take (sum (take start (lengths_of cs))) ts)
     + (splice.keep - sum (take start (lengths_of cs)))
@@ -489,7 +479,7 @@ looks-touched lines splice start end ns cs ts flags plan done summed made flagge
     let olds = lengths_of cs in
     let short : AreShort ns = short-first ns (drop end olds) (short-second (take start olds) (ns ++ drop end olds) (chunks-short (recut start end ns olds) plan.made)) in
     all-parts _ _ _ _ _ (touched_of lines splice olds (recut start end ns olds)) _ _ _ _ _ (touched-parts lines splice start end ns cs plan ts done was now)
-    (front-touched lines splice start end ns cs plan ts done was now summed made)
+    (front-touched was now lines splice start cs ts done (omega (arith, plan.order, plan.within)) plan.begins (chunks-short olds plan.chunks) summed (made-front start cs made))
     (last-touched lines splice start end ns cs plan ts done was now summed made flags flagged) plan.count (short-sum ns short)
 
 -- the same of all that is looked at, by names of its parts
@@ -503,7 +493,7 @@ pub looks-around : (lines : List (List ℕ)) (splice : Splice) (start end : ℕ)
     → was ≡ finals_in lines → now ≡ finals_in (spliced lines splice) → state ≡ behind_new lines splice
     → before ≡ sum (take start (lengths_of cs)) → kept ≡ splice.keep - sum (take start (lengths_of cs)) → loose ≡ sum (take end (lengths_of cs)) - splice.from
     → rest ≡ drop splice.from lines → olds ≡ drop splice.from ts
-    → IsPlan lines splice start end ns (lengths_of cs) → ts ≡ traces_of lines → AreSummed cs ts → AreMade cs → map is_some flags ≡ flags_from state rest olds
+    → Recuts lines splice start end ns (lengths_of cs) → ts ≡ traces_of lines → AreSummed cs ts → AreMade cs → map is_some flags ≡ flags_from state rest olds
     → looks_around was now state cs start end before kept loose ts rest olds flags ≤ 128 * touched_of lines splice (lengths_of cs) (recut start end ns (lengths_of cs))
 looks-around lines splice start end ns cs ts flags was now state before kept loose rest olds w n s b k l r o plan done summed made flagged =
     subst (λ (m : ℕ). m ≤ 128 * touched_of lines splice (lengths_of cs) (recut start end ns (lengths_of cs)))
@@ -514,7 +504,7 @@ looks-around lines splice start end ns cs ts flags was now state before kept loo
 pub planned : (lines : List (List ℕ)) (splice : Splice) (start end before : ℕ) (ns olds : List ℕ) → splice.keep ≤ splice.from → splice.from ≤ length lines → IsDivision (length lines) olds
     → AreChunks (recut start end ns olds) → start ≤ end → end ≤ length olds → before ≡ sum (take start olds) → before ≤ splice.keep → splice.from ≤ sum (take end olds)
     → IsTight splice.keep (sum olds - splice.from) start end ns olds → sum ns + (splice.from - splice.keep) ≡ sum (slice_range olds start end) + length splice.new
-    → IsPlan lines splice start end ns olds
+    → Recuts lines splice start end ns olds
 planned lines splice start end before ns olds order within division made ordered ends_within b begins ends tight count = record {
   order = order;
   within = within;

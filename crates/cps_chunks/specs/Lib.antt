@@ -6,3 +6,4 @@ pub mod Names
 pub mod NamesGathering
 pub mod Chunks
 pub mod Touched
+pub mod Recuts

@@ -1,5 +1,5 @@
 //! The list of the chunks of a source, kept up to date.
-ghost use Rattle.std.specs.Prelude.{◌≡◌, ◌<◌, ◌≤◌, ◌++◌, ◌∷◌, [], IfOk, List, take, drop, sum, vec_len, vec_capacity};
+ghost use Rattle.std.specs.Prelude.{◌≡◌, ◌-◌, ◌<◌, ◌≤◌, ◌++◌, ◌∷◌, [], IfOk, List, take, drop, sum, vec_len, vec_capacity};
 ghost use Rattle.cps_state.specs.Course.{Trace as Did};
 ghost use Rattle.cps_division.specs.Division.{AreChunks, inserted_at};
 ghost use Rattle.cps_chunks.specs.Chunks.{AreSummed, lengths_of, all_unsummed, forgotten};
@@ -56,6 +56,7 @@ pub fn grow(chunks: &mut Vec<Chunk>)
     requires chunks { AreChunks (lengths_of chunks.old.items) }
     ensures lengths { lengths_of chunks.new.items ≡ inserted_at (sum (lengths_of chunks.old.items)) (lengths_of chunks.old.items) }
     ensures summed { (olds : List Did) (trace : Did) → AreSummed chunks.old.items olds → AreSummed chunks.new.items (olds ++ trace ∷ []) }
+    ensures front { take (vec_len chunks.old - 1) chunks.new.items ≡ take (vec_len chunks.old - 1) chunks.old.items }
 {
     let count = chunks.len();
     if count > 0 && chunks[count - 1].lines < FULL {

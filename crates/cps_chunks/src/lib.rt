@@ -3,6 +3,9 @@
 
 mod chunk;
 mod chunk_list;
+mod entry;
+#[cfg(test)]
+mod entry_rows;
 pub mod laws;
 mod names;
 #[cfg(test)]
@@ -16,6 +19,7 @@ mod summing;
 
 pub use chunk::{Behind, Chunk, InFront, Summary};
 pub use chunk_list::{forget_changed, grow, lengths_in, unsummed};
+pub use entry::state_in_front;
 pub use names::{Names, names_agree};
 pub use redo::Again;
 pub use replay::{replay_behind, replay_chunks};

@@ -1,12 +1,13 @@
 //! A run of lines, gone through as one line is.
 ghost use Rattle.std.specs.Prelude.{◌≡◌, ◌++◌, [], reverse, IfOk, OnOk};
+ghost use Rattle.cps_state.specs.Keys.{overwritten};
 ghost use Rattle.cps_edit.specs.Holds.{holds};
 ghost use Rattle.cps_chunks.specs.Run.{joined, with_ask, with_asks};
 ghost use Rattle.cps_chunks.specs.LastPuts.{lasting, lasting_run};
 ghost use Rattle.cps_chunks.specs.RunGathering.{gathered, in_front};
 
 use cps_edit::asks_hold;
-use cps_state::{Asked, Hashing, Log, Lookup, Put, Trace};
+use cps_state::{Asked, Hashing, Log, Lookup, Put, Recorder, Sheet, State, Trace};
 use std::alloc::{AllocError, Global};
 use std::marker::Model;
 
@@ -14,7 +15,8 @@ use std::marker::Model;
 #[derive(Drop)]
 pub struct Run {
     asks: Vec<Asked>,
-    puts: Vec<Put>,
+    /// A line that puts these, so that a state takes them at once.
+    last: Trace,
 }
 
 impl Model for Run {
@@ -22,7 +24,7 @@ impl Model for Run {
 
     ghost Value = { Run };
 
-    ghost view = { λ run. record { asks = run.asks.items; puts = run.puts.items } };
+    ghost view = { λ run. record { asks = run.asks.items; puts = run.last.puts } };
 }
 
 impl Run {
@@ -35,15 +37,22 @@ impl Run {
             add_line(&mut log, trace)?;
         }
         let (asks, all) = log.into_parts();
-        let puts = last_puts(alloc, hashing, &all)?;
-        Ok(Run { asks, puts })
+        let last = last_puts(alloc, hashing, &all)?;
+        Ok(Run { asks, last })
     }
 
     /// What it puts: at each key once.
     pub fn puts(&self) -> &[Put]
         ensures { result.now ≡ self.now.puts }
     {
-        self.puts.as_slice()
+        self.last.puts()
+    }
+
+    /// Puts them into a state.
+    pub fn put_into(&self, state: &mut State) -> Result<(), AllocError>
+        ensures { OnOk result (⟦<State as Lookup>⟧.answer state.new ≡ overwritten (⟦<State as Lookup>⟧.answer state.old) self.now.puts) }
+    {
+        state.apply(&self.last)
     }
 
     /// Whether all that it asks has the same answers in a state, so that its lines do the same there. It is counted nowhere, and takes no memory.
@@ -97,17 +106,16 @@ fn add_puts(log: &mut Log, puts: &[Put]) -> Result<(), AllocError>
     Ok(())
 }
 
-/// The last of some puts at each key, in their order.
-fn last_puts(alloc: Global, hashing: Hashing, puts: &[Put]) -> Result<Vec<Put>, AllocError>
-    ensures { IfOk result (λ last. last.items ≡ lasting puts.now) }
+/// A line that puts the last of some puts at each key, in their order.
+fn last_puts(alloc: Global, hashing: Hashing, puts: &[Put]) -> Result<Trace, AllocError>
+    ensures { IfOk result (λ line. line.puts ≡ lasting puts.now) }
 {
     let mut last = Log::of(alloc, hashing, Vec::new(alloc), Vec::new(alloc));
     for put in puts.iter().rev() {
         add_if_last(&mut last, put)?;
     }
     let (_, mut last) = last.into_parts();
-    last.reverse();
-    Ok(last)
+    line_of(alloc, hashing, &mut last)
 }
 
 /// A put in front of those that stand behind it, from the last on, unless one of these is at its key.
@@ -121,6 +129,27 @@ fn add_if_last(last: &mut Log, put: &Put) -> Result<(), AllocError>
     }
     let put = share_put(put)?;
     last.push_put(put)?;
+    Ok(())
+}
+
+/// A line that puts all that a list has, from its end on.
+fn line_of(alloc: Global, hashing: Hashing, puts: &mut Vec<Put>) -> Result<Trace, AllocError>
+    ensures { IfOk result (λ line. line.puts ≡ reverse puts.old.items) }
+{
+    let front = State::first(alloc, hashing);
+    let mut recorder = Recorder::new(alloc, Sheet::new(alloc), &front);
+    put_all(&mut recorder, puts)?;
+    let line = recorder.into_trace(true)?;
+    let (line, _) = line.into_exact(alloc)?;
+    Ok(line)
+}
+
+fn put_all(recorder: &mut Recorder<'_, State>, puts: &mut Vec<Put>) -> Result<(), AllocError>
+    ensures { OnOk result (recorder.new.done.puts ≡ recorder.old.done.puts ++ reverse puts.old.items) }
+{
+    while let Some(put) = puts.pop() {
+        recorder.put(put.key, put.answer)?;
+    }
     Ok(())
 }
 

@@ -4,5 +4,5 @@ mod PlaceLemmas
 mod InsertionLemmas
 mod CutLemmas
 mod DivisionRows
-mod StayingLemmas
+pub mod StayingLemmas
 mod TightLemmas

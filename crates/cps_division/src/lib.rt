@@ -8,3 +8,4 @@ mod staying;
 
 pub use place::{Place, place_of};
 pub use recut::{FULL, Recut, recut_deletion, recut_insertion, recut_replacement};
+pub use staying::lines_of;

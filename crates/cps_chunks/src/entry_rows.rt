@@ -1,0 +1,115 @@
+//! The state in front of an edit, behind two chunks of a few lines and lines that are in none.
+//! What a function holds is dropped by calls, whose proofs stand once.
+ghost use Rattle.std.specs.Prelude.{◌++◌, IfOk};
+ghost use Rattle.cps_chunks.specs.Chunks.{AreSummed};
+
+use super::chunk::{Chunk, InFront, Summary};
+use super::entry::state_in_front;
+use super::run_rows::take_text;
+use cps_pass::{Hashing, Key, Lookup, State, Trace};
+use cps_state::value_of;
+use cps_text::Name;
+use std::alloc::{AllocError, Global};
+
+/// What SET gave T and U, and the words where A, B and C stand.
+#[derive(Clone, Copy, Debug, PartialEq, Eq)]
+struct Seen {
+    t: Option<i64>,
+    u: Option<i64>,
+    a: Option<i64>,
+    b: Option<i64>,
+    c: Option<i64>,
+}
+
+fn setting(state: &State, symbol: &[u8]) -> Option<i64> {
+    let value = value_of(state.ask(&Key::Setting(Name::read(symbol)?)))?;
+    Some(value.offset)
+}
+
+fn label(state: &State, symbol: &[u8]) -> Option<i64> {
+    let value = value_of(state.ask(&Key::Label(Name::read(symbol)?)))?;
+    Some(value.offset)
+}
+
+fn seen_in(state: &State) -> Seen {
+    Seen {
+        t: setting(state, b"T"),
+        u: setting(state, b"U"),
+        a: label(state, b"A"),
+        b: label(state, b"B"),
+        c: label(state, b"C"),
+    }
+}
+
+/// Two chunks: one of lines that are gathered, and one of which nothing is.
+fn two_chunks(alloc: Global, summed: &[Trace], unsummed: &[Trace]) -> Result<Vec<Chunk>, AllocError>
+    ensures { IfOk result (λ chunks. AreSummed chunks.items (summed.now ++ unsummed.now)) }
+{
+    let mut chunks = Vec::with_capacity(alloc, 2)?;
+    let summary = Summary::of(alloc, Hashing::by(1), summed)?;
+    chunks.push(Chunk {
+        lines: summed.len(),
+        summary: Some(summary),
+    })?;
+    chunks.push(Chunk::unsummed(unsummed.len()))?;
+    Ok(chunks)
+}
+
+/// In front of an edit behind these lines, of which the last two are in no chunk.
+fn find(alloc: Global, traces: &[Trace]) -> Result<Seen, AllocError> {
+    let (front, loose) = traces.split_at(traces.len() - traces.len().min(2));
+    let (summed, unsummed) = front.split_at(front.len().min(3));
+    let chunks = two_chunks(alloc, summed, unsummed)?;
+    let in_front = InFront {
+        chunks: &chunks,
+        loose: loose.len(),
+    };
+    let state = state_in_front(alloc, Hashing::by(1), in_front, traces)?;
+    let seen = seen_in(&state);
+    drop(state);
+    drop(chunks);
+    Ok(seen)
+}
+
+/// In front of an edit behind these lines by their chunks, and behind the last of them.
+fn find_both(alloc: Global, lines: &[&str]) -> Option<(Seen, Seen)> {
+    let mut state = State::first(alloc, Hashing::by(1));
+    let mut traces = Vec::new(alloc);
+    let mut is_taken = true;
+    for text in lines {
+        is_taken = take_text(alloc, &mut state, &mut traces, text) && is_taken;
+    }
+    let found = find(alloc, &traces);
+    let behind = seen_in(&state);
+    drop(traces);
+    drop(state);
+    match found {
+        Ok(found) if is_taken => Some((found, behind)),
+        _ => None,
+    }
+}
+
+/// Three lines that are gathered, three of which nothing is, and two that are in no chunk.
+const LINES: [&str; 8] = [
+    "U        SET     1",
+    "A        CON     U",
+    "U        SET     U+1",
+    "T        SET     U",
+    "B        CON     T",
+    "* NOTHING",
+    "T        SET     T+1",
+    "C        CON     T",
+];
+
+#[test]
+fn finds_what_stands_in_front(rt: HostRuntime) {
+    let seen = Seen {
+        t: Some(3),
+        u: Some(2),
+        a: Some(0),
+        b: Some(1),
+        c: Some(2),
+    };
+    let both = find_both(rt.alloc(), &LINES);
+    assert_eq!(&rt; both, Some((seen, seen)));
+}
