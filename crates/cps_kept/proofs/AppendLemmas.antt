@@ -17,12 +17,9 @@ use Rattle.cps_edit.specs.Renewed.{flags_from, nones, redone_from, redone_kept}
 use Rattle.cps_kept.specs.declared.arrival.Change.{Change}
 use Rattle.cps_kept.specs.Append.{changed}
 use Rattle.cps_edit.proofs.RedoLemmas.{append-outcomes}
+use Rattle.cps_chunks.proofs.AppendedLemmas.{spliced-end}
 use Rattle.cps_edit.proofs.SpliceLemmas.{length-traces_from, traces_from-append, disturbed-is, gathered-state}
 use Rattle.cps_kept.proofs.WholeLemmas.{twice_is}
-
-pub spliced-end : (lines : List (List ℕ)) (line : List ℕ) → spliced lines (insertion (length lines) line) ≡ lines ++ line ∷ []
-spliced-end lines line =
-    ap (λ xs. xs ++ line ∷ drop (length lines) lines) (take_all (length lines) lines (omega arith)) ∙ ap (λ xs. lines ++ line ∷ xs) (drop_all (length lines) lines (omega arith))
 
 pub appended-traces : (lines : List (List ℕ)) (line : List ℕ) (traces : List Trace) (trace : Trace) (state : State)
     → traces ≡ traces_of lines → state ≡ state_after first_state lines → trace ≡ trace_of line state → traces ++ trace ∷ [] ≡ traces_of (lines ++ line ∷ [])
@@ -54,6 +51,10 @@ twos-last u v w by all p q r = omega arith
 
 pub twos-first : (u v by all : ℕ) → v ≤ counted_on u by → all ≡ by + 1 → v ≤ counted_on u all
 twos-first u v by all p r = omega arith
+
+-- lines that are looked at between the two steps
+pub looked-between : (u v w x a b : ℕ) → v ≡ u → w ≤ counted_on v a → x ≡ w → a ≡ b → x ≤ counted_on u b
+looked-between u v w x a b p q r s = omega arith
 
 pub appended-outcomes : (lines : List (List ℕ)) (line : List ℕ) (traces : List Trace) (trace : Trace) (was now : Finals) (changes : List Change) (outcome : Outcome) (olds : List Outcome)
     → was ≡ finals_of (traces_of lines) → now ≡ finals_of (traces_of (lines ++ line ∷ [])) → traces ++ trace ∷ [] ≡ traces_of (lines ++ line ∷ [])

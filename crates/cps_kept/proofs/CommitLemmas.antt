@@ -1,8 +1,12 @@
 -- New items in their places.
-use Rattle.std.proofs.Common.{◌≡◌, ℕ, ◌+◌, ◌<◌, ◌≤◌, refl, sym, ap, ◌∙◌, List, [], ◌∷◌, ◌++◌, append_assoc, length, get_or, insert, take, drop, ◌-◌, Option, arith}
+use Rattle.std.proofs.Common.{◌≡◌, ℕ, zero, suc, ◌+◌, ◌<◌, ◌≤◌, refl, sym, ap, ◌∙◌, List, [], ◌∷◌, ◌++◌, append_assoc, length, get_or, insert, take, drop, ◌-◌, Option, arith}
 use Rattle.std.proofs.lemmas.Grind.{common_steps}
 use Rattle.std.proofs.lemmas.List.Edits.{insert-append_right}
 use Rattle.cps_edit.specs.Renewed.{picked, mended}
+use Rattle.std.proofs.lemmas.List.{length-append, length-take-le, take_at, drop_at as behind_front}
+use Rattle.cps_state.specs.Course.{Trace}
+use Rattle.cps_chunks.specs.declared.chunk.Chunk.{Chunk}
+use Rattle.cps_chunks.specs.Chunks.{forgotten}
 use Rattle.cps_edit.proofs.TakenLemmas.{drop_at}
 
 module _ {X : Type 0} where
@@ -45,3 +49,28 @@ module _ {X : Type 0} where
       ∙ insert-append_right (take from T) (drop a F ++ drop from T) from from x long (omega arith)
       ∙ ap (λ n. take from T ++ insert (drop a F ++ drop from T) n x) none
       ∙ ap (λ us. take from T ++ (us ++ drop from T)) (sym split)
+
+-- ---- chunks
+
+module _ {X : Type 0} where
+  no-more : (n : ℕ) → drop {A = X} n [] ≡ []
+  no-more zero = refl
+  no-more (suc n) = refl
+
+  -- past the end nothing is left
+  pub drop-few : (k m : ℕ) (xs : List X) → m ≤ k → (m < k → length xs ≤ m) → drop m xs ≡ drop k xs
+  drop-few k m [] le few = no-more m ∙ sym (no-more k)
+  drop-few zero zero (x ∷ xs) le few = refl
+  drop-few zero (suc m) (x ∷ xs) le few = absurd (omega (arith, le))
+  drop-few (suc k) zero (x ∷ xs) le few = let short = few (omega arith) in absurd (omega (arith, short))
+  drop-few (suc k) (suc m) (x ∷ xs) le few = drop-few k m xs (omega (arith, le)) (λ lt. let short = few (omega (arith, lt)) in omega (arith, short))
+
+-- chunks give way to others, and from those on, what has something new is forgotten
+pub chunks-changed : (start end at : ℕ) (cs ds : List Chunk) (news : List (Option Trace)) → start ≤ length cs → at ≡ start + length ds
+    → take at (take start cs ++ (ds ++ drop end cs)) ++ forgotten (drop at (take start cs ++ (ds ++ drop end cs))) news ≡ take start cs ++ (ds ++ forgotten (drop end cs) news)
+chunks-changed start end at cs ds news le is =
+    let long : length (take start cs ++ ds) ≡ at = length-append (take start cs) ds ∙ ap (λ n. n + length ds) (length-take-le start cs le) ∙ sym is in
+    let split = append_assoc (take start cs) ds (drop end cs) in
+    ap (λ es. take at es ++ forgotten (drop at es) news) (sym split)
+    ∙ (λ i. take_at (take start cs ++ ds) (drop end cs) at long i ++ forgotten (behind_front (take start cs ++ ds) (drop end cs) at long i) news)
+    ∙ append_assoc (take start cs) ds (forgotten (drop end cs) news)

@@ -1,4 +1,6 @@
 pub mod Append
+pub mod Along
 pub mod InPlace
 pub mod InPlaceLaw
 pub mod Looks
+pub mod Kept

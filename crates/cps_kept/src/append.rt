@@ -7,11 +7,14 @@ ghost use Rattle.cps_final.specs.Outcome.{Outcome as Made};
 ghost use Rattle.cps_edit.specs.Passes.{traces_of, outcomes_by};
 ghost use Rattle.cps_edit.specs.Splice.{insertion};
 ghost use Rattle.cps_edit.specs.Disturbed.{finals_in, ones_of, twos_of};
+ghost use Rattle.cps_edit.specs.Agreeing.{same_at};
+ghost use Rattle.cps_chunks.specs.Chunks.{AreSummed, looks_kept};
 ghost use Rattle.cps_kept.specs.Append.{changed, AreWithin, Follows, IsAhead};
 
 use crate::arrival::{Arrival, Change, Changed};
 use crate::open::Open;
 use crate::plan::Kept;
+use cps_chunks::Chunk;
 use cps_edit::Front;
 use cps_final::{Finals, Gathered, Outcome, step_two};
 use cps_pass::{Hashing, Trace, Work};
@@ -63,10 +66,17 @@ impl Follower {
     }
 
     /// Both passes of a line behind the last. Where there is no memory, what was gathered is thrown away.
-    pub fn append(&mut self, kept: Kept, line: &Line, work: &mut Work) -> Result<Append, AllocError>
+    pub fn append(
+        &mut self,
+        kept: Kept,
+        chunks: &[Chunk],
+        line: &Line,
+        work: &mut Work,
+    ) -> Result<Append, AllocError>
         requires kept { kept.traces.now ≡ traces_of kept.lines.now }
         requires finals { ⟦<Finals as Gathered>⟧.gathered kept.finals.now ≡ finals_of (traces_of kept.lines.now) }
         requires follows { Follows self.old kept.traces.now }
+        requires summed { AreSummed chunks.now kept.traces.now }
         ensures traces { IfOk result (λ append. kept.entry.traces.now ++ append.trace ∷ [] ≡ traces_of (kept.entry.lines.now ++ line.now ∷ [])) }
         ensures outcomes { IfOk result (λ append. (olds : List Made) → olds ≡ outcomes_by (finals_in kept.entry.lines.now) kept.entry.traces.now
             → changed append.changes.items olds ++ append.outcome ∷ [] ≡ outcomes_by (finals_in (kept.entry.lines.now ++ line.now ∷ [])) (traces_of (kept.entry.lines.now ++ line.now ∷ []))) }
@@ -79,11 +89,12 @@ impl Follower {
         ensures ones_least { work.old.ones ≤ work.new.ones }
         ensures twos_err { OnErr result (work.new.twos ≤ counted_on work.old.twos (twos_of kept.entry.lines.now (insertion (length kept.entry.lines.now) line.now))) }
         ensures twos_least { work.old.twos ≤ work.new.twos }
+        ensures looked { OnOk result (work.new.looked ≤ counted_on work.old.looked (64 + looks_kept (same_at (finals_in kept.entry.lines.now) (finals_in (kept.entry.lines.now ++ line.now ∷ []))) chunks.now kept.entry.traces.now)) }
     {
         let mut follower = replace(self, Follower::new(kept.alloc, kept.finals.hashing()));
         follower.catch_up(kept.traces)?;
         let trace = follower.front.step(line, work)?;
-        let arrival = Arrival::of(kept, trace.puts(), follower.front.finals());
+        let arrival = Arrival::of(kept, chunks, trace.puts(), follower.front.finals());
         let Changed { changes, open } = arrival.change(
             follower.open.take(),
             kept.traces,

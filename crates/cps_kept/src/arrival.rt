@@ -1,5 +1,5 @@
 //! A line that arrives behind all others, and the kept lines that it changes.
-ghost use Rattle.std.specs.Prelude.{◌≡◌, ◌≤◌, ◌++◌, ◌∷◌, [], true, false, List, IfOk, IfSome, OnOk, OnErr, length, take, if◌then◌else◌, Some as Just};
+ghost use Rattle.std.specs.Prelude.{◌≡◌, ◌+◌, ◌<◌, ◌≤◌, ◌++◌, ◌∷◌, [], true, false, List, IfOk, IfSome, OnOk, OnErr, length, take, get_or, if◌then◌else◌, Some as Just};
 ghost use Rattle.cps_state.specs.Course.{Trace as Course};
 ghost use Rattle.cps_state.specs.Work.{counted_on};
 ghost use Rattle.cps_state.specs.Keys.{overwritten, same_key};
@@ -11,11 +11,16 @@ ghost use Rattle.cps_kept.specs.declared.open.Open.{Open as Entry};
 ghost use Rattle.cps_edit.specs.Passes.{outcomes_by};
 ghost use Rattle.cps_edit.specs.Disturbed.{is_redone};
 ghost use Rattle.cps_edit.specs.Renewed.{picked, redone_kept};
+ghost use Rattle.cps_edit.specs.Agreeing.{same_at};
+ghost use Rattle.cps_chunks.specs.Chunks.{AreSummed, looks_kept};
+ghost use Rattle.cps_kept.specs.Along.{IsAlong, looks_left};
 ghost use Rattle.cps_kept.specs.Append.{are_fresh as all_fresh, is_fresh_at, puts_at, is_left, all_left, is_quiet as quiet, is_settled as settled, stays_before, stays_after, finals_before, finals_after, IsArrival, Stands, Covers, listed, changed, change_at, AreWithin};
 
+use crate::along::Along;
 use crate::open::{Open, all_lines, entry_of, open_lines, push_entries, push_entry};
 use crate::plan::Kept;
 use crate::quiet::is_quiet;
+use cps_chunks::Chunk;
 use cps_edit::Ends;
 use cps_edit::redo::redone;
 use cps_expr::{Names, is_same_name};
@@ -33,10 +38,11 @@ pub struct Change {
     pub outcome: Outcome,
 }
 
-/// A line that arrives behind all others: what it puts, and the final values before it and with it.
+/// A line that arrives behind all others: the chunks of these, what it puts, and the final values before it and with it.
 #[derive(Clone, Copy)]
 pub struct Arrival<'a> {
     alloc: Global,
+    chunks: &'a [Chunk],
     puts: &'a [Put],
     ends: Ends<'a>,
     /// No label that had a value gets one.
@@ -102,11 +108,17 @@ fn is_fresh(key: Key, state: &State) -> bool
 
 impl<'a> Arrival<'a> {
     /// Of a line that puts this, with these final values.
-    pub fn of(kept: Kept<'a>, puts: &'a [Put], after: &'a Finals) -> Arrival<'a>
+    pub fn of(
+        kept: Kept<'a>,
+        chunks: &'a [Chunk],
+        puts: &'a [Put],
+        after: &'a Finals,
+    ) -> Arrival<'a>
         requires { (⟦<Finals as Gathered>⟧.gathered after.now).state ≡ overwritten (⟦<Finals as Gathered>⟧.gathered kept.finals.now).state puts.now }
         ensures arrives { IsArrival result }
         ensures before { finals_before result ≡ ⟦<Finals as Gathered>⟧.gathered kept.entry.finals.now }
         ensures after { finals_after result ≡ ⟦<Finals as Gathered>⟧.gathered after.entry.now }
+        ensures chunks { result.chunks.now ≡ chunks.now }
     {
         let is_fresh = are_fresh(puts, kept.finals.state());
         let ends = Ends {
@@ -115,6 +127,7 @@ impl<'a> Arrival<'a> {
         };
         Arrival {
             alloc: kept.alloc,
+            chunks,
             puts,
             ends,
             is_fresh,
@@ -142,12 +155,52 @@ impl<'a> Arrival<'a> {
         }
     }
 
+    /// What pass two makes of an open line now, None where it is what it made. It is compared only where its chunk doesn't agree.
+    fn redo(
+        self,
+        at: usize,
+        trace: &Trace,
+        along: &mut Along,
+        work: &mut Work,
+    ) -> Result<Option<Outcome>, AllocError>
+        requires along { IsAlong (resolved self.ends.before.now) (resolved self.ends.after.now) along.old at }
+        requires within { at < length along.old.traces.now }
+        requires trace { trace.now ≡ get_or along.old.traces.now at trace.now }
+        ensures outcome { IfOk result (λ made. picked made (outcome_of (resolved self.entry.ends.before.now) trace.now) ≡ outcome_of (resolved self.entry.ends.after.now) trace.now) }
+        ensures along { OnOk result (IsAlong (resolved self.entry.ends.before.now) (resolved self.entry.ends.after.now) along.new (at + 1)) }
+        ensures traces { OnOk result (along.new.traces.now ≡ along.old.traces.now) }
+        ensures looked { OnOk result (counted_on work.new.looked (looks_left (same_at (resolved self.entry.ends.before.now) (resolved self.entry.ends.after.now)) along.new (at + 1))
+            ≤ counted_on work.old.looked (looks_left (same_at (resolved self.entry.ends.before.now) (resolved self.entry.ends.after.now)) along.old at)) }
+        ensures twos { OnOk result (work.new.twos ≡ counted_on work.old.twos (if is_redone (resolved self.entry.ends.before.now) (resolved self.entry.ends.after.now) false trace.now then 1 else 0)) }
+        ensures twos_err { OnErr result (work.new.twos ≤ counted_on work.old.twos (if is_redone (resolved self.entry.ends.before.now) (resolved self.entry.ends.after.now) false trace.now then 1 else 0)) }
+        ensures twos_least { work.old.twos ≤ work.new.twos }
+        ensures ones { work.new.ones ≡ work.old.ones }
+    {
+        if along.agrees_at(at, self.ends) {
+            return Ok(None);
+        }
+        redone(self.alloc, &None, trace, self.ends, work)
+    }
+
     /// What becomes of an open line.
-    fn look(self, open: Open, trace: &Trace, work: &mut Work) -> Result<Looked, AllocError>
+    fn look(
+        self,
+        open: Open,
+        trace: &Trace,
+        along: &mut Along,
+        work: &mut Work,
+    ) -> Result<Looked, AllocError>
         requires arrives { IsArrival self }
+        requires along { IsAlong (resolved self.ends.before.now) (resolved self.ends.after.now) along.old «open».at }
+        requires within { «open».at < length along.old.traces.now }
+        requires trace { trace.now ≡ get_or along.old.traces.now «open».at trace.now }
         requires awaits { IfSome «open».awaits (λ name. stays_before self (Just name) trace.now.items ≡ true) }
         ensures outcome { IfOk result (λ looked. picked looked.outcome (outcome_of (resolved self.entry.ends.before.now) trace.now) ≡ outcome_of (resolved self.entry.ends.after.now) trace.now) }
         ensures stands { IfOk result (λ looked. Stands (stays_after self.entry) «open».at looked.entry trace.now) }
+        ensures along { OnOk result (IsAlong (resolved self.entry.ends.before.now) (resolved self.entry.ends.after.now) along.new («open».at + 1)) }
+        ensures traces { OnOk result (along.new.traces.now ≡ along.old.traces.now) }
+        ensures looked { OnOk result (counted_on work.new.looked (looks_left (same_at (resolved self.entry.ends.before.now) (resolved self.entry.ends.after.now)) along.new («open».at + 1))
+            ≤ counted_on work.old.looked (looks_left (same_at (resolved self.entry.ends.before.now) (resolved self.entry.ends.after.now)) along.old «open».at)) }
         ensures twos { OnOk result (work.new.twos ≡ counted_on work.old.twos (if is_redone (resolved self.entry.ends.before.now) (resolved self.entry.ends.after.now) false trace.now then 1 else 0)) }
         ensures twos_err { OnErr result (work.new.twos ≤ counted_on work.old.twos (if is_redone (resolved self.entry.ends.before.now) (resolved self.entry.ends.after.now) false trace.now then 1 else 0)) }
         ensures twos_least { work.old.twos ≤ work.new.twos }
@@ -159,7 +212,7 @@ impl<'a> Arrival<'a> {
                 entry: Some(open),
             });
         }
-        let outcome = redone(self.alloc, &None, trace, self.ends, work)?;
+        let outcome = self.redo(open.at, trace, along, work)?;
         let entry = match outcome {
             Some(_) => self.stand(open.at, trace),
             None => Some(Open {
@@ -194,6 +247,7 @@ impl<'a> Arrival<'a> {
         requires arrives { IsArrival self }
         requires left { all_left self.puts.now left.now ≡ true }
         requires covers { Covers (stays_before self) 0 (left.now ++ entries.now) traces.now }
+        requires summed { AreSummed self.chunks.now traces.now }
         ensures outcomes { IfOk result (λ walked. changed walked.changes.items (outcomes_by (resolved self.entry.ends.before.now) traces.now) ≡ outcomes_by (resolved self.entry.ends.after.now) traces.now) }
         ensures within { IfOk result (λ walked. AreWithin (length traces.now) walked.changes.items) }
         ensures opened { IfOk result (λ walked. (rest : List Entry) (tail : List Course) → Covers (stays_after self.entry) (length traces.now) rest tail → Covers (stays_after self.entry) 0 ((left.now ++ walked.entries.items) ++ rest) (traces.now ++ tail)) }
@@ -201,10 +255,12 @@ impl<'a> Arrival<'a> {
         ensures twos_err { OnErr result (work.new.twos ≤ counted_on work.old.twos (redone_kept (resolved self.entry.ends.before.now) (resolved self.entry.ends.after.now) traces.now)) }
         ensures twos_least { work.old.twos ≤ work.new.twos }
         ensures ones { work.new.ones ≡ work.old.ones }
+        ensures looked { OnOk result (work.new.looked ≤ counted_on work.old.looked (64 + looks_kept (same_at (resolved self.entry.ends.before.now) (resolved self.entry.ends.after.now)) self.entry.chunks.now traces.now)) }
     {
         let mut walked = Walked::new(self.alloc, entries.len())?;
+        let mut along = Along::new(traces, self.chunks);
         for entry in entries {
-            let looked = self.look(*entry, &traces[entry.at], work)?;
+            let looked = self.look(*entry, &traces[entry.at], &mut along, work)?;
             walked.note(entry.at, looked)?;
         }
         Ok(walked)
@@ -268,6 +324,7 @@ impl<'a> Arrival<'a> {
         requires arrives { IsArrival self }
         requires before { Gathers (finals_before self) traces.now }
         requires after { Gathers (finals_after self) (traces.now ++ trace.now ∷ []) }
+        requires summed { AreSummed self.chunks.now traces.now }
         requires known { IfSome known (λ known. Covers (settled (finals_before self).state) 0 known.items traces.now) }
         ensures outcomes { IfOk result (λ made. changed made.changes.items (outcomes_by (resolved self.entry.ends.before.now) traces.now) ≡ outcomes_by (resolved self.entry.ends.after.now) traces.now) }
         ensures within { IfOk result (λ made. AreWithin (length traces.now) made.changes.items) }
@@ -276,6 +333,7 @@ impl<'a> Arrival<'a> {
         ensures twos_err { OnErr result (work.new.twos ≤ counted_on work.old.twos (redone_kept (resolved self.entry.ends.before.now) (resolved self.entry.ends.after.now) traces.now)) }
         ensures twos_least { work.old.twos ≤ work.new.twos }
         ensures ones { work.new.ones ≡ work.old.ones }
+        ensures looked { OnOk result (work.new.looked ≤ counted_on work.old.looked (64 + looks_kept (same_at (resolved self.entry.ends.before.now) (resolved self.entry.ends.after.now)) self.entry.chunks.now traces.now)) }
     {
         if is_quiet(trace) {
             return self.pass_by(known, traces, trace);

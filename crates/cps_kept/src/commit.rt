@@ -1,11 +1,23 @@
 //! What was made beside takes the place of what was kept, without memory; and room for one item more.
 ghost use Rattle.std.specs.Prelude.{◌≡◌, ◌+◌, ◌<◌, ◌≤◌, ◌++◌, OnOk, length, take, drop, vec_len, vec_capacity};
 ghost use Rattle.cps_edit.specs.Renewed.{mended};
+ghost use Rattle.cps_chunks.specs.Chunks.{forgotten};
 ghost use Rattle.cps_kept.specs.Append.{changed, AreWithin};
 
 use crate::arrival::Change;
+use cps_chunks::{Chunk, forget_changed};
 use cps_final::Outcome;
+use cps_pass::Trace;
 use std::alloc::AllocError;
+
+/// Chunks that come in the place of those from `start` on, up to `end`. In them are so many lines of those behind the new lines.
+#[derive(Drop)]
+pub struct NewChunks {
+    pub start: usize,
+    pub end: usize,
+    pub chunks: Vec<Chunk>,
+    pub loose: usize,
+}
 
 /// Room for one item more. A list that is full grows by an eighth.
 pub fn make_room_for_one<T: Drop>(items: &mut Vec<T>) -> Result<(), AllocError>
@@ -46,6 +58,25 @@ pub fn put_at<T: Drop>(items: &mut Vec<T>, keep: usize, from: usize, first: Vec<
         };
     }
     items.drain(keep..from);
+}
+
+/// Puts new chunks in their places, and forgets what was gathered of those behind them of which a line has something new.
+pub fn put_chunks(chunks: &mut Vec<Chunk>, new: NewChunks, news: &[Option<Trace>])
+    requires ordered { new.start ≤ new.end }
+    requires within { new.end ≤ vec_len chunks.old }
+    requires room { vec_len chunks.old + vec_len new.chunks ≤ vec_capacity chunks.old }
+    ensures { chunks.new.items ≡ take new.start chunks.old.items ++ (new.chunks.items ++ forgotten (drop new.end chunks.old.items) (drop new.loose news.now)) }
+{
+    let NewChunks {
+        start,
+        end,
+        chunks: first,
+        loose,
+    } = new;
+    let behind = start + first.len();
+    let (_, changed) = news.split_at(loose.min(news.len()));
+    put_at(chunks, start, end, first);
+    forget_changed(chunks, behind, changed);
 }
 
 /// Puts what was changed in its place.

@@ -1,6 +1,7 @@
 //! An edit of a source: what its lines did in both passes is kept, and only what the edit disturbs is done again.
 #![tactic(auto)]
 
+mod along;
 mod append;
 mod arrival;
 mod commit;
@@ -12,6 +13,7 @@ mod open;
 mod plan;
 mod quiet;
 mod second;
+mod splice;
 mod spot;
 
 pub use append::{Append, Follower};
@@ -19,4 +21,5 @@ pub use arrival::Change;
 pub use edit::Edit;
 pub use lists::Lists;
 pub use plan::{Kept, Plan};
+pub use splice::NewLines;
 pub use spot::Spot;

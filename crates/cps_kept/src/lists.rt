@@ -1,111 +1,112 @@
-//! What is kept of the lines of a source, and how an edit takes its place there.
-ghost use Rattle.std.specs.Prelude.{◌≡◌, ◌+◌, ◌<◌, ◌≤◌, ◌++◌, ◌∷◌, [], IfOk, OnOk, OnErr, length, take, drop, vec_len, vec_capacity};
-ghost use Rattle.cps_edit.specs.Splice.{splice_at, spliced};
-ghost use Rattle.cps_edit.specs.Renewed.{mended};
+//! What is kept of the lines of a source.
+ghost use Rattle.std.specs.Prelude.{◌≡◌, ◌++◌, ◌∷◌, [], IfOk, OnOk, length, sum, vec_len};
+ghost use Rattle.cps_division.specs.Division.{inserted_at};
+ghost use Rattle.cps_edit.specs.Passes.{traces_of, outcomes_by};
+ghost use Rattle.cps_edit.specs.Disturbed.{finals_in};
+ghost use Rattle.cps_chunks.specs.Chunks.{lengths_of};
 ghost use Rattle.cps_kept.specs.Append.{changed, AreWithin};
+ghost use Rattle.cps_kept.specs.Kept.{AreReady, AreKept, HasRoom};
 
 use crate::append::Append;
-use crate::commit::{change_all, make_room_for_one, put_at, take_over};
-use crate::edit::Edit;
-use crate::second::Second;
-use cps_edit::Front;
+use crate::commit::{change_all, make_room_for_one};
+use cps_chunks::{Chunk, grow, lengths_in, sum_up};
+use cps_division::laws::an_insertion_divides_again;
 use cps_final::Outcome;
-use cps_pass::Trace;
+use cps_pass::{Hashing, Trace};
 use cps_text::Line;
 use std::alloc::{AllocError, Global};
 
-/// Lines, what each did in pass one, and what pass two makes of each.
+/// Lines, what each did in pass one, what pass two makes of each, and their chunks.
 #[derive(Drop)]
 pub struct Lists {
+    pub alloc: Global,
     pub lines: Vec<Line>,
     pub traces: Vec<Trace>,
     pub outcomes: Vec<Outcome>,
+    pub chunks: Vec<Chunk>,
+    /// Whether it is known that something was gathered of each chunk but the last.
+    pub are_ready: bool,
 }
 
 impl Lists {
     /// No line. Takes no memory.
     pub fn new(alloc: Global) -> Lists
         ensures lines { length result.lines.items ≡ 0 }
-        ensures traces { length result.traces.items ≡ 0 }
-        ensures outcomes { length result.outcomes.items ≡ 0 }
+        ensures chunks { length result.chunks.items ≡ 0 }
+        ensures kept { AreKept result }
     {
         Lists {
+            alloc,
             lines: Vec::new(alloc),
             traces: Vec::new(alloc),
             outcomes: Vec::new(alloc),
+            chunks: Vec::new(alloc),
+            are_ready: true,
         }
     }
 
-    /// Puts new lines in the place of those after the first `keep` up to the first `from`, and what an edit made of all lines in the place of what is
-    /// kept; gives what the edit gathered, if it did. Where there is no memory, nothing changes.
-    pub fn commit(
-        &mut self,
-        keep: usize,
-        from: usize,
-        new: Vec<Line>,
-        edit: Edit,
-    ) -> Result<Option<Front>, AllocError>
-        requires ordered { keep ≤ from }
-        requires within { from ≤ vec_len self.old.lines }
-        requires traces { vec_len self.old.lines ≡ vec_len self.old.traces }
-        requires outcomes { vec_len self.old.lines ≡ vec_len self.old.outcomes }
-        requires first { vec_len edit.plan.first ≡ vec_len new }
-        requires first_two { vec_len edit.second.first ≡ vec_len new }
-        requires news { from + vec_len edit.plan.news ≤ vec_len self.old.lines }
-        requires before { vec_len edit.second.before ≤ keep }
-        requires behind { from + vec_len edit.second.behind ≤ vec_len self.old.lines }
-        ensures front { IfOk result (λ front. front ≡ edit.plan.front) }
-        ensures lines { OnOk result (self.new.lines.items ≡ spliced self.old.lines.items (splice_at keep from new.items)) }
-        ensures traces { OnOk result (self.new.traces.items ≡ take keep self.old.traces.items ++ (edit.plan.first.items ++ mended edit.plan.news.items (drop from self.old.traces.items))) }
-        ensures outcomes { OnOk result (self.new.outcomes.items
-            ≡ mended edit.second.before.items (take keep self.old.outcomes.items) ++ (edit.second.first.items ++ mended edit.second.behind.items (drop from self.old.outcomes.items))) }
-        ensures lines_err { OnErr result (self.new.lines.items ≡ self.old.lines.items) }
-        ensures traces_err { OnErr result (self.new.traces.items ≡ self.old.traces.items) }
-        ensures outcomes_err { OnErr result (self.new.outcomes.items ≡ self.old.outcomes.items) }
+    /// How many lines each chunk has.
+    pub fn lengths(&self) -> Result<Vec<usize>, AllocError>
+        ensures { IfOk result (λ lengths. lengths.items ≡ lengths_of self.now.chunks.items) }
     {
-        self.lines.reserve(new.len())?;
-        self.traces.reserve(new.len())?;
-        self.outcomes.reserve(new.len())?;
-        let after = keep + new.len();
-        let (plan, second) = edit.into_parts();
-        let (first, news, front) = plan.into_parts();
-        let Second {
-            before,
-            first: outcomes,
-            behind,
-        } = second;
-        put_at(&mut self.lines, keep, from, new);
-        put_at(&mut self.traces, keep, from, first);
-        take_over(&mut self.traces, after, news);
-        put_at(&mut self.outcomes, keep, from, outcomes);
-        take_over(&mut self.outcomes, after, behind);
-        take_over(&mut self.outcomes, 0, before);
-        Ok(front)
+        lengths_in(self.alloc, &self.chunks)
     }
 
-    /// Room for one line more. Where there is no memory, nothing changes.
-    pub fn make_room(&mut self) -> Result<(), AllocError>
+    /// Room for one line more, and something gathered of each chunk but the last. Where there is no memory, the lines stay as they are, and so does what is kept of them.
+    pub fn make_ready(&mut self, hashing: Hashing) -> Result<(), AllocError>
+        requires kept { AreKept self.old }
+        ensures kept { AreKept self.new }
+        ensures lines { self.new.lines.items ≡ self.old.lines.items }
+        ensures traces { self.new.traces.items ≡ self.old.traces.items }
+        ensures lengths { lengths_of self.new.chunks.items ≡ lengths_of self.old.chunks.items }
+        ensures ready { OnOk result (AreReady self.new.chunks.items) }
+        ensures room { OnOk result (HasRoom self.new) }
+    {
+        self.gather_chunks(hashing)?;
+        self.make_room()
+    }
+
+    /// Gathers of the chunks, unless it is known that this was done.
+    fn gather_chunks(&mut self, hashing: Hashing) -> Result<(), AllocError>
+        requires kept { AreKept self.old }
+        ensures kept { AreKept self.new }
+        ensures lines { self.new.lines.items ≡ self.old.lines.items }
+        ensures traces { self.new.traces.items ≡ self.old.traces.items }
+        ensures lengths { lengths_of self.new.chunks.items ≡ lengths_of self.old.chunks.items }
+        ensures ready { OnOk result (AreReady self.new.chunks.items) }
+    {
+        if !self.are_ready {
+            sum_up(self.alloc, hashing, &mut self.chunks, &self.traces)?;
+            self.are_ready = true;
+        }
+        Ok(())
+    }
+
+    fn make_room(&mut self) -> Result<(), AllocError>
         ensures lines { self.new.lines.items ≡ self.old.lines.items }
         ensures traces { self.new.traces.items ≡ self.old.traces.items }
         ensures outcomes { self.new.outcomes.items ≡ self.old.outcomes.items }
-        ensures room { OnOk result (vec_len self.new.lines < vec_capacity self.new.lines) }
-        ensures room_trace { OnOk result (vec_len self.new.traces < vec_capacity self.new.traces) }
-        ensures room_outcome { OnOk result (vec_len self.new.outcomes < vec_capacity self.new.outcomes) }
+        ensures chunks { self.new.chunks.items ≡ self.old.chunks.items }
+        ensures ready { self.new.are_ready ≡ self.old.are_ready }
+        ensures room { OnOk result (HasRoom self.new) }
     {
         make_room_for_one(&mut self.lines)?;
         make_room_for_one(&mut self.traces)?;
-        make_room_for_one(&mut self.outcomes)
+        make_room_for_one(&mut self.outcomes)?;
+        make_room_for_one(&mut self.chunks)
     }
 
     /// Puts a line behind the last, with what it makes and what it changed. There is room for it.
     pub fn append(&mut self, line: Line, made: Append)
+        requires kept { AreKept self.old }
+        requires traces { self.old.traces.items ++ made.trace ∷ [] ≡ traces_of (self.old.lines.items ++ line ∷ []) }
+        requires outcomes { changed made.changes.items self.old.outcomes.items ++ made.outcome ∷ [] ≡ outcomes_by (finals_in (self.old.lines.items ++ line ∷ [])) (traces_of (self.old.lines.items ++ line ∷ [])) }
         requires within { AreWithin (vec_len self.old.outcomes) made.changes.items }
-        requires room { vec_len self.old.lines < vec_capacity self.old.lines }
-        requires room_trace { vec_len self.old.traces < vec_capacity self.old.traces }
-        requires room_outcome { vec_len self.old.outcomes < vec_capacity self.old.outcomes }
+        requires room { HasRoom self.old }
+        ensures kept { AreKept self.new }
         ensures lines { self.new.lines.items ≡ self.old.lines.items ++ line ∷ [] }
         ensures traces { self.new.traces.items ≡ self.old.traces.items ++ made.trace ∷ [] }
-        ensures outcomes { self.new.outcomes.items ≡ changed made.changes.items self.old.outcomes.items ++ made.outcome ∷ [] }
+        ensures lengths { lengths_of self.new.chunks.items ≡ inserted_at (sum (lengths_of self.old.chunks.items)) (lengths_of self.old.chunks.items) }
     {
         let Append {
             trace,
@@ -116,5 +117,9 @@ impl Lists {
         self.lines.push_reserved(line);
         self.traces.push_reserved(trace);
         self.outcomes.push_reserved(outcome);
+        an_insertion_divides_again();
+        let count = self.chunks.len();
+        grow(&mut self.chunks);
+        self.are_ready = self.are_ready && self.chunks.len() == count;
     }
 }

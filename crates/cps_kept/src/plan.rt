@@ -1,10 +1,12 @@
 //! Pass one of an edit, made beside what is kept.
 ghost use Rattle.std.specs.Prelude.{◌≡◌, ◌+◌, ◌≤◌, ◌++◌, [], IfOk, OnOk, OnErr, IfNone, IfSome, length, take, drop, map, is_some};
 ghost use Rattle.cps_state.specs.Keys.{first_state};
-ghost use Rattle.cps_state.specs.Work.{counted_on};
+ghost use Rattle.cps_state.specs.Work.{counted_on, raised};
+ghost use Rattle.cps_state.specs.declared.work.Tally.TheVariants.{Ones};
+ghost use Rattle.cps_pass.specs.Expansion.{trace_of};
 ghost use Rattle.cps_final.specs.Finals.{finals_of, final_value};
 ghost use Rattle.cps_final.specs.Resolving.{resolved};
-ghost use Rattle.cps_edit.specs.Passes.{state_after, traces_from, traces_of};
+ghost use Rattle.cps_edit.specs.Passes.{after, state_after, traces_from, traces_of};
 ghost use Rattle.cps_edit.specs.Splice.{splice_at, spliced};
 ghost use Rattle.cps_edit.specs.Disturbed.{ones_of, twos_of};
 ghost use Rattle.cps_edit.specs.Renewed.{mended, redone_parts};
@@ -13,10 +15,11 @@ ghost use Rattle.cps_kept.specs.Looks.{IsSummedAround, first_looks, flags_behind
 
 use crate::in_place::leave_same;
 use crate::spot::Spot;
-use cps_chunks::replay_behind;
+use cps_chunks::{replay_behind, state_in_front};
 use cps_edit::Front;
 use cps_final::{Finals, Gathered};
-use cps_pass::{Trace, Work};
+use cps_pass::{Sheet, Trace, Work, step_over};
+use cps_state::{Lookup, State};
 use cps_text::Line;
 use std::alloc::{AllocError, Global};
 
@@ -61,12 +64,6 @@ impl Plan {
     }
 }
 
-/// What the new lines do, and what was gathered of the lines up to the last of them.
-struct Begun {
-    first: Vec<Trace>,
-    front: Front,
-}
-
 impl<'a> Kept<'a> {
     /// Pass one with new lines at a place. Where they leave the same as those in whose place they stand, no other line is gone through behind them.
     pub fn plan(self, spot: Spot, new: &[Line], work: &mut Work) -> Result<Plan, AllocError>
@@ -93,9 +90,7 @@ impl<'a> Kept<'a> {
         ensures looked_all { IfOk result (λ plan. IfSome plan.front (λ front. work.new.looked ≤ counted_on work.old.looked (first_looks self.entry.lines.now spot.entry new.now))) }
         ensures flags { IfOk result (λ plan. IfSome plan.front (λ front. map is_some plan.news.items ≡ flags_behind self.entry.lines.now self.entry.traces.now spot.entry new.now)) }
     {
-        let begun = self.begin(spot.keep, new, work)?;
-        let Begun { first, front } = begun;
-        let mut front = front;
+        let first = self.step_new(spot, new, work)?;
         let (_, lines_behind) = self.lines.split_at(spot.from);
         let (up_to, traces_behind) = self.traces.split_at(spot.from);
         let (_, olds) = up_to.split_at(spot.keep);
@@ -106,6 +101,7 @@ impl<'a> Kept<'a> {
                 front: None,
             });
         }
+        let mut front = self.gather(spot.keep, new, &first)?;
         let news = replay_behind(&mut front, lines_behind, traces_behind, spot.behind, work)?;
         Ok(Plan {
             first,
@@ -114,24 +110,73 @@ impl<'a> Kept<'a> {
         })
     }
 
-    /// Goes over the first `keep` lines, and steps the new ones.
-    fn begin(self, keep: usize, new: &[Line], work: &mut Work) -> Result<Begun, AllocError>
+    /// Steps the new lines.
+    fn step_new(self, spot: Spot, new: &[Line], work: &mut Work) -> Result<Vec<Trace>, AllocError>
         requires kept { self.traces.now ≡ traces_of self.lines.now }
-        requires within { keep ≤ length self.lines.now }
-        ensures traces { IfOk result (λ begun. begun.first.items ≡ traces_from (state_after first_state (take keep self.entry.lines.now)) new.now) }
-        ensures state { IfOk result (λ begun. (⟦<Front as Gathered>⟧.gathered begun.front).state ≡ state_after (state_after first_state (take keep self.entry.lines.now)) new.now) }
-        ensures finals { IfOk result (λ begun. ⟦<Front as Gathered>⟧.gathered begun.front
-            ≡ finals_of (traces_of (take keep self.entry.lines.now) ++ traces_from (state_after first_state (take keep self.entry.lines.now)) new.now)) }
+        requires within { spot.keep ≤ length self.lines.now }
+        requires around { IsSummedAround self.traces.now spot }
+        ensures traces { IfOk result (λ first. first.items ≡ traces_from (state_after first_state (take spot.entry.keep self.entry.lines.now)) new.now) }
         ensures ones { OnOk result (work.new.ones ≡ counted_on work.old.ones (length new.now)) }
         ensures ones_err { OnErr result (work.new.ones ≤ counted_on work.old.ones (length new.now)) }
         ensures ones_least { work.old.ones ≤ work.new.ones }
         ensures twos { work.new.twos ≡ work.old.twos }
         ensures looked { work.new.looked ≡ work.old.looked }
     {
+        if new.is_empty() {
+            return Ok(Vec::new(self.alloc));
+        }
+        let (before, _) = self.traces.split_at(spot.keep);
+        let mut state = state_in_front(self.alloc, self.finals.hashing(), spot.in_front, before)?;
+        step_all(self.alloc, new, &mut state, work)
+    }
+
+    /// Gathers of the first `keep` lines, and of the new ones, which did this.
+    fn gather(self, keep: usize, _new: &[Line], first: &[Trace]) -> Result<Front, AllocError>
+        requires kept { self.traces.now ≡ traces_of self.lines.now }
+        requires within { keep ≤ length self.lines.now }
+        requires first { first.now ≡ traces_from (state_after first_state (take keep self.lines.now)) _new.now }
+        ensures state { IfOk result (λ front. (⟦<Front as Gathered>⟧.gathered front).state ≡ state_after (state_after first_state (take keep self.entry.lines.now)) _new.now) }
+        ensures finals { IfOk result (λ front. ⟦<Front as Gathered>⟧.gathered front
+            ≡ finals_of (traces_of (take keep self.entry.lines.now) ++ traces_from (state_after first_state (take keep self.entry.lines.now)) _new.now)) }
+    {
         let mut front = Front::new(self.alloc, self.finals.hashing());
         let (before, _) = self.traces.split_at(keep);
         front.pass_over_all(before)?;
-        let first = front.step_all(new, work)?;
-        Ok(Begun { first, front })
+        front.pass_over_all(first)?;
+        Ok(front)
     }
+}
+
+/// What lines do one after another.
+fn step_all(
+    alloc: Global,
+    lines: &[Line],
+    state: &mut State,
+    work: &mut Work,
+) -> Result<Vec<Trace>, AllocError>
+    ensures traces { IfOk result (λ traces. traces.items ≡ traces_from (⟦<State as Lookup>⟧.answer state.old) lines.now) }
+    ensures ones { OnOk result (work.new.ones ≡ counted_on work.old.ones (length lines.now)) }
+    ensures ones_err { OnErr result (work.new.ones ≤ counted_on work.old.ones (length lines.now)) }
+    ensures ones_least { work.old.ones ≤ work.new.ones }
+    ensures twos { work.new.twos ≡ work.old.twos }
+    ensures looked { work.new.looked ≡ work.old.looked }
+{
+    let mut traces = Vec::with_capacity(alloc, lines.len())?;
+    for line in lines {
+        let trace = step(alloc, line, state, work)?;
+        traces.push(trace)?;
+    }
+    Ok(traces)
+}
+
+/// What a line does, which is put into the state.
+fn step(alloc: Global, line: &Line, state: &mut State, work: &mut Work) -> Result<Trace, AllocError>
+    ensures trace { IfOk result (λ trace. trace ≡ trace_of line.now (⟦<State as Lookup>⟧.answer state.old)) }
+    ensures state { OnOk result (⟦<State as Lookup>⟧.answer state.new ≡ after (⟦<State as Lookup>⟧.answer state.old) line.now) }
+    ensures step { work.new ≡ raised Ones work.old }
+{
+    let trace = step_over(alloc, work, Sheet::new(alloc), line, state)?;
+    let (trace, _) = trace.into_exact(alloc)?;
+    state.apply(&trace)?;
+    Ok(trace)
 }

@@ -1,6 +1,6 @@
 -- What a session keeps of its source, and what an edit makes of it.
-use Rattle.std.proofs.Common.{◌≡◌, ℕ, suc, ◌-◌, ◌<◌, ◌≤◌, sym, ap, subst, ◌∙◌, List, ◌∷◌, ◌++◌, length, get_or, take, drop, arith}
-use Rattle.std.specs.Prelude.{Option, Some, None, IfSome, MatchOption, slice_get, slice_set}
+use Rattle.std.proofs.Common.{◌≡◌, ℕ, suc, ◌+◌, ◌-◌, ◌<◌, ◌≤◌, sym, ap, subst, ◌∙◌, List, ◌∷◌, ◌++◌, length, get_or, take, drop, arith}
+use Rattle.std.specs.Prelude.{Option, Some, None, IfSome, MatchOption, slice_get, slice_set, slice_range, sum}
 use Rattle.std.proofs.lemmas.List.{length-map, set_split}
 use Rattle.std.proofs.lemmas.Option.{slice_get-get_or}
 use Rattle.cps_state.specs.Keys.{first_state}
@@ -9,8 +9,17 @@ use Rattle.cps_state.specs.Work.{Counts, counted_on}
 use Rattle.cps_final.specs.Finals.{Finals, finals_of, final_value}
 use Rattle.cps_final.specs.Outcome.{Outcome, outcome_of}
 use Rattle.cps_kept.specs.declared.append.Follower.{Follower}
+use Rattle.cps_kept.specs.declared.lists.Lists.{Lists}
 use Rattle.cps_kept.specs.Append.{Follows}
-use Rattle.cps_edit.specs.Splice.{spliced, replacement}
+use Rattle.cps_kept.specs.Kept.{AreKept}
+use Rattle.cps_division.specs.Division.{AreChunks, IsDivision}
+use Rattle.cps_division.specs.Recut.{recut}
+use Rattle.cps_division.specs.Staying.{IsTight}
+use Rattle.cps_chunks.specs.Recuts.{Recuts}
+use Rattle.cps_chunks.proofs.TouchedLemmas.{planned}
+use Rattle.cps_chunks.specs.Chunks.{lengths_of}
+use Rattle.cps_chunks.proofs.ListLemmas.{summed-long}
+use Rattle.cps_edit.specs.Splice.{Splice, spliced, replacement}
 use Rattle.cps_edit.proofs.SpliceLemmas.{length-traces_from}
 use Rattle.cps_live.specs.Assembly.{traces_of, outcomes_of}
 use Rattle.cps_live.specs.Edits.{most_lines, HasLine, HaveSteppedUpTo}
@@ -25,19 +34,22 @@ length-traces lines = length-traces_from first_state lines
 pub length-outcomes : (lines : List (List ℕ)) → length (outcomes_of lines) ≡ length lines
 length-outcomes lines = length-map (traces_of lines) (outcome_of (final_value (finals_of (traces_of lines)))) ∙ length-traces lines
 
--- where there was no memory, what is kept is the same; what follows may be thrown away
-pub kept_still : (lines lines' : List (List ℕ)) (traces traces' : List Trace) (finals : Finals) (outcomes outcomes' : List Outcome) (follower follower' : Follower)
-    → IsKept lines traces finals outcomes follower → lines' ≡ lines → traces' ≡ traces → outcomes' ≡ outcomes → Follows follower' traces → IsKept lines' traces' finals outcomes' follower'
-kept_still lines lines' traces traces' finals outcomes outcomes' follower follower' kept p q r follows =
-    subst (λ ls. IsKept ls traces' finals outcomes' follower') (sym p)
-    (record { few = kept.few; did = q ∙ kept.did; gathered = kept.gathered; made = r ∙ kept.made; follows = subst (λ (ts : List Trace). Follows follower' ts) (sym q) follows })
+-- where there was no memory, the lines stay as they are; what follows may be thrown away
+pub kept_still : (lists lists' : Lists) (finals : Finals) (follower follower' : Follower) → IsKept lists finals follower → AreKept lists' → lists'.lines.items ≡ lists.lines.items
+    → Follows follower' lists'.traces.items → IsKept lists' finals follower'
+kept_still lists lists' finals follower follower' was kept same follows = record {
+  few = subst (λ (ls : List (List ℕ)). length ls ≤ most_lines) (sym same) was.few;
+  kept = kept;
+  gathered = was.gathered ∙ ap (λ (ls : List (List ℕ)). finals_of (traces_of ls)) (sym same);
+  follows = follows;
+}
 
--- and where an edit takes its place, it is that of the new source
-pub kept_now : (all lines : List (List ℕ)) (traces : List Trace) (finals : Finals) (outcomes : List Outcome) (follower : Follower)
-    → length all ≤ most_lines → lines ≡ all → traces ≡ traces_of all → finals ≡ finals_of (traces_of all) → outcomes ≡ outcomes_of all → Follows follower traces
-    → IsKept lines traces finals outcomes follower
-kept_now all lines traces finals outcomes follower few is did gathered made follows =
-    subst (λ ls. IsKept ls traces finals outcomes follower) (sym is) (record { few = few; did = did; gathered = gathered; made = made; follows = follows })
+-- the chunks divide the source
+pub divided : (lists : Lists) (finals : Finals) (follower : Follower) → IsKept lists finals follower → IsDivision (length lists.lines.items) (lengths_of lists.chunks.items)
+divided lists finals follower is = record {
+  chunks = is.kept.divided;
+  total = sym (summed-long lists.chunks.items lists.traces.items is.kept.summed) ∙ ap length is.kept.did ∙ length-traces lists.lines.items;
+}
 
 -- what a look into a list gives
 pub looked_up : {A X : Type 0} (value : A → X) (xs : List X) (i : ℕ) (found : Option A) (P : A → Type 0) → IfSome found (λ a. value a ≡ get_or xs i (value a))
@@ -53,12 +65,21 @@ replaced lines at line (first, last) =
     let within : at - 1 < length lines = omega (arith, first, last) in
     sym (set_split lines (at - 1) line within ∙ ap (λ n. take (at - 1) lines ++ line ∷ drop n lines) next)
 
+-- an edit and what it makes of the chunks, by their lengths as a session tells them
+pub recuts-told : (lines : List (List ℕ)) (lengths told : List ℕ) (splice : Splice) (start end before : ℕ) (ns : List ℕ) → told ≡ lengths → IsDivision (length lines) lengths
+    → splice.keep ≤ splice.from → splice.from ≤ length lines → AreChunks (recut start end ns told) → start ≤ end → end ≤ length told → before ≡ sum (take start told) → before ≤ splice.keep
+    → splice.from ≤ sum (take end told) → IsTight splice.keep (sum told - splice.from) start end ns told
+    → sum ns + (splice.from - splice.keep) ≡ sum (slice_range told start end) + length splice.new → Recuts lines splice start end ns lengths
+recuts-told lines lengths told splice start end before ns same division order within made ordered ends_within b begins ends tight count =
+    subst (λ (ms : List ℕ). Recuts lines splice start end ns ms) same (planned lines splice start end before ns told order within
+    (subst (λ (ms : List ℕ). IsDivision (length lines) ms) (sym same) division) made ordered ends_within b begins ends tight count)
+
 -- ---- work
 
 -- so many steps are at most so many
 pub stepped_up_to : (ones twos : ℕ) (old new : Counts) → new.ones ≡ counted_on old.ones ones → new.twos ≡ counted_on old.twos twos → HaveSteppedUpTo ones twos old new
 stepped_up_to ones twos old new first second = record { first = omega (arith, first); second = omega (arith, second); first_kept = omega (arith, first); second_kept = omega (arith, second) }
 
--- the same of lines and new lines that were lent
-pub renamed : (P : List (List ℕ) → List (List ℕ) → Type 0) (lines lines' new new' : List (List ℕ)) → lines ≡ lines' → new ≡ new' → P lines new → P lines' new'
-renamed P lines lines' new new' l n holds = subst (λ ns. P lines' ns) n (subst (λ ls. P ls new) l holds)
+-- no more than a bound
+pub under : (u w n most : ℕ) → w ≤ counted_on u n → n ≤ most → w ≤ counted_on u most
+under u w n most p q = omega (arith, p, q)

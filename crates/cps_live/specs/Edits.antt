@@ -1,8 +1,9 @@
 -- A source as a list of lines, and what an edit makes of it. Our own.
-use Rattle.std.specs.Prelude.{◌≡◌, ℕ, ◌-◌, ◌<◌, ◌≤◌, ◌⊎◌, List, ◌++◌, length, take, drop, Result, Ok, Err}
+use Rattle.std.specs.Prelude.{◌≡◌, ℕ, ◌*◌, ◌-◌, ◌<◌, ◌≤◌, ◌⊎◌, List, ◌++◌, length, take, drop, Result, Ok, Err, OnOk}
 use Rattle.cps_state.specs.Work.{Counts, counted_on}
 use Rattle.cps_edit.specs.Splice.{Splice}
 use Rattle.cps_edit.specs.Disturbed.{ones_of, twos_of}
+use Rattle.cps_chunks.specs.Touched.{touched_of}
 use Rattle.cps_live.specs.declared.session.EditFault.{EditFault}
 use Rattle.cps_live.specs.declared.session.EditFault.TheVariants as faults
 
@@ -10,9 +11,10 @@ use Rattle.cps_live.specs.declared.session.EditFault.TheVariants as faults
 abbrev pub most_lines : ℕ
 most_lines = 9999
 
--- what a session tells: the lines of its source
+-- what a session tells: the lines of its source, and how many lines each of its chunks has
 pub record Source : Type 0 where
   pub lines : List (List ℕ)
+  pub lengths : List ℕ
 
 -- a source has a line of that number, where lines count from 1
 abbrev pub HasLine : List (List ℕ) → ℕ → Type 0
@@ -54,3 +56,7 @@ WorkOfEdit (Ok done) lines splice old new = HaveStepped (ones_of lines splice) (
 WorkOfEdit (Err faults.NoSuchLine) lines splice old new = new ≡ old
 WorkOfEdit (Err faults.TooManyLines) lines splice old new = new ≡ old
 WorkOfEdit (Err faults.Memory) lines splice old new = HaveSteppedUpTo (ones_of lines splice) (twos_of lines splice) old new
+
+-- An edit that is accepted compares at most 64 lines in each pass for each chunk that it touches.
+abbrev pub LooksOfEdit : {T : Type 0} → Result T EditFault → Source → Source → Splice → Counts → Counts → Type 0
+LooksOfEdit result old new splice was now = OnOk result (now.looked ≤ counted_on was.looked (128 * touched_of old.lines splice old.lengths new.lengths))

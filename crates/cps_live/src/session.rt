@@ -1,16 +1,21 @@
 //! A source that is edited line by line.
-ghost use Rattle.std.specs.Prelude.{◌≡◌, ◌-◌, ◌<◌, ◌≤◌, ◌↔◌, [], ◌∷◌, ◌++◌, length, insert, slice_get, slice_set, Some, IsTrue, IsSome, IfSome, OnOk, OnErr, IfOk, IsErrOf};
+ghost use Rattle.std.specs.Prelude.{◌≡◌, ◌-◌, ◌<◌, ◌≤◌, ◌↔◌, [], ◌∷◌, ◌++◌, length, take, sum, insert, slice_get, slice_set, Some, IsTrue, IsSome, IfSome, OnOk, OnErr, IfOk, IsErrOf};
 ghost use Rattle.cps_list.specs.Texts.{text_of};
+ghost use Rattle.cps_division.specs.Division.{IsDivision, inserted_at, deleted_at};
+ghost use Rattle.cps_division.specs.Recut.{recut as recut_by};
 ghost use Rattle.cps_edit.specs.Splice.{splice_at, spliced, insertion, replacement, deletion};
+ghost use Rattle.cps_chunks.specs.Recuts.{Recuts};
+ghost use Rattle.cps_kept.specs.Kept.{splice_of};
 ghost use Rattle.cps_live.specs.Assembly.{assembly_of};
 ghost use Rattle.cps_live.specs.Flagged.{flagged_lines as flagged_in};
-ghost use Rattle.cps_live.specs.Edits.{HasLine, LacksLine, HasLines, LacksLines, without_lines, WorkOfEdit};
+ghost use Rattle.cps_live.specs.Edits.{HasLine, LacksLine, HasLines, LacksLines, without_lines, WorkOfEdit, LooksOfEdit};
 
 use super::flagged::flagged_lines;
-use cps_chunks::{Behind, InFront};
+use cps_division::laws::{a_deletion_divides_again, an_insertion_divides_again};
+use cps_division::{Recut, recut_deletion, recut_insertion, recut_replacement};
 use cps_edit::Front;
 use cps_final::{Finals, Gathered, Outcome};
-use cps_kept::{Follower, Kept, Lists, Spot};
+use cps_kept::{Follower, Kept, Lists, NewLines};
 use cps_list::{Part, View, make_text};
 use cps_pass::{Hashing, Work};
 use cps_text::Line;
@@ -64,14 +69,15 @@ impl Drop for Session {
 }
 
 impl Model for Session {
+    ghost use Rattle.cps_chunks.specs.Chunks.{lengths_of};
     ghost use Rattle.cps_live.specs.Edits.{Source};
     ghost use Rattle.cps_live.specs.Kept.{IsKept};
 
     ghost Value = { Source };
 
-    ghost view = { λ session. record { lines = session.lists.lines.items } };
+    ghost view = { λ session. record { lines = session.lists.lines.items; lengths = lengths_of session.lists.chunks.items } };
 
-    ghost invariant = { λ session. IsKept session.lists.lines.items session.lists.traces.items (⟦<Front as Gathered>⟧.gathered session.front) session.lists.outcomes.items session.follower };
+    ghost invariant = { λ session. IsKept session.lists (⟦<Front as Gathered>⟧.gathered session.front) session.follower };
 }
 
 impl View for Session {
@@ -109,7 +115,8 @@ impl View for Session {
 impl Session {
     /// A source without a line. Takes no memory yet.
     pub fn new(alloc: Global, hashing: Hashing) -> Session
-        ensures { result.lines ≡ [] }
+        ensures lines { result.lines ≡ [] }
+        ensures lengths { result.lengths ≡ [] }
     {
         Session {
             alloc,
@@ -146,15 +153,25 @@ impl Session {
         self.lists.lines.len() == MOST_LINES
     }
 
+    /// How many lines each chunk of the source has, in their order. An edit looks only into chunks that it touches.
+    pub fn chunk_lengths(&self) -> Result<Vec<usize>, AllocError>
+        ensures lengths { IfOk result (λ lengths. lengths.items ≡ self.now.lengths) }
+        ensures division { IsDivision (length self.now.lines) self.now.lengths }
+    {
+        self.lists.lengths()
+    }
+
     /// Inserts a line after line `after`, 0 for the front. A line that is refused is dropped.
     pub fn insert(&mut self, after: u32, line: Line, work: &mut Work) -> Result<(), EditFault>
         ensures ok { OnOk result (self.new.lines ≡ insert self.old.lines after line) }
+        ensures lengths { OnOk result (self.new.lengths ≡ inserted_at after self.old.lengths) }
         ensures allowed { OnOk result ((after ≤ length self.old.lines) × (length self.old.lines < MOST_LINES)) }
         ensures err { OnErr result (self.new ≡ self.old) }
         ensures no_line { IsErrOf result EditFault.NoSuchLine ↔ (length self.old.lines < after) }
         ensures too_many { IsErrOf result EditFault.TooManyLines ↔ ((after ≤ length self.old.lines) × (length self.old.lines ≡ MOST_LINES)) }
         ensures memory { IsErrOf result EditFault.Memory → (after ≤ length self.old.lines) × (length self.old.lines < MOST_LINES) }
         ensures work { WorkOfEdit result self.old.lines (insertion after line) work.old work.new }
+        ensures looked { LooksOfEdit result self.old self.new (insertion after line) work.old work.new }
     {
         let after = after as usize;
         if after > self.lists.lines.len() {
@@ -166,62 +183,105 @@ impl Session {
         if after == self.lists.lines.len() {
             return self.append(line, work);
         }
-        let Ok(new) = list_of(self.alloc, line) else {
+        let Ok(lengths) = self.chunk_lengths() else {
             return Err(EditFault::Memory);
         };
-        self.splice(after, after, new, work)
+        let Ok(lines) = list_of(self.alloc, line) else {
+            return Err(EditFault::Memory);
+        };
+        an_insertion_divides_again();
+        let new = NewLines {
+            keep: after,
+            from: after,
+            lines,
+        };
+        self.splice(new, recut_insertion(&lengths, after), work)
     }
 
     /// Puts a line in place of line `at`, where lines count from 1. A line that is refused is dropped.
     pub fn replace(&mut self, at: u32, line: Line, work: &mut Work) -> Result<(), EditFault>
         ensures ok { OnOk result (self.new.lines ≡ slice_set self.old.lines (at - 1) line) }
+        ensures lengths { OnOk result (self.new.lengths ≡ self.old.lengths) }
         ensures allowed { OnOk result (HasLine self.old.lines at) }
         ensures err { OnErr result (self.new ≡ self.old) }
         ensures no_line { IsErrOf result EditFault.NoSuchLine ↔ LacksLine self.old.lines at }
         ensures too_many { IsErrOf result EditFault.TooManyLines → ⊥ }
         ensures memory { IsErrOf result EditFault.Memory → HasLine self.old.lines at }
         ensures work { WorkOfEdit result self.old.lines (replacement at line) work.old work.new }
+        ensures looked { LooksOfEdit result self.old self.new (replacement at line) work.old work.new }
     {
         let at = at as usize;
         if at == 0 || at > self.lists.lines.len() {
             return Err(EditFault::NoSuchLine);
         }
-        let Ok(new) = list_of(self.alloc, line) else {
+        let Ok(lengths) = self.chunk_lengths() else {
             return Err(EditFault::Memory);
         };
-        self.splice(at - 1, at, new, work)
+        let Ok(lines) = list_of(self.alloc, line) else {
+            return Err(EditFault::Memory);
+        };
+        let new = NewLines {
+            keep: at - 1,
+            from: at,
+            lines,
+        };
+        self.splice(new, recut_replacement(&lengths, at), work)
     }
 
     /// Deletes the lines from `first` to `last`, where lines count from 1.
     pub fn delete(&mut self, first: u32, last: u32, work: &mut Work) -> Result<(), EditFault>
         ensures ok { OnOk result (self.new.lines ≡ without_lines self.old.lines first last) }
+        ensures lengths { OnOk result (self.new.lengths ≡ deleted_at (first - 1) (last - (first - 1)) self.old.lengths) }
         ensures allowed { OnOk result (HasLines self.old.lines first last) }
         ensures err { OnErr result (self.new ≡ self.old) }
         ensures no_line { IsErrOf result EditFault.NoSuchLine ↔ LacksLines self.old.lines first last }
         ensures too_many { IsErrOf result EditFault.TooManyLines → ⊥ }
         ensures memory { IsErrOf result EditFault.Memory → HasLines self.old.lines first last }
         ensures work { WorkOfEdit result self.old.lines (deletion first last) work.old work.new }
+        ensures looked { LooksOfEdit result self.old self.new (deletion first last) work.old work.new }
     {
         if first == 0 || last < first || last as usize > self.lists.lines.len() {
             return Err(EditFault::NoSuchLine);
         }
-        self.splice(
-            first as usize - 1,
-            last as usize,
-            Vec::new(self.alloc),
-            work,
-        )
+        self.cut(first as usize - 1, last as usize, work)
+    }
+
+    /// Deletes the lines after the first `keep` up to the first `from`.
+    fn cut(&mut self, keep: usize, from: usize, work: &mut Work) -> Result<(), EditFault>
+        requires some { keep < from }
+        requires within { from ≤ length self.old.lines }
+        ensures ok { OnOk result (self.new.lines ≡ spliced self.old.lines (splice_at keep from [])) }
+        ensures lengths { OnOk result (self.new.lengths ≡ deleted_at keep (from - keep) self.old.lengths) }
+        ensures err { OnErr result (self.new ≡ self.old) }
+        ensures only { OnErr result (IsErrOf result EditFault.Memory) }
+        ensures work { WorkOfEdit result self.old.lines (splice_at keep from []) work.old work.new }
+        ensures looked { LooksOfEdit result self.old self.new (splice_at keep from []) work.old work.new }
+    {
+        let Ok(lengths) = self.chunk_lengths() else {
+            return Err(EditFault::Memory);
+        };
+        a_deletion_divides_again();
+        let recut = recut_deletion(&lengths, keep, from);
+        let new = NewLines {
+            keep,
+            from,
+            lines: Vec::new(self.alloc),
+        };
+        self.splice(new, recut, work)
     }
 
     /// Puts a line behind the last.
     fn append(&mut self, line: Line, work: &mut Work) -> Result<(), EditFault>
         requires { length self.old.lines < MOST_LINES }
         ensures ok { OnOk result (self.new.lines ≡ self.old.lines ++ line ∷ []) }
+        ensures lengths { OnOk result (self.new.lengths ≡ inserted_at (length self.old.lines) self.old.lengths) }
         ensures err { OnErr result (self.new ≡ self.old) }
         ensures only { OnErr result (IsErrOf result EditFault.Memory) }
         ensures work { WorkOfEdit result self.old.lines (insertion (length self.old.lines) line) work.old work.new }
+        ensures looked { LooksOfEdit result self.old self.new (insertion (length self.old.lines) line) work.old work.new }
     {
-        let Ok(()) = self.lists.make_room() else {
+        let hashing = self.front.finals().hashing();
+        let Ok(()) = self.lists.make_ready(hashing) else {
             return Err(EditFault::Memory);
         };
         let kept = Kept {
@@ -230,7 +290,8 @@ impl Session {
             traces: &self.lists.traces,
             finals: self.front.finals(),
         };
-        let Ok(made) = self.follower.append(kept, &line, work) else {
+        let chunks = &self.lists.chunks;
+        let Ok(made) = self.follower.append(kept, chunks, &line, work) else {
             return Err(EditFault::Memory);
         };
         self.lists.append(line, made);
@@ -238,44 +299,20 @@ impl Session {
         Ok(())
     }
 
-    /// Puts new lines in the place of those after the first `keep` up to the first `from`.
-    fn splice(
-        &mut self,
-        keep: usize,
-        from: usize,
-        new: Vec<Line>,
-        work: &mut Work,
-    ) -> Result<(), EditFault>
-        requires ordered { keep ≤ from }
-        requires within { from ≤ length self.old.lines }
-        requires few { length (spliced self.old.lines (splice_at keep from new.items)) ≤ MOST_LINES }
-        ensures ok { OnOk result (self.new.lines ≡ spliced self.old.lines (splice_at keep from new.items)) }
+    /// Puts new lines in the place of others; `recut` tells what that makes of the chunks.
+    fn splice(&mut self, new: NewLines, recut: Recut, work: &mut Work) -> Result<(), EditFault>
+        requires recuts { Recuts self.old.lines (splice_of new) recut.start recut.end recut.lengths.items self.old.lengths }
+        requires before { recut.before ≡ sum (take recut.start self.old.lengths) }
+        requires few { length (spliced self.old.lines (splice_of new)) ≤ MOST_LINES }
+        ensures ok { OnOk result (self.new.lines ≡ spliced self.old.lines (splice_of new)) }
+        ensures lengths { OnOk result (self.new.lengths ≡ recut_by recut.start recut.end recut.lengths.items self.old.lengths) }
         ensures err { OnErr result (self.new ≡ self.old) }
         ensures only { OnErr result (IsErrOf result EditFault.Memory) }
-        ensures work { WorkOfEdit result self.old.lines (splice_at keep from new.items) work.old work.new }
+        ensures work { WorkOfEdit result self.old.lines (splice_of new) work.old work.new }
+        ensures looked { LooksOfEdit result self.old self.new (splice_of new) work.old work.new }
     {
-        let kept = Kept {
-            alloc: self.alloc,
-            lines: &self.lists.lines,
-            traces: &self.lists.traces,
-            finals: self.front.finals(),
-        };
-        let spot = Spot {
-            keep,
-            from,
-            in_front: InFront {
-                chunks: &[],
-                loose: keep,
-            },
-            behind: Behind {
-                loose: self.lists.lines.len() - from,
-                chunks: &[],
-            },
-        };
-        let Ok(edit) = kept.edit(spot, &new, work) else {
-            return Err(EditFault::Memory);
-        };
-        let Ok(front) = self.lists.commit(keep, from, new, edit) else {
+        let made = self.lists.splice(self.front.finals(), new, &recut, work);
+        let Ok(front) = made else {
             return Err(EditFault::Memory);
         };
         self.front.give_way(front);

@@ -9,5 +9,5 @@ returns-in-Ok-clause-calls g c = (
   c.run_script.new.session.lines,
   c.status_of_count.ensures,
   subst (λ (source : List (List ℕ)). RunsScript g.R.Read.remaining g.W.Write.contents source c.run_script.new.session.lines (Ok c.in-Ok.count) c.args.reader.now c.run_script.new.reader c.args.writer.now c.run_script.new.writer)
-      c.new-session.ensures c.in-Ok.ensures.run,
+      c.new-session.ensures.lines c.in-Ok.ensures.run,
 )

@@ -1,4 +1,4 @@
-use Rattle.std.proofs.Common.{◌≡◌, ◌≤◌, ◌++◌, ◌∷◌, [], List, Option, Vec, Global, sym, ap, subst, ◌∙◌}
+use Rattle.std.proofs.Common.{◌≡◌, ◌+◌, ◌≤◌, ◌++◌, ◌∷◌, [], List, Option, Vec, Global, sym, ap, subst, ◌∙◌}
 use Rattle.std.specs.Prelude.{IfSome}
 use Rattle.cps_state.specs.Work.{Counts, counted_on}
 use Rattle.cps_final.specs.Finals.{Finals, finals_of, final_value}
@@ -6,11 +6,15 @@ use Rattle.cps_final.specs.contracts.finals.FinalsGathered.TheImpl.{gathered-val
 use Rattle.cps_final.specs.Outcome.{outcome_of}
 use Rattle.cps_kept.specs.declared.open.Open.{Open}
 use Rattle.cps_edit.specs.Renewed.{redone_kept}
+use Rattle.cps_edit.specs.Agreeing.{same_at}
+use Rattle.cps_edit.specs.Disturbed.{finals_in}
+use Rattle.cps_chunks.specs.declared.chunk.Chunk.{Chunk}
+use Rattle.cps_chunks.specs.Chunks.{AreSummed, looks_kept}
 use Rattle.cps_state.specs.Course.{Trace}
 use Rattle.cps_kept.specs.declared.append.Follower.{Follower}
 use Rattle.cps_kept.specs.Append.{Follows, is_settled, Covers, finals_before, finals_after}
 use Rattle.cps_edit.specs.contracts.front.FrontGathered.TheImpl as front
-use Rattle.cps_kept.proofs.AppendLemmas.{ones-appended, step-whole, step-gathers, step-finals, step-twos, step-state, twos-first, twos-last, appended-outcomes}
+use Rattle.cps_kept.proofs.AppendLemmas.{ones-appended, step-whole, step-gathers, step-finals, step-twos, step-state, twos-first, twos-last, looked-between, appended-outcomes}
 use Rattle.cps_edit.proofs.ReplayLemmas.{on-err, le-same}
 use Rattle.cps_kept.proofs.WholeLemmas.{more_up, more_under}
 use Rattle.cps_kept.proofs.append.Follower.append.Goals as goal
@@ -75,6 +79,9 @@ change-requires-clause-known c =
     let same : finals_of traces ≡ before = ap finals_of c.requires.kept ∙ sym c.requires.finals ∙ sym c.of-arrival.ensures.before in
     subst (λ (o : Option (Vec Open Global)). IfSome o (λ known. Covers (is_settled before.state) 0 known.items traces)) (sym (c.take.ensures.value ∙ c.in_ok-catch_up.ensures.opened))
     (subst (λ (f : Finals). IfSome c.replace-follower.result.«open» (λ known. Covers (is_settled f.state) 0 known.items traces)) same (taken c.replace-follower.result c.args.self.now traces c.replace-follower.ensures.value c.requires.follows).opened)
+
+pub change-requires-clause-summed : goal.change-requires-clause-summed
+change-requires-clause-summed c = subst (λ (cs : List Chunk). AreSummed cs c.args.kept.traces.now) (sym c.of-arrival.ensures.chunks) c.requires.summed
 
 pub returns-in_err-changes-clause-ones_err : goal.returns-in_err-changes-clause-ones_err
 returns-in_err-changes-clause-ones_err c =
@@ -187,3 +194,18 @@ returns-clause-twos c =
     let middle : c.change.new.work.twos ≡ counted_on c.args.work.now.twos by = c.in_ok-changes.ensures.twos ∙ ap (λ n. counted_on n by) same in
     let all = twos-last c.args.work.now.twos c.change.new.work.twos c.step_two.new.work.twos by _ middle (ap (λ (w : Counts). w.twos) c.in_ok-outcome.ensures.step) twos in
     all
+
+pub returns-clause-looked : goal.returns-clause-looked
+returns-clause-looked c =
+    let lines = c.args.kept.lines.now in
+    let line = c.args.line.now in
+    let traces = c.args.kept.traces.now in
+    let caught = front.gathered-value.it c.catch_up.new.self.front in
+    let next = front.gathered-value.it c.step.new.self in
+    let was = gathered-value.it c.args.kept.finals.now in
+    let trace = c.in_ok-trace.trace in
+    let before : final_value (finals_before c.of-arrival.result) ≡ finals_in lines = ap final_value (c.of-arrival.ensures.before ∙ c.requires.finals) in
+    let after : final_value (finals_after c.of-arrival.result) ≡ finals_in (lines ++ line ∷ []) =
+    ap final_value (c.of-arrival.ensures.after ∙ c.finals.ensures ∙ step-finals lines line traces trace caught next was c.requires.kept c.requires.finals c.in_ok-catch_up.ensures.gathered c.in_ok-trace.ensures.trace c.in_ok-trace.ensures.ok) in
+    looked-between c.args.work.now.looked c.step.new.work.looked c.change.new.work.looked c.step_two.new.work.looked _ _ (ap (λ (w : Counts). w.looked) c.in_ok-trace.ensures.step) c.in_ok-changes.ensures.looked
+    (ap (λ (w : Counts). w.looked) c.in_ok-outcome.ensures.step) (λ i. 64 + looks_kept (same_at (before i) (after i)) (c.of-arrival.ensures.chunks i) traces)

@@ -1,4 +1,4 @@
-use Rattle.std.proofs.Common.{◌≡◌, rules, ap, ◌∙◌, List, length, take, ◌++◌, ◌∷◌, [], subst, sym}
+use Rattle.std.proofs.Common.{◌≡◌, rules, arith, ap, ◌∙◌, List, length, take, ◌++◌, ◌∷◌, [], subst, sym}
 use Rattle.cps_kept.specs.declared.open.Open.{Open}
 use Rattle.cps_kept.specs.Append.{stays_before, stays_after, finals_before, finals_after, all_left, Covers, listed}
 use Rattle.cps_kept.proofs.OpenLemmas.{covers-last}
@@ -19,6 +19,9 @@ returns-then-is_quiet-clause-twos c =
     let is_quiet = sym c.is_quiet.ensures ∙ c.if-is_quiet.true in
     let none = quiet-none c.args.traces.now c.args.trace.now (finals_before c.args.self) (finals_after c.args.self) c.requires.before c.requires.after is_quiet c.args.traces.now in
     on-ok c.pass_by.result (none-more c.args.work.now.twos ∙ ap (counted_on c.args.work.now.twos) (sym none))
+
+pub returns-then-is_quiet-clause-looked : goal.returns-then-is_quiet-clause-looked
+returns-then-is_quiet-clause-looked c = on-ok c.pass_by.result (omega arith)
 
 pub walk-requires-clause-left : goal.walk-requires-clause-left
 walk-requires-clause-left c =
