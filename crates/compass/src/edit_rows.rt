@@ -189,17 +189,30 @@ fn enter_times(alloc: Global, session: &mut Session, times: u32, text: &[u8]) {
     }
 }
 
-/// Between 4,999 words a comment takes the place of another: one step of each pass.
+/// Asserts what comes of an edit, and that it makes at most so many comparisons.
+fn assert_looks(rt: &impl Abort, alloc: Global, session: &mut Session, row: &Row, most: u64) {
+    let mut work = Work::new();
+    assert_edit(rt, alloc, session, &mut work, row);
+    assert_same(rt, "looks", &work.looked().max(most), &most);
+}
+
+/// Among 5,000 lines a comment takes the place of another: one step of each pass. Then a symbol gets another value, which the
+/// first line and the last one name: two steps more. Either compares at most the lines of three chunks, in both passes.
 #[test]
 fn steps_few_of_many_lines(rt: HostRuntime) {
-    const WORD: &[u8] = b"   CON 1";
+    const USE: &[u8] = b"   CON A";
     let mut session = Session::new(rt.alloc(), Hashing::by(1));
-    let mut work = Work::new();
-    enter_times(rt.alloc(), &mut session, 2_499, WORD);
+    enter_times(rt.alloc(), &mut session, 1, USE);
+    enter_times(rt.alloc(), &mut session, 2_498, b"   CON 1");
     enter_times(rt.alloc(), &mut session, 1, b"* one");
-    enter_times(rt.alloc(), &mut session, 2_500, WORD);
-    let edit = Edit::Replace(2_500, b"* two");
-    let row = (edit, Ok(()), 5_000, Some(WORD), [1, 1]);
-    assert_edit(&rt, rt.alloc(), &mut session, &mut work, &row);
+    enter_times(rt.alloc(), &mut session, 1, b"A  EQU 1");
+    enter_times(rt.alloc(), &mut session, 2_498, b"   CON 1");
+    enter_times(rt.alloc(), &mut session, 1, USE);
+    let comment = Edit::Replace(2_500, b"* two");
+    let row = (comment, Ok(()), 5_000, Some(USE), [1, 1]);
+    assert_looks(&rt, rt.alloc(), &mut session, &row, 384);
+    let value = Edit::Replace(2_501, b"A  EQU 2");
+    let row = (value, Ok(()), 5_000, Some(USE), [1, 3]);
+    assert_looks(&rt, rt.alloc(), &mut session, &row, 384);
     drop(session);
 }

@@ -13,6 +13,8 @@ mod batch_rows;
 #[cfg(test)]
 mod call_rows;
 #[cfg(test)]
+mod chunk_rows;
+#[cfg(test)]
 mod devices;
 #[cfg(test)]
 mod edit_rows;

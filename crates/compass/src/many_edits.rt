@@ -71,13 +71,13 @@ const PERIPHERAL: [&[u8]; 7] = [
 
 /// Numbers that follow one another by a fixed rule.
 #[derive(Clone, Copy)]
-struct Numbers {
-    last: u32,
+pub struct Numbers {
+    pub last: u32,
 }
 
 impl Numbers {
     /// The next number, below a bound.
-    fn below(&mut self, bound: u32) -> u32 {
+    pub fn below(&mut self, bound: u32) -> u32 {
         self.last = self
             .last
             .wrapping_mul(1_664_525)
@@ -132,7 +132,7 @@ fn source_of(alloc: Global, session: &Session) -> Result<Vec<u8>, AllocError> {
 }
 
 /// Asserts that the texts of a session are those that batch assembly writes of its lines.
-fn assert_as_batch(rt: &impl Abort, alloc: Global, at: usize, session: &Session) {
+pub fn assert_as_batch(rt: &impl Abort, alloc: Global, at: usize, session: &Session) {
     let source = source_of(alloc, session).unwrap_or_else(|_| Vec::new(alloc));
     let want = assemble(alloc, &source, Part::All);
     let want = str::from_utf8(&want.text).unwrap_or("");
