@@ -15,7 +15,8 @@ use Rattle.cps_edit.proofs.FrontLemmas.{more-none, none-more}
 use Rattle.cps_edit.proofs.SpliceLemmas.{length-traces_from, take-traces_from, drop-traces_from, traces_from-append, puts-state, still-flags, none-disturbed, AllWereMeant-traces_from}
 use Rattle.cps_edit.proofs.TakenLemmas.{drop_at, merged_nones, length_nones}
 use Rattle.cps_edit.specs.Holds.{holds}
-use Rattle.cps_chunks.specs.Run.{Run, run_of}
+use Rattle.cps_chunks.specs.Run.{run_of}
+use Rattle.cps_chunks.specs.RunGathering.{KeptRun}
 use Rattle.cps_chunks.specs.declared.chunk.Summary.{Summary}
 use Rattle.cps_chunks.specs.declared.chunk.Chunk.{Chunk}
 use Rattle.cps_chunks.specs.Chunks.{WereDone, IsSummed, AreSummed, stands, looks_from, Replays}
@@ -127,7 +128,7 @@ within-part n f g ls l1 l2 os o1 o2 p q r s e there =
 pub stood : (summary : Option Summary) (f : State) (ls : List (List ℕ)) (os : List Trace) → WereDone ls os → IsSummed summary os → stands summary f ≡ true → os ≡ traces_from f ls
 stood None f ls os done is none = cc
 stood (Some s) f ls os done is here =
-    let asks : s.run.asks ≡ (run_of (traces_from done.0 ls)).asks = ap (λ (r : Run). r.asks) is.run ∙ ap (λ ts. (run_of ts).asks) done.1 in
+    let asks : s.run.asks ≡ (run_of (traces_from done.0 ls)).asks = ap (λ (r : KeptRun). r.asks) is.run ∙ ap (λ ts. (run_of ts).asks) done.1 in
     done.1 ∙ sym (run-law done.0 f ls (sym (ap (λ (qs : List Asked). holds qs f) asks) ∙ here)).same
 
 -- ---- chunk by chunk

@@ -1,114 +1,141 @@
 -- A run that is gathered line by line.
-use Rattle.std.proofs.Common.{◌≡◌, suc-ne-zero, refl, sym, ap, ◌∙◌, Bool, true, false, List, [], ◌∷◌, ◌++◌, append_assoc, append-nil, length, reverse, Option, Some, None}
-use Rattle.std.specs.Prelude.{◌||◌, is_some, option_and_then, option_map, IfSome, if◌then◌else◌}
-use Rattle.std.proofs.lemmas.List.{reverse-append}
+use Rattle.std.proofs.Common.{◌≡◌, ℕ, ◌+◌, ◌<◌, refl, sym, ap, subst, ◌∙◌, Bool, true, false, cond, List, [], ◌∷◌, ◌++◌, append_assoc, fold, take, get_or, length, reverse, Option, Some, None}
+use Rattle.std.specs.Prelude.{not, is_some, if◌then◌else◌}
+use Rattle.std.proofs.lemmas.List.{reverse-append, take_more}
 use Rattle.std.specs.Option.{option_or}
 use Rattle.cps_state.specs.declared.key.Key.{Key}
 use Rattle.cps_state.specs.declared.key.Answer.{Answer}
+use Rattle.cps_state.specs.declared.key.Asked.{Asked}
 use Rattle.cps_state.specs.declared.key.Put.{Put}
-use Rattle.cps_state.specs.Course.{last_put, known_in}
-use Rattle.cps_state.specs.Log.{Log, known_of, found_at}
-use Rattle.cps_state.specs.declared.log.Known.{Known}
+use Rattle.cps_state.specs.contracts.key.KeyPartialEq.TheImpl.{eq-value}
+use Rattle.cps_state.specs.Course.{Trace, last_put, known_in}
 use Rattle.cps_state.specs.Keys.{same_key}
-use Rattle.cps_state.proofs.KnownLemmas.{same_key-true, last_put-push}
-use Rattle.cps_chunks.specs.LastPuts.{lasting}
-use Rattle.cps_chunks.specs.RunGathering.{in_front, lasting_before}
+use Rattle.cps_state.proofs.KnownLemmas.{same_key_is, same_key-true, known_in-put, known_in-ask}
+use Rattle.cps_chunks.specs.Run.{Run, with_ask, with_asks, joined}
+use Rattle.std.specs.HashSet.{contains}
+use Rattle.cps_chunks.specs.declared.outside.Outside.{Outside}
+use Rattle.cps_chunks.specs.declared.lasting.Lasting.{Lasting}
+use Rattle.cps_chunks.specs.RunGathering.{IsOutside, IsLasting}
 
--- where none lasts behind them
-pub none-before : (puts : List Put) → lasting_before puts [] ≡ lasting puts
-none-before [] = refl
-none-before (p ∷ puts) = at (none-before puts) (is_some (last_put puts p.key))
+-- one key more
+abbrev pub HasMore : (Key → Bool) → Key → (Key → Bool) → Type 0
+HasMore old key new = (k : Key) → new k ≡ cond (eq-value.it key k) true (old k)
+
+not-false : (b : Bool) → not b ≡ false → b ≡ true
+not-false true is = refl
+not-false false is = cc
+
+not-true : (b : Bool) → not b ≡ true → b ≡ false
+not-true false is = refl
+not-true true is = cc
+
+-- ---- asks
+
+module _ (run : Run) (a : Asked) where
+  knows-more : (old new : Key → Bool) → ((k : Key) → old k ≡ is_some (known_in run.asks run.puts k)) → HasMore old a.key new
+      → (k : Key) → new k ≡ is_some (known_in (with_ask run.puts run.asks a) run.puts k)
+  knows-more old new knew more k =
+      more k ∙ (λ i. cond (same_key_is a.key k i) true (knew k i)) ∙ at (known_in run.asks run.puts a.key) refl (same_key a.key k) refl
+    where
+      at : (o : Option (Option Answer)) → known_in run.asks run.puts a.key ≡ o → (same : Bool) → same_key a.key k ≡ same
+          → cond same true (is_some (known_in run.asks run.puts k)) ≡ is_some (known_in (if is_some o then run.asks else run.asks ++ a ∷ []) run.puts k)
+      at (Some x) known true same = sym (ap is_some (ap (known_in run.asks run.puts) (sym (same_key-true a.key k same)) ∙ known))
+      at (Some x) known false same = refl
+      at None known true same = sym (ap is_some (known_in-ask run.asks run.puts a k known ∙ ap (λ b. if b then Some a.answer else known_in run.asks run.puts k) same))
+      at None known false same = sym (ap is_some (known_in-ask run.asks run.puts a k known ∙ ap (λ b. if b then Some a.answer else known_in run.asks run.puts k) same))
+
+  -- a key that is known is not asked again
+  pub asked-again : (old new : Outside) (is_new : Bool) → IsOutside old run → is_new ≡ not (contains (eq-value.it) old.known a.key) → is_new ≡ false → new.asks.items ≡ old.asks.items → HasMore (contains (eq-value.it) old.known) a.key (contains (eq-value.it) new.known)
+      → IsOutside new (record run { asks = with_ask run.puts run.asks a })
+  asked-again old new is_new is tells known asks more =
+      let there : is_some (known_in run.asks run.puts a.key) ≡ true = sym (is.known a.key) ∙ not-false (contains (eq-value.it) old.known a.key) (sym tells ∙ known) in
+      record {
+        asks = asks ∙ is.asks ∙ sym (ap (λ b. if b then run.asks else run.asks ++ a ∷ []) there);
+        known = knows-more (contains (eq-value.it) old.known) (contains (eq-value.it) new.known) is.known more;
+      }
+
+  pub asked-first : (old new : Outside) (is_new : Bool) (same : Asked) → IsOutside old run → is_new ≡ not (contains (eq-value.it) old.known a.key) → is_new ≡ true → same ≡ a → new.asks.items ≡ old.asks.items ++ same ∷ []
+      → HasMore (contains (eq-value.it) old.known) a.key (contains (eq-value.it) new.known) → IsOutside new (record run { asks = with_ask run.puts run.asks a })
+  asked-first old new is_new same is tells known one asks more =
+      let absent : is_some (known_in run.asks run.puts a.key) ≡ false = sym (is.known a.key) ∙ not-true (contains (eq-value.it) old.known a.key) (sym tells ∙ known) in
+      record {
+        asks = asks ∙ (λ i. is.asks i ++ one i ∷ []) ∙ sym (ap (λ b. if b then run.asks else run.asks ++ a ∷ []) absent);
+        known = knows-more (contains (eq-value.it) old.known) (contains (eq-value.it) new.known) is.known more;
+      }
+
+asks-push : (puts : List Put) (asks more : List Asked) (a : Asked) → with_asks puts asks (more ++ a ∷ []) ≡ with_ask puts (with_asks puts asks more) a
+asks-push puts asks [] a = refl
+asks-push puts asks (b ∷ more) a = asks-push puts (with_ask puts asks b) more a
+
+-- the asks of a line one after another
+pub asks-next : (run : Run) (more : List Asked) (i : ℕ) (a : Asked) (new : Outside) → i < length more → a ≡ get_or more i a
+    → IsOutside new (record run { asks = with_ask run.puts (with_asks run.puts run.asks (take i more)) a }) → IsOutside new (record run { asks = with_asks run.puts run.asks (take (i + 1) more) })
+asks-next run more i a new lt is made =
+    let whole : take (i + 1) more ≡ take i more ++ a ∷ [] = take_more more i a lt ∙ ap (λ b. take i more ++ b ∷ []) (sym is) in
+    subst (λ asks. IsOutside new (record run { asks = asks })) (sym (ap (with_asks run.puts run.asks) whole ∙ asks-push run.puts run.asks (take i more) a)) made
+
+-- ---- puts
+
+put-more : (run : Run) (before : List Put) (p : Put) (old new : Outside) → IsOutside old (record run { puts = before }) → new.asks.items ≡ old.asks.items → HasMore (contains (eq-value.it) old.known) p.key (contains (eq-value.it) new.known)
+    → IsOutside new (record run { puts = before ++ p ∷ [] })
+put-more run before p old new is asks more = record {
+  asks = asks ∙ is.asks;
+  known = λ k. more k ∙ (λ i. cond (same_key_is p.key k i) true (is.known k i)) ∙ at k (same_key p.key k) ∙ sym (ap is_some (known_in-put run.asks before p k));
+}
   where
-    at : lasting_before puts [] ≡ lasting puts → (later : Bool) → (if later || false then lasting_before puts [] else p ∷ lasting_before puts []) ≡ (if later then lasting puts else p ∷ lasting puts)
-    at rest true = rest
-    at rest false = ap (λ ps. p ∷ ps) rest
+    at : (k : Key) (same : Bool) → cond same true (is_some (known_in run.asks before k)) ≡ is_some (if same then Some (Some p.answer) else known_in run.asks before k)
+    at k true = refl
+    at k false = refl
 
--- a key has a put among these and the one in front of them
-either : (p : Put) (last : List Put) (k : Key) → is_some (last_put (in_front p last) k) ≡ (same_key p.key k || is_some (last_put last k))
-either p last k = at (is_some (last_put last p.key)) refl (same_key p.key k) refl
+-- the puts of a line one after another
+pub puts-more : (run : Run) (puts : List Put) (i : ℕ) (p : Put) (old new : Outside) → i < length puts → p ≡ get_or puts i p → IsOutside old (record run { puts = run.puts ++ take i puts })
+    → new.asks.items ≡ old.asks.items → HasMore (contains (eq-value.it) old.known) p.key (contains (eq-value.it) new.known) → IsOutside new (record run { puts = run.puts ++ take (i + 1) puts })
+puts-more run puts i p old new lt is was asks more =
+    let whole : run.puts ++ take (i + 1) puts ≡ (run.puts ++ take i puts) ++ p ∷ [] =
+    ap (λ ps. run.puts ++ ps) (take_more puts i p lt ∙ ap (λ q. take i puts ++ q ∷ []) (sym is)) ∙ sym (append_assoc run.puts (take i puts) (p ∷ [])) in
+    subst (λ ps. IsOutside new (record run { puts = ps })) (sym whole) (put-more run (run.puts ++ take i puts) p old new was asks more)
+
+-- ---- lines
+
+run-push : (run : Run) (ts : List Trace) (t : Trace) → fold joined run (ts ++ t ∷ []) ≡ joined (fold joined run ts) t
+run-push run [] t = refl
+run-push run (u ∷ ts) t = run-push (joined run u) ts t
+
+pub lines-next : (run : Run) (ts : List Trace) (i : ℕ) (t : Trace) (new : Outside) → i < length ts → t ≡ get_or ts i t
+    → IsOutside new (joined (fold joined run (take i ts)) t) → IsOutside new (fold joined run (take (i + 1) ts))
+lines-next run ts i t new lt is made =
+    let whole : take (i + 1) ts ≡ take i ts ++ t ∷ [] = take_more ts i t lt ∙ ap (λ u. take i ts ++ u ∷ []) (sym is) in
+    subst (IsOutside new) (sym (ap (fold joined run) whole ∙ run-push run (take i ts) t)) made
+
+-- ---- puts that last, from the last on
+
+pub last-more : (p : Put) (behind : List Put) (old new : Lasting) (is_last : Bool) → IsLasting old behind → is_last ≡ not (contains (eq-value.it) old.keys p.key) → new.lasts.items ≡ old.lasts.items ++ is_last ∷ []
+    → HasMore (contains (eq-value.it) old.keys) p.key (contains (eq-value.it) new.keys) → IsLasting new (p ∷ behind)
+last-more p behind old new is_last is tells pushed more = record {
+  marks = ap reverse pushed ∙ reverse-append old.lasts.items (is_last ∷ []) ∙ (λ i. (tells ∙ ap not (is.keys p.key)) i ∷ is.marks i);
+  keys = λ k. more k ∙ (λ i. cond (same_key_is p.key k i) true (is.keys k i)) ∙ at (last_put behind k) (same_key p.key k);
+}
   where
-    here : (o : Option Answer) (same : Bool) → is_some (option_or o (if same then Some p.answer else None)) ≡ (same || is_some o)
-    here (Some a) true = refl
-    here (Some a) false = refl
-    here None true = refl
-    here None false = refl
+    at : (o : Option Answer) (same : Bool) → cond same true (is_some o) ≡ is_some (option_or o (if same then Some p.answer else None))
+    at (Some a) true = refl
+    at (Some a) false = refl
+    at None true = refl
+    at None false = refl
 
-    at : (there : Bool) → is_some (last_put last p.key) ≡ there → (same : Bool) → same_key p.key k ≡ same
-        → is_some (last_put (if there then last else p ∷ last) k) ≡ (same || is_some (last_put last k))
-    at true is true same = sym (ap (λ q. is_some (last_put last q)) (same_key-true p.key k same)) ∙ is
-    at true is false same = refl
-    at false is true same = ap (λ b. is_some (option_or (last_put last k) (if b then Some p.answer else None))) same ∙ here (last_put last k) true
-    at false is false same = ap (λ b. is_some (option_or (last_put last k) (if b then Some p.answer else None))) same ∙ here (last_put last k) false
+-- those that were gone through, and those that were not
+pub record GoesBack (lasting : Lasting) (rest all : List Put) : Type 0 where
+  pub behind : List Put
+  pub whole : rest ++ behind ≡ all
+  pub is : IsLasting lasting behind
 
--- the last of the puts goes to those that last
-pub last-before : (puts : List Put) (p : Put) (last : List Put) → lasting_before (puts ++ p ∷ []) last ≡ lasting_before puts (in_front p last)
-last-before [] p last = refl
-last-before (q ∷ puts) p last =
-    let test : (is_some (last_put (puts ++ p ∷ []) q.key) || is_some (last_put last q.key)) ≡ (is_some (last_put puts q.key) || is_some (last_put (in_front p last) q.key)) =
-    ap (λ o. is_some o || is_some (last_put last q.key)) (last_put-push puts p q.key)
-    ∙ orders (last_put puts q.key) (is_some (last_put last q.key)) (same_key p.key q.key)
-    ∙ ap (λ b. is_some (last_put puts q.key) || b) (sym (either p last q.key)) in
-    (λ i. if test i then last-before puts p last i else q ∷ last-before puts p last i)
-  where
-    orders : (o : Option Answer) (b same : Bool) → (is_some (if same then Some p.answer else o) || b) ≡ (is_some o || (same || b))
-    orders (Some a) b true = refl
-    orders (Some a) b false = refl
-    orders None b true = refl
-    orders None b false = refl
+pub goes-back : (old new : Lasting) (rest next : List Put) (p : Put) (all : List Put) → rest ≡ next ++ p ∷ [] → GoesBack old rest all
+    → ((behind : List Put) → IsLasting old behind → IsLasting new (p ∷ behind)) → GoesBack new next all
+goes-back old new rest next p all steps was more = record {
+  behind = p ∷ was.behind;
+  whole = sym (append_assoc next (p ∷ []) was.behind) ∙ ap (λ ps. ps ++ was.behind) (sym steps) ∙ was.whole;
+  is = more was.behind was.is;
+}
 
-pub last-next : (rest next last more puts : List Put) (p : Put) → rest ≡ next ++ p ∷ [] → reverse more ≡ in_front p (reverse last) → lasting_before rest (reverse last) ≡ puts
-    → lasting_before next (reverse more) ≡ puts
-last-next rest next last more puts p left pushed before =
-    ap (lasting_before next) pushed ∙ sym (last-before next p (reverse last)) ∙ sym (ap (λ ps. lasting_before ps (reverse last)) left) ∙ before
-
-pub last-all : (rest last puts : List Put) → length rest ≡ 0 → lasting_before rest (reverse last) ≡ puts → reverse last ≡ puts
-last-all [] last puts none before = before
-last-all (p ∷ rest) last puts some before = absurd (suc-ne-zero (length rest) some)
-
--- ---- whether a put is there
-
-some-reverse : (puts : List Put) (k : Key) → is_some (last_put (reverse puts) k) ≡ is_some (last_put puts k)
-some-reverse [] k = refl
-some-reverse (p ∷ puts) k =
-    ap (λ (qs : List Put). is_some (last_put qs k)) (reverse-append (p ∷ []) puts)
-    ∙ ap is_some (last_put-push (reverse puts) p k)
-    ∙ at (same_key p.key k) (last_put (reverse puts) k) (last_put puts k) (some-reverse puts k)
-  where
-    at : (same : Bool) (o u : Option Answer) → is_some o ≡ is_some u → is_some (if same then Some p.answer else o) ≡ is_some (option_or u (if same then Some p.answer else None))
-    at true o None e = refl
-    at true o (Some a) e = refl
-    at false o None e = e
-    at false o (Some a) e = e
-
-found-some : (log : Log) (k : Key) (r : Option Known) → option_and_then (found_at log) r ≡ known_of log k → IfSome r (λ known. is_some (found_at log known) ≡ true) → is_some r ≡ is_some (known_of log k)
-found-some log k None e there = ap is_some e
-found-some log k (Some known) e there = sym there ∙ ap is_some e
-
-known-alone : (puts : List Put) (k : Key) → is_some (known_in [] puts k) ≡ is_some (last_put puts k)
-known-alone puts k = at (last_put puts k)
-  where
-    at : (o : Option Answer) → is_some (option_or (option_map Some o) None) ≡ is_some o
-    at None = refl
-    at (Some a) = refl
-
-pub put-there : (log : Log) (k : Key) (r : Option Known) → log.asks ≡ [] → option_and_then (found_at log) r ≡ known_of log k → IfSome r (λ known. is_some (found_at log known) ≡ true)
-    → is_some (last_put (reverse log.puts) k) ≡ is_some r
-put-there log k r none e there =
-    some-reverse log.puts k ∙ sym (known-alone log.puts k) ∙ sym (ap (λ asks. is_some (known_in asks log.puts k)) none) ∙ sym (found-some log k r e there)
-
-pub stays : (p : Put) (last : List Put) (b : Bool) → is_some (last_put last p.key) ≡ b → b ≡ true → last ≡ in_front p last
-stays p last b is held = sym (ap (λ t. if t then last else p ∷ last) (is ∙ held))
-
-pub goes_in_front : (p q : Put) (old new : List Put) (b : Bool) → is_some (last_put (reverse old) p.key) ≡ b → b ≡ false → q ≡ p → new ≡ old ++ q ∷ [] → reverse new ≡ in_front p (reverse old)
-goes_in_front p q old new b is absent same pushed =
-    ap reverse pushed ∙ reverse-append old (q ∷ []) ∙ ap (λ r. r ∷ reverse old) same ∙ sym (ap (λ t. if t then reverse old else p ∷ reverse old) (is ∙ absent))
-
--- ---- a list that is put from its end on
-
-pub put-next : (old new left rest all : List Put) (p : Put) → left ≡ rest ++ p ∷ [] → new ≡ old ++ p ∷ [] → old ++ reverse left ≡ all → new ++ reverse rest ≡ all
-put-next old new left rest all p is pushed before =
-    ap (λ ps. ps ++ reverse rest) pushed ∙ append_assoc old (p ∷ []) (reverse rest) ∙ ap (λ ps. old ++ ps) (sym (reverse-append rest (p ∷ [])) ∙ ap reverse (sym is)) ∙ before
-
-pub put-end : (done left all : List Put) → length left ≡ 0 → done ++ reverse left ≡ all → done ≡ all
-put-end done [] all none before = sym (append-nil done) ∙ before
-put-end done (p ∷ left) all none before = absurd (suc-ne-zero (length left) none)
+pub gone-back : (lasting : Lasting) (rest all : List Put) → length rest ≡ 0 → GoesBack lasting rest all → IsLasting lasting all
+gone-back lasting [] all none was = subst (IsLasting lasting) was.whole was.is
+gone-back lasting (p ∷ rest) all some was = cc

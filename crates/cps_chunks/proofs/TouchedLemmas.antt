@@ -20,7 +20,8 @@ use Rattle.cps_edit.specs.Renewed.{nones, flags_from}
 use Rattle.cps_edit.specs.Splice.{Splice, spliced}
 use Rattle.cps_edit.proofs.SpliceLemmas.{take-traces_from, drop-traces_from, still-flags, none-disturbed}
 use Rattle.cps_edit.proofs.TakenLemmas.{length_nones}
-use Rattle.cps_chunks.specs.Run.{Run, run_of}
+use Rattle.cps_chunks.specs.Run.{run_of}
+use Rattle.cps_chunks.specs.RunGathering.{KeptRun}
 use Rattle.cps_chunks.specs.Named.{statements_of}
 use Rattle.cps_chunks.specs.Names.{all_pass}
 use Rattle.cps_chunks.specs.declared.chunk.Summary.{Summary}
@@ -184,7 +185,7 @@ made-behind (suc i) (c ∷ cs) made = made-behind i cs (and_parts (is_some c.sum
 
 stands-is : (summary : Option Summary) (os : List Trace) (f : State) → IsSummed summary os → is_some summary ≡ true → stands summary f ≡ holds (run_of os).asks f
 stands-is None os f is some = cc
-stands-is (Some s) os f is some = ap (λ (r : Run). holds r.asks f) is.run
+stands-is (Some s) os f is some = ap (λ (r : KeptRun). holds r.asks f) is.run
 
 agrees-is : (was now : Resolved) (summary : Option Summary) (os : List Trace) → IsSummed summary os → is_some summary ≡ true
     → agrees summary (same_at was now) ≡ same_named was now (statements_of os)

@@ -10,7 +10,7 @@ use Rattle.cps_edit.specs.Passes.{state_after, traces_from, outcomes_by, Gathers
 use Rattle.cps_edit.specs.Disturbed.{kept, disturbed_from}
 use Rattle.cps_edit.specs.Holds.{holds}
 use Rattle.cps_edit.specs.Renewed.{merged, flags_from, redone_from}
-use Rattle.cps_chunks.specs.LastPuts.{lasting_run}
+use Rattle.cps_chunks.specs.RunGathering.{kept_run}
 use Rattle.cps_chunks.specs.Names.{names_in, all_pass}
 use Rattle.cps_chunks.specs.declared.chunk.Summary.{Summary}
 use Rattle.cps_chunks.specs.declared.chunk.Chunk.{Chunk}
@@ -21,7 +21,7 @@ WereDone lines traces = (state : State) × (traces ≡ traces_from state lines)
 
 -- what was gathered, if anything, is that of lines which did this
 pub record IsSummary (traces : List Trace) (summary : Summary) : Type 0 where
-  pub run : summary.run ≡ lasting_run traces
+  pub run : summary.run ≡ kept_run traces
   pub names : summary.names ≡ names_in traces
 
 abbrev pub IsSummed : Option Summary → List Trace → Type 0

@@ -2,9 +2,8 @@
 use Rattle.std.specs.Prelude.{◌≡◌, false, List, [], ◌∷◌, is_some, if◌then◌else◌}
 use Rattle.std.specs.List.{AllPairs}
 use Rattle.cps_state.specs.declared.key.Put.{Put}
-use Rattle.cps_state.specs.Course.{Trace, last_put}
+use Rattle.cps_state.specs.Course.{last_put}
 use Rattle.cps_state.specs.Keys.{State, same_key, overwritten}
-use Rattle.cps_chunks.specs.Run.{Run, run_of}
 
 -- without those after which another is at the same key
 abbrev pub lasting : List Put → List Put
@@ -17,7 +16,3 @@ LastPutsLaw = (state : State) (puts : List Put) → overwritten state (lasting p
 -- no two of them are at one key
 abbrev pub LastPutsAreOnce : Type 0
 LastPutsAreOnce = (puts : List Put) → AllPairs (λ earlier later. same_key earlier.key later.key ≡ false) (lasting puts)
-
--- the run of lines that did this, with the last of its puts alone
-abbrev pub lasting_run : List Trace → Run
-lasting_run traces = record { asks = (run_of traces).asks; puts = lasting (run_of traces).puts }

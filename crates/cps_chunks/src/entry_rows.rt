@@ -1,10 +1,10 @@
-//! The state in front of an edit, behind two chunks of a few lines and lines that are in none.
+//! What stands in front of an edit, behind two chunks of a few lines and lines that are in none.
 //! What a function holds is dropped by calls, whose proofs stand once.
 ghost use Rattle.std.specs.Prelude.{◌++◌, IfOk};
 ghost use Rattle.cps_chunks.specs.Chunks.{AreSummed};
 
 use super::chunk::{Chunk, InFront, Summary};
-use super::entry::state_in_front;
+use super::entry::Entry;
 use super::run_rows::take_text;
 use cps_pass::{Hashing, Key, Lookup, State, Trace};
 use cps_state::value_of;
@@ -21,17 +21,17 @@ struct Seen {
     c: Option<i64>,
 }
 
-fn setting(state: &State, symbol: &[u8]) -> Option<i64> {
+fn setting<L: Lookup>(state: &L, symbol: &[u8]) -> Option<i64> {
     let value = value_of(state.ask(&Key::Setting(Name::read(symbol)?)))?;
     Some(value.offset)
 }
 
-fn label(state: &State, symbol: &[u8]) -> Option<i64> {
+fn label<L: Lookup>(state: &L, symbol: &[u8]) -> Option<i64> {
     let value = value_of(state.ask(&Key::Label(Name::read(symbol)?)))?;
     Some(value.offset)
 }
 
-fn seen_in(state: &State) -> Seen {
+fn seen_in<L: Lookup>(state: &L) -> Seen {
     Seen {
         t: setting(state, b"T"),
         u: setting(state, b"U"),
@@ -64,9 +64,9 @@ fn find(alloc: Global, traces: &[Trace]) -> Result<Seen, AllocError> {
         chunks: &chunks,
         loose: loose.len(),
     };
-    let state = state_in_front(alloc, Hashing::by(1), in_front, traces)?;
-    let seen = seen_in(&state);
-    drop(state);
+    let entry = Entry::of(alloc, Hashing::by(1), in_front, traces)?;
+    let seen = seen_in(&entry);
+    drop(entry);
     drop(chunks);
     Ok(seen)
 }

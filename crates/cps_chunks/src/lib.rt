@@ -6,10 +6,12 @@ mod chunk_list;
 mod entry;
 #[cfg(test)]
 mod entry_rows;
+mod lasting;
 pub mod laws;
 mod names;
 #[cfg(test)]
 mod names_rows;
+mod outside;
 mod redo;
 mod replay;
 mod run;
@@ -19,7 +21,7 @@ mod summing;
 
 pub use chunk::{Behind, Chunk, InFront, Summary};
 pub use chunk_list::{forget_changed, grow, lengths_in, unsummed};
-pub use entry::state_in_front;
+pub use entry::Entry;
 pub use names::{Names, names_agree};
 pub use redo::Again;
 pub use replay::{replay_behind, replay_chunks};

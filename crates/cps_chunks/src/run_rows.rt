@@ -58,7 +58,7 @@ fn lines_gathered(alloc: Global, traces: &[Trace]) -> Option<usize> {
 fn seen_of(run: &Run, lines: Option<usize>, front: &State, behind: &State) -> Seen {
     Seen {
         lines,
-        keys: run.puts().len(),
+        keys: run.lasts().iter().filter(|is_last| **is_last).count(),
         in_front: run.stands_in(front),
         behind: run.stands_in(behind),
     }

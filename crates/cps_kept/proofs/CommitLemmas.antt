@@ -1,9 +1,9 @@
 -- New items in their places.
-use Rattle.std.proofs.Common.{◌≡◌, ℕ, zero, suc, ◌+◌, ◌<◌, ◌≤◌, refl, sym, ap, ◌∙◌, List, [], ◌∷◌, ◌++◌, append_assoc, length, get_or, insert, take, drop, ◌-◌, Option, arith}
+use Rattle.std.proofs.Common.{◌≡◌, ℕ, zero, suc, ◌+◌, ◌<◌, ◌≤◌, refl, sym, ap, ◌∙◌, List, [], ◌∷◌, ◌++◌, append_assoc, length, get_or, set, insert, take, drop, ◌-◌, Option, arith}
 use Rattle.std.proofs.lemmas.Grind.{common_steps}
 use Rattle.std.proofs.lemmas.List.Edits.{insert-append_right}
 use Rattle.cps_edit.specs.Renewed.{picked, mended}
-use Rattle.std.proofs.lemmas.List.{length-append, length-take-le, take_at, drop_at as behind_front}
+use Rattle.std.proofs.lemmas.List.{length-append, length-take-le, take_at, take_more, set_at, drop_at as behind_front}
 use Rattle.cps_state.specs.Course.{Trace}
 use Rattle.cps_chunks.specs.declared.chunk.Chunk.{Chunk}
 use Rattle.cps_chunks.specs.Chunks.{forgotten}
@@ -49,6 +49,20 @@ module _ {X : Type 0} where
       ∙ insert-append_right (take from T) (drop a F ++ drop from T) from from x long (omega arith)
       ∙ ap (λ n. take from T ++ insert (drop a F ++ drop from T) n x) none
       ∙ ap (λ us. take from T ++ (us ++ drop from T)) (sym split)
+
+  -- one item more in the place of another
+  pub exchange_place : (T F R ts : List X) (a b keep : ℕ) (x : X) → a ≡ b + 1 → b < length F → keep + length F ≤ length T → x ≡ get_or F b x
+      → ts ≡ take (keep + a) T ++ (drop a F ++ R) → set ts (keep + b) x ≡ take (keep + b) T ++ (drop b F ++ R)
+  exchange_place T F R ts a b keep x one lt within is before =
+      let k = keep + b in
+      let at : k < length T = omega (arith, lt, within) in
+      let next : keep + a ≡ k + 1 = omega (arith, one) in
+      let split : drop b F ≡ x ∷ drop a F = drop_at F b x lt is ∙ ap (λ n. x ∷ drop n F) (sym one) in
+      let long : length (take k T) ≡ k = length-take-le k T (omega (arith, at)) in
+      ap (λ us. set us k x)
+      (before ∙ ap (λ n. take n T ++ (drop a F ++ R)) next ∙ ap (λ us. us ++ (drop a F ++ R)) (take_more T k x at) ∙ append_assoc (take k T) (get_or T k x ∷ []) (drop a F ++ R))
+      ∙ set_at (take k T) (get_or T k x) (drop a F ++ R) x k long
+      ∙ ap (λ us. take k T ++ (us ++ R)) (sym split)
 
 -- ---- chunks
 

@@ -44,12 +44,37 @@ pub fn take_over<T: Drop>(items: &mut Vec<T>, from: usize, news: Vec<Option<T>>)
     }
 }
 
-/// Puts items in the place of those after the first `keep` up to the first `from`.
+/// Puts items in the place of those after the first `keep` up to the first `from`. Where as many come as go, no other is moved.
 pub fn put_at<T: Drop>(items: &mut Vec<T>, keep: usize, from: usize, first: Vec<T>)
     requires ordered { keep ≤ from }
     requires within { from ≤ vec_len items.old }
     requires room { vec_len items.old + vec_len first ≤ vec_capacity items.old }
     ensures items { items.new.items ≡ take keep items.old.items ++ (first.items ++ drop from items.old.items) }
+{
+    if first.len() == from - keep {
+        return exchange(items, keep, first);
+    }
+    insert_at(items, from, first);
+    items.drain(keep..from);
+}
+
+/// Puts items in the place of as many after the first `keep`.
+fn exchange<T: Drop>(items: &mut Vec<T>, keep: usize, first: Vec<T>)
+    requires { keep + vec_len first ≤ vec_len items.old }
+    ensures { items.new.items ≡ take keep items.old.items ++ (first.items ++ drop (keep + vec_len first) items.old.items) }
+{
+    let mut first = first;
+    while let Some(item) = first.pop() {
+        let at = keep + first.len();
+        items[at] = item;
+    }
+}
+
+/// Puts items behind the first `from`.
+fn insert_at<T: Drop>(items: &mut Vec<T>, from: usize, first: Vec<T>)
+    requires within { from ≤ vec_len items.old }
+    requires room { vec_len items.old + vec_len first ≤ vec_capacity items.old }
+    ensures { items.new.items ≡ take from items.old.items ++ (first.items ++ drop from items.old.items) }
 {
     let mut first = first;
     while let Some(item) = first.pop() {
@@ -57,7 +82,6 @@ pub fn put_at<T: Drop>(items: &mut Vec<T>, keep: usize, from: usize, first: Vec<
             unreachable!();
         };
     }
-    items.drain(keep..from);
 }
 
 /// Puts new chunks in their places, and forgets what was gathered of those behind them of which a line has something new.

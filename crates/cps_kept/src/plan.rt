@@ -1,12 +1,12 @@
 //! Pass one of an edit, made beside what is kept.
-ghost use Rattle.std.specs.Prelude.{◌≡◌, ◌+◌, ◌≤◌, ◌++◌, [], IfOk, OnOk, OnErr, IfNone, IfSome, length, take, drop, map, is_some};
+ghost use Rattle.std.specs.Prelude.{◌≡◌, ◌+◌, ◌≤◌, ◌++◌, ◌∷◌, [], IfOk, OnOk, OnErr, IfNone, IfSome, length, take, drop, map, is_some};
 ghost use Rattle.cps_state.specs.Keys.{first_state};
 ghost use Rattle.cps_state.specs.Work.{counted_on, raised};
 ghost use Rattle.cps_state.specs.declared.work.Tally.TheVariants.{Ones};
 ghost use Rattle.cps_pass.specs.Expansion.{trace_of};
 ghost use Rattle.cps_final.specs.Finals.{finals_of, final_value};
 ghost use Rattle.cps_final.specs.Resolving.{resolved};
-ghost use Rattle.cps_edit.specs.Passes.{after, state_after, traces_from, traces_of};
+ghost use Rattle.cps_edit.specs.Passes.{state_after, traces_from, traces_of};
 ghost use Rattle.cps_edit.specs.Splice.{splice_at, spliced};
 ghost use Rattle.cps_edit.specs.Disturbed.{ones_of, twos_of};
 ghost use Rattle.cps_edit.specs.Renewed.{mended, redone_parts};
@@ -15,11 +15,10 @@ ghost use Rattle.cps_kept.specs.Looks.{IsSummedAround, first_looks, flags_behind
 
 use crate::in_place::leave_same;
 use crate::spot::Spot;
-use cps_chunks::{replay_behind, state_in_front};
+use cps_chunks::{Entry, replay_behind};
 use cps_edit::Front;
 use cps_final::{Finals, Gathered};
 use cps_pass::{Sheet, Trace, Work, step_over};
-use cps_state::{Lookup, State};
 use cps_text::Line;
 use std::alloc::{AllocError, Global};
 
@@ -125,9 +124,47 @@ impl<'a> Kept<'a> {
         if new.is_empty() {
             return Ok(Vec::new(self.alloc));
         }
+        if new.len() == 1 {
+            return self.step_one(spot, &new[0], work);
+        }
+        let mut front = self.gather(spot.keep, &[], &[])?;
+        front.step_all(new, work)
+    }
+
+    /// Steps one new line, as a list.
+    fn step_one(self, spot: Spot, line: &Line, work: &mut Work) -> Result<Vec<Trace>, AllocError>
+        requires kept { self.traces.now ≡ traces_of self.lines.now }
+        requires within { spot.keep ≤ length self.lines.now }
+        requires around { IsSummedAround self.traces.now spot }
+        ensures traces { IfOk result (λ first. first.items ≡ trace_of line.now (state_after first_state (take spot.entry.keep self.entry.lines.now)) ∷ []) }
+        ensures ones { OnOk result (work.new.ones ≡ counted_on work.old.ones 1) }
+        ensures ones_err { OnErr result (work.new.ones ≤ counted_on work.old.ones 1) }
+        ensures ones_least { work.old.ones ≤ work.new.ones }
+        ensures twos { work.new.twos ≡ work.old.twos }
+        ensures looked { work.new.looked ≡ work.old.looked }
+    {
+        let mut first = Vec::with_capacity(self.alloc, 1)?;
+        let trace = self.step_at(spot, line, work)?;
+        let (trace, _) = trace.into_exact(self.alloc)?;
+        first.push(trace)?;
+        Ok(first)
+    }
+
+    /// What a new line does, over what stands in front of it by the chunks there.
+    fn step_at(self, spot: Spot, line: &Line, work: &mut Work) -> Result<Trace, AllocError>
+        requires kept { self.traces.now ≡ traces_of self.lines.now }
+        requires within { spot.keep ≤ length self.lines.now }
+        requires around { IsSummedAround self.traces.now spot }
+        ensures trace { IfOk result (λ trace. trace ≡ trace_of line.now (state_after first_state (take spot.entry.keep self.entry.lines.now))) }
+        ensures step { OnOk result (work.new ≡ raised Ones work.old) }
+        ensures ones_err { OnErr result (work.new.ones ≤ counted_on work.old.ones 1) }
+        ensures ones_least { work.old.ones ≤ work.new.ones }
+        ensures twos { work.new.twos ≡ work.old.twos }
+        ensures looked { work.new.looked ≡ work.old.looked }
+    {
         let (before, _) = self.traces.split_at(spot.keep);
-        let mut state = state_in_front(self.alloc, self.finals.hashing(), spot.in_front, before)?;
-        step_all(self.alloc, new, &mut state, work)
+        let entry = Entry::of(self.alloc, self.finals.hashing(), spot.in_front, before)?;
+        step_over(self.alloc, work, Sheet::new(self.alloc), line, &entry)
     }
 
     /// Gathers of the first `keep` lines, and of the new ones, which did this.
@@ -145,38 +182,4 @@ impl<'a> Kept<'a> {
         front.pass_over_all(first)?;
         Ok(front)
     }
-}
-
-/// What lines do one after another.
-fn step_all(
-    alloc: Global,
-    lines: &[Line],
-    state: &mut State,
-    work: &mut Work,
-) -> Result<Vec<Trace>, AllocError>
-    ensures traces { IfOk result (λ traces. traces.items ≡ traces_from (⟦<State as Lookup>⟧.answer state.old) lines.now) }
-    ensures ones { OnOk result (work.new.ones ≡ counted_on work.old.ones (length lines.now)) }
-    ensures ones_err { OnErr result (work.new.ones ≤ counted_on work.old.ones (length lines.now)) }
-    ensures ones_least { work.old.ones ≤ work.new.ones }
-    ensures twos { work.new.twos ≡ work.old.twos }
-    ensures looked { work.new.looked ≡ work.old.looked }
-{
-    let mut traces = Vec::with_capacity(alloc, lines.len())?;
-    for line in lines {
-        let trace = step(alloc, line, state, work)?;
-        traces.push(trace)?;
-    }
-    Ok(traces)
-}
-
-/// What a line does, which is put into the state.
-fn step(alloc: Global, line: &Line, state: &mut State, work: &mut Work) -> Result<Trace, AllocError>
-    ensures trace { IfOk result (λ trace. trace ≡ trace_of line.now (⟦<State as Lookup>⟧.answer state.old)) }
-    ensures state { OnOk result (⟦<State as Lookup>⟧.answer state.new ≡ after (⟦<State as Lookup>⟧.answer state.old) line.now) }
-    ensures step { work.new ≡ raised Ones work.old }
-{
-    let trace = step_over(alloc, work, Sheet::new(alloc), line, state)?;
-    let (trace, _) = trace.into_exact(alloc)?;
-    state.apply(&trace)?;
-    Ok(trace)
 }
