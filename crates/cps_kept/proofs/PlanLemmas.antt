@@ -1,11 +1,16 @@
 -- New lines, and what is gathered up to the last of them.
-use Rattle.std.proofs.Common.{◌≡◌, ℕ, sym, ap, ◌∙◌, List, ◌++◌, take}
+use Rattle.std.proofs.Common.{◌≡◌, ℕ, sym, ap, ◌∙◌, List, [], ◌∷◌, ◌++◌, length, get_or, take}
 use Rattle.cps_state.specs.Course.{Trace}
 use Rattle.cps_state.specs.Keys.{State, first_state, overwritten}
 use Rattle.cps_final.specs.Finals.{Finals, finals_of}
 use Rattle.cps_final.specs.Layout.{puts_of}
 use Rattle.cps_edit.specs.Passes.{state_after, traces_from, traces_of}
 use Rattle.cps_edit.proofs.SpliceLemmas.{take-traces_from, traces_from-append, puts-state, gathered-state, state_after-append}
+
+pub one-line : {X : Type 0} (xs : List X) (x : X) → length xs ≡ 1 → x ≡ get_or xs 0 x → x ∷ [] ≡ xs
+one-line [] x long is = cc
+one-line (y ∷ []) x long is = ap (λ z. z ∷ []) is
+one-line (y ∷ z ∷ xs) x long is = cc
 
 module _ (ls : List (List ℕ)) (keep : ℕ) (ts before : List Trace) (were : ts ≡ traces_of ls) (first : before ≡ take keep ts) where
   done-before : before ≡ traces_of (take keep ls)

@@ -14,11 +14,11 @@ split_at-requires c =
     let same : length c.args.self.traces.now ≡ length c.args.self.lines.now = ap length c.requires.kept ∙ length-traces_from first_state c.args.self.lines.now in
     omega (arith, same, c.requires.within)
 
-pub of-entry-requires-clause-within : goal.of-entry-requires-clause-within
-of-entry-requires-clause-within c = omega (arith, c.requires.around.loose_front, c.split_at.ensures.front_len)
+pub of-requires-clause-within : goal.of-requires-clause-within
+of-requires-clause-within c = omega (arith, c.requires.around.loose_front, c.split_at.ensures.front_len)
 
-pub of-entry-requires-clause-summed : goal.of-entry-requires-clause-summed
-of-entry-requires-clause-summed c =
+pub of-requires-clause-summed : goal.of-requires-clause-summed
+of-requires-clause-summed c =
     let spot = c.args.spot in
     rw (front-parts spot.keep spot.in_front.loose c.args.self.traces.now c.split_at.result.0.now c.split_at.ensures.front c.split_at.ensures.front_len) c.requires.around.in_front
 

@@ -5,10 +5,11 @@ use Rattle.cps_edit.specs.Passes.{state_after, traces_from}
 use Rattle.cps_kept.proofs.PlanLemmas.{one-line}
 use Rattle.cps_kept.proofs.plan.Kept.step_new.Goals as goal
 
-pub returns-then-2-clause-traces : goal.returns-then-2-clause-traces
-returns-then-2-clause-traces c =
+pub returns-then-new-eq1-clause-traces : goal.returns-then-new-eq1-clause-traces
+returns-then-new-eq1-clause-traces c =
+    let long : length c.args.new.now ≡ 1 = search rules in
     let s = state_after first_state (take c.args.spot.keep c.args.self.lines.now) in
-    subst (λ (ls : List (List _)). IfOk c.step_one.result (λ first. first.items ≡ traces_from s ls)) (one-line c.args.new.now _ c.index-new.is c.then) c.step_one.ensures.traces
+    subst (λ (ls : List (List _)). IfOk c.step_one.result (λ first. first.items ≡ traces_from s ls)) (one-line c.args.new.now _ long c.index-new-0.is) c.step_one.ensures.traces
 
 pub returns-clause-traces : goal.returns-clause-traces
 returns-clause-traces c =

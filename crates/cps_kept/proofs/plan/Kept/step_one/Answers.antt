@@ -1,6 +1,8 @@
-use Rattle.std.proofs.Common.{◌∷◌, [], List, ap, ◌∙◌}
+use Rattle.std.proofs.Common.{rules, ◌≡◌, ◌∷◌, [], ap, ◌∙◌}
 use Rattle.cps_state.specs.Course.{Trace}
 use Rattle.cps_kept.proofs.plan.Kept.step_one.Goals as goal
 
 pub returns-clause-traces : goal.returns-clause-traces
-returns-clause-traces c = c.in_ok-push.ensures ∙ ap (λ (t : Trace). t ∷ []) (c.in_ok-trace-2.ensures ∙ c.in_ok-trace.ensures.trace)
+returns-clause-traces c =
+    let pushed : c.push.new.self.items ≡ c.in_ok-trace-2.trace ∷ [] = search rules in
+    pushed ∙ ap (λ (t : Trace). t ∷ []) (c.in_ok-trace-2.ensures ∙ c.in_ok-trace.ensures.trace)
