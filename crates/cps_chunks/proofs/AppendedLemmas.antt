@@ -2,7 +2,7 @@
 use Rattle.std.proofs.Common.{arith, ◌≡◌, inl, inr, ℕ, zero, suc, ◌+◌, ◌*◌, ◌-◌, ◌<◌, ◌≤◌, refl, sym, ap, subst, ◌∙◌, add_assoc, zero-add, Bool, true, List, [], ◌∷◌, ◌++◌, append_assoc, append-nil, length, get_or, reverse, take, drop, map, Option, Some}
 use Rattle.std.specs.Prelude.{sum, if◌then◌else◌}
 use Rattle.std.proofs.lemmas.Bool.{cases_lt}
-use Rattle.std.proofs.lemmas.List.{length-append, length-map, take-map, take-take, drop-take, drop-drop, take_at, take_all, drop_all, get_or_default, reverse-append}
+use Rattle.std.proofs.lemmas.List.{length-append, length-map, take-map, take-take, drop-take, drop-drop, take_at, take_all, drop_all, take-append-drop, get_or_default, reverse-append}
 use Rattle.cps_state.specs.Course.{Trace}
 use Rattle.cps_state.specs.Keys.{State, first_state}
 use Rattle.cps_final.specs.Finals.{Named}
@@ -19,7 +19,7 @@ use Rattle.cps_edit.proofs.SpliceLemmas.{length-traces_from}
 use Rattle.cps_edit.proofs.TakenLemmas.{drop_at}
 use Rattle.cps_chunks.specs.declared.chunk.Summary.{Summary}
 use Rattle.cps_chunks.specs.declared.chunk.Chunk.{Chunk}
-use Rattle.cps_chunks.specs.Chunks.{IsSummed, AreSummed, lengths_of, AreMade, agrees, looks_kept}
+use Rattle.cps_chunks.specs.Chunks.{IsSummed, AreSummed, lengths_of, AreMade, AreReady, agrees, looks_kept}
 use Rattle.cps_chunks.specs.Touched.{cut, done_before, touched_from, touched_of}
 use Rattle.cps_chunks.proofs.NamedLemmas.{named-each}
 use Rattle.cps_chunks.proofs.AgainLemmas.{agreed}
@@ -131,11 +131,11 @@ module _ (was now : Resolved) (all : List (List ℕ)) (ts : List Trace) where
 -- ---- an append
 
 module _ (lines : List (List ℕ)) (line : List ℕ) (cs : List Chunk) (ts : List Trace) (done : ts ≡ traces_of lines) (summed : AreSummed cs ts) (chunks : AreChunks (lengths_of cs)) where
-  -- where some chunks have these lines
-  some-touched : (k : ℕ) (c : Chunk) → k + 1 ≡ length cs → c ≡ get_or cs k c → AreMade (take k cs)
-      → 64 + looks_kept (same_at (finals_in lines) (finals_in (lines ++ line ∷ []))) cs ts
-      ≤ 128 * touched_of lines (insertion (length lines) line) (lengths_of cs) (inserted_at (length lines) (lengths_of cs))
-  some-touched k c count is made =
+  -- where some chunks have these lines, one more is touched than of those in front of the last
+  one-more : (k : ℕ) (c : Chunk) → k + 1 ≡ length cs → c ≡ get_or cs k c
+      → touched_from (finals_in lines) (finals_in (spliced lines (insertion (length lines) line))) first_state (cut (take k (lengths_of cs)) (spliced lines (insertion (length lines) line))) (map Some (cut (take k (lengths_of cs)) ts)) + 1
+      ≤ touched_of lines (insertion (length lines) line) (lengths_of cs) (inserted_at (length lines) (lengths_of cs))
+  one-more k c count is =
       let splice = insertion (length lines) line in
       let was = finals_in lines in
       let now = finals_in (spliced lines splice) in
@@ -148,32 +148,53 @@ module _ (lines : List (List ℕ)) (line : List ℕ) (cs : List Chunk) (ts : Lis
       ap lengths_of (ends-with cs k c count is) ∙ lengths-last (take k cs) c ∙ ap (λ ns. ns ++ c.lines ∷ []) (sym first) in
       let grew : news ≡ take k olds ++ grown c.lines [] = ap (λ n. inserted_at n olds) long ∙ inserted.0 ∙ ap (λ ns. ns ++ grown c.lines []) (sym first) in
       let some = (some-second (take k olds) (c.lines ∷ []) (subst AreSome parts (chunks-some olds chunks))).0 in
+      let touched = touched-last was now (spliced lines splice) ts (length lines) c.lines (take k olds) olds news parts grew long some inserted.1 in
+      subst (λ us. touched_from was now first_state (cut (take k olds) (spliced lines splice)) (map Some (cut (take k olds) ts)) + 1
+      ≤ touched_from was now first_state (cut news (spliced lines splice)) (done_before us (stay_in_front (length lines) olds news) (stay_behind (length lines - length lines) olds news) olds news)) done touched
+
+  -- and twice the lines of these are no fewer than those that are looked at, where something was gathered of each in front of the last
+  some-touched : (k : ℕ) (c : Chunk) → k + 1 ≡ length cs → c ≡ get_or cs k c → AreMade (take k cs)
+      → 64 + looks_kept (same_at (finals_in lines) (finals_in (lines ++ line ∷ []))) cs ts
+      ≤ 128 * touched_of lines (insertion (length lines) line) (lengths_of cs) (inserted_at (length lines) (lengths_of cs))
+  some-touched k c count is made =
+      let splice = insertion (length lines) line in
+      let was = finals_in lines in
+      let now = finals_in (spliced lines splice) in
+      let olds = lengths_of cs in
+      let long : length lines ≡ sum olds = sym (ap length done ∙ length-traces_from first_state lines) ∙ summed-long cs ts summed in
       let last : drop k cs ≡ c ∷ [] = drop_at cs k c (omega (arith, count)) is ∙ ap (λ ds. c ∷ ds) (drop_all (k + 1) cs (omega (arith, count))) in
       let before = sum (take k olds) in
-      let begins : before ≤ length lines = omega (arith, long, ap sum parts, sum-append (take k olds) (c.lines ∷ [])) in
+      let begins : before ≤ length lines = omega (arith, long, ap sum (sym (take-append-drop k olds)), sum-append (take k olds) (drop k olds)) in
       let front = front-touched was now lines splice k cs ts done (omega arith) begins (chunks-short olds chunks) summed made in
-      let behind = subst (λ ds. looks_kept (same_at was now) ds (drop before ts) ≤ 64) (sym last) (looks-one (same_at was now) c (drop before ts) inserted.1) in
-      let touched = touched-last was now (spliced lines splice) ts (length lines) c.lines (take k olds) olds news parts grew long some inserted.1 in
-      let all = subst (λ us. touched_from was now first_state (cut (take k olds) (spliced lines splice)) (map Some (cut (take k olds) ts)) + 1
-      ≤ touched_from was now first_state (cut news (spliced lines splice)) (done_before us (stay_in_front (length lines) olds news) (stay_behind (length lines - length lines) olds news) olds news)) done touched in
-      subst (λ ls. 64 + looks_kept (same_at was (finals_in ls)) cs ts ≤ 128 * touched_of lines splice olds news) (spliced-end lines line)
-      (within _ _ _ _ _ (looks-parts (same_at was now) k cs ts) front behind all)
+      let behind = subst (λ ds. looks_kept (same_at was now) ds (drop before ts) ≤ 64) (sym last) (looks-one (same_at was now) c (drop before ts) (inserted-lengths cs k c count is chunks).1) in
+      subst (λ ls. 64 + looks_kept (same_at was (finals_in ls)) cs ts ≤ 128 * touched_of lines splice olds (inserted_at (length lines) olds)) (spliced-end lines line)
+      (within _ _ _ _ _ (looks-parts (same_at was now) k cs ts) front behind (one-more k c count is))
     where
       within : (looked front behind before touched : ℕ) → looked ≡ front + behind → front ≤ 64 * before → behind ≤ 64 → before + 1 ≤ touched → 64 + looked ≤ 128 * touched
       within looked front behind before touched p q r s = omega arith
 
--- the kept lines that an append looks at, and 64 more, where of each chunk but the last one something was gathered
-pub appended-touched : (lines : List (List ℕ)) (line : List ℕ) (cs : List Chunk) (ts : List Trace) → ts ≡ traces_of lines → AreSummed cs ts → AreMade (take (length cs - 1) cs)
+-- the last of some chunks
+last-of : (c : Chunk) (cs : List Chunk) → (last : Chunk) × (last ≡ get_or (c ∷ cs) (length cs) last)
+last-of c cs = (get_or (c ∷ cs) (length cs) c, get_or_default (c ∷ cs) (length cs) c (get_or (c ∷ cs) (length cs) c) (omega arith))
+
+-- an append touches a chunk
+pub append-touches : (lines : List (List ℕ)) (line : List ℕ) (cs : List Chunk) (ts : List Trace) → ts ≡ traces_of lines → AreSummed cs ts → AreChunks (lengths_of cs)
+    → 1 ≤ touched_of lines (insertion (length lines) line) (lengths_of cs) (inserted_at (length lines) (lengths_of cs))
+append-touches lines line [] ts done summed chunks =
+    let one : touched_of lines (insertion (length lines) line) [] (1 ∷ []) ≡ 1 = refl in
+    omega (arith, one)
+append-touches lines line (c ∷ cs) ts done summed chunks =
+    let last = last-of c cs in
+    omega (arith, one-more lines line (c ∷ cs) ts done summed chunks (length cs) last.0 (omega arith) last.1)
+
+-- the kept lines that it looks at, and 64 more, where of each chunk but the last one something was gathered
+pub appended-touched : (lines : List (List ℕ)) (line : List ℕ) (cs : List Chunk) (ts : List Trace) → ts ≡ traces_of lines → AreSummed cs ts → AreReady cs
     → AreChunks (lengths_of cs)
     → 64 + looks_kept (same_at (finals_in lines) (finals_in (lines ++ line ∷ []))) cs ts
     ≤ 128 * touched_of lines (insertion (length lines) line) (lengths_of cs) (inserted_at (length lines) (lengths_of cs))
-appended-touched lines line [] ts done summed made chunks =
-    let one : touched_of lines (insertion (length lines) line) [] (1 ∷ []) ≡ 1 = refl in
-    omega (arith, one)
-appended-touched lines line (c ∷ cs) ts done summed made chunks =
+appended-touched lines line [] ts done summed ready chunks = omega (arith, append-touches lines line [] ts done summed chunks)
+appended-touched lines line (c ∷ cs) ts done summed ready chunks =
     let k = length cs in
-    let last = get_or (c ∷ cs) k c in
-    let count : k + 1 ≡ length (c ∷ cs) = omega arith in
+    let last = last-of c cs in
     let front : length (c ∷ cs) - 1 ≡ k = omega arith in
-    some-touched lines line (c ∷ cs) ts done summed chunks k last count (get_or_default (c ∷ cs) k c last (omega (arith, count)))
-    (subst (λ i. AreMade (take i (c ∷ cs))) front made)
+    some-touched lines line (c ∷ cs) ts done summed chunks k last.0 (omega arith) last.1 (subst (λ i. AreMade (take i (c ∷ cs))) front ready)

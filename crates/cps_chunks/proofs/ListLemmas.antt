@@ -23,6 +23,10 @@ pub summed-long : (cs : List Chunk) (ts : List Trace) → AreSummed cs ts → le
 summed-long [] ts s = ap length s
 summed-long (c ∷ cs) ts s = omega (arith, s.0, summed-long cs (drop c.lines ts) s.2, length-drop c.lines ts, sum-first c.lines (lengths_of cs))
 
+-- as many chunks as have these lengths
+pub same-count : (cs ds : List Chunk) → lengths_of cs ≡ lengths_of ds → length cs ≡ length ds
+same-count cs ds same = sym (length-map cs (λ chunk. chunk.lines)) ∙ ap length same ∙ length-map ds (λ chunk. chunk.lines)
+
 pub summed-append : (cs ds : List Chunk) (ts us : List Trace) → AreSummed cs ts → AreSummed ds us → AreSummed (cs ++ ds) (ts ++ us)
 summed-append [] ds ts us s r = subst (λ (vs : List Trace). AreSummed ds (vs ++ us)) (sym s) r
 summed-append (c ∷ cs) ds ts us s r =

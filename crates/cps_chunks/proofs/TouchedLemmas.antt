@@ -169,7 +169,7 @@ summed-behind (suc i) (c ∷ cs) os summed =
     drop-drop m c.lines os ∙ ap (λ k. drop k os) (sym (sum-cons c.lines (take i (lengths_of cs)))) in
     subst (λ (ts : List Trace). AreSummed (drop i cs) ts) all (summed-behind i cs (drop c.lines os) summed.2)
 
-pub made-front : (i : ℕ) (cs : List Chunk) → AreMade cs → AreMade (take i cs)
+made-front : (i : ℕ) (cs : List Chunk) → AreMade cs → AreMade (take i cs)
 made-front zero cs made = refl
 made-front (suc i) [] made = refl
 made-front (suc i) (c ∷ cs) made =

@@ -1,5 +1,5 @@
 -- For the code that goes through chunks, not part of what a reader believes: what was gathered of their lines, and what was found of them.
-use Rattle.std.specs.Prelude.{◌≡◌, ℕ, ◌+◌, ◌≤◌, Bool, true, false, not, ◌&&◌, List, [], ◌∷◌, length, take, drop, map, is_some, Option, None, Some, IfSome, if◌then◌else◌}
+use Rattle.std.specs.Prelude.{◌≡◌, ℕ, ◌+◌, ◌-◌, ◌≤◌, Bool, true, false, not, ◌&&◌, List, [], ◌∷◌, length, take, drop, map, is_some, Option, None, Some, IfSome, if◌then◌else◌}
 use Rattle.std.specs.List.{list_all}
 use Rattle.cps_state.specs.Course.{Trace}
 use Rattle.cps_state.specs.Keys.{State}
@@ -39,6 +39,10 @@ lengths_of chunks = map (λ chunk. chunk.lines) chunks
 -- of each something was gathered
 abbrev pub AreMade : List Chunk → Type 0
 AreMade chunks = list_all (λ chunk. is_some chunk.summary) chunks ≡ true
+
+-- of each but the last
+abbrev pub AreReady : List Chunk → Type 0
+AreReady chunks = AreMade (take (length chunks - 1) chunks)
 
 -- all that the lines of a chunk asked is known to have the same answers in a state
 abbrev pub stands : Option Summary → State → Bool

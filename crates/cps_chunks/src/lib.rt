@@ -26,4 +26,4 @@ pub use names::{Names, names_agree};
 pub use redo::Again;
 pub use replay::{replay_behind, replay_chunks};
 pub use run::Run;
-pub use summing::sum_up;
+pub use summing::{sum_up, sum_up_front};

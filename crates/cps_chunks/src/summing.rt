@@ -1,6 +1,6 @@
 //! Gathering of the lines of chunks.
-ghost use Rattle.std.specs.Prelude.{◌≡◌, true, is_some, OnOk};
-ghost use Rattle.cps_chunks.specs.Chunks.{IsSummed, AreSummed, AreMade, lengths_of};
+ghost use Rattle.std.specs.Prelude.{◌≡◌, ◌≤◌, true, take, is_some, vec_len, vec_capacity, OnOk};
+ghost use Rattle.cps_chunks.specs.Chunks.{IsSummed, AreSummed, AreMade, AreReady, lengths_of};
 
 use crate::chunk::{Chunk, Summary};
 use cps_state::{Hashing, Trace};
@@ -25,6 +25,30 @@ fn gather(
     Ok(())
 }
 
+/// Gathers of the lines of each of the first chunks, so many, of which nothing is gathered. Where there is no memory, what was gathered so far stands.
+fn sum_up_first(
+    alloc: Global,
+    hashing: Hashing,
+    chunks: &mut Vec<Chunk>,
+    traces: &[Trace],
+    count: usize,
+) -> Result<(), AllocError>
+    requires summed { AreSummed chunks.old.items traces.now }
+    requires within { count ≤ vec_len chunks.old }
+    ensures lengths { lengths_of chunks.new.items ≡ lengths_of chunks.old.items }
+    ensures summed { AreSummed chunks.new.items traces.now }
+    ensures made { OnOk result (AreMade (take count chunks.new.items)) }
+    ensures room { vec_capacity chunks.new ≡ vec_capacity chunks.old }
+{
+    let mut left = traces;
+    for i in 0..count {
+        let (here, behind) = left.split_at(chunks[i].lines);
+        gather(alloc, hashing, &mut chunks[i], here)?;
+        left = behind;
+    }
+    Ok(())
+}
+
 /// Gathers of the lines of each chunk of which nothing is gathered. Where there is no memory, what was gathered so far stands.
 pub fn sum_up(
     alloc: Global,
@@ -37,11 +61,23 @@ pub fn sum_up(
     ensures summed { AreSummed chunks.new.items traces.now }
     ensures made { OnOk result (AreMade chunks.new.items) }
 {
-    let mut left = traces;
-    for i in 0..chunks.len() {
-        let (here, behind) = left.split_at(chunks[i].lines);
-        gather(alloc, hashing, &mut chunks[i], here)?;
-        left = behind;
-    }
-    Ok(())
+    let count = chunks.len();
+    sum_up_first(alloc, hashing, chunks, traces, count)
+}
+
+/// The same of each chunk but the last, which forgets what is gathered of it as soon as a line is put behind it.
+pub fn sum_up_front(
+    alloc: Global,
+    hashing: Hashing,
+    chunks: &mut Vec<Chunk>,
+    traces: &[Trace],
+) -> Result<(), AllocError>
+    requires { AreSummed chunks.old.items traces.now }
+    ensures lengths { lengths_of chunks.new.items ≡ lengths_of chunks.old.items }
+    ensures summed { AreSummed chunks.new.items traces.now }
+    ensures ready { OnOk result (AreReady chunks.new.items) }
+    ensures room { vec_capacity chunks.new ≡ vec_capacity chunks.old }
+{
+    let count = chunks.len().saturating_sub(1);
+    sum_up_first(alloc, hashing, chunks, traces, count)
 }
