@@ -1,7 +1,7 @@
 -- Open lines are gone through, chunk by chunk.
 use Rattle.std.proofs.Common.{arith, ◌≡◌, ℕ, ◌+◌, ◌-◌, ◌<◌, ◌≤◌, sym, ap, subst, ◌∙◌, Bool, true, false, List, [], ◌∷◌, ◌++◌, length, get_or, take, drop}
 use Rattle.std.specs.Prelude.{if◌then◌else◌}
-use Rattle.std.proofs.lemmas.List.{length-drop, length-take-le, drop-drop, get_or-take, get_or-drop}
+use Rattle.std.proofs.lemmas.List.{length-drop, length-take-le, drop-drop, drop_more, get_or-take, get_or-drop}
 use Rattle.cps_state.specs.Course.{Trace}
 use Rattle.cps_state.specs.Work.{counted_on}
 use Rattle.cps_final.specs.Finals.{Named}
@@ -14,6 +14,7 @@ use Rattle.cps_chunks.proofs.AppendedLemmas.{agreed-line}
 use Rattle.cps_kept.specs.declared.open.Open.{Open}
 use Rattle.cps_kept.specs.declared.along.Along.{Along}
 use Rattle.cps_kept.specs.Append.{Test, Covers}
+use Rattle.cps_kept.proofs.OpenLemmas.{none}
 use Rattle.cps_kept.specs.Along.{IsAlong, looks_left, Ascend, GoesAlong}
 
 -- ---- counts
@@ -122,6 +123,11 @@ module _ (was now : Resolved) (traces : List Trace) (along : Along) (looked tota
             goes.count,
           );
     }
+
+  -- the line at a place, where those from there on are left
+  pub along-at : (entries : List Open) (i : ℕ) → i < length entries → GoesAlong was now traces along (drop i entries) looked total
+      → GoesAlong was now traces along (get_or entries i none ∷ drop (i + 1) entries) looked total
+  along-at entries i lt goes = subst (λ (es : List Open). GoesAlong was now traces along es looked total) (drop_more entries i none lt) goes
 
   -- all were gone through
   pub along-end : (entries : List Open) → GoesAlong was now traces along entries looked total → looked ≤ total

@@ -1,5 +1,5 @@
 -- A line behind the last.
-use Rattle.std.proofs.Common.{◌≡◌, ℕ, ◌+◌, ◌≤◌, refl, sym, ap, ◌∙◌, List, [], ◌∷◌, ◌++◌, length, take, drop, map, arith}
+use Rattle.std.proofs.Common.{◌≡◌, inl, inr, ℕ, ◌+◌, ◌*◌, ◌≤◌, refl, sym, ap, ◌∙◌, List, [], ◌∷◌, ◌++◌, length, take, drop, map, arith}
 use Rattle.std.specs.Prelude.{is_some}
 use Rattle.std.proofs.lemmas.List.{take_all, drop_all}
 use Rattle.std.proofs.Math.Seq.{take-append_seam}
@@ -14,10 +14,16 @@ use Rattle.cps_edit.specs.Passes.{state_after, traces_from, traces_of, outcomes_
 use Rattle.cps_edit.specs.Splice.{splice_at, spliced, insertion}
 use Rattle.cps_edit.specs.Disturbed.{kept, disturbed_from, ones_of, twos_of, finals_in}
 use Rattle.cps_edit.specs.Renewed.{flags_from, nones, redone_from, redone_kept}
+use Rattle.cps_edit.specs.Agreeing.{same_at}
+use Rattle.cps_division.specs.Division.{AreChunks, inserted_at}
+use Rattle.cps_chunks.specs.declared.chunk.Chunk.{Chunk}
+use Rattle.cps_chunks.specs.Chunks.{AreSummed, lengths_of, looks_kept}
+use Rattle.cps_chunks.specs.Touched.{touched_of}
 use Rattle.cps_kept.specs.declared.arrival.Change.{Change}
+use Rattle.cps_kept.specs.Along.{FewOrReady}
 use Rattle.cps_kept.specs.Append.{changed}
 use Rattle.cps_edit.proofs.RedoLemmas.{append-outcomes}
-use Rattle.cps_chunks.proofs.AppendedLemmas.{spliced-end}
+use Rattle.cps_chunks.proofs.AppendedLemmas.{spliced-end, append-touches, appended-touched}
 use Rattle.cps_edit.proofs.SpliceLemmas.{length-traces_from, traces_from-append, disturbed-is, gathered-state}
 use Rattle.cps_kept.proofs.WholeLemmas.{twice_is}
 
@@ -55,6 +61,23 @@ twos-first u v by all p r = omega arith
 -- lines that are looked at between the two steps
 pub looked-between : (u v w x a b : ℕ) → v ≡ u → w ≤ counted_on v a → x ≡ w → a ≡ b → x ≤ counted_on u b
 looked-between u v w x a b p q r s = omega arith
+
+pub few-between : (u v w x : ℕ) (cs : List Chunk) → v ≡ u → x ≡ w → FewOrReady v w cs → FewOrReady u x cs
+few-between u v w x cs p q (inl few) = inl (omega (arith, p, q, few))
+few-between u v w x cs p q (inr ready) = inr ready
+
+-- no more than a bound
+under : (u w n most : ℕ) → w ≤ counted_on u n → n ≤ most → w ≤ counted_on u most
+under u w n most p q = omega (arith, p, q)
+
+-- few lines, or those of chunks of which something was gathered: no more than twice those of the chunks that are touched
+pub looked-appended : (lines : List (List ℕ)) (line : List ℕ) (cs : List Chunk) (ts : List Trace) (u w : ℕ) → ts ≡ traces_of lines → AreSummed cs ts → AreChunks (lengths_of cs)
+    → w ≤ counted_on u (64 + looks_kept (same_at (finals_in lines) (finals_in (lines ++ line ∷ []))) cs ts) → FewOrReady u w cs
+    → w ≤ counted_on u (128 * touched_of lines (insertion (length lines) line) (lengths_of cs) (inserted_at (length lines) (lengths_of cs)))
+looked-appended lines line cs ts u w did summed chunks le (inl few) =
+    let some = append-touches lines line cs ts did summed chunks in
+    under u w 64 _ few (omega (arith, some))
+looked-appended lines line cs ts u w did summed chunks le (inr ready) = under u w _ _ le (appended-touched lines line cs ts did summed ready chunks)
 
 pub appended-outcomes : (lines : List (List ℕ)) (line : List ℕ) (traces : List Trace) (trace : Trace) (was now : Finals) (changes : List Change) (outcome : Outcome) (olds : List Outcome)
     → was ≡ finals_of (traces_of lines) → now ≡ finals_of (traces_of (lines ++ line ∷ [])) → traces ++ trace ∷ [] ≡ traces_of (lines ++ line ∷ [])

@@ -11,6 +11,10 @@ use Rattle.cps_kept.specs.Append.{Test, IsOpen, Stands, all_stay, Covers, listed
 use Rattle.cps_edit.proofs.TakenLemmas.{drop_at}
 use Rattle.cps_kept.proofs.SettledLemmas.{and_all, list_all-more}
 
+-- what stands for an entry where there is none
+abbrev pub none : Open
+none = record { at = 0; awaits = None }
+
 stay-append : (test : Test) (ts us : List Trace) → all_stay test ts ≡ true → all_stay test us ≡ true → all_stay test (ts ++ us) ≡ true
 stay-append test ts us a b = list_all-append (λ (t : Trace). test None t.items) ts us ∙ and_all (all_stay test ts) (all_stay test us) a b
 

@@ -1,6 +1,6 @@
 -- One open line more is gone through.
-use Rattle.std.proofs.Common.{◌≡◌, ℕ, ◌+◌, ◌<◌, ◌≤◌, refl, sym, ap, subst, ◌∙◌, Bool, true, false, List, [], ◌∷◌, ◌++◌, append_assoc, append-nil, Option, None, Some, length, get_or, set, take, zero-add, arith}
-use Rattle.std.proofs.lemmas.List.{length-append, take_more}
+use Rattle.std.proofs.Common.{◌≡◌, ℕ, ◌+◌, ◌<◌, ◌≤◌, refl, sym, ap, subst, ◌∙◌, Bool, true, false, List, [], ◌∷◌, ◌++◌, append_assoc, append-nil, Option, None, Some, length, get_or, set, take, drop, zero-add, arith}
+use Rattle.std.proofs.lemmas.List.{length-append, take_more, drop_more, get_or_default}
 use Rattle.std.proofs.lemmas.List.Folds.{list_all-append}
 use Rattle.std.proofs.lemmas.Bool.{and_parts}
 use Rattle.std.specs.Prelude.{IfSome, not, if◌then◌else◌}
@@ -15,7 +15,7 @@ use Rattle.cps_edit.specs.Passes.{outcomes_by}
 use Rattle.cps_edit.specs.Disturbed.{is_redone}
 use Rattle.cps_edit.specs.Renewed.{picked, redone_kept}
 use Rattle.cps_kept.specs.Append.{Test, is_left, all_left, stays, Stands, Covers, listed, Arrives, changed, change_at, with_change, AreWithin, IsThrough}
-use Rattle.cps_kept.proofs.OpenLemmas.{covers-skip, covers-here}
+use Rattle.cps_kept.proofs.OpenLemmas.{none, covers-skip, covers-here}
 use Rattle.cps_edit.proofs.RedoLemmas.{append-outcomes, length-outcomes}
 use Rattle.cps_edit.proofs.ReplayLemmas.{counted-left, counted-before}
 use Rattle.cps_kept.proofs.SettledLemmas.{all-still, outcomes-stay, none-redone, redone-append, and_all, left-same, left-still}
@@ -156,6 +156,15 @@ module _ (was now : Finals) (puts : List Put) (is_fresh : Bool) (arrives : Arriv
                 subst (λ (es : List Open). Covers new 0 es (traces ++ tail)) (sym (append_assoc still (listed stand) tail_entries))
                 (through.opened (listed stand ++ tail_entries) tail (subst (λ (xs : List Trace). Covers new (length before) (listed stand ++ tail_entries) xs) seam skipped));
           }
+
+    -- the open line at a place, where those from there on are left, and what it did
+    pub through-at : (entries : List Open) (i : ℕ) → i < length entries → IsThrough was now (stays is_fresh was.state) (stays is_fresh now.state) traces (drop i entries) changes still twos total
+        → IsThrough was now (stays is_fresh was.state) (stays is_fresh now.state) traces (get_or entries i none ∷ drop (i + 1) entries) changes still twos total
+        × ((t : Trace) → get_or traces (get_or entries i none).at t ≡ get_or traces (get_or entries i none).at (get_or traces (get_or entries i none).at t))
+    through-at entries i lt left =
+        let entry = get_or entries i none in
+        let through = subst (λ (es : List Open). IsThrough was now (stays is_fresh was.state) (stays is_fresh now.state) traces es changes still twos total) (drop_more entries i none lt) left in
+        (through, λ t. get_or_default traces entry.at t (get_or traces entry.at t) (through-bound entry (drop (i + 1) entries) through))
 
     -- all open lines were gone through
     module _ (entries : List Open) (none : entries ≡ []) (through : IsThrough was now (stays is_fresh was.state) (stays is_fresh now.state) traces entries changes still twos total) where

@@ -1,11 +1,12 @@
 -- For the code that appends a line, not part of what a reader believes: how far open lines were gone through, by the chunks that they stand in.
-use Rattle.std.specs.Prelude.{◌≡◌, ℕ, ◌+◌, ◌-◌, ◌<◌, ◌≤◌, Bool, true, List, [], ◌∷◌, length, drop, get_or, if◌then◌else◌}
+use Rattle.std.specs.Prelude.{◌≡◌, ℕ, ◌+◌, ◌-◌, ◌<◌, ◌≤◌, ◌⊎◌, Bool, true, List, [], ◌∷◌, length, drop, get_or, if◌then◌else◌}
 use Rattle.cps_state.specs.Course.{Trace}
 use Rattle.cps_state.specs.Work.{counted_on}
 use Rattle.cps_final.specs.Finals.{Named}
 use Rattle.cps_final.specs.Outcome.{Resolved}
 use Rattle.cps_edit.specs.Agreeing.{same_at, same_named}
-use Rattle.cps_chunks.specs.Chunks.{AreSummed, looks_kept}
+use Rattle.cps_chunks.specs.Chunks.{AreSummed, AreReady, looks_kept}
+use Rattle.cps_chunks.specs.declared.chunk.Chunk.{Chunk}
 use Rattle.cps_kept.specs.declared.open.Open.{Open}
 use Rattle.cps_kept.specs.declared.along.Along.{Along}
 
@@ -19,6 +20,10 @@ pub record IsAlong (was now : Resolved) (along : Along) (next : ℕ) : Type 0 wh
 -- how many lines from one on are compared at most: some before any chunk is asked
 abbrev pub looks_left : (Named → Bool) → Along → ℕ → ℕ
 looks_left passes along next = along.free + ((if along.agrees then 0 else along.end - next) + looks_kept passes along.chunks.now (drop along.end along.traces.now))
+
+-- few lines are looked at, or something is gathered of each chunk but the last
+abbrev pub FewOrReady : ℕ → ℕ → List Chunk → Type 0
+FewOrReady old new chunks = (new ≤ counted_on old 64) ⊎ AreReady chunks
 
 -- entries of lines from one on, in their order
 abbrev pub Ascend : ℕ → List Open → Type 0

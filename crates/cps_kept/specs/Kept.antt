@@ -1,17 +1,12 @@
 -- For the code that makes an edit, not part of what a reader believes: what is kept of a source.
-use Rattle.std.specs.Prelude.{◌≡◌, ◌-◌, ◌<◌, List, length, take, IsTrue, vec_len, vec_capacity}
+use Rattle.std.specs.Prelude.{◌≡◌, ◌<◌, vec_len, vec_capacity}
 use Rattle.cps_division.specs.Division.{AreChunks}
 use Rattle.cps_edit.specs.Passes.{traces_of, outcomes_by}
 use Rattle.cps_edit.specs.Splice.{Splice, splice_at}
 use Rattle.cps_edit.specs.Disturbed.{finals_in}
-use Rattle.cps_chunks.specs.Chunks.{AreSummed, AreMade, lengths_of}
-use Rattle.cps_chunks.specs.declared.chunk.Chunk.{Chunk}
+use Rattle.cps_chunks.specs.Chunks.{AreSummed, lengths_of}
 use Rattle.cps_kept.specs.declared.lists.Lists.{Lists}
 use Rattle.cps_kept.specs.declared.splice.NewLines.{NewLines}
-
--- of each chunk but the last something was gathered
-abbrev pub AreReady : List Chunk → Type 0
-AreReady chunks = AreMade (take (length chunks - 1) chunks)
 
 -- what each line did in pass one, what pass two makes of it, and its chunks
 pub record AreKept (lists : Lists) : Type 0 where
@@ -19,7 +14,6 @@ pub record AreKept (lists : Lists) : Type 0 where
   pub made : lists.outcomes.items ≡ outcomes_by (finals_in lists.lines.items) (traces_of lists.lines.items)
   pub summed : AreSummed lists.chunks.items lists.traces.items
   pub divided : AreChunks (lengths_of lists.chunks.items)
-  pub ready : IsTrue lists.are_ready → AreReady lists.chunks.items
 
 -- there is room for a line more, and for a chunk more
 pub record HasRoom (lists : Lists) : Type 0 where

@@ -14,7 +14,7 @@ use cps_pass::Trace;
 
 /// How many lines are looked at before a chunk is asked. An append touches the last chunk of the division that it makes, so that these are paid for; most
 /// appends look at fewer, and a line is asked sooner than all lines of its chunk.
-const FREE: usize = 64;
+pub const FREE: usize = 64;
 
 /// How far lines were gone through. The chunk of a line is asked once whether all that its lines name has the same final values, and only where one of
 /// them is looked at.

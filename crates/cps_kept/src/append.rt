@@ -1,5 +1,5 @@
 //! A line that is appended: one step of pass one, and pass two of the lines that it changes.
-ghost use Rattle.std.specs.Prelude.{◌≡◌, ◌+◌, ◌≤◌, ◌++◌, ◌∷◌, [], List, IfOk, OnOk, OnErr, length};
+ghost use Rattle.std.specs.Prelude.{◌≡◌, ◌+◌, ◌≤◌, ◌++◌, ◌∷◌, [], List, IfOk, OnOk, OnErr, length, vec_capacity};
 ghost use Rattle.cps_state.specs.Course.{Trace as Course};
 ghost use Rattle.cps_state.specs.Work.{counted_on};
 ghost use Rattle.cps_final.specs.Finals.{finals_of, Gathers};
@@ -8,7 +8,8 @@ ghost use Rattle.cps_edit.specs.Passes.{traces_of, outcomes_by};
 ghost use Rattle.cps_edit.specs.Splice.{insertion};
 ghost use Rattle.cps_edit.specs.Disturbed.{finals_in, ones_of, twos_of};
 ghost use Rattle.cps_edit.specs.Agreeing.{same_at};
-ghost use Rattle.cps_chunks.specs.Chunks.{AreSummed, looks_kept};
+ghost use Rattle.cps_chunks.specs.Chunks.{AreSummed, lengths_of, looks_kept};
+ghost use Rattle.cps_kept.specs.Along.{FewOrReady};
 ghost use Rattle.cps_kept.specs.Append.{changed, AreWithin, Follows, IsAhead};
 
 use crate::arrival::{Arrival, Change, Changed};
@@ -69,14 +70,14 @@ impl Follower {
     pub fn append(
         &mut self,
         kept: Kept,
-        chunks: &[Chunk],
+        chunks: &mut Vec<Chunk>,
         line: &Line,
         work: &mut Work,
     ) -> Result<Append, AllocError>
         requires kept { kept.traces.now ≡ traces_of kept.lines.now }
         requires finals { ⟦<Finals as Gathered>⟧.gathered kept.finals.now ≡ finals_of (traces_of kept.lines.now) }
         requires follows { Follows self.old kept.traces.now }
-        requires summed { AreSummed chunks.now kept.traces.now }
+        requires summed { AreSummed chunks.old.items kept.traces.now }
         ensures traces { IfOk result (λ append. kept.entry.traces.now ++ append.trace ∷ [] ≡ traces_of (kept.entry.lines.now ++ line.now ∷ [])) }
         ensures outcomes { IfOk result (λ append. (olds : List Made) → olds ≡ outcomes_by (finals_in kept.entry.lines.now) kept.entry.traces.now
             → changed append.changes.items olds ++ append.outcome ∷ [] ≡ outcomes_by (finals_in (kept.entry.lines.now ++ line.now ∷ [])) (traces_of (kept.entry.lines.now ++ line.now ∷ []))) }
@@ -89,18 +90,17 @@ impl Follower {
         ensures ones_least { work.old.ones ≤ work.new.ones }
         ensures twos_err { OnErr result (work.new.twos ≤ counted_on work.old.twos (twos_of kept.entry.lines.now (insertion (length kept.entry.lines.now) line.now))) }
         ensures twos_least { work.old.twos ≤ work.new.twos }
-        ensures looked { OnOk result (work.new.looked ≤ counted_on work.old.looked (64 + looks_kept (same_at (finals_in kept.entry.lines.now) (finals_in (kept.entry.lines.now ++ line.now ∷ []))) chunks.now kept.entry.traces.now)) }
+        ensures looked { OnOk result (work.new.looked ≤ counted_on work.old.looked (64 + looks_kept (same_at (finals_in kept.entry.lines.now) (finals_in (kept.entry.lines.now ++ line.now ∷ []))) chunks.new.items kept.entry.traces.now)) }
+        ensures few { OnOk result (FewOrReady work.old.looked work.new.looked chunks.new.items) }
+        ensures lengths { lengths_of chunks.new.items ≡ lengths_of chunks.old.items }
+        ensures room { vec_capacity chunks.new ≡ vec_capacity chunks.old }
+        ensures summed { AreSummed chunks.new.items kept.entry.traces.now }
     {
         let mut follower = replace(self, Follower::new(kept.alloc, kept.finals.hashing()));
         follower.catch_up(kept.traces)?;
         let trace = follower.front.step(line, work)?;
-        let arrival = Arrival::of(kept, chunks, trace.puts(), follower.front.finals());
-        let Changed { changes, open } = arrival.change(
-            follower.open.take(),
-            kept.traces,
-            &trace,
-            work,
-        )?;
+        let arrival = Arrival::of(kept, trace.puts(), follower.front.finals());
+        let Changed { changes, open } = arrival.change(follower.open.take(), chunks, &trace, work)?;
         let outcome = step_two(kept.alloc, work, &trace, follower.front.finals())?;
         follower.open = open;
         *self = follower;

@@ -1,5 +1,5 @@
 //! A line that arrives behind all others, and the kept lines that it changes.
-ghost use Rattle.std.specs.Prelude.{◌≡◌, ◌+◌, ◌<◌, ◌≤◌, ◌++◌, ◌∷◌, [], true, false, List, IfOk, IfSome, OnOk, OnErr, length, take, get_or, if◌then◌else◌, Some as Just};
+ghost use Rattle.std.specs.Prelude.{◌≡◌, ◌+◌, ◌<◌, ◌≤◌, ◌⊎◌, ◌++◌, ◌∷◌, [], true, false, List, IfOk, IfSome, OnOk, OnErr, length, take, get_or, vec_capacity, if◌then◌else◌, Some as Just};
 ghost use Rattle.cps_state.specs.Course.{Trace as Course};
 ghost use Rattle.cps_state.specs.Work.{counted_on};
 ghost use Rattle.cps_state.specs.Keys.{overwritten, same_key};
@@ -12,15 +12,15 @@ ghost use Rattle.cps_edit.specs.Passes.{outcomes_by};
 ghost use Rattle.cps_edit.specs.Disturbed.{is_redone};
 ghost use Rattle.cps_edit.specs.Renewed.{picked, redone_kept};
 ghost use Rattle.cps_edit.specs.Agreeing.{same_at};
-ghost use Rattle.cps_chunks.specs.Chunks.{AreSummed, looks_kept};
-ghost use Rattle.cps_kept.specs.Along.{IsAlong, looks_left};
+ghost use Rattle.cps_chunks.specs.Chunks.{AreSummed, AreReady, lengths_of, looks_kept};
+ghost use Rattle.cps_kept.specs.Along.{IsAlong, looks_left, FewOrReady};
 ghost use Rattle.cps_kept.specs.Append.{are_fresh as all_fresh, is_fresh_at, puts_at, is_left, all_left, is_quiet as quiet, is_settled as settled, stays_before, stays_after, finals_before, finals_after, IsArrival, Stands, Covers, listed, changed, change_at, AreWithin};
 
-use crate::along::Along;
+use crate::along::{Along, FREE};
 use crate::open::{Open, all_lines, entry_of, open_lines, push_entries, push_entry};
 use crate::plan::Kept;
 use crate::quiet::is_quiet;
-use cps_chunks::Chunk;
+use cps_chunks::{Chunk, sum_up_front};
 use cps_edit::Ends;
 use cps_edit::redo::redone;
 use cps_expr::{Names, is_same_name};
@@ -38,11 +38,11 @@ pub struct Change {
     pub outcome: Outcome,
 }
 
-/// A line that arrives behind all others: the chunks of these, what it puts, and the final values before it and with it.
+/// A line that arrives behind all others: what these did, what it puts, and the final values before it and with it.
 #[derive(Clone, Copy)]
 pub struct Arrival<'a> {
     alloc: Global,
-    chunks: &'a [Chunk],
+    traces: &'a [Trace],
     puts: &'a [Put],
     ends: Ends<'a>,
     /// No label that had a value gets one.
@@ -108,17 +108,12 @@ fn is_fresh(key: Key, state: &State) -> bool
 
 impl<'a> Arrival<'a> {
     /// Of a line that puts this, with these final values.
-    pub fn of(
-        kept: Kept<'a>,
-        chunks: &'a [Chunk],
-        puts: &'a [Put],
-        after: &'a Finals,
-    ) -> Arrival<'a>
+    pub fn of(kept: Kept<'a>, puts: &'a [Put], after: &'a Finals) -> Arrival<'a>
         requires { (⟦<Finals as Gathered>⟧.gathered after.now).state ≡ overwritten (⟦<Finals as Gathered>⟧.gathered kept.finals.now).state puts.now }
         ensures arrives { IsArrival result }
         ensures before { finals_before result ≡ ⟦<Finals as Gathered>⟧.gathered kept.entry.finals.now }
         ensures after { finals_after result ≡ ⟦<Finals as Gathered>⟧.gathered after.entry.now }
-        ensures chunks { result.chunks.now ≡ chunks.now }
+        ensures traces { result.traces.now ≡ kept.entry.traces.now }
     {
         let is_fresh = are_fresh(puts, kept.finals.state());
         let ends = Ends {
@@ -127,7 +122,7 @@ impl<'a> Arrival<'a> {
         };
         Arrival {
             alloc: kept.alloc,
-            chunks,
+            traces: kept.traces,
             puts,
             ends,
             is_fresh,
@@ -171,6 +166,7 @@ impl<'a> Arrival<'a> {
         ensures traces { OnOk result (along.new.traces.now ≡ along.old.traces.now) }
         ensures looked { OnOk result (counted_on work.new.looked (looks_left (same_at (resolved self.entry.ends.before.now) (resolved self.entry.ends.after.now)) along.new (at + 1))
             ≤ counted_on work.old.looked (looks_left (same_at (resolved self.entry.ends.before.now) (resolved self.entry.ends.after.now)) along.old at)) }
+        ensures looked_one { OnOk result (work.new.looked ≤ counted_on work.old.looked 1) }
         ensures twos { OnOk result (work.new.twos ≡ counted_on work.old.twos (if is_redone (resolved self.entry.ends.before.now) (resolved self.entry.ends.after.now) false trace.now then 1 else 0)) }
         ensures twos_err { OnErr result (work.new.twos ≤ counted_on work.old.twos (if is_redone (resolved self.entry.ends.before.now) (resolved self.entry.ends.after.now) false trace.now then 1 else 0)) }
         ensures twos_least { work.old.twos ≤ work.new.twos }
@@ -201,6 +197,7 @@ impl<'a> Arrival<'a> {
         ensures traces { OnOk result (along.new.traces.now ≡ along.old.traces.now) }
         ensures looked { OnOk result (counted_on work.new.looked (looks_left (same_at (resolved self.entry.ends.before.now) (resolved self.entry.ends.after.now)) along.new («open».at + 1))
             ≤ counted_on work.old.looked (looks_left (same_at (resolved self.entry.ends.before.now) (resolved self.entry.ends.after.now)) along.old «open».at)) }
+        ensures looked_one { OnOk result (work.new.looked ≤ counted_on work.old.looked 1) }
         ensures twos { OnOk result (work.new.twos ≡ counted_on work.old.twos (if is_redone (resolved self.entry.ends.before.now) (resolved self.entry.ends.after.now) false trace.now then 1 else 0)) }
         ensures twos_err { OnErr result (work.new.twos ≤ counted_on work.old.twos (if is_redone (resolved self.entry.ends.before.now) (resolved self.entry.ends.after.now) false trace.now then 1 else 0)) }
         ensures twos_least { work.old.twos ≤ work.new.twos }
@@ -241,42 +238,57 @@ impl<'a> Arrival<'a> {
         self,
         left: &[Open],
         entries: &[Open],
-        traces: &[Trace],
+        chunks: &[Chunk],
         work: &mut Work,
     ) -> Result<Walked, AllocError>
         requires arrives { IsArrival self }
         requires left { all_left self.puts.now left.now ≡ true }
-        requires covers { Covers (stays_before self) 0 (left.now ++ entries.now) traces.now }
-        requires summed { AreSummed self.chunks.now traces.now }
-        ensures outcomes { IfOk result (λ walked. changed walked.changes.items (outcomes_by (resolved self.entry.ends.before.now) traces.now) ≡ outcomes_by (resolved self.entry.ends.after.now) traces.now) }
-        ensures within { IfOk result (λ walked. AreWithin (length traces.now) walked.changes.items) }
-        ensures opened { IfOk result (λ walked. (rest : List Entry) (tail : List Course) → Covers (stays_after self.entry) (length traces.now) rest tail → Covers (stays_after self.entry) 0 ((left.now ++ walked.entries.items) ++ rest) (traces.now ++ tail)) }
-        ensures twos { OnOk result (work.new.twos ≡ counted_on work.old.twos (redone_kept (resolved self.entry.ends.before.now) (resolved self.entry.ends.after.now) traces.now)) }
-        ensures twos_err { OnErr result (work.new.twos ≤ counted_on work.old.twos (redone_kept (resolved self.entry.ends.before.now) (resolved self.entry.ends.after.now) traces.now)) }
+        requires covers { Covers (stays_before self) 0 (left.now ++ entries.now) self.traces.now }
+        requires summed { AreSummed chunks.now self.traces.now }
+        ensures outcomes { IfOk result (λ walked. changed walked.changes.items (outcomes_by (resolved self.entry.ends.before.now) self.entry.traces.now) ≡ outcomes_by (resolved self.entry.ends.after.now) self.entry.traces.now) }
+        ensures within { IfOk result (λ walked. AreWithin (length self.entry.traces.now) walked.changes.items) }
+        ensures opened { IfOk result (λ walked. (rest : List Entry) (tail : List Course) → Covers (stays_after self.entry) (length self.entry.traces.now) rest tail → Covers (stays_after self.entry) 0 ((left.now ++ walked.entries.items) ++ rest) (self.entry.traces.now ++ tail)) }
+        ensures twos { OnOk result (work.new.twos ≡ counted_on work.old.twos (redone_kept (resolved self.entry.ends.before.now) (resolved self.entry.ends.after.now) self.entry.traces.now)) }
+        ensures twos_err { OnErr result (work.new.twos ≤ counted_on work.old.twos (redone_kept (resolved self.entry.ends.before.now) (resolved self.entry.ends.after.now) self.entry.traces.now)) }
         ensures twos_least { work.old.twos ≤ work.new.twos }
         ensures ones { work.new.ones ≡ work.old.ones }
-        ensures looked { OnOk result (work.new.looked ≤ counted_on work.old.looked (64 + looks_kept (same_at (resolved self.entry.ends.before.now) (resolved self.entry.ends.after.now)) self.entry.chunks.now traces.now)) }
+        ensures looked { OnOk result (work.new.looked ≤ counted_on work.old.looked (64 + looks_kept (same_at (resolved self.entry.ends.before.now) (resolved self.entry.ends.after.now)) chunks.now self.entry.traces.now)) }
+        ensures looked_few { OnOk result (work.new.looked ≤ counted_on work.old.looked (length entries.now)) }
     {
         let mut walked = Walked::new(self.alloc, entries.len())?;
-        let mut along = Along::new(traces, self.chunks);
+        let mut along = Along::new(self.traces, chunks);
         for entry in entries {
-            let looked = self.look(*entry, &traces[entry.at], &mut along, work)?;
+            let looked = self.look(*entry, &self.traces[entry.at], &mut along, work)?;
             walked.note(entry.at, looked)?;
         }
         Ok(walked)
     }
 
+    /// Gathers of each chunk but the last, where so many lines are looked at that chunks are asked.
+    fn make_ready(self, count: usize, chunks: &mut Vec<Chunk>) -> Result<(), AllocError>
+        requires { AreSummed chunks.old.items self.traces.now }
+        ensures lengths { lengths_of chunks.new.items ≡ lengths_of chunks.old.items }
+        ensures room { vec_capacity chunks.new ≡ vec_capacity chunks.old }
+        ensures summed { AreSummed chunks.new.items self.entry.traces.now }
+        ensures ready { OnOk result ((count ≤ 64) ⊎ AreReady chunks.new.items) }
+    {
+        if count <= FREE {
+            return Ok(());
+        }
+        sum_up_front(self.alloc, self.ends.before.hashing(), chunks, self.traces)
+    }
+
     /// The entries of the lines that it may change, where they are known or not.
-    fn entries(self, known: Option<Vec<Open>>, traces: &[Trace]) -> Result<Vec<Open>, AllocError>
-        requires { IfSome known (λ known. Covers (settled (finals_before self).state) 0 known.items traces.now) }
-        ensures { IfOk result (λ entries. Covers (stays_before self.entry) 0 entries.items traces.now) }
+    fn entries(self, known: Option<Vec<Open>>) -> Result<Vec<Open>, AllocError>
+        requires { IfSome known (λ known. Covers (settled (finals_before self).state) 0 known.items self.traces.now) }
+        ensures { IfOk result (λ entries. Covers (stays_before self.entry) 0 entries.items self.entry.traces.now) }
     {
         if !self.is_fresh {
-            return all_lines(self.alloc, traces);
+            return all_lines(self.alloc, self.traces);
         }
         match known {
             Some(entries) => Ok(entries),
-            None => open_lines(self.alloc, traces, self.ends.before),
+            None => open_lines(self.alloc, self.traces, self.ends.before),
         }
     }
 
@@ -288,24 +300,22 @@ impl<'a> Arrival<'a> {
     }
 
     /// The same of a line that changes no final value: it looks at nothing.
-    fn pass_by(
-        self,
-        known: Option<Vec<Open>>,
-        traces: &[Trace],
-        trace: &Trace,
-    ) -> Result<Changed, AllocError>
-        requires before { Gathers (finals_before self) traces.now }
-        requires after { Gathers (finals_after self) (traces.now ++ trace.now ∷ []) }
+    fn pass_by(self, known: Option<Vec<Open>>, trace: &Trace) -> Result<Changed, AllocError>
+        requires before { Gathers (finals_before self) self.traces.now }
+        requires after { Gathers (finals_after self) (self.traces.now ++ trace.now ∷ []) }
         requires quiet { quiet trace.now ≡ true }
-        requires known { IfSome known (λ known. Covers (settled (finals_before self).state) 0 known.items traces.now) }
+        requires known { IfSome known (λ known. Covers (settled (finals_before self).state) 0 known.items self.traces.now) }
         ensures changes { IfOk result (λ made. made.changes.items ≡ []) }
-        ensures opened { IfOk result (λ made. IfSome made.«open» (λ known. Covers (settled (finals_after self.entry).state) 0 known.items (traces.now ++ trace.now ∷ []))) }
+        ensures opened { IfOk result (λ made. IfSome made.«open» (λ known. Covers (settled (finals_after self.entry).state) 0 known.items (self.entry.traces.now ++ trace.now ∷ []))) }
     {
         let changes = Vec::new(self.alloc);
         let open = match known {
             Some(entries) => {
                 let mut entries = entries;
-                push_entry(&mut entries, entry_of(traces.len(), trace, self.ends.after))?;
+                push_entry(
+                    &mut entries,
+                    entry_of(self.traces.len(), trace, self.ends.after),
+                )?;
                 Some(entries)
             }
             None => None,
@@ -317,38 +327,43 @@ impl<'a> Arrival<'a> {
     pub fn change(
         self,
         known: Option<Vec<Open>>,
-        traces: &[Trace],
+        chunks: &mut Vec<Chunk>,
         trace: &Trace,
         work: &mut Work,
     ) -> Result<Changed, AllocError>
         requires arrives { IsArrival self }
-        requires before { Gathers (finals_before self) traces.now }
-        requires after { Gathers (finals_after self) (traces.now ++ trace.now ∷ []) }
-        requires summed { AreSummed self.chunks.now traces.now }
-        requires known { IfSome known (λ known. Covers (settled (finals_before self).state) 0 known.items traces.now) }
-        ensures outcomes { IfOk result (λ made. changed made.changes.items (outcomes_by (resolved self.entry.ends.before.now) traces.now) ≡ outcomes_by (resolved self.entry.ends.after.now) traces.now) }
-        ensures within { IfOk result (λ made. AreWithin (length traces.now) made.changes.items) }
-        ensures opened { IfOk result (λ made. IfSome made.«open» (λ known. Covers (settled (finals_after self.entry).state) 0 known.items (traces.now ++ trace.now ∷ []))) }
-        ensures twos { OnOk result (work.new.twos ≡ counted_on work.old.twos (redone_kept (resolved self.entry.ends.before.now) (resolved self.entry.ends.after.now) traces.now)) }
-        ensures twos_err { OnErr result (work.new.twos ≤ counted_on work.old.twos (redone_kept (resolved self.entry.ends.before.now) (resolved self.entry.ends.after.now) traces.now)) }
+        requires before { Gathers (finals_before self) self.traces.now }
+        requires after { Gathers (finals_after self) (self.traces.now ++ trace.now ∷ []) }
+        requires summed { AreSummed chunks.old.items self.traces.now }
+        requires known { IfSome known (λ known. Covers (settled (finals_before self).state) 0 known.items self.traces.now) }
+        ensures outcomes { IfOk result (λ made. changed made.changes.items (outcomes_by (resolved self.entry.ends.before.now) self.entry.traces.now) ≡ outcomes_by (resolved self.entry.ends.after.now) self.entry.traces.now) }
+        ensures within { IfOk result (λ made. AreWithin (length self.entry.traces.now) made.changes.items) }
+        ensures opened { IfOk result (λ made. IfSome made.«open» (λ known. Covers (settled (finals_after self.entry).state) 0 known.items (self.entry.traces.now ++ trace.now ∷ []))) }
+        ensures twos { OnOk result (work.new.twos ≡ counted_on work.old.twos (redone_kept (resolved self.entry.ends.before.now) (resolved self.entry.ends.after.now) self.entry.traces.now)) }
+        ensures twos_err { OnErr result (work.new.twos ≤ counted_on work.old.twos (redone_kept (resolved self.entry.ends.before.now) (resolved self.entry.ends.after.now) self.entry.traces.now)) }
         ensures twos_least { work.old.twos ≤ work.new.twos }
         ensures ones { work.new.ones ≡ work.old.ones }
-        ensures looked { OnOk result (work.new.looked ≤ counted_on work.old.looked (64 + looks_kept (same_at (resolved self.entry.ends.before.now) (resolved self.entry.ends.after.now)) self.entry.chunks.now traces.now)) }
+        ensures looked { OnOk result (work.new.looked ≤ counted_on work.old.looked (64 + looks_kept (same_at (resolved self.entry.ends.before.now) (resolved self.entry.ends.after.now)) chunks.new.items self.entry.traces.now)) }
+        ensures few { OnOk result (FewOrReady work.old.looked work.new.looked chunks.new.items) }
+        ensures lengths { lengths_of chunks.new.items ≡ lengths_of chunks.old.items }
+        ensures room { vec_capacity chunks.new ≡ vec_capacity chunks.old }
+        ensures summed { AreSummed chunks.new.items self.entry.traces.now }
     {
         if is_quiet(trace) {
-            return self.pass_by(known, traces, trace);
+            return self.pass_by(known, trace);
         }
-        let mut entries = self.entries(known, traces)?;
+        let mut entries = self.entries(known)?;
         let count = self.left_in_front(&entries);
         let (left, behind) = entries.split_at(count);
-        let walked = self.walk(left, behind, traces, work)?;
+        self.make_ready(behind.len(), chunks)?;
+        let walked = self.walk(left, behind, chunks.as_slice(), work)?;
         let Walked {
             changes,
             entries: still,
         } = walked;
         entries.truncate(count);
         push_entries(&mut entries, &still)?;
-        push_entry(&mut entries, self.stand(traces.len(), trace))?;
+        push_entry(&mut entries, self.stand(self.traces.len(), trace))?;
         let open = self.known(entries);
         Ok(Changed { changes, open })
     }

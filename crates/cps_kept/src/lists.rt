@@ -1,18 +1,24 @@
 //! What is kept of the lines of a source.
-ghost use Rattle.std.specs.Prelude.{◌≡◌, ◌++◌, ◌∷◌, [], IfOk, OnOk, length, sum, vec_len};
+ghost use Rattle.std.specs.Prelude.{◌≡◌, ◌*◌, ◌≤◌, ◌++◌, ◌∷◌, [], IfOk, OnOk, OnErr, length, sum, vec_len};
+ghost use Rattle.cps_state.specs.Work.{counted_on};
+ghost use Rattle.cps_final.specs.Finals.{finals_of};
 ghost use Rattle.cps_division.specs.Division.{inserted_at};
 ghost use Rattle.cps_edit.specs.Passes.{traces_of, outcomes_by};
-ghost use Rattle.cps_edit.specs.Disturbed.{finals_in};
+ghost use Rattle.cps_edit.specs.Splice.{insertion};
+ghost use Rattle.cps_edit.specs.Disturbed.{finals_in, ones_of, twos_of};
 ghost use Rattle.cps_chunks.specs.Chunks.{lengths_of};
-ghost use Rattle.cps_kept.specs.Append.{changed, AreWithin};
-ghost use Rattle.cps_kept.specs.Kept.{AreReady, AreKept, HasRoom};
+ghost use Rattle.cps_chunks.specs.Touched.{touched_of};
+ghost use Rattle.cps_kept.specs.Append.{changed, AreWithin, Follows};
+ghost use Rattle.cps_kept.specs.Kept.{AreKept, HasRoom};
 
-use crate::append::Append;
+use crate::append::{Append, Follower};
 use crate::commit::{change_all, make_room_for_one};
-use cps_chunks::{Chunk, grow, lengths_in, sum_up};
+use crate::plan::Kept;
+use cps_chunks::{Chunk, grow, lengths_in};
 use cps_division::laws::an_insertion_divides_again;
-use cps_final::Outcome;
-use cps_pass::{Hashing, Trace};
+use cps_edit::Front;
+use cps_final::{Gathered, Outcome};
+use cps_pass::{Trace, Work};
 use cps_text::Line;
 use std::alloc::{AllocError, Global};
 
@@ -24,8 +30,6 @@ pub struct Lists {
     pub traces: Vec<Trace>,
     pub outcomes: Vec<Outcome>,
     pub chunks: Vec<Chunk>,
-    /// Whether it is known that something was gathered of each chunk but the last.
-    pub are_ready: bool,
 }
 
 impl Lists {
@@ -41,7 +45,6 @@ impl Lists {
             traces: Vec::new(alloc),
             outcomes: Vec::new(alloc),
             chunks: Vec::new(alloc),
-            are_ready: true,
         }
     }
 
@@ -52,42 +55,53 @@ impl Lists {
         lengths_in(self.alloc, &self.chunks)
     }
 
-    /// Room for one line more, and something gathered of each chunk but the last. Where there is no memory, the lines stay as they are, and so does what is kept of them.
-    pub fn make_ready(&mut self, hashing: Hashing) -> Result<(), AllocError>
+    /// Puts a line behind the last, and makes both passes of it; what was gathered of all lines is gathered with it, and what follows is a line behind. Where
+    /// there is no memory, the lines stay as they are, and so does what is kept of them.
+    pub fn append(
+        &mut self,
+        front: &mut Front,
+        follower: &mut Follower,
+        line: Line,
+        work: &mut Work,
+    ) -> Result<(), AllocError>
         requires kept { AreKept self.old }
+        requires gathered { ⟦<Front as Gathered>⟧.gathered front.old ≡ finals_of (traces_of self.old.lines.items) }
+        requires follows { Follows follower.old self.old.traces.items }
         ensures kept { AreKept self.new }
-        ensures lines { self.new.lines.items ≡ self.old.lines.items }
-        ensures traces { self.new.traces.items ≡ self.old.traces.items }
-        ensures lengths { lengths_of self.new.chunks.items ≡ lengths_of self.old.chunks.items }
-        ensures ready { OnOk result (AreReady self.new.chunks.items) }
-        ensures room { OnOk result (HasRoom self.new) }
+        ensures gathered { ⟦<Front as Gathered>⟧.gathered front.new ≡ finals_of (traces_of self.new.lines.items) }
+        ensures follows { Follows follower.new self.new.traces.items }
+        ensures lines { OnOk result (self.new.lines.items ≡ self.old.lines.items ++ line ∷ []) }
+        ensures lengths { OnOk result (lengths_of self.new.chunks.items ≡ inserted_at (length self.old.lines.items) (lengths_of self.old.chunks.items)) }
+        ensures lines_err { OnErr result (self.new.lines.items ≡ self.old.lines.items) }
+        ensures lengths_err { OnErr result (lengths_of self.new.chunks.items ≡ lengths_of self.old.chunks.items) }
+        ensures ones { OnOk result (work.new.ones ≡ counted_on work.old.ones (ones_of self.old.lines.items (insertion (length self.old.lines.items) line))) }
+        ensures twos { OnOk result (work.new.twos ≡ counted_on work.old.twos (twos_of self.old.lines.items (insertion (length self.old.lines.items) line))) }
+        ensures ones_err { OnErr result (work.new.ones ≤ counted_on work.old.ones (ones_of self.old.lines.items (insertion (length self.old.lines.items) line))) }
+        ensures ones_least { work.old.ones ≤ work.new.ones }
+        ensures twos_err { OnErr result (work.new.twos ≤ counted_on work.old.twos (twos_of self.old.lines.items (insertion (length self.old.lines.items) line))) }
+        ensures twos_least { work.old.twos ≤ work.new.twos }
+        ensures looked { OnOk result (work.new.looked ≤ counted_on work.old.looked
+            (128 * touched_of self.old.lines.items (insertion (length self.old.lines.items) line) (lengths_of self.old.chunks.items) (inserted_at (length self.old.lines.items) (lengths_of self.old.chunks.items)))) }
     {
-        self.gather_chunks(hashing)?;
-        self.make_room()
-    }
-
-    /// Gathers of the chunks, unless it is known that this was done.
-    fn gather_chunks(&mut self, hashing: Hashing) -> Result<(), AllocError>
-        requires kept { AreKept self.old }
-        ensures kept { AreKept self.new }
-        ensures lines { self.new.lines.items ≡ self.old.lines.items }
-        ensures traces { self.new.traces.items ≡ self.old.traces.items }
-        ensures lengths { lengths_of self.new.chunks.items ≡ lengths_of self.old.chunks.items }
-        ensures ready { OnOk result (AreReady self.new.chunks.items) }
-    {
-        if !self.are_ready {
-            sum_up(self.alloc, hashing, &mut self.chunks, &self.traces)?;
-            self.are_ready = true;
-        }
+        self.make_room()?;
+        let kept = Kept {
+            alloc: self.alloc,
+            lines: &self.lines,
+            traces: &self.traces,
+            finals: front.finals(),
+        };
+        let made = follower.append(kept, &mut self.chunks, &line, work)?;
+        self.put_last(line, made);
+        follower.swap(front);
         Ok(())
     }
 
+    /// Room for one line more.
     fn make_room(&mut self) -> Result<(), AllocError>
         ensures lines { self.new.lines.items ≡ self.old.lines.items }
         ensures traces { self.new.traces.items ≡ self.old.traces.items }
         ensures outcomes { self.new.outcomes.items ≡ self.old.outcomes.items }
         ensures chunks { self.new.chunks.items ≡ self.old.chunks.items }
-        ensures ready { self.new.are_ready ≡ self.old.are_ready }
         ensures room { OnOk result (HasRoom self.new) }
     {
         make_room_for_one(&mut self.lines)?;
@@ -97,7 +111,7 @@ impl Lists {
     }
 
     /// Puts a line behind the last, with what it makes and what it changed. There is room for it.
-    pub fn append(&mut self, line: Line, made: Append)
+    fn put_last(&mut self, line: Line, made: Append)
         requires kept { AreKept self.old }
         requires traces { self.old.traces.items ++ made.trace ∷ [] ≡ traces_of (self.old.lines.items ++ line ∷ []) }
         requires outcomes { changed made.changes.items self.old.outcomes.items ++ made.outcome ∷ [] ≡ outcomes_by (finals_in (self.old.lines.items ++ line ∷ [])) (traces_of (self.old.lines.items ++ line ∷ [])) }
@@ -118,8 +132,6 @@ impl Lists {
         self.traces.push_reserved(trace);
         self.outcomes.push_reserved(outcome);
         an_insertion_divides_again();
-        let count = self.chunks.len();
         grow(&mut self.chunks);
-        self.are_ready = self.are_ready && self.chunks.len() == count;
     }
 }

@@ -67,7 +67,6 @@ impl Lists {
         ensures looked { OnOk result (work.new.looked ≤ counted_on work.old.looked
             (128 * touched_of self.old.lines.items (splice_of new) (lengths_of self.old.chunks.items) (recut_by recut.entry.now.start recut.entry.now.end recut.entry.now.lengths.items (lengths_of self.old.chunks.items)))) }
     {
-        self.are_ready = false;
         sum_up(self.alloc, finals.hashing(), &mut self.chunks, &self.traces)?;
         let chunks = unsummed(self.alloc, recut.lengths.as_slice())?;
         let spot = self.spot(&new, recut);
@@ -142,7 +141,6 @@ impl Lists {
             ≡ mended edit.second.before.items (take new.keep self.old.outcomes.items) ++ (edit.second.first.items ++ mended edit.second.behind.items (drop new.from self.old.outcomes.items))) }
         ensures chunks { OnOk result (self.new.chunks.items
             ≡ take chunks.start self.old.chunks.items ++ (chunks.chunks.items ++ forgotten (drop chunks.end self.old.chunks.items) (drop chunks.loose edit.plan.news.items))) }
-        ensures ready { self.new.are_ready ≡ self.old.are_ready }
         ensures lines_err { OnErr result (self.new.lines.items ≡ self.old.lines.items) }
         ensures traces_err { OnErr result (self.new.traces.items ≡ self.old.traces.items) }
         ensures outcomes_err { OnErr result (self.new.outcomes.items ≡ self.old.outcomes.items) }

@@ -1,4 +1,8 @@
-use Rattle.std.proofs.Common.{◌≡◌, rules, arith, ap, ◌∙◌, List, length, take, ◌++◌, ◌∷◌, [], subst, sym}
+use Rattle.std.proofs.Common.{◌≡◌, ◌+◌, ◌≤◌, inl, inr, rules, arith, ap, ◌∙◌, List, length, take, ◌++◌, ◌∷◌, [], subst, sym}
+use Rattle.cps_final.specs.Finals.{final_value}
+use Rattle.cps_edit.specs.Agreeing.{same_at}
+use Rattle.cps_chunks.specs.declared.chunk.Chunk.{Chunk}
+use Rattle.cps_chunks.specs.Chunks.{AreSummed, looks_kept}
 use Rattle.cps_kept.specs.declared.open.Open.{Open}
 use Rattle.cps_kept.specs.Append.{stays_before, stays_after, finals_before, finals_after, all_left, Covers, listed}
 use Rattle.cps_kept.proofs.OpenLemmas.{covers-last}
@@ -11,17 +15,20 @@ use Rattle.cps_kept.proofs.arrival.Arrival.change.Goals as goal
 pub returns-then-is_quiet-clause-outcomes : goal.returns-then-is_quiet-clause-outcomes
 returns-then-is_quiet-clause-outcomes c =
     let is_quiet = sym c.is_quiet.ensures ∙ c.if-is_quiet.true in
-    let same = quiet-outcomes c.args.traces.now c.args.trace.now (finals_before c.args.self) (finals_after c.args.self) c.requires.before c.requires.after is_quiet c.args.traces.now in
+    let same = quiet-outcomes c.args.self.traces.now c.args.trace.now (finals_before c.args.self) (finals_after c.args.self) c.requires.before c.requires.after is_quiet c.args.self.traces.now in
     quiet-changes c.pass_by.result (λ (made : Changed). made.changes.items) _ _ same c.pass_by.ensures.changes
 
 pub returns-then-is_quiet-clause-twos : goal.returns-then-is_quiet-clause-twos
 returns-then-is_quiet-clause-twos c =
     let is_quiet = sym c.is_quiet.ensures ∙ c.if-is_quiet.true in
-    let none = quiet-none c.args.traces.now c.args.trace.now (finals_before c.args.self) (finals_after c.args.self) c.requires.before c.requires.after is_quiet c.args.traces.now in
+    let none = quiet-none c.args.self.traces.now c.args.trace.now (finals_before c.args.self) (finals_after c.args.self) c.requires.before c.requires.after is_quiet c.args.self.traces.now in
     on-ok c.pass_by.result (none-more c.args.work.now.twos ∙ ap (counted_on c.args.work.now.twos) (sym none))
 
 pub returns-then-is_quiet-clause-looked : goal.returns-then-is_quiet-clause-looked
 returns-then-is_quiet-clause-looked c = on-ok c.pass_by.result (omega arith)
+
+pub returns-then-is_quiet-clause-few : goal.returns-then-is_quiet-clause-few
+returns-then-is_quiet-clause-few c = on-ok c.pass_by.result (inl (omega arith))
 
 pub walk-requires-clause-left : goal.walk-requires-clause-left
 walk-requires-clause-left c =
@@ -32,12 +39,28 @@ walk-requires-clause-left c =
 pub walk-requires-clause-covers : goal.walk-requires-clause-covers
 walk-requires-clause-covers c =
     let second : c.deref-2.result.now ≡ c.in_ok-entries.entries.items = search rules in
-    subst (λ (es : List Open). Covers (stays_before c.args.self) 0 es c.args.traces.now) (sym second ∙ c.split_at.ensures.by_index.0) c.in_ok-entries.ensures
+    subst (λ (es : List Open). Covers (stays_before c.args.self) 0 es c.args.self.traces.now) (sym second ∙ c.split_at.ensures.by_index.0) c.in_ok-entries.ensures
+
+pub walk-requires-clause-summed : goal.walk-requires-clause-summed
+walk-requires-clause-summed c =
+    subst (λ (cs : List Chunk). AreSummed cs c.args.self.traces.now) (sym c.as_slice.ensures.value) c.make_ready.ensures.summed
+
+pub returns-clause-looked : goal.returns-clause-looked
+returns-clause-looked c =
+    subst (λ (cs : List Chunk). c.walk.new.work.looked ≤ counted_on c.args.work.now.looked (64 + looks_kept (same_at (final_value (finals_before c.args.self)) (final_value (finals_after c.args.self))) cs c.args.self.traces.now))
+    c.as_slice.ensures.value c.in_ok-walked.ensures.looked
+
+pub returns-clause-few : goal.returns-clause-few
+returns-clause-few c =
+    elim c.in_ok-make_ready.ensures.ready [
+      | inl small ↦ inl (omega (arith, small, c.in_ok-walked.ensures.looked_few))
+      | inr ready ↦ inr ready
+    ]
 
 pub returns-clause-opened : goal.returns-clause-opened
 returns-clause-opened c =
     let test = stays_after c.args.self in
-    let traces = c.args.traces.now in
+    let traces = c.args.self.traces.now in
     let trace = c.args.trace.now in
     let still = c.in_ok-walked.walked.entries.items in
     let second : c.deref-2.result.now ≡ c.in_ok-entries.entries.items = search rules in

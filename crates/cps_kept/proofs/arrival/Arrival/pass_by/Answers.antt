@@ -10,7 +10,7 @@ pub returns-clause-opened : goal.returns-clause-opened
 returns-clause-opened c =
     let was = finals_before c.args.self in
     let now = finals_after c.args.self in
-    let traces = c.args.traces.now in
+    let traces = c.args.self.traces.now in
     let trace = c.args.trace.now in
     let all = traces ++ trace ∷ [] in
     elim c.match-known.branch [

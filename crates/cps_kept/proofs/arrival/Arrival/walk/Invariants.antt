@@ -1,4 +1,4 @@
-use Rattle.std.proofs.Common.{◌≡◌, ◌+◌, ◌≤◌, ◌++◌, drop}
+use Rattle.std.proofs.Common.{◌≡◌, ◌+◌, ◌-◌, ◌≤◌, ◌++◌, length, drop}
 use Rattle.cps_state.specs.Work.{counted_on}
 use Rattle.cps_final.specs.Resolving.{resolved}
 use Rattle.cps_edit.specs.Renewed.{redone_kept}
@@ -10,10 +10,11 @@ use Rattle.cps_kept.proofs.arrival.Arrival.walk.Given as goal
 
 abbrev pub invariant-loop-entry : goal.invariant-loop-entry
 invariant-loop-entry l = record {
-  through : IsThrough (finals_before l.self) (finals_after l.self) (stays_before l.self) (stays_after l.self) l.traces (drop l.entry-index l.entries) l.walked.changes.items (l.left ++ l.walked.entries.items) l.work.twos
-      (counted_on l.fn.work.twos (redone_kept (resolved l.self.ends.before.now) (resolved l.self.ends.after.now) l.traces));
-  along : GoesAlong (resolved l.self.ends.before.now) (resolved l.self.ends.after.now) l.traces l.along (drop l.entry-index l.entries) l.work.looked
-      (counted_on l.fn.work.looked (64 + looks_kept (same_at (resolved l.self.ends.before.now) (resolved l.self.ends.after.now)) l.self.chunks.now l.traces));
+  through : IsThrough (finals_before l.self) (finals_after l.self) (stays_before l.self) (stays_after l.self) l.self.traces.now (drop l.entry-index l.entries) l.walked.changes.items (l.left ++ l.walked.entries.items) l.work.twos
+      (counted_on l.fn.work.twos (redone_kept (resolved l.self.ends.before.now) (resolved l.self.ends.after.now) l.self.traces.now));
+  along : GoesAlong (resolved l.self.ends.before.now) (resolved l.self.ends.after.now) l.self.traces.now l.along (drop l.entry-index l.entries) l.work.looked
+      (counted_on l.fn.work.looked (64 + looks_kept (same_at (resolved l.self.ends.before.now) (resolved l.self.ends.after.now)) l.chunks l.self.traces.now));
+  looked : counted_on l.work.looked (length l.entries - l.entry-index) ≤ counted_on l.fn.work.looked (length l.entries);
   ones : l.work.ones ≡ l.fn.work.ones;
   least : l.fn.work.twos ≤ l.work.twos;
 }

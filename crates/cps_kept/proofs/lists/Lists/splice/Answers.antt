@@ -18,7 +18,7 @@ use Rattle.cps_chunks.specs.Chunks.{AreSummed, lengths_of, all_unsummed, forgott
 use Rattle.cps_chunks.specs.Recuts.{Recuts}
 use Rattle.cps_chunks.specs.Touched.{touched_of}
 use Rattle.cps_kept.specs.Kept.{splice_of}
-use Rattle.cps_kept.proofs.KeptLemmas.{kept-of, kept-still, not-known}
+use Rattle.cps_kept.proofs.KeptLemmas.{kept-of, kept-still}
 use Rattle.cps_kept.proofs.SpotLemmas.{StandsIn, summed-around, looked-touched, lengths-now, summed-now}
 use Rattle.cps_kept.proofs.lists.Lists.splice.Goals as goal
 
@@ -78,7 +78,7 @@ returns-in_err-front-clause-kept c =
     let put = c.in_err-front.ensures in
     kept-still lists _ c.requires.kept put.lines_err put.traces_err put.outcomes_err
     (subst (λ cs. AreSummed cs lists.traces.items) (sym put.chunks_err) (subst (AreSummed c.sum_up.new.chunks.items) c.deref.ensures.value c.sum_up.ensures.summed))
-    (ap lengths_of put.chunks_err ∙ c.sum_up.ensures.lengths) (not-known _ _ put.ready)
+    (ap lengths_of put.chunks_err ∙ c.sum_up.ensures.lengths)
 
 pub returns-clause-twos : goal.returns-clause-twos
 returns-clause-twos c =
@@ -127,7 +127,7 @@ returns-clause-kept c =
     recuts (subst (AreSummed cs) c.deref.ensures.value c.sum_up.ensures.summed) (made.first ∙ ap length n) at.loose_behind in
     let lengths = lengths-now lists.lines.items splice start end c.spot-spot.result.behind.loose ns cs c.commit.new.self.chunks.items c.in_ok-chunks.chunks.items edit.plan.news.items put.chunks come in
     kept-of _ all (traces_of all) (outcomes_by (finals_in all) (traces_of all)) put.lines (put.traces ∙ did) outcomes refl refl (subst (AreSummed c.commit.new.self.chunks.items) did summed)
-    (subst AreChunks (sym lengths) recuts.made) (not-known _ _ put.ready)
+    (subst AreChunks (sym lengths) recuts.made)
 
 pub returns-clause-looked : goal.returns-clause-looked
 returns-clause-looked c =
