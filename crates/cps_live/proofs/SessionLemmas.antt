@@ -79,7 +79,3 @@ recuts-told lines lengths told splice start end before ns same division order wi
 -- so many steps are at most so many
 pub stepped_up_to : (ones twos : ℕ) (old new : Counts) → new.ones ≡ counted_on old.ones ones → new.twos ≡ counted_on old.twos twos → HaveSteppedUpTo ones twos old new
 stepped_up_to ones twos old new first second = record { first = omega (arith, first); second = omega (arith, second); first_kept = omega (arith, first); second_kept = omega (arith, second) }
-
--- no more than a bound
-pub under : (u w n most : ℕ) → w ≤ counted_on u n → n ≤ most → w ≤ counted_on u most
-under u w n most p q = omega (arith, p, q)

@@ -15,7 +15,7 @@ use cps_division::laws::{a_deletion_divides_again, an_insertion_divides_again};
 use cps_division::{Recut, recut_deletion, recut_insertion, recut_replacement};
 use cps_edit::Front;
 use cps_final::{Finals, Gathered, Outcome};
-use cps_kept::{Follower, Kept, Lists, NewLines};
+use cps_kept::{Follower, Lists, NewLines};
 use cps_list::{Part, View, make_text};
 use cps_pass::{Hashing, Work};
 use cps_text::Line;
@@ -280,22 +280,12 @@ impl Session {
         ensures work { WorkOfEdit result self.old.lines (insertion (length self.old.lines) line) work.old work.new }
         ensures looked { LooksOfEdit result self.old self.new (insertion (length self.old.lines) line) work.old work.new }
     {
-        let hashing = self.front.finals().hashing();
-        let Ok(()) = self.lists.make_ready(hashing) else {
+        let made = self
+            .lists
+            .append(&mut self.front, &mut self.follower, line, work);
+        let Ok(()) = made else {
             return Err(EditFault::Memory);
         };
-        let kept = Kept {
-            alloc: self.alloc,
-            lines: &self.lists.lines,
-            traces: &self.lists.traces,
-            finals: self.front.finals(),
-        };
-        let chunks = &self.lists.chunks;
-        let Ok(made) = self.follower.append(kept, chunks, &line, work) else {
-            return Err(EditFault::Memory);
-        };
-        self.lists.append(line, made);
-        self.follower.swap(&mut self.front);
         Ok(())
     }
 
