@@ -1,7 +1,8 @@
 -- A run that is gathered line by line.
-use Rattle.std.proofs.Common.{◌≡◌, ℕ, ◌+◌, ◌<◌, refl, sym, ap, subst, ◌∙◌, Bool, true, false, cond, List, [], ◌∷◌, ◌++◌, append_assoc, fold, take, get_or, length, reverse, Option, Some, None}
+use Rattle.std.proofs.Common.{◌≡◌, ℕ, ◌+◌, ◌<◌, refl, sym, ap, subst, ◌∙◌, Bool, true, false, cond, List, [], ◌∷◌, ◌++◌, append_assoc, append-nil, fold, take, get_or, length, reverse, Option, Some, None}
 use Rattle.std.specs.Prelude.{not, is_some, if◌then◌else◌}
 use Rattle.std.proofs.lemmas.List.{reverse-append, take_more}
+use Rattle.std.proofs.lemmas.Grind.{flat_map-append}
 use Rattle.std.specs.Option.{option_or}
 use Rattle.cps_state.specs.declared.key.Key.{Key}
 use Rattle.cps_state.specs.declared.key.Answer.{Answer}
@@ -11,6 +12,7 @@ use Rattle.cps_state.specs.contracts.key.KeyPartialEq.TheImpl.{eq-value}
 use Rattle.cps_state.specs.Course.{Trace, last_put, known_in}
 use Rattle.cps_state.specs.Keys.{same_key}
 use Rattle.cps_state.proofs.KnownLemmas.{same_key_is, same_key-true, known_in-put, known_in-ask}
+use Rattle.cps_final.specs.Layout.{puts_of}
 use Rattle.cps_chunks.specs.Run.{Run, with_ask, with_asks, joined}
 use Rattle.std.specs.HashSet.{contains}
 use Rattle.cps_chunks.specs.declared.outside.Outside.{Outside}
@@ -139,3 +141,15 @@ goes-back old new rest next p all steps was more = record {
 pub gone-back : (lasting : Lasting) (rest all : List Put) → length rest ≡ 0 → GoesBack lasting rest all → IsLasting lasting all
 gone-back lasting [] all none was = subst (IsLasting lasting) was.whole was.is
 gone-back lasting (p ∷ rest) all some was = cc
+
+-- the puts of a line at once
+pub line-back : (old new : Lasting) (rest next : List Trace) (t : Trace) (all : List Put) → rest ≡ next ++ t ∷ [] → GoesBack old (puts_of rest) all
+    → ((behind : List Put) → IsLasting old behind → IsLasting new (t.puts ++ behind)) → GoesBack new (puts_of next) all
+line-back old new rest next t all steps was more =
+    let parts : puts_of rest ≡ puts_of next ++ t.puts =
+    ap puts_of steps ∙ flat_map-append (λ (u : Trace). u.puts) next (t ∷ []) ∙ ap (λ ps. puts_of next ++ ps) (append-nil t.puts) in
+    record {
+      behind = t.puts ++ was.behind;
+      whole = sym (append_assoc (puts_of next) t.puts was.behind) ∙ ap (λ ps. ps ++ was.behind) (sym parts) ∙ was.whole;
+      is = more was.behind was.is;
+    }

@@ -19,22 +19,30 @@ pub struct Lasting {
 pub fn lasts_of(alloc: Global, hashing: Hashing, traces: &[Trace]) -> Result<Vec<bool>, AllocError>
     ensures { IfOk result (λ marks. marks.items ≡ lasts (puts_of traces.now)) }
 {
-    let mut lasting = Lasting::new(alloc, hashing);
+    let mut lasting = Lasting::new(alloc, hashing, put_count(traces))?;
     for trace in traces.iter().rev() {
         lasting.add_line(trace.puts())?;
     }
     Ok(lasting.into_lasts())
 }
 
+/// How often lines put something.
+fn put_count(traces: &[Trace]) -> usize {
+    let mut count: usize = 0;
+    for trace in traces {
+        count = count.saturating_add(trace.puts().len());
+    }
+    count
+}
+
 impl Lasting {
-    /// Of no put. Takes no memory.
-    fn new(alloc: Global, hashing: Hashing) -> Lasting
-        ensures { IsLasting result [] }
+    /// Of no put, with room for so many.
+    fn new(alloc: Global, hashing: Hashing, count: usize) -> Result<Lasting, AllocError>
+        ensures { IfOk result (λ lasting. IsLasting lasting []) }
     {
-        Lasting {
-            keys: HashSet::with_hasher(alloc, hashing),
-            lasts: Vec::new(alloc),
-        }
+        let keys = HashSet::with_capacity_and_hasher(alloc, count, hashing)?;
+        let lasts = Vec::with_capacity(alloc, count)?;
+        Ok(Lasting { keys, lasts })
     }
 
     /// Which last, from the first put on.

@@ -22,22 +22,31 @@ pub fn outside_asks(
 ) -> Result<Vec<Asked>, AllocError>
     ensures { IfOk result (λ asks. asks.items ≡ (run_of traces.now).asks) }
 {
-    let mut outside = Outside::new(alloc, hashing);
+    let mut outside = Outside::new(alloc, hashing, told_count(traces))?;
     for trace in traces {
         outside.add_line(trace)?;
     }
     Ok(outside.into_asks())
 }
 
+/// How often lines asked or put a key.
+fn told_count(traces: &[Trace]) -> usize {
+    let mut count: usize = 0;
+    for trace in traces {
+        count = count.saturating_add(trace.asks().len());
+        count = count.saturating_add(trace.puts().len());
+    }
+    count
+}
+
 impl Outside {
-    /// Of no line. Takes no memory.
-    fn new(alloc: Global, hashing: Hashing) -> Outside
-        ensures { IsOutside result empty_run }
+    /// Of no line, with room for so many keys.
+    fn new(alloc: Global, hashing: Hashing, count: usize) -> Result<Outside, AllocError>
+        ensures { IfOk result (λ outside. IsOutside outside empty_run) }
     {
-        Outside {
-            known: HashSet::with_hasher(alloc, hashing),
-            asks: Vec::new(alloc),
-        }
+        let known = HashSet::with_capacity_and_hasher(alloc, count, hashing)?;
+        let asks = Vec::new(alloc);
+        Ok(Outside { known, asks })
     }
 
     /// All that was asked, in a list without room for more.
