@@ -9,11 +9,12 @@ use Rattle.cps_final.specs.Outcome.{Resolved}
 use Rattle.cps_edit.specs.Agreeing.{same_at, same_named}
 use Rattle.cps_chunks.specs.declared.chunk.Chunk.{Chunk}
 use Rattle.cps_chunks.specs.Chunks.{IsSummed, AreSummed, agrees, looks_kept}
-use Rattle.cps_chunks.proofs.ChunkLemmas.{summed-next}
+use Rattle.cps_chunks.proofs.ChunkLemmas.{summed-next, under}
 use Rattle.cps_chunks.proofs.AppendedLemmas.{agreed-line}
 use Rattle.cps_kept.specs.declared.open.Open.{Open}
 use Rattle.cps_kept.specs.declared.along.Along.{Along}
-use Rattle.cps_kept.specs.Append.{Test, Covers}
+use Rattle.cps_state.specs.declared.key.Put.{Put}
+use Rattle.cps_kept.specs.Append.{Test, Covers, is_left, not_left}
 use Rattle.cps_kept.proofs.OpenLemmas.{none}
 use Rattle.cps_kept.specs.Along.{IsAlong, looks_left, Ascend, GoesAlong}
 
@@ -132,3 +133,10 @@ module _ (was now : Resolved) (traces : List Trace) (along : Along) (looked tota
   -- all were gone through
   pub along-end : (entries : List Open) → GoesAlong was now traces along entries looked total → looked ≤ total
   along-end entries goes = omega (arith, goes.count)
+
+-- one entry more was gone through: a line is looked at unless it is left
+pub not_left-next : (puts : List Put) (u v e : ℕ) (entries : List Open) (i : ℕ) → i < length entries → v ≤ counted_on u (if is_left (get_or entries i none).awaits puts then 0 else 1)
+    → counted_on u (not_left puts (drop i entries)) ≤ e → counted_on v (not_left puts (drop (i + 1) entries)) ≤ e
+not_left-next puts u v e entries i lt one before =
+    under u v e (if is_left (get_or entries i none).awaits puts then 0 else 1) (not_left puts (drop (i + 1) entries)) one
+    (subst (λ n. counted_on u n ≤ e) (ap (not_left puts) (drop_more entries i none lt)) before)

@@ -1,5 +1,5 @@
 -- For the code that appends a line, not part of what a reader believes: which kept lines an append can still change.
-use Rattle.std.specs.Prelude.{◌≡◌, ℕ, ◌+◌, ◌<◌, ◌≤◌, Bool, true, false, not, ◌&&◌, ◌||◌, List, [], ◌∷◌, ◌++◌, length, take, set, fold, is_none, Option, None, Some, IfSome}
+use Rattle.std.specs.Prelude.{◌≡◌, ℕ, ◌+◌, ◌<◌, ◌≤◌, Bool, true, false, not, ◌&&◌, ◌||◌, List, [], ◌∷◌, ◌++◌, length, take, set, fold, is_none, Option, None, Some, IfSome, if◌then◌else◌}
 use Rattle.std.specs.List.{list_all, list_any}
 use Rattle.cps_text.specs.declared.name.Name.{Name}
 use Rattle.cps_expr.specs.declared.value.Value.{Value}
@@ -74,6 +74,11 @@ is_left (Some name) puts = not (puts_at (key.Label name) puts)
 -- entries of which each is left
 abbrev pub all_left : List Put → List Open → Bool
 all_left puts entries = list_all (λ (entry : Open). is_left entry.awaits puts) entries
+
+-- how many entries are not left
+abbrev pub not_left : List Put → List Open → ℕ
+not_left puts [] = 0
+not_left puts (entry ∷ entries) = (if is_left entry.awaits puts then 0 else 1) + not_left puts entries
 
 -- it is no label and no counter
 abbrev pub is_quiet_key : Key → Bool

@@ -14,7 +14,7 @@ ghost use Rattle.cps_edit.specs.Renewed.{picked, redone_kept};
 ghost use Rattle.cps_edit.specs.Agreeing.{same_at};
 ghost use Rattle.cps_chunks.specs.Chunks.{AreSummed, AreReady, lengths_of, looks_kept};
 ghost use Rattle.cps_kept.specs.Along.{IsAlong, looks_left, FewOrReady};
-ghost use Rattle.cps_kept.specs.Append.{are_fresh as all_fresh, is_fresh_at, puts_at, is_left, all_left, is_quiet as quiet, is_settled as settled, stays_before, stays_after, finals_before, finals_after, IsArrival, Stands, Covers, listed, changed, change_at, AreWithin};
+ghost use Rattle.cps_kept.specs.Append.{are_fresh as all_fresh, is_fresh_at, puts_at, is_left, all_left, not_left, is_quiet as quiet, is_settled as settled, stays_before, stays_after, finals_before, finals_after, IsArrival, Stands, Covers, listed, changed, change_at, AreWithin};
 
 use crate::along::{Along, FREE};
 use crate::open::{Open, all_lines, entry_of, open_lines, push_entries, push_entry};
@@ -197,7 +197,7 @@ impl<'a> Arrival<'a> {
         ensures traces { OnOk result (along.new.traces.now ≡ along.old.traces.now) }
         ensures looked { OnOk result (counted_on work.new.looked (looks_left (same_at (resolved self.entry.ends.before.now) (resolved self.entry.ends.after.now)) along.new («open».at + 1))
             ≤ counted_on work.old.looked (looks_left (same_at (resolved self.entry.ends.before.now) (resolved self.entry.ends.after.now)) along.old «open».at)) }
-        ensures looked_one { OnOk result (work.new.looked ≤ counted_on work.old.looked 1) }
+        ensures looked_one { OnOk result (work.new.looked ≤ counted_on work.old.looked (if is_left «open».awaits self.entry.puts.now then 0 else 1)) }
         ensures twos { OnOk result (work.new.twos ≡ counted_on work.old.twos (if is_redone (resolved self.entry.ends.before.now) (resolved self.entry.ends.after.now) false trace.now then 1 else 0)) }
         ensures twos_err { OnErr result (work.new.twos ≤ counted_on work.old.twos (if is_redone (resolved self.entry.ends.before.now) (resolved self.entry.ends.after.now) false trace.now then 1 else 0)) }
         ensures twos_least { work.old.twos ≤ work.new.twos }
@@ -253,7 +253,7 @@ impl<'a> Arrival<'a> {
         ensures twos_least { work.old.twos ≤ work.new.twos }
         ensures ones { work.new.ones ≡ work.old.ones }
         ensures looked { OnOk result (work.new.looked ≤ counted_on work.old.looked (64 + looks_kept (same_at (resolved self.entry.ends.before.now) (resolved self.entry.ends.after.now)) chunks.now self.entry.traces.now)) }
-        ensures looked_few { OnOk result (work.new.looked ≤ counted_on work.old.looked (length entries.now)) }
+        ensures looked_few { OnOk result (work.new.looked ≤ counted_on work.old.looked (not_left self.entry.puts.now entries.now)) }
     {
         let mut walked = Walked::new(self.alloc, entries.len())?;
         let mut along = Along::new(self.traces, chunks);
@@ -264,15 +264,29 @@ impl<'a> Arrival<'a> {
         Ok(walked)
     }
 
-    /// Gathers of each chunk but the last, where so many lines are looked at that chunks are asked.
-    fn make_ready(self, count: usize, chunks: &mut Vec<Chunk>) -> Result<(), AllocError>
+    /// How many open lines aren't left as they are.
+    fn count_not_left(self, entries: &[Open]) -> usize
+        ensures count { result ≡ not_left self.entry.puts.now entries.now }
+        ensures within { result ≤ length entries.now }
+    {
+        let mut count = 0;
+        for entry in entries {
+            if !self.leaves(entry.awaits) {
+                count += 1;
+            }
+        }
+        count
+    }
+
+    /// Gathers of each chunk but the last, where so many of these lines are looked at that chunks are asked.
+    fn make_ready(self, entries: &[Open], chunks: &mut Vec<Chunk>) -> Result<(), AllocError>
         requires { AreSummed chunks.old.items self.traces.now }
         ensures lengths { lengths_of chunks.new.items ≡ lengths_of chunks.old.items }
         ensures room { vec_capacity chunks.new ≡ vec_capacity chunks.old }
         ensures summed { AreSummed chunks.new.items self.entry.traces.now }
-        ensures ready { OnOk result ((count ≤ 64) ⊎ AreReady chunks.new.items) }
+        ensures ready { OnOk result ((not_left self.entry.puts.now entries.now ≤ 64) ⊎ AreReady chunks.new.items) }
     {
-        if count <= FREE {
+        if self.count_not_left(entries) <= FREE {
             return Ok(());
         }
         sum_up_front(self.alloc, self.ends.before.hashing(), chunks, self.traces)
@@ -355,7 +369,7 @@ impl<'a> Arrival<'a> {
         let mut entries = self.entries(known)?;
         let count = self.left_in_front(&entries);
         let (left, behind) = entries.split_at(count);
-        self.make_ready(behind.len(), chunks)?;
+        self.make_ready(behind, chunks)?;
         let walked = self.walk(left, behind, chunks.as_slice(), work)?;
         let Walked {
             changes,

@@ -1,4 +1,4 @@
-use Rattle.std.proofs.Common.{◌≡◌, Bool, true, refl, sym, ap, ◌∙◌}
+use Rattle.std.proofs.Common.{arith, ◌≡◌, ◌≤◌, Bool, true, false, refl, sym, ap, subst, ◌∙◌}
 use Rattle.std.specs.Prelude.{not, if◌then◌else◌}
 use Rattle.cps_state.specs.Work.{counted_on}
 use Rattle.cps_final.specs.Finals.{final_value}
@@ -25,3 +25,14 @@ returns-then-leaves-clause-twos c =
     let left : is_left c.args.«open».awaits c.args.self.puts.now ≡ true = sym c.leaves.ensures ∙ c.if-leaves.true in
     let same = left-same (finals_before c.args.self) (finals_after c.args.self) c.args.self.puts.now c.args.self.is_fresh c.requires.arrives c.args.trace.now c.args.«open».awaits left c.requires.awaits in
     none-more c.args.work.now.twos ∙ ap (λ (b : Bool). counted_on c.args.work.now.twos (if not b then 1 else 0)) (sym same)
+
+pub returns-then-leaves-clause-looked_one : goal.returns-then-leaves-clause-looked_one
+returns-then-leaves-clause-looked_one c =
+    let left : is_left c.args.«open».awaits c.args.self.puts.now ≡ true = sym c.leaves.ensures ∙ c.if-leaves.true in
+    let n = c.args.work.now.looked in
+    subst (λ (b : Bool). n ≤ counted_on n (if b then 0 else 1)) (sym left) (omega arith)
+
+pub returns-clause-looked_one : goal.returns-clause-looked_one
+returns-clause-looked_one c =
+    let asked : is_left c.args.«open».awaits c.args.self.puts.now ≡ false = sym c.leaves.ensures ∙ c.if-leaves.false in
+    subst (λ (b : Bool). c.redo.new.work.looked ≤ counted_on c.args.work.now.looked (if b then 0 else 1)) (sym asked) c.in_ok-outcome.ensures.looked_one

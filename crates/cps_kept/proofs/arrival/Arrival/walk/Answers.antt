@@ -6,7 +6,7 @@ use Rattle.cps_kept.specs.Append.{stays_before, finals_before, finals_after, lis
 use Rattle.cps_edit.proofs.ReplayLemmas.{on-err, le-same}
 use Rattle.cps_kept.proofs.ThroughLemmas.{through-front, through-at, through-fault, through-awaits, through-next, through-as, through-outcomes, through-twos, through-opened}
 use Rattle.cps_final.specs.Resolving.{resolved}
-use Rattle.cps_kept.proofs.AlongLemmas.{along-first, along-at, along-here, along-next, along-end}
+use Rattle.cps_kept.proofs.AlongLemmas.{not_left-next, along-first, along-at, along-here, along-next, along-end}
 use Rattle.cps_kept.proofs.arrival.Arrival.walk.Goals as goal
 
 pub loop-entry-init : goal.loop-entry-init
@@ -35,7 +35,7 @@ loop-entry-preserved c =
           through-as _ _ _ _ _ _ _ _ _ _ _ _ c.in_ok-note.ensures.changes still
           (through-next _ _ _ _ c.requires.arrives _ _ _ _ _ _ _ through _ _ _ _ (line c.index-self-entry.result) looked.outcome looked.stands looked.twos);
       along = along-next _ _ _ _ _ _ _ _ goes c.look.new.along c.look.new.work.looked looked.along looked.traces looked.looked;
-      looked = omega (arith, lt, looked.looked_one, c.loop-entry.invariant.looked);
+      looked = not_left-next _ _ _ _ c.args.entries.now i lt looked.looked_one c.loop-entry.invariant.looked;
       ones = looked.ones ∙ c.loop-entry.invariant.ones;
       least = omega (arith, c.loop-entry.invariant.least, looked.twos_least);
     }

@@ -1,8 +1,8 @@
-use Rattle.std.proofs.Common.{◌≡◌, ◌+◌, ◌-◌, ◌≤◌, ◌++◌, length, drop}
+use Rattle.std.proofs.Common.{◌≡◌, ◌+◌, ◌≤◌, ◌++◌, drop}
 use Rattle.cps_state.specs.Work.{counted_on}
 use Rattle.cps_final.specs.Resolving.{resolved}
 use Rattle.cps_edit.specs.Renewed.{redone_kept}
-use Rattle.cps_kept.specs.Append.{stays_before, stays_after, finals_before, finals_after, IsThrough}
+use Rattle.cps_kept.specs.Append.{stays_before, stays_after, finals_before, finals_after, not_left, IsThrough}
 use Rattle.cps_edit.specs.Agreeing.{same_at}
 use Rattle.cps_chunks.specs.Chunks.{looks_kept}
 use Rattle.cps_kept.specs.Along.{GoesAlong}
@@ -14,7 +14,7 @@ invariant-loop-entry l = record {
       (counted_on l.fn.work.twos (redone_kept (resolved l.self.ends.before.now) (resolved l.self.ends.after.now) l.self.traces.now));
   along : GoesAlong (resolved l.self.ends.before.now) (resolved l.self.ends.after.now) l.self.traces.now l.along (drop l.entry-index l.entries) l.work.looked
       (counted_on l.fn.work.looked (64 + looks_kept (same_at (resolved l.self.ends.before.now) (resolved l.self.ends.after.now)) l.chunks l.self.traces.now));
-  looked : counted_on l.work.looked (length l.entries - l.entry-index) ≤ counted_on l.fn.work.looked (length l.entries);
+  looked : counted_on l.work.looked (not_left l.self.puts.now (drop l.entry-index l.entries)) ≤ counted_on l.fn.work.looked (not_left l.self.puts.now l.entries);
   ones : l.work.ones ≡ l.fn.work.ones;
   least : l.fn.work.twos ≤ l.work.twos;
 }
