@@ -3,7 +3,7 @@ use Rattle.std.proofs.Common.{arith, ◌≡◌, ℕ, zero, suc, ◌+◌, ◌-◌
 use Rattle.std.specs.Prelude.{◌&&◌, is_some, if◌then◌else◌, sum}
 use Rattle.std.specs.List.{list_all}
 use Rattle.std.proofs.lemmas.Bool.{and_parts}
-use Rattle.std.proofs.lemmas.List.{length-append, length-drop, map-append, take-append-le, drop-append-le, take-append-drop, take-take, drop-take, drop-drop, drop_all, length-take-le, take_more_set, drop-set-lt, set_at, get_or_default, take-map, drop-map, length-map, length-take, map_more, take_all, take_at, drop_at as behind_front}
+use Rattle.std.proofs.lemmas.List.{length-append, length-drop, map-append, take-append-le, drop-append-le, take-append-drop, take-take, drop-take, drop-drop, drop_all, length-take-le, take_more_set, drop-set-lt, set_at, get_or_default, take-map, drop-map, length-map, length-take, map_more, take_all}
 use Rattle.std.proofs.lemmas.List.Sums.{sum_by-cons}
 use Rattle.std.proofs.lemmas.Bool.{lt-ltb}
 use Rattle.cps_state.specs.Course.{Trace}

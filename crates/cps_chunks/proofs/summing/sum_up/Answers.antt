@@ -1,4 +1,4 @@
-use Rattle.std.proofs.Common.{arith, ap, subst, length, ◌∙◌}
+use Rattle.std.proofs.Common.{arith, subst}
 use Rattle.std.specs.Prelude.{OnOk}
 use Rattle.std.proofs.lemmas.List.{take_all}
 use Rattle.cps_chunks.specs.Chunks.{AreMade}

@@ -1,10 +1,9 @@
-use Rattle.std.proofs.Common.{rules, arith, ◌≡◌, ◌+◌, ◌*◌, ◌≤◌, List, ℕ, ◌∷◌, [], ◌++◌, length, refl, sym, ap, subst, ◌∙◌}
+use Rattle.std.proofs.Common.{◌≡◌, ◌*◌, ◌≤◌, List, ℕ, ◌∷◌, [], ◌++◌, length, sym, ap, subst, ◌∙◌}
 use Rattle.std.specs.Prelude.{sum}
 use Rattle.cps_state.specs.Course.{Trace}
 use Rattle.cps_state.specs.Keys.{first_state}
 use Rattle.cps_state.specs.Work.{counted_on}
 use Rattle.cps_final.specs.Finals.{finals_of}
-use Rattle.cps_final.specs.Outcome.{outcome_of}
 use Rattle.cps_division.specs.Division.{AreChunks, inserted_at}
 use Rattle.cps_edit.specs.Passes.{traces_of, outcomes_by}
 use Rattle.cps_edit.specs.Splice.{insertion}
@@ -14,7 +13,7 @@ use Rattle.cps_edit.proofs.ReplayLemmas.{on-err}
 use Rattle.cps_chunks.specs.declared.chunk.Chunk.{Chunk}
 use Rattle.cps_chunks.specs.Chunks.{AreSummed, lengths_of}
 use Rattle.cps_chunks.specs.Touched.{touched_of}
-use Rattle.cps_chunks.proofs.ListLemmas.{summed-long, same-count}
+use Rattle.cps_chunks.proofs.ListLemmas.{summed-long}
 use Rattle.cps_kept.specs.Append.{Follows}
 use Rattle.cps_kept.proofs.AppendLemmas.{looked-appended}
 use Rattle.cps_kept.proofs.KeptLemmas.{kept-still}

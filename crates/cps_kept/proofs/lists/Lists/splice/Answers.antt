@@ -1,6 +1,5 @@
-use Rattle.std.proofs.Common.{arith, ◌≡◌, ◌+◌, ◌*◌, ◌-◌, ◌≤◌, ◌++◌, List, ℕ, length, take, drop, sym, ap, subst, ◌∙◌, refl}
+use Rattle.std.proofs.Common.{arith, ◌≡◌, ◌+◌, ◌*◌, ◌≤◌, ◌++◌, List, ℕ, length, take, drop, sym, ap, subst, ◌∙◌, refl}
 use Rattle.std.proofs.lemmas.List.{length-map}
-use Rattle.cps_state.specs.Course.{Trace}
 use Rattle.cps_state.specs.Keys.{first_state}
 use Rattle.cps_state.specs.Work.{counted_on}
 use Rattle.cps_division.specs.Division.{AreChunks}
@@ -13,8 +12,7 @@ use Rattle.cps_edit.specs.Disturbed.{finals_in, twos_of}
 use Rattle.cps_edit.specs.Renewed.{mended}
 use Rattle.cps_edit.proofs.SpliceLemmas.{length-traces_from}
 use Rattle.cps_edit.proofs.ReplayLemmas.{on-err, le-same}
-use Rattle.cps_chunks.specs.declared.chunk.Chunk.{Chunk}
-use Rattle.cps_chunks.specs.Chunks.{AreSummed, lengths_of, all_unsummed, forgotten}
+use Rattle.cps_chunks.specs.Chunks.{AreSummed, lengths_of, all_unsummed}
 use Rattle.cps_chunks.specs.Recuts.{Recuts}
 use Rattle.cps_chunks.specs.Touched.{touched_of}
 use Rattle.cps_kept.specs.Kept.{splice_of}
