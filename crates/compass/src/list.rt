@@ -1,5 +1,5 @@
 //! A view that is a plain list.
-ghost use Rattle.std.specs.Prelude.{◌≡◌, ◌-◌, ◌≤◌, ◌↔◌, length, slice_get, Some, IsSome, IfSome};
+ghost use Rattle.std.specs.Prelude.{◌≡◌, ◌-◌, ◌≤◌, length, Some};
 
 use super::part_rows::write_view;
 use cps_final::{Finals, Gather, Gathered, Outcome, step_two};

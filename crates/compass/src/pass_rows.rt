@@ -1,6 +1,5 @@
 //! Pass one of a source, line by line: the state before the first line, what each line puts there, and what it asks.
 //! What a function holds is dropped by calls, whose proofs stand once.
-ghost use Rattle.std.specs.Prelude.{◌≡◌};
 
 use super::assertions::assert_same;
 use cps_pass::{Answer, Asked, Hashing, Item, Key, Lookup, State, Trace, Work, step_one};

@@ -8,7 +8,7 @@ use super::sum::first_and_rest;
 use cps_text::capital;
 
 /// The octal digits that the letters f, i, j and k stand for in the texts of a table.
-#[derive(Clone, Copy, Debug)]
+#[derive(Clone, Copy)]
 pub struct Digits {
     pub f: u8,
     pub i: u8,

@@ -1,4 +1,4 @@
-ghost use Rattle.std.specs.Prelude.{◌≡◌, ◌<◌, ◌^◌, true, map, option_map, if◌then◌else◌, ◌↔◌, Some, None, false, IfOk, IfSome, IsErrOf, IsSome, IsSomeAnd, IsTrue};
+ghost use Rattle.std.specs.Prelude.{◌≡◌, ◌<◌, ◌^◌, true, map, option_map, if◌then◌else◌, ◌↔◌, Some, None, false, IfOk, IfSome, IsErrOf, IsSome, IsTrue};
 ghost use Rattle.cps_code.specs.Sum.{Summed};
 ghost use Rattle.cps_code.specs.Terms.{AreDigits, AreRegisters, IsKeptSummed, is_empty, register_list};
 ghost use Rattle.cps_expr.specs.declared.machine.Machine.TheVariants.{Cp};

@@ -5,7 +5,7 @@ use cps_expr::Expr;
 use cps_text::Name;
 
 /// What goes into a hole of a code.
-#[derive(Clone, Copy, Debug, PartialEq, Eq)]
+#[derive(Clone, Copy, PartialEq, Eq)]
 pub enum HoleKind {
     /// The value of an expression.
     Value,
@@ -16,7 +16,7 @@ pub enum HoleKind {
 }
 
 /// What gives a hole its value.
-#[derive(Debug, Drop)]
+#[derive(Drop)]
 pub enum Operand {
     /// The value of an expression.
     Expression(Expr),
@@ -37,7 +37,7 @@ impl Operand {
 }
 
 /// A field of a code that a value is put into: `width` bits from bit `first` of the code on (the leftmost bit is 0).
-#[derive(Debug, Drop)]
+#[derive(Drop)]
 pub struct Hole {
     pub first: u8,
     pub width: u8,

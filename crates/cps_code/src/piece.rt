@@ -3,7 +3,7 @@ ghost use Rattle.cps_code.specs.Bits.{word_bits};
 
 /// Bits to be put into words: the `width` low bits of `number`, from bit `first` of a word on (the leftmost bit
 /// is 0), the same in `times` words from `address` on.
-#[derive(Clone, Copy, Debug, PartialEq, Eq)]
+#[derive(Clone, Copy, PartialEq, Eq)]
 pub struct Piece {
     pub address: u32,
     pub first: u8,

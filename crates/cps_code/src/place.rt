@@ -5,7 +5,7 @@ use super::widths::WORD;
 
 /// Where a program stands: a word, the bits that are used in it (0 to 59), and whether a forcing is pending,
 /// so that what comes next begins a word.
-#[derive(Clone, Copy, Debug, PartialEq, Eq)]
+#[derive(Clone, Copy, PartialEq, Eq)]
 pub struct Place {
     pub word: u32,
     pub used: u8,
@@ -30,7 +30,7 @@ impl Place {
 
 /// What a location field asks of the place: nothing, a new word (a symbol or `+`), or that a pending forcing
 /// be cancelled (`-`).
-#[derive(Clone, Copy, Debug, PartialEq, Eq)]
+#[derive(Clone, Copy, PartialEq, Eq)]
 pub enum Force {
     Free,
     NewWord,
@@ -38,7 +38,7 @@ pub enum Force {
 }
 
 /// What stands in the bits that are skipped in the word that is left: `width` bits from bit `first` on.
-#[derive(Clone, Copy, Debug, PartialEq, Eq)]
+#[derive(Clone, Copy, PartialEq, Eq)]
 pub struct Filling {
     pub first: u8,
     pub width: u8,
@@ -46,7 +46,7 @@ pub struct Filling {
 }
 
 /// Where an instruction begins, the place after it, and what fills the bits that it skips.
-#[derive(Clone, Copy, Debug, PartialEq, Eq)]
+#[derive(Clone, Copy, PartialEq, Eq)]
 pub struct Placed {
     pub start: Place,
     pub after: Place,

@@ -1,5 +1,5 @@
 /// The letters of the three kinds of registers.
-#[derive(Clone, Copy, Debug, PartialEq, Eq)]
+#[derive(Clone, Copy, PartialEq, Eq)]
 pub enum Letter {
     A,
     B,
@@ -7,7 +7,7 @@ pub enum Letter {
 }
 
 /// A register that is a term of a sum, with its sign. The digit is 0 to 7.
-#[derive(Clone, Copy, Debug, PartialEq, Eq)]
+#[derive(Clone, Copy, PartialEq, Eq)]
 pub struct RegisterTerm {
     pub is_minus: bool,
     pub letter: Letter,

@@ -1,5 +1,5 @@
 //! Pass one of an instruction.
-ghost use Rattle.std.specs.Prelude.{◌≡◌, OnOk};
+ghost use Rattle.std.specs.Prelude.{OnOk};
 ghost use Rattle.cps_state.specs.Line.{Does};
 ghost use Rattle.cps_effect.specs.Instruction as instructions;
 

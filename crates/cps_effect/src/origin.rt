@@ -1,5 +1,5 @@
 //! ORG: goes on at an address, in the block of its value.
-ghost use Rattle.std.specs.Prelude.{◌≡◌, ◌<◌, ◌^◌, OnOk};
+ghost use Rattle.std.specs.Prelude.{◌<◌, ◌^◌, OnOk};
 ghost use Rattle.cps_state.specs.Line.{Does};
 ghost use Rattle.cps_effect.specs.Origin as meaning;
 

@@ -11,14 +11,14 @@ use cps_text::Name;
 use std::alloc::AllocError;
 
 /// A name and its value, None where it wasn't defined before.
-#[derive(Clone, Copy, Debug, PartialEq, Eq)]
+#[derive(Clone, Copy, PartialEq, Eq)]
 pub struct NameNow {
     pub name: Name,
     pub value: Option<Value>,
 }
 
 /// A value in pass one.
-#[derive(Clone, Copy, Debug, PartialEq, Eq)]
+#[derive(Clone, Copy, PartialEq, Eq)]
 pub enum ValueNow {
     /// A name wasn't defined before.
     Undefined,

@@ -32,7 +32,7 @@ pub enum ExprFault {
 }
 
 /// What an expression gives under some names.
-#[derive(Clone, Copy, Debug, PartialEq, Eq)]
+#[derive(Clone, Copy, PartialEq, Eq)]
 pub struct Valued {
     /// The value, an undefined name counted as plain 0. None where the expression has no value.
     pub value: Option<Value>,
@@ -41,7 +41,7 @@ pub struct Valued {
 }
 
 /// An expression: terms of numbers, symbols and `*`.
-#[derive(Debug, Drop)]
+#[derive(Drop)]
 pub struct Expr {
     alloc: Global,
     terms: Terms,

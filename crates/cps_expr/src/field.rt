@@ -1,7 +1,7 @@
 //! The fields of VFD.
 ghost use Rattle.std.specs.Prelude.{◌≡◌, ◌<◌, length, IfSome, Option, option_map};
 ghost use Rattle.std.specs.List.{position};
-ghost use Rattle.cps_expr.specs.Expression.{Expression, expression_of};
+ghost use Rattle.cps_expr.specs.Expression.{Expression};
 ghost use Rattle.cps_expr.specs.OperandList.{paired};
 ghost use Rattle.cps_expr.specs.Reads.{Reads};
 ghost use Rattle.cps_expr.specs.Row.{field_of, is_slash};

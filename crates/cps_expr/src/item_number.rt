@@ -1,6 +1,5 @@
 //! Data items that are numbers.
-ghost use Rattle.std.specs.Prelude.{◌≡◌, ◌+◌, ◌-◌, ◌^◌, ◌<◌, ◌≤◌, true, length, slice_index, codes, IfSome};
-ghost use Rattle.cps_text.specs.Text.{among};
+ghost use Rattle.std.specs.Prelude.{◌≡◌, ◌+◌, ◌-◌, ◌^◌, ◌<◌, ◌≤◌, length, codes, IfSome};
 ghost use Rattle.cps_expr.specs.Item.{begins, bits_of, number_item, numeral_of, sign_len, signed_word};
 ghost use Rattle.cps_expr.specs.Number.{number_of};
 

@@ -1,5 +1,5 @@
 /// The machine that a program is for: the central processor, or a peripheral processor.
-#[derive(Clone, Copy, Debug, PartialEq, Eq)]
+#[derive(Clone, Copy, PartialEq, Eq)]
 pub enum Machine {
     Cp,
     Pp,

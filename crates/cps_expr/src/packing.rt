@@ -1,5 +1,5 @@
 //! Characters' display codes in a word.
-ghost use Rattle.std.specs.Prelude.{◌≡◌, ◌+◌, ◌-◌, ◌^◌, ◌<◌, ◌≤◌, ◌++◌, length, replicate, fold, unwrap_or};
+ghost use Rattle.std.specs.Prelude.{◌≡◌, ◌+◌, ◌-◌, ◌^◌, ◌<◌, ◌≤◌, length, replicate, fold, unwrap_or};
 ghost use Rattle.cps_text.specs.DataItem.{cp_characters};
 ghost use Rattle.cps_text.specs.Display.{display_of};
 ghost use Rattle.cps_text.specs.ItemValue.{item_value};

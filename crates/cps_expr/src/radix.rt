@@ -1,5 +1,5 @@
 /// The base of numbers that no letter marks: the BASE statement sets it.
-#[derive(Clone, Copy, Debug, PartialEq, Eq)]
+#[derive(Clone, Copy, PartialEq, Eq)]
 pub enum Radix {
     Octal,
     Decimal,

@@ -1,5 +1,5 @@
 //! Readings of operands. A reading of several goes on to the end where memory is refused, so that its fault is exact.
-ghost use Rattle.std.specs.Prelude.{◌≡◌, [], List, Option, option_map};
+ghost use Rattle.std.specs.Prelude.{[], List, Option, option_map};
 ghost use Rattle.cps_text.specs.Operands.{operands_of};
 ghost use Rattle.cps_text.specs.OperandsLeft.{operands_left};
 ghost use Rattle.cps_expr.specs.Expression.{expression_of};

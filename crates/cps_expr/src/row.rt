@@ -6,7 +6,7 @@ use crate::sequence::Sequence;
 use cps_text::Name;
 
 /// The block that USE names.
-#[derive(Clone, Copy, Debug, PartialEq, Eq)]
+#[derive(Clone, Copy, PartialEq, Eq)]
 pub enum Block {
     Nominal,
     /// The block that was in use before.
@@ -15,14 +15,14 @@ pub enum Block {
 }
 
 /// A field of VFD: its width in bits, and its value.
-#[derive(Debug, Drop)]
+#[derive(Drop)]
 pub struct Field {
     pub width: Expr,
     pub value: Expr,
 }
 
 /// What DIS writes.
-#[derive(Debug, Drop)]
+#[derive(Drop)]
 pub enum DisText {
     /// Characters for a number of words.
     Counted(Expr, Sequence<u8>),
@@ -31,7 +31,7 @@ pub enum DisText {
 }
 
 /// The test of two expressions.
-#[derive(Debug, Drop)]
+#[derive(Drop)]
 pub struct Comparison {
     pub relation: Relation,
     pub left: Expr,
@@ -41,7 +41,7 @@ pub struct Comparison {
 }
 
 /// The test of a symbol.
-#[derive(Debug, Drop)]
+#[derive(Drop)]
 pub struct SymbolTest {
     /// Whether it holds for a defined symbol, and not for an undefined one.
     pub is_defined: bool,
@@ -51,7 +51,7 @@ pub struct SymbolTest {
 }
 
 /// Lines that are assembled more than once.
-#[derive(Debug, Drop)]
+#[derive(Drop)]
 pub struct Repetition {
     pub count: Expr,
     /// How many lines; None where ENDD ends them.
@@ -59,7 +59,7 @@ pub struct Repetition {
 }
 
 /// A row of the statement table.
-#[derive(Debug, Drop)]
+#[derive(Drop)]
 pub enum Row {
     Ident(Name),
     Abs,

@@ -1,5 +1,5 @@
 //! The names of a row.
-ghost use Rattle.std.specs.Prelude.{◌≡◌, ◌++◌, ◌∷◌, [], map, option_to_list, OnOk};
+ghost use Rattle.std.specs.Prelude.{◌≡◌, ◌++◌, ◌∷◌, map, option_to_list, OnOk};
 ghost use Rattle.std.specs.List.{flat_map};
 ghost use Rattle.cps_expr.specs.Expression.{names_of};
 ghost use Rattle.cps_expr.specs.Statement.{count_in, now_names, later_names};

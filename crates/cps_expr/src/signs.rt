@@ -1,5 +1,5 @@
 //! A text cut into its signed terms.
-ghost use Rattle.std.specs.Prelude.{◌≡◌, ℕ, ◌<◌, ◌≤◌, Bool, true, false, List, [], ◌∷◌, length, slice_index, Option, ◌⊎◌, option_map, IfSome, MatchOption};
+ghost use Rattle.std.specs.Prelude.{◌≡◌, ℕ, ◌<◌, ◌≤◌, Bool, true, false, [], ◌∷◌, length, slice_index, Option, ◌⊎◌, option_map, IfSome, MatchOption};
 ghost use Rattle.cps_expr.specs.declared.radix.Radix.{Radix};
 ghost use Rattle.cps_expr.specs.OperandList.{with_first};
 ghost use Rattle.cps_expr.specs.Expression.{is_sign, with_first_sign};

@@ -32,7 +32,7 @@ pub enum StmtFault {
 }
 
 /// A statement of the statement table without its location field. A clause sees its row.
-#[derive(Debug, Drop)]
+#[derive(Drop)]
 pub struct Stmt {
     row: Row,
     first_pass: Vec<Name>,

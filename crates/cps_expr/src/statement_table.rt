@@ -19,7 +19,7 @@ use std::alloc::Global;
 use std::marker::Model;
 
 /// The operands of an operation of the statement table, as they are read. A clause sees their row.
-#[derive(Debug, Drop)]
+#[derive(Drop)]
 pub struct Stated {
     row: Row,
 }

@@ -17,7 +17,7 @@ use std::marker::Model;
 use std::slice::from_ref;
 
 /// An element of an expression: a number of at most `2^59 - 1`, a symbol, or `*`, the location counter.
-#[derive(Clone, Copy, Debug, PartialEq, Eq)]
+#[derive(Clone, Copy, PartialEq, Eq)]
 pub enum Element {
     Number(u64),
     Symbol(Name),
@@ -25,21 +25,21 @@ pub enum Element {
 }
 
 /// `*` or `/`
-#[derive(Clone, Copy, Debug, PartialEq, Eq)]
+#[derive(Clone, Copy, PartialEq, Eq)]
 pub enum Operator {
     Times,
     Over,
 }
 
 /// An element with the operator before it.
-#[derive(Clone, Copy, Debug, PartialEq, Eq)]
+#[derive(Clone, Copy, PartialEq, Eq)]
 pub struct Factor {
     pub operator: Operator,
     pub element: Element,
 }
 
 /// A term of an expression: its sign, its first element, and the factors behind it.
-#[derive(Debug, Drop)]
+#[derive(Drop)]
 pub struct Term {
     is_minus: bool,
     first: Element,
@@ -55,7 +55,7 @@ impl Model for Term {
 }
 
 /// An element with its sign: a term that has no factors.
-#[derive(Clone, Copy, Debug)]
+#[derive(Clone, Copy)]
 pub(crate) struct Signed {
     is_minus: bool,
     element: Element,

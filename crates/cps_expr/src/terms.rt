@@ -14,7 +14,7 @@ use std::alloc::{AllocError, Global};
 use std::marker::Model;
 
 /// The terms of an expression. Most are one element alone, which is kept in place.
-#[derive(Debug, Drop)]
+#[derive(Drop)]
 pub(crate) enum Terms {
     Empty,
     One(Signed),
@@ -99,7 +99,7 @@ fn two_kept(alloc: Global, first: Signed, term: Term) -> Result<Terms, AllocErro
 }
 
 /// Terms in a list, and the names that stand in them.
-#[derive(Debug, Drop)]
+#[derive(Drop)]
 pub(crate) struct TermList {
     terms: Vec<Term>,
     names: Vec<Name>,

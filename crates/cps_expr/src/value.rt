@@ -1,5 +1,5 @@
 //! Values, and what operators make of them.
-ghost use Rattle.std.specs.Prelude.{◌≡◌, ℤ, pos, SomeIff, IfSome, FitsSigned, IsTrue};
+ghost use Rattle.std.specs.Prelude.{◌≡◌, ℤ, SomeIff, IfSome, FitsSigned};
 ghost use Rattle.std.specs.Int.{w64};
 ghost use Rattle.cps_text.specs.declared.name.Name.{Name};
 ghost use Rattle.cps_expr.specs.Value.{IsInRange, greatest, is_in_range, limited, plain, same_name, block_of_sum, block_of_difference, block_of_product, in_block, quotient, multiplied, sum_of, difference_of, added};

@@ -1,5 +1,5 @@
 //! Bits in the words of a block in pass two.
-ghost use Rattle.std.specs.Prelude.{◌≡◌, [], ◌∷◌, ◌++◌, ◌<◌, ◌≤◌, ◌%◌, ◌^◌, map, flat_map, OnOk, IfOk};
+ghost use Rattle.std.specs.Prelude.{◌≡◌, [], ◌∷◌, ◌++◌, ◌<◌, ◌≤◌, ◌%◌, ◌^◌, map, flat_map, OnOk};
 ghost use Rattle.cps_code.specs.Image.{piece_of};
 ghost use Rattle.cps_expr.specs.Item.{bits_of};
 ghost use Rattle.cps_final.specs.Pieces as bits;

@@ -1,5 +1,5 @@
 //! The rows of a statement in pass two.
-ghost use Rattle.std.specs.Prelude.{◌≡◌, ◌++◌, ◌≤◌, [], ◌∷◌, true, nat_le, flat_map, OnOk, IfOk};
+ghost use Rattle.std.specs.Prelude.{◌≡◌, ◌++◌, ◌≤◌, [], ◌∷◌, true, nat_le, flat_map, OnOk};
 ghost use Rattle.std.specs.List.{list_any};
 ghost use Rattle.cps_code.specs.Operand.{operand_literals};
 ghost use Rattle.cps_state.specs.Machines.{limit};

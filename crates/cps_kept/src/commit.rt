@@ -1,5 +1,5 @@
 //! What was made beside takes the place of what was kept, without memory; and room for one item more.
-ghost use Rattle.std.specs.Prelude.{◌≡◌, ◌+◌, ◌<◌, ◌≤◌, ◌++◌, OnOk, length, take, drop, vec_len, vec_capacity};
+ghost use Rattle.std.specs.Prelude.{◌≡◌, ◌+◌, ◌<◌, ◌≤◌, ◌++◌, OnOk, take, drop, vec_len, vec_capacity};
 ghost use Rattle.cps_edit.specs.Renewed.{mended};
 ghost use Rattle.cps_chunks.specs.Chunks.{forgotten};
 ghost use Rattle.cps_kept.specs.Append.{changed, AreWithin};

@@ -4,7 +4,7 @@ ghost use Rattle.cps_state.specs.Work.{counted_on};
 ghost use Rattle.cps_final.specs.Finals.{finals_of};
 ghost use Rattle.cps_division.specs.Recut.{recut as recut_by};
 ghost use Rattle.cps_edit.specs.Passes.{traces_of};
-ghost use Rattle.cps_edit.specs.Splice.{splice_at, spliced};
+ghost use Rattle.cps_edit.specs.Splice.{spliced};
 ghost use Rattle.cps_edit.specs.Disturbed.{ones_of, twos_of};
 ghost use Rattle.cps_edit.specs.GatheredNow.{gathered_now};
 ghost use Rattle.cps_edit.specs.Renewed.{mended};
@@ -12,7 +12,6 @@ ghost use Rattle.cps_chunks.specs.Chunks.{lengths_of, forgotten};
 ghost use Rattle.cps_chunks.specs.Recuts.{Recuts};
 ghost use Rattle.cps_chunks.specs.Touched.{touched_of};
 ghost use Rattle.cps_kept.specs.Kept.{AreKept, splice_of};
-ghost use Rattle.cps_kept.specs.Looks.{IsSummedAround};
 
 use crate::commit::{NewChunks, put_at, put_chunks, take_over};
 use crate::edit::Edit;

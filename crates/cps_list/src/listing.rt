@@ -1,6 +1,5 @@
 //! The listing.
-ghost use Rattle.std.specs.Prelude.{◌≡◌, ◌++◌, ◌+◌, ◌≤◌, ◌<◌, ℕ, List, [], ◌∷◌, OnOk, codes, length, take, ◌^◌, if◌then◌else◌};
-ghost use Rattle.cps_text.specs.Text.{is_blank};
+ghost use Rattle.std.specs.Prelude.{◌≡◌, ◌++◌, ◌+◌, ◌≤◌, ◌<◌, ℕ, List, OnOk, length, take};
 ghost use Rattle.cps_list.specs.Columns.{with_columns, with_column, at_right, laid_out};
 ghost use Rattle.cps_list.specs.Listing as texts;
 

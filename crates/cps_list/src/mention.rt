@@ -1,5 +1,5 @@
 //! The lines on which symbols stand.
-ghost use Rattle.std.specs.Prelude.{◌≡◌, ◌++◌, ◌<◌, ◌^◌, IfOk, OnOk, map, true, false};
+ghost use Rattle.std.specs.Prelude.{◌≡◌, ◌++◌, ◌<◌, IfOk, OnOk, map, true, false};
 ghost use Rattle.cps_list.specs.Symbols as texts;
 
 use crate::view::View;
@@ -7,7 +7,7 @@ use cps_text::Name;
 use std::alloc::{AllocError, Global};
 
 /// A symbol on a line, which defines it or reads it.
-#[derive(Clone, Copy, Debug, PartialEq, Eq)]
+#[derive(Clone, Copy, PartialEq, Eq)]
 pub struct Mention {
     pub name: Name,
     /// The number of the line.

@@ -1,9 +1,8 @@
 //! The cross-reference.
-ghost use Rattle.std.specs.Prelude.{◌≡◌, ◌++◌, ◌≤◌, ◌<◌, ℕ, List, OnOk, codes, length, flat_map};
+ghost use Rattle.std.specs.Prelude.{◌≡◌, ◌++◌, ◌<◌, OnOk};
 ghost use Rattle.std.specs.List.{prefix_len};
 ghost use Rattle.std.specs.List.Sorted.{IsSortedByKey};
 ghost use Rattle.cps_expr.specs.Value.{same_name};
-ghost use Rattle.cps_list.specs.Columns.{with_column};
 ghost use Rattle.cps_list.specs.Symbols as texts;
 
 use crate::columns::{fill_columns, push_decimal};

@@ -1,11 +1,8 @@
 //! A source that is read whole, assembled, and shown in one of its texts.
-ghost use Rattle.std.specs.Prelude.{◌≡◌, ℕ, List, [], ◌≤◌, ◌+◌, length, IfOk, OnOk, OnErr, IsErrOf};
+ghost use Rattle.std.specs.Prelude.{◌≡◌, ℕ, List, [], ◌≤◌, ◌+◌, OnOk, OnErr, IsErrOf};
 ghost use Rattle.std.specs.Io.KnownBytes.{Consumes, IsAtEnd};
 ghost use Rattle.cps_text.specs.Counted.{inner_of, calls_of, failures_of, LastReadGave};
-ghost use Rattle.cps_list.specs.Texts.{text_of};
-ghost use Rattle.cps_live.specs.Assembly.{assembly_of};
 ghost use Rattle.cps_live.specs.Batch.{Assembles, IsSource, RunsBatch};
-ghost use Rattle.cps_live.specs.Flagged.{flagged_lines};
 ghost use Rattle.cps_live.specs.Input.{HasCome};
 ghost use Rattle.cps_live.specs.Lines.{HasText};
 ghost use Rattle.cps_live.specs.Reads.{EndsEarly};

@@ -9,7 +9,7 @@ use arrayvec::ArrayVec;
 pub const LONGEST_KEPT: usize = 200;
 
 /// What came past the room of a line.
-#[derive(Clone, Copy, Debug, PartialEq, Eq)]
+#[derive(Clone, Copy, PartialEq, Eq)]
 pub enum Past {
     /// No byte.
     Nothing,

@@ -1,4 +1,4 @@
-ghost use Rattle.std.specs.Prelude.{◌≡◌, ◌<◌, ◌^◌, ◌≤◌, [], ◌∷◌, IfOk, length, All};
+ghost use Rattle.std.specs.Prelude.{◌≡◌, ◌<◌, ◌^◌, ◌≤◌, [], ◌∷◌, IfOk, length};
 ghost use Rattle.cps_expr.specs.declared.machine.Machine.TheVariants.{Pp};
 ghost use Rattle.cps_code.specs.Form.{filled};
 ghost use Rattle.cps_code.specs.Operand.{IsOperand};

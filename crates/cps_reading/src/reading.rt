@@ -12,7 +12,7 @@ use cps_text::Name;
 use std::alloc::{AllocError, Global};
 
 /// A location field.
-#[derive(Clone, Copy, Debug, PartialEq, Eq)]
+#[derive(Clone, Copy, PartialEq, Eq)]
 pub enum Location {
     Absent,
     /// `+`

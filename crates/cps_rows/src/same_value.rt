@@ -1,5 +1,4 @@
 //! Names that all stand for the same.
-ghost use Rattle.std.specs.Prelude.{◌≡◌};
 
 use cps_expr::{Names, Value};
 use cps_text::Name;

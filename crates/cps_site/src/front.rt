@@ -3,7 +3,7 @@ use cps_reading::Location;
 use cps_state::Control;
 
 /// What stands before the operands of a statement: the control that holds there, and the location field.
-#[derive(Clone, Copy, Debug, PartialEq, Eq)]
+#[derive(Clone, Copy, PartialEq, Eq)]
 pub struct Front {
     pub control: Control,
     pub location: Location,

@@ -41,7 +41,7 @@ pub fn symbol_in(location: Location) -> Option<Name>
 }
 
 /// What a symbol stands for already.
-#[derive(Clone, Copy, Debug, PartialEq, Eq)]
+#[derive(Clone, Copy, PartialEq, Eq)]
 pub enum Standing {
     Free,
     /// It is a label.

@@ -21,7 +21,7 @@ use cps_text::Name;
 use std::alloc::AllocError;
 
 /// Where a placing statement stands, and its location field.
-#[derive(Clone, Copy, Debug, PartialEq, Eq)]
+#[derive(Clone, Copy, PartialEq, Eq)]
 pub struct Site {
     pub machine: Machine,
     /// The block in use; None is the nominal one.

@@ -6,7 +6,7 @@ ghost use Rattle.cps_state.specs.Made.{no_flags};
 use std::alloc::AllocError;
 
 /// What is wrong with a line.
-#[derive(Clone, Copy, Debug, PartialEq, Eq)]
+#[derive(Clone, Copy, PartialEq, Eq)]
 pub struct Flags {
     /// A: an operand.
     pub operand: bool,

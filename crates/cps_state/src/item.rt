@@ -9,7 +9,7 @@ use cps_text::Name;
 use std::alloc::Global;
 
 /// Whether a statement has a place, and in which block.
-#[derive(Clone, Copy, Debug, PartialEq, Eq)]
+#[derive(Clone, Copy, PartialEq, Eq)]
 pub enum Stand {
     /// It has none: it did not ask where the block in use stands.
     Nowhere,

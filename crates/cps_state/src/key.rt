@@ -10,7 +10,7 @@ use cps_text::Name;
 use std::alloc::{AllocError, Global};
 
 /// A part of the state of an assembly.
-#[derive(Clone, Copy, Debug, PartialEq, Eq, Hash)]
+#[derive(Clone, Copy, PartialEq, Eq, Hash)]
 pub enum Key {
     /// The part of the program, the machine, the base of numbers, the block in use, and what is done with the lines to come.
     Control,
@@ -33,7 +33,7 @@ pub enum Key {
 }
 
 /// What came in the head of a program.
-#[derive(Clone, Copy, Debug, PartialEq, Eq)]
+#[derive(Clone, Copy, PartialEq, Eq)]
 pub struct Head {
     /// A name, by IDENT.
     pub is_named: bool,
@@ -42,7 +42,7 @@ pub struct Head {
 }
 
 /// The part of a program.
-#[derive(Clone, Copy, Debug, PartialEq, Eq)]
+#[derive(Clone, Copy, PartialEq, Eq)]
 pub enum Phase {
     /// Before the first statement other than IDENT, ABS, PERIPH, BASE, EQU, `=`, SET, TITLE, SPACE, EJECT, LIST, MACRO and ENDM, comments and lines
     /// without an operation apart.
@@ -53,7 +53,7 @@ pub enum Phase {
 }
 
 /// A range whose lines are skipped, up to its end.
-#[derive(Clone, Copy, Debug, PartialEq, Eq)]
+#[derive(Clone, Copy, PartialEq, Eq)]
 pub struct Skip {
     /// How many ranges that began in it are open.
     pub nested: u32,
@@ -62,7 +62,7 @@ pub struct Skip {
 }
 
 /// Lines that are kept.
-#[derive(Clone, Copy, Debug, PartialEq, Eq)]
+#[derive(Clone, Copy, PartialEq, Eq)]
 pub struct Kept {
     pub lines: u32,
     /// Whether there were more than a body may have.
@@ -70,7 +70,7 @@ pub struct Kept {
 }
 
 /// The body of a macro that is kept, up to ENDM.
-#[derive(Debug, PartialEq, Eq, Drop)]
+#[derive(PartialEq, Eq, Drop)]
 pub struct MacroBody {
     /// None: the definition is dropped at its end.
     pub name: Option<Name>,
@@ -79,7 +79,7 @@ pub struct MacroBody {
 }
 
 /// How far the lines of DUP reach.
-#[derive(Clone, Copy, Debug, PartialEq, Eq)]
+#[derive(Clone, Copy, PartialEq, Eq)]
 pub enum Extent {
     /// So many are still to come.
     Counted(u32),
@@ -88,7 +88,7 @@ pub enum Extent {
 }
 
 /// The lines of DUP that are kept.
-#[derive(Clone, Copy, Debug, PartialEq, Eq)]
+#[derive(Clone, Copy, PartialEq, Eq)]
 pub struct DupBody {
     /// How often they will be assembled.
     pub times: u32,
@@ -97,7 +97,7 @@ pub struct DupBody {
 }
 
 /// What is done with the lines to come.
-#[derive(Debug, PartialEq, Eq, Drop)]
+#[derive(PartialEq, Eq, Drop)]
 pub enum Mode {
     /// They are assembled.
     Normal,
@@ -137,14 +137,14 @@ impl MacroBody {
 }
 
 /// A range that is open and whose lines are assembled.
-#[derive(Clone, Copy, Debug, PartialEq, Eq)]
+#[derive(Clone, Copy, PartialEq, Eq)]
 pub enum Range {
     BeforeElse,
     BehindElse,
 }
 
 /// A macro: its parameters, and the lines of its body.
-#[derive(Debug, PartialEq, Eq, Drop)]
+#[derive(PartialEq, Eq, Drop)]
 pub struct Macro {
     pub parameters: Shared<Name>,
     pub lines: Shared<Shared<u8>>,
@@ -164,7 +164,7 @@ impl Macro {
 
 /// What holds for the lines to come that are assembled: the part of the program that they are in, the machine, the base of their numbers and the
 /// block in use.
-#[derive(Clone, Copy, Debug, PartialEq, Eq)]
+#[derive(Clone, Copy, PartialEq, Eq)]
 pub struct Control {
     pub phase: Phase,
     pub machine: Machine,
@@ -174,7 +174,7 @@ pub struct Control {
 }
 
 /// What stands at a key.
-#[derive(Debug, PartialEq, Eq, Drop)]
+#[derive(PartialEq, Eq, Drop)]
 pub enum Answer {
     Control(Control, SharedMode),
     Counter(Place),
@@ -208,14 +208,14 @@ impl Answer {
 }
 
 /// A key and what stood there, None where nothing stood.
-#[derive(Debug, PartialEq, Eq, Drop)]
+#[derive(PartialEq, Eq, Drop)]
 pub struct Asked {
     pub key: Key,
     pub answer: Option<Answer>,
 }
 
 /// A key and what stands there from now on.
-#[derive(Debug, PartialEq, Eq, Drop)]
+#[derive(PartialEq, Eq, Drop)]
 pub struct Put {
     pub key: Key,
     pub answer: Answer,

@@ -1,9 +1,9 @@
 //! What a line asked and put, and what is known of a key.
-ghost use Rattle.std.specs.Prelude.{◌≡◌, ◌++◌, ◌∷◌, [], ◌<◌, None, Some, IfOk, OnOk, IfSome, true, is_some, length, option_and_then, option_map, unwrap_or};
+ghost use Rattle.std.specs.Prelude.{◌≡◌, ◌++◌, ◌∷◌, [], ◌<◌, None, Some, IfOk, OnOk, IfSome, true, is_some, length, option_and_then, unwrap_or};
 ghost use Rattle.std.specs.Option.{option_copied};
 ghost use Rattle.std.specs.HashMap as hash;
 ghost use Rattle.cps_state.specs.declared.key.Key.{Key};
-ghost use Rattle.cps_state.specs.Course.{last_put, last_ask, known_in};
+ghost use Rattle.cps_state.specs.Course.{last_put, last_ask};
 ghost use Rattle.cps_state.specs.Log.{Log, known_of, put_at, asked_at, found_at, Indexes};
 
 use crate::hashing::Hashing;
@@ -16,7 +16,7 @@ use std::marker::Model;
 const SHORT: usize = 16;
 
 /// Where in a log the answer stands that is known of a key: in which of its asks, or of its puts. The first is 0.
-#[derive(Clone, Copy, Debug, PartialEq, Eq)]
+#[derive(Clone, Copy, PartialEq, Eq)]
 pub enum Known {
     Asked(usize),
     Put(usize),

@@ -1,5 +1,5 @@
 //! The words of the two machines.
-ghost use Rattle.std.specs.Prelude.{◌≡◌, ◌+◌, ◌*◌, ◌≤◌, ◌<◌};
+ghost use Rattle.std.specs.Prelude.{◌≡◌, ◌+◌, ◌*◌, ◌≤◌};
 ghost use Rattle.cps_expr.specs.Item.{bits_of};
 ghost use Rattle.cps_state.specs.Machines as machines;
 

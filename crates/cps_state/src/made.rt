@@ -69,7 +69,7 @@ pub struct Begun {
 }
 
 /// What a row shows beside codes.
-#[derive(Clone, Copy, Debug, PartialEq, Eq)]
+#[derive(Clone, Copy, PartialEq, Eq)]
 pub enum Shown {
     Nothing,
     /// EQU, `=` and SET: the value of the operand.
@@ -81,7 +81,7 @@ pub enum Shown {
 }
 
 /// A symbol that an expression of the statement reads, and the value that SET had given it by then.
-#[derive(Clone, Copy, Debug, PartialEq, Eq)]
+#[derive(Clone, Copy, PartialEq, Eq)]
 pub struct Held {
     pub name: Name,
     pub value: Value,

@@ -7,7 +7,7 @@ use std::marker::Model;
 use std::rc::RcSlice;
 
 /// Items that are shared and not changed: a text, the parameters of a macro, or what is open or was left, the newest in front.
-#[derive(Debug, Drop)]
+#[derive(Drop)]
 pub struct Shared<T> {
     /// None: no items.
     items: Option<RcSlice<T>>,

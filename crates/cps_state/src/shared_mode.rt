@@ -11,7 +11,7 @@ use std::marker::Model;
 use std::rc::Rc;
 
 /// A mode that is shared and not changed. Most lines are assembled, and theirs takes no memory.
-#[derive(Debug, Drop)]
+#[derive(Drop)]
 pub struct SharedMode {
     /// None: the lines are assembled.
     mode: Option<Rc<Mode>>,

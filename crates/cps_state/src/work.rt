@@ -4,7 +4,7 @@ ghost use Rattle.std.specs.Prelude.{◌≡◌};
 use std::marker::Model;
 
 /// What is counted.
-#[derive(Clone, Copy, Debug, PartialEq, Eq)]
+#[derive(Clone, Copy, PartialEq, Eq)]
 pub enum Tally {
     /// Steps of pass one: one a line.
     Ones,
@@ -15,7 +15,7 @@ pub enum Tally {
 }
 
 /// How many steps were made. A count stays at its greatest value.
-#[derive(Clone, Copy, Debug, PartialEq, Eq)]
+#[derive(Clone, Copy, PartialEq, Eq)]
 pub struct Work {
     ones: u64,
     twos: u64,

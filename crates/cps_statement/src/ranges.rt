@@ -18,7 +18,7 @@ const MOST_RANGES: usize = 20;
 const MOST_LINES: u64 = 9_999;
 
 /// Whether a test holds, and its flags; one with flags doesn't hold.
-#[derive(Clone, Copy, Debug, PartialEq, Eq)]
+#[derive(Clone, Copy, PartialEq, Eq)]
 pub struct Tested {
     pub holds: bool,
     pub flags: Flags,

@@ -8,7 +8,7 @@ use cps_reading::{Location, read_location};
 use cps_text::{Fields, operands};
 
 /// What a line says where lines are skipped or kept.
-#[derive(Clone, Copy, Debug, PartialEq, Eq)]
+#[derive(Clone, Copy, PartialEq, Eq)]
 pub enum Seen {
     /// An IF that begins a range.
     Begins,

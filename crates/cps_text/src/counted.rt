@@ -1,5 +1,5 @@
 //! Readers and writers whose calls are counted.
-ghost use Rattle.std.specs.Prelude.{◌≡◌, ◌+◌, ◌<◌, ◌≤◌, ◌⊎◌, ◌↔◌, IsNone, IfSome, IsErr, MatchOption, MatchResult, unwrap_or, take, length};
+ghost use Rattle.std.specs.Prelude.{◌≡◌, ◌<◌, ◌≤◌, ◌⊎◌, ◌↔◌, IsNone, IfSome, IsErr, MatchOption, MatchResult, unwrap_or, take, length};
 ghost use Rattle.std.specs.Io.KnownBytes.{Keeps, Appends, Consumes, IsAtEnd};
 ghost use Rattle.cps_text.specs.Counted.{inner_of, failures_of, calls_of, moved_of, idle_of, raised, raised_on_none, raised_on_zero};
 

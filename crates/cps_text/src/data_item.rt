@@ -17,7 +17,7 @@ pub const CP_CHARACTERS: usize = 10;
 pub const PP_CHARACTERS: usize = 2;
 
 /// Where the characters of an item stand in its word, and what fills the word.
-#[derive(Clone, Copy, Debug, PartialEq, Eq)]
+#[derive(Clone, Copy, PartialEq, Eq)]
 pub enum Side {
     /// L: on the left, with zeros behind them.
     Left,
@@ -28,7 +28,7 @@ pub enum Side {
 }
 
 /// A data item of characters.
-#[derive(Clone, Copy, Debug)]
+#[derive(Clone, Copy)]
 pub struct TextItem<'a> {
     pub side: Side,
     /// How many characters it stands for: those that are there, and blanks for those past the text's end.

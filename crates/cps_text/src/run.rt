@@ -1,5 +1,5 @@
 //! The first run of a text: letters, digits and points.
-ghost use Rattle.std.specs.Prelude.{◌≡◌, ◌≤◌, ◌<◌, ◌∷◌, [], not, length, IfSome};
+ghost use Rattle.std.specs.Prelude.{◌≡◌, ◌≤◌, ◌<◌, [], not, length, IfSome};
 ghost use Rattle.std.specs.List.{position, position_or_len};
 ghost use Rattle.cps_text.specs.Insertion.{is_of_run};
 ghost use Rattle.cps_text.specs.Runs.{run_len};

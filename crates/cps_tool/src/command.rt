@@ -20,7 +20,7 @@ pub enum ScriptFault {
 }
 
 /// What a line of a script asks.
-#[derive(Clone, Copy, Debug, PartialEq, Eq)]
+#[derive(Clone, Copy, PartialEq, Eq)]
 pub enum Command<'a> {
     /// To insert a text after the last line.
     Append(&'a [u8]),

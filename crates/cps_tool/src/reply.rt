@@ -3,7 +3,7 @@
 use cps_pass::Work;
 
 /// Why a line of a script is refused.
-#[derive(Clone, Copy, Debug, PartialEq, Eq)]
+#[derive(Clone, Copy, PartialEq, Eq)]
 pub enum Refusal {
     /// The source has no line of that number.
     NoSuchLine,

@@ -64,7 +64,7 @@ Exit status:
   2  a fault, which is said on standard error";
 
 /// What a call of the program asks.
-#[derive(Clone, Copy, Debug, PartialEq, Eq)]
+#[derive(Clone, Copy, PartialEq, Eq)]
 pub enum Request {
     /// To assemble the source on standard input, and to write a part of that.
     Batch(Part),
@@ -73,7 +73,7 @@ pub enum Request {
 }
 
 /// What is said where a call asks nothing of the kind, or where memory was refused. A text ends with a newline.
-#[derive(Debug, Drop)]
+#[derive(Drop)]
 pub enum Unread {
     /// The help or the version, which was asked for.
     Told(String),

@@ -1,5 +1,5 @@
 //! Running a script.
-ghost use Rattle.std.specs.Prelude.{◌≡◌, ℕ, List, [], ◌∷◌, false, true, OnOk, OnErr, IfSome, IsErrOf, MatchOption, ◌≤◌, ◌+◌};
+ghost use Rattle.std.specs.Prelude.{◌≡◌, ℕ, List, false, true, OnOk, OnErr, IfSome, IsErrOf, MatchOption, ◌≤◌, ◌+◌};
 ghost use Rattle.cps_tool.specs.Command.{is_quit};
 ghost use Rattle.cps_text.specs.Counted.{inner_of, calls_of, failures_of, FailsOnce};
 ghost use Rattle.cps_state.specs.Work.{Counts};
@@ -21,7 +21,7 @@ use std::alloc::Global;
 use std::io::{Read, Write};
 
 /// Whether a script goes on.
-#[derive(Clone, Copy, Debug, PartialEq, Eq)]
+#[derive(Clone, Copy, PartialEq, Eq)]
 pub enum Flow {
     GoesOn,
     Ends,
