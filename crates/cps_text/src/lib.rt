@@ -8,6 +8,7 @@ mod character;
 mod counted;
 mod data_item;
 mod insertion;
+pub mod limits;
 mod line;
 mod name;
 mod octal;

@@ -6,12 +6,10 @@ ghost use Rattle.cps_text.specs.Columns.{IsCard};
 ghost use Rattle.cps_text.specs.Line.{IsLine, HasBadCharacter, all_accepted, is_accepted_byte};
 
 use crate::card::{Fields, read_fields};
+use crate::limits::MOST_CHARACTERS;
 use std::alloc::Global;
 use std::marker::Model;
 use thiserror::Error;
-
-/// The most bytes that a line has.
-pub const LONGEST_LINE: usize = 90;
 
 /// Why a text is no line.
 #[derive(Clone, Copy, Debug, PartialEq, Eq, Error)]
@@ -48,11 +46,11 @@ impl Line {
     /// Whether a text is a line. Takes no memory, and never answers `Memory`.
     pub fn check(text: &[u8]) -> Result<(), LineFault>
         ensures ok { IsOk result ↔ IsLine text.now }
-        ensures long { IsErrOf result LineFault.LineTooLong ↔ (LONGEST_LINE < length text.now) }
+        ensures long { IsErrOf result LineFault.LineTooLong ↔ (MOST_CHARACTERS < length text.now) }
         ensures bad { IsErrOf result LineFault.BadCharacter ↔ HasBadCharacter text.now }
         ensures memory { IsErrOf result LineFault.Memory → ⊥ }
     {
-        if text.len() > LONGEST_LINE {
+        if text.len() > MOST_CHARACTERS {
             return Err(LineFault::LineTooLong);
         }
         if !has_accepted_bytes(text) {
@@ -65,7 +63,7 @@ impl Line {
     pub fn new(alloc: Global, text: &[u8]) -> Result<Line, LineFault>
         ensures ok { IfOk result (λ line. line ≡ text.now) }
         ensures line { IsOk result → IsLine text.now }
-        ensures long { IsErrOf result LineFault.LineTooLong ↔ (LONGEST_LINE < length text.now) }
+        ensures long { IsErrOf result LineFault.LineTooLong ↔ (MOST_CHARACTERS < length text.now) }
         ensures bad { IsErrOf result LineFault.BadCharacter ↔ HasBadCharacter text.now }
         ensures memory { IsErrOf result LineFault.Memory → IsLine text.now }
     {
