@@ -1,6 +1,7 @@
 -- USE: another block. From the manual's description of this statement; that it forces, how many blocks there may be, and how many of those that were
 -- left are kept, are our profile's.
 use Rattle.std.specs.Prelude.{ℕ, ◌+◌, Bool, true, false, ◌||◌, nat_lt, take, List, [], ◌∷◌, Option, None, Some, if◌then◌else◌}
+use Rattle.cps_text.specs.declared.limits.TheConstants.{MOST_BLOCKS}
 use Rattle.cps_text.specs.declared.name.Name.{Name}
 use Rattle.cps_expr.specs.declared.row.Block.{Block}
 use Rattle.cps_expr.specs.declared.row.Block.TheVariants.{Nominal, Previous, Named}
@@ -18,7 +19,7 @@ use Rattle.cps_site.specs.Places.{place_left, going_on, asking_place}
 
 -- how many named blocks there may be
 abbrev pub most_blocks : ℕ
-most_blocks = 64
+most_blocks = MOST_BLOCKS
 
 -- ---- the blocks that USE left, the last in front: a USE puts the one that it leaves on top, `USE *` takes the top away
 

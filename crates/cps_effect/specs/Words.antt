@@ -1,6 +1,7 @@
 -- CON, DATA and DIS: words from the beginning of a word on. From the manual's descriptions of these statements; that DIS has 1 to 100 words is our profile's.
 use Rattle.std.specs.Prelude.{ℕ, ◌+◌, ◌-◌, ◌*◌, ◌/◌, false, List, [], length, map, take, drop, Option, None, Some}
 use Rattle.std.specs.List.{range_with_len}
+use Rattle.cps_text.specs.declared.limits.TheConstants.{MOST_COUNTED_WORDS}
 use Rattle.cps_expr.specs.declared.machine.Machine.{Machine}
 use Rattle.cps_expr.specs.declared.row.DisText.{DisText}
 use Rattle.cps_expr.specs.declared.row.DisText.TheVariants.{Counted, Delimited}
@@ -63,7 +64,7 @@ counted_or_not text site value (Some count) = words (number_words site.machine (
 
 abbrev pub displaying : DisText → Site → Part
 displaying (Counted count text) site =
-    now count (here_at site.block (word_start site)) (λ value. counted_or_not text site value (between 1 100 (plain_number value)))
+    now count (here_at site.block (word_start site)) (λ value. counted_or_not text site value (between 1 MOST_COUNTED_WORDS (plain_number value)))
 displaying (Delimited text) site = words (number_words site.machine (delimited_words site.machine text)) site
 
 abbrev pub dis : Control → Location → DisText → Part

@@ -15,10 +15,8 @@ use cps_state::{
     uses_with,
 };
 use cps_text::Name;
+use cps_text::limits::MOST_BLOCKS;
 use std::alloc::{AllocError, Global};
-
-/// The most named blocks.
-const MOST_BLOCKS: u32 = 64;
 
 /// What a USE leaves: the place in the block in use, and the blocks that it may go back to, the last in front.
 #[derive(Clone, Copy)]

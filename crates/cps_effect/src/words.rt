@@ -11,10 +11,8 @@ use crate::value_now::value_now;
 use cps_expr::{DisText, Expr, Machine, Sequence, pack_characters};
 use cps_site::{Front, Site, ask_site, here_at, place, place_nothing, place_unread, word_start};
 use cps_state::{Content, Contents, Lookup, Recorder, word_bits};
+use cps_text::limits::MOST_COUNTED_WORDS;
 use std::alloc::{AllocError, Global};
-
-/// The most words that DIS counts.
-const MOST_WORDS: u8 = 100;
 
 /// The display code of a blank.
 const BLANK: u8 = 0o55;
@@ -145,7 +143,7 @@ fn display_counted<L: Lookup>(
     let begun = word_start(site);
     let here = here_at(site.block, begun.start);
     let value = value_now(recorder, count, here)?;
-    let Some(count) = between(1, MOST_WORDS, plain_number(value)) else {
+    let Some(count) = between(1, MOST_COUNTED_WORDS, plain_number(value)) else {
         let flags = no_number_flags(site, value);
         return place_nothing(recorder, site, begun, flags, Contents::none(alloc));
     };

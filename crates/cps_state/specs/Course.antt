@@ -2,6 +2,7 @@
 -- the statements that it stands for, and tells the symbols that it reads. The next key follows from the answers so far. What the line itself put or asked before is not asked again.
 use Rattle.std.specs.Prelude.{◌≡◌, ℕ, Bool, true, false, not, ◌||◌, nat_lt, List, [], ◌∷◌, ◌++◌, length, take, filter, Option, None, Some, option_map, is_some, unwrap_or, if◌then◌else◌}
 use Rattle.std.specs.Option.{option_or}
+use Rattle.cps_text.specs.declared.limits.TheConstants.{DEEPEST, MOST_STATEMENTS}
 use Rattle.cps_text.specs.declared.name.Name.{Name}
 use Rattle.cps_state.specs.declared.flags.Flags.{Flags}
 use Rattle.cps_state.specs.declared.key.Key.{Key}
@@ -120,11 +121,11 @@ begun running depth text = record running { finished = items_of running; present
 
 -- no statement stands deeper
 abbrev pub deepest : ℕ
-deepest = 10
+deepest = DEEPEST
 
 -- an expansion has no more statements
 abbrev pub most_statements : ℕ
-most_statements = 2000
+most_statements = MOST_STATEMENTS
 
 -- a statement is too much at such a depth, or after so many of its line's expansion
 abbrev pub too_much : ℕ → ℕ → Bool

@@ -1,5 +1,6 @@
 -- The state of an assembly: what each key answers. The counters and the symbols are the manual's; the keys are our own.
 use Rattle.std.specs.Prelude.{ℕ, ◌*◌, Bool, true, false, not, ◌||◌, min, nat_lt, nat_eq, List, [], ◌∷◌, Option, None, Some, if◌then◌else◌}
+use Rattle.cps_text.specs.declared.limits.TheConstants.{MOST_LEFT_BLOCKS, MOST_RANGES}
 use Rattle.cps_text.specs.declared.name.Name.{Name}
 use Rattle.cps_expr.specs.declared.machine.Machine.{Machine}
 use Rattle.cps_expr.specs.declared.machine.Machine.TheVariants.{Cp, Pp}
@@ -45,11 +46,11 @@ same_key _ _ = false
 
 -- how many of the blocks that USE left are kept
 abbrev pub most_uses : ℕ
-most_uses = 64
+most_uses = MOST_LEFT_BLOCKS
 
 -- how many ranges may be open
 abbrev pub most_ranges : ℕ
-most_ranges = 20
+most_ranges = MOST_RANGES
 
 -- ---- before the first line
 

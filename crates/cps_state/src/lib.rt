@@ -38,7 +38,7 @@ pub use log::{Known, Log};
 pub use lookup::Lookup;
 pub use machines::{WORD, behind, limit_of, word_bits};
 pub use made::{Begun, Content, Held, Made, Shown, end_of};
-pub use recorder::{DEEPEST, Recorder};
+pub use recorder::Recorder;
 pub use shared::Shared;
 pub use shared_mode::SharedMode;
 pub use sheet::Sheet;

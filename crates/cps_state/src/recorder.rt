@@ -14,15 +14,10 @@ use crate::shared::Shared;
 use crate::sheet::Sheet;
 use crate::trace::Trace;
 use cps_text::Name;
+use cps_text::limits::{DEEPEST, MOST_STATEMENTS};
 use std::alloc::{AllocError, Global};
 use std::marker::Model;
 use std::mem;
-
-/// No statement stands deeper in expansions.
-pub const DEEPEST: u8 = 10;
-
-/// The expansion of a line has no more statements.
-const MOST_STATEMENTS: usize = 2000;
 
 /// What a line has asked, put, made and read so far, over what answers its keys. It has the memory that the line takes.
 #[derive(Drop)]

@@ -4,10 +4,8 @@ ghost use Rattle.cps_state.specs.Keys.{most_uses};
 
 use crate::shared::Shared;
 use cps_text::Name;
+use cps_text::limits::MOST_LEFT_BLOCKS;
 use std::alloc::{AllocError, Global};
-
-/// How many blocks are kept.
-const MOST: usize = 64;
 
 /// A block in front of others, of which the last that there is no room for goes.
 pub fn uses_with(
@@ -17,7 +15,7 @@ pub fn uses_with(
 ) -> Result<Shared<Option<Name>>, AllocError>
     ensures { IfOk result (λ uses. uses ≡ take most_uses (block ∷ others.now)) }
 {
-    Shared::with(alloc, block, first_of(others, MOST - 1))
+    Shared::with(alloc, block, first_of(others, MOST_LEFT_BLOCKS - 1))
 }
 
 /// So many blocks, or all where there are no more.

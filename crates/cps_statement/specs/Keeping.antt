@@ -1,6 +1,7 @@
 -- Lines that are kept: the body of a macro, and the lines of DUP. From the manual's descriptions of DUP, ENDD, MACRO and ENDM; that uncounted DUPs are
 -- matched by the number of their operands alone, that a MACRO in a body isn't kept, and how long a body may be, are our profile's.
 use Rattle.std.specs.Prelude.{ℕ, ◌+◌, ◌-◌, Bool, true, false, ◌||◌, nat_lt, nat_eq, Option, None, Some, if◌then◌else◌}
+use Rattle.cps_text.specs.declared.limits.TheConstants.{MOST_BODY_LINES}
 use Rattle.cps_text.specs.declared.name.Name.{Name}
 use Rattle.cps_state.specs.declared.flags.Flags.{Flags}
 use Rattle.cps_state.specs.declared.key.DupBody.{DupBody}
@@ -23,7 +24,7 @@ use Rattle.cps_statement.specs.Skipping.{deeper}
 
 -- how many lines a body may have
 abbrev pub most_body : ℕ
-most_body = 500
+most_body = MOST_BODY_LINES
 
 abbrev pub no_lines : Kept
 no_lines = record { lines = 0; is_over = false }

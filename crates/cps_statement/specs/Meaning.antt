@@ -1,6 +1,7 @@
 -- What a statement does in pass one: by what it says, by the part of the program in which it stands, and by whether it is assembled, skipped or kept. From the
 -- manual's chapter on pseudo instructions; what stands in expansions, and how long a statement may be there, are our profile's.
 use Rattle.std.specs.Prelude.{ℕ, Bool, true, false, nat_lt, length, List, Option, None, Some, if◌then◌else◌}
+use Rattle.cps_text.specs.declared.limits.TheConstants.{MOST_CHARACTERS}
 use Rattle.cps_text.specs.declared.name.Name.{Name}
 use Rattle.cps_text.specs.Card.{StatementFields, LineFields, CommentLine, ContinuedLine, StatementLine, fields_of}
 use Rattle.cps_expr.specs.declared.operation.Operation.{Operation}
@@ -138,7 +139,7 @@ assembled control scope (StatementLine statement) behind =
 
 -- the columns of a statement; one above 90 characters, which an expansion may have, is treated as a line that continues another
 abbrev pub most_columns : ℕ
-most_columns = 90
+most_columns = MOST_CHARACTERS
 
 abbrev pub card_in : List ℕ → LineFields
 card_in text = if nat_lt most_columns (length text) then ContinuedLine else fields_of text

@@ -3,6 +3,7 @@
 -- profile's.
 use Rattle.std.specs.Prelude.{ℕ, ℤ, Bool, true, false, not, nat_eq, nat_le, int_lt, int_le, length, List, [], ◌∷◌, Option, None, Some, if◌then◌else◌}
 use Rattle.std.specs.Ordering.{int_eq}
+use Rattle.cps_text.specs.declared.limits.TheConstants.{MOST_COUNTED_LINES}
 use Rattle.cps_expr.specs.declared.operation.Relation.{Relation}
 use Rattle.cps_expr.specs.declared.operation.Relation.TheVariants.{Equal, NotEqual, Greater, GreaterOrEqual, Less, LessOrEqual}
 use Rattle.cps_expr.specs.declared.row.SymbolTest.{SymbolTest}
@@ -29,8 +30,8 @@ use Rattle.cps_effect.specs.Making.{unmatched}
 use Rattle.cps_statement.specs.Scope.{going_by, asking_ranges, putting_ranges, flagging}
 
 -- how many lines may hang on an IF
-abbrev pub most_lines : ℕ
-most_lines = 9999
+abbrev pub most_counted_lines : ℕ
+most_counted_lines = MOST_COUNTED_LINES
 
 -- ---- tests
 
@@ -71,7 +72,7 @@ asking_defined test next = asking_standing test.symbol (λ standing. tell test.s
 
 -- so many lines: a plain number
 abbrev pub line_count : ValueNow → Option ℕ
-line_count value = between 0 most_lines (plain_number value)
+line_count value = between 0 most_counted_lines (plain_number value)
 
 -- U for an undefined name, A for what is no number of lines
 abbrev pub count_flags : ValueNow → Option ℕ → Flags

@@ -1,6 +1,7 @@
 -- DUP and ENDD where lines are assembled. From the manual's descriptions of these statements; how often lines may be repeated, how many they may be, and which
 -- values are no such numbers, are our profile's.
 use Rattle.std.specs.Prelude.{ℕ, nat_lt, nat_le, Option, None, Some, if◌then◌else◌}
+use Rattle.cps_text.specs.declared.limits.TheConstants.{MOST_TIMES}
 use Rattle.cps_expr.specs.declared.row.Repetition.{Repetition}
 use Rattle.cps_expr.specs.Expression.{Expression}
 use Rattle.cps_state.specs.declared.flags.Flags.{Flags}
@@ -23,7 +24,7 @@ use Rattle.cps_statement.specs.Scope.{going_by, flagging}
 
 -- how often lines may be repeated
 abbrev pub most_times : ℕ
-most_times = 1000
+most_times = MOST_TIMES
 
 -- how often: a plain number; one with a flag is 0
 abbrev pub times_in : Option ℕ → ℕ

@@ -9,10 +9,8 @@ use crate::treatment::Treatment;
 use cps_reading::Location;
 use cps_site::present_flags;
 use cps_state::{DupBody, Extent, Flags, Kept, MacroBody, Mode};
+use cps_text::limits::MOST_BODY_LINES;
 use std::alloc::AllocError;
-
-/// How many lines a body may have.
-pub const MOST_BODY: u32 = 500;
 
 /// No lines yet.
 pub fn no_lines() -> Kept
@@ -47,7 +45,7 @@ fn over(kept: Kept) -> Kept
 fn is_too_long(kept: Kept) -> bool
     ensures { result ≡ keeping.is_too_long kept }
 {
-    kept.is_over || kept.lines > MOST_BODY
+    kept.is_over || kept.lines > MOST_BODY_LINES
 }
 
 /// E alone.
@@ -93,7 +91,7 @@ fn macro_line(body: &MacroBody) -> Result<Treatment, AllocError>
     ensures { IfOk result (λ treatment. treatment ≡ keeping.one_more (keeping.macro_with body.now) body.now.kept) }
 {
     let kept = body.kept;
-    if kept.lines >= MOST_BODY {
+    if kept.lines >= MOST_BODY_LINES {
         let later = macro_with(body, over(kept))?;
         return Ok(Treatment::Passes(later, None, over_flags()));
     }
@@ -151,7 +149,7 @@ fn going_on_to(body: DupBody, extent: Extent) -> Treatment
     ensures { result ≡ keeping.going_on_to body extent }
 {
     let kept = body.kept;
-    if kept.lines >= MOST_BODY {
+    if kept.lines >= MOST_BODY_LINES {
         let later = dup_with(body, extent, over(kept));
         return Treatment::Passes(later, None, over_flags());
     }

@@ -9,13 +9,8 @@ use cps_expr::{Comparison, Expr, Relation, SymbolTest};
 use cps_reading::Location;
 use cps_site::{Front, ask_standing, has_value, present_flags};
 use cps_state::{Control, Flags, Lookup, Mode, Range, Recorder, Shared, Skip, is_same_block};
+use cps_text::limits::{MOST_COUNTED_LINES, MOST_RANGES};
 use std::alloc::AllocError;
-
-/// How many ranges may be open.
-const MOST_RANGES: usize = 20;
-
-/// How many lines may hang on an IF.
-const MOST_LINES: u64 = 9_999;
 
 /// Whether a test holds, and its flags; one with flags doesn't hold.
 #[derive(Clone, Copy, PartialEq, Eq)]
@@ -262,7 +257,7 @@ fn line_count(value: ValueNow) -> Option<u32>
     ensures { result ≡ meaning.line_count value }
 {
     match plain_number(value) {
-        Some(count) if count <= MOST_LINES => Some(count as u32),
+        Some(count) if count <= MOST_COUNTED_LINES => Some(count as u32),
         _ => None,
     }
 }

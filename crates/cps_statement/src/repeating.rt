@@ -4,17 +4,15 @@ ghost use Rattle.cps_state.specs.Line.{Hands};
 ghost use Rattle.cps_effect.specs.Numbers.{plain_number};
 ghost use Rattle.cps_statement.specs.Repeating as repeating;
 
-use crate::keeping::{MOST_BODY, no_lines};
+use crate::keeping::no_lines;
 use crate::ranges::count_flags;
 use crate::scope::{Scope, go_by};
 use cps_effect::{ValueNow, flag, plain_number, value_here};
 use cps_expr::{Expr, Repetition};
 use cps_site::{Front, present_flags};
 use cps_state::{DupBody, Extent, Flags, Lookup, Mode, Recorder};
+use cps_text::limits::{MOST_BODY_LINES, MOST_TIMES};
 use std::alloc::AllocError;
-
-/// How often lines may be repeated.
-const MOST_TIMES: u64 = 1_000;
 
 /// DUP: the lines to come are kept.
 pub fn dup<L: Lookup>(
@@ -104,7 +102,7 @@ fn body_count(lines: ValueNow) -> Option<u32>
     ensures { result ≡ repeating.body_count lines }
 {
     match plain_number(lines) {
-        Some(count) if count >= 1 && count <= u64::from(MOST_BODY) => Some(count as u32),
+        Some(count) if count >= 1 && count <= u64::from(MOST_BODY_LINES) => Some(count as u32),
         _ => None,
     }
 }

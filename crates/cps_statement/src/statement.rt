@@ -29,11 +29,9 @@ use cps_site::{Front, stand};
 use cps_state::{
     Control, Flags, Key, Lookup, Mode, Phase, Recorder, control_of, macro_of, mode_of,
 };
+use cps_text::limits::MOST_CHARACTERS;
 use cps_text::{Fields, Name, StatementFields, read_fields};
 use std::alloc::AllocError;
-
-/// The columns of a statement.
-const MOST_COLUMNS: usize = 90;
 
 /// A statement as it is written, with its columns.
 #[derive(Clone, Copy)]
@@ -67,7 +65,7 @@ pub fn step_statement<L: Lookup>(
 fn card_in(text: &[u8]) -> Fields<'_>
     ensures { fields_value result ≡ meaning.card_in text.now }
 {
-    if text.len() > MOST_COLUMNS {
+    if text.len() > MOST_CHARACTERS {
         return Fields::Continued;
     }
     read_fields(text)
