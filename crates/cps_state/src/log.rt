@@ -93,7 +93,7 @@ impl Log {
         }
     }
 
-    /// One more ask, of a key of which nothing is known.
+    /// One more ask, of a key of which nothing is known. What may be refused lets the ask go by a call: a `?` here goes through all its cases.
     #[inline(always)]
     pub fn push_ask(&mut self, asked: Asked) -> Result<Known, AllocError>
         requires { known_of self.old asked.key ≡ None }
@@ -102,8 +102,14 @@ impl Log {
     {
         let known = Known::Asked(self.asks.len());
         if let Some(index) = &mut self.index {
-            self.asks.reserve(1)?;
-            index.insert(asked.key, known)?;
+            let Ok(_) = self.asks.reserve(1) else {
+                drop(asked);
+                return Err(AllocError);
+            };
+            let Ok(_) = index.insert(asked.key, known) else {
+                drop(asked);
+                return Err(AllocError);
+            };
             self.asks.push_reserved(asked);
             return Ok(known);
         }
@@ -118,8 +124,14 @@ impl Log {
         ensures { OnOk result (self.new ≡ record self.old { puts = self.old.puts ++ put ∷ [] }) }
     {
         if let Some(index) = &mut self.index {
-            self.puts.reserve(1)?;
-            index.insert(put.key, Known::Put(self.puts.len()))?;
+            let Ok(_) = self.puts.reserve(1) else {
+                drop(put);
+                return Err(AllocError);
+            };
+            let Ok(_) = index.insert(put.key, Known::Put(self.puts.len())) else {
+                drop(put);
+                return Err(AllocError);
+            };
             self.puts.push_reserved(put);
             return Ok(());
         }

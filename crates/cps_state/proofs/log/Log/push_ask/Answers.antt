@@ -19,7 +19,7 @@ invariant_of-self-in-Some c = λ k.
     let count : c.len.result ≡ length asks = search rules in
     let was : (q : Key) → Indexes asks puts q (hash.get (eq-value.it) index q) = rw c.in-Some.is at c.self.invariant in
     let more : hash.get (eq-value.it) c.insert.new.self k ≡ cond ((eq-value.it) e.key k) (Some (Asked (length asks))) (hash.get (eq-value.it) index k)
-    = cc (c.in_ok-insert.ensures.updates.0 k, count, c.deref_mut.ensures.value) in
+    = cc (c.in-Ok-insert.ensures.updates.0 k, count, c.deref_mut.ensures.value) in
     rw pushed (indexes-ask asks puts e k _ (hash.get (eq-value.it) index k) none more (was k))
 
 pub returns-in-Some-clause-answer : goal.returns-in-Some-clause-answer

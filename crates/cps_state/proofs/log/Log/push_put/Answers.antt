@@ -18,5 +18,5 @@ invariant_of-self-in-Some c = λ k.
     let count : c.len.result ≡ length puts = search rules in
     let was : (q : Key) → Indexes asks puts q (hash.get (eq-value.it) index q) = rw c.in-Some.is at c.self.invariant in
     let more : hash.get (eq-value.it) c.insert.new.self k ≡ cond ((eq-value.it) p.key k) (Some (Put (length puts))) (hash.get (eq-value.it) index k)
-    = cc (c.in_ok-insert.ensures.updates.0 k, count, c.deref_mut.ensures.value) in
+    = cc (c.in-Ok-insert.ensures.updates.0 k, count, c.deref_mut.ensures.value) in
     rw pushed (indexes-put asks puts p k _ (hash.get (eq-value.it) index k) more (was k))
