@@ -155,12 +155,13 @@ impl<'a, L: Lookup> Recorder<'a, L> {
         if depth > DEEPEST || self.finished.len() >= MOST_STATEMENTS {
             return Ok(false);
         }
-        self.finished.reserve(1)?;
+        let Ok(_) = self.finished.reserve(1) else {
+            drop(text);
+            return Err(AllocError);
+        };
         let next = Item::blank(self.alloc, depth, text);
         let last = mem::replace(&mut self.present, next);
-        let Ok(_) = self.finished.push(last) else {
-            unreachable!();
-        };
+        self.finished.push_reserved(last);
         Ok(true)
     }
 
@@ -179,8 +180,11 @@ impl<'a, L: Lookup> Recorder<'a, L> {
         } = self;
         let (asks, mut puts) = log.into_parts();
         if complete {
-            items.reserve_exact(1)?;
-            items.push(present)?;
+            let Ok(_) = items.reserve_exact(1) else {
+                drop(present);
+                return Err(AllocError);
+            };
+            items.push_reserved(present);
             return Ok(Trace::new(asks, puts, items, reads));
         }
         puts.truncate(settled);

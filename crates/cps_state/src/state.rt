@@ -107,17 +107,18 @@ impl State {
         }
     }
 
+    /// Puts one answer. What stood there goes by a call: an assignment here goes through all cases of an answer.
     fn put(&mut self, put: Put)
         requires { 0 < hash.spare self.old.others }
         ensures answer { ⟦<State as Lookup>⟧.answer self.new ≡ with_put (⟦<State as Lookup>⟧.answer self.old) put }
         ensures room { hash.spare self.old.others ≤ hash.spare self.new.others + 1 }
     {
         match put.key {
-            Key::Control => self.control = put.answer,
-            Key::Counter(None) => self.nominal = put.answer,
-            Key::Uses => self.uses = put.answer,
-            Key::Blocks => self.blocks = put.answer,
-            Key::Ifs => self.ranges = put.answer,
+            Key::Control => drop(mem::replace(&mut self.control, put.answer)),
+            Key::Counter(None) => drop(mem::replace(&mut self.nominal, put.answer)),
+            Key::Uses => drop(mem::replace(&mut self.uses, put.answer)),
+            Key::Blocks => drop(mem::replace(&mut self.blocks, put.answer)),
+            Key::Ifs => drop(mem::replace(&mut self.ranges, put.answer)),
             key => self.put_other(key, put.answer),
         }
     }
@@ -128,8 +129,9 @@ impl State {
         ensures answer { (k : Key) → ⟦<State as Lookup>⟧.answer self.new k ≡ with_put (⟦<State as Lookup>⟧.answer self.old) (record { key = key; answer = answer }) k }
         ensures room { hash.spare self.old.others ≤ hash.spare self.new.others + 1 }
     {
-        let Ok(_) = self.others.insert(key, answer) else {
+        let Ok(old) = self.others.insert(key, answer) else {
             unreachable!();
         };
+        drop(old);
     }
 }
