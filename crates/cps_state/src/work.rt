@@ -14,8 +14,8 @@ pub enum Tally {
     Looked,
 }
 
-/// How many steps were made. A count stays at its greatest value.
-#[derive(Clone, Copy, PartialEq, Eq)]
+/// How many steps were made. A count stays at its greatest value. A second counter comes of `Work::new` alone.
+#[derive(PartialEq, Eq)]
 pub struct Work {
     ones: u64,
     twos: u64,
