@@ -20,7 +20,6 @@ pub fn end<L: Lookup>(
 ) -> Result<(), AllocError>
     ensures { OnOk result (Does (meaning.end front.control mode.now front.location) L.answer recorder.old recorder.new) }
 {
-    let alloc = recorder.alloc();
     let ranges = recorder.note(Key::Ifs)?;
     let is_closed = is_no_range(recorder.answer(ranges));
     let left = leave_word(stand(recorder, front.control)?);
@@ -28,7 +27,6 @@ pub fn end<L: Lookup>(
     recorder.put(Key::Ifs, Answer::Ifs(Shared::empty()))?;
     put_control(recorder, with_end(front.control))?;
     recorder.fill(Made::leaving(
-        alloc,
         end_flags(mode, front.location, is_closed),
         front.control.machine,
         left.filling,

@@ -96,14 +96,13 @@ fn name_program<L: Lookup>(
 ) -> Result<(), AllocError>
     ensures { OnOk result (Does (head.ident front.control front.location (Some name)) L.answer recorder.old recorder.new) }
 {
-    let alloc = recorder.alloc();
     let flags = ident_flags(front.control.phase, front.location, Some(name));
     if is_late_name(front.control.phase) {
         flag(recorder, flags);
         return Ok(());
     }
     enter(recorder, front.control, with_name(front.control.phase))?;
-    recorder.fill(Made::naming(alloc, flags, name));
+    recorder.fill(Made::naming(flags, name));
     Ok(())
 }
 

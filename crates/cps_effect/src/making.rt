@@ -12,8 +12,7 @@ use cps_state::{Flags, Lookup, Made, Recorder};
 pub fn flag<L: Lookup>(recorder: &mut Recorder<'_, L>, flags: Flags)
     ensures { recorder.new ≡ line_filled recorder.old (nothing_made flags) }
 {
-    let alloc = recorder.alloc();
-    recorder.fill(Made::nothing(alloc, flags));
+    recorder.fill(Made::nothing(flags));
 }
 
 /// A statement without an operation, or with one that isn't there.

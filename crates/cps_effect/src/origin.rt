@@ -77,7 +77,6 @@ fn move_to<L: Lookup>(
     requires { place.word < 2 ^ 26 }
     ensures { OnOk result (Does (meaning.moving_to front.control front.location place block address) L.answer recorder.old recorder.new) }
 {
-    let alloc = recorder.alloc();
     if address > u64::from(limit_of(front.control.machine)) {
         unmatched(recorder, front.location);
         return Ok(());
@@ -91,7 +90,6 @@ fn move_to<L: Lookup>(
         offset: address as i64,
     });
     recorder.fill(Made::leaving(
-        alloc,
         present_flags(front.location),
         front.control.machine,
         left.filling,

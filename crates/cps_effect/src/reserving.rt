@@ -88,7 +88,6 @@ fn reserve<L: Lookup>(
     let after = begun.start + WORD * words;
     settle(recorder, site, begun.start, after, false)?;
     recorder.fill(Made::reserving(
-        alloc,
         placing_flags(site),
         site.machine,
         begun,

@@ -162,8 +162,7 @@ fn list_value<L: Lookup>(recorder: &mut Recorder<'_, L>, flags: Flags, value: Va
             flag(recorder, flags);
         }
         ValueNow::Known(value) => {
-            let alloc = recorder.alloc();
-            recorder.fill(Made::showing(alloc, flags, Shown::Value(value)));
+            recorder.fill(Made::showing(flags, Shown::Value(value)));
         }
     }
 }

@@ -16,7 +16,7 @@ use cps_state::{
 };
 use cps_text::Name;
 use cps_text::limits::MOST_BLOCKS;
-use std::alloc::{AllocError, Global};
+use std::alloc::AllocError;
 
 /// What a USE leaves: the place in the block in use, and the blocks that it may go back to, the last in front.
 #[derive(Clone, Copy)]
@@ -159,7 +159,6 @@ fn go_to<L: Lookup>(
 ) -> Result<(), AllocError>
     ensures { OnOk result (Does (use_of.going_to leaving.entry.front.control leaving.entry.front.location leaving.entry.place uses count block) L.answer recorder.old recorder.new) }
 {
-    let alloc = recorder.alloc();
     let control = leaving.front.control;
     let left = leave_word(leaving.place);
     go_on(recorder, control.block, left.start, false)?;
@@ -170,7 +169,6 @@ fn go_to<L: Lookup>(
     }
     select(recorder, control, block)?;
     recorder.fill(Made::leaving(
-        alloc,
         present_flags(leaving.front.location),
         control.machine,
         left.filling,

@@ -6,7 +6,6 @@ use crate::flags::Flags;
 use crate::made::Made;
 use crate::shared::Shared;
 use cps_text::Name;
-use std::alloc::Global;
 
 /// Whether a statement has a place, and in which block.
 #[derive(Clone, Copy, PartialEq, Eq)]
@@ -29,14 +28,14 @@ pub struct Item {
 
 impl Item {
     /// Of a statement that has begun.
-    pub fn blank(alloc: Global, depth: u8, text: Shared<u8>) -> Item
+    pub fn blank(depth: u8, text: Shared<u8>) -> Item
         ensures { result ≡ blank_item depth text }
     {
         Item {
             depth,
             text,
             stand: Stand::Nowhere,
-            made: Made::nothing(alloc, Flags::none()),
+            made: Made::nothing(Flags::none()),
         }
     }
 

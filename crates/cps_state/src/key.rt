@@ -7,7 +7,7 @@ use crate::shared_mode::SharedMode;
 use cps_code::Place;
 use cps_expr::{Machine, Radix, Value, is_same_name};
 use cps_text::Name;
-use std::alloc::{AllocError, Global};
+use std::alloc::AllocError;
 
 /// A part of the state of an assembly.
 #[derive(Clone, Copy, PartialEq, Eq, Hash)]

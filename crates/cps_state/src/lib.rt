@@ -22,8 +22,8 @@ mod uses;
 mod work;
 
 pub use answers::{
-    control_of, count_of, first_control, is_no_range, is_normal, is_open, is_place, macro_of,
-    mode_of, place_of, ranges_of, text_of, uses_of, value_of,
+    control_of, count_of, is_no_range, is_normal, is_open, is_place, macro_of, mode_of, place_of,
+    ranges_of, text_of, uses_of, value_of,
 };
 pub use contents::Contents;
 pub use flags::Flags;
@@ -34,7 +34,7 @@ pub use key::{
     Answer, Asked, Control, DupBody, Extent, Head, Kept, Key, Macro, MacroBody, Mode, Phase, Put,
     Range, Skip, is_same_block,
 };
-pub use log::{Known, Log};
+pub use log::Known;
 pub use lookup::Lookup;
 pub use machines::{WORD, behind, limit_of, word_bits};
 pub use made::{Begun, Content, Held, Made, Shown, end_of};

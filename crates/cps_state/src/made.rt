@@ -14,7 +14,6 @@ use crate::machines::{WORD, behind, limit_of};
 use cps_code::Piece;
 use cps_expr::{Expr, Machine, Value};
 use cps_text::Name;
-use std::alloc::Global;
 use std::marker::Model;
 
 /// What stands in bits of a statement that are told as one.
@@ -138,7 +137,7 @@ impl Model for Made {
 
 impl Made {
     /// Of a statement that does nothing but have flags.
-    pub fn nothing(_alloc: Global, flags: Flags) -> Made
+    pub fn nothing(flags: Flags) -> Made
         ensures { result ≡ nothing_made flags }
     {
         Made {
@@ -152,7 +151,7 @@ impl Made {
     }
 
     /// Of a statement that names the program.
-    pub fn naming(_alloc: Global, flags: Flags, name: Name) -> Made
+    pub fn naming(flags: Flags, name: Name) -> Made
         ensures { result ≡ record (nothing_made flags) { program = Some name } }
     {
         Made {
@@ -162,20 +161,14 @@ impl Made {
     }
 
     /// Of a statement whose row shows something.
-    pub fn showing(alloc: Global, flags: Flags, shown: Shown) -> Made
+    pub fn showing(flags: Flags, shown: Shown) -> Made
         ensures { result ≡ record (nothing_made flags) { shown = shown } }
     {
-        Made::leaving(alloc, flags, Machine::Cp, None, shown)
+        Made::leaving(flags, Machine::Cp, None, shown)
     }
 
     /// Of a statement that leaves bits of a block, and perhaps shows something.
-    pub fn leaving(
-        _alloc: Global,
-        flags: Flags,
-        machine: Machine,
-        filling: Option<Piece>,
-        shown: Shown,
-    ) -> Made
+    pub fn leaving(flags: Flags, machine: Machine, filling: Option<Piece>, shown: Shown) -> Made
         ensures { result ≡ record (nothing_made flags) { machine = machine; filling = option_to_list (option_map piece_of filling); shown = shown } }
     {
         Made {
@@ -189,13 +182,7 @@ impl Made {
     }
 
     /// Of a statement that reserves words, or that makes so many words of zeros.
-    pub fn reserving(
-        _alloc: Global,
-        flags: Flags,
-        machine: Machine,
-        begun: Begun,
-        zeros: u32,
-    ) -> Made
+    pub fn reserving(flags: Flags, machine: Machine, begun: Begun, zeros: u32) -> Made
         requires word { begun.start % 60 < bits_of machine }
         requires within { begun.start ≤ 60 * limit machine }
         ensures { result ≡ record (nothing_made flags) { machine = machine; filling = option_to_list (option_map piece_of begun.filling); start = begun.start; zeros = zeros; shown = Shown.Start } }

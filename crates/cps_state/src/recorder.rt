@@ -61,7 +61,7 @@ impl<'a, L: Lookup> Recorder<'a, L> {
             log: Log::of(alloc, state.hashing(), asks, puts),
             settled: 0,
             finished: Vec::new(alloc),
-            present: Item::blank(alloc, 0, Shared::empty()),
+            present: Item::blank(0, Shared::empty()),
             reads,
         }
     }
@@ -159,7 +159,7 @@ impl<'a, L: Lookup> Recorder<'a, L> {
             drop(text);
             return Err(AllocError);
         };
-        let next = Item::blank(self.alloc, depth, text);
+        let next = Item::blank(depth, text);
         let last = mem::replace(&mut self.present, next);
         self.finished.push_reserved(last);
         Ok(true)
@@ -214,13 +214,13 @@ fn dropped_trace(
     ensures { IfOk result (λ trace. trace ≡ record { asks = asks.items; puts = control_puts puts.now; items = dropped_item own.now ∷ []; reads = [] }) }
 {
     let mut only = Vec::with_capacity(alloc, 1)?;
-    only.push(dropped_item(alloc, own))?;
+    only.push(dropped_item(own))?;
     let puts = control_puts(alloc, puts)?;
     Ok(Trace::new(asks, puts, only, Vec::new(alloc)))
 }
 
 /// The statement of a line that is dropped.
-fn dropped_item(alloc: Global, own: &Item) -> Item
+fn dropped_item(own: &Item) -> Item
     ensures { result ≡ dropped_item own.now }
 {
     let mut flags = Flags::none();
@@ -229,7 +229,7 @@ fn dropped_item(alloc: Global, own: &Item) -> Item
         depth: 0,
         text: Shared::empty(),
         stand: own.stand,
-        made: Made::nothing(alloc, flags),
+        made: Made::nothing(flags),
     }
 }
 

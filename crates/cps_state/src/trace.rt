@@ -58,14 +58,6 @@ impl Trace {
         self.items.as_slice()
     }
 
-    /// The statements alone.
-    pub fn into_items(self) -> Vec<Item>
-        ensures { result.items ≡ self.items }
-    {
-        let (items, _) = self.into_parts();
-        items
-    }
-
     /// The statements, and the lists of the rest for the next line.
     pub fn into_parts(self) -> (Vec<Item>, Sheet)
         ensures { result.0.items ≡ self.items }

@@ -103,14 +103,13 @@ fn call_made(made: Made, is_bound: bool) -> Made
 fn call_at<L: Lookup>(recorder: &mut Recorder<'_, L>, front: Front) -> Result<Made, AllocError>
     ensures { IfOk result (λ made. Hands (macros.call_at front.control front.location) made L.answer recorder.old recorder.new) }
 {
-    let alloc = recorder.alloc();
     match front.location {
-        Location::Absent => Ok(Made::nothing(alloc, Flags::none())),
+        Location::Absent => Ok(Made::nothing(Flags::none())),
         Location::Symbol(_) => label(recorder, front),
         _ => {
             let mut flags = Flags::none();
             flags.location = true;
-            Ok(Made::nothing(alloc, flags))
+            Ok(Made::nothing(flags))
         }
     }
 }
@@ -118,12 +117,10 @@ fn call_at<L: Lookup>(recorder: &mut Recorder<'_, L>, front: Front) -> Result<Ma
 fn label<L: Lookup>(recorder: &mut Recorder<'_, L>, front: Front) -> Result<Made, AllocError>
     ensures { IfOk result (λ made. Hands (macros.labelling front.control front.location) made L.answer recorder.old recorder.new) }
 {
-    let alloc = recorder.alloc();
     let site = ask_site(recorder, front)?;
     let begun = word_start(site);
     settle(recorder, site, begun.start, begun.start, false)?;
     Ok(Made::leaving(
-        alloc,
         placing_flags(site),
         site.machine,
         begun.filling,
