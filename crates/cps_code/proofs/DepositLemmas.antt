@@ -3,7 +3,7 @@ use Rattle.std.proofs.Common.{◌≡◌, ◌≢◌, ℕ, ◌+◌, ◌-◌, ◌<�
 use Rattle.std.proofs.lemmas.Bool.{cases_eq}
 use Rattle.std.proofs.lemmas.Bool.Decides.{nat_tests}
 use Rattle.cps_code.specs.Image.{Piece}
-use Rattle.cps_code.specs.Bits.{bit_from_left}
+use Rattle.cps_place.specs.Bits.{bit_from_left}
 use Rattle.cps_code.specs.Slots.{AreWords}
 use Rattle.cps_code.specs.Image.{word_at, bit_at_place, covers_word, covers_bit, Deposits}
 

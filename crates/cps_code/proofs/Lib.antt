@@ -1,9 +1,6 @@
 pub mod BitLemmas
-pub mod FillingLemmas
 pub mod DepositLemmas
 pub mod PackedLemmas
-pub mod LeastLemmas
-pub mod NumberLemmas
 pub mod SumReading
 pub mod HoleLemmas
 pub mod SetLemmas

@@ -1,6 +1,6 @@
-pub mod Bits
-pub mod Least
-pub mod Place
+pub use Rattle.cps_place.specs.Bits
+pub use Rattle.cps_place.specs.Least
+pub use Rattle.cps_place.specs.Place
 pub mod Image
 pub mod Slots
 pub mod Value

@@ -19,7 +19,7 @@ use Rattle.cps_code.specs.declared.operation.FieldForm.TheVariants as field
 use Rattle.cps_code.specs.declared.operation.Forms.{Forms}
 use Rattle.cps_code.specs.declared.operation.Forms.TheVariants.{Pass, Stop, SetA, SetB, SetX, Jump, Fields}
 use Rattle.cps_code.specs.declared.register.RegisterTerm.{RegisterTerm}
-use Rattle.cps_code.specs.Bits.{constant_bits, count_bits}
+use Rattle.cps_place.specs.Bits.{constant_bits, count_bits}
 use Rattle.cps_code.specs.Form.{Form}
 use Rattle.cps_code.specs.Operand.{operand_of}
 use Rattle.cps_code.specs.Rows.{Shape, Found, RowForm, Operation, Named, Operands, unread, fields, summed, turned_sum, registers_in, found_in_sum, form_found}

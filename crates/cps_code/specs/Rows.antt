@@ -16,7 +16,7 @@ use Rattle.cps_code.specs.declared.register.Letter.TheVariants.{A, B, X}
 use Rattle.cps_code.specs.declared.register.RegisterTerm.{RegisterTerm}
 use Rattle.cps_text.specs.Operands.{operands_of}
 use Rattle.cps_text.specs.Text.{among}
-use Rattle.cps_code.specs.Bits.{constant_bits, count_bits}
+use Rattle.cps_place.specs.Bits.{constant_bits, count_bits}
 use Rattle.cps_code.specs.Digits.{first_digit, with_digit, digits_in, octal}
 use Rattle.cps_code.specs.Operand.{operand_of}
 use Rattle.cps_code.specs.Sum.{Summed, summed_of}

@@ -1,5 +1,5 @@
 ghost use Rattle.std.specs.Prelude.{◌≡◌, ◌<◌, ◌^◌, ◌≤◌, length};
-ghost use Rattle.cps_code.specs.Bits.{parcel_bits};
+ghost use Rattle.cps_place.specs.Bits.{parcel_bits};
 ghost use Rattle.cps_code.specs.Form.{IsForm, filled};
 ghost use Rattle.cps_code.specs.Operand.{IsOperand};
 ghost use Rattle.cps_expr.specs.declared.machine.Machine.TheVariants.{Cp};
@@ -8,8 +8,8 @@ ghost use Rattle.cps_code.specs.Operations.{short_form, long_form, bare_form, co
 use super::filled::Filled;
 use super::filling_holes::fill_holes;
 use super::hole::{Hole, HoleKind, Operand};
-use super::widths::{CONSTANT, COUNT, PARCEL};
 use cps_expr::Expr;
+use cps_place::{CONSTANT, COUNT, PARCEL};
 use std::marker::Model;
 
 /// The form of a statement of the central processor: a code of 15 or 30 bits with holes.

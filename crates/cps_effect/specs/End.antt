@@ -1,6 +1,6 @@
 -- END on a source line. From the manual's description of this statement; that it forces, and that it ends ranges, are our profile's.
 use Rattle.std.specs.Prelude.{false, Bool, not, ◌||◌, []}
-use Rattle.cps_code.specs.declared.place.Place.{Place}
+use Rattle.cps_place.specs.declared.place.Place.{Place}
 use Rattle.cps_state.specs.declared.flags.Flags.{Flags}
 use Rattle.cps_state.specs.declared.key.Key.TheVariants as key
 use Rattle.cps_state.specs.declared.key.Answer.TheVariants as answer

@@ -2,7 +2,7 @@
 -- our profile's.
 use Rattle.std.specs.Prelude.{Option, if◌then◌else◌}
 use Rattle.cps_text.specs.declared.name.Name.{Name}
-use Rattle.cps_code.specs.declared.place.Place.{Place}
+use Rattle.cps_place.specs.declared.place.Place.{Place}
 use Rattle.cps_code.specs.Place.{position}
 use Rattle.cps_state.specs.declared.key.Control.{Control}
 use Rattle.cps_state.specs.Course.{Part, nothing}

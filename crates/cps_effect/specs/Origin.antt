@@ -2,7 +2,7 @@
 use Rattle.std.specs.Prelude.{ℕ, ◌*◌, true, false, nat_lt, pos, Option, None, Some, if◌then◌else◌}
 use Rattle.cps_text.specs.declared.name.Name.{Name}
 use Rattle.cps_expr.specs.Expression.{Expression}
-use Rattle.cps_code.specs.declared.place.Place.{Place}
+use Rattle.cps_place.specs.declared.place.Place.{Place}
 use Rattle.cps_state.specs.declared.key.Control.{Control}
 use Rattle.cps_state.specs.declared.made.Shown.TheVariants as shown
 use Rattle.cps_state.specs.Course.{Part, ◌before◌, fill}

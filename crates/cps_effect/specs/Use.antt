@@ -5,7 +5,7 @@ use Rattle.cps_text.specs.declared.limits.TheConstants.{MOST_BLOCKS}
 use Rattle.cps_text.specs.declared.name.Name.{Name}
 use Rattle.cps_expr.specs.declared.row.Block.{Block}
 use Rattle.cps_expr.specs.declared.row.Block.TheVariants.{Nominal, Previous, Named}
-use Rattle.cps_code.specs.declared.place.Place.{Place}
+use Rattle.cps_place.specs.declared.place.Place.{Place}
 use Rattle.cps_state.specs.declared.key.Key.TheVariants as key
 use Rattle.cps_state.specs.declared.key.Answer.{Answer}
 use Rattle.cps_state.specs.declared.key.Answer.TheVariants as answer

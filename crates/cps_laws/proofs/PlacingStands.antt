@@ -1,7 +1,7 @@
 -- What statements that are placed do once they stand, and what all statements share.
 use Rattle.cps_code.specs.Form.{Form}
 use Rattle.cps_code.specs.Place.{position}
-use Rattle.cps_code.specs.declared.place.Place.{Place}
+use Rattle.cps_place.specs.declared.place.Place.{Place}
 use Rattle.cps_effect.specs.Fields.{Sized, are_sized, fields_in, no_fields_sized, placing_fields, sizing, with_field}
 use Rattle.cps_effect.specs.Instruction.{coded, peripheral_coded}
 use Rattle.cps_site.specs.Located.{asking_standing, asking_taken, defining, has_value, standing_by, symbol_in}

@@ -1,7 +1,7 @@
 -- Statements that neither skip, keep nor open lines stand only where they ask the counter of the block in use.
 use Rattle.cps_code.specs.Form.{Form}
 use Rattle.cps_code.specs.Place.{position}
-use Rattle.cps_code.specs.declared.place.Place.{Place}
+use Rattle.cps_place.specs.declared.place.Place.{Place}
 use Rattle.cps_effect.specs.End.{end, ending}
 use Rattle.cps_effect.specs.Leaving.{left, using}
 use Rattle.cps_effect.specs.Origin.{moving, moving_by, moving_to, org, org_from, unread_org}

@@ -4,8 +4,8 @@ use Rattle.cps_text.specs.declared.name.Name.{Name}
 use Rattle.cps_expr.specs.declared.machine.Machine.{Machine}
 use Rattle.cps_expr.specs.declared.machine.Machine.TheVariants.{Cp, Pp}
 use Rattle.cps_expr.specs.declared.value.Value.{Value as AValue}
-use Rattle.cps_code.specs.declared.place.Filling.{Filling}
-use Rattle.cps_code.specs.declared.place.Place.{Place}
+use Rattle.cps_place.specs.declared.place.Filling.{Filling}
+use Rattle.cps_place.specs.declared.place.Place.{Place}
 use Rattle.cps_code.specs.Image.{Piece}
 use Rattle.cps_code.specs.Place.{position, place_at, start_of, skipped}
 use Rattle.cps_state.specs.declared.key.Control.{Control}

@@ -4,8 +4,8 @@ use Rattle.std.specs.Prelude.{ℕ, ◌*◌, Bool, true, false, nat_lt, List, [],
 use Rattle.cps_text.specs.declared.name.Name.{Name}
 use Rattle.cps_expr.specs.declared.value.Value.{Value as AValue}
 use Rattle.cps_code.specs.Image.{Piece}
-use Rattle.cps_code.specs.declared.place.Force.{Force}
-use Rattle.cps_code.specs.declared.place.Force.TheVariants.{Free, NewWord, Cancel}
+use Rattle.cps_place.specs.declared.place.Force.{Force}
+use Rattle.cps_place.specs.declared.place.Force.TheVariants.{Free, NewWord, Cancel}
 use Rattle.cps_code.specs.Place.{position, is_forced, start_of}
 use Rattle.cps_state.specs.declared.flags.Flags.{Flags}
 use Rattle.cps_state.specs.declared.key.Control.{Control}

@@ -1,7 +1,7 @@
 ghost use Rattle.std.specs.Prelude.{◌≡◌, ℕ, false, IfSome, ◌⊎◌, ◌+◌, ◌*◌, ◌^◌, ◌<◌, ◌≤◌, ◌/◌, ◌-◌, ◌%◌};
-ghost use Rattle.cps_code.specs.Bits.{word_bits, parcel_bits};
-ghost use Rattle.cps_code.specs.Least.{IsLeast};
-ghost use Rattle.cps_code.specs.Place.{position, is_forced, MayBegin, start_of, IsFilling, skipped, passes};
+ghost use Rattle.cps_place.specs.Bits.{word_bits, parcel_bits};
+ghost use Rattle.cps_place.specs.Least.{IsLeast};
+ghost use Rattle.cps_place.specs.Place.{position, is_forced, MayBegin, start_of, IsFilling, skipped, passes};
 
 use super::place::{Filling, Force, Place, Placed};
 use super::widths::{PARCEL, WORD};

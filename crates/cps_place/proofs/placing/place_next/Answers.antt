@@ -1,9 +1,9 @@
 use Rattle.std.proofs.Common.{◌≤◌, sym, arith}
-use Rattle.cps_code.specs.Least.{IsLeast}
-use Rattle.cps_code.specs.Place.{position, is_forced, MayBegin}
-use Rattle.cps_code.proofs.FillingLemmas.{skipped-is}
-use Rattle.cps_code.proofs.LeastLemmas.{start_of-least}
-use Rattle.cps_code.proofs.placing.place_next.Goals as goal
+use Rattle.cps_place.specs.Least.{IsLeast}
+use Rattle.cps_place.specs.Place.{position, is_forced, MayBegin}
+use Rattle.cps_place.proofs.FillingLemmas.{skipped-is}
+use Rattle.cps_place.proofs.LeastLemmas.{start_of-least}
+use Rattle.cps_place.proofs.placing.place_next.Goals as goal
 
 pub returns-clause-start : goal.returns-clause-start
 returns-clause-start c = rw (c.place_at-start.ensures.position, ← c.must_begin_word-forced.ensures) (c.used_at_start-used.ensures.least c.args.place.word)

@@ -3,12 +3,12 @@
 use Rattle.std.specs.Prelude.{◌≡◌, ℕ, zero, suc, ◌+◌, ◌-◌, ◌*◌, ◌/◌, ◌%◌, ◌^◌, ◌<◌, ◌≤◌, Bool, true, false, ◌&&◌, ◌||◌, not, ◌==◌, IsTrue, Option, None, Some, if◌then◌else◌, nat_le}
 use Rattle.std.proofs.Math.Nat.{mod-lt}
 use Rattle.std.proofs.Math.Dec.{lit<}
-use Rattle.cps_code.specs.declared.place.Place.{Place}
-use Rattle.cps_code.specs.declared.place.Filling.{Filling}
-use Rattle.cps_code.specs.declared.place.Force.{Force}
-use Rattle.cps_code.specs.declared.place.Force.TheVariants.{Free, NewWord, Cancel}
-use Rattle.cps_code.specs.Bits.{word_bits, parcel_bits, bit_from_left, number_of_bits}
-use Rattle.cps_code.specs.Least.{first_from}
+use Rattle.cps_place.specs.declared.place.Place.{Place}
+use Rattle.cps_place.specs.declared.place.Filling.{Filling}
+use Rattle.cps_place.specs.declared.place.Force.{Force}
+use Rattle.cps_place.specs.declared.place.Force.TheVariants.{Free, NewWord, Cancel}
+use Rattle.cps_place.specs.Bits.{word_bits, parcel_bits, bit_from_left, number_of_bits}
+use Rattle.cps_place.specs.Least.{first_from}
 
 -- a place as the number of bits before it, through all words
 abbrev pub position : Place → ℕ

@@ -6,10 +6,10 @@ use Rattle.std.proofs.lemmas.Nat.Bits.{bit_at-zero, bit_at_cat_low, bit_at_cat_h
 use Rattle.std.proofs.lemmas.Bool.{cases_lt}
 use Rattle.std.proofs.lemmas.Bool.Decides.{nat_tests}
 use Rattle.std.proofs.Math.Nat.{pow-le-pow_right}
-use Rattle.cps_code.specs.Bits.{bit_from_left, number_of_bits}
-use Rattle.cps_code.specs.declared.place.Filling.{Filling}
-use Rattle.cps_code.specs.Place.{IsFilling, skipped, skipped_bit, pass, passes}
-use Rattle.cps_code.proofs.NumberLemmas.{number_of_bits-same, number_of_bits-whole}
+use Rattle.cps_place.specs.Bits.{bit_from_left, number_of_bits}
+use Rattle.cps_place.specs.declared.place.Filling.{Filling}
+use Rattle.cps_place.specs.Place.{IsFilling, skipped, skipped_bit, pass, passes}
+use Rattle.cps_place.proofs.NumberLemmas.{number_of_bits-same, number_of_bits-whole}
 
 -- a bit of passes, from the right
 passes-bit : (count at : ℕ) → bit_at (passes count) at ≡ cond (ltb (at / 15) count) (bit_at pass (at % 15)) 0

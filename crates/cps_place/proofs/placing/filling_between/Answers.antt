@@ -1,6 +1,6 @@
 use Rattle.std.proofs.Common.{◌≡◌, ◌<◌, ◌%◌, refl, arith}
-use Rattle.cps_code.proofs.FillingLemmas.{filled}
-use Rattle.cps_code.proofs.placing.filling_between.Goals as goal
+use Rattle.cps_place.proofs.FillingLemmas.{filled}
+use Rattle.cps_place.proofs.placing.filling_between.Goals as goal
 
 pub returns-clause-filling : goal.returns-clause-filling
 returns-clause-filling c = λ word. let border = c.requires.border in let begun : 0 < c.args.from = omega arith in let ends : c.args.to % 15 ≡ 0 = omega arith in rw c.passes_in.ensures (filled word c.args.from c.args.to (omega arith) c.requires.within begun ends)

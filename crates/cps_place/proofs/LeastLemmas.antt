@@ -2,8 +2,8 @@
 use Rattle.std.proofs.Common.{◌≡◌, ℕ, zero, suc, ◌+◌, ◌*◌, ◌/◌, ◌<◌, ◌≤◌, Bool, true, false, cond, refl, ◌∙◌, arith, ⊎_elim}
 use Rattle.std.proofs.lemmas.Bool.{cases_eq}
 use Rattle.std.proofs.lemmas.Bool.Decides.{nat_tests}
-use Rattle.cps_code.specs.Least.{IsLeast, first_from}
-use Rattle.cps_code.specs.Place.{MayBegin, may_begin, start_of}
+use Rattle.cps_place.specs.Least.{IsLeast, first_from}
+use Rattle.cps_place.specs.Place.{MayBegin, may_begin, start_of}
 
 cond_true : (b : Bool) (x y : ℕ) → b ≡ true → cond b x y ≡ x
 cond_true b x y is = rw is refl

@@ -1,5 +1,5 @@
 ghost use Rattle.std.specs.Prelude.{◌≡◌, ◌<◌};
-ghost use Rattle.cps_code.specs.Bits.{word_bits};
+ghost use Rattle.cps_place.specs.Bits.{word_bits};
 
 use super::widths::WORD;
 
@@ -14,7 +14,7 @@ pub struct Place {
 }
 
 impl Place {
-    ghost use Rattle.cps_code.specs.Place.{place_at};
+    ghost use Rattle.cps_place.specs.Place.{place_at};
 
     /// The place after so many bits, through all words.
     pub fn behind(bits: u32, is_pending: bool) -> Place

@@ -2,7 +2,7 @@
 use Rattle.std.proofs.Common.{◌≡◌, ℕ, zero, suc, ◌+◌, ◌-◌, ◌/◌, ◌^◌, ◌<◌, ◌≤◌, refl, sym, ◌∙◌, arith}
 use Rattle.std.proofs.lemmas.Nat.{shr-shr}
 use Rattle.std.proofs.Math.Nat.{div-eq_of_lt}
-use Rattle.cps_code.specs.Bits.{bit_from_left, number_of_bits}
+use Rattle.cps_place.specs.Bits.{bit_from_left, number_of_bits}
 
 pub number_of_bits-same : (f g : ℕ → ℕ) (count : ℕ) → ((at : ℕ) → at < count → f at ≡ g at) → number_of_bits f count ≡ number_of_bits g count
 unfolding number_of_bits
