@@ -6,14 +6,14 @@ use Prim.Native.Char.{code}
 use Rattle.std.specs.Prelude.{map, is_some, option_map, option_and_then}
 use Rattle.cps_expr.specs.declared.radix.Radix.{Radix}
 use Rattle.cps_text.specs.Operands.{operands_of}
-use Rattle.cps_code.specs.declared.digits.Digits.{Digits}
-use Rattle.cps_code.specs.declared.operation.FieldForm.{FieldForm}
-use Rattle.cps_code.specs.declared.operation.FieldForm.TheVariants as field
+use Rattle.cps_table.specs.declared.digits.Digits.{Digits}
+use Rattle.cps_table.specs.declared.operation.FieldForm.{FieldForm}
+use Rattle.cps_table.specs.declared.operation.FieldForm.TheVariants as field
 use Rattle.cps_code.specs.Form.{Form}
-use Rattle.cps_code.specs.Digits.{digits_in}
-use Rattle.cps_code.specs.Rows.{Found, turned, registers_in, found_behind, found_in_fields, operands_in, form_in_row, form_in, form_of_rows}
+use Rattle.cps_code.specs.RowForms.{Found, turned, registers_in, found_behind, found_in_fields, operands_in, form_in_row, form_in, form_of_rows}
 use Rattle.cps_code.specs.Sum.{Summed}
-use Rattle.cps_code.specs.Operations.{no_sum, with_none_left, registers_alone, constant_in, row_of_fields}
+use Rattle.cps_code.specs.Operations.{no_sum, with_none_left, registers_alone, constant_in}
+use Rattle.cps_table.specs.Operations.{row_of_fields}
 use Rattle.cps_code.specs.declared.fields.Found as kept
 use Rattle.cps_code.specs.declared.hole.Operand.{Operand}
 use Rattle.cps_expr.specs.declared.machine.Machine.TheVariants.{Cp}
@@ -45,10 +45,6 @@ without_sum radix digits rows tail =
 pub none_read : {T : Type 0} (o : Option T) → is_some o ≡ false → o ≡ None
 none_read None is = refl
 none_read (Some x) is = cc
-
-pub digits_in-end : (letters : List ℕ) (digits : Digits) → 0 < length letters → digits_in letters [] digits ≡ None
-digits_in-end [] digits some = absurd (omega arith)
-digits_in-end (letter ∷ letters) digits some = refl
 
 pub registers_in-end : (registers : List (List ℕ)) (digits : Digits) → 0 < length registers → registers_in registers [] digits ≡ None
 registers_in-end [] digits some = absurd (omega arith)

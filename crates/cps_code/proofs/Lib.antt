@@ -5,7 +5,6 @@ pub mod SumReading
 pub mod HoleLemmas
 pub mod SetLemmas
 pub mod SummedLemmas
-pub mod NameLemmas
 pub mod FieldLemmas
 pub mod WorkedRows
 pub mod PairLemmas

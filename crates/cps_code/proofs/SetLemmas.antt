@@ -1,5 +1,5 @@
 -- The registers that are kept of a sum, and operands that no row takes.
-use Rattle.std.proofs.Common.{◌≡◌, ℕ, ◌<◌, Bool, true, false, cond, leb, List, [], ◌∷◌, length, Option, None, Some, refl, sym, ap, subst, ◌∙◌, arith, ◌&&◌}
+use Rattle.std.proofs.Common.{◌≡◌, ℕ, ◌<◌, Bool, true, false, cond, leb, List, [], ◌∷◌, length, Option, None, Some, refl, sym, ap, subst, ◌∙◌, arith}
 use Rattle.std.proofs.lemmas.List.{length-reverse}
 use Rattle.std.proofs.lemmas.Bool.Decides.{nat_tests}
 use Rattle.std.specs.Option.{option_or}
@@ -7,16 +7,17 @@ use Rattle.std.specs.Prelude.{All, option_map, is_some}
 use Rattle.std.specs.List.{list_all}
 use Rattle.cps_code.specs.declared.sum.Registers.{Registers}
 use Rattle.cps_code.specs.declared.sum.Registers.TheVariants.{Absent, One, Two}
-use Rattle.cps_code.specs.declared.register.RegisterTerm.{RegisterTerm}
+use Rattle.cps_table.specs.declared.register.RegisterTerm.{RegisterTerm}
 use Rattle.cps_code.specs.declared.forms.SumForms.{SumForms}
 use Rattle.cps_code.specs.declared.forms.SumForms.TheVariants.{Set, Jump}
 use Rattle.cps_code.specs.Operations.{sum_rows, sum_form}
 use Rattle.cps_code.specs.Sum.{Summed}
 use Rattle.cps_code.specs.Terms.{IsRegister, AreRegisters, register_list}
 use Rattle.cps_expr.specs.declared.radix.Radix.{Radix}
-use Rattle.cps_code.specs.declared.digits.Digits.{Digits}
-use Rattle.cps_code.specs.Digits.{with_digit}
-use Rattle.cps_code.specs.Rows.{Shape, unread, fields, summed, RowForm, RowTerm, Operands, turned_sum, is_of, same_bool, digits_of_terms, form_found, found_in, form_in, form_of_rows}
+use Rattle.cps_table.specs.declared.digits.Digits.{Digits}
+use Rattle.cps_table.specs.Digits.{with_digit}
+use Rattle.cps_table.specs.Rows.{Shape, unread, fields, summed, RowForm, RowTerm}
+use Rattle.cps_code.specs.RowForms.{Operands, turned_sum, is_of, same_bool, digits_of_terms, form_found, found_in, form_in, form_of_rows}
 
 pub registers_kept : (registers : Registers) (list : List RegisterTerm) → register_list registers ≡ list → All IsRegister list → AreRegisters registers
 registers_kept Absent list is all = tt
@@ -65,14 +66,6 @@ found-many radix digits texts sum (summed terms has_constant) many short =
     let fewer : length terms < length sum.registers = grind (arith, nat_tests) in
     ap (λ found. cond (same_bool (is_some sum.constant) has_constant) (option_map (λ ds. record { digits = ds; operand = sum.constant }) found) None) (digits-many terms sum.registers digits fewer)
     ∙ no_choice (same_bool (is_some sum.constant) has_constant)
-
-pub left_true : (a b : Bool) → (a && b) ≡ true → a ≡ true
-left_true true b h = refl
-left_true false b h = cc
-
-pub right_true : (a b : Bool) → (a && b) ≡ true → b ≡ true
-right_true true b h = h
-right_true false b h = cc
 
 form-none : (radix : Radix) (digits : Digits) (rows : List RowForm) (operands : Operands) → list_all is_short rows ≡ true
     → ((shape : Shape) → is_short_shape shape ≡ true → found_in radix shape operands digits ≡ None) → form_in radix digits rows operands ≡ None

@@ -8,10 +8,7 @@ pub mod Sum
 pub mod Terms
 pub mod Operand
 pub mod Form
-pub mod Table
 pub mod Operations
 pub mod Outcome
-pub mod Register
-pub mod Digits
-pub mod Rows
+pub mod RowForms
 pub mod OneRow

@@ -1,42 +1,29 @@
--- For the look-up of an operation and the branches on its forms, not part of what a reader believes: the table as the code keeps it.
+-- For the branches on the forms of an operation, not part of what a reader believes: forms by what a statement finds in its operands.
 use Prim.Native.Char.{code}
-use Rattle.std.specs.Prelude.{ℕ, ◌*◌, ◌^◌, Bool, true, false, ◌==◌, List, [], ◌∷◌, map, filter, slice_index, codes, Option, None, Some, option_map, option_and_then}
+use Rattle.std.specs.Prelude.{ℕ, ◌*◌, ◌^◌, Bool, true, false, List, [], ◌∷◌, Option, None, Some, option_map, option_and_then}
 use Rattle.std.specs.Option.{option_or}
-use Rattle.std.specs.Borrow.{Bor}
 use Rattle.cps_expr.specs.declared.radix.Radix.{Radix}
 use Rattle.cps_expr.specs.declared.machine.Machine.TheVariants.{Cp}
 use Rattle.cps_expr.specs.OperandList.{only_one}
 use Rattle.cps_expr.specs.Term.{Term}
-use Rattle.cps_code.specs.declared.digits.Digits.{Digits}
+use Rattle.cps_table.specs.declared.digits.Digits.{Digits}
 use Rattle.cps_code.specs.declared.fields.Found as kept
 use Rattle.cps_code.specs.declared.forms.SumForms.{SumForms}
 use Rattle.cps_code.specs.declared.forms.SumForms.TheVariants as sums
 use Rattle.cps_code.specs.declared.hole.HoleKind.TheVariants.{Value, Count}
 use Rattle.cps_code.specs.declared.hole.Operand.{Operand}
 use Rattle.cps_code.specs.declared.hole.Operand.TheVariants.{Expression}
-use Rattle.cps_code.specs.declared.operation.FieldForm.{FieldForm}
-use Rattle.cps_code.specs.declared.operation.FieldForm.TheVariants as field
-use Rattle.cps_code.specs.declared.operation.Forms.{Forms}
-use Rattle.cps_code.specs.declared.operation.Forms.TheVariants.{Pass, Stop, SetA, SetB, SetX, Jump, Fields}
-use Rattle.cps_code.specs.declared.register.RegisterTerm.{RegisterTerm}
+use Rattle.cps_table.specs.declared.register.RegisterTerm.{RegisterTerm}
 use Rattle.cps_place.specs.Bits.{constant_bits, count_bits}
 use Rattle.cps_code.specs.Form.{Form}
 use Rattle.cps_code.specs.Operand.{operand_of}
-use Rattle.cps_code.specs.Rows.{Shape, Found, RowForm, Operation, Named, Operands, unread, fields, summed, turned_sum, registers_in, found_in_sum, form_found}
+use Rattle.cps_table.specs.Rows.{Shape, RowForm, unread, fields, summed}
+use Rattle.cps_code.specs.RowForms.{Found, Operands, turned_sum, registers_in, found_in_sum, form_found}
 use Rattle.cps_code.specs.Sum.{Summed}
-use Rattle.cps_code.specs.Table.{set_forms, jump_rows}
+use Rattle.cps_table.specs.Operations.{jump_forms}
+use Rattle.cps_table.specs.Table.{set_forms}
 
--- ---- the code's rows
-
-abbrev pub texts : List (Bor (List ℕ)) → List (List ℕ)
-texts borrowed = map (λ text. text.now) borrowed
-
-abbrev pub field_row : List (List ℕ) → List ℕ → Option ℕ → Bool → RowForm
-field_row registers digits hole forces = record {
-  shape = fields (record { registers = registers; hole = hole });
-  code = record { digits = digits; hole = hole };
-  forces = forces;
-}
+-- ---- operands of registers
 
 -- the digits, where no operand is left
 abbrev pub with_none_left : Digits × List (List ℕ) → Option Digits
@@ -51,46 +38,6 @@ registers_alone registers texts digits = option_and_then with_none_left (registe
 abbrev pub constant_in : Radix → List (List ℕ) → List (List ℕ) → Digits → Option kept.Found
 constant_in radix registers texts digits =
     option_and_then (λ left. option_map (λ k. record { digits = left.0; operand = k }) (only_one (operand_of Cp radix) left.1)) (registers_in registers texts digits)
-
-abbrev pub row_of_fields : FieldForm → RowForm
-row_of_fields (field.Short registers digits) = field_row (texts registers.now) digits.now None false
-row_of_fields (field.Constant registers digits) = field_row (texts registers.now) digits.now (Some (code "K")) false
-row_of_fields (field.Forcing registers digits) = field_row (texts registers.now) digits.now (Some (code "K")) true
-row_of_fields (field.Count digits) = field_row [] digits.now (Some (code "n")) false
-
-abbrev pub jump_forms : List RowForm
-jump_forms = map (λ row. row.form) jump_rows
-
-abbrev pub unread_form : List ℕ → Bool → RowForm
-unread_form digits forces = record { shape = unread; code = record { digits = digits; hole = None }; forces = forces }
-
-abbrev pub rows_of : Forms → List RowForm
-rows_of Pass = unread_form (codes "46000") false ∷ []
-rows_of Stop = unread_form (codes "0000000000") true ∷ []
-rows_of SetA = set_forms
-rows_of SetB = set_forms
-rows_of SetX = set_forms
-rows_of Jump = jump_forms
-rows_of (Fields rows) = map row_of_fields rows.now
-
-abbrev pub first_of : Forms → ℕ
-first_of Pass = 0
-first_of Stop = 0
-first_of SetA = 5
-first_of SetB = 6
-first_of SetX = 7
-first_of Jump = 0
-first_of (Fields rows) = 0
-
-abbrev pub operation_values : List (Bor (List ℕ) × Forms) → List Operation
-operation_values entries = map (λ entry. record { name = entry.0.now; f = first_of entry.1; forms = rows_of entry.1 }) entries
-
-abbrev pub named_value : Forms × Digits → Named
-named_value found = record { digits = found.1; forms = rows_of found.0 }
-
--- the operations whose names begin with a letter
-abbrev pub beginning_with : ℕ → List Operation → List Operation
-beginning_with letter operations = filter (λ o. slice_index o.name 0 == letter) operations
 
 -- ---- operands of rows that ask for no sum
 

@@ -1,13 +1,12 @@
 -- For the loop over the terms of a sum, not part of what a reader believes: sums of the code, as sums.
 use Rattle.std.specs.Prelude.{◌≡◌, ◌<◌, Bool, true, false, List, [], ◌∷◌, ◌++◌, All, Some, is_some, IfSome}
-use Rattle.cps_code.specs.declared.register.RegisterTerm.{RegisterTerm}
+use Rattle.cps_table.specs.declared.register.RegisterTerm.{RegisterTerm}
 use Rattle.cps_code.specs.declared.sum.Registers.{Registers}
 use Rattle.cps_code.specs.declared.sum.Registers.TheVariants.{Absent, One, Two}
 use Rattle.cps_code.specs.declared.sum.KeptSum.{KeptSum}
 use Rattle.cps_code.specs.declared.summed.KeptSummed.{KeptSummed}
 use Rattle.cps_expr.specs.Term.{Term}
 use Rattle.cps_code.specs.Sum.{SumTerm, register, other, Sum, Summed}
-use Rattle.cps_code.specs.declared.digits.Digits.{Digits}
 
 -- a term at the end
 abbrev pub pushed : Sum → SumTerm → Sum
@@ -48,9 +47,3 @@ pub record IsKeptSummed (kept : KeptSummed) (summed : Summed) : Type 0 where
   pub registers : register_list kept.registers ≡ summed.registers
   pub has_constant : kept.has_constant ≡ is_some summed.constant
   pub constant : IfSome kept.constant (λ operand. summed.constant ≡ Some operand)
-
-pub record AreDigits (digits : Digits) : Type 0 where
-  pub f : digits.f < 8
-  pub i : digits.i < 8
-  pub j : digits.j < 8
-  pub k : digits.k < 8

@@ -2,18 +2,18 @@ ghost use Rattle.std.specs.Prelude.{◌≡◌, ◌<◌, Some, None, [], ◌∷�
 ghost use Rattle.cps_expr.specs.Reads.{Reads};
 ghost use Rattle.cps_text.specs.Operands.{operands_of};
 ghost use Rattle.cps_text.specs.OperandsLeft.{operands_left};
-ghost use Rattle.cps_code.specs.Rows.{registers_in, form_in_row, form_of_rows, operands_in};
-ghost use Rattle.cps_code.specs.Operations.{texts, no_sum, registers_alone, constant_in, row_of_fields};
-ghost use Rattle.cps_code.specs.Terms.{AreDigits};
+ghost use Rattle.cps_code.specs.RowForms.{registers_in, form_in_row, form_of_rows, operands_in};
+ghost use Rattle.cps_table.specs.Operations.{texts, row_of_fields};
+ghost use Rattle.cps_code.specs.Operations.{no_sum, registers_alone, constant_in};
+ghost use Rattle.cps_table.specs.Digits.{AreDigits};
 ghost use Rattle.cps_code.specs.Operand.{IsOperand};
 ghost use Rattle.cps_expr.specs.declared.machine.Machine.TheVariants.{Cp};
 
-use super::digits::{Digits, octal, read_digits};
 use super::form::CpForm;
 use super::hole::Operand;
 use super::literal::read_operand;
-use super::operation::FieldForm;
 use cps_expr::{ExprFault, Machine, Radix, read_only};
+use cps_table::{Digits, FieldForm, octal, read_digits};
 use cps_text::{Operands, operands};
 use std::alloc::Global;
 

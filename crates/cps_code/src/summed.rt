@@ -3,7 +3,7 @@ ghost use Rattle.std.specs.Prelude.{◌≡◌, ◌<◌, List, length, option_map
 ghost use Rattle.cps_expr.specs.Term.{Term};
 ghost use Rattle.cps_expr.specs.declared.machine.Machine.TheVariants.{Cp};
 ghost use Rattle.cps_code.specs.Operand.{IsOperand};
-ghost use Rattle.cps_code.specs.Rows.{only_sum};
+ghost use Rattle.cps_code.specs.RowForms.{only_sum};
 ghost use Rattle.cps_code.specs.Sum.{Summed, constant_of, of_terms, sum_of};
 ghost use Rattle.cps_code.specs.Terms.{AreRegisters, IsKeptSummed, is_some_list};
 

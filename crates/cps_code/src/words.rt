@@ -1,4 +1,4 @@
-ghost use Rattle.std.specs.Prelude.{◌≡◌, ◌+◌, ◌-◌, ◌/◌, ◌^◌, ◌<◌, ◌≤◌, [], ◌∷◌, ◌++◌, List, Option, ℕ, OnOk, OnErr, length, if◌then◌else◌, ◌&&◌, nat_le, nat_lt, vec_len};
+ghost use Rattle.std.specs.Prelude.{◌≡◌, ◌+◌, ◌-◌, ◌^◌, ◌<◌, ◌≤◌, [], ◌∷◌, ◌++◌, List, Option, ℕ, OnOk, OnErr, length, if◌then◌else◌, ◌&&◌, nat_le, nat_lt, vec_len};
 ghost use Rattle.cps_code.specs.Image.{piece_of, word_at, packed_word, Deposits, ArePacked};
 ghost use Rattle.cps_code.specs.Image as image;
 ghost use Rattle.cps_code.specs.Slots.{AreWords};

@@ -1,10 +1,11 @@
-ghost use Rattle.std.specs.Prelude.{◌≡◌, ◌<◌, [], ◌∷◌, bytes_eq, option_map, IfSome, MatchOption};
+ghost use Rattle.std.specs.Prelude.{◌≡◌, ◌<◌, bytes_eq, option_map, IfSome};
 ghost use Rattle.cps_text.specs.Text.{capitals};
 ghost use Rattle.cps_peripheral.specs.Table.{named, pp_table};
 ghost use Rattle.cps_peripheral.specs.Rows.{row_values, layout_and_number};
 
 use super::layout::Layout;
 use super::table::operations_with;
+use cps_table::first_and_rest;
 use cps_text::capital;
 
 /// The layout and the number of the operation that a name stands for.
@@ -15,15 +16,6 @@ pub fn named_operation(name: &[u8]) -> Option<(Layout, u8)>
     match first_and_rest(name) {
         None => None,
         Some((first, _rest)) => find_operation(operations_with(capital(first)), name),
-    }
-}
-
-fn first_and_rest(text: &[u8]) -> Option<(u8, &[u8])>
-    ensures { MatchOption result (text.now ≡ []) (λ parts. text.now ≡ parts.0 ∷ parts.1.now) }
-{
-    match text {
-        [] => None,
-        [first, rest @ ..] => Some((*first, rest)),
     }
 }
 

@@ -1,5 +1,5 @@
 use Rattle.std.proofs.Common.{rules}
-use Rattle.cps_code.specs.Rows.{only_sum}
+use Rattle.cps_code.specs.RowForms.{only_sum}
 use Rattle.cps_code.proofs.SummedLemmas.{kept_literal}
 use Rattle.cps_code.proofs.summed.read_summed.Goals as goal
 

@@ -1,13 +1,12 @@
 ghost use Rattle.std.specs.Prelude.{◌≡◌, ◌<◌, IfSome, option_map};
-ghost use Rattle.cps_code.specs.Digits.{first_digit};
-ghost use Rattle.cps_code.specs.Rows.{named};
-ghost use Rattle.cps_code.specs.Table.{instruction_named, is_operation};
-ghost use Rattle.cps_code.specs.Operations.{first_of, operation_values, named_value};
-ghost use Rattle.cps_code.specs.Terms.{AreDigits};
+ghost use Rattle.cps_table.specs.Digits.{first_digit};
+ghost use Rattle.cps_table.specs.Rows.{named};
+ghost use Rattle.cps_table.specs.Table.{instruction_named, is_operation};
+ghost use Rattle.cps_table.specs.Operations.{first_of, operation_values, named_value};
+ghost use Rattle.cps_table.specs.Digits.{AreDigits};
 
-use super::digits::{Digits, read_digits};
+use super::digits::{Digits, first_and_rest, read_digits};
 use super::operation_table::operations_with;
-use super::sum::first_and_rest;
 use cps_text::capital;
 
 /// A form whose operands are registers and, after them, an expression or none; i, j and k in its texts stand for the

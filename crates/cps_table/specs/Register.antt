@@ -1,8 +1,8 @@
 -- Registers: A, B or X, in capitals or not, and a digit from 0 to 7. From the machine's reference manual.
 use Rattle.std.specs.Prelude.{ℕ, ◌-◌, Bool, List, [], ◌∷◌, codes, slice_index, Option, None, Some, option_map, if◌then◌else◌}
-use Rattle.cps_code.specs.declared.register.Letter.{Letter}
-use Rattle.cps_code.specs.declared.register.Letter.TheVariants.{A, B, X}
-use Rattle.cps_code.specs.declared.register.RegisterTerm.{RegisterTerm}
+use Rattle.cps_table.specs.declared.register.Letter.{Letter}
+use Rattle.cps_table.specs.declared.register.Letter.TheVariants.{A, B, X}
+use Rattle.cps_table.specs.declared.register.RegisterTerm.{RegisterTerm}
 use Rattle.cps_text.specs.Text.{among, capital, is_digit}
 
 -- the character of a text that has one

@@ -3,10 +3,8 @@
 -- digit of a set instruction's code. `unread` reads no operand; `written` reads operands that look like these; `sum` reads one
 -- operand, a sum of these registers and, where K stands, of a K beside them. Behind a `forcing_row` a forcing is pending.
 -- That the terms of a sum may stand in any order is our profile's.
-use Rattle.std.specs.Prelude.{ℕ, Bool, List, [], ◌∷◌, ◌++◌, map, codes, Option, is_some, option_and_then}
-use Rattle.cps_expr.specs.declared.radix.Radix.{Radix}
-use Rattle.cps_code.specs.Form.{Form}
-use Rattle.cps_code.specs.Rows.{RowForm, Row, Operation, Named, unread, written, sum, form, row, forcing_row, operations_in, named, operands_in, form_of_rows}
+use Rattle.std.specs.Prelude.{ℕ, Bool, List, [], ◌∷◌, ◌++◌, map, codes, Option, is_some}
+use Rattle.cps_table.specs.Rows.{RowForm, Row, Operation, Named, unread, written, sum, form, row, forcing_row, operations_in, named}
 
 -- ---- set instructions
 
@@ -132,7 +130,3 @@ instruction_named name = named cp_operations name
 
 abbrev pub is_operation : List ℕ → Bool
 is_operation name = is_some (instruction_named name)
-
--- the form of a statement
-abbrev pub form_of : List ℕ → List ℕ → Radix → Option Form
-form_of name tail radix = option_and_then (λ n. form_of_rows radix n.digits n.forms (operands_in radix tail)) (instruction_named name)

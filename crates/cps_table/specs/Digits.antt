@@ -1,8 +1,8 @@
 -- Texts of a table with letters for digits: i, j and k stand for the digits of registers, and f for the first digit of a set instruction's code.
 use Prim.Native.Char.{code}
-use Rattle.std.specs.Prelude.{ℕ, ◌+◌, ◌*◌, ◌==◌, List, [], ◌∷◌, codes, fold, Option, None, Some, option_and_then, if◌then◌else◌}
-use Rattle.cps_code.specs.declared.digits.Digits.{Digits}
-use Rattle.cps_code.specs.Register.{digit_value}
+use Rattle.std.specs.Prelude.{◌<◌, ℕ, ◌+◌, ◌*◌, ◌==◌, List, [], ◌∷◌, codes, fold, Option, None, Some, option_and_then, if◌then◌else◌}
+use Rattle.cps_table.specs.declared.digits.Digits.{Digits}
+use Rattle.cps_table.specs.Register.{digit_value}
 use Rattle.cps_text.specs.Text.{among, capital, is_digit}
 
 -- an f, and 0 for the others
@@ -41,3 +41,11 @@ digit_of digits letter =
 -- the number that digits write, octal
 abbrev pub octal : Digits → List ℕ → ℕ
 octal digits text = fold (λ number letter. number * 8 + digit_of digits letter) 0 text
+
+-- ---- what digits keep: each is octal
+
+pub record AreDigits (digits : Digits) : Type 0 where
+  pub f : digits.f < 8
+  pub i : digits.i < 8
+  pub j : digits.j < 8
+  pub k : digits.k < 8

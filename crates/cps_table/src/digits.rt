@@ -1,10 +1,9 @@
-ghost use Rattle.std.specs.Prelude.{◌≡◌, ◌<◌, ◌≤◌, ◌^◌, length, IfSome, Some, None, if◌then◌else◌};
-ghost use Rattle.cps_code.specs.Digits.{with_character, digits_in, digit_of, octal};
-ghost use Rattle.cps_code.specs.Register.{digit_value};
+ghost use Rattle.std.specs.Prelude.{◌≡◌, ◌<◌, ◌≤◌, ◌^◌, [], ◌∷◌, length, IfSome, MatchOption, Some, None, if◌then◌else◌};
+ghost use Rattle.cps_table.specs.Digits.{with_character, digits_in, digit_of, octal};
+ghost use Rattle.cps_table.specs.Register.{digit_value};
 ghost use Rattle.cps_text.specs.Text.{is_digit};
-ghost use Rattle.cps_code.specs.Terms.{AreDigits};
+ghost use Rattle.cps_table.specs.Digits.{AreDigits};
 
-use super::sum::first_and_rest;
 use cps_text::capital;
 
 /// The octal digits that the letters f, i, j and k stand for in the texts of a table.
@@ -37,6 +36,16 @@ pub fn read_digits(letters: &[u8], text: &[u8], digits: Digits) -> Option<Digits
         }
     }
     if rest.is_empty() { Some(known) } else { None }
+}
+
+/// The first character of a text and what follows it, if there is one.
+pub fn first_and_rest(text: &[u8]) -> Option<(u8, &[u8])>
+    ensures { MatchOption result (text.now ≡ []) (λ parts. text.now ≡ parts.0 ∷ parts.1.now) }
+{
+    match text {
+        [] => None,
+        [first, rest @ ..] => Some((*first, rest)),
+    }
 }
 
 fn read_character(letter: u8, character: u8, digits: Digits) -> Option<Digits>

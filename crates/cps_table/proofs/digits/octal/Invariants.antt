@@ -1,6 +1,6 @@
 use Rattle.std.proofs.Common.{◌≡◌, ◌+◌, ◌*◌, ◌^◌, ◌<◌, drop, fold}
-use Rattle.cps_code.specs.Digits.{digit_of}
-use Rattle.cps_code.proofs.digits.octal.Given as goal
+use Rattle.cps_table.specs.Digits.{digit_of}
+use Rattle.cps_table.proofs.digits.octal.Given as goal
 
 abbrev pub invariant-loop-letter : goal.invariant-loop-letter
 invariant-loop-letter l = record {

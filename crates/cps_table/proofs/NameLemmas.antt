@@ -4,13 +4,13 @@ use Rattle.std.specs.Option.{option_or}
 use Rattle.std.specs.Prelude.{option_map, option_and_then, not, slice_index, codes}
 use Rattle.std.specs.List.{list_all}
 use Rattle.cps_text.specs.Text.{among, capital, is_digit}
-use Rattle.cps_code.specs.declared.digits.Digits.{Digits}
-use Rattle.cps_code.specs.Digits.{first_digit, with_digit, with_character, digits_in}
-use Rattle.cps_code.specs.Register.{digit_value}
-use Rattle.cps_code.specs.Rows.{Operation, Named, named}
-use Rattle.cps_code.specs.Table.{cp_operations, instruction_named}
-use Rattle.cps_code.specs.Operations.{beginning_with}
-use Rattle.cps_code.proofs.SetLemmas.{left_true, right_true}
+use Rattle.cps_table.specs.declared.digits.Digits.{Digits}
+use Rattle.cps_table.specs.Digits.{first_digit, with_digit, with_character, digits_in}
+use Rattle.cps_table.specs.Register.{digit_value}
+use Rattle.cps_table.specs.Rows.{Operation, Named, named}
+use Rattle.cps_table.specs.Table.{cp_operations, instruction_named}
+use Rattle.cps_table.specs.Operations.{beginning_with}
+use Rattle.cps_table.proofs.BothTrue.{left_true, right_true}
 
 -- a name begins with no letter that stands for a digit
 abbrev begins_plainly : Operation → Bool

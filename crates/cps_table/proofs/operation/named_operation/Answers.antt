@@ -1,8 +1,8 @@
 use Rattle.std.proofs.Common.{sym, ap, ◌∙◌}
-use Rattle.cps_code.specs.Rows.{named}
-use Rattle.cps_code.specs.Table.{instruction_named}
-use Rattle.cps_code.proofs.NameLemmas.{named_by_letter, no_empty_name}
-use Rattle.cps_code.proofs.operation.named_operation.Goals as goal
+use Rattle.cps_table.specs.Rows.{named}
+use Rattle.cps_table.specs.Table.{instruction_named}
+use Rattle.cps_table.proofs.NameLemmas.{named_by_letter, no_empty_name}
+use Rattle.cps_table.proofs.operation.named_operation.Goals as goal
 
 pub returns-in-None-clause-operation : goal.returns-in-None-clause-operation
 returns-in-None-clause-operation c = rw c.in-None.ensures no_empty_name

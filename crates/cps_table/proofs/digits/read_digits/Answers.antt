@@ -1,7 +1,7 @@
 use Rattle.std.proofs.Common.{◌<◌, length, drop, length-drop, sym, ap, ◌∙◌, arith}
-use Rattle.cps_code.specs.Digits.{digits_in}
-use Rattle.cps_code.proofs.FieldLemmas.{digits_in-end}
-use Rattle.cps_code.proofs.digits.read_digits.Goals as goal
+use Rattle.cps_table.specs.Digits.{digits_in}
+use Rattle.cps_table.proofs.DigitsLemmas.{digits_in-end}
+use Rattle.cps_table.proofs.digits.read_digits.Goals as goal
 
 pub returns-in-None-clause-digits : goal.returns-in-None-clause-digits
 returns-in-None-clause-digits c =

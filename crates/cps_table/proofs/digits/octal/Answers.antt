@@ -1,6 +1,6 @@
 use Rattle.std.proofs.Common.{◌^◌, ◌≤◌, arith}
 use Rattle.std.proofs.Math.Nat.{pow-le-pow_right}
-use Rattle.cps_code.proofs.digits.octal.Goals as goal
+use Rattle.cps_table.proofs.digits.octal.Goals as goal
 
 pub overflow_mul-number : goal.overflow_mul-number
 overflow_mul-number c =

@@ -1,7 +1,7 @@
 use Rattle.std.proofs.Common.{◌≡◌, drop}
-use Rattle.cps_code.specs.Digits.{digits_in}
-use Rattle.cps_code.specs.Terms.{AreDigits}
-use Rattle.cps_code.proofs.digits.read_digits.Given as goal
+use Rattle.cps_table.specs.Digits.{digits_in}
+use Rattle.cps_table.specs.Digits.{AreDigits}
+use Rattle.cps_table.proofs.digits.read_digits.Given as goal
 
 abbrev pub invariant-loop-letter : goal.invariant-loop-letter
 invariant-loop-letter l = record {

@@ -1,0 +1,3 @@
+pub mod BothTrue
+pub mod DigitsLemmas
+pub mod NameLemmas

@@ -1,0 +1,5 @@
+pub mod Register
+pub mod Digits
+pub mod Rows
+pub mod Table
+pub mod Operations
