@@ -1,4 +1,4 @@
-//! Instruction forms of the central processor, the places where instructions begin, and the words that they make.
+//! Instruction forms of the central processor, the values that fill their holes, and the words that they make.
 #![tactic(auto)]
 
 mod fields;
