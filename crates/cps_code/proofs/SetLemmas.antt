@@ -16,6 +16,7 @@ use Rattle.cps_code.specs.Terms.{IsRegister, AreRegisters, register_list}
 use Rattle.cps_expr.specs.declared.radix.Radix.{Radix}
 use Rattle.cps_table.specs.declared.digits.Digits.{Digits}
 use Rattle.cps_table.specs.Digits.{with_digit}
+use Rattle.cps_table.proofs.BothTrue.{left_true, right_true}
 use Rattle.cps_table.specs.Rows.{Shape, unread, fields, summed, RowForm, RowTerm}
 use Rattle.cps_code.specs.RowForms.{Operands, turned_sum, is_of, same_bool, digits_of_terms, form_found, found_in, form_in, form_of_rows}
 
