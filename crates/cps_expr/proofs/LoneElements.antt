@@ -1,5 +1,5 @@
 -- A text that writes one element alone.
-use Rattle.std.proofs.Common.{◌≡◌, Bool, true, false, List, [], ◌∷◌, ◌++◌, ℕ, Some, inr, refl, sym, ap, append-nil}
+use Rattle.std.proofs.Common.{◌≡◌, Bool, false, List, [], ◌∷◌, ℕ, Some, inr, refl, sym, ap, append-nil}
 use Rattle.cps_expr.specs.declared.radix.Radix.{Radix}
 use Rattle.cps_expr.specs.declared.term.Element.{Element}
 use Rattle.cps_expr.specs.Term.{Term, element_of, term_of}

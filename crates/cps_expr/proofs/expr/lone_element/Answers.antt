@@ -1,4 +1,4 @@
-use Rattle.std.proofs.Common.{◌≡◌, Bool, false, [], ◌∷◌, Some, sym, ap, ◌∙◌}
+use Rattle.std.proofs.Common.{◌≡◌, Bool, [], ◌∷◌, Some, sym, ap, ◌∙◌}
 use Rattle.cps_expr.specs.declared.term.Signed.{Signed}
 use Rattle.cps_expr.specs.Term.{element_of}
 use Rattle.cps_expr.specs.TermsKept.{element_term}
