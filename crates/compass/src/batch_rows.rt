@@ -4,8 +4,8 @@ use super::devices::{Resuming, SlowReader, SlowWriter};
 use super::running::{
     Written, assemble, assemble_byte_by_byte, assemble_from, assemble_into, long_input,
 };
+use cps_batch::BatchFault;
 use cps_list::Part;
-use cps_live::BatchFault;
 use cps_text::Counted;
 use std::alloc::{AllocError, Global};
 use std::process::Abort;

@@ -3,8 +3,8 @@
 use super::assertions::assert_same;
 use super::edit_rows::{Edit, carry_out};
 use super::many_edits::{Numbers, assert_as_batch};
-use cps_live::Session;
 use cps_pass::{Hashing, Work};
+use cps_session::Session;
 use std::alloc::Global;
 use std::process::Abort;
 

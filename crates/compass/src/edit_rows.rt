@@ -1,8 +1,8 @@
 //! Edits of a session.
 use super::assertions::{assert_bytes, assert_same};
 use cps_list::Part;
-use cps_live::{EditFault, Session};
 use cps_pass::{Hashing, Work};
+use cps_session::{EditFault, Session};
 use cps_text::Line;
 use std::alloc::Global;
 use std::process::Abort;

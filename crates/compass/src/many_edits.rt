@@ -3,8 +3,8 @@ use super::assertions::{assert_row, assert_same};
 use super::edit_rows::{Edit, carry_out};
 use super::running::assemble;
 use cps_list::Part;
-use cps_live::Session;
 use cps_pass::{Hashing, Work};
+use cps_session::Session;
 use std::alloc::{AllocError, Global};
 use std::process::Abort;
 

@@ -7,8 +7,8 @@ use super::list::write_list;
 use cps_list::{
     ListFault, Part, View, write_all_parts, write_binary, write_flags, write_listing, write_symbols,
 };
-use cps_live::Session;
 use cps_pass::{Hashing, Work};
+use cps_session::Session;
 use cps_text::Counted;
 use std::alloc::{AllocError, Global};
 use std::io::Write;

@@ -2,8 +2,8 @@
 use Rattle.std.specs.Prelude.{◌≡◌, ℕ, ◌⊎◌, List, [], Option, Result, Ok, Err, if◌then◌else◌, ◌==◌}
 use Rattle.cps_text.specs.declared.counted.Counted.{Counted}
 use Rattle.cps_text.specs.Counted.{failures_of, FailsOnce}
-use Rattle.cps_live.specs.declared.fault.BatchFault.{BatchFault}
-use Rattle.cps_live.specs.Batch.{RunsBatch}
+use Rattle.cps_batch.specs.declared.fault.BatchFault.{BatchFault}
+use Rattle.cps_batch.specs.Batch.{RunsBatch}
 use Rattle.cps_tool.specs.declared.request.Request.{Request}
 use Rattle.cps_tool.specs.declared.request.Request.TheVariants.{Batch, Session}
 use Rattle.cps_tool.specs.declared.writing.RunFault.{RunFault}

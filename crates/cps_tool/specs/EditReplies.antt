@@ -4,7 +4,8 @@ use Rattle.cps_text.specs.Line.{longest_line, IsLine, HasBadCharacter}
 use Rattle.cps_state.specs.Work.{Counts, no_work}
 use Rattle.cps_edit.specs.Splice.{Splice, insertion, replacement, deletion}
 use Rattle.cps_edit.specs.Disturbed.{ones_of, twos_of}
-use Rattle.cps_live.specs.Edits.{most_lines, HasLine, LacksLine, HasLines, LacksLines, without_lines, HaveStepped, HaveSteppedUpTo}
+use Rattle.cps_assembly.specs.Limits.{most_lines}
+use Rattle.cps_session.specs.Edits.{HasLine, LacksLine, HasLines, LacksLines, without_lines, HaveStepped, HaveSteppedUpTo}
 use Rattle.cps_tool.specs.declared.reply.Refusal.{Refusal}
 use Rattle.cps_tool.specs.declared.reply.Refusal.TheVariants as refusals
 use Rattle.cps_tool.specs.Reply.{Response, accepted, refused, shown, worked}
@@ -59,7 +60,7 @@ Inserted old after text (accepted count) new =
 Inserted old after text (refused refusal) new =
     IsNotInserted old after text refusal × (new.source ≡ old) × StepsOfRefused refusal old (insertion after text) new.work
 Inserted old after text (shown bytes) new = ⊥
-Inserted old after text (worked counts) new = ⊥
+Inserted old after text (worked ones twos) new = ⊥
 
 -- ---- replacement
 
@@ -80,7 +81,7 @@ Replaced old number text (accepted count) new =
 Replaced old number text (refused refusal) new =
     IsNotReplaced old number text refusal × (new.source ≡ old) × StepsOfRefused refusal old (replacement number text) new.work
 Replaced old number text (shown bytes) new = ⊥
-Replaced old number text (worked counts) new = ⊥
+Replaced old number text (worked ones twos) new = ⊥
 
 -- ---- deletion
 
@@ -101,4 +102,4 @@ Deleted old first last (accepted count) new =
 Deleted old first last (refused refusal) new =
     IsNotDeleted old first last refusal × (new.source ≡ old) × StepsOfRefused refusal old (deletion first last) new.work
 Deleted old first last (shown bytes) new = ⊥
-Deleted old first last (worked counts) new = ⊥
+Deleted old first last (worked ones twos) new = ⊥

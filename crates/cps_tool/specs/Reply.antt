@@ -1,26 +1,25 @@
 -- Replies, and their text. Our own.
 use Rattle.std.specs.Prelude.{ℕ, List, ◌++◌, codes, decimal}
-use Rattle.cps_state.specs.Work.{Counts}
-use Rattle.cps_live.specs.declared.session.EditFault.{EditFault}
-use Rattle.cps_live.specs.declared.session.EditFault.TheVariants as faults
+use Rattle.cps_session.specs.declared.session.EditFault.{EditFault}
+use Rattle.cps_session.specs.declared.session.EditFault.TheVariants as faults
 use Rattle.cps_tool.specs.declared.reply.Refusal.{Refusal}
 use Rattle.cps_tool.specs.declared.reply.Refusal.TheVariants as refusals
 use Rattle.cps_tool.specs.declared.reply.Reply.{Reply}
 use Rattle.cps_tool.specs.declared.reply.Reply.TheVariants.{Accepted, Refused, Shown, Worked}
 
--- what a reply says: how many lines there are, why not, a text, or how many steps were made
+-- what a reply says: how many lines there are, why not, a text, or how many steps were made in each pass
 pub data Response : Type 0 where
   accepted : ℕ → Response
   refused : Refusal → Response
   shown : List ℕ → Response
-  worked : Counts → Response
+  worked : ℕ → ℕ → Response
 
 -- what a reply of the code says
 abbrev pub meaning_of : Reply → Response
 meaning_of (Accepted count) = accepted count
 meaning_of (Refused refusal) = refused refusal
 meaning_of (Shown text) = shown text.items
-meaning_of (Worked work) = worked work
+meaning_of (Worked ones twos) = worked ones twos
 
 -- the refusal of an edit with this fault
 abbrev pub refusal_of : EditFault → Refusal
@@ -42,4 +41,4 @@ abbrev pub reply_text : Response → List ℕ
 reply_text (accepted count) = codes "ok " ++ decimal count ++ codes " lines\n"
 reply_text (refused refusal) = refusal_text refusal
 reply_text (shown text) = text
-reply_text (worked work) = codes "ones " ++ decimal work.ones ++ codes " twos " ++ decimal work.twos ++ codes "\n"
+reply_text (worked ones twos) = codes "ones " ++ decimal ones ++ codes " twos " ++ decimal twos ++ codes "\n"

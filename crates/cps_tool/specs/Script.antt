@@ -10,10 +10,10 @@ use Rattle.cps_list.specs.Listing.{listing_text}
 use Rattle.cps_list.specs.Binary.{binary_text}
 use Rattle.cps_list.specs.Symbols.{symbols_text}
 use Rattle.cps_list.specs.Flagged.{flags_text}
-use Rattle.cps_live.specs.Assembly.{assembly_of}
-use Rattle.cps_live.specs.Flagged.{flagged_lines}
-use Rattle.cps_live.specs.Reads.{EndsEarly}
-use Rattle.cps_live.specs.Lines.{Splits, without_return, last_line, lines_of}
+use Rattle.cps_assembly.specs.Assembly.{assembly_of}
+use Rattle.cps_assembly.specs.Flagged.{flagged_lines}
+use Rattle.cps_batch.specs.Reads.{EndsEarly}
+use Rattle.cps_batch.specs.Lines.{Splits, without_return, last_line, lines_of}
 use Rattle.cps_tool.specs.Command.{Order, append, insert, replace, delete, list, binary, symbols, flags, work, quit, Spells, is_quit}
 use Rattle.cps_tool.specs.declared.writing.RunFault.{RunFault}
 use Rattle.cps_tool.specs.declared.writing.RunFault.TheVariants as faults
@@ -26,7 +26,7 @@ abbrev pub Queried : Standing → List ℕ → Response → Standing → Type 0
 Queried old text (accepted count) new = ⊥
 Queried old text (refused refusal) new = (refusal ≡ refusals.NoMemory) × (new ≡ old)
 Queried old text (shown bytes) new = (bytes ≡ text) × (new ≡ old)
-Queried old text (worked counts) new = ⊥
+Queried old text (worked ones twos) new = ⊥
 
 -- an order was answered; the end of a script is not
 abbrev pub Obeys : Standing → Order → Response → Standing → Type 0
@@ -38,7 +38,7 @@ Obeys old list response new = Queried old (listing_text (assembly_of old.source)
 Obeys old binary response new = Queried old (binary_text (assembly_of old.source)) response new
 Obeys old symbols response new = Queried old (symbols_text (assembly_of old.source)) response new
 Obeys old flags response new = Queried old (flags_text (assembly_of old.source)) response new
-Obeys old work response new = (response ≡ worked old.work) × (new ≡ old)
+Obeys old work response new = (response ≡ worked old.work.ones old.work.twos) × (new ≡ old)
 Obeys old quit response new = ⊥
 
 -- a command line was answered; one that spells no order is refused

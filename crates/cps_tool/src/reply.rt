@@ -1,7 +1,5 @@
 //! Replies to the lines of a script.
 
-use cps_pass::Work;
-
 /// Why a line of a script is refused.
 #[derive(Clone, Copy, PartialEq, Eq)]
 pub enum Refusal {
@@ -28,6 +26,6 @@ pub enum Reply {
     Refused(Refusal),
     /// The text that was asked for.
     Shown(Vec<u8>),
-    /// The steps that the latest edit took.
-    Worked(Work),
+    /// The steps of pass one and of pass two that the latest edit took.
+    Worked(u64, u64),
 }

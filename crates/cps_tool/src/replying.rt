@@ -14,8 +14,8 @@ use super::reply::{Refusal, Reply};
 use super::writing::{RunFault, write_bytes};
 use arrayvec::ArrayString;
 use cps_list::Part;
-use cps_live::{EditFault, Session};
 use cps_pass::Work;
+use cps_session::{EditFault, Session};
 use cps_text::{Counted, Line, LineFault};
 use itoa::Buffer;
 use std::alloc::{AllocError, Global};
@@ -37,7 +37,7 @@ pub fn obey(alloc: Global, line: &[u8], session: &mut Session, work: &mut Work) 
         Ok(Command::Binary) => Some(show(session.text(alloc, Part::Binary))),
         Ok(Command::Symbols) => Some(show(session.text(alloc, Part::Symbols))),
         Ok(Command::Flags) => Some(show(session.text(alloc, Part::Flags))),
-        Ok(Command::Work) => Some(Reply::Worked(*work)),
+        Ok(Command::Work) => Some(Reply::Worked(work.ones(), work.twos())),
         Ok(Command::Quit) => None,
     }
 }
@@ -107,11 +107,11 @@ fn replace_line(
     if line_number == 0 || line_number > session.count() {
         return Reply::Refused(Refusal::NoSuchLine);
     }
-    if let Some(refusal) = refusal_of_text(text) {
-        return Reply::Refused(refusal);
-    }
-    let Ok(line) = Line::new(alloc, text) else {
-        return Reply::Refused(Refusal::NoMemory);
+    let line = match Line::new(alloc, text) {
+        Ok(line) => line,
+        Err(LineFault::LineTooLong) => return Reply::Refused(Refusal::LineTooLong),
+        Err(LineFault::BadCharacter) => return Reply::Refused(Refusal::BadCharacter),
+        Err(LineFault::Memory) => return Reply::Refused(Refusal::NoMemory),
     };
     match session.replace(line_number, line, work) {
         Ok(()) => Reply::Accepted(session.count()),
@@ -152,7 +152,7 @@ pub fn write_reply<W: Write>(writer: &mut Counted<W>, reply: &Reply) -> Result<(
         Reply::Accepted(count) => write_bytes(writer, accepted_text(*count).as_bytes()),
         Reply::Refused(refusal) => write_bytes(writer, text_of_refusal(*refusal)),
         Reply::Shown(text) => write_bytes(writer, text),
-        Reply::Worked(work) => write_bytes(writer, worked_text(work).as_bytes()),
+        Reply::Worked(ones, twos) => write_bytes(writer, worked_text(*ones, *twos).as_bytes()),
     }
 }
 
@@ -166,14 +166,14 @@ fn accepted_text(count: u32) -> ArrayString<40>
     text
 }
 
-fn worked_text(work: &Work) -> ArrayString<64>
-    ensures { result.bytes ≡ reply_text (worked work.now) }
+fn worked_text(ones: u64, twos: u64) -> ArrayString<64>
+    ensures { result.bytes ≡ reply_text (worked ones twos) }
 {
     let mut text = ArrayString::new();
     text.push_str("ones ");
-    text.push_str(Buffer::new().format(work.ones()));
+    text.push_str(Buffer::new().format(ones));
     text.push_str(" twos ");
-    text.push_str(Buffer::new().format(work.twos()));
+    text.push_str(Buffer::new().format(twos));
     text.push_str("\n");
     text
 }

@@ -1,0 +1,6 @@
+pub mod Lines
+pub mod Reads
+pub mod BegunLine
+pub mod Batch
+pub mod Input
+pub mod Passes

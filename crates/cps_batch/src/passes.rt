@@ -1,0 +1,384 @@
+//! The two passes of batch assembly over the lines of a source.
+ghost use Rattle.std.specs.Prelude.{◌≡◌, ℕ, List, [], ◌∷◌, ◌++◌, ◌+◌, ◌≤◌, ◌<◌, length, IfOk, IfSome, OnOk};
+ghost use Rattle.cps_state.specs.declared.item.Item.{Item};
+ghost use Rattle.cps_state.specs.Course.{Trace};
+ghost use Rattle.cps_final.specs.Finals.{Gathers};
+ghost use Rattle.cps_final.specs.Names.{names_defined, names_read};
+ghost use Rattle.cps_list.specs.Making.{IsPrintoutOf, shown, shows_symbols};
+ghost use Rattle.cps_list.specs.Symbols.{mentions_on};
+ghost use Rattle.cps_list.specs.Texts.{text_of};
+ghost use Rattle.cps_assembly.specs.Assembly.{assembly_of, outcomes_under, traces_of};
+ghost use Rattle.cps_assembly.specs.Flagged.{flagged_lines};
+ghost use Rattle.cps_batch.specs.Passes.{IsPassed, IsShown, statements_of};
+
+use cps_assembly::MOST_LINES;
+use cps_final::{Finals, Gather, Gathered, LineSymbols, Output};
+use cps_list::{Mention, Part, Printout, push_mentions};
+use cps_pass::{Hashing, Item, Sheet, Trace, Work, step_over};
+use cps_text::Line;
+use std::alloc::{AllocError, Global};
+use std::marker::Model;
+use std::mem::replace;
+
+/// Statements and their contents are kept for pass two up to so many. Where the lines make more, each line is gone through again.
+const MOST_KEPT: usize = 40_000;
+
+/// A text of a source, and the number of flagged lines.
+pub fn make_part(
+    alloc: Global,
+    hashing: Hashing,
+    lines: &[Line],
+    part: Part,
+) -> Result<(Vec<u8>, u32), AllocError>
+    requires { length lines.now ≤ MOST_LINES }
+    ensures { IfOk result (λ made. (made.0.items ≡ text_of part (assembly_of lines.now)) × (made.1 ≡ flagged_lines lines.now)) }
+{
+    let mut one = PassOne::of(alloc, hashing, lines, part)?;
+    one.make_text(alloc, lines)
+}
+
+/// The statements of a line.
+#[derive(Drop)]
+struct Statements {
+    items: Vec<Item>,
+}
+
+impl Model for Statements {
+    ghost use Rattle.std.specs.Prelude.{List};
+    ghost use Rattle.cps_state.specs.declared.item.Item.{Item};
+
+    ghost Value = { List Item };
+
+    ghost view = { λ statements. statements.items.items };
+}
+
+/// What pass one makes of the lines so far.
+struct PassOne {
+    part: Part,
+    gather: Gather,
+    /// The statements of each line. None: they are too many.
+    kept: Option<Vec<Statements>>,
+    /// How many statements and contents there are.
+    count: usize,
+    sheet: Sheet,
+    symbols: LineSymbols,
+    mentions: Vec<Mention>,
+}
+
+// Written out, so that it is proved once.
+impl Drop for PassOne {
+    fn drop(self) {
+        let PassOne {
+            part: _,
+            gather,
+            kept,
+            count: _,
+            sheet,
+            symbols,
+            mentions,
+        } = self;
+        drop(gather);
+        drop(kept);
+        drop(sheet);
+        drop(symbols);
+        drop(mentions);
+    }
+}
+
+impl PassOne {
+    /// Of no line. Takes no memory yet.
+    fn new(alloc: Global, hashing: Hashing, part: Part) -> PassOne
+        ensures passed { IsPassed [] result }
+        ensures part { result.part ≡ part }
+    {
+        PassOne {
+            part,
+            gather: Gather::new(alloc, hashing),
+            kept: Some(Vec::new(alloc)),
+            count: 0,
+            sheet: Sheet::new(alloc),
+            symbols: LineSymbols::new(alloc, hashing),
+            mentions: Vec::new(alloc),
+        }
+    }
+
+    /// Of all lines.
+    fn of(
+        alloc: Global,
+        hashing: Hashing,
+        lines: &[Line],
+        part: Part,
+    ) -> Result<PassOne, AllocError>
+        requires { length lines.now ≤ MOST_LINES }
+        ensures passed { IfOk result (IsPassed lines.now) }
+        ensures part { IfOk result (λ one. one.part ≡ part) }
+    {
+        let mut one = PassOne::new(alloc, hashing, part);
+        for (before, line) in lines.iter().enumerate() {
+            one.take_line(alloc, before as u32 + 1, line)?;
+        }
+        Ok(one)
+    }
+
+    /// Takes the next line.
+    fn take_line(&mut self, alloc: Global, number: u32, line: &Line) -> Result<(), AllocError>
+        ensures passed { OnOk result ((lines : List (List ℕ)) → IsPassed lines self.old → number ≡ length lines + 1 → IsPassed (lines ++ line.now ∷ []) self.new) }
+        ensures part { OnOk result (self.new.part ≡ self.old.part) }
+    {
+        let sheet = replace(&mut self.sheet, Sheet::new(alloc));
+        let trace = step_next(alloc, sheet, &mut self.gather, line)?;
+        note_symbols(
+            &mut self.mentions,
+            self.part.shows_symbols(),
+            number,
+            &mut self.symbols,
+            &trace,
+        )?;
+        self.count = counted(self.count, trace.items());
+        let (items, sheet) = trace.into_parts();
+        self.sheet = sheet;
+        keep(&mut self.kept, self.count, Statements { items })?;
+        Ok(())
+    }
+
+    /// The text of these lines, and the number of flagged ones. The symbols that were noted go into it.
+    fn make_text(&mut self, alloc: Global, lines: &[Line]) -> Result<(Vec<u8>, u32), AllocError>
+        requires passed { IsPassed lines.now self.old }
+        requires few { length lines.now ≤ MOST_LINES }
+        ensures { IfOk result (λ made. (made.0.items ≡ text_of self.old.part (assembly_of lines.now)) × (made.1 ≡ flagged_lines lines.now)) }
+    {
+        let mentions = replace(&mut self.mentions, Vec::new(alloc));
+        let printout = self.show(alloc, lines)?;
+        let finals = self.gather.finals();
+        let (text, flagged) = printout.finish(finals, finals.is_open_at_end(), mentions)?;
+        Ok((text, flagged as u32))
+    }
+
+    /// What pass two shows of these lines.
+    fn show(&self, alloc: Global, lines: &[Line]) -> Result<Printout, AllocError>
+        requires few { length lines.now ≤ MOST_LINES }
+        requires kept { IfSome self.now.kept (λ kept. kept.items ≡ statements_of (traces_of lines.now)) }
+        ensures printout { IfOk result (IsPrintoutOf lines.now (outcomes_under (⟦<Gather as Gathered>⟧.gathered self.now.gather) (traces_of lines.now))) }
+        ensures part { IfOk result (λ printout. printout.part ≡ self.now.part) }
+        ensures few { IfOk result (λ printout. printout.flagged ≤ MOST_LINES) }
+    {
+        let finals = self.gather.finals();
+        match &self.kept {
+            Some(kept) => show_kept(alloc, self.part, lines, kept, finals),
+            None => show_again(alloc, self.part, lines, finals),
+        }
+    }
+}
+
+/// Notes the symbols of a line, where they are shown.
+fn note_symbols(
+    mentions: &mut Vec<Mention>,
+    is_shown: bool,
+    number: u32,
+    symbols: &mut LineSymbols,
+    trace: &Trace,
+) -> Result<(), AllocError>
+    ensures { OnOk result (mentions.new.items ≡ mentions.old.items ++ shown is_shown (mentions_on number (names_defined trace.now) (names_read trace.now))) }
+{
+    if !is_shown {
+        return Ok(());
+    }
+    symbols.replace(trace)?;
+    push_mentions(mentions, number, symbols.defined(), symbols.read())
+}
+
+/// A count with some statements and their contents.
+fn counted(count: usize, items: &[Item]) -> usize {
+    let mut count = count.saturating_add(items.len());
+    for item in items {
+        count = count.saturating_add(item.made.contents().len());
+    }
+    count
+}
+
+/// Keeps the statements of a line, unless there are too many by now.
+fn keep(
+    kept: &mut Option<Vec<Statements>>,
+    count: usize,
+    statements: Statements,
+) -> Result<(), AllocError>
+    ensures { OnOk result ((before : List (List Item)) → IfSome kept.old (λ kept. kept.items ≡ before) → IfSome kept.new (λ kept. kept.items ≡ before ++ statements ∷ [])) }
+{
+    if count > MOST_KEPT {
+        *kept = None;
+        return Ok(());
+    }
+    if let Some(kept) = kept {
+        kept.push(statements)?;
+    }
+    Ok(())
+}
+
+/// Pass one of the line after those that were gathered.
+fn step_next(
+    alloc: Global,
+    sheet: Sheet,
+    gather: &mut Gather,
+    line: &Line,
+) -> Result<Trace, AllocError>
+    ensures { IfOk result (λ trace. (before : List (List ℕ)) → Gathers (⟦<Gather as Gathered>⟧.gathered gather.old) (traces_of before)
+        → (traces_of (before ++ line.now ∷ []) ≡ traces_of before ++ trace ∷ []) × Gathers (⟦<Gather as Gathered>⟧.gathered gather.new) (traces_of (before ++ line.now ∷ []))) }
+{
+    let trace = step_over(alloc, &mut Work::new(), sheet, line, gather.state())?;
+    gather.add(&trace)?;
+    Ok(trace)
+}
+
+/// What pass two shows of the lines so far, under the final values.
+struct PassTwo<'a> {
+    finals: &'a Finals,
+    printout: Printout,
+    output: Output,
+}
+
+// Written out, as that of pass one.
+impl Drop for PassTwo<'_> {
+    fn drop(self) {
+        let PassTwo {
+            finals: _,
+            printout,
+            output,
+        } = self;
+        drop(printout);
+        drop(output);
+    }
+}
+
+impl<'a> PassTwo<'a> {
+    /// Of no line.
+    fn new(alloc: Global, part: Part, finals: &'a Finals) -> PassTwo<'a>
+        ensures none { IsShown [] result }
+        ensures finals { result.finals.now ≡ finals.now }
+        ensures part { result.printout.part ≡ part }
+        ensures few { result.printout.flagged ≡ 0 }
+    {
+        PassTwo {
+            finals,
+            printout: Printout::new(alloc, part),
+            output: Output::new(alloc),
+        }
+    }
+
+    /// What is shown, which is taken out of it.
+    fn take_printout(&mut self, alloc: Global, part: Part) -> Printout
+        ensures { result ≡ self.old.printout }
+    {
+        replace(&mut self.printout, Printout::new(alloc, part))
+    }
+
+    /// Adds the next line, which stands for these statements.
+    fn add(&mut self, number: u32, line: &Line, items: &[Item]) -> Result<(), AllocError>
+        requires { self.old.printout.flagged < number }
+        ensures shown { OnOk result ((lines : List (List ℕ)) (trace : Trace) → IsShown lines self.old → number ≡ length lines + 1 → items.now ≡ trace.items
+            → traces_of (lines ++ line.now ∷ []) ≡ traces_of lines ++ trace ∷ [] → IsShown (lines ++ line.now ∷ []) self.new) }
+        ensures finals { OnOk result (self.new.finals.now ≡ self.old.finals.now) }
+        ensures part { OnOk result (self.new.printout.part ≡ self.old.printout.part) }
+        ensures few { OnOk result (self.new.printout.flagged ≤ number) }
+    {
+        self.output.replace(items, self.finals)?;
+        self.printout.add(
+            number,
+            line.bytes(),
+            self.output.rows(),
+            self.output.pieces(),
+        )
+    }
+}
+
+/// What pass two shows of lines whose statements were kept.
+fn show_kept(
+    alloc: Global,
+    part: Part,
+    lines: &[Line],
+    kept: &[Statements],
+    finals: &Finals,
+) -> Result<Printout, AllocError>
+    requires few { length lines.now ≤ MOST_LINES }
+    requires kept { kept.now ≡ statements_of (traces_of lines.now) }
+    ensures printout { IfOk result (IsPrintoutOf lines.now (outcomes_under (⟦<Finals as Gathered>⟧.gathered finals.now) (traces_of lines.now))) }
+    ensures part { IfOk result (λ printout. printout.part ≡ part) }
+    ensures few { IfOk result (λ printout. printout.flagged ≤ MOST_LINES) }
+{
+    let mut two = PassTwo::new(alloc, part, finals);
+    for (before, line) in lines.iter().enumerate() {
+        let statements = &kept[before];
+        two.add(before as u32 + 1, line, &statements.items)?;
+    }
+    Ok(two.take_printout(alloc, part))
+}
+
+/// The same where they were not: each line is gone through again.
+fn show_again(
+    alloc: Global,
+    part: Part,
+    lines: &[Line],
+    finals: &Finals,
+) -> Result<Printout, AllocError>
+    requires { length lines.now ≤ MOST_LINES }
+    ensures printout { IfOk result (IsPrintoutOf lines.now (outcomes_under (⟦<Finals as Gathered>⟧.gathered finals.now) (traces_of lines.now))) }
+    ensures part { IfOk result (λ printout. printout.part ≡ part) }
+    ensures few { IfOk result (λ printout. printout.flagged ≤ MOST_LINES) }
+{
+    let mut again = Again::new(alloc, part, finals);
+    for (before, line) in lines.iter().enumerate() {
+        again.take_line(alloc, before as u32 + 1, line)?;
+    }
+    Ok(again.two.take_printout(alloc, part))
+}
+
+/// What both passes make of the lines so far, where pass one was made before.
+struct Again<'a> {
+    gather: Gather,
+    sheet: Sheet,
+    two: PassTwo<'a>,
+}
+
+// Written out, as those of the passes.
+impl Drop for Again<'_> {
+    fn drop(self) {
+        let Again { gather, sheet, two } = self;
+        drop(gather);
+        drop(sheet);
+        drop(two);
+    }
+}
+
+impl<'a> Again<'a> {
+    /// Of no line.
+    fn new(alloc: Global, part: Part, finals: &'a Finals) -> Again<'a>
+        ensures gathered { Gathers (⟦<Gather as Gathered>⟧.gathered result.gather) (traces_of []) }
+        ensures none { IsShown [] result.two }
+        ensures finals { result.two.finals.now ≡ finals.now }
+        ensures part { result.two.printout.part ≡ part }
+        ensures few { result.two.printout.flagged ≡ 0 }
+    {
+        Again {
+            gather: Gather::new(alloc, finals.hashing()),
+            sheet: Sheet::new(alloc),
+            two: PassTwo::new(alloc, part, finals),
+        }
+    }
+
+    /// Takes the next line.
+    fn take_line(&mut self, alloc: Global, number: u32, line: &Line) -> Result<(), AllocError>
+        requires { self.old.two.printout.flagged < number }
+        ensures gathered { OnOk result ((lines : List (List ℕ)) → Gathers (⟦<Gather as Gathered>⟧.gathered self.old.gather) (traces_of lines)
+            → Gathers (⟦<Gather as Gathered>⟧.gathered self.new.gather) (traces_of (lines ++ line.now ∷ []))) }
+        ensures shown { OnOk result ((lines : List (List ℕ)) → Gathers (⟦<Gather as Gathered>⟧.gathered self.old.gather) (traces_of lines)
+            → IsShown lines self.old.two → number ≡ length lines + 1 → IsShown (lines ++ line.now ∷ []) self.new.two) }
+        ensures finals { OnOk result (self.new.two.finals.now ≡ self.old.two.finals.now) }
+        ensures part { OnOk result (self.new.two.printout.part ≡ self.old.two.printout.part) }
+        ensures few { OnOk result (self.new.two.printout.flagged ≤ number) }
+    {
+        let sheet = replace(&mut self.sheet, Sheet::new(alloc));
+        let trace = step_next(alloc, sheet, &mut self.gather, line)?;
+        self.two.add(number, line, trace.items())?;
+        (_, self.sheet) = trace.into_parts();
+        Ok(())
+    }
+}

@@ -1,6 +1,0 @@
-pub mod SessionLemmas
-pub mod BatchLemmas
-pub mod BegunLemmas
-pub mod ReadLemmas
-pub mod SplitLemmas
-pub mod PassLemmas

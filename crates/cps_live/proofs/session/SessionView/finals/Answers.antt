@@ -1,8 +1,0 @@
-use Rattle.std.proofs.Common.{ap, ◌∙◌}
-use Rattle.cps_final.specs.Finals.{finals_of}
-use Rattle.cps_live.specs.Assembly.{traces_of}
-use Rattle.cps_live.specs.Edits.{Source}
-use Rattle.cps_live.proofs.session.SessionView.finals.Goals as goal
-
-pub returns : goal.returns
-returns c = c.finals.ensures ∙ c.self.invariant.gathered ∙ ap (λ (s : Source). finals_of (traces_of s.lines)) c.self.view_is

@@ -1,0 +1,58 @@
+-- A source as a list of lines, and what an edit makes of it. Our own.
+use Rattle.std.specs.Prelude.{◌≡◌, ℕ, ◌*◌, ◌-◌, ◌<◌, ◌≤◌, ◌⊎◌, List, ◌++◌, length, take, drop, Result, Ok, Err, OnOk}
+use Rattle.cps_state.specs.Work.{Counts, counted_on}
+use Rattle.cps_edit.specs.Splice.{Splice}
+use Rattle.cps_edit.specs.Disturbed.{ones_of, twos_of}
+use Rattle.cps_chunks.specs.Touched.{touched_of}
+use Rattle.cps_session.specs.declared.session.EditFault.{EditFault}
+use Rattle.cps_session.specs.declared.session.EditFault.TheVariants as faults
+
+-- what a session tells: the lines of its source, and how many lines each of its chunks has
+pub record Source : Type 0 where
+  pub lines : List (List ℕ)
+  pub lengths : List ℕ
+
+-- a source has a line of that number, where lines count from 1
+abbrev pub HasLine : List (List ℕ) → ℕ → Type 0
+HasLine source at = (1 ≤ at) × (at ≤ length source)
+
+-- a source has no line of that number
+abbrev pub LacksLine : List (List ℕ) → ℕ → Type 0
+LacksLine source at = (at ≡ 0) ⊎ (length source < at)
+
+-- a source has the lines from one number to another, which is no less
+abbrev pub HasLines : List (List ℕ) → ℕ → ℕ → Type 0
+HasLines source first last = (1 ≤ first) × (first ≤ last) × (last ≤ length source)
+
+-- a source lacks one of these lines, or the last stands before the first
+abbrev pub LacksLines : List (List ℕ) → ℕ → ℕ → Type 0
+LacksLines source first last = (first ≡ 0) ⊎ ((last < first) ⊎ (length source < last))
+
+-- a source without its lines from one number to another
+abbrev pub without_lines : List (List ℕ) → ℕ → ℕ → List (List ℕ)
+without_lines source first last = take (first - 1) source ++ drop last source
+
+-- ---- work
+
+-- so many steps of each pass were made
+pub record HaveStepped (ones twos : ℕ) (old new : Counts) : Type 0 where
+  pub first : new.ones ≡ counted_on old.ones ones
+  pub second : new.twos ≡ counted_on old.twos twos
+
+-- at most so many, and no count is less than it was
+pub record HaveSteppedUpTo (ones twos : ℕ) (old new : Counts) : Type 0 where
+  pub first : new.ones ≤ counted_on old.ones ones
+  pub second : new.twos ≤ counted_on old.twos twos
+  pub first_kept : old.ones ≤ new.ones
+  pub second_kept : old.twos ≤ new.twos
+
+-- An edit steps the lines that it disturbs in each pass, once, where it is accepted; none where it is wrong; at most these where there is no memory.
+abbrev pub WorkOfEdit : {T : Type 0} → Result T EditFault → List (List ℕ) → Splice → Counts → Counts → Type 0
+WorkOfEdit (Ok done) lines splice old new = HaveStepped (ones_of lines splice) (twos_of lines splice) old new
+WorkOfEdit (Err faults.NoSuchLine) lines splice old new = new ≡ old
+WorkOfEdit (Err faults.TooManyLines) lines splice old new = new ≡ old
+WorkOfEdit (Err faults.Memory) lines splice old new = HaveSteppedUpTo (ones_of lines splice) (twos_of lines splice) old new
+
+-- An edit that is accepted compares at most 64 lines in each pass for each chunk that it touches.
+abbrev pub LooksOfEdit : {T : Type 0} → Result T EditFault → Source → Source → Splice → Counts → Counts → Type 0
+LooksOfEdit result old new splice was now = OnOk result (now.looked ≤ counted_on was.looked (128 * touched_of old.lines splice old.lengths new.lengths))

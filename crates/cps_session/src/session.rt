@@ -1,0 +1,332 @@
+//! A source that is edited line by line.
+ghost use Rattle.std.specs.Prelude.{◌≡◌, ◌-◌, ◌<◌, ◌≤◌, ◌↔◌, [], ◌∷◌, ◌++◌, length, take, sum, insert, slice_get, slice_set, Some, IsTrue, IsSome, IfSome, OnOk, OnErr, IfOk, IsErrOf};
+ghost use Rattle.cps_list.specs.Texts.{text_of};
+ghost use Rattle.cps_division.specs.Division.{IsDivision, inserted_at, deleted_at};
+ghost use Rattle.cps_division.specs.Recut.{recut as recut_by};
+ghost use Rattle.cps_edit.specs.Splice.{splice_at, spliced, insertion, replacement, deletion};
+ghost use Rattle.cps_chunks.specs.Recuts.{Recuts};
+ghost use Rattle.cps_kept.specs.Kept.{splice_of};
+ghost use Rattle.cps_assembly.specs.Assembly.{assembly_of};
+ghost use Rattle.cps_assembly.specs.Flagged.{flagged_lines as flagged_in};
+ghost use Rattle.cps_session.specs.Edits.{HasLine, LacksLine, HasLines, LacksLines, without_lines, WorkOfEdit, LooksOfEdit};
+
+use cps_assembly::{MOST_LINES, flagged_lines};
+use cps_division::laws::{a_deletion_divides_again, an_insertion_divides_again};
+use cps_division::{Recut, recut_deletion, recut_insertion, recut_replacement};
+use cps_edit::Front;
+use cps_final::{Finals, Gathered, Outcome};
+use cps_kept::{Follower, Lists, NewLines};
+use cps_list::{Part, View, make_text};
+use cps_pass::{Hashing, Work};
+use cps_text::Line;
+use std::alloc::{AllocError, Global};
+use std::marker::Model;
+use thiserror::Error;
+
+/// Why an edit is refused.
+#[derive(Clone, Copy, Debug, PartialEq, Eq, Error)]
+pub enum EditFault {
+    /// The source has no line of that number.
+    #[error("no such line")]
+    NoSuchLine,
+    /// The source has 9,999 lines already.
+    #[error("too many lines")]
+    TooManyLines,
+    /// Nothing else is wrong, and there was no memory.
+    #[error("no memory")]
+    Memory,
+}
+
+/// A source that is edited line by line. It has at most 9,999 lines.
+///
+/// What its lines do in pass one and what pass two makes of them is kept. An edit makes anew what it disturbs, beside what is
+/// kept, and counts these steps in the caller's work; where it is refused, nothing changes.
+pub struct Session {
+    alloc: Global,
+    lists: Lists,
+    /// What was gathered of all lines.
+    front: Front,
+    /// What was gathered before the latest append.
+    follower: Follower,
+}
+
+// Written out, as that of what is kept: what holds a session drops it by a call.
+impl Drop for Session {
+    fn drop(self) {
+        let Session {
+            alloc: _,
+            lists,
+            front,
+            follower,
+        } = self;
+        drop(lists);
+        drop(front);
+        drop(follower);
+    }
+}
+
+impl Model for Session {
+    ghost use Rattle.cps_chunks.specs.Chunks.{lengths_of};
+    ghost use Rattle.cps_session.specs.Edits.{Source};
+    ghost use Rattle.cps_session.specs.Kept.{IsKept};
+
+    ghost Value = { Source };
+
+    ghost view = { λ session. record { lines = session.lists.lines.items; lengths = lengths_of session.lists.chunks.items } };
+
+    ghost invariant = { λ session. IsKept session.lists (⟦<Front as Gathered>⟧.gathered session.front) session.follower };
+}
+
+impl View for Session {
+    ghost use Rattle.cps_assembly.specs.Assembly.{assembly_of};
+
+    ghost assembly = { λ session. assembly_of session.lines };
+
+    fn count(&self) -> u32 {
+        self.lists.lines.len() as u32
+    }
+
+    fn line(&self, n: u32) -> Option<&Line> {
+        if n == 0 {
+            return None;
+        }
+        self.lists.lines.get(n as usize - 1)
+    }
+
+    fn outcome(&self, n: u32) -> Option<&Outcome> {
+        if n == 0 {
+            return None;
+        }
+        self.lists.outcomes.get(n as usize - 1)
+    }
+
+    fn finals(&self) -> &Finals {
+        self.front.finals()
+    }
+
+    fn open_at_end(&self) -> bool {
+        self.front.finals().is_open_at_end()
+    }
+}
+
+impl Session {
+    /// A source without a line. Takes no memory yet.
+    pub fn new(alloc: Global, hashing: Hashing) -> Session
+        ensures lines { result.lines ≡ [] }
+        ensures lengths { result.lengths ≡ [] }
+    {
+        Session {
+            alloc,
+            lists: Lists::new(alloc),
+            front: Front::new(alloc, hashing),
+            follower: Follower::new(alloc, hashing),
+        }
+    }
+
+    /// How many lines the source has.
+    pub fn count(&self) -> u32
+        ensures count { result ≡ length self.now.lines }
+        ensures within { result ≤ MOST_LINES }
+    {
+        self.lists.lines.len() as u32
+    }
+
+    /// Line `n`, where lines count from 1.
+    pub fn line(&self, n: u32) -> Option<&Line>
+        ensures there { IsSome result ↔ ((1 ≤ n) × (n ≤ length self.now.lines)) }
+        ensures line { IfSome result (λ line. slice_get self.now.lines (n - 1) ≡ Some line.now) }
+    {
+        if n == 0 {
+            return None;
+        }
+        self.lists.lines.get(n as usize - 1)
+    }
+
+    /// Whether the source has as many lines as it may have.
+    pub fn is_full(&self) -> bool
+        ensures full { IsTrue result ↔ (length self.now.lines ≡ MOST_LINES) }
+        ensures within { length self.now.lines ≤ MOST_LINES }
+    {
+        self.lists.lines.len() == MOST_LINES
+    }
+
+    /// How many lines each chunk of the source has, in their order. An edit looks only into chunks that it touches.
+    pub fn chunk_lengths(&self) -> Result<Vec<usize>, AllocError>
+        ensures lengths { IfOk result (λ lengths. lengths.items ≡ self.now.lengths) }
+        ensures division { IsDivision (length self.now.lines) self.now.lengths }
+    {
+        self.lists.lengths()
+    }
+
+    /// Inserts a line after line `after`, 0 for the front. A line that is refused is dropped.
+    pub fn insert(&mut self, after: u32, line: Line, work: &mut Work) -> Result<(), EditFault>
+        ensures ok { OnOk result (self.new.lines ≡ insert self.old.lines after line) }
+        ensures lengths { OnOk result (self.new.lengths ≡ inserted_at after self.old.lengths) }
+        ensures allowed { OnOk result ((after ≤ length self.old.lines) × (length self.old.lines < MOST_LINES)) }
+        ensures err { OnErr result (self.new ≡ self.old) }
+        ensures no_line { IsErrOf result EditFault.NoSuchLine ↔ (length self.old.lines < after) }
+        ensures too_many { IsErrOf result EditFault.TooManyLines ↔ ((after ≤ length self.old.lines) × (length self.old.lines ≡ MOST_LINES)) }
+        ensures memory { IsErrOf result EditFault.Memory → (after ≤ length self.old.lines) × (length self.old.lines < MOST_LINES) }
+        ensures work { WorkOfEdit result self.old.lines (insertion after line) work.old work.new }
+        ensures looked { LooksOfEdit result self.old self.new (insertion after line) work.old work.new }
+    {
+        let after = after as usize;
+        if after > self.lists.lines.len() {
+            return Err(EditFault::NoSuchLine);
+        }
+        if self.lists.lines.len() == MOST_LINES {
+            return Err(EditFault::TooManyLines);
+        }
+        if after == self.lists.lines.len() {
+            return self.append(line, work);
+        }
+        let Ok(lengths) = self.chunk_lengths() else {
+            return Err(EditFault::Memory);
+        };
+        let Ok(lines) = list_of(self.alloc, line) else {
+            return Err(EditFault::Memory);
+        };
+        an_insertion_divides_again();
+        let new = NewLines {
+            keep: after,
+            from: after,
+            lines,
+        };
+        self.splice(new, recut_insertion(&lengths, after), work)
+    }
+
+    /// Puts a line in place of line `at`, where lines count from 1. A line that is refused is dropped.
+    pub fn replace(&mut self, at: u32, line: Line, work: &mut Work) -> Result<(), EditFault>
+        ensures ok { OnOk result (self.new.lines ≡ slice_set self.old.lines (at - 1) line) }
+        ensures lengths { OnOk result (self.new.lengths ≡ self.old.lengths) }
+        ensures allowed { OnOk result (HasLine self.old.lines at) }
+        ensures err { OnErr result (self.new ≡ self.old) }
+        ensures no_line { IsErrOf result EditFault.NoSuchLine ↔ LacksLine self.old.lines at }
+        ensures too_many { IsErrOf result EditFault.TooManyLines → ⊥ }
+        ensures memory { IsErrOf result EditFault.Memory → HasLine self.old.lines at }
+        ensures work { WorkOfEdit result self.old.lines (replacement at line) work.old work.new }
+        ensures looked { LooksOfEdit result self.old self.new (replacement at line) work.old work.new }
+    {
+        let at = at as usize;
+        if at == 0 || at > self.lists.lines.len() {
+            return Err(EditFault::NoSuchLine);
+        }
+        let Ok(lengths) = self.chunk_lengths() else {
+            return Err(EditFault::Memory);
+        };
+        let Ok(lines) = list_of(self.alloc, line) else {
+            return Err(EditFault::Memory);
+        };
+        let new = NewLines {
+            keep: at - 1,
+            from: at,
+            lines,
+        };
+        self.splice(new, recut_replacement(&lengths, at), work)
+    }
+
+    /// Deletes the lines from `first` to `last`, where lines count from 1.
+    pub fn delete(&mut self, first: u32, last: u32, work: &mut Work) -> Result<(), EditFault>
+        ensures ok { OnOk result (self.new.lines ≡ without_lines self.old.lines first last) }
+        ensures lengths { OnOk result (self.new.lengths ≡ deleted_at (first - 1) (last - (first - 1)) self.old.lengths) }
+        ensures allowed { OnOk result (HasLines self.old.lines first last) }
+        ensures err { OnErr result (self.new ≡ self.old) }
+        ensures no_line { IsErrOf result EditFault.NoSuchLine ↔ LacksLines self.old.lines first last }
+        ensures too_many { IsErrOf result EditFault.TooManyLines → ⊥ }
+        ensures memory { IsErrOf result EditFault.Memory → HasLines self.old.lines first last }
+        ensures work { WorkOfEdit result self.old.lines (deletion first last) work.old work.new }
+        ensures looked { LooksOfEdit result self.old self.new (deletion first last) work.old work.new }
+    {
+        if first == 0 || last < first || last as usize > self.lists.lines.len() {
+            return Err(EditFault::NoSuchLine);
+        }
+        self.cut(first as usize - 1, last as usize, work)
+    }
+
+    /// Deletes the lines after the first `keep` up to the first `from`.
+    fn cut(&mut self, keep: usize, from: usize, work: &mut Work) -> Result<(), EditFault>
+        requires some { keep < from }
+        requires within { from ≤ length self.old.lines }
+        ensures ok { OnOk result (self.new.lines ≡ spliced self.old.lines (splice_at keep from [])) }
+        ensures lengths { OnOk result (self.new.lengths ≡ deleted_at keep (from - keep) self.old.lengths) }
+        ensures err { OnErr result (self.new ≡ self.old) }
+        ensures only { OnErr result (IsErrOf result EditFault.Memory) }
+        ensures work { WorkOfEdit result self.old.lines (splice_at keep from []) work.old work.new }
+        ensures looked { LooksOfEdit result self.old self.new (splice_at keep from []) work.old work.new }
+    {
+        let Ok(lengths) = self.chunk_lengths() else {
+            return Err(EditFault::Memory);
+        };
+        a_deletion_divides_again();
+        let recut = recut_deletion(&lengths, keep, from);
+        let new = NewLines {
+            keep,
+            from,
+            lines: Vec::new(self.alloc),
+        };
+        self.splice(new, recut, work)
+    }
+
+    /// Puts a line behind the last.
+    fn append(&mut self, line: Line, work: &mut Work) -> Result<(), EditFault>
+        requires { length self.old.lines < MOST_LINES }
+        ensures ok { OnOk result (self.new.lines ≡ self.old.lines ++ line ∷ []) }
+        ensures lengths { OnOk result (self.new.lengths ≡ inserted_at (length self.old.lines) self.old.lengths) }
+        ensures err { OnErr result (self.new ≡ self.old) }
+        ensures only { OnErr result (IsErrOf result EditFault.Memory) }
+        ensures work { WorkOfEdit result self.old.lines (insertion (length self.old.lines) line) work.old work.new }
+        ensures looked { LooksOfEdit result self.old self.new (insertion (length self.old.lines) line) work.old work.new }
+    {
+        let made = self
+            .lists
+            .append(&mut self.front, &mut self.follower, line, work);
+        let Ok(()) = made else {
+            return Err(EditFault::Memory);
+        };
+        Ok(())
+    }
+
+    /// Puts new lines in the place of others; `recut` tells what that makes of the chunks.
+    fn splice(&mut self, new: NewLines, recut: Recut, work: &mut Work) -> Result<(), EditFault>
+        requires recuts { Recuts self.old.lines (splice_of new) recut.start recut.end recut.lengths.items self.old.lengths }
+        requires before { recut.before ≡ sum (take recut.start self.old.lengths) }
+        requires few { length (spliced self.old.lines (splice_of new)) ≤ MOST_LINES }
+        ensures ok { OnOk result (self.new.lines ≡ spliced self.old.lines (splice_of new)) }
+        ensures lengths { OnOk result (self.new.lengths ≡ recut_by recut.start recut.end recut.lengths.items self.old.lengths) }
+        ensures err { OnErr result (self.new ≡ self.old) }
+        ensures only { OnErr result (IsErrOf result EditFault.Memory) }
+        ensures work { WorkOfEdit result self.old.lines (splice_of new) work.old work.new }
+        ensures looked { LooksOfEdit result self.old self.new (splice_of new) work.old work.new }
+    {
+        let made = self.lists.splice(self.front.finals(), new, &recut, work);
+        let Ok(front) = made else {
+            return Err(EditFault::Memory);
+        };
+        self.front.give_way(front);
+        self.follower = Follower::new(self.alloc, self.front.finals().hashing());
+        Ok(())
+    }
+
+    /// A text of the source.
+    pub fn text(&self, alloc: Global, part: Part) -> Result<Vec<u8>, AllocError>
+        ensures { IfOk result (λ text. text.items ≡ text_of part (assembly_of self.now.lines)) }
+    {
+        make_text(alloc, self, part)
+    }
+
+    /// How many lines of the source have a flag, and one more if it ends while a range is open. Takes no memory.
+    pub fn flagged(&self) -> u32
+        ensures { result ≡ flagged_in self.now.lines }
+    {
+        flagged_lines(&self.lists.outcomes, self.front.finals().is_open_at_end()) as u32
+    }
+}
+
+/// A list of one line.
+fn list_of(alloc: Global, line: Line) -> Result<Vec<Line>, AllocError>
+    ensures { IfOk result (λ list. list.items ≡ line ∷ []) }
+{
+    let mut list = Vec::with_capacity(alloc, 1)?;
+    list.push(line)?;
+    Ok(list)
+}
