@@ -1,6 +1,5 @@
 //! Edits of a session.
-use super::assertions::{assert_bytes, assert_same};
-use cps_list::Part;
+use super::assertions::assert_same;
 use cps_pass::{Hashing, Work};
 use cps_session::{EditFault, Session};
 use cps_text::Line;
@@ -80,106 +79,6 @@ fn assert_edit(rt: &impl Abort, alloc: Global, session: &mut Session, work: &mut
 /// Asserts what a line of a source is, None where there is none.
 fn assert_line(rt: &impl Abort, session: &Session, n: u32, want: Option<&[u8]>) {
     assert_eq!(rt; session.line(n).map(|line| line.bytes()), want, "line {n}");
-}
-
-fn assert_text(rt: &impl Abort, alloc: Global, session: &Session, part: Part, want: &str) {
-    let text = match session.text(alloc, part) {
-        Ok(text) => text,
-        Err(_) => Vec::new(alloc),
-    };
-    assert_bytes(rt, "a text", &text, want);
-}
-
-/// Asserts what edits of a session do, one after another, and then its listing, binary text and flags text.
-fn assert_edits(rt: &impl Abort, alloc: Global, rows: &[Row], texts: [&str; 3]) {
-    let mut session = Session::new(alloc, Hashing::by(1));
-    let mut work = Work::new();
-    assert_rows(rt, alloc, &mut session, &mut work, rows);
-    assert_texts(rt, alloc, &session, texts);
-    drop(session);
-}
-
-fn assert_rows(
-    rt: &impl Abort,
-    alloc: Global,
-    session: &mut Session,
-    work: &mut Work,
-    rows: &[Row],
-) {
-    for row in rows.iter() {
-        assert_edit(rt, alloc, session, work, row);
-    }
-}
-
-fn assert_texts(rt: &impl Abort, alloc: Global, session: &Session, texts: [&str; 3]) {
-    let [listing, binary, flags] = texts;
-    assert_text(rt, alloc, session, Part::Listing, listing);
-    assert_text(rt, alloc, session, Part::Binary, binary);
-    assert_text(rt, alloc, session, Part::Flags, flags);
-}
-
-const CLEAN: &str = "0 flagged lines\n";
-
-#[test]
-fn holds_lines(rt: HostRuntime) {
-    const ENTERED: Row = (Edit::Insert(0, b"  NO"), Ok(()), 1, Some(b"  NO"), [1, 1]);
-    const NONE: [Row; 0] = [];
-    const ONE: [Row; 1] = [ENTERED];
-    const ALL: [Row; 4] = [
-        ENTERED,
-        (
-            Edit::Replace(1, b"* none"),
-            Ok(()),
-            1,
-            Some(b"* none"),
-            [2, 2],
-        ),
-        (
-            Edit::Delete(1, 2),
-            Err(EditFault::NoSuchLine),
-            1,
-            Some(b"* none"),
-            [2, 2],
-        ),
-        (Edit::Delete(1, 1), Ok(()), 0, None, [2, 2]),
-    ];
-    let empty = ["", "IDENT\n", CLEAN];
-    assert_edits(&rt, rt.alloc(), &NONE, empty);
-    let entered = [
-        "         000000 46000                     1   NO\n",
-        "IDENT\n000000 46000000000000000000\n",
-        CLEAN,
-    ];
-    assert_edits(&rt, rt.alloc(), &ONE, entered);
-    assert_edits(&rt, rt.alloc(), &ALL, empty);
-}
-
-/// An edit steps the new line, and each behind it whose place in a word moves, in both passes; a comment moves none, and a
-/// refused edit steps none.
-#[test]
-fn counts_steps(rt: HostRuntime) {
-    const FIRST: Option<&[u8]> = Some(b"  NO");
-    const ROWS: [Row; 8] = [
-        (Edit::Insert(0, b"  NO"), Ok(()), 1, FIRST, [1, 1]),
-        (Edit::Insert(1, b"  NO"), Ok(()), 2, FIRST, [2, 2]),
-        (Edit::Insert(2, b"  NO"), Ok(()), 3, FIRST, [3, 3]),
-        (Edit::Insert(3, b"  NO"), Ok(()), 4, FIRST, [4, 4]),
-        (Edit::Insert(1, b"* one"), Ok(()), 5, FIRST, [5, 5]),
-        (Edit::Replace(4, b"* two"), Ok(()), 5, FIRST, [7, 7]),
-        (Edit::Delete(2, 4), Ok(()), 2, FIRST, [8, 8]),
-        (
-            Edit::Delete(2, 4),
-            Err(EditFault::NoSuchLine),
-            2,
-            FIRST,
-            [8, 8],
-        ),
-    ];
-    let listing = "         000000 46000                     1   NO
-         000000 46000                     2   NO
-";
-    let binary = "IDENT\n000000 46000460000000000000\n";
-    assert_edits(&rt, rt.alloc(), &ROWS, [listing, binary, CLEAN]);
 }
 
 /// Inserts a line so many times after the last one. Where there is no memory it is missing.

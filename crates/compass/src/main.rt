@@ -19,21 +19,15 @@ mod devices;
 #[cfg(test)]
 mod edit_rows;
 #[cfg(test)]
-mod list;
-#[cfg(test)]
 mod many_edits;
 #[cfg(test)]
 mod part_rows;
 #[cfg(test)]
 mod pass_rows;
 #[cfg(test)]
-mod replies;
-#[cfg(test)]
 mod run_rows;
 #[cfg(test)]
 mod running;
-#[cfg(test)]
-mod script_rows;
 
 use cps_text::Counted;
 use cps_tool::{Hashing, run_words};

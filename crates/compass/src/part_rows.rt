@@ -1,9 +1,7 @@
-//! The texts of a view, one by one and all at once: of a session's, and of a plain list.
+//! The texts of a session, one by one and all at once.
 use super::assertions::{assert_row, assert_same};
-use super::call_rows::{BINARY, FLAGS, LISTING, PROGRAM, SYMBOLS, whole_text};
 use super::devices::SlowWriter;
 use super::edit_rows::insert;
-use super::list::write_list;
 use cps_list::{
     ListFault, Part, View, write_all_parts, write_binary, write_flags, write_listing, write_symbols,
 };
@@ -14,8 +12,39 @@ use std::alloc::{AllocError, Global};
 use std::io::Write;
 use std::process::Abort;
 
+const PROGRAM: &str = "         IDENT   T1
+         ABS
+         ORG     100B
+START    SA1     B1+3
+         SX6     X1
+         SA6     A1
+         EQ      START
+         END
+";
+
+const LISTING: &str = "                                          1          IDENT   T1
+                                          2          ABS
+         000100                           3          ORG     100B
+         000100 5111000003                4 START    SA1     B1+3
+         000100 73610                     5          SX6     X1
+         000100 54610                     6          SA6     A1
+         000101 0400000100                7          EQ      START
+                                          8          END
+";
+
+const BINARY: &str = "IDENT T1\n000100 51110000037361054610\n000101 04000001004600046000\n";
+
+const SYMBOLS: &str = "START    00000000000000000100 4 7\n";
+
+const FLAGS: &str = "0 flagged lines\n";
+
+/// All texts of the program.
+fn whole_text(alloc: Global) -> Result<String, AllocError> {
+    format!(in alloc; "{LISTING}{BINARY}{SYMBOLS}{FLAGS}")
+}
+
 /// Writes a part of a view's texts.
-pub fn write_view<V: View, W: Write>(
+fn write_view<V: View, W: Write>(
     alloc: Global,
     view: &V,
     part: Part,
@@ -52,16 +81,12 @@ fn write_session<W: Write>(
     done
 }
 
-/// Asserts what is written of a source, from a session and from a list.
+/// Asserts what is written of the program.
 fn assert_part(rt: &impl Abort, alloc: Global, at: usize, part: Part, want: &str) {
     let mut writer = Counted::new(Vec::new(alloc));
     let done = write_session(alloc, PROGRAM, part, &mut writer);
     assert_same(rt, "the answer", &done, &Ok(()));
-    assert_row(rt, at, "of a session", &writer.into_inner(), want);
-    let mut writer = Counted::new(Vec::new(alloc));
-    let done = write_list(alloc, PROGRAM, part, &mut writer);
-    assert_same(rt, "the answer", &done, &Ok(()));
-    assert_row(rt, at, "of a list", &writer.into_inner(), want);
+    assert_row(rt, at, "a text", &writer.into_inner(), want);
 }
 
 #[test]

@@ -1,29 +1,11 @@
 //! Runs of scripts on a source without a line, and of batch assembly. Only here a session is held.
-use super::devices::{SlowReader, SlowWriter};
 use cps_batch::{BatchFault, batch};
 use cps_list::Part;
 use cps_session::Session;
 use cps_text::Counted;
 use cps_tool::{Hashing, RunFault, run_script};
-use std::alloc::{AllocError, Global};
+use std::alloc::Global;
 use std::io::{Read, Write};
-
-/// A front, then a text so many times, and then an end.
-pub fn long_input(
-    alloc: Global,
-    front: &[u8],
-    text: &[u8],
-    times: u32,
-    end: &[u8],
-) -> Result<Vec<u8>, AllocError> {
-    let mut input = Vec::new(alloc);
-    input.extend_from_slice(front)?;
-    for _ in 0..times {
-        input.extend_from_slice(text)?;
-    }
-    input.extend_from_slice(end)?;
-    Ok(input)
-}
 
 /// What a run of a script gives, and the source that it leaves.
 #[derive(Clone, Copy)]
@@ -59,41 +41,6 @@ fn first_byte(session: &Session) -> Option<u8> {
     session.line(1)?.bytes().first().copied()
 }
 
-/// What came of a script, and the replies.
-#[derive(Drop)]
-pub struct Replied {
-    pub ran: Ran,
-    pub text: Vec<u8>,
-}
-
-/// Runs a script that is read and written at once.
-pub fn run_at_once(alloc: Global, script: &[u8]) -> Replied {
-    let mut reader = Counted::new(script);
-    let mut writer = Counted::new(Vec::new(alloc));
-    let ran = run(alloc, &mut reader, &mut writer);
-    Replied {
-        ran,
-        text: writer.into_inner(),
-    }
-}
-
-/// Runs a script that is read and written a byte a call.
-pub fn run_byte_by_byte(alloc: Global, script: &[u8]) -> Replied {
-    let mut reader = Counted::new(SlowReader {
-        rest: script,
-        fails: false,
-    });
-    let mut writer = Counted::new(SlowWriter {
-        taken: Vec::new(alloc),
-        room: usize::MAX,
-    });
-    let ran = run(alloc, &mut reader, &mut writer);
-    Replied {
-        ran,
-        text: writer.into_inner().taken,
-    }
-}
-
 /// What came of batch assembly, and the text.
 #[derive(Drop)]
 pub struct Written {
@@ -104,15 +51,6 @@ pub struct Written {
 /// Assembles a source that is read at once.
 pub fn assemble(alloc: Global, source: &[u8], part: Part) -> Written {
     let mut reader = Counted::new(source);
-    assemble_from(alloc, &mut reader, part)
-}
-
-/// Assembles a source that is read a byte a call.
-pub fn assemble_byte_by_byte(alloc: Global, source: &[u8], part: Part) -> Written {
-    let mut reader = Counted::new(SlowReader {
-        rest: source,
-        fails: false,
-    });
     assemble_from(alloc, &mut reader, part)
 }
 

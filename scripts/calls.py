@@ -1,0 +1,166 @@
+"""Calls of the program, for `run-examples`: the words behind its name, what stands on standard input, the status, what is written and
+what is told on standard error."""
+
+PARTS = b"listing, binary, symbols, flags, all"
+HELP = b"\n\nFor more information, try '--help'.\n"
+
+PROGRAM = b"""         IDENT   T1
+         ABS
+         ORG     100B
+START    SA1     B1+3
+         SX6     X1
+         SA6     A1
+         EQ      START
+         END
+"""
+LISTING = b"""                                          1          IDENT   T1
+                                          2          ABS
+         000100                           3          ORG     100B
+         000100 5111000003                4 START    SA1     B1+3
+         000100 73610                     5          SX6     X1
+         000100 54610                     6          SA6     A1
+         000101 0400000100                7          EQ      START
+                                          8          END
+"""
+BINARY = b"IDENT T1\n000100 51110000037361054610\n000101 04000001004600046000\n"
+SYMBOLS = b"START    00000000000000000100 4 7\n"
+FLAGS = b"0 flagged lines\n"
+ALL = LISTING + BINARY + SYMBOLS + FLAGS
+
+NO_WORD, ONE = b"IDENT\n", b"IDENT\n000000 46000000000000000000\n"
+ROW = b" " * 42 + b"1\n"
+
+
+def entered(count):
+    """What is replied to so many lines that are entered after the last one."""
+    return b"".join(b"ok %d lines\n" % it for it in range(1, count + 1))
+
+
+def part(name, source, text, status=0):
+    """Batch assembly of a source into one of its texts."""
+    return ["batch", "--part", name], source, status, text, b""
+
+
+def wrong(source, told, *words):
+    """Batch assembly of a source that isn't assembled."""
+    return ["batch", *words], source, 2, b"", told
+
+
+def refused(words, told):
+    """A call by words that ask nothing: a script, or a source, isn't read."""
+    return words, b"a A\n", 2, b"", b"error: " + told + HELP
+
+
+def session(script, replies, status=0):
+    return ["session"], script, status, replies, b""
+
+
+# each text of a program, and all
+TEXTS = [
+    part("listing", PROGRAM, LISTING),
+    part("binary", PROGRAM, BINARY),
+    part("symbols", PROGRAM, SYMBOLS),
+    part("flags", PROGRAM, FLAGS),
+    (["batch"], PROGRAM, 0, ALL, b""),
+    (["batch", "--part=all"], PROGRAM, 0, ALL, b""),
+    part("flags", b"A        CON     1\nA        CON     2\n", b"2 D\n1 flagged lines\n", 1),
+    part("flags", b"         IFEQ    1,2\n", b"end E\n1 flagged lines\n", 1),
+]
+
+# 42 times 1,000 words, more statements than are kept from one pass for the other, and a label after them on line 85
+LONG = [part("symbols", b"   DUP 1000,1\n   BSS 1\n" * 42 + b"L  BSS 1\n", b"L        00000000000000122020 85\n")]
+
+# the lines that bytes are: what they stand for is told by the words of their binary text; a lone carriage return is an empty line
+LINES = [
+    part("binary", b"  NO", ONE),
+    part("binary", b"  NO\r\n", ONE),
+    part("binary", b"  NO\n", ONE),
+    part("binary", b"  NO\n\n", ONE),
+    part("binary", b"  NO\r", ONE),
+    part("binary", b"\r\n  NO\n\r", ONE),
+    part("binary", b"", NO_WORD),
+    part("binary", b"\n", NO_WORD),
+    part("binary", b"  NO\n  NO", b"IDENT\n000000 46000460000000000000\n"),
+    part("listing", b"", b""),
+    part("listing", b"\n", ROW),
+    part("listing", b"\r", ROW),
+    part("listing", b"\r\n", ROW),
+]
+
+# the first line that no source may have decides, and of one line its length before its characters
+WRONG_LINES = [
+    wrong(b"X" * 91 + b"\n`\n\n", b"line 1: line too long\n"),
+    wrong(b"\nA`\n" + b"X" * 91 + b"\n", b"line 2: bad character\n"),
+    wrong(b"A\n\t\n{\n", b"line 2: bad character\n"),
+    wrong(b"A\nB\n" + b"X" * 91 + b"\n", b"line 3: line too long\n"),
+    wrong(b"A\nB\n\r\r\n", b"line 3: bad character\n"),
+    wrong(b"A\nB\n\xff\n", b"line 3: bad character\n"),
+    part("flags", b"\n" * 9998 + b"A", b"9999 O\n1 flagged lines\n", 1),
+    wrong(b"\n" * 9999 + b"A", b"too many lines\n"),
+    wrong(b"\n" * 10000 + b"~", b"too many lines\n"),
+    wrong(b"\n" * 9999 + b"~", b"line 10000: bad character\n"),
+    part("flags", b"*" * 90, FLAGS),
+    part("flags", b"*" * 90 + b"\r", FLAGS),
+    wrong(b"*" * 91, b"line 1: line too long\n", "--part", "flags"),
+    wrong(b"*" * 200, b"line 1: line too long\n"),
+    wrong(b"*" * 200 + b"\r\n", b"line 1: line too long\n"),
+    wrong(b"*" * 1000 + b"`\n", b"line 1: line too long\n"),
+]
+
+# scripts whose lines end otherwise than with a newline, bytes that can't be seen, and how long a line is
+SCRIPTS = [
+    session(b"", b""),
+    session(b"a", b"ok 1 lines\n"),
+    session(b"a\r\nquit\r\na\r\n", b"ok 1 lines\n"),
+    session(b"binary\r\n", NO_WORD),
+    session(b"a \t\n", b"refused 3 bad character\n"),
+    session(b"a \x7f\n", b"refused 3 bad character\n"),
+    session(b"a " + b"X" * 90 + b"\n", b"ok 1 lines\n", 1),
+    session(b"a " + b"X" * 91 + b"\n", b"refused 2 line too long\n"),
+    session(b"a \t" + b"X" * 90 + b"\n", b"refused 2 line too long\n"),
+    session(b"i 5 " + b"X" * 91 + b"\n", b"refused 1 no such line\n"),
+    session(b"r 1 " + b"X" * 91 + b"\n", b"refused 1 no such line\n"),
+    session(b"a " + b"X" * 198 + b"\n", b"refused 2 line too long\n"),
+    session(b"a " + b"X" * 199 + b"\n", b"refused 5 bad command\n"),
+    session(b"a   NO\nflags\n", b"ok 1 lines\n0 flagged lines\n"),
+    session(b"a A\nd 1\n", b"ok 1 lines\nok 0 lines\n"),
+    session(b"a A\na B\nquit\nd 1\n", b"ok 1 lines\nok 2 lines\n", 1),
+]
+
+# A source has at most 9,999 lines: the last of them is taken, the next one refused, and a line may still be replaced. A body has at most
+# 500, and a MACRO that isn't kept is none of them.
+LIMITS = [
+    session(b"a\n" * 9999 + b"a\ni 0\nr 9999 A\nflags\nd 9999\na\n",
+            entered(9999) + b"refused 4 too many lines\nrefused 4 too many lines\nok 9999 lines\n9999 O\n1 flagged lines\n"
+            b"ok 9998 lines\nok 9999 lines\n"),
+    session(b"a M        MACRO\n" + b"a *\n" * 499 + b"a          CON     1\na N        MACRO\na          ENDM\na          M\nflags\nbinary\n",
+            entered(504) + b"502 E\n1 flagged lines\nIDENT\n000000 00000000000000000001\n", 1),
+    session(b"a M        MACRO\n" + b"a *\n" * 500 + b"a          CON     1\na N        MACRO\na          ENDM\na          M\nflags\nbinary\n",
+            entered(505) + b"502 E\n503 E\n504 E\n505 O\n4 flagged lines\nIDENT\n", 1),
+    session(b"a          DUP     2\n" + b"a *\n" * 499 + b"a          CON     1\na          ENDD\nflags\nbinary\n",
+            entered(502) + FLAGS + b"IDENT\n000000 00000000000000000001\n000001 00000000000000000001\n"),
+    session(b"a          DUP     2\n" + b"a *\n" * 500 + b"a          CON     1\na          ENDD\nflags\nbinary\n",
+            entered(503) + b"502 E\n503 E\n2 flagged lines\nIDENT\n", 1),
+    session(b"a          DUP     2,500\n" + b"a *\n" * 499 + b"a          CON     1\nflags\nbinary\n",
+            entered(501) + FLAGS + b"IDENT\n000000 00000000000000000001\n000001 00000000000000000001\n"),
+]
+
+# words that ask nothing
+WORDS = [
+    refused([], b"'compass' requires a subcommand but one was not provided\n  [subcommands: batch, session]\n\nUsage: compass <COMMAND>"),
+    refused(["other"], b"unrecognized subcommand 'other'\n\nUsage: compass <COMMAND>"),
+    refused(["batch", "--part", "other"], b"invalid value 'other' for '--part <PART>'\n  [possible values: " + PARTS + b"]"),
+    refused(["batch", "--part"], b"a value is required for '--part <PART>' but none was supplied"),
+    refused(["batch", "--wide"], b"unexpected argument '--wide' found\n\nUsage: compass batch [OPTIONS]"),
+    refused(["session", "name"], b"unexpected argument 'name' found\n\nUsage: compass session"),
+]
+
+CALLS = TEXTS + LONG + LINES + WRONG_LINES + SCRIPTS + LIMITS + WORDS
+
+# words that ask for help or the version, and what is written among other lines, none of which has more than 80 columns
+HELPS = [
+    (["--help"], b"Usage: compass <COMMAND>"),
+    (["batch", "--help"], b"Usage: compass batch [OPTIONS]"),
+    (["session", "-h"], b"Usage: compass session"),
+    (["--version"], b"compass "),
+]
