@@ -15,7 +15,7 @@ use Rattle.cps_list.proofs.PrintoutLemmas.{mentions-more, shown-more}
 use Rattle.cps_assembly.specs.Assembly.{after, state_after, traces_from, traces_of, outcomes_under}
 use Rattle.cps_batch.specs.declared.passes.PassOne.{PassOne}
 use Rattle.cps_batch.specs.declared.passes.PassTwo.{PassTwo}
-use Rattle.cps_final.specs.contracts.finals.FinalsGathered.TheImpl.{gathered-value}
+use Rattle.cps_gather.specs.contracts.finals.FinalsGathered.TheImpl.{gathered-value}
 use Rattle.cps_batch.specs.Passes.{statements_of, IsPassed, IsShown}
 use Rattle.cps_edit.proofs.SpliceLemmas.{traces_from-append, length-traces_from, puts-state}
 

@@ -2,8 +2,8 @@
 use Rattle.std.specs.Prelude.{◌≡◌, ℕ, List, map, IfSome}
 use Rattle.cps_state.specs.declared.item.Item.{Item}
 use Rattle.cps_state.specs.Course.{Trace}
-use Rattle.cps_final.specs.contracts.finals.FinalsGathered.TheImpl as finals
-use Rattle.cps_final.specs.contracts.gather.GatherGathered.TheImpl as gather
+use Rattle.cps_gather.specs.contracts.finals.FinalsGathered.TheImpl as finals
+use Rattle.cps_gather.specs.contracts.gather.GatherGathered.TheImpl as gather
 use Rattle.cps_final.specs.Finals.{Finals, Gathers}
 use Rattle.cps_list.specs.Making.{IsPrintoutOf, shown, shows_symbols}
 use Rattle.cps_list.specs.Symbols.{mentions_from}

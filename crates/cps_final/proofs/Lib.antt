@@ -1,6 +1,6 @@
 pub mod AloneLemmas
-pub mod BlockLemmas
-pub mod GatherLemmas
 pub mod OutcomeLemmas
 pub mod PieceLemmas
 pub mod ValueLemmas
+pub use Rattle.cps_gather.proofs.BlockLemmas
+pub use Rattle.cps_gather.proofs.GatherLemmas

@@ -21,7 +21,7 @@ use Rattle.cps_kept.specs.declared.append.Follower.{Follower}
 use Rattle.cps_kept.specs.declared.arrival.Arrival.{Arrival}
 use Rattle.cps_kept.specs.declared.arrival.Change.{Change}
 use Rattle.cps_edit.specs.contracts.front.FrontGathered.TheImpl as front
-use Rattle.cps_final.specs.contracts.finals.FinalsGathered.TheImpl.{gathered-value}
+use Rattle.cps_gather.specs.contracts.finals.FinalsGathered.TheImpl.{gathered-value}
 
 -- ---- what an append changes no more
 

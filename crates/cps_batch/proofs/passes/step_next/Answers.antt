@@ -1,7 +1,7 @@
 use Rattle.std.proofs.Common.{List, subst, sym}
 use Rattle.cps_state.specs.Course.{Trace}
 use Rattle.cps_final.specs.Finals.{Gathers}
-use Rattle.cps_final.specs.contracts.gather.GatherGathered.TheImpl.{gathered-value}
+use Rattle.cps_gather.specs.contracts.gather.GatherGathered.TheImpl.{gathered-value}
 use Rattle.cps_assembly.specs.Assembly.{traces_of}
 use Rattle.cps_batch.proofs.PassLemmas.{step-next}
 use Rattle.cps_batch.proofs.passes.step_next.Goals as goal

@@ -1,5 +1,5 @@
 use Rattle.std.proofs.Common.{List, drop, ◌++◌}
-use Rattle.cps_final.specs.contracts.finals.FinalsGathered.TheImpl.{gathered-value}
+use Rattle.cps_gather.specs.contracts.finals.FinalsGathered.TheImpl.{gathered-value}
 use Rattle.cps_kept.specs.declared.open.Open.{Open}
 use Rattle.cps_kept.specs.Append.{is_settled, Covers}
 use Rattle.cps_kept.proofs.open.open_lines.Given as goal

@@ -1,5 +1,5 @@
 use Rattle.std.proofs.Common.{◌≡◌, sym, ap, ◌∙◌, rules}
-use Rattle.cps_final.specs.contracts.gather.GatherGathered.TheImpl.{gathered-value}
+use Rattle.cps_gather.specs.contracts.gather.GatherGathered.TheImpl.{gathered-value}
 use Rattle.cps_final.specs.Finals.{is_open_at_end}
 use Rattle.cps_list.specs.Flagged.{flagged_with}
 use Rattle.cps_list.specs.Making.{shown, shows_symbols}

@@ -1,7 +1,7 @@
 use Rattle.std.proofs.Common.{◌≡◌, sym, ap, ◌∙◌, Option, None}
 use Rattle.cps_text.specs.declared.name.Name.{Name}
 use Rattle.cps_state.specs.Keys.{State, labels_of}
-use Rattle.cps_final.specs.contracts.finals.FinalsGathered.TheImpl.{gathered-value}
+use Rattle.cps_gather.specs.contracts.finals.FinalsGathered.TheImpl.{gathered-value}
 use Rattle.cps_kept.specs.Append.{is_awaited}
 use Rattle.cps_kept.proofs.SettledLemmas.{label-some, label-none, flipped}
 use Rattle.cps_kept.proofs.open.SettledNaming.label.Goals as goal

@@ -10,7 +10,7 @@ use Rattle.cps_edit.specs.Renewed.{redone_parts}
 use Rattle.cps_edit.proofs.ReplayLemmas.{on-err}
 use Rattle.cps_kept.proofs.LookLemmas.{by_front}
 use Rattle.cps_kept.proofs.WholeLemmas.{outcomes_whole, more_up, more_under}
-use Rattle.cps_final.specs.contracts.finals.FinalsGathered.TheImpl.{gathered-value}
+use Rattle.cps_gather.specs.contracts.finals.FinalsGathered.TheImpl.{gathered-value}
 use Rattle.cps_kept.proofs.plan.Kept.edit.Goals as goal
 
 pub returns-clause-twos : goal.returns-clause-twos

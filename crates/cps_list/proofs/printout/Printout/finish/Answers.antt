@@ -2,7 +2,7 @@ use Rattle.std.proofs.Common.{◌≡◌, ◌+◌, ◌++◌, List, ap, sym, subst
 use Rattle.cps_code.specs.Image.{Piece, ArePacked}
 use Rattle.cps_state.specs.Machines.{limit}
 use Rattle.cps_final.specs.Finals.{machine_of}
-use Rattle.cps_final.specs.contracts.finals.FinalsGathered.TheImpl.{gathered-value}
+use Rattle.cps_gather.specs.contracts.finals.FinalsGathered.TheImpl.{gathered-value}
 use Rattle.cps_list.specs.Assembly.{Assembly}
 use Rattle.cps_list.specs.Binary.{first_row, rows_below, pool_pieces}
 use Rattle.cps_list.specs.Flagged.{count_if, end_row, count_row}

@@ -1,0 +1,15 @@
+-- The pool of literals: each literal word of a source once, in order of first appearance. From the manual's section on literals; the order is our profile's.
+use Rattle.std.specs.Prelude.{ℕ, nat_eq, List, flat_map}
+use Rattle.cps_state.specs.Course.{Trace}
+use Rattle.cps_state.specs.Made.{Made, content_literals}
+use Rattle.cps_gather.specs.Distinct.{distinct}
+
+-- the literal words of a statement, also of one that makes nothing because it would pass the machine's words
+abbrev pub literals_of : Made → List ℕ
+literals_of made = flat_map content_literals made.contents
+
+abbrev pub literals_in : Trace → List ℕ
+literals_in trace = flat_map (λ item. literals_of item.made) trace.items
+
+abbrev pub pool_of : List Trace → List ℕ
+pool_of traces = distinct nat_eq (flat_map literals_in traces)
