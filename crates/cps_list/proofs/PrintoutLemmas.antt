@@ -1,12 +1,12 @@
 -- A printout, one line more, and the whole.
 use Rattle.std.proofs.Common.{◌≡◌, ℕ, ◌+◌, suc, Bool, true, false, refl, sym, ap, subst, ◌∙◌, List, [], ◌∷◌, ◌++◌, append_assoc, append-nil, length, arith}
-use Rattle.std.specs.Prelude.{Option, flat_map}
+use Rattle.std.specs.Prelude.{Option}
 use Rattle.std.proofs.lemmas.Grind.{flat_map-append}
 use Rattle.cps_code.specs.Image.{Piece, ArePacked}
 use Rattle.cps_state.specs.Flags.{has_flag}
 use Rattle.cps_state.specs.Machines.{limit}
 use Rattle.cps_final.specs.declared.row.Row.{Row}
-use Rattle.cps_final.specs.Finals.{Finals, machine_of}
+use Rattle.cps_final.specs.Finals.{machine_of}
 use Rattle.cps_final.specs.Outcome.{Outcome, flags_of}
 use Rattle.cps_list.specs.declared.mention.Mention.{Mention}
 use Rattle.cps_list.specs.declared.part.Part.{Part}

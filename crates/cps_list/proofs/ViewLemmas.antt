@@ -1,6 +1,6 @@
 -- The next line of a view.
 use Rattle.std.proofs.Common.{◌≡◌, ℕ, zero, suc, ◌+◌, ◌-◌, refl, sym, ap, subst, ◌∙◌, List, [], ◌∷◌, ◌++◌, append_assoc, length, drop, take, arith}
-use Rattle.std.specs.Prelude.{slice_get, Option, None, Some}
+use Rattle.std.specs.Prelude.{slice_get, Some}
 use Rattle.std.proofs.lemmas.Option.{same_Some}
 use Rattle.cps_final.specs.Outcome.{Outcome}
 use Rattle.cps_list.specs.declared.mention.Mention.{Mention}

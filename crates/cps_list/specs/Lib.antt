@@ -1,8 +1,9 @@
 pub mod Assembly
-pub mod Columns
 pub mod Listing
 pub mod Binary
 pub mod Making
 pub mod Symbols
 pub mod Flagged
 pub mod Texts
+pub use Rattle.cps_writing.specs.Writing
+pub use Rattle.cps_listing.specs.Columns

@@ -1,6 +1,6 @@
 -- The cross-reference: each symbol that a line defines or reads, in the order of its characters, with its final value and its lines.
 -- From the manual's symbolic reference table; the layout is our profile's.
-use Rattle.std.specs.Prelude.{ℕ, ◌+◌, Bool, true, false, not, List, [], ◌∷◌, ◌++◌, map, flat_map, filter, find, codes, decimal, Option, None, Some, if◌then◌else◌}
+use Rattle.std.specs.Prelude.{ℕ, ◌+◌, true, false, List, [], ◌∷◌, ◌++◌, map, flat_map, filter, find, codes, decimal, Option, None, Some, if◌then◌else◌}
 use Rattle.std.specs.FinMap.{FinMap, from_entries, keys}
 use Rattle.std.specs.Option.{option_or, option_map_or}
 use Rattle.std.specs.Cmp.Lexicographic.{slice_cmp}
@@ -17,7 +17,7 @@ use Rattle.cps_final.specs.Finals.{Finals, final_value, label, setting}
 use Rattle.cps_final.specs.Outcome.{Outcome}
 use Rattle.cps_list.specs.declared.mention.Mention.{Mention}
 use Rattle.cps_list.specs.Assembly.{Assembly}
-use Rattle.cps_list.specs.Columns.{Column, laid_out}
+use Rattle.cps_listing.specs.Columns.{Column, laid_out}
 
 -- ---- the lines on which symbols stand
 

@@ -1,6 +1,7 @@
 //! The binary text.
-ghost use Rattle.std.specs.Prelude.{◌≡◌, ◌++◌, OnOk, List, Option, map, codes};
+ghost use Rattle.std.specs.Prelude.{◌≡◌, ◌++◌, ◌<◌, ◌%◌, ◌^◌, OnOk, List, Option, map, codes};
 ghost use Rattle.cps_text.specs.Octal.{octal};
+ghost use Rattle.cps_expr.specs.Item.{bits_of};
 ghost use Rattle.cps_code.specs.Image as image;
 ghost use Rattle.cps_code.specs.Image.{piece_of, ArePacked};
 ghost use Rattle.cps_state.specs.Machines.{limit};
@@ -70,14 +71,22 @@ fn put_literal(words: &mut Words, finals: &Finals, word: u64) -> Result<(), Allo
     if address >= u64::from(limit_of(machine)) {
         return Ok(());
     }
+    words.deposit(word_piece(machine, address as u32, word))
+}
+
+/// One word of a machine at an address: the low bits of a number.
+fn word_piece(machine: Machine, address: u32, number: u64) -> Piece
+    requires { address < limit machine }
+    ensures { piece_of result ≡ record { address = address; first = 0; width = bits_of machine; number = number % 2 ^ bits_of machine; times = 1 } }
+{
     let width = word_bits(machine);
-    words.deposit(Piece {
-        address: address as u32,
+    Piece {
+        address,
         first: 0,
         width,
-        number: word % (1 << width),
+        number: number % (1 << width),
         times: 1,
-    })
+    }
 }
 
 /// The address of a literal; one that stands nowhere counts as at 0.

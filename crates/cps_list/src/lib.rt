@@ -2,16 +2,14 @@
 #![tactic(auto)]
 
 mod binary;
-mod columns;
 mod flagged;
-mod listing;
 mod mention;
 mod part;
 mod printout;
 mod symbols;
 mod view;
-mod writing;
 
+pub use cps_writing::{ListFault, write_text};
 pub use mention::{Mention, push_mentions};
 pub use part::{
     Part, make_text, write_all_parts, write_binary, write_flags, write_listing, write_part,
@@ -19,4 +17,3 @@ pub use part::{
 };
 pub use printout::Printout;
 pub use view::View;
-pub use writing::{ListFault, write_text};

@@ -2,13 +2,14 @@
 ghost use Rattle.std.specs.Prelude.{◌≡◌, ◌<◌, ◌^◌, IfOk};
 ghost use Rattle.cps_list.specs.Making.{IsPrintoutOf, shown, shows_listing, shows_binary, shows_symbols, shows_flags};
 ghost use Rattle.cps_list.specs.Symbols.{mentions_from};
-ghost use Rattle.cps_list.specs.Texts.{text_of, Writes};
+ghost use Rattle.cps_list.specs.Texts.{text_of};
+ghost use Rattle.cps_writing.specs.Writing.{Writes};
 
 use crate::mention::{Mention, list_mentions};
 use crate::printout::Printout;
 use crate::view::View;
-use crate::writing::{ListFault, write_text};
 use cps_text::Counted;
+use cps_writing::{ListFault, write_text};
 use std::alloc::{AllocError, Global};
 use std::io::Write;
 
@@ -53,7 +54,8 @@ impl Part {
 }
 
 /// Writes a part. The text is made whole before the first byte is written; after a failed write nothing more is
-/// written.
+/// written. The program calls `make_text` or `Printout::finish`, and then `write_text`; this call and the five below
+/// are for callers that want one text alone.
 pub fn write_part<V: View, W: Write>(
     alloc: Global,
     view: &V,

@@ -14,12 +14,12 @@ ghost use Rattle.cps_list.specs.Texts.{text_of};
 
 use crate::binary::{push_binary, put_pieces};
 use crate::flagged::{count_of, push_end, push_row, with_end};
-use crate::listing::{push_open_row, push_rows};
 use crate::mention::Mention;
 use crate::part::Part;
 use crate::symbols::push_symbols;
 use cps_code::{Piece, Words};
 use cps_final::{Finals, Gathered, Row, flags_of};
+use cps_listing::{push_open_row, push_rows};
 use cps_state::Flags;
 use std::alloc::{AllocError, Global};
 use std::marker::Model;

@@ -1,4 +1,4 @@
-use Rattle.std.proofs.Common.{◌≡◌, ◌+◌, ◌-◌, ◌++◌, length, sym, ap, ◌∙◌, append-nil, append_assoc, arith}
+use Rattle.std.proofs.Common.{◌≡◌, ◌+◌, ◌-◌, ◌++◌, sym, ap, ◌∙◌, append-nil, append_assoc, arith}
 use Rattle.cps_code.specs.Image.{packed_word}
 use Rattle.cps_state.specs.Machines.{limit}
 use Rattle.cps_list.specs.Binary.{word_row, rows_below}

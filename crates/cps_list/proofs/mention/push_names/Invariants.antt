@@ -1,7 +1,6 @@
 use Rattle.std.proofs.Common.{◌≡◌, ◌++◌, take}
 use Rattle.std.specs.Prelude.{map}
 use Rattle.cps_text.specs.declared.name.Name.{Name}
-use Rattle.cps_list.specs.declared.mention.Mention.{Mention}
 use Rattle.cps_list.proofs.mention.push_names.Given as goal
 
 abbrev pub invariant-loop-name : goal.invariant-loop-name

@@ -1,4 +1,4 @@
-use Rattle.std.proofs.Common.{◌≤◌, ◌<◌, ◌+◌, rules, arith, subst, sym, ◌∙◌, take, length, ap}
+use Rattle.std.proofs.Common.{◌≤◌, rules, arith, subst, ◌∙◌, take, length}
 use Rattle.std.proofs.lemmas.List.{take_all}
 use Rattle.cps_list.specs.Making.{IsPrintoutOf}
 use Rattle.cps_list.proofs.ViewLemmas.{number-next, printout-next}

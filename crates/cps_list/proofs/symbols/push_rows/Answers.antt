@@ -1,4 +1,4 @@
-use Rattle.std.proofs.Common.{◌≡◌, ◌≤◌, ◌++◌, rules, arith, refl, sym, ap, subst, ◌∙◌, append_assoc, append-nil, length, length-drop, drop, take}
+use Rattle.std.proofs.Common.{◌≤◌, ◌++◌, arith, refl, sym, ap, subst, ◌∙◌, append_assoc, append-nil, length, length-drop, drop, take}
 use Rattle.cps_gather.specs.contracts.finals.FinalsGathered.TheImpl.{gathered-value}
 use Rattle.cps_list.specs.Symbols.{row_of, symbol_rows}
 use Rattle.cps_list.proofs.OrderLemmas.{Rising, rising-sorted}

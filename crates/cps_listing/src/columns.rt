@@ -1,0 +1,46 @@
+//! Rows of columns.
+ghost use Rattle.std.specs.Prelude.{◌≡◌, ◌++◌, ◌≤◌, ℕ, List, OnOk, length, decimal};
+ghost use Rattle.cps_listing.specs.Columns as laid;
+
+use itoa::Buffer;
+use std::alloc::AllocError;
+
+/// Fills the columns that a row takes from a length of a text on.
+pub fn fill_columns(text: &mut Vec<u8>, before: usize, columns: usize) -> Result<(), AllocError>
+    requires within { before ≤ length text.old.items }
+    requires few { columns ≤ 44 }
+    ensures row { (front row : List ℕ) → text.old.items ≡ front ++ row → before ≡ length front → OnOk result (text.new.items ≡ front ++ laid.at_left columns row) }
+    ensures grows { OnOk result (length text.old.items ≤ length text.new.items) }
+{
+    let used = text.len() - before;
+    push_blanks(text, columns.saturating_sub(used))
+}
+
+fn push_blanks(text: &mut Vec<u8>, count: usize) -> Result<(), AllocError>
+    requires { count ≤ 44 }
+    ensures { OnOk result (text.new.items ≡ text.old.items ++ laid.blanks count) }
+{
+    text.resize(text.len() + count, b' ')
+}
+
+/// A text at the right of so many columns.
+pub fn push_at_right(text: &mut Vec<u8>, width: usize, shown: &[u8]) -> Result<(), AllocError>
+    requires { width ≤ 44 }
+    ensures { OnOk result (text.new.items ≡ text.old.items ++ laid.at_right width shown.now) }
+{
+    push_blanks(text, width.saturating_sub(shown.len()))?;
+    text.extend_from_slice(shown)
+}
+
+/// The last so many characters of a text.
+pub fn last_of(count: usize, text: &[u8]) -> &[u8]
+    ensures { result.now ≡ laid.last_of count text.now }
+{
+    &text[text.len().saturating_sub(count)..]
+}
+
+pub fn push_decimal(text: &mut Vec<u8>, number: u64) -> Result<(), AllocError>
+    ensures { OnOk result (text.new.items ≡ text.old.items ++ decimal number) }
+{
+    text.extend_from_slice(Buffer::new().format(number).as_bytes())
+}

@@ -1,0 +1,8 @@
+//! The rows of a listing: those of a line, and the last of a source that ends while a range is open; and the columns of rows.
+#![tactic(auto)]
+
+mod columns;
+mod listing;
+
+pub use columns::{fill_columns, push_decimal};
+pub use listing::{push_open_row, push_rows};
