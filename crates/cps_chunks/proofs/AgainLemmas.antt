@@ -7,21 +7,21 @@ use Rattle.cps_state.specs.Course.{Trace}
 use Rattle.cps_state.specs.Work.{Counts, counted_on}
 use Rattle.cps_final.specs.Finals.{Named}
 use Rattle.cps_final.specs.Outcome.{Resolved, Outcome}
-use Rattle.cps_edit.specs.Agreeing.{same_at, same_named}
+use Rattle.cps_holding.specs.Agreeing.{same_at, same_named}
 use Rattle.cps_edit.specs.Passes.{outcomes_by}
 use Rattle.cps_edit.specs.Disturbed.{is_redone}
 use Rattle.cps_edit.specs.Renewed.{merged, nones, redone_from, redone_kept}
 use Rattle.cps_edit.proofs.FrontLemmas.{none-more}
 use Rattle.cps_edit.proofs.RedoLemmas.{append-outcomes, length-outcomes}
 use Rattle.cps_edit.proofs.TakenLemmas.{drop_at, merged_nones, length_nones}
-use Rattle.cps_chunks.specs.Named.{statements_of}
-use Rattle.cps_chunks.specs.Names.{all_pass}
+use Rattle.cps_naming.specs.Names.{statements_of}
+use Rattle.cps_naming.specs.Names.{all_pass}
 use Rattle.cps_chunks.specs.declared.chunk.Summary.{Summary}
 use Rattle.cps_chunks.specs.declared.chunk.Chunk.{Chunk}
 use Rattle.cps_chunks.specs.Chunks.{IsSummed, agrees, are_none, looks_again, looks_kept, Redoes}
 use Rattle.cps_chunks.proofs.ChunkLemmas.{merged-append, both, under, no-more}
 use Rattle.cps_chunks.proofs.NamedLemmas.{named-same}
-use Rattle.cps_chunks.proofs.NamesLemmas.{names-law}
+use Rattle.cps_naming.proofs.NamesLemmas.{names-law}
 
 pub redone-append : (was now : Resolved) (bs cs : List Bool) (os ps : List Trace) → length bs ≡ length os
     → redone_from was now (bs ++ cs) (os ++ ps) ≡ redone_from was now bs os + redone_from was now cs ps

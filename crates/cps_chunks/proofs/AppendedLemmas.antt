@@ -10,7 +10,7 @@ use Rattle.cps_final.specs.Outcome.{Resolved}
 use Rattle.cps_division.specs.Division.{full, AreChunks, grown, inserted_at}
 use Rattle.cps_division.specs.Staying.{same_front, stay_in_front, stay_behind}
 use Rattle.cps_division.proofs.StayingLemmas.{AreSome, chunks-some, some-second, front-past, front-other, front-beyond}
-use Rattle.cps_edit.specs.Agreeing.{same_at, same_named}
+use Rattle.cps_holding.specs.Agreeing.{same_at, same_named}
 use Rattle.cps_edit.specs.Disturbed.{finals_in}
 use Rattle.cps_edit.specs.Passes.{state_after, traces_of}
 use Rattle.cps_edit.specs.Renewed.{nones}

@@ -14,9 +14,9 @@ use Rattle.cps_edit.specs.Renewed.{picked, merged, nones, flags_from, AllWereMea
 use Rattle.cps_edit.proofs.FrontLemmas.{more-none, none-more}
 use Rattle.cps_edit.proofs.SpliceLemmas.{length-traces_from, take-traces_from, drop-traces_from, traces_from-append, puts-state, still-flags, none-disturbed, AllWereMeant-traces_from}
 use Rattle.cps_edit.proofs.TakenLemmas.{drop_at, merged_nones, length_nones}
-use Rattle.cps_edit.specs.Holds.{holds}
-use Rattle.cps_chunks.specs.Run.{run_of}
-use Rattle.cps_chunks.specs.RunGathering.{KeptRun}
+use Rattle.cps_holding.specs.Holds.{holds}
+use Rattle.cps_holding.specs.Run.{run_of}
+use Rattle.cps_holding.specs.RunGathering.{KeptRun}
 use Rattle.cps_chunks.specs.declared.chunk.Summary.{Summary}
 use Rattle.cps_chunks.specs.declared.chunk.Chunk.{Chunk}
 use Rattle.cps_chunks.specs.Chunks.{WereDone, IsSummed, AreSummed, stands, looks_from, Replays}

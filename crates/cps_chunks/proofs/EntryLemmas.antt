@@ -1,5 +1,5 @@
 -- What stands in front of an edit, chunk by chunk.
-use Rattle.std.proofs.Common.{◌≡◌, ℕ, zero, suc, ◌+◌, refl, sym, ap, ◌∙◌, Bool, true, false, cond, arith, List, [], ◌∷◌, ◌++◌, append_assoc, append-nil, length, take, drop, fold, Option, Some}
+use Rattle.std.proofs.Common.{◌≡◌, ℕ, zero, suc, ◌+◌, refl, sym, ap, ◌∙◌, Bool, true, false, cond, arith, List, [], ◌∷◌, ◌++◌, length, take, drop, Option, Some}
 use Rattle.std.specs.Prelude.{not, is_some, if◌then◌else◌}
 use Rattle.std.specs.Option.{option_or}
 use Rattle.std.proofs.lemmas.List.{take-append-drop}
@@ -13,17 +13,13 @@ use Rattle.cps_state.specs.Keys.{State, same_key, with_put, overwritten}
 use Rattle.cps_state.proofs.KnownLemmas.{same_key_is}
 use Rattle.cps_final.specs.Layout.{puts_of}
 use Rattle.cps_edit.proofs.SpliceLemmas.{overwritten-append}
-use Rattle.cps_chunks.specs.LastPuts.{lasting}
-use Rattle.cps_chunks.specs.Run.{Run, empty_run, joined, run_of}
-use Rattle.cps_chunks.specs.RunGathering.{KeptRun, lasts, marked}
+use Rattle.cps_holding.specs.LastPuts.{lasting}
+use Rattle.cps_holding.specs.Run.{empty_run, run_of}
+use Rattle.cps_holding.specs.RunGathering.{KeptRun, lasts, marked}
 use Rattle.cps_chunks.specs.declared.chunk.Summary.{Summary}
 use Rattle.cps_chunks.specs.Chunks.{IsSummary}
-use Rattle.cps_chunks.proofs.PutLemmas.{lasting-same}
-
--- what a run puts is what its lines put
-pub run-puts : (run : Run) (ts : List Trace) → (fold joined run ts).puts ≡ run.puts ++ puts_of ts
-run-puts run [] = sym (append-nil run.puts)
-run-puts run (t ∷ ts) = run-puts (joined run t) ts ∙ append_assoc run.puts t.puts (puts_of ts)
+use Rattle.cps_holding.proofs.PutLemmas.{lasting-same}
+use Rattle.cps_holding.proofs.GatherLemmas.{run-puts}
 
 -- ---- marked puts
 

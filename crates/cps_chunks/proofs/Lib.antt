@@ -1,9 +1,5 @@
-mod PutLemmas
-mod AskLemmas
 mod RunLemmas
 mod NamedLemmas
-mod NamesLemmas
-mod GatherLemmas
 pub mod ChunkLemmas
 mod AgainLemmas
 pub mod ListLemmas

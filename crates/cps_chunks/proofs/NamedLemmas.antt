@@ -7,10 +7,12 @@ use Rattle.std.proofs.lemmas.List.Concat.{flat_map-cons}
 use Rattle.std.proofs.lemmas.List.Folds.{list_all-append}
 use Rattle.cps_state.specs.Course.{Trace}
 use Rattle.cps_final.specs.Outcome.{Resolved}
-use Rattle.cps_edit.specs.Agreeing.{all_named, same_at, same_named}
+use Rattle.cps_naming.specs.Naming.{all_named}
+use Rattle.cps_holding.specs.Agreeing.{same_at, same_named}
 use Rattle.cps_edit.specs.Renewed.{redone_kept}
-use Rattle.cps_edit.proofs.AgreeLemmas.{named-alone}
-use Rattle.cps_chunks.specs.Named.{statements_of, NamedLaw, NamedNoMore}
+use Rattle.cps_holding.proofs.AgreeLemmas.{named-alone}
+use Rattle.cps_naming.specs.Names.{statements_of}
+use Rattle.cps_chunks.specs.Named.{NamedLaw, NamedNoMore}
 
 -- of a line, and of the lines behind it
 named-parts : (was now : Resolved) (trace : Trace) (traces : List Trace)

@@ -5,13 +5,14 @@ use Rattle.cps_state.specs.Course.{Trace, Holds}
 use Rattle.cps_state.specs.Keys.{State, overwritten}
 use Rattle.cps_pass.specs.Expansion.{trace_of}
 use Rattle.cps_edit.specs.Passes.{after, state_after, traces_from}
-use Rattle.cps_edit.specs.Holds.{holds}
+use Rattle.cps_holding.specs.Holds.{holds}
 use Rattle.cps_edit.specs.Disturbed.{kept, disturbed_from}
-use Rattle.cps_edit.proofs.AnswerLemmas.{asks-decide}
+use Rattle.cps_holding.proofs.AnswerLemmas.{asks-decide}
 use Rattle.cps_edit.proofs.AskedLemmas.{asked-here, meant-here}
 use Rattle.cps_edit.proofs.SpliceLemmas.{overwritten-append}
-use Rattle.cps_chunks.specs.Run.{Run, empty_run, joined, run_of, RunLaw, RunAsksNoMore}
-use Rattle.cps_chunks.proofs.AskLemmas.{asks-before, asks-hold, asks-there}
+use Rattle.cps_holding.specs.Run.{Run, empty_run, joined, run_of}
+use Rattle.cps_chunks.specs.RunLaws.{RunLaw, RunAsksNoMore}
+use Rattle.cps_holding.proofs.AskLemmas.{asks-before, asks-hold, asks-there}
 
 -- what was asked before is among the asks at the end
 before-all : (run : Run) (ts : List Trace) (g : State) → Holds (fold joined run ts).asks g → Holds run.asks g

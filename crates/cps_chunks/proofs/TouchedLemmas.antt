@@ -12,25 +12,25 @@ use Rattle.cps_final.specs.Outcome.{Resolved}
 use Rattle.cps_division.specs.Division.{AreChunks, IsDivision}
 use Rattle.cps_division.specs.Recut.{recut}
 use Rattle.cps_division.specs.Staying.{stay_in_front, stay_behind, IsTight}
-use Rattle.cps_edit.specs.Agreeing.{same_at, same_named}
+use Rattle.cps_holding.specs.Agreeing.{same_at, same_named}
 use Rattle.cps_edit.specs.Disturbed.{is_disturbed, finals_in}
-use Rattle.cps_edit.specs.Holds.{holds}
+use Rattle.cps_holding.specs.Holds.{holds}
 use Rattle.cps_edit.specs.Passes.{after, state_after, traces_from, traces_of}
 use Rattle.cps_edit.specs.Renewed.{nones, flags_from}
 use Rattle.cps_edit.specs.Splice.{Splice, spliced}
 use Rattle.cps_edit.proofs.SpliceLemmas.{take-traces_from, drop-traces_from, still-flags, none-disturbed}
 use Rattle.cps_edit.proofs.TakenLemmas.{length_nones}
-use Rattle.cps_chunks.specs.Run.{run_of}
-use Rattle.cps_chunks.specs.RunGathering.{KeptRun}
-use Rattle.cps_chunks.specs.Named.{statements_of}
-use Rattle.cps_chunks.specs.Names.{all_pass}
+use Rattle.cps_holding.specs.Run.{run_of}
+use Rattle.cps_holding.specs.RunGathering.{KeptRun}
+use Rattle.cps_naming.specs.Names.{statements_of}
+use Rattle.cps_naming.specs.Names.{all_pass}
 use Rattle.cps_chunks.specs.declared.chunk.Summary.{Summary}
 use Rattle.cps_chunks.specs.declared.chunk.Chunk.{Chunk}
 use Rattle.cps_chunks.specs.Chunks.{WereDone, IsSummed, AreSummed, lengths_of, AreMade, stands, looks_from, agrees, are_none, looks_again, looks_kept}
 use Rattle.cps_chunks.specs.Recuts.{Recuts}
 use Rattle.cps_chunks.specs.Touched.{cut, done_before, is_touched, touched_from, touched_of}
 use Rattle.cps_chunks.proofs.RunLemmas.{asks-no-more}
-use Rattle.cps_chunks.proofs.NamesLemmas.{names-law}
+use Rattle.cps_naming.proofs.NamesLemmas.{names-law}
 use Rattle.cps_chunks.proofs.ChunkLemmas.{state-append, done-long, done-front, done-behind, stood}
 
 -- ---- lengths, and lists cut by them

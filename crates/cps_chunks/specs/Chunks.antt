@@ -8,10 +8,10 @@ use Rattle.cps_final.specs.Finals.{Finals, Named}
 use Rattle.cps_final.specs.Outcome.{Resolved, Outcome}
 use Rattle.cps_edit.specs.Passes.{state_after, traces_from, outcomes_by, GathersMore}
 use Rattle.cps_edit.specs.Disturbed.{kept, disturbed_from}
-use Rattle.cps_edit.specs.Holds.{holds}
+use Rattle.cps_holding.specs.Holds.{holds}
 use Rattle.cps_edit.specs.Renewed.{merged, flags_from, redone_from}
-use Rattle.cps_chunks.specs.RunGathering.{kept_run}
-use Rattle.cps_chunks.specs.Names.{names_in, all_pass}
+use Rattle.cps_holding.specs.RunGathering.{kept_run}
+use Rattle.cps_naming.specs.Names.{names_in, all_pass}
 use Rattle.cps_chunks.specs.declared.chunk.Summary.{Summary}
 use Rattle.cps_chunks.specs.declared.chunk.Chunk.{Chunk}
 

@@ -1,9 +1,10 @@
-pub mod Run
-pub mod RunGathering
-pub mod LastPuts
+pub mod RunLaws
 pub mod Named
-pub mod Names
-pub mod NamesGathering
 pub mod Chunks
 pub mod Touched
 pub mod Recuts
+pub use Rattle.cps_holding.specs.Holds
+pub use Rattle.cps_holding.specs.Run
+pub use Rattle.cps_holding.specs.RunGathering
+pub use Rattle.cps_holding.specs.LastPuts
+pub use Rattle.cps_naming.specs.Names

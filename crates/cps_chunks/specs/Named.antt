@@ -1,15 +1,11 @@
 -- What pass two makes of a run of lines, by all that their statements name. Our own.
-use Rattle.std.specs.Prelude.{◌≡◌, true, List, flat_map}
-use Rattle.cps_state.specs.declared.item.Item.{Item}
+use Rattle.std.specs.Prelude.{◌≡◌, true, List}
 use Rattle.cps_state.specs.Course.{Trace}
 use Rattle.cps_final.specs.Outcome.{Resolved}
+use Rattle.cps_naming.specs.Names.{statements_of}
+use Rattle.cps_holding.specs.Agreeing.{same_named}
 use Rattle.cps_edit.specs.Passes.{outcomes_by}
-use Rattle.cps_edit.specs.Agreeing.{same_named}
 use Rattle.cps_edit.specs.Renewed.{redone_kept}
-
--- the statements of lines that did this
-abbrev pub statements_of : List Trace → List Item
-statements_of traces = flat_map (λ trace. trace.items) traces
 
 -- where all that they name has the same final values, pass two makes the same of each line, and does none again
 abbrev pub NamedLaw : Type 0

@@ -7,13 +7,13 @@ use Rattle.cps_state.specs.Course.{Trace}
 use Rattle.cps_final.specs.Outcome.{Resolved}
 use Rattle.cps_division.specs.Staying.{stay_in_front, stay_behind}
 use Rattle.cps_edit.specs.Passes.{state_after, traces_of}
-use Rattle.cps_edit.specs.Holds.{holds}
-use Rattle.cps_edit.specs.Agreeing.{same_named}
+use Rattle.cps_holding.specs.Holds.{holds}
+use Rattle.cps_holding.specs.Agreeing.{same_named}
 use Rattle.cps_edit.specs.Splice.{Splice, spliced}
 use Rattle.cps_edit.specs.Disturbed.{finals_in}
 use Rattle.cps_edit.specs.Renewed.{nones}
-use Rattle.cps_chunks.specs.Run.{run_of}
-use Rattle.cps_chunks.specs.Named.{statements_of}
+use Rattle.cps_holding.specs.Run.{run_of}
+use Rattle.cps_naming.specs.Names.{statements_of}
 
 -- a list cut into pieces of these lengths
 abbrev pub cut : {X : Type 0} → List ℕ → List X → List (List X)

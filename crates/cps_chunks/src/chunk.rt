@@ -3,9 +3,8 @@ ghost use Rattle.std.specs.Prelude.{◌≡◌, IfOk};
 ghost use Rattle.cps_edit.specs.Renewed.{nones as nones_of};
 ghost use Rattle.cps_chunks.specs.Chunks.{IsSummary, stands, agrees as agrees_by, unsummed as unsummed_of};
 
-use crate::names::Names;
-use crate::run::Run;
-use cps_edit::Naming;
+use cps_holding::Run;
+use cps_naming::{Names, Naming};
 use cps_state::{Hashing, Lookup, State, Trace};
 use std::alloc::{AllocError, Global};
 

@@ -3,7 +3,7 @@ ghost use Rattle.std.specs.Prelude.{◌≡◌, ◌-◌, ◌≤◌, ◌∷◌, []
 ghost use Rattle.cps_state.specs.Keys.{first_state, with_put, overwritten};
 ghost use Rattle.cps_final.specs.Layout.{puts_of};
 ghost use Rattle.cps_chunks.specs.Chunks.{IsSummed, AreSummed};
-ghost use Rattle.cps_chunks.specs.RunGathering.{marked};
+ghost use Rattle.cps_holding.specs.RunGathering.{marked};
 
 use crate::chunk::{Chunk, InFront};
 use cps_state::{Answer, Hashing, Key, Lookup, Put, State, Trace};

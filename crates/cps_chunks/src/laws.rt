@@ -1,8 +1,8 @@
 //! What holds of runs of lines.
-ghost use Rattle.cps_chunks.specs.Run.{RunLaw, RunAsksNoMore};
-ghost use Rattle.cps_chunks.specs.LastPuts.{LastPutsLaw, LastPutsAreOnce};
+ghost use Rattle.cps_chunks.specs.RunLaws.{RunLaw, RunAsksNoMore};
+ghost use Rattle.cps_holding.specs.LastPuts.{LastPutsLaw, LastPutsAreOnce};
 ghost use Rattle.cps_chunks.specs.Named.{NamedLaw, NamedNoMore};
-ghost use Rattle.cps_chunks.specs.Names.{NamesLaw};
+ghost use Rattle.cps_naming.specs.Names.{NamesLaw};
 
 /// What lines did in one state stands in each that answers what their run asked as that one does: there they do the same, none is disturbed, and their puts
 /// lead to the state after them.

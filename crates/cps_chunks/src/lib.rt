@@ -4,26 +4,14 @@
 mod chunk;
 mod chunk_list;
 mod entry;
-#[cfg(test)]
-mod entry_rows;
-mod lasting;
 pub mod laws;
-mod names;
-#[cfg(test)]
-mod names_rows;
-mod outside;
 mod redo;
 mod replay;
-mod run;
-#[cfg(test)]
-mod run_rows;
 mod summing;
 
-pub use chunk::{Behind, Chunk, InFront, Summary};
+pub use chunk::{Behind, Chunk, InFront};
 pub use chunk_list::{forget_changed, grow, lengths_in, unsummed};
 pub use entry::Entry;
-pub use names::{Names, names_agree};
 pub use redo::Again;
-pub use replay::{replay_behind, replay_chunks};
-pub use run::Run;
+pub use replay::replay_behind;
 pub use summing::{sum_up, sum_up_front};

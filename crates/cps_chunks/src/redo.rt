@@ -2,14 +2,14 @@
 ghost use Rattle.std.specs.Prelude.{◌≡◌, ◌+◌, ◌-◌, ◌≤◌, ◌&&◌, IfOk, OnOk, OnErr, length, take, drop, map, is_some, if◌then◌else◌};
 ghost use Rattle.cps_state.specs.Work.{counted_on};
 ghost use Rattle.cps_final.specs.Resolving.{resolved};
-ghost use Rattle.cps_edit.specs.Agreeing.{same_at};
+ghost use Rattle.cps_holding.specs.Agreeing.{same_at};
 ghost use Rattle.cps_edit.specs.Renewed.{nones as nones_of, redone_from, redone_kept};
 ghost use Rattle.cps_chunks.specs.Chunks.{IsSummed, AreSummed, Redoes, agrees, are_none as are_none_by, looks_again, looks_kept};
 
 use crate::chunk::{Behind, Chunk, InFront, nones};
-use cps_edit::Ends;
 use cps_edit::redo::{redo, redo_kept};
 use cps_final::Outcome;
+use cps_holding::Ends;
 use cps_pass::{Trace, Work};
 use std::alloc::{AllocError, Global};
 

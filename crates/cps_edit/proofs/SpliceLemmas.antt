@@ -12,7 +12,7 @@ use Rattle.cps_edit.specs.Passes.{after, state_after, traces_from, traces_of}
 use Rattle.cps_edit.specs.Splice.{splice_at, spliced}
 use Rattle.cps_edit.specs.Disturbed.{Placed, kept, all_kept, fresh, is_disturbed, disturbed_from, ones_of}
 use Rattle.cps_edit.specs.Renewed.{merged, nones, flags_from, AllWereMeant}
-use Rattle.cps_edit.proofs.AnswerLemmas.{asks-decide}
+use Rattle.cps_holding.proofs.AnswerLemmas.{asks-decide}
 use Rattle.cps_edit.proofs.AskedLemmas.{asked-here}
 
 pub length-traces_from : (f : State) (ls : List (List ℕ)) → length (traces_from f ls) ≡ length ls

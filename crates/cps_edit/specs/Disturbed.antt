@@ -7,8 +7,8 @@ use Rattle.cps_state.specs.Course.{Trace}
 use Rattle.cps_final.specs.Finals.{finals_of, final_value}
 use Rattle.cps_final.specs.Outcome.{Resolved}
 use Rattle.cps_edit.specs.Passes.{after, traces_of}
-use Rattle.cps_edit.specs.Holds.{holds}
-use Rattle.cps_edit.specs.Agreeing.{same_named}
+use Rattle.cps_holding.specs.Holds.{holds}
+use Rattle.cps_holding.specs.Agreeing.{same_named}
 use Rattle.cps_edit.specs.Splice.{Splice, spliced}
 
 -- ---- counterparts

@@ -10,8 +10,8 @@ ghost use Rattle.cps_edit.specs.Passes.{after, state_after, traces_from, Gathers
 ghost use Rattle.cps_edit.specs.Disturbed.{kept, is_disturbed, disturbed_from};
 ghost use Rattle.cps_edit.specs.Renewed.{picked, merged, flags_from, WasMeant, AllWereMeant};
 
-use crate::holding::still_holds;
 use cps_final::{Finals, Gather, Gathered};
+use cps_holding::still_holds;
 use cps_pass::{Hashing, Sheet, Trace, Work, step_over};
 use cps_state::{Lookup, State};
 use cps_text::Line;

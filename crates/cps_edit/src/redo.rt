@@ -7,8 +7,8 @@ ghost use Rattle.cps_edit.specs.Passes.{outcomes_by};
 ghost use Rattle.cps_edit.specs.Disturbed.{is_redone};
 ghost use Rattle.cps_edit.specs.Renewed.{picked, merged, redone_from, redone_kept};
 
-use crate::agreeing::{Ends, same_finals};
 use cps_final::{Outcome, step_two};
+use cps_holding::{Ends, same_finals};
 use cps_pass::{Trace, Work};
 use std::alloc::{AllocError, Global};
 

@@ -1,4 +1,4 @@
-use Rattle.cps_chunks.proofs.NamesLemmas.{names-law}
+use Rattle.cps_naming.proofs.NamesLemmas.{names-law}
 use Rattle.cps_chunks.proofs.laws.a_run_names_each_once.Goals as goal
 
 pub returns : goal.returns

@@ -1,4 +1,4 @@
-use Rattle.cps_chunks.proofs.PutLemmas.{lasting-same}
+use Rattle.cps_holding.proofs.PutLemmas.{lasting-same}
 use Rattle.cps_chunks.proofs.laws.last_puts_make_the_state.Goals as goal
 
 pub returns : goal.returns

@@ -5,7 +5,7 @@ use Rattle.cps_chunks.specs.contracts.entry.EntryLookup.TheImpl.{answer-value}
 use Rattle.cps_final.specs.Layout.{puts_of}
 use Rattle.cps_chunks.specs.declared.chunk.Summary.{Summary}
 use Rattle.cps_chunks.specs.Chunks.{IsSummary, IsSummed}
-use Rattle.cps_chunks.specs.RunGathering.{marked}
+use Rattle.cps_holding.specs.RunGathering.{marked}
 use Rattle.cps_chunks.proofs.EntryLemmas.{state-summed}
 use Rattle.cps_chunks.proofs.entry.Entry.put_chunk.Goals as goal
 

@@ -5,7 +5,7 @@ use Rattle.cps_state.specs.Keys.{overwritten}
 use Rattle.cps_chunks.specs.contracts.entry.EntryLookup.TheImpl.{answer-value}
 use Rattle.cps_final.specs.Layout.{puts_of}
 use Rattle.cps_edit.proofs.TakenLemmas.{drop_at}
-use Rattle.cps_chunks.specs.RunGathering.{marked}
+use Rattle.cps_holding.specs.RunGathering.{marked}
 use Rattle.cps_chunks.proofs.EntryLemmas.{marked-next, marked-end}
 use Rattle.cps_chunks.proofs.entry.Entry.put_lasting.Goals as goal
 

@@ -4,7 +4,7 @@ use Rattle.std.proofs.lemmas.List.{drop_all}
 use Rattle.cps_state.specs.Keys.{overwritten}
 use Rattle.cps_chunks.specs.contracts.entry.EntryLookup.TheImpl.{answer-value}
 use Rattle.cps_edit.proofs.TakenLemmas.{drop_at}
-use Rattle.cps_chunks.specs.RunGathering.{marked}
+use Rattle.cps_holding.specs.RunGathering.{marked}
 use Rattle.cps_chunks.proofs.EntryLemmas.{marked-next, marked-end, drop-next}
 use Rattle.cps_chunks.proofs.entry.Entry.put_marked.Goals as goal
 

@@ -1,7 +1,7 @@
 use Rattle.std.proofs.Common.{◌≡◌, drop}
 use Rattle.cps_state.specs.Keys.{overwritten}
 use Rattle.cps_chunks.specs.contracts.entry.EntryLookup.TheImpl.{answer-value}
-use Rattle.cps_chunks.specs.RunGathering.{marked}
+use Rattle.cps_holding.specs.RunGathering.{marked}
 use Rattle.cps_chunks.proofs.entry.Entry.put_marked.Given as goal
 
 abbrev pub invariant-loop-put : goal.invariant-loop-put

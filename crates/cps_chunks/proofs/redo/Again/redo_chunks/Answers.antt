@@ -2,7 +2,7 @@ use Rattle.std.proofs.Common.{rules, arith, ◌≡◌, ◌<◌, ◌≤◌, ◌++
 use Rattle.std.proofs.lemmas.Bool.Decides.{nat_tests}
 use Rattle.cps_final.specs.Outcome.{Outcome}
 use Rattle.cps_final.specs.Resolving.{resolved}
-use Rattle.cps_edit.specs.Agreeing.{same_at}
+use Rattle.cps_holding.specs.Agreeing.{same_at}
 use Rattle.cps_edit.proofs.ReplayLemmas.{on-err, le-same, counted-left, counted-before}
 use Rattle.cps_chunks.specs.Chunks.{Redoes}
 use Rattle.cps_chunks.proofs.ChunkLemmas.{summed-next, summed-end}

@@ -3,7 +3,7 @@ use Rattle.std.specs.Prelude.{is_some}
 use Rattle.cps_state.specs.Work.{Counts, counted_on}
 use Rattle.cps_final.specs.Outcome.{Outcome}
 use Rattle.cps_final.specs.Resolving.{resolved}
-use Rattle.cps_edit.specs.Agreeing.{same_at}
+use Rattle.cps_holding.specs.Agreeing.{same_at}
 use Rattle.cps_edit.specs.Renewed.{redone_from}
 use Rattle.cps_chunks.specs.Chunks.{AreSummed, Redoes, looks_again}
 use Rattle.cps_chunks.proofs.redo.Again.redo_chunks.Given as goal

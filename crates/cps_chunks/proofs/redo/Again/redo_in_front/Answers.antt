@@ -2,7 +2,7 @@ use Rattle.std.proofs.Common.{rules, arith, ◌≡◌, ◌+◌, ◌-◌, ◌≤�
 use Rattle.std.proofs.lemmas.List.{length-drop}
 use Rattle.cps_state.specs.Work.{counted_on}
 use Rattle.cps_final.specs.Resolving.{resolved}
-use Rattle.cps_edit.specs.Agreeing.{same_at}
+use Rattle.cps_holding.specs.Agreeing.{same_at}
 use Rattle.cps_edit.proofs.ReplayLemmas.{on-err, le-same}
 use Rattle.cps_chunks.specs.Chunks.{looks_kept}
 use Rattle.cps_chunks.proofs.ChunkLemmas.{both-under, both-looked, first-under}

@@ -3,7 +3,7 @@ use Rattle.std.proofs.lemmas.Bool.Decides.{nat_tests}
 use Rattle.cps_state.specs.Course.{Trace}
 use Rattle.cps_final.specs.Outcome.{Outcome}
 use Rattle.cps_final.specs.Resolving.{resolved}
-use Rattle.cps_edit.specs.Agreeing.{same_at}
+use Rattle.cps_holding.specs.Agreeing.{same_at}
 use Rattle.cps_edit.specs.Renewed.{nones}
 use Rattle.cps_edit.proofs.TakenLemmas.{length_nones}
 use Rattle.cps_edit.proofs.ReplayLemmas.{on-err, le-same, counted-left, counted-before}

@@ -2,7 +2,7 @@ use Rattle.std.proofs.Common.{◌≡◌, ◌≤◌, ◌++◌, List, length, drop
 use Rattle.cps_state.specs.Work.{Counts, counted_on}
 use Rattle.cps_final.specs.Outcome.{Outcome}
 use Rattle.cps_final.specs.Resolving.{resolved}
-use Rattle.cps_edit.specs.Agreeing.{same_at}
+use Rattle.cps_holding.specs.Agreeing.{same_at}
 use Rattle.cps_state.specs.Course.{Trace}
 use Rattle.cps_edit.specs.Renewed.{nones, redone_kept}
 use Rattle.cps_chunks.specs.Chunks.{AreSummed, Redoes, looks_kept}

@@ -3,7 +3,7 @@ use Rattle.std.specs.Prelude.{not, if◌then◌else◌}
 use Rattle.cps_state.specs.Course.{Trace, Holds}
 use Rattle.cps_state.specs.Keys.{State, overwritten}
 use Rattle.cps_state.specs.Work.{Counts, counted_on}
-use Rattle.cps_edit.specs.Holds.{holds}
+use Rattle.cps_holding.specs.Holds.{holds}
 use Rattle.cps_edit.specs.Passes.{GathersMore}
 use Rattle.cps_edit.specs.contracts.front.FrontGathered.TheImpl.{gathered-value}
 use Rattle.cps_edit.proofs.AskedLemmas.{meant-here}

@@ -1,0 +1,5 @@
+pub mod AnswerLemmas
+pub mod AgreeLemmas
+pub mod PutLemmas
+pub mod AskLemmas
+pub mod GatherLemmas

@@ -1,0 +1,51 @@
+//! What is kept of a run of lines, so that it is gone through as one line is.
+ghost use Rattle.std.specs.Prelude.{◌≡◌, IfOk};
+ghost use Rattle.cps_holding.specs.Holds.{holds};
+ghost use Rattle.cps_holding.specs.RunGathering.{kept_run};
+
+use crate::holding::asks_hold;
+use crate::lasting::lasts_of;
+use crate::outside::outside_asks;
+use cps_state::{Asked, Hashing, Lookup, Trace};
+use std::alloc::{AllocError, Global};
+use std::marker::Model;
+
+/// What a run of lines asks of the state in front of it, and which of its puts last, in lists without room for more.
+#[derive(Drop)]
+pub struct Run {
+    asks: Vec<Asked>,
+    lasts: Vec<bool>,
+}
+
+impl Model for Run {
+    ghost use Rattle.cps_holding.specs.RunGathering.{KeptRun};
+
+    ghost Value = { KeptRun };
+
+    ghost view = { λ run. record { asks = run.asks.items; lasts = run.lasts.items } };
+}
+
+impl Run {
+    /// Of lines that did this.
+    pub fn of(alloc: Global, hashing: Hashing, traces: &[Trace]) -> Result<Run, AllocError>
+        ensures { IfOk result (λ run. run ≡ kept_run traces.now) }
+    {
+        let asks = outside_asks(alloc, hashing, traces)?;
+        let lasts = lasts_of(alloc, hashing, traces)?;
+        Ok(Run { asks, lasts })
+    }
+
+    /// Of each of its puts, in their order, whether it is the last at its key.
+    pub fn lasts(&self) -> &[bool]
+        ensures { result.now ≡ self.now.lasts }
+    {
+        self.lasts.as_slice()
+    }
+
+    /// Whether all that it asks has the same answers in a state, so that its lines do the same there. It is counted nowhere, and takes no memory.
+    pub fn stands_in<L: Lookup>(&self, state: &L) -> bool
+        ensures { result ≡ holds self.now.asks (L.answer state.now) }
+    {
+        asks_hold(&self.asks, state)
+    }
+}

@@ -1,0 +1,3 @@
+pub mod DecideLemmas
+pub mod NamingLemmas
+pub mod NamesLemmas
