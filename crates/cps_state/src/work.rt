@@ -15,7 +15,7 @@ pub enum Tally {
 }
 
 /// How many steps were made. A count stays at its greatest value. A second counter comes of `Work::new` alone.
-#[derive(PartialEq, Eq)]
+#[derive(PartialEq, Eq, Drop)]
 pub struct Work {
     ones: u64,
     twos: u64,
