@@ -3,7 +3,5 @@
 #![tactic(auto)]
 
 mod flagged;
-mod limits;
 
 pub use flagged::flagged_lines;
-pub use limits::MOST_LINES;

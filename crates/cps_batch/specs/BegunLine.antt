@@ -1,5 +1,6 @@
 -- For the loops over bytes, not part of what a reader believes: a line of which some bytes have come.
 use Rattle.std.specs.Prelude.{◌≡◌, ℕ, List, [], ◌∷◌, take, drop, if◌then◌else◌, ◌==◌}
+use Rattle.cps_text.specs.declared.limits.TheConstants.{MOST_COMMAND_BYTES}
 use Rattle.cps_batch.specs.declared.begun_line.BegunLine.{BegunLine}
 use Rattle.cps_batch.specs.declared.begun_line.Past.{Past}
 use Rattle.cps_batch.specs.declared.begun_line.Past.TheVariants.{Nothing, Return, More}
@@ -7,7 +8,7 @@ use Rattle.cps_batch.specs.Lines.{carriage_return}
 
 -- the most bytes that are kept of a line
 abbrev pub longest_kept : ℕ
-longest_kept = 200
+longest_kept = MOST_COMMAND_BYTES
 
 -- what stands past the room of a line
 abbrev pub past_of : List ℕ → Past

@@ -2,11 +2,12 @@
 use Rattle.std.specs.Prelude.{◌≡◌, ℕ, ◌≤◌, ◌⊎◌, List, [], length, Option}
 use Rattle.std.specs.Io.KnownBytes.{Consumes}
 use Rattle.cps_text.specs.declared.counted.Counted.{Counted}
+use Rattle.cps_text.specs.declared.limits.TheConstants.{MOST_READS}
 use Rattle.cps_text.specs.Counted.{inner_of, calls_of, failures_of, idle_of, raised_by, FailsOnce, LastReadGave}
 
 -- the most reads of an input
 abbrev pub most_reads : ℕ
-most_reads = 16777216
+most_reads = MOST_READS
 
 -- Reading ended before the input did: the read after these bytes failed; or none failed, and each of the most reads gave a byte.
 abbrev pub EndsEarly : {R : Type 0} → Counted R → Counted R → List ℕ → Type 0

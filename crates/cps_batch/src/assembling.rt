@@ -12,12 +12,10 @@ use super::input::Input;
 use super::passes::make_part;
 use cps_list::{Part, write_text};
 use cps_pass::Hashing;
+use cps_text::limits::MOST_READS;
 use cps_text::{Counted, Line};
 use std::alloc::Global;
 use std::io::{Read, Write};
-
-/// How often an input is read at most.
-pub const MOST_READS: u64 = 16_777_216;
 
 const CHUNK: usize = 16_384;
 

@@ -4,9 +4,7 @@ ghost use Rattle.cps_batch.specs.Lines.{without_return};
 ghost use Rattle.cps_batch.specs.BegunLine.{IsBegun, more_past};
 
 use arrayvec::ArrayVec;
-
-/// The most bytes that are kept of a line: as many as a command of a script has, and more than a line of a source has.
-pub const LONGEST_KEPT: usize = 200;
+use cps_text::limits::MOST_COMMAND_BYTES;
 
 /// What came past the room of a line.
 #[derive(Clone, Copy, PartialEq, Eq)]
@@ -19,10 +17,10 @@ pub enum Past {
     More,
 }
 
-/// A line of which some bytes have come.
+/// A line of which some bytes have come. As many are kept as a command of a script has, and more than a line of a source has.
 #[derive(Drop)]
 pub struct BegunLine {
-    pub bytes: ArrayVec<u8, LONGEST_KEPT>,
+    pub bytes: ArrayVec<u8, MOST_COMMAND_BYTES>,
     pub past: Past,
 }
 
@@ -70,7 +68,7 @@ impl BegunLine {
     /// The line without the carriage return at its end, None where it has more than 200 bytes.
     pub fn text(&self) -> Option<&[u8]>
         ensures { (begun : List ℕ) → IsBegun self.now begun
-            → MatchOption result (LONGEST_KEPT < length (without_return begun)) (λ text. text.now ≡ without_return begun) }
+            → MatchOption result (MOST_COMMAND_BYTES < length (without_return begun)) (λ text. text.now ≡ without_return begun) }
     {
         match self.past {
             Past::More => None,

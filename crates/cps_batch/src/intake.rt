@@ -6,9 +6,9 @@ ghost use Rattle.cps_batch.specs.BegunLine.{IsBegun};
 ghost use Rattle.cps_batch.specs.Input.{IsIntake};
 ghost use Rattle.cps_batch.specs.Lines.{without_return};
 
-use super::begun_line::{BegunLine, LONGEST_KEPT};
+use super::begun_line::BegunLine;
 use super::fault::BatchFault;
-use cps_assembly::MOST_LINES;
+use cps_text::limits::{MOST_COMMAND_BYTES, MOST_LINES};
 use cps_text::{Line, LineFault};
 use std::alloc::Global;
 
@@ -58,7 +58,7 @@ impl Intake {
 /// These lines and one more, None where more bytes came than are kept of a line. A line that there is no room for takes no memory.
 fn keep(alloc: Global, lines: Vec<Line>, text: Option<&[u8]>) -> Intake
     requires { length lines.items ≤ MOST_LINES }
-    ensures { (line : List ℕ) → MatchOption text.entry (LONGEST_KEPT < length line) (λ text. text.now ≡ line) → IsSource lines.items → IsIntake result (lines.items ++ line ∷ []) }
+    ensures { (line : List ℕ) → MatchOption text.entry (MOST_COMMAND_BYTES < length line) (λ text. text.now ≡ line) → IsSource lines.items → IsIntake result (lines.items ++ line ∷ []) }
 {
     if lines.len() == MOST_LINES {
         return count_on(MOST_LINES as u32, text);
@@ -89,7 +89,7 @@ fn push_line(lines: Vec<Line>, number: u32, line: Line) -> Intake
 /// One line more than so many, None where more bytes came than are kept of a line.
 fn count_on(count: u32, text: Option<&[u8]>) -> Intake
     requires { count ≤ MOST_LINES }
-    ensures { (lines : List (List ℕ)) (line : List ℕ) → MatchOption text.entry (LONGEST_KEPT < length line) (λ text. text.now ≡ line) → count ≡ length lines → IsSource lines → IsIntake result (lines ++ line ∷ []) }
+    ensures { (lines : List (List ℕ)) (line : List ℕ) → MatchOption text.entry (MOST_COMMAND_BYTES < length line) (λ text. text.now ≡ line) → count ≡ length lines → IsSource lines → IsIntake result (lines ++ line ∷ []) }
 {
     let number = count + 1;
     let Some(text) = text else {

@@ -9,6 +9,6 @@ mod input;
 mod intake;
 mod passes;
 
-pub use assembling::{MOST_READS, batch};
+pub use assembling::batch;
 pub use begun_line::BegunLine;
 pub use fault::BatchFault;

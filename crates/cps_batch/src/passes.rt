@@ -11,11 +11,11 @@ ghost use Rattle.cps_assembly.specs.Assembly.{assembly_of, outcomes_under, trace
 ghost use Rattle.cps_assembly.specs.Flagged.{flagged_lines};
 ghost use Rattle.cps_batch.specs.Passes.{IsPassed, IsShown, statements_of};
 
-use cps_assembly::MOST_LINES;
 use cps_final::{Finals, Gather, Gathered, LineSymbols, Output};
 use cps_list::{Mention, Part, Printout, push_mentions};
 use cps_pass::{Hashing, Item, Sheet, Trace, Work, step_over};
 use cps_text::Line;
+use cps_text::limits::MOST_LINES;
 use std::alloc::{AllocError, Global};
 use std::marker::Model;
 use std::mem::replace;

@@ -10,7 +10,7 @@ ghost use Rattle.cps_assembly.specs.Assembly.{assembly_of};
 ghost use Rattle.cps_assembly.specs.Flagged.{flagged_lines as flagged_in};
 ghost use Rattle.cps_session.specs.Edits.{HasLine, LacksLine, HasLines, LacksLines, without_lines, WorkOfEdit, LooksOfEdit};
 
-use cps_assembly::{MOST_LINES, flagged_lines};
+use cps_assembly::flagged_lines;
 use cps_division::laws::{a_deletion_divides_again, an_insertion_divides_again};
 use cps_division::{Recut, recut_deletion, recut_insertion, recut_replacement};
 use cps_edit::Front;
@@ -19,6 +19,7 @@ use cps_kept::{Follower, Lists, NewLines};
 use cps_list::{Part, View, make_text};
 use cps_pass::{Hashing, Work};
 use cps_text::Line;
+use cps_text::limits::MOST_LINES;
 use std::alloc::{AllocError, Global};
 use std::marker::Model;
 use thiserror::Error;

@@ -3,6 +3,7 @@ use Rattle.std.specs.Prelude.{◌≡◌, ℕ, ◌<◌, ◌≤◌, Bool, true, fa
 use Rattle.std.specs.Str.Parse.{AllDigits, digits_value}
 use Rattle.cps_tool.specs.declared.command.Command.{Command}
 use Rattle.cps_tool.specs.declared.command.Command.TheVariants.{Append, Insert, Replace, Delete, Listing, Binary, Symbols, Flags, Work, Quit}
+use Rattle.cps_text.specs.declared.limits.TheConstants.{MOST_COMMAND_BYTES}
 
 -- what a command asks: a text at the end of the source, after a line or in place of one, to delete lines, one of the texts,
 -- the steps of the latest edit, or the script's end
@@ -33,7 +34,7 @@ order_of Quit = quit
 
 -- the most bytes that a command has
 abbrev pub longest_command : ℕ
-longest_command = 200
+longest_command = MOST_COMMAND_BYTES
 
 -- a line's number as 1 to 5 decimal digits
 pub record IsNumber (digits : List ℕ) (number : ℕ) : Type 0 where

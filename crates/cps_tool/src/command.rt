@@ -4,10 +4,8 @@ ghost use Rattle.std.specs.List.{before_first, after_first, position_from};
 ghost use Rattle.cps_tool.specs.Command.{Order, append, insert, replace, delete, list, binary, symbols, flags, work, Spells, IsNumber, IsNumbered, IsRange, is_quit, is_quit_order, order_of};
 ghost use Rattle.cps_text.specs.Text.{is_blank};
 
+use cps_text::limits::MOST_COMMAND_BYTES;
 use thiserror::Error;
-
-/// The most bytes that a command has.
-pub const LONGEST_COMMAND: usize = 200;
 
 const MOST_DIGITS: usize = 5;
 
@@ -51,7 +49,7 @@ impl<'a> Command<'a> {
         ensures only { IfOk result (λ command. (order : Order) → Spells line.now order → order ≡ order_of command) }
         ensures quit { MatchResult result (λ command. is_quit line.now ≡ is_quit_order (order_of command)) (λ _. is_quit line.now ≡ false) }
     {
-        if line.len() > LONGEST_COMMAND {
+        if line.len() > MOST_COMMAND_BYTES {
             return Err(ScriptFault::BadCommand);
         }
         if let Some(command) = read_edit(line) {
@@ -69,7 +67,7 @@ impl<'a> Command<'a> {
 
 /// The command that ends a script or enters a text after the last line, None where the line spells another or none.
 fn read_plain(line: &[u8]) -> Option<Command<'_>>
-    requires { length line.now ≤ LONGEST_COMMAND }
+    requires { length line.now ≤ MOST_COMMAND_BYTES }
     ensures order { IfSome result (λ command. Spells line.now (order_of command)) }
     ensures quit { IfSome result (λ command. is_quit line.now ≡ is_quit_order (order_of command)) }
     ensures no_append { IfNone result ((text : List ℕ) → Spells line.now (append text) → ⊥) }
@@ -85,7 +83,7 @@ fn read_plain(line: &[u8]) -> Option<Command<'_>>
 
 /// The command to write a text or the steps of an edit, None where the line spells another or none.
 fn read_query(line: &[u8]) -> Option<Command<'_>>
-    requires { length line.now ≤ LONGEST_COMMAND }
+    requires { length line.now ≤ MOST_COMMAND_BYTES }
     ensures order { IfSome result (λ command. Spells line.now (order_of command)) }
     ensures quit { IfSome result (λ command. is_quit line.now ≡ is_quit_order (order_of command)) }
     ensures no_list { IfNone result (Spells line.now list → ⊥) }
@@ -106,7 +104,7 @@ fn read_query(line: &[u8]) -> Option<Command<'_>>
 
 /// The command to insert a text after a line, to put one in place of a line, or to delete lines, None where the line spells another or none.
 fn read_edit(line: &[u8]) -> Option<Command<'_>>
-    requires { length line.now ≤ LONGEST_COMMAND }
+    requires { length line.now ≤ MOST_COMMAND_BYTES }
     ensures order { IfSome result (λ command. Spells line.now (order_of command)) }
     ensures quit { IfSome result (λ command. is_quit line.now ≡ is_quit_order (order_of command)) }
     ensures no_insert { IfNone result ((after : ℕ) (text : List ℕ) → Spells line.now (insert after text) → ⊥) }

@@ -14,10 +14,11 @@ ghost use Rattle.cps_tool.specs.Written.{IsWritten};
 use super::reply::{Refusal, Reply};
 use super::replying::{obey, write_reply};
 use super::writing::RunFault;
-use cps_batch::{BegunLine, MOST_READS};
+use cps_batch::BegunLine;
 use cps_pass::Work;
 use cps_session::Session;
 use cps_text::Counted;
+use cps_text::limits::MOST_READS;
 use std::alloc::Global;
 use std::io::{Read, Write};
 
