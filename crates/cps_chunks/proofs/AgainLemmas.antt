@@ -10,7 +10,7 @@ use Rattle.cps_final.specs.Outcome.{Resolved, Outcome}
 use Rattle.cps_holding.specs.Agreeing.{same_at, same_named}
 use Rattle.cps_edit.specs.Passes.{outcomes_by}
 use Rattle.cps_edit.specs.Disturbed.{is_redone}
-use Rattle.cps_edit.specs.Renewed.{merged, nones, redone_from, redone_kept}
+use Rattle.cps_edit.specs.Renewed.{merged, nones, unchanged_in, redone_from, redone_kept}
 use Rattle.cps_edit.proofs.FrontLemmas.{none-more}
 use Rattle.cps_edit.proofs.RedoLemmas.{append-outcomes, length-outcomes}
 use Rattle.cps_edit.proofs.TakenLemmas.{drop_at, merged_nones, length_nones}
@@ -19,7 +19,7 @@ use Rattle.cps_naming.specs.Names.{all_pass}
 use Rattle.cps_chunks.specs.declared.chunk.Summary.{Summary}
 use Rattle.cps_chunks.specs.declared.chunk.Chunk.{Chunk}
 use Rattle.cps_chunks.specs.Chunks.{IsSummed, agrees, are_none, looks_again, looks_kept, Redoes}
-use Rattle.cps_chunks.proofs.ChunkLemmas.{merged-append, both, under, no-more}
+use Rattle.cps_chunks.proofs.ChunkLemmas.{merged-append, both}
 use Rattle.cps_chunks.proofs.NamedLemmas.{named-same}
 use Rattle.cps_naming.proofs.NamesLemmas.{names-law}
 
@@ -106,29 +106,23 @@ nones-both os ps = nones-append (length os) (length ps) ∙ ap (nones {X = Trace
 -- ---- chunk by chunk
 
 module _ (passes : Named → Bool) (chunks : List Chunk) (i : ℕ) (chunk : Chunk) (lt : i < length chunks) (is : chunk ≡ get_or chunks i chunk) where
-  pub again-next : (ns n1 n2 : List (Option Trace)) (os o1 o2 : List Trace) (u v e : ℕ) → n1 ≡ take chunk.lines ns → n2 ≡ drop chunk.lines ns → o1 ≡ take chunk.lines os → o2 ≡ drop chunk.lines os
-      → v ≤ counted_on u (if are_none n1 && agrees chunk.summary passes then 0 else length o1)
-      → counted_on u (looks_again passes (drop i chunks) ns os) ≤ e → counted_on v (looks_again passes (drop (i + 1) chunks) n2 o2) ≤ e
-  again-next ns n1 n2 os o1 o2 u v e p q r s counted before =
-      let all : looks_again passes (drop i chunks) ns os ≡ (if are_none n1 && agrees chunk.summary passes then 0 else length o1) + looks_again passes (drop (i + 1) chunks) n2 o2 =
-      ap (λ (cs : List Chunk). looks_again passes cs ns os) (drop_at chunks i chunk lt is)
-      ∙ (λ j. (if are_none (sym p j) && agrees chunk.summary passes then 0 else length (sym r j)) + looks_again passes (drop (i + 1) chunks) (sym q j) (sym s j)) in
-      under u v e _ _ counted (subst (λ n. counted_on u n ≤ e) all before)
+  pub again-next : (ns n1 n2 : List (Option Trace)) → n1 ≡ take chunk.lines ns → n2 ≡ drop chunk.lines ns
+      → looks_again passes (drop i chunks) ns ≡ (if are_none n1 && agrees chunk.summary passes then 0 else unchanged_in n1) + looks_again passes (drop (i + 1) chunks) n2
+  again-next ns n1 n2 p q =
+      ap (λ (cs : List Chunk). looks_again passes cs ns) (drop_at chunks i chunk lt is)
+      ∙ (λ j. (if are_none (sym p j) && agrees chunk.summary passes then 0 else unchanged_in (sym p j)) + looks_again passes (drop (i + 1) chunks) (sym q j))
 
-  pub kept-next : (os o1 o2 : List Trace) (u v e : ℕ) → o1 ≡ take chunk.lines os → o2 ≡ drop chunk.lines os → v ≤ counted_on u (if agrees chunk.summary passes then 0 else length o1)
-      → counted_on u (looks_kept passes (drop i chunks) os) ≤ e → counted_on v (looks_kept passes (drop (i + 1) chunks) o2) ≤ e
-  kept-next os o1 o2 u v e r s counted before =
-      let all : looks_kept passes (drop i chunks) os ≡ (if agrees chunk.summary passes then 0 else length o1) + looks_kept passes (drop (i + 1) chunks) o2 =
+  pub kept-next : (os o1 o2 : List Trace) → o1 ≡ take chunk.lines os → o2 ≡ drop chunk.lines os
+      → looks_kept passes (drop i chunks) os ≡ (if agrees chunk.summary passes then 0 else length o1) + looks_kept passes (drop (i + 1) chunks) o2
+  kept-next os o1 o2 r s =
       ap (λ (cs : List Chunk). looks_kept passes cs os) (drop_at chunks i chunk lt is)
-      ∙ (λ j. (if agrees chunk.summary passes then 0 else length (sym r j)) + looks_kept passes (drop (i + 1) chunks) (sym s j)) in
-      under u v e _ _ counted (subst (λ n. counted_on u n ≤ e) all before)
+      ∙ (λ j. (if agrees chunk.summary passes then 0 else length (sym r j)) + looks_kept passes (drop (i + 1) chunks) (sym s j))
 
-pub again-end : (passes : Named → Bool) (chunks : List Chunk) (i : ℕ) (ns : List (Option Trace)) (os : List Trace) (w e : ℕ) → length chunks ≤ i
-    → counted_on w (looks_again passes (drop i chunks) ns os) ≤ e → w ≤ e
-again-end passes chunks i ns os w e past before = no-more w e (subst (λ (cs : List Chunk). counted_on w (looks_again passes cs ns os) ≤ e) (drop_all i chunks past) before)
+pub again-end : (passes : Named → Bool) (chunks : List Chunk) (i : ℕ) (ns : List (Option Trace)) (w e : ℕ) → length chunks ≤ i → counted_on w (looks_again passes (drop i chunks) ns) ≡ e → w ≡ e
+again-end passes chunks i ns w e past before = none-more w ∙ ap (λ (cs : List Chunk). counted_on w (looks_again passes cs ns)) (sym (drop_all i chunks past)) ∙ before
 
-pub kept-end : (passes : Named → Bool) (chunks : List Chunk) (i : ℕ) (os : List Trace) (w e : ℕ) → length chunks ≤ i → counted_on w (looks_kept passes (drop i chunks) os) ≤ e → w ≤ e
-kept-end passes chunks i os w e past before = no-more w e (subst (λ (cs : List Chunk). counted_on w (looks_kept passes cs os) ≤ e) (drop_all i chunks past) before)
+pub kept-end : (passes : Named → Bool) (chunks : List Chunk) (i : ℕ) (os : List Trace) (w e : ℕ) → length chunks ≤ i → counted_on w (looks_kept passes (drop i chunks) os) ≡ e → w ≡ e
+kept-end passes chunks i os w e past before = none-more w ∙ ap (λ (cs : List Chunk). counted_on w (looks_kept passes cs os)) (sym (drop_all i chunks past)) ∙ before
 
 -- the front parts of two lists are as long
 pub same-parts : (n : ℕ) (ns : List (Option Trace)) (os : List Trace) → length ns ≡ length os → length (take n ns) ≡ length (take n os)

@@ -136,9 +136,6 @@ stood (Some s) f ls os done is here =
 pub under : (u v e part rest : ℕ) → v ≤ counted_on u part → counted_on u (part + rest) ≤ e → counted_on v rest ≤ e
 under u v e part rest p q = omega arith
 
-pub no-more : (w e : ℕ) → counted_on w 0 ≤ e → w ≤ e
-no-more w e p = omega arith
-
 -- the next chunk, and those behind it
 pub summed-next : (chunks : List Chunk) (i : ℕ) (chunk : Chunk) (os : List Trace) → i < length chunks → chunk ≡ get_or chunks i chunk → AreSummed (drop i chunks) os
     → (chunk.lines ≤ length os) × IsSummed chunk.summary (take chunk.lines os) × AreSummed (drop (i + 1) chunks) (drop chunk.lines os)
@@ -148,18 +145,16 @@ summed-next chunks i chunk os lt is summed = subst (λ (cs : List Chunk). AreSum
 pub summed-end : (chunks : List Chunk) (i : ℕ) (os : List Trace) → length chunks ≤ i → AreSummed (drop i chunks) os → os ≡ []
 summed-end chunks i os past summed = subst (λ (cs : List Chunk). AreSummed cs os) (drop_all i chunks past) summed
 
-pub looks-next : (chunks : List Chunk) (i : ℕ) (chunk : Chunk) (f g : State) (ls here behind : List (List ℕ)) (u v e : ℕ) → i < length chunks → chunk ≡ get_or chunks i chunk
-    → here ≡ take chunk.lines ls → behind ≡ drop chunk.lines ls → g ≡ state_after f here → v ≤ counted_on u (if stands chunk.summary f then 0 else length here)
-    → counted_on u (looks_from f (drop i chunks) ls) ≤ e → counted_on v (looks_from g (drop (i + 1) chunks) behind) ≤ e
-looks-next chunks i chunk f g ls here behind u v e lt is p q there counted before =
-    let all : looks_from f (drop i chunks) ls ≡ (if stands chunk.summary f then 0 else length here) + looks_from g (drop (i + 1) chunks) behind =
+pub looks-next : (chunks : List Chunk) (i : ℕ) (chunk : Chunk) (f g : State) (ls here behind : List (List ℕ)) → i < length chunks → chunk ≡ get_or chunks i chunk
+    → here ≡ take chunk.lines ls → behind ≡ drop chunk.lines ls → g ≡ state_after f here
+    → looks_from f (drop i chunks) ls ≡ (if stands chunk.summary f then 0 else length here) + looks_from g (drop (i + 1) chunks) behind
+looks-next chunks i chunk f g ls here behind lt is p q there =
     ap (λ (cs : List Chunk). looks_from f cs ls) (drop_at chunks i chunk lt is)
     ∙ (λ j. (if stands chunk.summary f then 0 else length (sym p j)) + looks_from (state_after f (sym p j)) (drop (i + 1) chunks) (sym q j))
-    ∙ ap (λ (s : State). (if stands chunk.summary f then 0 else length here) + looks_from s (drop (i + 1) chunks) behind) (sym there) in
-    under u v e _ _ counted (subst (λ n. counted_on u n ≤ e) all before)
+    ∙ ap (λ (s : State). (if stands chunk.summary f then 0 else length here) + looks_from s (drop (i + 1) chunks) behind) (sym there)
 
-pub looks-end : (chunks : List Chunk) (i : ℕ) (f : State) (ls : List (List ℕ)) (w e : ℕ) → length chunks ≤ i → counted_on w (looks_from f (drop i chunks) ls) ≤ e → w ≤ e
-looks-end chunks i f ls w e past before = no-more w e (subst (λ cs. counted_on w (looks_from f cs ls) ≤ e) (drop_all i chunks past) before)
+pub looks-end : (chunks : List Chunk) (i : ℕ) (f : State) (ls : List (List ℕ)) (w e : ℕ) → length chunks ≤ i → counted_on w (looks_from f (drop i chunks) ls) ≡ e → w ≡ e
+looks-end chunks i f ls w e past before = none-more w ∙ ap (λ (cs : List Chunk). counted_on w (looks_from f cs ls)) (sym (drop_all i chunks past)) ∙ before
 
 -- the front parts of lines and of what they did are as long
 pub done-parts : (n : ℕ) (ls : List (List ℕ)) (os : List Trace) → WereDone ls os → length (take n ls) ≡ length (take n os)
@@ -183,10 +178,6 @@ pub replays-whole : {X E : Type 0} (r : Result X E) (items : X → List (Option 
     → IfOk r (λ x. Replays a b u v ls os (items x))
 replays-whole (Ok x) items a b u v ls os p q r s t o = record { traces = p; len = q; flags = r; gathers = s; state = t; ones = o }
 replays-whole (Err e) items a b u v ls os p q r s t o = tt
-
-pub looked-whole : {X E : Type 0} (r : Result X E) (u v a b : ℕ) → OnOk r (v ≡ counted_on u a) → a ≤ b → OnOk r (v ≤ counted_on u b)
-looked-whole (Ok x) u v a b is le = omega (arith, is, le)
-looked-whole (Err e) u v a b is le = tt
 
 -- ---- one count behind another
 

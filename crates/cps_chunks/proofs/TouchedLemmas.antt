@@ -16,9 +16,10 @@ use Rattle.cps_holding.specs.Agreeing.{same_at, same_named}
 use Rattle.cps_edit.specs.Disturbed.{is_disturbed, finals_in}
 use Rattle.cps_holding.specs.Holds.{holds}
 use Rattle.cps_edit.specs.Passes.{after, state_after, traces_from, traces_of}
-use Rattle.cps_edit.specs.Renewed.{nones, flags_from}
+use Rattle.cps_edit.specs.Renewed.{nones, flags_from, unchanged_in}
 use Rattle.cps_edit.specs.Splice.{Splice, spliced}
 use Rattle.cps_edit.proofs.SpliceLemmas.{take-traces_from, drop-traces_from, still-flags, none-disturbed}
+use Rattle.cps_edit.proofs.RedoLemmas.{unchanged-most}
 use Rattle.cps_edit.proofs.TakenLemmas.{length_nones}
 use Rattle.cps_holding.specs.Run.{run_of}
 use Rattle.cps_holding.specs.RunGathering.{KeptRun}
@@ -133,13 +134,19 @@ short-sum : (ns : List ℕ) → AreShort ns → sum ns ≤ 64 * length ns
 short-sum [] are = omega arith
 short-sum (n ∷ ns) are = omega (arith, sum-cons n ns, short-sum ns are.1, are.0)
 
+short : {Y : Type 0} (k : ℕ) (ys : List Y) → length (take k ys) ≤ k
+short zero ys = omega arith
+short (suc k) [] = omega arith
+short (suc k) (y ∷ ys) = omega (arith, short k ys)
+
 pub few : {X : Type 0} (n : ℕ) (xs : List X) → n ≤ 64 → length (take n xs) ≤ 64
 few n xs le = omega (arith, short n xs, le)
-  where
-    short : {Y : Type 0} (k : ℕ) (ys : List Y) → length (take k ys) ≤ k
-    short zero ys = omega arith
-    short (suc k) [] = omega arith
-    short (suc k) (y ∷ ys) = omega (arith, short k ys)
+
+unchanged-loose : (n : ℕ) (flags : List (Option Trace)) → unchanged_in (take n flags) ≤ n
+unchanged-loose n flags = omega (arith, unchanged-most (take n flags), short n flags)
+
+unchanged-few : (n : ℕ) (flags : List (Option Trace)) → n ≤ 64 → unchanged_in (take n flags) ≤ 64
+unchanged-few n flags le = omega (arith, unchanged-loose n flags, le)
 
 -- ---- some of the chunks
 
@@ -271,7 +278,7 @@ module _ (was now : Resolved) where
   -- behind it
   behind-touched : (cs : List Chunk) (f : State) (ls : List (List ℕ)) (os : List Trace) (flags : List (Option Trace)) → WereDone ls os → AreSummed cs os → AreMade cs → AreShort (lengths_of cs)
       → map is_some flags ≡ flags_from f ls os
-      → looks_from f cs ls + looks_again (same_at was now) cs flags os ≤ 128 * touched_from was now f (cut (lengths_of cs) ls) (map Some (cut (lengths_of cs) os))
+      → looks_from f cs ls + looks_again (same_at was now) cs flags ≤ 128 * touched_from was now f (cut (lengths_of cs) ls) (map Some (cut (lengths_of cs) os))
   behind-touched [] f ls os flags done summed made short flagged = omega arith
   behind-touched (c ∷ cs) f ls os flags done summed made short flagged =
       let n = c.lines in
@@ -284,8 +291,8 @@ module _ (was now : Resolved) where
       let still : held ≡ true → none ≡ true = λ sure.
       still-none f (take n ls) (take n os) (take n flags) (stood c.summary f (take n ls) (take n os) (done-front n ls os done) summed.1 (standing ∙ sure))
       (flagged-front n f ls os flags flagged) in
-      add-behind _ _ _ _ _ _ _ _ (ap (λ (b : Bool). if b then 0 else length (take n ls)) standing) (ap (λ (b : Bool). if none && b then 0 else length (take n os)) agreeing)
-      (one-behind held same none (length (take n ls)) (length (take n os)) still (few n ls short.0) (few n os short.0))
+      add-behind _ _ _ _ _ _ _ _ (ap (λ (b : Bool). if b then 0 else length (take n ls)) standing) (ap (λ (b : Bool). if none && b then 0 else unchanged_in (take n flags)) agreeing)
+      (one-behind held same none (length (take n ls)) (unchanged_in (take n flags)) still (few n ls short.0) (unchanged-few n flags short.0))
       (behind-touched cs (state_after f (take n ls)) (drop n ls) (drop n os) (drop n flags) (done-behind n ls os done) summed.2 both.1 short.1
       (flagged-behind n f ls os flags (done-long ls os done) flagged))
 
@@ -395,9 +402,9 @@ dones-parts ts front behind start end ns olds ordered within first last =
 abbrev pub behind_new : List (List ℕ) → Splice → State
 behind_new lines splice = state_after (state_after first_state (take splice.keep lines)) splice.new
 
-all-parts : (front kept again from loose touched first new last lines some : ℕ) → touched ≡ first + (new + last) → front ≤ 64 * first → from + again ≤ 128 * last
-    → lines ≡ kept + (some + loose) → lines ≤ 64 * new → front + kept + (loose + from) + (loose + again) ≤ 128 * touched
-all-parts front kept again from loose touched first new last lines some t p q s l = omega arith
+all-parts : (front kept again from loose left touched first new last lines some : ℕ) → touched ≡ first + (new + last) → front ≤ 64 * first → from + again ≤ 128 * last
+    → lines ≡ kept + (some + loose) → lines ≤ 64 * new → left ≤ loose → front + kept + (loose + from) + (left + again) ≤ 128 * touched
+all-parts front kept again from loose left touched first new last lines some t p q s l u = omega arith
 
 module _ (lines : List (List ℕ)) (splice : Splice) (start end : ℕ) (ns : List ℕ) (cs : List Chunk) (plan : Recuts lines splice start end ns (lengths_of cs)) (ts : List Trace)
     (done : ts ≡ traces_of lines) where
@@ -436,7 +443,7 @@ module _ (lines : List (List ℕ)) (splice : Splice) (start end : ℕ) (ns : Lis
     last-touched : (flags : List (Option Trace)) → map is_some flags ≡ flags_from (behind_new lines splice) (drop splice.from lines) (drop splice.from ts)
         → looks_from (state_after (behind_new lines splice) (take (sum (take end (lengths_of cs)) - splice.from) (drop splice.from lines))) (drop end cs)
         (drop (sum (take end (lengths_of cs)) - splice.from) (drop splice.from lines))
-        + looks_again (same_at was now) (drop end cs) (drop (sum (take end (lengths_of cs)) - splice.from) flags) (drop (sum (take end (lengths_of cs)) - splice.from) (drop splice.from ts))
+        + looks_again (same_at was now) (drop end cs) (drop (sum (take end (lengths_of cs)) - splice.from) flags)
         ≤ 128
         * touched_from was now (state_after (behind_new lines splice) (take (sum (take end (lengths_of cs)) - splice.from) (drop splice.from lines)))
         (cut (drop end (lengths_of cs)) (drop (sum (take end (lengths_of cs)) - splice.from) (drop splice.from lines)))
@@ -456,7 +463,7 @@ module _ (lines : List (List ℕ)) (splice : Splice) (start end : ℕ) (ns : Lis
         let touched : touched_from was now g (cut (lengths_of (drop end cs)) (drop k rest)) (map Some (cut (lengths_of (drop end cs)) (drop k traces)))
         ≡ touched_from was now g (cut (drop end olds) (drop k rest)) (map Some (cut (drop end olds) (drop (sum (take end olds)) ts))) =
         λ i. touched_from was now g (cut (sym lens i) (drop k rest)) (map Some (cut (sym lens i) (sym same i))) in
-        subst (λ (j : ℕ). looks_from g (drop end cs) (drop k rest) + looks_again (same_at was now) (drop end cs) (drop k flags) (drop k traces) ≤ 128 * j) touched
+        subst (λ (j : ℕ). looks_from g (drop end cs) (drop k rest) + looks_again (same_at was now) (drop end cs) (drop k flags) ≤ 128 * j) touched
         (behind-touched was now (drop end cs) g (drop k rest) (drop k traces) (drop k flags) (done-behind k rest traces before)
         (subst (λ (xs : List Trace). AreSummed (drop end cs) xs) same (summed-behind end cs ts summed)) (made-behind end cs made) short
         (flagged-behind k f rest traces flags (done-long rest traces before) flagged))
@@ -470,24 +477,23 @@ pub looks-touched : (lines : List (List ℕ)) (splice : Splice) (start end : ℕ
     + ((sum (take end (lengths_of cs)) - splice.from)
     + looks_from (state_after (behind_new lines splice) (take (sum (take end (lengths_of cs)) - splice.from) (drop splice.from lines))) (drop end cs)
     (drop (sum (take end (lengths_of cs)) - splice.from) (drop splice.from lines)))
-    + ((sum (take end (lengths_of cs)) - splice.from)
-    + looks_again (same_at (finals_in lines) (finals_in (spliced lines splice))) (drop end cs) (drop (sum (take end (lengths_of cs)) - splice.from) flags)
-    (drop (sum (take end (lengths_of cs)) - splice.from) (drop splice.from ts)))
+    + (unchanged_in (take (sum (take end (lengths_of cs)) - splice.from) flags)
+    + looks_again (same_at (finals_in lines) (finals_in (spliced lines splice))) (drop end cs) (drop (sum (take end (lengths_of cs)) - splice.from) flags))
     ≤ 128 * touched_of lines splice (lengths_of cs) (recut start end ns (lengths_of cs))
 looks-touched lines splice start end ns cs ts flags plan done summed made flagged =
     let was = finals_in lines in
     let now = finals_in (spliced lines splice) in
     let olds = lengths_of cs in
     let short : AreShort ns = short-first ns (drop end olds) (short-second (take start olds) (ns ++ drop end olds) (chunks-short (recut start end ns olds) plan.made)) in
-    all-parts _ _ _ _ _ (touched_of lines splice olds (recut start end ns olds)) _ _ _ _ _ (touched-parts lines splice start end ns cs plan ts done was now)
+    all-parts _ _ _ _ _ _ (touched_of lines splice olds (recut start end ns olds)) _ _ _ _ _ (touched-parts lines splice start end ns cs plan ts done was now)
     (front-touched was now lines splice start cs ts done (omega (arith, plan.order, plan.within)) plan.begins (chunks-short olds plan.chunks) summed (made-front start cs made))
-    (last-touched lines splice start end ns cs plan ts done was now summed made flags flagged) plan.count (short-sum ns short)
+    (last-touched lines splice start end ns cs plan ts done was now summed made flags flagged) plan.count (short-sum ns short) (unchanged-loose (sum (take end olds) - splice.from) flags)
 
 -- the same of all that is looked at, by names of its parts
 abbrev pub looks_around : Resolved → Resolved → State → List Chunk → ℕ → ℕ → ℕ → ℕ → ℕ → List Trace → List (List ℕ) → List Trace → List (Option Trace) → ℕ
 looks_around was now state cs start end before kept loose ts rest olds flags =
     looks_kept (same_at was now) (take start cs) (take before ts) + kept + (loose + looks_from (state_after state (take loose rest)) (drop end cs) (drop loose rest))
-    + (loose + looks_again (same_at was now) (drop end cs) (drop loose flags) (drop loose olds))
+    + (unchanged_in (take loose flags) + looks_again (same_at was now) (drop end cs) (drop loose flags))
 
 pub looks-around : (lines : List (List ℕ)) (splice : Splice) (start end : ℕ) (ns : List ℕ) (cs : List Chunk) (ts : List Trace) (flags : List (Option Trace))
     (was now : Resolved) (state : State) (before kept loose : ℕ) (rest : List (List ℕ)) (olds : List Trace)

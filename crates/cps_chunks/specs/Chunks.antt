@@ -9,7 +9,7 @@ use Rattle.cps_final.specs.Outcome.{Resolved, Outcome}
 use Rattle.cps_edit.specs.Passes.{state_after, traces_from, outcomes_by, GathersMore}
 use Rattle.cps_edit.specs.Disturbed.{kept, disturbed_from}
 use Rattle.cps_holding.specs.Holds.{holds}
-use Rattle.cps_edit.specs.Renewed.{merged, flags_from, redone_from}
+use Rattle.cps_edit.specs.Renewed.{merged, flags_from, unchanged_in, redone_from}
 use Rattle.cps_holding.specs.RunGathering.{kept_run}
 use Rattle.cps_naming.specs.Names.{names_in, all_pass}
 use Rattle.cps_chunks.specs.declared.chunk.Summary.{Summary}
@@ -75,10 +75,10 @@ abbrev pub are_none : List (Option Trace) → Bool
 are_none news = list_all (λ new. not (is_some new)) news
 
 -- how many lines are compared one by one in pass two, by what pass one made of each
-abbrev pub looks_again : (Named → Bool) → List Chunk → List (Option Trace) → List Trace → ℕ
-looks_again passes [] news olds = 0
-looks_again passes (chunk ∷ chunks) news olds =
-    (if are_none (take chunk.lines news) && agrees chunk.summary passes then 0 else length (take chunk.lines olds)) + looks_again passes chunks (drop chunk.lines news) (drop chunk.lines olds)
+abbrev pub looks_again : (Named → Bool) → List Chunk → List (Option Trace) → ℕ
+looks_again passes [] news = 0
+looks_again passes (chunk ∷ chunks) news =
+    (if are_none (take chunk.lines news) && agrees chunk.summary passes then 0 else unchanged_in (take chunk.lines news)) + looks_again passes chunks (drop chunk.lines news)
 
 -- the same of lines of which none is disturbed in pass one
 abbrev pub looks_kept : (Named → Bool) → List Chunk → List Trace → ℕ

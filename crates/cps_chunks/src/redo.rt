@@ -1,9 +1,10 @@
 //! Pass two of an edit over lines that were there before, chunk by chunk.
-ghost use Rattle.std.specs.Prelude.{◌≡◌, ◌+◌, ◌-◌, ◌≤◌, ◌&&◌, IfOk, OnOk, OnErr, length, take, drop, map, is_some, if◌then◌else◌};
+ghost use Rattle.std.specs.Prelude.{◌≡◌, ◌+◌, ◌-◌, ◌≤◌, ◌&&◌, IfOk, OnErr, length, take, drop, map, is_some, if◌then◌else◌};
 ghost use Rattle.cps_state.specs.Work.{counted_on};
 ghost use Rattle.cps_final.specs.Resolving.{resolved};
 ghost use Rattle.cps_holding.specs.Agreeing.{same_at};
-ghost use Rattle.cps_edit.specs.Renewed.{nones as nones_of, redone_from, redone_kept};
+ghost use Rattle.cps_edit.specs.Compares.{Compares};
+ghost use Rattle.cps_edit.specs.Renewed.{nones as nones_of, unchanged_in, redone_from, redone_kept};
 ghost use Rattle.cps_chunks.specs.Chunks.{IsSummed, AreSummed, Redoes, agrees, are_none as are_none_by, looks_again, looks_kept};
 
 use crate::chunk::{Behind, Chunk, InFront, nones};
@@ -32,7 +33,7 @@ impl<'a> Again<'a> {
         requires same_len { length news.now ≡ length olds.now }
         requires summed { IsSummed chunk.now.summary olds.now }
         ensures redoes { IfOk result (λ made. Redoes (resolved self.entry.ends.before.now) (resolved self.entry.ends.after.now) work.old work.new news.now olds.now made.items) }
-        ensures looked { OnOk result (work.new.looked ≤ counted_on work.old.looked (if are_none_by news.now && agrees chunk.now.summary (same_at (resolved self.entry.ends.before.now) (resolved self.entry.ends.after.now)) then 0 else length olds.now)) }
+        ensures looked { Compares result work.old work.new (if are_none_by news.now && agrees chunk.now.summary (same_at (resolved self.entry.ends.before.now) (resolved self.entry.ends.after.now)) then 0 else unchanged_in news.now) }
         ensures twos_err { OnErr result (work.new.twos ≤ counted_on work.old.twos (redone_from (resolved self.entry.ends.before.now) (resolved self.entry.ends.after.now) (map is_some news.now) olds.now)) }
         ensures twos_least { work.old.twos ≤ work.new.twos }
         ensures ones { work.new.ones ≡ work.old.ones }
@@ -55,7 +56,7 @@ impl<'a> Again<'a> {
         requires same_len { length news.now ≡ length olds.now }
         requires summed { AreSummed chunks.now olds.now }
         ensures redoes { IfOk result (λ made. Redoes (resolved self.entry.ends.before.now) (resolved self.entry.ends.after.now) work.old work.new news.now olds.now made.items) }
-        ensures looked { OnOk result (work.new.looked ≤ counted_on work.old.looked (looks_again (same_at (resolved self.entry.ends.before.now) (resolved self.entry.ends.after.now)) chunks.now news.now olds.now)) }
+        ensures looked { Compares result work.old work.new (looks_again (same_at (resolved self.entry.ends.before.now) (resolved self.entry.ends.after.now)) chunks.now news.now) }
         ensures twos_err { OnErr result (work.new.twos ≤ counted_on work.old.twos (redone_from (resolved self.entry.ends.before.now) (resolved self.entry.ends.after.now) (map is_some news.now) olds.now)) }
         ensures twos_least { work.old.twos ≤ work.new.twos }
         ensures ones { work.new.ones ≡ work.old.ones }
@@ -83,7 +84,7 @@ impl<'a> Again<'a> {
     ) -> Result<Vec<Option<Outcome>>, AllocError>
         requires { IsSummed chunk.now.summary olds.now }
         ensures redoes { IfOk result (λ made. Redoes (resolved self.entry.ends.before.now) (resolved self.entry.ends.after.now) work.old work.new (nones_of (length olds.now)) olds.now made.items) }
-        ensures looked { OnOk result (work.new.looked ≤ counted_on work.old.looked (if agrees chunk.now.summary (same_at (resolved self.entry.ends.before.now) (resolved self.entry.ends.after.now)) then 0 else length olds.now)) }
+        ensures looked { Compares result work.old work.new (if agrees chunk.now.summary (same_at (resolved self.entry.ends.before.now) (resolved self.entry.ends.after.now)) then 0 else length olds.now) }
         ensures twos_err { OnErr result (work.new.twos ≤ counted_on work.old.twos (redone_kept (resolved self.entry.ends.before.now) (resolved self.entry.ends.after.now) olds.now)) }
         ensures twos_least { work.old.twos ≤ work.new.twos }
         ensures ones { work.new.ones ≡ work.old.ones }
@@ -103,7 +104,7 @@ impl<'a> Again<'a> {
     ) -> Result<Vec<Option<Outcome>>, AllocError>
         requires { AreSummed chunks.now olds.now }
         ensures redoes { IfOk result (λ made. Redoes (resolved self.entry.ends.before.now) (resolved self.entry.ends.after.now) work.old work.new (nones_of (length olds.now)) olds.now made.items) }
-        ensures looked { OnOk result (work.new.looked ≤ counted_on work.old.looked (looks_kept (same_at (resolved self.entry.ends.before.now) (resolved self.entry.ends.after.now)) chunks.now olds.now)) }
+        ensures looked { Compares result work.old work.new (looks_kept (same_at (resolved self.entry.ends.before.now) (resolved self.entry.ends.after.now)) chunks.now olds.now) }
         ensures twos_err { OnErr result (work.new.twos ≤ counted_on work.old.twos (redone_kept (resolved self.entry.ends.before.now) (resolved self.entry.ends.after.now) olds.now)) }
         ensures twos_least { work.old.twos ≤ work.new.twos }
         ensures ones { work.new.ones ≡ work.old.ones }
@@ -131,8 +132,8 @@ impl<'a> Again<'a> {
         requires within { behind.loose ≤ length olds.now }
         requires summed { AreSummed behind.chunks.now (drop behind.loose olds.now) }
         ensures redoes { IfOk result (λ made. Redoes (resolved self.entry.ends.before.now) (resolved self.entry.ends.after.now) work.old work.new news.now olds.now made.items) }
-        ensures looked { OnOk result (work.new.looked ≤ counted_on work.old.looked
-            (behind.entry.loose + looks_again (same_at (resolved self.entry.ends.before.now) (resolved self.entry.ends.after.now)) behind.entry.chunks.now (drop behind.entry.loose news.now) (drop behind.entry.loose olds.now))) }
+        ensures looked { Compares result work.old work.new
+            (unchanged_in (take behind.entry.loose news.now) + looks_again (same_at (resolved self.entry.ends.before.now) (resolved self.entry.ends.after.now)) behind.entry.chunks.now (drop behind.entry.loose news.now)) }
         ensures twos_err { OnErr result (work.new.twos ≤ counted_on work.old.twos (redone_from (resolved self.entry.ends.before.now) (resolved self.entry.ends.after.now) (map is_some news.now) olds.now)) }
         ensures twos_least { work.old.twos ≤ work.new.twos }
         ensures ones { work.new.ones ≡ work.old.ones }
@@ -155,8 +156,8 @@ impl<'a> Again<'a> {
         requires within { in_front.loose ≤ length olds.now }
         requires summed { AreSummed in_front.chunks.now (take (length olds.now - in_front.loose) olds.now) }
         ensures redoes { IfOk result (λ made. Redoes (resolved self.entry.ends.before.now) (resolved self.entry.ends.after.now) work.old work.new (nones_of (length olds.now)) olds.now made.items) }
-        ensures looked { OnOk result (work.new.looked ≤ counted_on work.old.looked
-            (looks_kept (same_at (resolved self.entry.ends.before.now) (resolved self.entry.ends.after.now)) in_front.entry.chunks.now (take (length olds.now - in_front.entry.loose) olds.now) + in_front.entry.loose)) }
+        ensures looked { Compares result work.old work.new
+            (looks_kept (same_at (resolved self.entry.ends.before.now) (resolved self.entry.ends.after.now)) in_front.entry.chunks.now (take (length olds.now - in_front.entry.loose) olds.now) + in_front.entry.loose) }
         ensures twos_err { OnErr result (work.new.twos ≤ counted_on work.old.twos (redone_kept (resolved self.entry.ends.before.now) (resolved self.entry.ends.after.now) olds.now)) }
         ensures twos_least { work.old.twos ≤ work.new.twos }
         ensures ones { work.new.ones ≡ work.old.ones }

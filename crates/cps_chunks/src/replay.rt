@@ -1,8 +1,9 @@
 //! Pass one of an edit over lines that were there before, chunk by chunk.
-ghost use Rattle.std.specs.Prelude.{◌≡◌, ◌+◌, ◌≤◌, IfOk, OnOk, OnErr, length, take, drop, if◌then◌else◌};
+ghost use Rattle.std.specs.Prelude.{◌≡◌, ◌+◌, ◌≤◌, IfOk, OnErr, length, take, drop, if◌then◌else◌};
 ghost use Rattle.cps_state.specs.Work.{counted_on};
 ghost use Rattle.cps_edit.specs.Passes.{state_after};
 ghost use Rattle.cps_edit.specs.Disturbed.{kept, disturbed_from};
+ghost use Rattle.cps_edit.specs.Compares.{Compares};
 ghost use Rattle.cps_chunks.specs.Chunks.{WereDone, IsSummed, AreSummed, Replays, stands, looks_from};
 
 use crate::chunk::{Behind, Chunk, nones};
@@ -23,7 +24,7 @@ fn replay_chunk(
     requires done { WereDone lines.now olds.now }
     requires summed { IsSummed chunk.now.summary olds.now }
     ensures replays { IfOk result (λ news. Replays (⟦<Front as Gathered>⟧.gathered front.old) (⟦<Front as Gathered>⟧.gathered front.new) work.old work.new lines.now olds.now news.items) }
-    ensures looked { OnOk result (work.new.looked ≤ counted_on work.old.looked (if stands chunk.now.summary (⟦<Front as Gathered>⟧.gathered front.old).state then 0 else length lines.now)) }
+    ensures looked { Compares result work.old work.new (if stands chunk.now.summary (⟦<Front as Gathered>⟧.gathered front.old).state then 0 else length lines.now) }
     ensures ones_err { OnErr result (work.new.ones ≤ counted_on work.old.ones (disturbed_from (⟦<Front as Gathered>⟧.gathered front.old).state (kept lines.now olds.now))) }
     ensures ones_least { work.old.ones ≤ work.new.ones }
     ensures twos { work.new.twos ≡ work.old.twos }
@@ -47,7 +48,7 @@ pub fn replay_chunks(
     requires done { WereDone lines.now olds.now }
     requires summed { AreSummed chunks.now olds.now }
     ensures replays { IfOk result (λ news. Replays (⟦<Front as Gathered>⟧.gathered front.old) (⟦<Front as Gathered>⟧.gathered front.new) work.old work.new lines.now olds.now news.items) }
-    ensures looked { OnOk result (work.new.looked ≤ counted_on work.old.looked (looks_from (⟦<Front as Gathered>⟧.gathered front.old).state chunks.now lines.now)) }
+    ensures looked { Compares result work.old work.new (looks_from (⟦<Front as Gathered>⟧.gathered front.old).state chunks.now lines.now) }
     ensures ones_err { OnErr result (work.new.ones ≤ counted_on work.old.ones (disturbed_from (⟦<Front as Gathered>⟧.gathered front.old).state (kept lines.now olds.now))) }
     ensures ones_least { work.old.ones ≤ work.new.ones }
     ensures twos { work.new.twos ≡ work.old.twos }
@@ -78,8 +79,8 @@ pub fn replay_behind(
     requires within { behind.loose ≤ length olds.now }
     requires summed { AreSummed behind.chunks.now (drop behind.loose olds.now) }
     ensures replays { IfOk result (λ news. Replays (⟦<Front as Gathered>⟧.gathered front.old) (⟦<Front as Gathered>⟧.gathered front.new) work.old work.new lines.now olds.now news.items) }
-    ensures looked { OnOk result (work.new.looked ≤ counted_on work.old.looked
-        (behind.entry.loose + looks_from (state_after (⟦<Front as Gathered>⟧.gathered front.old).state (take behind.entry.loose lines.now)) behind.entry.chunks.now (drop behind.entry.loose lines.now))) }
+    ensures looked { Compares result work.old work.new
+        (behind.entry.loose + looks_from (state_after (⟦<Front as Gathered>⟧.gathered front.old).state (take behind.entry.loose lines.now)) behind.entry.chunks.now (drop behind.entry.loose lines.now)) }
     ensures ones_err { OnErr result (work.new.ones ≤ counted_on work.old.ones (disturbed_from (⟦<Front as Gathered>⟧.gathered front.old).state (kept lines.now olds.now))) }
     ensures ones_least { work.old.ones ≤ work.new.ones }
     ensures twos { work.new.twos ≡ work.old.twos }

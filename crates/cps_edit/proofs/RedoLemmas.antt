@@ -1,5 +1,5 @@
 -- One line more is redone.
-use Rattle.std.proofs.Common.{◌≡◌, ℕ, zero, suc, ◌+◌, ◌<◌, ◌≤◌, refl, sym, ap, ◌∙◌, List, [], ◌∷◌, ◌++◌, append_assoc, append-nil, length, get_or, take, drop, Option, None, arith}
+use Rattle.std.proofs.Common.{◌≡◌, ℕ, zero, suc, ◌+◌, ◌<◌, ◌≤◌, refl, sym, ap, ◌∙◌, List, [], ◌∷◌, ◌++◌, append_assoc, append-nil, length, get_or, take, drop, Option, None, Some, arith}
 use Rattle.std.specs.Prelude.{if◌then◌else◌, map, is_some}
 use Rattle.std.proofs.lemmas.List.{drop_all}
 use Rattle.cps_state.specs.Work.{counted_on}
@@ -7,9 +7,9 @@ use Rattle.cps_state.specs.Course.{Trace}
 use Rattle.cps_final.specs.Outcome.{Resolved, Outcome, outcome_of}
 use Rattle.cps_edit.specs.Passes.{outcomes_by}
 use Rattle.cps_edit.specs.Disturbed.{is_redone}
-use Rattle.cps_edit.specs.Renewed.{picked, merged, nones, redone_from}
+use Rattle.cps_edit.specs.Renewed.{picked, merged, nones, unchanged_in, redone_from}
 use Rattle.cps_edit.proofs.FrontLemmas.{none-more}
-use Rattle.cps_edit.proofs.ReplayLemmas.{counted-left, counted-before}
+use Rattle.cps_edit.proofs.ReplayLemmas.{counted-left, counted-before, le-same}
 use Rattle.cps_edit.proofs.TakenLemmas.{drop_at}
 
 module _ {X : Type 0} where
@@ -66,6 +66,18 @@ twos-within was now ns ts i n t w v e a b p q counted before =
     (ap (λ xs. redone_from was now (map is_some xs) (drop i ts)) (drop_at ns i n a p) ∙ ap (λ xs. redone_from was now (is_some n ∷ map is_some (drop (i + 1) ns)) xs) (drop_at ts i t b q))
     before
 
+pub unchanged-most : (ns : List (Option Trace)) → unchanged_in ns ≤ length ns
+unchanged-most [] = omega arith
+unchanged-most (None ∷ ns) = omega (arith, unchanged-most ns)
+unchanged-most (Some t ∷ ns) = omega (arith, unchanged-most ns)
+
+module _ (ns : List (Option Trace)) (i : ℕ) (n : Option Trace) (w v e : ℕ) (lt : i < length ns) (is : n ≡ get_or ns i n) where
+  pub looks-next : v ≡ counted_on w (if is_some n then 0 else 1) → counted_on w (unchanged_in (drop i ns)) ≡ e → counted_on v (unchanged_in (drop (i + 1) ns)) ≡ e
+  looks-next counted before = counted-left w v e _ _ _ counted (ap unchanged_in (drop_at ns i n lt is)) before
+
+  pub looks-within : v ≡ counted_on w (if is_some n then 0 else 1) → counted_on w (unchanged_in (drop i ns)) ≡ e → v ≤ e
+  looks-within counted before = counted-before w v e _ _ _ (le-same _ _ counted) (ap unchanged_in (drop_at ns i n lt is)) before
+
 -- ---- nothing is new
 
 pub none-at : (n i : ℕ) → i < n → get_or (nones {X = Trace} n) i None ≡ None
@@ -84,3 +96,6 @@ pub twos-done : (was now : Resolved) (ns : List (Option Trace)) (ts : List Trace
     → counted_on w (redone_from was now (map is_some (drop i ns)) (drop i ts)) ≡ e → w ≡ e
 twos-done was now ns ts i w e past before =
     none-more w ∙ sym (ap (λ xs. counted_on w (redone_from was now (map is_some xs) (drop i ts))) (drop_all i ns past)) ∙ before
+
+pub looks-done : (ns : List (Option Trace)) (i w e : ℕ) → length ns ≤ i → counted_on w (unchanged_in (drop i ns)) ≡ e → w ≡ e
+looks-done ns i w e past before = none-more w ∙ sym (ap (λ xs. counted_on w (unchanged_in xs)) (drop_all i ns past)) ∙ before

@@ -1,5 +1,6 @@
 pub mod Passes
 pub mod Splice
+pub mod Compares
 pub mod Disturbed
 pub mod LeftBy
 pub mod Renewed

@@ -29,6 +29,11 @@ module _ {X : Type 0} where
   mended (new ∷ news) [] = []
   mended (new ∷ news) (old ∷ olds) = picked new old ∷ mended news olds
 
+-- how many stay what they were
+abbrev pub unchanged_in : List (Option Trace) → ℕ
+unchanged_in [] = 0
+unchanged_in (new ∷ news) = (if is_some new then 0 else 1) + unchanged_in news
+
 -- the trace is that of the line in some state
 abbrev pub WasMeant : List ℕ → Trace → Type 0
 WasMeant line trace = (state : State) × (trace ≡ trace_of line state)

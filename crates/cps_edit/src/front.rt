@@ -8,6 +8,7 @@ ghost use Rattle.cps_final.specs.Finals.{Gathers};
 ghost use Rattle.cps_final.specs.Layout.{puts_of};
 ghost use Rattle.cps_edit.specs.Passes.{after, state_after, traces_from, GathersMore};
 ghost use Rattle.cps_edit.specs.Disturbed.{kept, is_disturbed, disturbed_from};
+ghost use Rattle.cps_edit.specs.Compares.{Compares};
 ghost use Rattle.cps_edit.specs.Renewed.{picked, merged, flags_from, WasMeant, AllWereMeant};
 
 use cps_final::{Finals, Gather, Gathered};
@@ -150,7 +151,7 @@ impl Front {
         ensures ones_err { OnErr result (work.new.ones ≤ counted_on work.old.ones (if is_disturbed (Some old.now) (⟦<Front as Gathered>⟧.gathered self.old).state then 1 else 0)) }
         ensures ones_least { work.old.ones ≤ work.new.ones }
         ensures twos { work.new.twos ≡ work.old.twos }
-        ensures looked { OnOk result (work.new.looked ≡ counted_on work.old.looked 1) }
+        ensures looked { work.new.looked ≡ counted_on work.old.looked 1 }
     {
         if still_holds(old, self.gather.state(), work) {
             self.pass_over(old)?;
@@ -178,7 +179,7 @@ impl Front {
         ensures ones_err { OnErr result (work.new.ones ≤ counted_on work.old.ones (disturbed_from (⟦<Front as Gathered>⟧.gathered self.old).state (kept lines.now olds.now))) }
         ensures ones_least { work.old.ones ≤ work.new.ones }
         ensures twos { work.new.twos ≡ work.old.twos }
-        ensures looked { OnOk result (work.new.looked ≡ counted_on work.old.looked (length lines.now)) }
+        ensures looked { Compares result work.old work.new (length lines.now) }
     {
         let mut news = Vec::with_capacity(self.alloc, lines.len())?;
         for i in 0..lines.len() {

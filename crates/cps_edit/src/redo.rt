@@ -5,7 +5,8 @@ ghost use Rattle.cps_final.specs.Outcome.{outcome_of};
 ghost use Rattle.cps_final.specs.Resolving.{resolved};
 ghost use Rattle.cps_edit.specs.Passes.{outcomes_by};
 ghost use Rattle.cps_edit.specs.Disturbed.{is_redone};
-ghost use Rattle.cps_edit.specs.Renewed.{picked, merged, redone_from, redone_kept};
+ghost use Rattle.cps_edit.specs.Compares.{Compares};
+ghost use Rattle.cps_edit.specs.Renewed.{picked, merged, unchanged_in, redone_from, redone_kept};
 
 use cps_final::{Outcome, step_two};
 use cps_holding::{Ends, same_finals};
@@ -25,7 +26,7 @@ pub fn redone(
     ensures twos_err { OnErr result (work.new.twos ≤ counted_on work.old.twos (if is_redone (resolved ends.entry.before.now) (resolved ends.entry.after.now) (is_some new.now) old.now then 1 else 0)) }
     ensures twos_least { work.old.twos ≤ work.new.twos }
     ensures ones { work.new.ones ≡ work.old.ones }
-    ensures looked { OnOk result (work.new.looked ≤ counted_on work.old.looked 1) }
+    ensures looked { work.new.looked ≡ counted_on work.old.looked (if is_some new.now then 0 else 1) }
 {
     match new {
         Some(trace) => Ok(Some(step_two(alloc, work, trace, ends.after)?)),
@@ -53,7 +54,7 @@ pub fn redo(
     ensures twos_err { OnErr result (work.new.twos ≤ counted_on work.old.twos (redone_from (resolved ends.entry.before.now) (resolved ends.entry.after.now) (map is_some news.now) olds.now)) }
     ensures twos_least { work.old.twos ≤ work.new.twos }
     ensures ones { work.new.ones ≡ work.old.ones }
-    ensures looked { OnOk result (work.new.looked ≤ counted_on work.old.looked (length olds.now)) }
+    ensures looked { Compares result work.old work.new (unchanged_in news.now) }
 {
     let mut all = Vec::with_capacity(alloc, olds.len())?;
     for i in 0..olds.len() {
@@ -76,7 +77,7 @@ pub fn redo_kept(
     ensures twos_err { OnErr result (work.new.twos ≤ counted_on work.old.twos (redone_kept (resolved ends.entry.before.now) (resolved ends.entry.after.now) olds.now)) }
     ensures twos_least { work.old.twos ≤ work.new.twos }
     ensures ones { work.new.ones ≡ work.old.ones }
-    ensures looked { OnOk result (work.new.looked ≤ counted_on work.old.looked (length olds.now)) }
+    ensures looked { Compares result work.old work.new (length olds.now) }
 {
     let mut all = Vec::with_capacity(alloc, olds.len())?;
     for i in 0..olds.len() {

@@ -125,6 +125,16 @@ module _ (was now : Resolved) (traces : List Trace) (along : Along) (looked tota
           );
     }
 
+    pub along-within : (along' : Along) (looked' : ℕ) → counted_on looked' (looks_left (same_at was now) along' (entry.at + 1)) ≤ counted_on looked (looks_left (same_at was now) along entry.at)
+        → looked' ≤ total
+    along-within along' looked' le =
+        omega (
+          arith,
+          le,
+          looked-none looked (looks_left (same_at was now) along entry.at) (looks_left (same_at was now) along goes.next) (looks-later (same_at was now) along goes.next entry.at goes.ascend.0),
+          goes.count,
+        )
+
   -- the line at a place, where those from there on are left
   pub along-at : (entries : List Open) (i : ℕ) → i < length entries → GoesAlong was now traces along (drop i entries) looked total
       → GoesAlong was now traces along (get_or entries i none ∷ drop (i + 1) entries) looked total

@@ -1,12 +1,13 @@
 -- A line behind the last.
-use Rattle.std.proofs.Common.{◌≡◌, inl, inr, ℕ, ◌+◌, ◌*◌, ◌≤◌, refl, sym, ap, ◌∙◌, List, [], ◌∷◌, ◌++◌, length, take, drop, map, arith}
+use Rattle.std.proofs.Common.{◌⊎◌, ◌≡◌, inl, inr, ℕ, ◌+◌, ◌*◌, ◌≤◌, refl, sym, ap, ◌∙◌, List, [], ◌∷◌, ◌++◌, length, take, drop, map, arith}
 use Rattle.std.specs.Prelude.{is_some}
 use Rattle.std.proofs.lemmas.List.{take_all, drop_all}
 use Rattle.std.proofs.Math.Seq.{take-append_seam}
 use Rattle.cps_state.specs.declared.key.Put.{Put}
 use Rattle.cps_state.specs.Keys.{State, first_state, overwritten}
 use Rattle.cps_state.specs.Course.{Trace}
-use Rattle.cps_state.specs.Work.{counted_on}
+use Rattle.cps_state.specs.Work.{Counts, counted_on}
+use Rattle.cps_edit.specs.Compares.{ComparesUpTo}
 use Rattle.cps_pass.specs.Expansion.{trace_of}
 use Rattle.cps_final.specs.Finals.{Finals, finals_of, final_value}
 use Rattle.cps_final.specs.Outcome.{Resolved, Outcome, outcome_of}
@@ -17,7 +18,7 @@ use Rattle.cps_edit.specs.Renewed.{flags_from, nones, redone_from, redone_kept}
 use Rattle.cps_edit.specs.Agreeing.{same_at}
 use Rattle.cps_division.specs.Division.{AreChunks, inserted_at}
 use Rattle.cps_chunks.specs.declared.chunk.Chunk.{Chunk}
-use Rattle.cps_chunks.specs.Chunks.{AreSummed, lengths_of, looks_kept}
+use Rattle.cps_chunks.specs.Chunks.{AreSummed, AreReady, lengths_of, looks_kept}
 use Rattle.cps_chunks.specs.Touched.{touched_of}
 use Rattle.cps_kept.specs.declared.arrival.Change.{Change}
 use Rattle.cps_kept.specs.Along.{FewOrReady}
@@ -59,25 +60,31 @@ pub twos-first : (u v by all : ℕ) → v ≤ counted_on u by → all ≡ by + 1
 twos-first u v by all p r = omega arith
 
 -- lines that are looked at between the two steps
-pub looked-between : (u v w x a b : ℕ) → v ≡ u → w ≤ counted_on v a → x ≡ w → a ≡ b → x ≤ counted_on u b
-looked-between u v w x a b p q r s = omega arith
+pub looked-between : (u v w x : Counts) (a b : ℕ) → v.looked ≡ u.looked → ComparesUpTo v w a → x.looked ≡ w.looked → a ≡ b → ComparesUpTo u x b
+looked-between u v w x a b p q r s = record { least = omega (arith, p, q.least, r); most = omega (arith, p, q.most, r, s) }
 
 pub few-between : (u v w x : ℕ) (cs : List Chunk) → v ≡ u → x ≡ w → FewOrReady v w cs → FewOrReady u x cs
 few-between u v w x cs p q (inl few) = inl (omega (arith, p, q, few))
 few-between u v w x cs p q (inr ready) = inr ready
+
+-- lines that aren't left are looked at
+pub few-ready : (u v left : ℕ) (cs : List Chunk) → (left ≤ 64) ⊎ AreReady cs → v ≤ counted_on u left → FewOrReady u v cs
+few-ready u v left cs (inl small) looked = inl (omega (arith, small, looked))
+few-ready u v left cs (inr ready) looked = inr ready
 
 -- no more than a bound
 under : (u w n most : ℕ) → w ≤ counted_on u n → n ≤ most → w ≤ counted_on u most
 under u w n most p q = omega (arith, p, q)
 
 -- few lines, or those of chunks of which something was gathered: no more than twice those of the chunks that are touched
-pub looked-appended : (lines : List (List ℕ)) (line : List ℕ) (cs : List Chunk) (ts : List Trace) (u w : ℕ) → ts ≡ traces_of lines → AreSummed cs ts → AreChunks (lengths_of cs)
-    → w ≤ counted_on u (64 + looks_kept (same_at (finals_in lines) (finals_in (lines ++ line ∷ []))) cs ts) → FewOrReady u w cs
-    → w ≤ counted_on u (128 * touched_of lines (insertion (length lines) line) (lengths_of cs) (inserted_at (length lines) (lengths_of cs)))
+pub looked-appended : (lines : List (List ℕ)) (line : List ℕ) (cs : List Chunk) (ts : List Trace) (u w : Counts) → ts ≡ traces_of lines → AreSummed cs ts → AreChunks (lengths_of cs)
+    → ComparesUpTo u w (64 + looks_kept (same_at (finals_in lines) (finals_in (lines ++ line ∷ []))) cs ts) → FewOrReady u.looked w.looked cs
+    → ComparesUpTo u w (128 * touched_of lines (insertion (length lines) line) (lengths_of cs) (inserted_at (length lines) (lengths_of cs)))
 looked-appended lines line cs ts u w did summed chunks le (inl few) =
     let some = append-touches lines line cs ts did summed chunks in
-    under u w 64 _ few (omega (arith, some))
-looked-appended lines line cs ts u w did summed chunks le (inr ready) = under u w _ _ le (appended-touched lines line cs ts did summed ready chunks)
+    record { least = le.least; most = under u.looked w.looked 64 _ few (omega (arith, some)) }
+looked-appended lines line cs ts u w did summed chunks le (inr ready) =
+    record { least = le.least; most = under u.looked w.looked _ _ le.most (appended-touched lines line cs ts did summed ready chunks) }
 
 pub appended-outcomes : (lines : List (List ℕ)) (line : List ℕ) (traces : List Trace) (trace : Trace) (was now : Finals) (changes : List Change) (outcome : Outcome) (olds : List Outcome)
     → was ≡ finals_of (traces_of lines) → now ≡ finals_of (traces_of (lines ++ line ∷ [])) → traces ++ trace ∷ [] ≡ traces_of (lines ++ line ∷ [])

@@ -13,16 +13,17 @@ one-line (y ∷ []) x long is = ap (λ z. z ∷ []) is
 one-line (y ∷ z ∷ xs) x long is = cc
 
 module _ (ls : List (List ℕ)) (keep : ℕ) (ts before : List Trace) (were : ts ≡ traces_of ls) (first : before ≡ take keep ts) where
-  done-before : before ≡ traces_of (take keep ls)
+  pub done-before : before ≡ traces_of (take keep ls)
   done-before = first ∙ ap (take keep) were ∙ take-traces_from keep first_state ls
 
   -- the state in front of them
   pub state-before : (f : State) → f ≡ overwritten first_state (puts_of before) → f ≡ state_after first_state (take keep ls)
   state-before f is = is ∙ ap (λ us. overwritten first_state (puts_of us)) done-before ∙ puts-state first_state (take keep ls)
 
-  -- what is gathered up to the last of them
-  pub begun : (new : List (List ℕ)) (firsts : List Trace) → firsts ≡ traces_from (state_after first_state (take keep ls)) new → (front : Finals) → front ≡ finals_of (before ++ firsts)
-      → (front ≡ finals_of (traces_of (take keep ls) ++ traces_from (state_after first_state (take keep ls)) new)) × (front.state ≡ state_after (state_after first_state (take keep ls)) new)
-  begun new firsts made front gathered =
-      let both : front ≡ finals_of (traces_of (take keep ls) ++ traces_from (state_after first_state (take keep ls)) new) = gathered ∙ (λ i. finals_of (done-before i ++ made i)) in
-      (both, gathered-state front (take keep ls ++ new) (both ∙ ap finals_of (sym (traces_from-append first_state (take keep ls) new))) ∙ state_after-append first_state (take keep ls) new)
+-- what is gathered up to the last of them
+pub begun : (ls new : List (List ℕ)) (keep : ℕ) (firsts : List Trace) (front : Finals) → firsts ≡ traces_from (state_after first_state (take keep ls)) new
+    → front ≡ finals_of (traces_of (take keep ls) ++ firsts)
+    → (front ≡ finals_of (traces_of (take keep ls) ++ traces_from (state_after first_state (take keep ls)) new)) × (front.state ≡ state_after (state_after first_state (take keep ls)) new)
+begun ls new keep firsts front made gathered =
+    let both : front ≡ finals_of (traces_of (take keep ls) ++ traces_from (state_after first_state (take keep ls)) new) = gathered ∙ ap (λ (ts : List Trace). finals_of (traces_of (take keep ls) ++ ts)) made in
+    (both, gathered-state front (take keep ls ++ new) (both ∙ ap finals_of (sym (traces_from-append first_state (take keep ls) new))) ∙ state_after-append first_state (take keep ls) new)

@@ -3,12 +3,13 @@ use Rattle.std.proofs.Common.{arith, ◌≡◌, ℕ, ◌+◌, ◌*◌, ◌-◌, 
 use Rattle.std.specs.Prelude.{sum}
 use Rattle.std.proofs.lemmas.List.{take-map, drop-drop}
 use Rattle.cps_state.specs.Course.{Trace}
-use Rattle.cps_state.specs.Work.{counted_on}
+use Rattle.cps_state.specs.Work.{Counts, counted_on}
 use Rattle.cps_division.specs.Recut.{recut}
 use Rattle.cps_edit.specs.Passes.{state_after, traces_of}
 use Rattle.cps_edit.specs.Agreeing.{same_at}
 use Rattle.cps_edit.specs.Splice.{Splice, splice_at, spliced}
-use Rattle.cps_edit.specs.Renewed.{mended}
+use Rattle.cps_edit.specs.Renewed.{mended, unchanged_in}
+use Rattle.cps_edit.specs.Compares.{ComparesUpTo}
 use Rattle.cps_edit.specs.Disturbed.{finals_in}
 use Rattle.cps_chunks.specs.declared.chunk.Chunk.{Chunk}
 use Rattle.cps_chunks.specs.Chunks.{AreSummed, AreMade, lengths_of, all_unsummed, forgotten, looks_from, looks_again, looks_kept}
@@ -44,14 +45,14 @@ summed-around spot start end cs ts stands s =
           (subst (λ (us : List Trace). AreSummed (drop end cs) us) (sym back) (summed-behind end cs ts s));
     }
 
-all-of : (u w loose kept front from again bound : ℕ) → w ≤ counted_on u (loose + from + (front + kept + (loose + again))) → front + kept + (loose + from) + (loose + again) ≤ bound
+all-of : (u w loose left kept front from again bound : ℕ) → w ≤ counted_on u (loose + from + (front + kept + (left + again))) → front + kept + (loose + from) + (left + again) ≤ bound
     → w ≤ counted_on u bound
-all-of u w loose kept front from again bound p q = omega (arith, p, q)
+all-of u w loose left kept front from again bound p q = omega (arith, p, q)
 
 -- an edit compares at most 128 lines for each chunk that it touches
-pub looked-touched : (lines new : List (List ℕ)) (spot : Spot) (start end : ℕ) (ns : List ℕ) (cs : List Chunk) (ts : List Trace) (u w : ℕ)
+looked-touched : (lines new : List (List ℕ)) (spot : Spot) (start end : ℕ) (ns : List ℕ) (cs : List Chunk) (ts : List Trace) (u w : Counts)
     → Recuts lines (splice_at spot.keep spot.from new) start end ns (lengths_of cs) → StandsIn spot start end cs → ts ≡ traces_of lines → AreSummed cs ts → AreMade cs
-    → IsLookedAt lines ts spot new u w → w ≤ counted_on u (128 * touched_of lines (splice_at spot.keep spot.from new) (lengths_of cs) (recut start end ns (lengths_of cs)))
+    → IsLookedAt lines ts spot new u w → ComparesUpTo u w (128 * touched_of lines (splice_at spot.keep spot.from new) (lengths_of cs) (recut start end ns (lengths_of cs)))
 looked-touched lines new spot start end ns cs ts u w recuts stands did s made looked =
     let splice = splice_at spot.keep spot.from new in
     let was = finals_in lines in
@@ -61,12 +62,23 @@ looked-touched lines new spot start end ns cs ts u w recuts stands did s made lo
     let loose = spot.behind.loose in
     let kept = spot.in_front.loose in
     let rest = drop spot.from lines in
-    let olds = drop spot.from ts in
-    let there = subst (λ (k : ℕ). w ≤ counted_on u k)
+    let news = looked.news in
+    let there = subst (λ (k : ℕ). w.looked ≤ counted_on u.looked k)
     (λ i. loose + looks_from (state_after (behind_new lines spot new) (take loose rest)) (stands.behind i) (drop loose rest)
-    + (looks_kept (same_at was now) (stands.in_front i) (take (spot.keep - kept) ts) + kept + (loose + looks_again (same_at was now) (stands.behind i) (drop loose looked.news) (drop loose olds))))
-    looked.looked in
-    all-of u w loose kept _ _ _ _ there bound
+    + (looks_kept (same_at was now) (stands.in_front i) (take (spot.keep - kept) ts) + kept + (unchanged_in (take loose news) + looks_again (same_at was now) (stands.behind i) (drop loose news))))
+    looked.looked.most in
+    record { least = looked.looked.least; most = all-of u.looked w.looked loose (unchanged_in (take loose news)) kept _ _ _ _ there bound }
+
+-- the same of a source, by what stands where it is read
+pub looked-spliced : (lines read new : List (List ℕ)) (splice : Splice) (spot : Spot) (start end : ℕ) (ns olds : List ℕ) (cs : List Chunk) (ts : List Trace) (u w : Counts) → read ≡ lines
+    → splice ≡ splice_at spot.keep spot.from new → lengths_of cs ≡ olds → Recuts lines splice start end ns olds → StandsIn spot start end cs → ts ≡ traces_of lines → AreSummed cs ts → AreMade cs
+    → IsLookedAt read ts spot new u w → ComparesUpTo u w (128 * touched_of lines splice olds (recut start end ns olds))
+looked-spliced lines read new splice spot start end ns olds cs ts u w l same long recuts stands did s made looked =
+    let there : Recuts read (splice_at spot.keep spot.from new) start end ns (lengths_of cs) =
+    subst (λ (ms : List ℕ). Recuts read (splice_at spot.keep spot.from new) start end ns ms) (sym long)
+    (subst (λ (p : Splice). Recuts read p start end ns olds) same (subst (λ (ls : List (List ℕ)). Recuts ls splice start end ns olds) (sym l) recuts)) in
+    subst (λ (k : ℕ). ComparesUpTo u w (128 * k)) (λ i. touched_of (l i) (sym same i) (long i) (recut start end ns (long i)))
+    (looked-touched read new spot start end ns cs ts u w there stands (did ∙ ap traces_of (sym l)) s made looked)
 
 -- ---- the chunks of the new source
 

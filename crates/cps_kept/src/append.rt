@@ -7,14 +7,15 @@ ghost use Rattle.cps_final.specs.Outcome.{Outcome as Made};
 ghost use Rattle.cps_edit.specs.Passes.{traces_of, outcomes_by};
 ghost use Rattle.cps_edit.specs.Splice.{insertion};
 ghost use Rattle.cps_edit.specs.Disturbed.{finals_in, ones_of, twos_of};
+ghost use Rattle.cps_edit.specs.Compares.{ComparesUpTo};
 ghost use Rattle.cps_edit.specs.Agreeing.{same_at};
 ghost use Rattle.cps_chunks.specs.Chunks.{AreSummed, lengths_of, looks_kept};
 ghost use Rattle.cps_kept.specs.Along.{FewOrReady};
 ghost use Rattle.cps_kept.specs.Append.{changed, AreWithin, Follows, IsAhead};
 
 use crate::arrival::{Arrival, Change, Changed};
+use crate::kept::Kept;
 use crate::open::Open;
-use crate::plan::Kept;
 use cps_chunks::Chunk;
 use cps_edit::Front;
 use cps_final::{Finals, Gathered, Outcome, step_two};
@@ -90,8 +91,8 @@ impl Follower {
         ensures ones_least { work.old.ones ≤ work.new.ones }
         ensures twos_err { OnErr result (work.new.twos ≤ counted_on work.old.twos (twos_of kept.entry.lines.now (insertion (length kept.entry.lines.now) line.now))) }
         ensures twos_least { work.old.twos ≤ work.new.twos }
-        ensures looked { OnOk result (work.new.looked ≤ counted_on work.old.looked (64 + looks_kept (same_at (finals_in kept.entry.lines.now) (finals_in (kept.entry.lines.now ++ line.now ∷ []))) chunks.new.items kept.entry.traces.now)) }
-        ensures few { OnOk result (FewOrReady work.old.looked work.new.looked chunks.new.items) }
+        ensures looked { ComparesUpTo work.old work.new (64 + looks_kept (same_at (finals_in kept.entry.lines.now) (finals_in (kept.entry.lines.now ++ line.now ∷ []))) chunks.new.items kept.entry.traces.now) }
+        ensures few { FewOrReady work.old.looked work.new.looked chunks.new.items }
         ensures lengths { lengths_of chunks.new.items ≡ lengths_of chunks.old.items }
         ensures room { vec_capacity chunks.new ≡ vec_capacity chunks.old }
         ensures summed { AreSummed chunks.new.items kept.entry.traces.now }

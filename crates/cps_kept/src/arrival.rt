@@ -10,6 +10,7 @@ ghost use Rattle.cps_final.specs.Resolving.{resolved};
 ghost use Rattle.cps_kept.specs.declared.open.Open.{Open as Entry};
 ghost use Rattle.cps_edit.specs.Passes.{outcomes_by};
 ghost use Rattle.cps_edit.specs.Disturbed.{is_redone};
+ghost use Rattle.cps_edit.specs.Compares.{ComparesUpTo};
 ghost use Rattle.cps_edit.specs.Renewed.{picked, redone_kept};
 ghost use Rattle.cps_edit.specs.Agreeing.{same_at};
 ghost use Rattle.cps_chunks.specs.Chunks.{AreSummed, AreReady, lengths_of, looks_kept};
@@ -17,8 +18,8 @@ ghost use Rattle.cps_kept.specs.Along.{IsAlong, looks_left, FewOrReady};
 ghost use Rattle.cps_kept.specs.Append.{are_fresh as all_fresh, is_fresh_at, puts_at, is_left, all_left, not_left, is_quiet as quiet, is_settled as settled, stays_before, stays_after, finals_before, finals_after, IsArrival, Stands, Covers, listed, changed, change_at, AreWithin};
 
 use crate::along::{Along, FREE};
+use crate::kept::Kept;
 use crate::open::{Open, all_lines, entry_of, open_lines, push_entries, push_entry};
-use crate::plan::Kept;
 use crate::quiet::is_quiet;
 use cps_chunks::{Chunk, sum_up_front};
 use cps_edit::Ends;
@@ -164,9 +165,9 @@ impl<'a> Arrival<'a> {
         ensures outcome { IfOk result (λ made. picked made (outcome_of (resolved self.entry.ends.before.now) trace.now) ≡ outcome_of (resolved self.entry.ends.after.now) trace.now) }
         ensures along { OnOk result (IsAlong (resolved self.entry.ends.before.now) (resolved self.entry.ends.after.now) along.new (at + 1)) }
         ensures traces { OnOk result (along.new.traces.now ≡ along.old.traces.now) }
-        ensures looked { OnOk result (counted_on work.new.looked (looks_left (same_at (resolved self.entry.ends.before.now) (resolved self.entry.ends.after.now)) along.new (at + 1))
-            ≤ counted_on work.old.looked (looks_left (same_at (resolved self.entry.ends.before.now) (resolved self.entry.ends.after.now)) along.old at)) }
-        ensures looked_one { OnOk result (work.new.looked ≤ counted_on work.old.looked 1) }
+        ensures looked { counted_on work.new.looked (looks_left (same_at (resolved self.entry.ends.before.now) (resolved self.entry.ends.after.now)) along.new (at + 1))
+            ≤ counted_on work.old.looked (looks_left (same_at (resolved self.entry.ends.before.now) (resolved self.entry.ends.after.now)) along.old at) }
+        ensures looked_one { ComparesUpTo work.old work.new 1 }
         ensures twos { OnOk result (work.new.twos ≡ counted_on work.old.twos (if is_redone (resolved self.entry.ends.before.now) (resolved self.entry.ends.after.now) false trace.now then 1 else 0)) }
         ensures twos_err { OnErr result (work.new.twos ≤ counted_on work.old.twos (if is_redone (resolved self.entry.ends.before.now) (resolved self.entry.ends.after.now) false trace.now then 1 else 0)) }
         ensures twos_least { work.old.twos ≤ work.new.twos }
@@ -195,9 +196,9 @@ impl<'a> Arrival<'a> {
         ensures stands { IfOk result (λ looked. Stands (stays_after self.entry) «open».at looked.entry trace.now) }
         ensures along { OnOk result (IsAlong (resolved self.entry.ends.before.now) (resolved self.entry.ends.after.now) along.new («open».at + 1)) }
         ensures traces { OnOk result (along.new.traces.now ≡ along.old.traces.now) }
-        ensures looked { OnOk result (counted_on work.new.looked (looks_left (same_at (resolved self.entry.ends.before.now) (resolved self.entry.ends.after.now)) along.new («open».at + 1))
-            ≤ counted_on work.old.looked (looks_left (same_at (resolved self.entry.ends.before.now) (resolved self.entry.ends.after.now)) along.old «open».at)) }
-        ensures looked_one { OnOk result (work.new.looked ≤ counted_on work.old.looked (if is_left «open».awaits self.entry.puts.now then 0 else 1)) }
+        ensures looked { counted_on work.new.looked (looks_left (same_at (resolved self.entry.ends.before.now) (resolved self.entry.ends.after.now)) along.new («open».at + 1))
+            ≤ counted_on work.old.looked (looks_left (same_at (resolved self.entry.ends.before.now) (resolved self.entry.ends.after.now)) along.old «open».at) }
+        ensures looked_one { ComparesUpTo work.old work.new (if is_left «open».awaits self.entry.puts.now then 0 else 1) }
         ensures twos { OnOk result (work.new.twos ≡ counted_on work.old.twos (if is_redone (resolved self.entry.ends.before.now) (resolved self.entry.ends.after.now) false trace.now then 1 else 0)) }
         ensures twos_err { OnErr result (work.new.twos ≤ counted_on work.old.twos (if is_redone (resolved self.entry.ends.before.now) (resolved self.entry.ends.after.now) false trace.now then 1 else 0)) }
         ensures twos_least { work.old.twos ≤ work.new.twos }
@@ -252,8 +253,8 @@ impl<'a> Arrival<'a> {
         ensures twos_err { OnErr result (work.new.twos ≤ counted_on work.old.twos (redone_kept (resolved self.entry.ends.before.now) (resolved self.entry.ends.after.now) self.entry.traces.now)) }
         ensures twos_least { work.old.twos ≤ work.new.twos }
         ensures ones { work.new.ones ≡ work.old.ones }
-        ensures looked { OnOk result (work.new.looked ≤ counted_on work.old.looked (64 + looks_kept (same_at (resolved self.entry.ends.before.now) (resolved self.entry.ends.after.now)) chunks.now self.entry.traces.now)) }
-        ensures looked_few { OnOk result (work.new.looked ≤ counted_on work.old.looked (not_left self.entry.puts.now entries.now)) }
+        ensures looked { ComparesUpTo work.old work.new (64 + looks_kept (same_at (resolved self.entry.ends.before.now) (resolved self.entry.ends.after.now)) chunks.now self.entry.traces.now) }
+        ensures looked_few { work.new.looked ≤ counted_on work.old.looked (not_left self.entry.puts.now entries.now) }
     {
         let mut walked = Walked::new(self.alloc, entries.len())?;
         let mut along = Along::new(self.traces, chunks);
@@ -357,8 +358,8 @@ impl<'a> Arrival<'a> {
         ensures twos_err { OnErr result (work.new.twos ≤ counted_on work.old.twos (redone_kept (resolved self.entry.ends.before.now) (resolved self.entry.ends.after.now) self.entry.traces.now)) }
         ensures twos_least { work.old.twos ≤ work.new.twos }
         ensures ones { work.new.ones ≡ work.old.ones }
-        ensures looked { OnOk result (work.new.looked ≤ counted_on work.old.looked (64 + looks_kept (same_at (resolved self.entry.ends.before.now) (resolved self.entry.ends.after.now)) chunks.new.items self.entry.traces.now)) }
-        ensures few { OnOk result (FewOrReady work.old.looked work.new.looked chunks.new.items) }
+        ensures looked { ComparesUpTo work.old work.new (64 + looks_kept (same_at (resolved self.entry.ends.before.now) (resolved self.entry.ends.after.now)) chunks.new.items self.entry.traces.now) }
+        ensures few { FewOrReady work.old.looked work.new.looked chunks.new.items }
         ensures lengths { lengths_of chunks.new.items ≡ lengths_of chunks.old.items }
         ensures room { vec_capacity chunks.new ≡ vec_capacity chunks.old }
         ensures summed { AreSummed chunks.new.items self.entry.traces.now }

@@ -94,10 +94,7 @@ pub fn push_entry(entries: &mut Vec<Open>, entry: Option<Open>) -> Result<(), Al
 pub fn push_entries(entries: &mut Vec<Open>, more: &[Open]) -> Result<(), AllocError>
     ensures { OnOk result (entries.new.items ≡ entries.old.items ++ more.now) }
 {
-    for entry in more {
-        entries.push(*entry)?;
-    }
-    Ok(())
+    entries.extend_from_slice(more)
 }
 
 /// The entries of lines of which each is to be looked at.

@@ -1,8 +1,9 @@
 -- A source as a list of lines, and what an edit makes of it. Our own.
-use Rattle.std.specs.Prelude.{◌≡◌, ℕ, ◌*◌, ◌-◌, ◌<◌, ◌≤◌, ◌⊎◌, List, ◌++◌, length, take, drop, Result, Ok, Err, OnOk}
+use Rattle.std.specs.Prelude.{◌≡◌, ℕ, ◌*◌, ◌-◌, ◌<◌, ◌≤◌, ◌⊎◌, List, ◌++◌, length, take, drop, Result, Ok, Err}
 use Rattle.cps_state.specs.Work.{Counts, counted_on}
 use Rattle.cps_edit.specs.Splice.{Splice}
 use Rattle.cps_edit.specs.Disturbed.{ones_of, twos_of}
+use Rattle.cps_edit.specs.Compares.{ComparesUpTo}
 use Rattle.cps_chunks.specs.Touched.{touched_of}
 use Rattle.cps_session.specs.declared.session.EditFault.{EditFault}
 use Rattle.cps_session.specs.declared.session.EditFault.TheVariants as faults
@@ -53,6 +54,7 @@ WorkOfEdit (Err faults.NoSuchLine) lines splice old new = new ≡ old
 WorkOfEdit (Err faults.TooManyLines) lines splice old new = new ≡ old
 WorkOfEdit (Err faults.Memory) lines splice old new = HaveSteppedUpTo (ones_of lines splice) (twos_of lines splice) old new
 
--- An edit that is accepted compares at most 64 lines in each pass for each chunk that it touches.
-abbrev pub LooksOfEdit : {T : Type 0} → Result T EditFault → Source → Source → Splice → Counts → Counts → Type 0
-LooksOfEdit result old new splice was now = OnOk result (now.looked ≤ counted_on was.looked (128 * touched_of old.lines splice old.lengths new.lengths))
+-- An edit compares at most 64 lines in each pass for each chunk that it touches, and the count is no less than it was. So it is too where the edit is refused:
+-- there the new lengths are those that it would make.
+abbrev pub LooksOfEdit : Source → Splice → List ℕ → Counts → Counts → Type 0
+LooksOfEdit old splice lengths was now = ComparesUpTo was now (128 * touched_of old.lines splice old.lengths lengths)

@@ -169,7 +169,7 @@ impl Session {
         ensures too_many { IsErrOf result EditFault.TooManyLines ↔ ((after ≤ length self.old.lines) × (length self.old.lines ≡ MOST_LINES)) }
         ensures memory { IsErrOf result EditFault.Memory → (after ≤ length self.old.lines) × (length self.old.lines < MOST_LINES) }
         ensures work { WorkOfEdit result self.old.lines (insertion after line) work.old work.new }
-        ensures looked { LooksOfEdit result self.old self.new (insertion after line) work.old work.new }
+        ensures looked { LooksOfEdit self.old (insertion after line) (inserted_at after self.old.lengths) work.old work.new }
     {
         let after = after as usize;
         if after > self.lists.lines.len() {
@@ -206,7 +206,7 @@ impl Session {
         ensures too_many { IsErrOf result EditFault.TooManyLines → ⊥ }
         ensures memory { IsErrOf result EditFault.Memory → HasLine self.old.lines at }
         ensures work { WorkOfEdit result self.old.lines (replacement at line) work.old work.new }
-        ensures looked { LooksOfEdit result self.old self.new (replacement at line) work.old work.new }
+        ensures looked { LooksOfEdit self.old (replacement at line) self.old.lengths work.old work.new }
     {
         let at = at as usize;
         if at == 0 || at > self.lists.lines.len() {
@@ -236,7 +236,7 @@ impl Session {
         ensures too_many { IsErrOf result EditFault.TooManyLines → ⊥ }
         ensures memory { IsErrOf result EditFault.Memory → HasLines self.old.lines first last }
         ensures work { WorkOfEdit result self.old.lines (deletion first last) work.old work.new }
-        ensures looked { LooksOfEdit result self.old self.new (deletion first last) work.old work.new }
+        ensures looked { LooksOfEdit self.old (deletion first last) (deleted_at (first - 1) (last - (first - 1)) self.old.lengths) work.old work.new }
     {
         if first == 0 || last < first || last as usize > self.lists.lines.len() {
             return Err(EditFault::NoSuchLine);
@@ -253,7 +253,7 @@ impl Session {
         ensures err { OnErr result (self.new ≡ self.old) }
         ensures only { OnErr result (IsErrOf result EditFault.Memory) }
         ensures work { WorkOfEdit result self.old.lines (splice_at keep from []) work.old work.new }
-        ensures looked { LooksOfEdit result self.old self.new (splice_at keep from []) work.old work.new }
+        ensures looked { LooksOfEdit self.old (splice_at keep from []) (deleted_at keep (from - keep) self.old.lengths) work.old work.new }
     {
         let Ok(lengths) = self.chunk_lengths() else {
             return Err(EditFault::Memory);
@@ -276,7 +276,7 @@ impl Session {
         ensures err { OnErr result (self.new ≡ self.old) }
         ensures only { OnErr result (IsErrOf result EditFault.Memory) }
         ensures work { WorkOfEdit result self.old.lines (insertion (length self.old.lines) line) work.old work.new }
-        ensures looked { LooksOfEdit result self.old self.new (insertion (length self.old.lines) line) work.old work.new }
+        ensures looked { LooksOfEdit self.old (insertion (length self.old.lines) line) (inserted_at (length self.old.lines) self.old.lengths) work.old work.new }
     {
         let made = self
             .lists
@@ -297,7 +297,7 @@ impl Session {
         ensures err { OnErr result (self.new ≡ self.old) }
         ensures only { OnErr result (IsErrOf result EditFault.Memory) }
         ensures work { WorkOfEdit result self.old.lines (splice_of new) work.old work.new }
-        ensures looked { LooksOfEdit result self.old self.new (splice_of new) work.old work.new }
+        ensures looked { LooksOfEdit self.old (splice_of new) (recut_by recut.start recut.end recut.lengths.items self.old.lengths) work.old work.new }
     {
         let made = self.lists.splice(self.front.finals(), new, &recut, work);
         let Ok(front) = made else {

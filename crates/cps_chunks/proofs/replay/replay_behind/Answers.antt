@@ -1,11 +1,10 @@
-use Rattle.std.proofs.Common.{rules, arith, ◌≡◌, ◌+◌, ◌≤◌, ◌++◌, length, take, drop, refl, ap, ◌∙◌}
+use Rattle.std.proofs.Common.{rules, arith, ◌≡◌, ◌+◌, ◌++◌, length, take, drop, refl, sym, ap, ◌∙◌}
 use Rattle.std.proofs.lemmas.List.{length-take}
-use Rattle.cps_state.specs.Work.{counted_on}
 use Rattle.cps_edit.specs.Passes.{state_after}
 use Rattle.cps_edit.specs.contracts.front.FrontGathered.TheImpl.{gathered-value}
 use Rattle.cps_edit.proofs.ReplayLemmas.{on-err, le-same}
 use Rattle.cps_chunks.specs.Chunks.{Replays, looks_from}
-use Rattle.cps_chunks.proofs.ChunkLemmas.{done-long, done-meant, done-front, done-behind, done-parts, replays-next, within-part, both-under, both-looked, first-under}
+use Rattle.cps_chunks.proofs.ChunkLemmas.{done-long, done-meant, done-front, done-behind, done-parts, replays-next, within-part, both, both-under, first-under}
 use Rattle.cps_chunks.proofs.replay.replay_behind.Goals as goal
 
 pub split_at-requires : goal.split_at-requires
@@ -89,9 +88,62 @@ returns-clause-looked c =
     let e = done-parts n ls os c.requires.done in
     let b = gathered-value.it c.replay.new.self in
     let chunks = c.args.behind.chunks.now in
-    let first : c.replay.new.work.looked ≤ counted_on w.looked n =
-    omega (arith, c.in_ok-news.ensures.looked, ap length c.split_at.ensures.front, length-take n ls, done-long ls os c.requires.done, c.requires.within) in
+    let first : length c.split_at.result.0.now ≡ n = omega (arith, ap length c.split_at.ensures.front, length-take n ls, done-long ls os c.requires.done, c.requires.within) in
     let state = c.in_ok-news.ensures.state ∙ ap (state_after a.state) c.split_at.ensures.front in
     let same : looks_from b.state chunks c.split_at.result.1.now ≡ looks_from (state_after a.state (take n ls)) chunks (drop n ls) =
     (λ i. looks_from (state i) chunks (c.split_at.ensures.back i)) in
-    both-looked w.looked c.replay.new.work.looked c.replay_chunks.new.work.looked n _ _ first c.in_ok-rest.ensures.looked (le-same _ _ (ap (λ k. n + k) same))
+    let all = both w.looked c.replay.new.work.looked c.replay_chunks.new.work.looked _ _ _ c.in_ok-news.ensures.looked.exact c.in_ok-rest.ensures.looked.exact (sym (λ i. first i + same i)) in
+    record { exact = all; least = omega (arith, c.in_ok-news.ensures.looked.least, c.in_ok-rest.ensures.looked.least); most = le-same _ _ all }
+
+pub returns-in_err-news-clause-looked : goal.returns-in_err-news-clause-looked
+returns-in_err-news-clause-looked c =
+    let n = c.args.behind.loose in
+    let ls = c.args.lines.now in
+    let os = c.args.olds.now in
+    let w = c.args.work.now in
+    let a = gathered-value.it c.args.front.now in
+    let first : length c.split_at.result.0.now ≡ n = omega (arith, ap length c.split_at.ensures.front, length-take n ls, done-long ls os c.requires.done, c.requires.within) in
+    let rest = looks_from (state_after a.state (take n ls)) c.args.behind.chunks.now (drop n ls) in
+    record {
+      exact = search rules;
+      least = c.in_err-news.ensures.looked.least;
+      most = first-under w.looked c.replay.new.work.looked _ rest _ c.in_err-news.ensures.looked.most (ap (λ k. k + rest) (sym first));
+    }
+
+pub returns-in_err-rest-clause-looked : goal.returns-in_err-rest-clause-looked
+returns-in_err-rest-clause-looked c =
+    let n = c.args.behind.loose in
+    let ls = c.args.lines.now in
+    let os = c.args.olds.now in
+    let a = gathered-value.it c.args.front.now in
+    let w = c.args.work.now in
+    let b = gathered-value.it c.replay.new.self in
+    let chunks = c.args.behind.chunks.now in
+    let first : length c.split_at.result.0.now ≡ n = omega (arith, ap length c.split_at.ensures.front, length-take n ls, done-long ls os c.requires.done, c.requires.within) in
+    let state = c.in_ok-news.ensures.state ∙ ap (state_after a.state) c.split_at.ensures.front in
+    let same : looks_from b.state chunks c.split_at.result.1.now ≡ looks_from (state_after a.state (take n ls)) chunks (drop n ls) =
+    (λ i. looks_from (state i) chunks (c.split_at.ensures.back i)) in
+    record {
+      exact = search rules;
+      least = omega (arith, c.in_ok-news.ensures.looked.least, c.in_err-rest.ensures.looked.least);
+      most = both-under w.looked c.replay.new.work.looked c.replay_chunks.new.work.looked _ _ _ c.in_ok-news.ensures.looked.exact c.in_err-rest.ensures.looked.most (sym (λ i. first i + same i));
+    }
+
+pub returns-in_err-append-clause-looked : goal.returns-in_err-append-clause-looked
+returns-in_err-append-clause-looked c =
+    let n = c.args.behind.loose in
+    let ls = c.args.lines.now in
+    let os = c.args.olds.now in
+    let a = gathered-value.it c.args.front.now in
+    let w = c.args.work.now in
+    let b = gathered-value.it c.replay.new.self in
+    let chunks = c.args.behind.chunks.now in
+    let first : length c.split_at.result.0.now ≡ n = omega (arith, ap length c.split_at.ensures.front, length-take n ls, done-long ls os c.requires.done, c.requires.within) in
+    let state = c.in_ok-news.ensures.state ∙ ap (state_after a.state) c.split_at.ensures.front in
+    let same : looks_from b.state chunks c.split_at.result.1.now ≡ looks_from (state_after a.state (take n ls)) chunks (drop n ls) =
+    (λ i. looks_from (state i) chunks (c.split_at.ensures.back i)) in
+    record {
+      exact = search rules;
+      least = omega (arith, c.in_ok-news.ensures.looked.least, c.in_ok-rest.ensures.looked.least);
+      most = both-under w.looked c.replay.new.work.looked c.replay_chunks.new.work.looked _ _ _ c.in_ok-news.ensures.looked.exact c.in_ok-rest.ensures.looked.most (sym (λ i. first i + same i));
+    }

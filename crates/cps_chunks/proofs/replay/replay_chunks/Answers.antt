@@ -14,7 +14,8 @@ loop-chunk-init c =
       done = c.requires.done;
       summed = c.requires.summed;
       replays = λ end w rest r. rw none r;
-      looked = omega arith;
+      looked = refl;
+      looked_least = omega arith;
       ones = refl;
       least = omega arith;
       twos = refl;
@@ -43,7 +44,8 @@ loop-chunk-preserved c =
           rw (pushed, append_assoc c.loop-chunk.news.items c.in_ok-made.made.items rest)
           (c.loop-chunk.invariant.replays end w (c.in_ok-made.made.items ++ rest) (replays-next n a b end c.loop-chunk.work c.replay_chunk.new.work w ls c.split_at.result.0.now c.split_at.result.1.now os c.split_at-in-loop-chunk.result.0.now c.split_at-in-loop-chunk.result.1.now c.in_ok-made.made.items rest
           c.split_at.ensures.front c.split_at.ensures.back c.split_at-in-loop-chunk.ensures.front c.split_at-in-loop-chunk.ensures.back long found r));
-      looked = looks-next chunks i chunk a.state b.state ls c.split_at.result.0.now c.split_at.result.1.now c.loop-chunk.work.looked c.replay_chunk.new.work.looked _ lt c.chunk-item.is c.split_at.ensures.front c.split_at.ensures.back found.state c.in_ok-made.ensures.looked c.loop-chunk.invariant.looked;
+      looked = counted-left c.loop-chunk.work.looked c.replay_chunk.new.work.looked _ _ _ _ c.in_ok-made.ensures.looked.exact (looks-next chunks i chunk a.state b.state ls c.split_at.result.0.now c.split_at.result.1.now lt c.chunk-item.is c.split_at.ensures.front c.split_at.ensures.back found.state) c.loop-chunk.invariant.looked;
+      looked_least = omega (arith, c.loop-chunk.invariant.looked_least, c.in_ok-made.ensures.looked.least);
       ones = counted-left c.loop-chunk.work.ones c.replay_chunk.new.work.ones _ _ _ _ found.ones (within-part n a.state b.state ls c.split_at.result.0.now c.split_at.result.1.now os c.split_at-in-loop-chunk.result.0.now c.split_at-in-loop-chunk.result.1.now c.split_at.ensures.front c.split_at.ensures.back c.split_at-in-loop-chunk.ensures.front c.split_at-in-loop-chunk.ensures.back long found.state) c.loop-chunk.invariant.ones;
       least = omega (arith, c.loop-chunk.invariant.least, c.in_ok-made.ensures.ones_least);
       twos = c.in_ok-made.ensures.twos ∙ c.loop-chunk.invariant.twos;
@@ -80,7 +82,36 @@ returns-clause-replays c =
 pub returns-clause-looked : goal.returns-clause-looked
 returns-clause-looked c =
     let past : length c.args.chunks.now ≤ c.loop-chunk.chunk-index = grind (arith, nat_tests) in
-    looks-end c.args.chunks.now c.loop-chunk.chunk-index (gathered-value.it c.loop-chunk.front).state c.loop-chunk.lines_left.now c.loop-chunk.work.looked _ past c.loop-chunk.invariant.looked
+    let all = looks-end c.args.chunks.now c.loop-chunk.chunk-index (gathered-value.it c.loop-chunk.front).state c.loop-chunk.lines_left.now c.loop-chunk.work.looked _ past c.loop-chunk.invariant.looked in
+    record { exact = all; least = c.loop-chunk.invariant.looked_least; most = le-same _ _ all }
+
+pub returns-in_err-made-clause-looked : goal.returns-in_err-made-clause-looked
+returns-in_err-made-clause-looked c =
+    let chunks = c.args.chunks.now in
+    let i = c.loop-chunk.chunk-index in
+    let ls = c.loop-chunk.lines_left.now in
+    let a = gathered-value.it c.loop-chunk.front in
+    let lt : i < length chunks = search rules in
+    let part = looks-next chunks i c.chunk-item.result a.state (state_after a.state c.split_at.result.0.now) ls c.split_at.result.0.now c.split_at.result.1.now lt c.chunk-item.is c.split_at.ensures.front c.split_at.ensures.back refl in
+    record {
+      exact = search rules;
+      least = omega (arith, c.loop-chunk.invariant.looked_least, c.in_err-made.ensures.looked.least);
+      most = counted-before c.loop-chunk.work.looked c.replay_chunk.new.work.looked _ _ _ _ c.in_err-made.ensures.looked.most part c.loop-chunk.invariant.looked;
+    }
+
+pub returns-in_err-append-clause-looked : goal.returns-in_err-append-clause-looked
+returns-in_err-append-clause-looked c =
+    let chunks = c.args.chunks.now in
+    let i = c.loop-chunk.chunk-index in
+    let ls = c.loop-chunk.lines_left.now in
+    let a = gathered-value.it c.loop-chunk.front in
+    let lt : i < length chunks = search rules in
+    let part = looks-next chunks i c.chunk-item.result a.state (state_after a.state c.split_at.result.0.now) ls c.split_at.result.0.now c.split_at.result.1.now lt c.chunk-item.is c.split_at.ensures.front c.split_at.ensures.back refl in
+    record {
+      exact = search rules;
+      least = omega (arith, c.loop-chunk.invariant.looked_least, c.in_ok-made.ensures.looked.least);
+      most = counted-before c.loop-chunk.work.looked c.replay_chunk.new.work.looked _ _ _ _ c.in_ok-made.ensures.looked.most part c.loop-chunk.invariant.looked;
+    }
 
 pub split_at-requires : goal.split_at-requires
 split_at-requires c =

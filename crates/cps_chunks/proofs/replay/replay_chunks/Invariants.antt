@@ -15,7 +15,8 @@ invariant-loop-chunk l = record {
       (end : Finals) (w : Counts) (rest : List (Option Trace)) → Replays (gathered-value.it l.front) end l.work w l.lines_left l.olds_left rest
       → Replays (gathered-value.it l.fn.front) end l.fn.work w l.lines l.olds (l.news.items ++ rest);
   looked : counted_on l.work.looked (looks_from (gathered-value.it l.front).state (drop l.chunk-index l.chunks) l.lines_left)
-      ≤ counted_on l.fn.work.looked (looks_from (gathered-value.it l.fn.front).state l.chunks l.lines);
+      ≡ counted_on l.fn.work.looked (looks_from (gathered-value.it l.fn.front).state l.chunks l.lines);
+  looked_least : l.fn.work.looked ≤ l.work.looked;
   ones : counted_on l.work.ones (disturbed_from (gathered-value.it l.front).state (kept l.lines_left l.olds_left))
       ≡ counted_on l.fn.work.ones (disturbed_from (gathered-value.it l.fn.front).state (kept l.lines l.olds));
   least : l.fn.work.ones ≤ l.work.ones;

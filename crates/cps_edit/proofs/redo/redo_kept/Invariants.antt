@@ -16,6 +16,6 @@ invariant-loop-i l = record {
   twos : counted_on l.work.twos (redone_from (resolved l.ends.before.now) (resolved l.ends.after.now) (map is_some (drop l.i (nones {X = Trace} (length l.olds)))) (drop l.i l.olds))
       ≡ counted_on l.fn.work.twos (redone_from (resolved l.ends.before.now) (resolved l.ends.after.now) (map is_some (nones {X = Trace} (length l.olds))) l.olds);
   ones : l.work.ones ≡ l.fn.work.ones;
-  looked : l.work.looked ≤ counted_on l.fn.work.looked l.i;
+  looked : l.work.looked ≡ counted_on l.fn.work.looked l.i;
   least : l.fn.work.twos ≤ l.work.twos;
 }

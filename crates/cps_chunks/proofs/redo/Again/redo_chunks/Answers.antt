@@ -16,7 +16,8 @@ loop-chunk-init c =
       same_len = c.requires.same_len;
       summed = c.requires.summed;
       redoes = λ w rest r. rw none r;
-      looked = omega arith;
+      looked = refl;
+      looked_least = omega arith;
       twos = refl;
       least = omega arith;
       ones = refl;
@@ -43,7 +44,8 @@ loop-chunk-preserved c =
       redoes = λ w rest r.
           rw (pushed, append_assoc c.loop-chunk.all.items c.in_ok-made.made.items rest)
           (c.loop-chunk.invariant.redoes w (c.in_ok-made.made.items ++ rest) (redoes-next was now n c.loop-chunk.work c.redo_chunk.new.work w ns c.split_at.result.0.now c.split_at.result.1.now os c.split_at-in-loop-chunk.result.0.now c.split_at-in-loop-chunk.result.1.now c.in_ok-made.made.items rest c.split_at.ensures.front c.split_at.ensures.back c.split_at-in-loop-chunk.ensures.front c.split_at-in-loop-chunk.ensures.back long found r));
-      looked = again-next (same_at was now) chunks i chunk lt c.chunk-item.is ns c.split_at.result.0.now c.split_at.result.1.now os c.split_at-in-loop-chunk.result.0.now c.split_at-in-loop-chunk.result.1.now c.loop-chunk.work.looked c.redo_chunk.new.work.looked _ c.split_at.ensures.front c.split_at.ensures.back c.split_at-in-loop-chunk.ensures.front c.split_at-in-loop-chunk.ensures.back c.in_ok-made.ensures.looked c.loop-chunk.invariant.looked;
+      looked = counted-left c.loop-chunk.work.looked c.redo_chunk.new.work.looked _ _ _ _ c.in_ok-made.ensures.looked.exact (again-next (same_at was now) chunks i chunk lt c.chunk-item.is ns c.split_at.result.0.now c.split_at.result.1.now c.split_at.ensures.front c.split_at.ensures.back) c.loop-chunk.invariant.looked;
+      looked_least = omega (arith, c.loop-chunk.invariant.looked_least, c.in_ok-made.ensures.looked.least);
       twos = counted-left c.loop-chunk.work.twos c.redo_chunk.new.work.twos _ _ _ _ found.twos (redone-part was now n ns c.split_at.result.0.now c.split_at.result.1.now os c.split_at-in-loop-chunk.result.0.now c.split_at-in-loop-chunk.result.1.now c.split_at.ensures.front c.split_at.ensures.back c.split_at-in-loop-chunk.ensures.front c.split_at-in-loop-chunk.ensures.back long) c.loop-chunk.invariant.twos;
       least = omega (arith, c.loop-chunk.invariant.least, c.in_ok-made.ensures.twos_least);
       ones = c.in_ok-made.ensures.ones ∙ c.loop-chunk.invariant.ones;
@@ -81,7 +83,34 @@ returns-clause-redoes c =
 pub returns-clause-looked : goal.returns-clause-looked
 returns-clause-looked c =
     let past : length c.args.chunks.now ≤ c.loop-chunk.chunk-index = grind (arith, nat_tests) in
-    again-end (same_at (resolved c.args.self.ends.before.now) (resolved c.args.self.ends.after.now)) c.args.chunks.now c.loop-chunk.chunk-index c.loop-chunk.news_left.now c.loop-chunk.olds_left.now c.loop-chunk.work.looked _ past c.loop-chunk.invariant.looked
+    let all = again-end (same_at (resolved c.args.self.ends.before.now) (resolved c.args.self.ends.after.now)) c.args.chunks.now c.loop-chunk.chunk-index c.loop-chunk.news_left.now c.loop-chunk.work.looked _ past c.loop-chunk.invariant.looked in
+    record { exact = all; least = c.loop-chunk.invariant.looked_least; most = le-same _ _ all }
+
+pub returns-in_err-made-clause-looked : goal.returns-in_err-made-clause-looked
+returns-in_err-made-clause-looked c =
+    let passes = same_at (resolved c.args.self.ends.before.now) (resolved c.args.self.ends.after.now) in
+    let chunks = c.args.chunks.now in
+    let i = c.loop-chunk.chunk-index in
+    let lt : i < length chunks = search rules in
+    let part = again-next passes chunks i c.chunk-item.result lt c.chunk-item.is c.loop-chunk.news_left.now c.split_at.result.0.now c.split_at.result.1.now c.split_at.ensures.front c.split_at.ensures.back in
+    record {
+      exact = search rules;
+      least = omega (arith, c.loop-chunk.invariant.looked_least, c.in_err-made.ensures.looked.least);
+      most = counted-before c.loop-chunk.work.looked c.redo_chunk.new.work.looked _ _ _ _ c.in_err-made.ensures.looked.most part c.loop-chunk.invariant.looked;
+    }
+
+pub returns-in_err-append-clause-looked : goal.returns-in_err-append-clause-looked
+returns-in_err-append-clause-looked c =
+    let passes = same_at (resolved c.args.self.ends.before.now) (resolved c.args.self.ends.after.now) in
+    let chunks = c.args.chunks.now in
+    let i = c.loop-chunk.chunk-index in
+    let lt : i < length chunks = search rules in
+    let part = again-next passes chunks i c.chunk-item.result lt c.chunk-item.is c.loop-chunk.news_left.now c.split_at.result.0.now c.split_at.result.1.now c.split_at.ensures.front c.split_at.ensures.back in
+    record {
+      exact = search rules;
+      least = omega (arith, c.loop-chunk.invariant.looked_least, c.in_ok-made.ensures.looked.least);
+      most = counted-before c.loop-chunk.work.looked c.redo_chunk.new.work.looked _ _ _ _ c.in_ok-made.ensures.looked.most part c.loop-chunk.invariant.looked;
+    }
 
 pub split_at-requires : goal.split_at-requires
 split_at-requires c =

@@ -15,8 +15,9 @@ invariant-loop-chunk l = record {
   redoes :
       (w : Counts) (rest : List (Option Outcome)) → Redoes (resolved l.self.ends.before.now) (resolved l.self.ends.after.now) l.work w l.news_left l.olds_left rest
       → Redoes (resolved l.self.ends.before.now) (resolved l.self.ends.after.now) l.fn.work w l.news l.olds (l.all.items ++ rest);
-  looked : counted_on l.work.looked (looks_again (same_at (resolved l.self.ends.before.now) (resolved l.self.ends.after.now)) (drop l.chunk-index l.chunks) l.news_left l.olds_left)
-      ≤ counted_on l.fn.work.looked (looks_again (same_at (resolved l.self.ends.before.now) (resolved l.self.ends.after.now)) l.chunks l.news l.olds);
+  looked : counted_on l.work.looked (looks_again (same_at (resolved l.self.ends.before.now) (resolved l.self.ends.after.now)) (drop l.chunk-index l.chunks) l.news_left)
+      ≡ counted_on l.fn.work.looked (looks_again (same_at (resolved l.self.ends.before.now) (resolved l.self.ends.after.now)) l.chunks l.news);
+  looked_least : l.fn.work.looked ≤ l.work.looked;
   twos : counted_on l.work.twos (redone_from (resolved l.self.ends.before.now) (resolved l.self.ends.after.now) (map is_some l.news_left) l.olds_left)
       ≡ counted_on l.fn.work.twos (redone_from (resolved l.self.ends.before.now) (resolved l.self.ends.after.now) (map is_some l.news) l.olds);
   least : l.fn.work.twos ≤ l.work.twos;

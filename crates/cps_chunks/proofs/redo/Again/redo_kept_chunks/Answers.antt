@@ -18,7 +18,8 @@ loop-chunk-init c =
     record {
       summed = c.requires;
       redoes = λ w rest r. rw none r;
-      looked = omega arith;
+      looked = refl;
+      looked_least = omega arith;
       twos = refl;
       least = omega arith;
       ones = refl;
@@ -42,7 +43,8 @@ loop-chunk-preserved c =
       redoes = λ w rest r.
           rw (pushed, append_assoc c.loop-chunk.all.items c.in_ok-made.made.items rest)
           (c.loop-chunk.invariant.redoes w (c.in_ok-made.made.items ++ rest) (kept-redoes-next was now n c.loop-chunk.work c.redo_kept_chunk.new.work w os c.split_at.result.0.now c.split_at.result.1.now c.in_ok-made.made.items rest c.split_at.ensures.front c.split_at.ensures.back found r));
-      looked = kept-next (same_at was now) chunks i chunk lt c.chunk-item.is os c.split_at.result.0.now c.split_at.result.1.now c.loop-chunk.work.looked c.redo_kept_chunk.new.work.looked _ c.split_at.ensures.front c.split_at.ensures.back c.in_ok-made.ensures.looked c.loop-chunk.invariant.looked;
+      looked = counted-left c.loop-chunk.work.looked c.redo_kept_chunk.new.work.looked _ _ _ _ c.in_ok-made.ensures.looked.exact (kept-next (same_at was now) chunks i chunk lt c.chunk-item.is os c.split_at.result.0.now c.split_at.result.1.now c.split_at.ensures.front c.split_at.ensures.back) c.loop-chunk.invariant.looked;
+      looked_least = omega (arith, c.loop-chunk.invariant.looked_least, c.in_ok-made.ensures.looked.least);
       twos = counted-left c.loop-chunk.work.twos c.redo_kept_chunk.new.work.twos _ _ _ _ found.twos (kept-part was now n os c.split_at.result.0.now c.split_at.result.1.now c.split_at.ensures.front c.split_at.ensures.back) c.loop-chunk.invariant.twos;
       least = omega (arith, c.loop-chunk.invariant.least, c.in_ok-made.ensures.twos_least);
       ones = c.in_ok-made.ensures.ones ∙ c.loop-chunk.invariant.ones;
@@ -76,7 +78,34 @@ returns-clause-redoes c =
 pub returns-clause-looked : goal.returns-clause-looked
 returns-clause-looked c =
     let past : length c.args.chunks.now ≤ c.loop-chunk.chunk-index = grind (arith, nat_tests) in
-    kept-end (same_at (resolved c.args.self.ends.before.now) (resolved c.args.self.ends.after.now)) c.args.chunks.now c.loop-chunk.chunk-index c.loop-chunk.olds_left.now c.loop-chunk.work.looked _ past c.loop-chunk.invariant.looked
+    let all = kept-end (same_at (resolved c.args.self.ends.before.now) (resolved c.args.self.ends.after.now)) c.args.chunks.now c.loop-chunk.chunk-index c.loop-chunk.olds_left.now c.loop-chunk.work.looked _ past c.loop-chunk.invariant.looked in
+    record { exact = all; least = c.loop-chunk.invariant.looked_least; most = le-same _ _ all }
+
+pub returns-in_err-made-clause-looked : goal.returns-in_err-made-clause-looked
+returns-in_err-made-clause-looked c =
+    let passes = same_at (resolved c.args.self.ends.before.now) (resolved c.args.self.ends.after.now) in
+    let chunks = c.args.chunks.now in
+    let i = c.loop-chunk.chunk-index in
+    let lt : i < length chunks = search rules in
+    let part = kept-next passes chunks i c.chunk-item.result lt c.chunk-item.is c.loop-chunk.olds_left.now c.split_at.result.0.now c.split_at.result.1.now c.split_at.ensures.front c.split_at.ensures.back in
+    record {
+      exact = search rules;
+      least = omega (arith, c.loop-chunk.invariant.looked_least, c.in_err-made.ensures.looked.least);
+      most = counted-before c.loop-chunk.work.looked c.redo_kept_chunk.new.work.looked _ _ _ _ c.in_err-made.ensures.looked.most part c.loop-chunk.invariant.looked;
+    }
+
+pub returns-in_err-append-clause-looked : goal.returns-in_err-append-clause-looked
+returns-in_err-append-clause-looked c =
+    let passes = same_at (resolved c.args.self.ends.before.now) (resolved c.args.self.ends.after.now) in
+    let chunks = c.args.chunks.now in
+    let i = c.loop-chunk.chunk-index in
+    let lt : i < length chunks = search rules in
+    let part = kept-next passes chunks i c.chunk-item.result lt c.chunk-item.is c.loop-chunk.olds_left.now c.split_at.result.0.now c.split_at.result.1.now c.split_at.ensures.front c.split_at.ensures.back in
+    record {
+      exact = search rules;
+      least = omega (arith, c.loop-chunk.invariant.looked_least, c.in_ok-made.ensures.looked.least);
+      most = counted-before c.loop-chunk.work.looked c.redo_kept_chunk.new.work.looked _ _ _ _ c.in_ok-made.ensures.looked.most part c.loop-chunk.invariant.looked;
+    }
 
 pub split_at-requires : goal.split_at-requires
 split_at-requires c =

@@ -16,7 +16,8 @@ invariant-loop-chunk l = record {
       → Redoes (resolved l.self.ends.before.now) (resolved l.self.ends.after.now) l.work w (nones {X = Trace} (length l.olds_left)) l.olds_left rest
       → Redoes (resolved l.self.ends.before.now) (resolved l.self.ends.after.now) l.fn.work w (nones {X = Trace} (length l.olds)) l.olds (l.all.items ++ rest);
   looked : counted_on l.work.looked (looks_kept (same_at (resolved l.self.ends.before.now) (resolved l.self.ends.after.now)) (drop l.chunk-index l.chunks) l.olds_left)
-      ≤ counted_on l.fn.work.looked (looks_kept (same_at (resolved l.self.ends.before.now) (resolved l.self.ends.after.now)) l.chunks l.olds);
+      ≡ counted_on l.fn.work.looked (looks_kept (same_at (resolved l.self.ends.before.now) (resolved l.self.ends.after.now)) l.chunks l.olds);
+  looked_least : l.fn.work.looked ≤ l.work.looked;
   twos : counted_on l.work.twos (redone_kept (resolved l.self.ends.before.now) (resolved l.self.ends.after.now) l.olds_left)
       ≡ counted_on l.fn.work.twos (redone_kept (resolved l.self.ends.before.now) (resolved l.self.ends.after.now) l.olds);
   least : l.fn.work.twos ≤ l.work.twos;

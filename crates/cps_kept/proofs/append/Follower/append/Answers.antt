@@ -1,4 +1,4 @@
-use Rattle.std.proofs.Common.{◌≡◌, ◌+◌, ◌≤◌, ◌++◌, ◌∷◌, [], length, List, Option, Vec, Global, sym, ap, subst, ◌∙◌}
+use Rattle.std.proofs.Common.{arith, inl, refl, ◌≡◌, ◌+◌, ◌≤◌, ◌++◌, ◌∷◌, [], length, List, Option, Vec, Global, sym, ap, subst, ◌∙◌}
 use Rattle.std.specs.Prelude.{IfSome}
 use Rattle.cps_state.specs.Work.{Counts, counted_on}
 use Rattle.cps_final.specs.Finals.{Finals, finals_of, final_value}
@@ -16,6 +16,7 @@ use Rattle.cps_kept.specs.Append.{Follows, is_settled, Covers, changed, AreWithi
 use Rattle.cps_edit.specs.contracts.front.FrontGathered.TheImpl as front
 use Rattle.cps_kept.proofs.AppendLemmas.{ones-appended, step-whole, step-gathers, step-finals, step-twos, step-state, twos-first, twos-last, looked-between, few-between, appended-outcomes}
 use Rattle.cps_edit.proofs.ReplayLemmas.{on-err, le-same}
+use Rattle.cps_kept.proofs.LookLemmas.{none-compared}
 use Rattle.cps_kept.proofs.WholeLemmas.{more_up, more_under}
 use Rattle.cps_kept.proofs.append.Follower.append.Goals as goal
 
@@ -215,6 +216,50 @@ returns-clause-twos c =
     let all = twos-last c.args.work.now.twos c.change.new.work.twos c.step_two.new.work.twos by _ middle (ap (λ (w : Counts). w.twos) c.in_ok-outcome.ensures.step) twos in
     all
 
+pub returns-in_err-catch_up-clause-looked : goal.returns-in_err-catch_up-clause-looked
+returns-in_err-catch_up-clause-looked c = none-compared c.args.work.now c.args.work.now _ refl
+
+pub returns-in_err-catch_up-clause-few : goal.returns-in_err-catch_up-clause-few
+returns-in_err-catch_up-clause-few c = inl (omega arith)
+
+pub returns-in_err-trace-clause-looked : goal.returns-in_err-trace-clause-looked
+returns-in_err-trace-clause-looked c = none-compared c.args.work.now c.step.new.work _ (ap (λ (w : Counts). w.looked) c.step.ensures.step)
+
+pub returns-in_err-trace-clause-few : goal.returns-in_err-trace-clause-few
+returns-in_err-trace-clause-few c =
+    let same : c.step.new.work.looked ≡ c.args.work.now.looked = ap (λ (w : Counts). w.looked) c.step.ensures.step in
+    inl (omega (arith, same))
+
+pub returns-in_err-changes-clause-looked : goal.returns-in_err-changes-clause-looked
+returns-in_err-changes-clause-looked c =
+    let lines = c.args.kept.lines.now in
+    let line = c.args.line.now in
+    let traces = c.args.kept.traces.now in
+    let caught = front.gathered-value.it c.catch_up.new.self.front in
+    let next = front.gathered-value.it c.step.new.self in
+    let was = gathered-value.it c.args.kept.finals.now in
+    let trace = c.in_ok-trace.trace in
+    let before : final_value (finals_before c.of-arrival.result) ≡ finals_in lines = ap final_value (c.of-arrival.ensures.before ∙ c.requires.finals) in
+    let after : final_value (finals_after c.of-arrival.result) ≡ finals_in (lines ++ line ∷ []) =
+    ap final_value (c.of-arrival.ensures.after ∙ c.finals.ensures ∙ step-finals lines line traces trace caught next was c.requires.kept c.requires.finals c.in_ok-catch_up.ensures.gathered c.in_ok-trace.ensures.trace c.in_ok-trace.ensures.ok) in
+    looked-between c.args.work.now c.step.new.work c.change.new.work c.change.new.work _ _ (ap (λ (w : Counts). w.looked) c.step.ensures.step) c.change.ensures.looked
+    refl (λ i. 64 + looks_kept (same_at (before i) (after i)) c.change.new.chunks.items (c.of-arrival.ensures.traces i))
+
+pub returns-in_err-outcome-clause-looked : goal.returns-in_err-outcome-clause-looked
+returns-in_err-outcome-clause-looked c =
+    let lines = c.args.kept.lines.now in
+    let line = c.args.line.now in
+    let traces = c.args.kept.traces.now in
+    let caught = front.gathered-value.it c.catch_up.new.self.front in
+    let next = front.gathered-value.it c.step.new.self in
+    let was = gathered-value.it c.args.kept.finals.now in
+    let trace = c.in_ok-trace.trace in
+    let before : final_value (finals_before c.of-arrival.result) ≡ finals_in lines = ap final_value (c.of-arrival.ensures.before ∙ c.requires.finals) in
+    let after : final_value (finals_after c.of-arrival.result) ≡ finals_in (lines ++ line ∷ []) =
+    ap final_value (c.of-arrival.ensures.after ∙ c.finals.ensures ∙ step-finals lines line traces trace caught next was c.requires.kept c.requires.finals c.in_ok-catch_up.ensures.gathered c.in_ok-trace.ensures.trace c.in_ok-trace.ensures.ok) in
+    looked-between c.args.work.now c.step.new.work c.change.new.work c.step_two.new.work _ _ (ap (λ (w : Counts). w.looked) c.step.ensures.step) c.change.ensures.looked
+    (ap (λ (w : Counts). w.looked) c.step_two.ensures.step) (λ i. 64 + looks_kept (same_at (before i) (after i)) c.change.new.chunks.items (c.of-arrival.ensures.traces i))
+
 pub returns-clause-looked : goal.returns-clause-looked
 returns-clause-looked c =
     let lines = c.args.kept.lines.now in
@@ -227,10 +272,17 @@ returns-clause-looked c =
     let before : final_value (finals_before c.of-arrival.result) ≡ finals_in lines = ap final_value (c.of-arrival.ensures.before ∙ c.requires.finals) in
     let after : final_value (finals_after c.of-arrival.result) ≡ finals_in (lines ++ line ∷ []) =
     ap final_value (c.of-arrival.ensures.after ∙ c.finals.ensures ∙ step-finals lines line traces trace caught next was c.requires.kept c.requires.finals c.in_ok-catch_up.ensures.gathered c.in_ok-trace.ensures.trace c.in_ok-trace.ensures.ok) in
-    looked-between c.args.work.now.looked c.step.new.work.looked c.change.new.work.looked c.step_two.new.work.looked _ _ (ap (λ (w : Counts). w.looked) c.in_ok-trace.ensures.step) c.in_ok-changes.ensures.looked
-    (ap (λ (w : Counts). w.looked) c.in_ok-outcome.ensures.step) (λ i. 64 + looks_kept (same_at (before i) (after i)) c.change.new.chunks.items (c.of-arrival.ensures.traces i))
+    looked-between c.args.work.now c.step.new.work c.change.new.work c.step_two.new.work _ _ (ap (λ (w : Counts). w.looked) c.step.ensures.step) c.change.ensures.looked
+    (ap (λ (w : Counts). w.looked) c.step_two.ensures.step) (λ i. 64 + looks_kept (same_at (before i) (after i)) c.change.new.chunks.items (c.of-arrival.ensures.traces i))
+
+pub returns-in_err-changes-clause-few : goal.returns-in_err-changes-clause-few
+returns-in_err-changes-clause-few c =
+    few-between c.args.work.now.looked c.step.new.work.looked c.change.new.work.looked c.change.new.work.looked c.change.new.chunks.items (ap (λ (w : Counts). w.looked) c.step.ensures.step) refl c.change.ensures.few
+
+pub returns-in_err-outcome-clause-few : goal.returns-in_err-outcome-clause-few
+returns-in_err-outcome-clause-few c =
+    few-between c.args.work.now.looked c.step.new.work.looked c.change.new.work.looked c.step_two.new.work.looked c.change.new.chunks.items (ap (λ (w : Counts). w.looked) c.step.ensures.step) (ap (λ (w : Counts). w.looked) c.step_two.ensures.step) c.change.ensures.few
 
 pub returns-clause-few : goal.returns-clause-few
 returns-clause-few c =
-    few-between c.args.work.now.looked c.step.new.work.looked c.change.new.work.looked c.step_two.new.work.looked c.change.new.chunks.items (ap (λ (w : Counts). w.looked) c.in_ok-trace.ensures.step)
-    (ap (λ (w : Counts). w.looked) c.in_ok-outcome.ensures.step) c.in_ok-changes.ensures.few
+    few-between c.args.work.now.looked c.step.new.work.looked c.change.new.work.looked c.step_two.new.work.looked c.change.new.chunks.items (ap (λ (w : Counts). w.looked) c.step.ensures.step) (ap (λ (w : Counts). w.looked) c.step_two.ensures.step) c.change.ensures.few

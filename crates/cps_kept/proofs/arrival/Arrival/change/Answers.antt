@@ -1,10 +1,13 @@
-use Rattle.std.proofs.Common.{◌≡◌, ◌+◌, ◌≤◌, inl, inr, rules, arith, ap, ◌∙◌, List, length, take, ◌++◌, ◌∷◌, [], subst, sym}
+use Rattle.std.proofs.Common.{refl, ◌≡◌, ◌+◌, inl, rules, arith, ap, ◌∙◌, List, length, take, ◌++◌, ◌∷◌, [], subst, sym}
 use Rattle.cps_final.specs.Finals.{final_value}
 use Rattle.cps_edit.specs.Agreeing.{same_at}
+use Rattle.cps_edit.specs.Compares.{ComparesUpTo}
 use Rattle.cps_chunks.specs.declared.chunk.Chunk.{Chunk}
 use Rattle.cps_chunks.specs.Chunks.{AreSummed, looks_kept}
 use Rattle.cps_kept.specs.declared.open.Open.{Open}
-use Rattle.cps_kept.specs.Append.{stays_before, stays_after, finals_before, finals_after, all_left, Covers, listed}
+use Rattle.cps_kept.specs.Append.{stays_before, stays_after, finals_before, finals_after, all_left, not_left, Covers, listed}
+use Rattle.cps_kept.proofs.AppendLemmas.{few-ready}
+use Rattle.cps_kept.proofs.LookLemmas.{none-compared}
 use Rattle.cps_kept.proofs.OpenLemmas.{covers-last}
 use Rattle.cps_state.specs.Work.{counted_on}
 use Rattle.cps_kept.specs.declared.arrival.Changed.{Changed}
@@ -25,10 +28,22 @@ returns-then-is_quiet-clause-twos c =
     on-ok c.pass_by.result (none-more c.args.work.now.twos ∙ ap (counted_on c.args.work.now.twos) (sym none))
 
 pub returns-then-is_quiet-clause-looked : goal.returns-then-is_quiet-clause-looked
-returns-then-is_quiet-clause-looked c = on-ok c.pass_by.result (omega arith)
+returns-then-is_quiet-clause-looked c = none-compared c.args.work.now c.args.work.now _ refl
+
+pub returns-in_err-entries-clause-looked : goal.returns-in_err-entries-clause-looked
+returns-in_err-entries-clause-looked c = none-compared c.args.work.now c.args.work.now _ refl
+
+pub returns-in_err-make_ready-clause-looked : goal.returns-in_err-make_ready-clause-looked
+returns-in_err-make_ready-clause-looked c = none-compared c.args.work.now c.args.work.now _ refl
 
 pub returns-then-is_quiet-clause-few : goal.returns-then-is_quiet-clause-few
-returns-then-is_quiet-clause-few c = on-ok c.pass_by.result (inl (omega arith))
+returns-then-is_quiet-clause-few c = inl (omega arith)
+
+pub returns-in_err-entries-clause-few : goal.returns-in_err-entries-clause-few
+returns-in_err-entries-clause-few c = inl (omega arith)
+
+pub returns-in_err-make_ready-clause-few : goal.returns-in_err-make_ready-clause-few
+returns-in_err-make_ready-clause-few c = inl (omega arith)
 
 pub walk-requires-clause-left : goal.walk-requires-clause-left
 walk-requires-clause-left c =
@@ -45,17 +60,37 @@ pub walk-requires-clause-summed : goal.walk-requires-clause-summed
 walk-requires-clause-summed c =
     subst (λ (cs : List Chunk). AreSummed cs c.args.self.traces.now) (sym c.as_slice.ensures.value) c.make_ready.ensures.summed
 
+pub returns-in_err-walked-clause-looked : goal.returns-in_err-walked-clause-looked
+returns-in_err-walked-clause-looked c =
+    subst (λ (cs : List Chunk). ComparesUpTo c.args.work.now c.walk.new.work (64 + looks_kept (same_at (final_value (finals_before c.args.self)) (final_value (finals_after c.args.self))) cs c.args.self.traces.now)) c.as_slice.ensures.value c.walk.ensures.looked
+
+pub returns-in_err-walked-clause-few : goal.returns-in_err-walked-clause-few
+returns-in_err-walked-clause-few c =
+    few-ready c.args.work.now.looked c.walk.new.work.looked (not_left c.args.self.puts.now c.split_at.result.1.now) c.make_ready.new.chunks.items c.in_ok-make_ready.ensures.ready c.walk.ensures.looked_few
+
+pub returns-in_err-push_entries-clause-looked : goal.returns-in_err-push_entries-clause-looked
+returns-in_err-push_entries-clause-looked c =
+    subst (λ (cs : List Chunk). ComparesUpTo c.args.work.now c.walk.new.work (64 + looks_kept (same_at (final_value (finals_before c.args.self)) (final_value (finals_after c.args.self))) cs c.args.self.traces.now)) c.as_slice.ensures.value c.walk.ensures.looked
+
+pub returns-in_err-push_entries-clause-few : goal.returns-in_err-push_entries-clause-few
+returns-in_err-push_entries-clause-few c =
+    few-ready c.args.work.now.looked c.walk.new.work.looked (not_left c.args.self.puts.now c.split_at.result.1.now) c.make_ready.new.chunks.items c.in_ok-make_ready.ensures.ready c.walk.ensures.looked_few
+
+pub returns-in_err-push_entry-clause-looked : goal.returns-in_err-push_entry-clause-looked
+returns-in_err-push_entry-clause-looked c =
+    subst (λ (cs : List Chunk). ComparesUpTo c.args.work.now c.walk.new.work (64 + looks_kept (same_at (final_value (finals_before c.args.self)) (final_value (finals_after c.args.self))) cs c.args.self.traces.now)) c.as_slice.ensures.value c.walk.ensures.looked
+
+pub returns-in_err-push_entry-clause-few : goal.returns-in_err-push_entry-clause-few
+returns-in_err-push_entry-clause-few c =
+    few-ready c.args.work.now.looked c.walk.new.work.looked (not_left c.args.self.puts.now c.split_at.result.1.now) c.make_ready.new.chunks.items c.in_ok-make_ready.ensures.ready c.walk.ensures.looked_few
+
 pub returns-clause-looked : goal.returns-clause-looked
 returns-clause-looked c =
-    subst (λ (cs : List Chunk). c.walk.new.work.looked ≤ counted_on c.args.work.now.looked (64 + looks_kept (same_at (final_value (finals_before c.args.self)) (final_value (finals_after c.args.self))) cs c.args.self.traces.now))
-    c.as_slice.ensures.value c.in_ok-walked.ensures.looked
+    subst (λ (cs : List Chunk). ComparesUpTo c.args.work.now c.walk.new.work (64 + looks_kept (same_at (final_value (finals_before c.args.self)) (final_value (finals_after c.args.self))) cs c.args.self.traces.now)) c.as_slice.ensures.value c.walk.ensures.looked
 
 pub returns-clause-few : goal.returns-clause-few
 returns-clause-few c =
-    elim c.in_ok-make_ready.ensures.ready [
-      | inl small ↦ inl (omega (arith, small, c.in_ok-walked.ensures.looked_few))
-      | inr ready ↦ inr ready
-    ]
+    few-ready c.args.work.now.looked c.walk.new.work.looked (not_left c.args.self.puts.now c.split_at.result.1.now) c.make_ready.new.chunks.items c.in_ok-make_ready.ensures.ready c.walk.ensures.looked_few
 
 pub returns-clause-opened : goal.returns-clause-opened
 returns-clause-opened c =

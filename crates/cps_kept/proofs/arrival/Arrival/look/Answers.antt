@@ -2,6 +2,7 @@ use Rattle.std.proofs.Common.{arith, ◌≡◌, ◌≤◌, Bool, true, false, re
 use Rattle.std.specs.Prelude.{not, if◌then◌else◌}
 use Rattle.cps_state.specs.Work.{counted_on}
 use Rattle.cps_final.specs.Finals.{final_value}
+use Rattle.cps_edit.specs.Compares.{ComparesUpTo}
 use Rattle.cps_kept.specs.Append.{is_left, finals_before, finals_after}
 use Rattle.cps_edit.proofs.AgreeLemmas.{named-alone}
 use Rattle.cps_edit.proofs.FrontLemmas.{none-more}
@@ -29,10 +30,15 @@ returns-then-leaves-clause-twos c =
 pub returns-then-leaves-clause-looked_one : goal.returns-then-leaves-clause-looked_one
 returns-then-leaves-clause-looked_one c =
     let left : is_left c.args.«open».awaits c.args.self.puts.now ≡ true = sym c.leaves.ensures ∙ c.if-leaves.true in
-    let n = c.args.work.now.looked in
-    subst (λ (b : Bool). n ≤ counted_on n (if b then 0 else 1)) (sym left) (omega arith)
+    let w = c.args.work.now in
+    subst (λ (b : Bool). ComparesUpTo w w (if b then 0 else 1)) (sym left) (record { least = omega arith; most = omega arith })
 
 pub returns-clause-looked_one : goal.returns-clause-looked_one
 returns-clause-looked_one c =
     let asked : is_left c.args.«open».awaits c.args.self.puts.now ≡ false = sym c.leaves.ensures ∙ c.if-leaves.false in
-    subst (λ (b : Bool). c.redo.new.work.looked ≤ counted_on c.args.work.now.looked (if b then 0 else 1)) (sym asked) c.in_ok-outcome.ensures.looked_one
+    subst (λ (b : Bool). ComparesUpTo c.args.work.now c.redo.new.work (if b then 0 else 1)) (sym asked) c.redo.ensures.looked_one
+
+pub returns-in_err-outcome-clause-looked_one : goal.returns-in_err-outcome-clause-looked_one
+returns-in_err-outcome-clause-looked_one c =
+    let asked : is_left c.args.«open».awaits c.args.self.puts.now ≡ false = sym c.leaves.ensures ∙ c.if-leaves.false in
+    subst (λ (b : Bool). ComparesUpTo c.args.work.now c.redo.new.work (if b then 0 else 1)) (sym asked) c.redo.ensures.looked_one

@@ -6,7 +6,7 @@ use Rattle.cps_kept.specs.Append.{stays_before, finals_before, finals_after, lis
 use Rattle.cps_edit.proofs.ReplayLemmas.{on-err, le-same}
 use Rattle.cps_kept.proofs.ThroughLemmas.{through-front, through-at, through-fault, through-awaits, through-next, through-as, through-outcomes, through-twos, through-opened}
 use Rattle.cps_final.specs.Resolving.{resolved}
-use Rattle.cps_kept.proofs.AlongLemmas.{not_left-next, along-first, along-at, along-here, along-next, along-end}
+use Rattle.cps_kept.proofs.AlongLemmas.{not_left-next, along-first, along-at, along-here, along-next, along-within, along-end}
 use Rattle.cps_kept.proofs.arrival.Arrival.walk.Goals as goal
 
 pub loop-entry-init : goal.loop-entry-init
@@ -18,6 +18,7 @@ loop-entry-init c = record {
       along-first (resolved c.args.self.ends.before.now) (resolved c.args.self.ends.after.now) (stays_before c.args.self) c.args.self.traces.now c.args.left.now c.args.entries.now c.new-along.result c.args.work.now.looked _
       c.requires.covers (c.new-along.ensures.along _ _) c.new-along.ensures.traces (c.new-along.ensures.looks _);
   looked = omega arith;
+  looked_least = omega arith;
   ones = refl;
   least = omega arith;
 }
@@ -35,7 +36,8 @@ loop-entry-preserved c =
           through-as _ _ _ _ _ _ _ _ _ _ _ _ c.in_ok-note.ensures.changes still
           (through-next _ _ _ _ c.requires.arrives _ _ _ _ _ _ _ through _ _ _ _ (line c.index-self-entry.result) looked.outcome looked.stands looked.twos);
       along = along-next _ _ _ _ _ _ _ _ goes c.look.new.along c.look.new.work.looked looked.along looked.traces looked.looked;
-      looked = not_left-next _ _ _ _ c.args.entries.now i lt looked.looked_one c.loop-entry.invariant.looked;
+      looked = not_left-next _ _ _ _ c.args.entries.now i lt looked.looked_one.most c.loop-entry.invariant.looked;
+      looked_least = omega (arith, c.loop-entry.invariant.looked_least, looked.looked_one.least);
       ones = looked.ones ∙ c.loop-entry.invariant.ones;
       least = omega (arith, c.loop-entry.invariant.least, looked.twos_least);
     }
@@ -83,7 +85,42 @@ returns-clause-twos c =
     through-twos _ _ _ _ c.requires.arrives _ _ _ _ _ _ (drop_all c.loop-entry.entry-index c.args.entries.now past) c.loop-entry.invariant.through
 
 pub returns-clause-looked : goal.returns-clause-looked
-returns-clause-looked c = along-end _ _ _ _ _ _ (drop c.loop-entry.entry-index c.args.entries.now) c.loop-entry.invariant.along
+returns-clause-looked c = record {
+  least = c.loop-entry.invariant.looked_least;
+  most = along-end _ _ _ _ _ _ (drop c.loop-entry.entry-index c.args.entries.now) c.loop-entry.invariant.along;
+}
+
+pub returns-in_err-looked-clause-looked : goal.returns-in_err-looked-clause-looked
+returns-in_err-looked-clause-looked c =
+    let i = c.loop-entry.entry-index in
+    let lt : i < length c.args.entries.now = grind (arith, nat_tests) in
+    let goes = along-at _ _ _ _ _ _ c.args.entries.now i lt c.loop-entry.invariant.along in
+    record {
+      least = omega (arith, c.loop-entry.invariant.looked_least, c.look.ensures.looked_one.least);
+      most = along-within _ _ _ _ _ _ _ _ goes c.look.new.along c.look.new.work.looked c.look.ensures.looked;
+    }
+
+pub returns-in_err-note-clause-looked : goal.returns-in_err-note-clause-looked
+returns-in_err-note-clause-looked c =
+    let i = c.loop-entry.entry-index in
+    let lt : i < length c.args.entries.now = grind (arith, nat_tests) in
+    let goes = along-at _ _ _ _ _ _ c.args.entries.now i lt c.loop-entry.invariant.along in
+    record {
+      least = omega (arith, c.loop-entry.invariant.looked_least, c.look.ensures.looked_one.least);
+      most = along-within _ _ _ _ _ _ _ _ goes c.look.new.along c.look.new.work.looked c.look.ensures.looked;
+    }
+
+pub returns-in_err-looked-clause-looked_few : goal.returns-in_err-looked-clause-looked_few
+returns-in_err-looked-clause-looked_few c =
+    let i = c.loop-entry.entry-index in
+    let lt : i < length c.args.entries.now = grind (arith, nat_tests) in
+    omega (arith, not_left-next c.args.self.puts.now c.loop-entry.work.looked c.look.new.work.looked _ c.args.entries.now i lt c.look.ensures.looked_one.most c.loop-entry.invariant.looked)
+
+pub returns-in_err-note-clause-looked_few : goal.returns-in_err-note-clause-looked_few
+returns-in_err-note-clause-looked_few c =
+    let i = c.loop-entry.entry-index in
+    let lt : i < length c.args.entries.now = grind (arith, nat_tests) in
+    omega (arith, not_left-next c.args.self.puts.now c.loop-entry.work.looked c.look.new.work.looked _ c.args.entries.now i lt c.look.ensures.looked_one.most c.loop-entry.invariant.looked)
 
 pub returns-clause-looked_few : goal.returns-clause-looked_few
 returns-clause-looked_few c = omega (arith, c.loop-entry.invariant.looked)

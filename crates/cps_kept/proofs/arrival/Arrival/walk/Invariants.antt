@@ -15,6 +15,7 @@ invariant-loop-entry l = record {
   along : GoesAlong (resolved l.self.ends.before.now) (resolved l.self.ends.after.now) l.self.traces.now l.along (drop l.entry-index l.entries) l.work.looked
       (counted_on l.fn.work.looked (64 + looks_kept (same_at (resolved l.self.ends.before.now) (resolved l.self.ends.after.now)) l.chunks l.self.traces.now));
   looked : counted_on l.work.looked (not_left l.self.puts.now (drop l.entry-index l.entries)) ≤ counted_on l.fn.work.looked (not_left l.self.puts.now l.entries);
+  looked_least : l.fn.work.looked ≤ l.work.looked;
   ones : l.work.ones ≡ l.fn.work.ones;
   least : l.fn.work.twos ≤ l.work.twos;
 }

@@ -1,4 +1,4 @@
-use Rattle.std.proofs.Common.{◌≡◌, ◌*◌, ◌≤◌, List, ℕ, ◌∷◌, [], ◌++◌, length, sym, ap, subst, ◌∙◌}
+use Rattle.std.proofs.Common.{refl, ◌≡◌, ◌*◌, ◌≤◌, List, ℕ, ◌∷◌, [], ◌++◌, length, sym, ap, subst, ◌∙◌}
 use Rattle.std.specs.Prelude.{sum}
 use Rattle.cps_state.specs.Course.{Trace}
 use Rattle.cps_state.specs.Keys.{first_state}
@@ -6,6 +6,7 @@ use Rattle.cps_state.specs.Work.{counted_on}
 use Rattle.cps_final.specs.Finals.{finals_of}
 use Rattle.cps_division.specs.Division.{AreChunks, inserted_at}
 use Rattle.cps_edit.specs.Passes.{traces_of, outcomes_by}
+use Rattle.cps_edit.specs.Compares.{ComparesUpTo}
 use Rattle.cps_edit.specs.Splice.{insertion}
 use Rattle.cps_edit.specs.Disturbed.{finals_in, ones_of, twos_of}
 use Rattle.cps_edit.proofs.SpliceLemmas.{length-traces_from}
@@ -16,6 +17,7 @@ use Rattle.cps_chunks.specs.Touched.{touched_of}
 use Rattle.cps_chunks.proofs.ListLemmas.{summed-long}
 use Rattle.cps_kept.specs.Append.{Follows}
 use Rattle.cps_kept.proofs.AppendLemmas.{looked-appended}
+use Rattle.cps_kept.proofs.LookLemmas.{none-compared}
 use Rattle.cps_kept.proofs.KeptLemmas.{kept-still}
 use Rattle.cps_kept.proofs.lists.Lists.append.Goals as goal
 
@@ -133,16 +135,31 @@ returns-clause-twos c =
     let l = c.deref.ensures.value ∙ c.make_room.ensures.lines in
     c.in_ok-made.ensures.twos ∙ ap (counted_on c.args.work.now.twos) (λ i. twos_of (l i) (insertion (length (l i)) c.args.line))
 
+pub returns-in_err-made-clause-looked : goal.returns-in_err-made-clause-looked
+returns-in_err-made-clause-looked c =
+    let same = c.make_room.ensures in
+    let made = c.append.ensures in
+    let kept = c.requires.kept in
+    let line = c.args.line in
+    let l = c.deref.ensures.value ∙ same.lines in
+    let t = c.deref-2.ensures.value ∙ same.traces in
+    let n = made.lengths ∙ ap lengths_of same.chunks in
+    let bound = looked-appended c.deref.result.now line c.append.new.chunks.items c.deref-2.result.now c.args.work.now c.append.new.work (t ∙ kept.did ∙ ap traces_of (sym l)) made.summed
+    (subst AreChunks (sym n) kept.divided) made.looked made.few in
+    subst (λ k. ComparesUpTo c.args.work.now c.append.new.work (128 * k)) (λ i. touched_of (l i) (insertion (length (l i)) line) (n i) (inserted_at (length (l i)) (n i))) bound
+
 pub returns-clause-looked : goal.returns-clause-looked
 returns-clause-looked c =
     let same = c.make_room.ensures in
     let made = c.append.ensures in
     let kept = c.requires.kept in
     let line = c.args.line in
-    let cs = c.append.new.chunks.items in
     let l = c.deref.ensures.value ∙ same.lines in
     let t = c.deref-2.ensures.value ∙ same.traces in
     let n = made.lengths ∙ ap lengths_of same.chunks in
-    let bound = looked-appended c.deref.result.now line cs c.deref-2.result.now c.args.work.now.looked c.append.new.work.looked (t ∙ kept.did ∙ ap traces_of (sym l)) made.summed
-    (subst AreChunks (sym n) kept.divided) c.in_ok-made.ensures.looked c.in_ok-made.ensures.few in
-    subst (λ k. c.append.new.work.looked ≤ counted_on c.args.work.now.looked (128 * k)) (λ i. touched_of (l i) (insertion (length (l i)) line) (n i) (inserted_at (length (l i)) (n i))) bound
+    let bound = looked-appended c.deref.result.now line c.append.new.chunks.items c.deref-2.result.now c.args.work.now c.append.new.work (t ∙ kept.did ∙ ap traces_of (sym l)) made.summed
+    (subst AreChunks (sym n) kept.divided) made.looked made.few in
+    subst (λ k. ComparesUpTo c.args.work.now c.append.new.work (128 * k)) (λ i. touched_of (l i) (insertion (length (l i)) line) (n i) (inserted_at (length (l i)) (n i))) bound
+
+pub returns-in_err-make_room-clause-looked : goal.returns-in_err-make_room-clause-looked
+returns-in_err-make_room-clause-looked c = none-compared c.args.work.now c.args.work.now _ refl

@@ -10,9 +10,9 @@ returns-clause-traces c =
     let N = c.args.edit.plan.news.items in
     let keep = c.args.new.keep in
     let from = c.args.new.from in
-    let after = keep + c.len-5.result in
+    let after = keep + c.len-3.result in
     let within : keep ≤ length T = omega (arith, c.args.self.now.traces.ok.0, c.args.self.now.lines.ok.0, c.requires.traces, c.requires.within, c.requires.ordered) in
-    let at : after ≡ keep + length F = omega (arith, c.len-5.ensures, c.requires.first, c.args.edit.plan.first.ok.0) in
+    let at : after ≡ keep + length F = omega (arith, c.len-3.ensures, c.requires.first, c.args.edit.plan.first.ok.0) in
     let put : c.put_at-2.new.items.items ≡ take keep T ++ (F ++ drop from T) = search rules in
     behind T c.take_over.new.items.items c.put_at-2.new.items.items F N keep from after within at put (search rules)
 
@@ -24,9 +24,9 @@ returns-clause-outcomes c =
     let B = c.args.edit.second.before.items in
     let keep = c.args.new.keep in
     let from = c.args.new.from in
-    let after = keep + c.len-5.result in
+    let after = keep + c.len-3.result in
     let within : keep ≤ length T = omega (arith, c.args.self.now.outcomes.ok.0, c.args.self.now.lines.ok.0, c.requires.outcomes, c.requires.within, c.requires.ordered) in
-    let at : after ≡ keep + length F = omega (arith, c.len-5.ensures, c.requires.first_two, c.args.edit.second.first.ok.0) in
+    let at : after ≡ keep + length F = omega (arith, c.len-3.ensures, c.requires.first_two, c.args.edit.second.first.ok.0) in
     let put : c.put_at-3.new.items.items ≡ take keep T ++ (F ++ drop from T) = search rules in
     let there = behind T c.take_over-2.new.items.items c.put_at-3.new.items.items F N keep from after within at put (search rules) in
     let first : length B ≤ keep = omega (arith, c.requires.before, c.args.edit.second.before.ok.0) in

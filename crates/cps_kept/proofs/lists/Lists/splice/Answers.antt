@@ -16,8 +16,9 @@ use Rattle.cps_chunks.specs.Chunks.{AreSummed, lengths_of, all_unsummed}
 use Rattle.cps_chunks.specs.Recuts.{Recuts}
 use Rattle.cps_chunks.specs.Touched.{touched_of}
 use Rattle.cps_kept.specs.Kept.{splice_of}
+use Rattle.cps_kept.proofs.LookLemmas.{none-compared}
 use Rattle.cps_kept.proofs.KeptLemmas.{kept-of, kept-still}
-use Rattle.cps_kept.proofs.SpotLemmas.{StandsIn, summed-around, looked-touched, lengths-now, summed-now}
+use Rattle.cps_kept.proofs.SpotLemmas.{StandsIn, summed-around, looked-spliced, lengths-now, summed-now}
 use Rattle.cps_kept.proofs.lists.Lists.splice.Goals as goal
 
 pub edit-requires-clause-finals : goal.edit-requires-clause-finals
@@ -127,25 +128,53 @@ returns-clause-kept c =
     kept-of _ all (traces_of all) (outcomes_by (finals_in all) (traces_of all)) put.lines (put.traces ∙ did) outcomes refl refl (subst (AreSummed c.commit.new.self.chunks.items) did summed)
     (subst AreChunks (sym lengths) recuts.made)
 
-pub returns-clause-looked : goal.returns-clause-looked
-returns-clause-looked c =
-    let lists = c.args.self.now in
+pub returns-in_err-edit-clause-looked : goal.returns-in_err-edit-clause-looked
+returns-in_err-edit-clause-looked c =
     let start = c.args.recut.now.start in
     let end = c.args.recut.now.end in
-    let ns = c.args.recut.now.lengths.items in
     let at = c.spot-spot.ensures in
     let spot = c.spot-spot.result in
     let cs = c.sum_up.new.chunks.items in
-    let l = c.deref-2.ensures.value in
     let t = c.deref-3.ensures.value in
     let n = c.deref-4.ensures.value in
-    let same : splice_of c.args.new ≡ splice_at spot.keep spot.from c.deref-4.result.now = sym (λ i. splice_at (at.keep i) (at.from i) (n i)) in
     let stands : StandsIn spot start end cs =
     record { in_front = at.in_front; behind = at.behind; loose_front = at.loose_front ∙ sym at.keep; loose_behind = ap (λ n. spot.behind.loose + n) at.from ∙ at.loose_behind } in
-    let recuts : Recuts c.deref-2.result.now (splice_at spot.keep spot.from c.deref-4.result.now) start end ns (lengths_of cs) =
-    subst (λ (ms : List ℕ). Recuts c.deref-2.result.now (splice_at spot.keep spot.from c.deref-4.result.now) start end ns ms) (sym c.sum_up.ensures.lengths)
-    (subst (λ (s : Splice). Recuts c.deref-2.result.now s start end ns (lengths_of lists.chunks.items)) same (subst (λ (ls : List (List ℕ)). Recuts ls (splice_of c.args.new) start end ns (lengths_of lists.chunks.items)) (sym l) c.requires.recuts)) in
-    let bound = looked-touched c.deref-2.result.now c.deref-4.result.now spot start end ns cs c.deref-3.result.now c.args.work.now.looked c.edit.new.work.looked recuts stands
-    (t ∙ c.requires.kept.did ∙ ap traces_of (sym l)) (subst (AreSummed cs) (c.deref.ensures.value ∙ sym t) c.sum_up.ensures.summed) c.in_ok-sum_up.ensures.made c.in_ok-edit.ensures.looked in
-    subst (λ k. c.edit.new.work.looked ≤ counted_on c.args.work.now.looked (128 * k))
-    (λ i. touched_of (l i) (sym same i) (c.sum_up.ensures.lengths i) (recut start end ns (c.sum_up.ensures.lengths i))) bound
+    looked-spliced c.args.self.now.lines.items c.deref-2.result.now c.deref-4.result.now (splice_of c.args.new) spot start end c.args.recut.now.lengths.items (lengths_of c.args.self.now.chunks.items) cs c.deref-3.result.now
+    c.args.work.now c.edit.new.work c.deref-2.ensures.value (sym (λ i. splice_at (at.keep i) (at.from i) (n i))) c.sum_up.ensures.lengths c.requires.recuts stands (t ∙ c.requires.kept.did)
+    (subst (AreSummed cs) (c.deref.ensures.value ∙ sym t) c.sum_up.ensures.summed) c.in_ok-sum_up.ensures.made c.edit.ensures.looked
+
+pub returns-in_err-front-clause-looked : goal.returns-in_err-front-clause-looked
+returns-in_err-front-clause-looked c =
+    let start = c.args.recut.now.start in
+    let end = c.args.recut.now.end in
+    let at = c.spot-spot.ensures in
+    let spot = c.spot-spot.result in
+    let cs = c.sum_up.new.chunks.items in
+    let t = c.deref-3.ensures.value in
+    let n = c.deref-4.ensures.value in
+    let stands : StandsIn spot start end cs =
+    record { in_front = at.in_front; behind = at.behind; loose_front = at.loose_front ∙ sym at.keep; loose_behind = ap (λ n. spot.behind.loose + n) at.from ∙ at.loose_behind } in
+    looked-spliced c.args.self.now.lines.items c.deref-2.result.now c.deref-4.result.now (splice_of c.args.new) spot start end c.args.recut.now.lengths.items (lengths_of c.args.self.now.chunks.items) cs c.deref-3.result.now
+    c.args.work.now c.edit.new.work c.deref-2.ensures.value (sym (λ i. splice_at (at.keep i) (at.from i) (n i))) c.sum_up.ensures.lengths c.requires.recuts stands (t ∙ c.requires.kept.did)
+    (subst (AreSummed cs) (c.deref.ensures.value ∙ sym t) c.sum_up.ensures.summed) c.in_ok-sum_up.ensures.made c.edit.ensures.looked
+
+pub returns-clause-looked : goal.returns-clause-looked
+returns-clause-looked c =
+    let start = c.args.recut.now.start in
+    let end = c.args.recut.now.end in
+    let at = c.spot-spot.ensures in
+    let spot = c.spot-spot.result in
+    let cs = c.sum_up.new.chunks.items in
+    let t = c.deref-3.ensures.value in
+    let n = c.deref-4.ensures.value in
+    let stands : StandsIn spot start end cs =
+    record { in_front = at.in_front; behind = at.behind; loose_front = at.loose_front ∙ sym at.keep; loose_behind = ap (λ n. spot.behind.loose + n) at.from ∙ at.loose_behind } in
+    looked-spliced c.args.self.now.lines.items c.deref-2.result.now c.deref-4.result.now (splice_of c.args.new) spot start end c.args.recut.now.lengths.items (lengths_of c.args.self.now.chunks.items) cs c.deref-3.result.now
+    c.args.work.now c.edit.new.work c.deref-2.ensures.value (sym (λ i. splice_at (at.keep i) (at.from i) (n i))) c.sum_up.ensures.lengths c.requires.recuts stands (t ∙ c.requires.kept.did)
+    (subst (AreSummed cs) (c.deref.ensures.value ∙ sym t) c.sum_up.ensures.summed) c.in_ok-sum_up.ensures.made c.edit.ensures.looked
+
+pub returns-in_err-sum_up-clause-looked : goal.returns-in_err-sum_up-clause-looked
+returns-in_err-sum_up-clause-looked c = none-compared c.args.work.now c.args.work.now _ refl
+
+pub returns-in_err-chunks-clause-looked : goal.returns-in_err-chunks-clause-looked
+returns-in_err-chunks-clause-looked c = none-compared c.args.work.now c.args.work.now _ refl

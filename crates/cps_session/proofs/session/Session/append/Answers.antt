@@ -1,13 +1,10 @@
-use Rattle.std.proofs.Common.{arith, ◌≡◌, ◌*◌, ◌≤◌, List, ℕ, ◌∷◌, [], ◌++◌, length, sym, ap, subst, ◌∙◌}
+use Rattle.std.proofs.Common.{arith, ◌≡◌, ◌≤◌, List, ℕ, ◌∷◌, [], ◌++◌, length, sym, ap, subst, ◌∙◌}
 use Rattle.std.proofs.lemmas.List.{length-append}
-use Rattle.cps_state.specs.Work.{counted_on}
 use Rattle.cps_division.specs.Division.{inserted_at}
 use Rattle.cps_edit.specs.Splice.{insertion}
 use Rattle.cps_edit.specs.Disturbed.{ones_of, twos_of}
-use Rattle.cps_chunks.specs.Chunks.{lengths_of}
-use Rattle.cps_chunks.specs.Touched.{touched_of}
 use Rattle.cps_assembly.specs.Limits.{most_lines}
-use Rattle.cps_session.specs.Edits.{Source, HaveStepped, HaveSteppedUpTo}
+use Rattle.cps_session.specs.Edits.{Source, HaveStepped, HaveSteppedUpTo, LooksOfEdit}
 use Rattle.cps_session.proofs.session.Session.append.Goals as goal
 
 pub invariant_of-self : goal.invariant_of-self
@@ -44,11 +41,10 @@ returns-clause-work c =
     subst (λ (s : Source). HaveStepped (ones_of s.lines (insertion (length s.lines) c.args.line)) (twos_of s.lines (insertion (length s.lines) c.args.line)) c.args.work.now c.append-made.new.work) c.self.view_is
     (record { first = made.ones; second = made.twos })
 
+pub returns-in_default-clause-looked : goal.returns-in_default-clause-looked
+returns-in_default-clause-looked c =
+    subst (λ (s : Source). LooksOfEdit s (insertion (length s.lines) c.args.line) (inserted_at (length s.lines) s.lengths) c.args.work.now c.append-made.new.work) c.self.view_is c.append-made.ensures.looked
+
 pub returns-clause-looked : goal.returns-clause-looked
 returns-clause-looked c =
-    let lines = c.self.inside.lists.lines.items in
-    let olds = lengths_of c.self.inside.lists.chunks.items in
-    let made = c.in-Ok.ensures in
-    let bound = subst (λ (ms : List ℕ). c.append-made.new.work.looked ≤ counted_on c.args.work.now.looked (128 * touched_of lines (insertion (length lines) c.args.line) olds ms)) (sym made.lengths) made.looked in
-    subst (λ (s : Source). c.append-made.new.work.looked ≤ counted_on c.args.work.now.looked (128 * touched_of s.lines (insertion (length s.lines) c.args.line) s.lengths (lengths_of c.append-made.new.self.chunks.items)))
-    c.self.view_is bound
+    subst (λ (s : Source). LooksOfEdit s (insertion (length s.lines) c.args.line) (inserted_at (length s.lines) s.lengths) c.args.work.now c.append-made.new.work) c.self.view_is c.append-made.ensures.looked

@@ -1,5 +1,6 @@
 use Rattle.std.proofs.Common.{arith, rules, ◌≡◌, ◌-◌, ◌≤◌, [], length, sym, ap, subst, ◌∙◌, List, ℕ}
-use Rattle.cps_division.specs.Division.{AreChunks, IsDivision}
+use Rattle.cps_division.specs.Division.{AreChunks, IsDivision, deleted_at}
+use Rattle.cps_division.specs.Recut.{recut as recut_by}
 use Rattle.cps_edit.specs.Splice.{Splice, splice_at}
 use Rattle.cps_session.specs.Edits.{LooksOfEdit}
 use Rattle.cps_session.proofs.SessionLemmas.{recuts-told}
@@ -23,5 +24,12 @@ splice-requires-clause-recuts c =
 
 pub returns-clause-looked : goal.returns-clause-looked
 returns-clause-looked c =
+    let keep = c.args.keep in
+    let from = c.args.from in
+    let recut = c.recut_deletion-recut.result in
+    let source = c.args.self.now in
     let none : c.new.result.items ≡ [] = search rules in
-    subst (λ (s : Splice). LooksOfEdit c.splice.result c.args.self.now c.splice.new.self s c.args.work.now c.splice.new.work) (ap (splice_at c.args.keep c.args.from) none) c.splice.ensures.looked
+    let same = c.deref.ensures.value ∙ c.in-Ok.ensures.lengths in
+    let made = ap (recut_by recut.start recut.end recut.lengths.items) (sym same) ∙ c.recut_deletion-recut.ensures.chunks ∙ ap (deleted_at keep (from - keep)) same in
+    subst (λ (s : Splice). LooksOfEdit source s (deleted_at keep (from - keep) source.lengths) c.args.work.now c.splice.new.work) (ap (splice_at keep from) none)
+    (subst (λ (ms : List ℕ). LooksOfEdit source (splice_at keep from c.new.result.items) ms c.args.work.now c.splice.new.work) made c.splice.ensures.looked)

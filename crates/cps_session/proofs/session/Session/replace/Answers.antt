@@ -1,6 +1,7 @@
 use Rattle.std.proofs.Common.{rules, arith, ◌≡◌, ◌-◌, ◌+◌, ◌≤◌, length, sym, ap, subst, ◌∙◌, List, ℕ}
 use Rattle.std.specs.Prelude.{OnOk}
 use Rattle.cps_division.specs.Division.{AreChunks, IsDivision}
+use Rattle.cps_division.specs.Recut.{recut as recut_by}
 use Rattle.cps_edit.specs.Splice.{Splice, splice_at, spliced}
 use Rattle.cps_session.specs.Edits.{HasLine, LooksOfEdit}
 use Rattle.cps_session.proofs.SessionLemmas.{replaced, recuts-told}
@@ -29,5 +30,10 @@ returns-clause-ok c =
 
 pub returns-clause-looked : goal.returns-clause-looked
 returns-clause-looked c =
-    subst (λ (s : Splice). LooksOfEdit c.splice.result c.args.self.now c.splice.new.self s c.args.work.now c.splice.new.work) (ap (splice_at (c.args.at - 1) c.args.at) c.in-Ok-list_of.ensures)
-    c.splice.ensures.looked
+    let at = c.args.at in
+    let recut = c.recut_replacement.result in
+    let source = c.args.self.now in
+    let same = c.deref.ensures.value ∙ c.in-Ok.ensures.lengths in
+    let made = ap (recut_by recut.start recut.end recut.lengths.items) (sym same) ∙ c.recut_replacement.ensures.chunks ∙ same in
+    subst (λ (s : Splice). LooksOfEdit source s source.lengths c.args.work.now c.splice.new.work) (ap (splice_at (at - 1) at) c.in-Ok-list_of.ensures)
+    (subst (λ (ms : List ℕ). LooksOfEdit source (splice_at (at - 1) at c.in-Ok-list_of.lines.items) ms c.args.work.now c.splice.new.work) made c.splice.ensures.looked)

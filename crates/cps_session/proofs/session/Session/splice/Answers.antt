@@ -1,16 +1,14 @@
-use Rattle.std.proofs.Common.{arith, ◌≡◌, ◌*◌, ◌≤◌, length, sym, ap, subst, ◌∙◌, List, ℕ}
+use Rattle.std.proofs.Common.{◌≤◌, length, sym, ap, subst, ◌∙◌, List, ℕ}
 use Rattle.cps_final.specs.Finals.{finals_of}
-use Rattle.cps_state.specs.Work.{counted_on}
+use Rattle.cps_division.specs.Recut.{recut as recut_by}
 use Rattle.cps_edit.specs.Splice.{spliced}
 use Rattle.cps_edit.specs.Disturbed.{ones_of, twos_of}
 use Rattle.cps_edit.specs.GatheredNow.{gathered_now}
-use Rattle.cps_chunks.specs.Chunks.{lengths_of}
-use Rattle.cps_chunks.specs.Touched.{touched_of}
 use Rattle.cps_kept.specs.Append.{Follows}
 use Rattle.cps_kept.specs.Kept.{splice_of}
 use Rattle.cps_assembly.specs.Assembly.{traces_of}
 use Rattle.cps_assembly.specs.Limits.{most_lines}
-use Rattle.cps_session.specs.Edits.{Source, HaveStepped, HaveSteppedUpTo}
+use Rattle.cps_session.specs.Edits.{Source, HaveStepped, HaveSteppedUpTo, LooksOfEdit}
 use Rattle.cps_session.proofs.SessionLemmas.{kept_still}
 use Rattle.cps_session.proofs.session.Session.splice.Goals as goal
 
@@ -48,10 +46,12 @@ returns-clause-work c =
     subst (λ (s : Source). HaveStepped (ones_of s.lines splice) (twos_of s.lines splice) c.args.work.now c.splice-made.new.work) c.self.view_is
     (record { first = c.in-Ok.ensures.ones; second = c.in-Ok.ensures.twos })
 
+pub returns-in_default-clause-looked : goal.returns-in_default-clause-looked
+returns-in_default-clause-looked c =
+    let recut = c.args.recut in
+    subst (λ (s : Source). LooksOfEdit s (splice_of c.args.new) (recut_by recut.start recut.end recut.lengths.items s.lengths) c.args.work.now c.splice-made.new.work) c.self.view_is c.splice-made.ensures.looked
+
 pub returns-clause-looked : goal.returns-clause-looked
 returns-clause-looked c =
-    let splice = splice_of c.args.new in
-    let made = c.in-Ok.ensures in
-    let bound = subst (λ (ms : List ℕ). c.splice-made.new.work.looked ≤ counted_on c.args.work.now.looked (128 * touched_of c.self.inside.lists.lines.items splice (lengths_of c.self.inside.lists.chunks.items) ms))
-    (sym made.lengths) made.looked in
-    subst (λ (s : Source). c.splice-made.new.work.looked ≤ counted_on c.args.work.now.looked (128 * touched_of s.lines splice s.lengths (lengths_of c.splice-made.new.self.chunks.items))) c.self.view_is bound
+    let recut = c.args.recut in
+    subst (λ (s : Source). LooksOfEdit s (splice_of c.args.new) (recut_by recut.start recut.end recut.lengths.items s.lengths) c.args.work.now c.splice-made.new.work) c.self.view_is c.splice-made.ensures.looked

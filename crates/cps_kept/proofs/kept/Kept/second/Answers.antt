@@ -1,14 +1,16 @@
-use Rattle.std.proofs.Common.{◌≡◌, [], take, drop, refl, sym, ap, subst, ◌∙◌}
+use Rattle.std.proofs.Common.{arith, ◌≡◌, [], take, drop, refl, sym, ap, subst, ◌∙◌}
 use Rattle.std.specs.Prelude.{OnOk, IfNone}
 use Rattle.cps_state.specs.Work.{counted_on}
 use Rattle.cps_final.specs.Resolving.{resolved}
 use Rattle.cps_edit.specs.Passes.{outcomes_by}
 use Rattle.cps_edit.specs.Renewed.{mended, redone_parts}
+use Rattle.cps_edit.specs.Compares.{Compares}
+use Rattle.cps_edit.proofs.FrontLemmas.{none-more}
 use Rattle.cps_kept.specs.declared.second.Second.{Second}
 use Rattle.cps_kept.proofs.InPlaceLemmas.{in_place-parts}
-use Rattle.cps_kept.proofs.LookLemmas.{on-unit}
+use Rattle.cps_kept.proofs.QuietLemmas.{on-ok as on-all}
 use Rattle.cps_kept.proofs.SecondLemmas.{none-made}
-use Rattle.cps_kept.proofs.plan.Kept.second.Goals as goal
+use Rattle.cps_kept.proofs.kept.Kept.second.Goals as goal
 
 pub returns-in-None-clause-before : goal.returns-in-None-clause-before
 returns-in-None-clause-before c =
@@ -52,10 +54,11 @@ pub returns-in-Some-clause-twos_err : goal.returns-in-Some-clause-twos_err
 returns-in-Some-clause-twos_err c = rw c.in-Some.is c.second_of_all.ensures.twos_err
 
 pub returns-in-None-clause-looked : goal.returns-in-None-clause-looked
-returns-in-None-clause-looked c = rw c.in-None.is c.second_in_place.ensures.looked
+returns-in-None-clause-looked c =
+    let same = c.second_in_place.ensures.looked in
+    let none : Compares c.second_in_place.result c.args.work.now c.second_in_place.new.work 0 =
+    record { exact = on-all c.second_in_place.result (same ∙ none-more c.args.work.now.looked); least = omega (arith, same); most = omega (arith, same) } in
+    rw c.in-None.is none
 
-pub returns-in-Some-clause-looked_all : goal.returns-in-Some-clause-looked_all
-returns-in-Some-clause-looked_all c = rw c.in-Some.is c.second_of_all.ensures.looked
-
-pub returns-in-None-clause-looked_all : goal.returns-in-None-clause-looked_all
-returns-in-None-clause-looked_all c = rw c.in-None.is (on-unit c.second_in_place.result)
+pub returns-in-Some-clause-looked : goal.returns-in-Some-clause-looked
+returns-in-Some-clause-looked c = rw c.in-Some.is c.second_of_all.ensures.looked

@@ -1,9 +1,10 @@
-use Rattle.std.proofs.Common.{rules, arith, ◌≡◌, ◌∷◌, [], List, length, take, ap, subst, ◌∙◌}
+use Rattle.std.proofs.Common.{rules, arith, ◌≡◌, ◌∷◌, [], List, length, take, refl, ap, subst, ◌∙◌}
 use Rattle.std.specs.Prelude.{IfOk}
 use Rattle.cps_state.specs.Keys.{State, first_state}
 use Rattle.cps_edit.specs.Passes.{state_after, traces_from}
-use Rattle.cps_kept.proofs.PlanLemmas.{one-line}
-use Rattle.cps_kept.proofs.plan.Kept.step_new.Goals as goal
+use Rattle.cps_edit.specs.contracts.front.FrontGathered.TheImpl.{gathered-value}
+use Rattle.cps_kept.proofs.PlanLemmas.{one-line, begun}
+use Rattle.cps_kept.proofs.kept.Kept.step_new.Goals as goal
 
 pub returns-then-new-eq1-clause-traces : goal.returns-then-new-eq1-clause-traces
 returns-then-new-eq1-clause-traces c =
@@ -13,4 +14,4 @@ returns-then-new-eq1-clause-traces c =
 
 pub returns-clause-traces : goal.returns-clause-traces
 returns-clause-traces c =
-    subst (λ (s : State). IfOk c.step_all.result (λ first. first.items ≡ traces_from s c.args.new.now)) c.in_ok-front.ensures.state c.step_all.ensures.traces
+    subst (λ (s : State). IfOk c.step_all.result (λ first. first.items ≡ traces_from s c.args.new.now)) (begun c.args.self.lines.now [] c.args.spot.keep [] (gathered-value.it c.in_ok-front.front) refl c.in_ok-front.ensures).1 c.step_all.ensures.traces

@@ -8,10 +8,10 @@ use Rattle.cps_edit.specs.Splice.{splice_at, spliced}
 use Rattle.cps_edit.specs.Disturbed.{finals_in, twos_of}
 use Rattle.cps_edit.specs.Renewed.{redone_parts}
 use Rattle.cps_edit.proofs.ReplayLemmas.{on-err}
-use Rattle.cps_kept.proofs.LookLemmas.{by_front}
+use Rattle.cps_kept.proofs.LookLemmas.{first-looked, by_front}
 use Rattle.cps_kept.proofs.WholeLemmas.{outcomes_whole, more_up, more_under}
 use Rattle.cps_gather.specs.contracts.finals.FinalsGathered.TheImpl.{gathered-value}
-use Rattle.cps_kept.proofs.plan.Kept.edit.Goals as goal
+use Rattle.cps_kept.proofs.kept.Kept.edit.Goals as goal
 
 pub returns-clause-twos : goal.returns-clause-twos
 returns-clause-twos c =
@@ -45,5 +45,15 @@ pub returns-clause-looked : goal.returns-clause-looked
 returns-clause-looked c =
     let plan = c.in_ok-plan.plan in
     by_front c.args.self.lines.now c.args.self.traces.now c.args.spot c.args.new.now (resolved c.args.self.finals.now) (gathered-value.it c.args.self.finals.now) plan.news.items
-    c.args.work.now.looked c.plan.new.work.looked c.second.new.work.looked plan.front
-    (ap final_value c.requires.finals) (ap final_value c.in_ok-plan.ensures.finals) c.in_ok-plan.ensures.looked c.in_ok-plan.ensures.looked_all c.in_ok-plan.ensures.flags c.second.ensures.looked c.in_ok-second.ensures.looked_all
+    c.args.work.now c.plan.new.work c.second.new.work plan.front
+    (ap final_value c.requires.finals) (ap final_value c.in_ok-plan.ensures.finals) c.in_ok-plan.ensures.looked c.in_ok-plan.ensures.flags (record { least = c.second.ensures.looked.least; most = c.second.ensures.looked.most })
+
+pub returns-in_err-second-clause-looked : goal.returns-in_err-second-clause-looked
+returns-in_err-second-clause-looked c =
+    let plan = c.in_ok-plan.plan in
+    by_front c.args.self.lines.now c.args.self.traces.now c.args.spot c.args.new.now (resolved c.args.self.finals.now) (gathered-value.it c.args.self.finals.now) plan.news.items
+    c.args.work.now c.plan.new.work c.second.new.work plan.front
+    (ap final_value c.requires.finals) (ap final_value c.in_ok-plan.ensures.finals) c.in_ok-plan.ensures.looked c.in_ok-plan.ensures.flags (record { least = c.second.ensures.looked.least; most = c.second.ensures.looked.most })
+
+pub returns-in_err-plan-clause-looked : goal.returns-in_err-plan-clause-looked
+returns-in_err-plan-clause-looked c = first-looked c.args.self.lines.now c.args.self.traces.now c.args.spot c.args.new.now c.args.work.now c.plan.new.work c.plan.ensures.looked_within

@@ -7,7 +7,7 @@ use Rattle.cps_edit.proofs.SpliceLemmas.{length-traces_from}
 use Rattle.cps_kept.proofs.LookLemmas.{front-parts}
 use Rattle.cps_kept.proofs.PlanLemmas.{state-before}
 use Rattle.cps_kept.proofs.QuietLemmas.{on-ok}
-use Rattle.cps_kept.proofs.plan.Kept.step_at.Goals as goal
+use Rattle.cps_kept.proofs.kept.Kept.step_at.Goals as goal
 
 pub split_at-requires : goal.split_at-requires
 split_at-requires c =

@@ -1,6 +1,6 @@
 use Rattle.std.proofs.Common.{rules, ◌≡◌, ◌∷◌, [], ap, ◌∙◌}
 use Rattle.cps_state.specs.Course.{Trace}
-use Rattle.cps_kept.proofs.plan.Kept.step_one.Goals as goal
+use Rattle.cps_kept.proofs.kept.Kept.step_one.Goals as goal
 
 pub returns-clause-traces : goal.returns-clause-traces
 returns-clause-traces c =

@@ -1,21 +1,21 @@
-use Rattle.std.proofs.Common.{rules, arith, ◌≡◌, ◌≤◌, List, length, take, drop, refl, sym, ap, subst, ◌∙◌, ◌+◌, ◌-◌}
+use Rattle.std.proofs.Common.{rules, arith, ℕ, ◌≡◌, ◌≤◌, List, length, take, drop, refl, sym, ap, subst, ◌∙◌, ◌+◌, ◌-◌}
 use Rattle.std.proofs.lemmas.List.{length-drop}
 use Rattle.cps_state.specs.Course.{Trace}
 use Rattle.cps_state.specs.Work.{counted_on}
 use Rattle.cps_final.specs.Finals.{final_value}
 use Rattle.cps_final.specs.Resolving.{resolved}
 use Rattle.cps_edit.specs.Passes.{outcomes_by}
-use Rattle.cps_edit.specs.Renewed.{merged, nones, redone_parts}
+use Rattle.cps_edit.specs.Renewed.{merged, nones, unchanged_in, redone_parts}
 use Rattle.cps_edit.specs.contracts.front.FrontGathered.TheImpl.{gathered-value}
 use Rattle.cps_edit.specs.Agreeing.{same_at}
 use Rattle.cps_edit.proofs.ReplayLemmas.{on-err, le-same}
 use Rattle.cps_chunks.specs.Chunks.{looks_kept, looks_again}
-use Rattle.cps_chunks.proofs.ChunkLemmas.{both-looked}
+use Rattle.cps_chunks.proofs.ChunkLemmas.{both, both-under, first-under}
 use Rattle.cps_kept.proofs.LookLemmas.{front-parts}
 use Rattle.cps_kept.proofs.SecondLemmas.{second_steps, second_last, second_mid, second_first, mended-outcomes}
 use Rattle.cps_edit.proofs.TakenLemmas.{mended_merged, merged_nones}
 use Rattle.cps_kept.proofs.WholeLemmas.{renamed}
-use Rattle.cps_kept.proofs.plan.Kept.second_of_all.Goals as goal
+use Rattle.cps_kept.proofs.kept.Kept.second_of_all.Goals as goal
 
 pub returns-in_err-before-clause-twos_err : goal.returns-in_err-before-clause-twos_err
 returns-in_err-before-clause-twos_err c =
@@ -114,18 +114,93 @@ redo_behind-requires-clause-within c =
 pub redo_behind-requires-clause-summed : goal.redo_behind-requires-clause-summed
 redo_behind-requires-clause-summed c = rw c.split_at-2.ensures.back c.requires.around.behind
 
+pub returns-in_err-before-clause-looked : goal.returns-in_err-before-clause-looked
+returns-in_err-before-clause-looked c =
+    let spot = c.args.spot in
+    let ts = c.args.self.traces.now in
+    let was = resolved c.args.self.finals.now in
+    let there = final_value (gathered-value.it c.args.front.now) in
+    let same = ap final_value c.finals.ensures in
+    let parts = front-parts spot.keep spot.in_front.loose ts c.split_at.result.0.now c.split_at.ensures.front c.split_at.ensures.front_len in
+    let loose = spot.in_front.loose in
+    let front = c.split_at.result.0.now in
+    let now = resolved c.finals.result.now in
+    let first : looks_kept (same_at was now) spot.in_front.chunks.now (take (length front - loose) front) + loose ≡ looks_kept (same_at was there) spot.in_front.chunks.now (take (spot.keep - loose) ts) + loose =
+    λ i. looks_kept (same_at was (same i)) spot.in_front.chunks.now (parts i) + loose in
+    let rest : ℕ = unchanged_in (take spot.behind.loose c.args.plan.now.news.items) + looks_again (same_at was there) spot.behind.chunks.now (drop spot.behind.loose c.args.plan.now.news.items) in
+    record {
+      exact = search rules;
+      least = c.in_err-before.ensures.looked.least;
+      most = first-under c.args.work.now.looked c.redo_in_front.new.work.looked _ rest _ c.in_err-before.ensures.looked.most
+          (ap (λ k. k + rest) (sym first));
+    }
+
+pub returns-in_err-first-clause-looked : goal.returns-in_err-first-clause-looked
+returns-in_err-first-clause-looked c =
+    let spot = c.args.spot in
+    let ts = c.args.self.traces.now in
+    let was = resolved c.args.self.finals.now in
+    let there = final_value (gathered-value.it c.args.front.now) in
+    let same = ap final_value c.finals.ensures in
+    let parts = front-parts spot.keep spot.in_front.loose ts c.split_at.result.0.now c.split_at.ensures.front c.split_at.ensures.front_len in
+    let loose = spot.in_front.loose in
+    let front = c.split_at.result.0.now in
+    let now = resolved c.finals.result.now in
+    let first : looks_kept (same_at was now) spot.in_front.chunks.now (take (length front - loose) front) + loose ≡ looks_kept (same_at was there) spot.in_front.chunks.now (take (spot.keep - loose) ts) + loose =
+    λ i. looks_kept (same_at was (same i)) spot.in_front.chunks.now (parts i) + loose in
+    let step = c.step_two_all.ensures.looked in
+    let rest : ℕ = unchanged_in (take spot.behind.loose c.args.plan.now.news.items) + looks_again (same_at was there) spot.behind.chunks.now (drop spot.behind.loose c.args.plan.now.news.items) in
+    record {
+      exact = search rules;
+      least = omega (arith, c.in_ok-before.ensures.looked.least, step);
+      most = first-under c.args.work.now.looked c.step_two_all.new.work.looked _ rest _ (le-same _ _ (step ∙ c.in_ok-before.ensures.looked.exact))
+          (ap (λ k. k + rest) (sym first));
+    }
+
+pub returns-in_err-behind-clause-looked : goal.returns-in_err-behind-clause-looked
+returns-in_err-behind-clause-looked c =
+    let spot = c.args.spot in
+    let ts = c.args.self.traces.now in
+    let was = resolved c.args.self.finals.now in
+    let there = final_value (gathered-value.it c.args.front.now) in
+    let same = ap final_value c.finals.ensures in
+    let parts = front-parts spot.keep spot.in_front.loose ts c.split_at.result.0.now c.split_at.ensures.front c.split_at.ensures.front_len in
+    let loose = spot.in_front.loose in
+    let front = c.split_at.result.0.now in
+    let now = resolved c.finals.result.now in
+    let first : looks_kept (same_at was now) spot.in_front.chunks.now (take (length front - loose) front) + loose ≡ looks_kept (same_at was there) spot.in_front.chunks.now (take (spot.keep - loose) ts) + loose =
+    λ i. looks_kept (same_at was (same i)) spot.in_front.chunks.now (parts i) + loose in
+    let n = spot.behind.loose in
+    let at_news : c.deref-2.result.now ≡ c.args.plan.now.news.items = search rules in
+    let last : unchanged_in (take n c.deref-2.result.now) + looks_again (same_at was now) spot.behind.chunks.now (drop n c.deref-2.result.now)
+    ≡ unchanged_in (take n c.args.plan.now.news.items) + looks_again (same_at was there) spot.behind.chunks.now (drop n c.args.plan.now.news.items) =
+    λ i. unchanged_in (take n (at_news i)) + looks_again (same_at was (same i)) spot.behind.chunks.now (drop n (at_news i)) in
+    let step = c.step_two_all.ensures.looked in
+    record {
+      exact = search rules;
+      least = omega (arith, c.in_ok-before.ensures.looked.least, step, c.in_err-behind.ensures.looked.least);
+      most = both-under c.args.work.now.looked c.step_two_all.new.work.looked c.redo_behind.new.work.looked _ _ _ (step ∙ c.in_ok-before.ensures.looked.exact) c.in_err-behind.ensures.looked.most
+          (sym (λ i. first i + last i));
+    }
+
 pub returns-clause-looked : goal.returns-clause-looked
 returns-clause-looked c =
     let spot = c.args.spot in
     let ts = c.args.self.traces.now in
     let was = resolved c.args.self.finals.now in
-    let n = spot.behind.loose in
-    let same = ap final_value c.finals.ensures in
-    let at_news : c.deref-2.result.now ≡ c.args.plan.now.news.items = search rules in
-    let parts = front-parts spot.keep spot.in_front.loose ts c.split_at.result.0.now c.split_at.ensures.front c.split_at.ensures.front_len in
-    let first = subst (λ k. c.redo_in_front.new.work.looked ≤ counted_on c.args.work.now.looked k) (λ i. looks_kept (same_at was (same i)) spot.in_front.chunks.now (parts i) + spot.in_front.loose) c.in_ok-before.ensures.looked in
     let there = final_value (gathered-value.it c.args.front.now) in
-    let A = looks_kept (same_at was there) spot.in_front.chunks.now (take (spot.keep - spot.in_front.loose) ts) + spot.in_front.loose in
-    let mid : c.step_two_all.new.work.looked ≤ counted_on c.args.work.now.looked A = subst (λ k. k ≤ counted_on c.args.work.now.looked A) (sym c.step_two_all.ensures.looked) first in
-    let last = subst (λ k. c.redo_behind.new.work.looked ≤ counted_on c.step_two_all.new.work.looked k) (λ i. n + looks_again (same_at was (same i)) spot.behind.chunks.now (drop n (at_news i)) (drop n (c.split_at-2.ensures.back i))) c.in_ok-behind.ensures.looked in
-    both-looked c.args.work.now.looked c.step_two_all.new.work.looked c.redo_behind.new.work.looked _ _ _ mid last (le-same _ _ refl)
+    let same = ap final_value c.finals.ensures in
+    let parts = front-parts spot.keep spot.in_front.loose ts c.split_at.result.0.now c.split_at.ensures.front c.split_at.ensures.front_len in
+    let loose = spot.in_front.loose in
+    let front = c.split_at.result.0.now in
+    let now = resolved c.finals.result.now in
+    let first : looks_kept (same_at was now) spot.in_front.chunks.now (take (length front - loose) front) + loose ≡ looks_kept (same_at was there) spot.in_front.chunks.now (take (spot.keep - loose) ts) + loose =
+    λ i. looks_kept (same_at was (same i)) spot.in_front.chunks.now (parts i) + loose in
+    let n = spot.behind.loose in
+    let at_news : c.deref-2.result.now ≡ c.args.plan.now.news.items = search rules in
+    let last : unchanged_in (take n c.deref-2.result.now) + looks_again (same_at was now) spot.behind.chunks.now (drop n c.deref-2.result.now)
+    ≡ unchanged_in (take n c.args.plan.now.news.items) + looks_again (same_at was there) spot.behind.chunks.now (drop n c.args.plan.now.news.items) =
+    λ i. unchanged_in (take n (at_news i)) + looks_again (same_at was (same i)) spot.behind.chunks.now (drop n (at_news i)) in
+    let step = c.step_two_all.ensures.looked in
+    let all = both c.args.work.now.looked c.step_two_all.new.work.looked c.redo_behind.new.work.looked _ _ _ (step ∙ c.in_ok-before.ensures.looked.exact) c.in_ok-behind.ensures.looked.exact (sym (λ i. first i + last i)) in
+    record { exact = all; least = omega (arith, c.in_ok-before.ensures.looked.least, step, c.in_ok-behind.ensures.looked.least); most = le-same _ _ all }

@@ -11,23 +11,20 @@ use Rattle.cps_edit.specs.contracts.front.FrontGathered.TheImpl.{gathered-value}
 use Rattle.cps_kept.proofs.InPlaceLemmas.{in_place-traces, in_place-finals, in_place-ones, in_place-twos, in_place-parts}
 use Rattle.cps_chunks.specs.Chunks.{looks_from}
 use Rattle.cps_chunks.proofs.ChunkLemmas.{done-behind}
+use Rattle.cps_edit.proofs.FrontLemmas.{none-more}
 use Rattle.cps_edit.proofs.ReplayLemmas.{on-err, le-same}
 use Rattle.cps_edit.proofs.SpliceLemmas.{length-traces_from, planned_traces, planned_steps, planned_first, planned_last, planned_finals, planned_flags}
 use Rattle.cps_edit.proofs.TakenLemmas.{mended_merged}
+use Rattle.cps_kept.proofs.PlanLemmas.{begun}
 use Rattle.cps_kept.proofs.WholeLemmas.{twice_is}
 use Rattle.cps_kept.specs.Looks.{first_looks}
-use Rattle.cps_kept.proofs.plan.Kept.plan.Goals as goal
+use Rattle.cps_kept.proofs.kept.Kept.plan.Goals as goal
 
 pub step_new-requires-clause-within : goal.step_new-requires-clause-within
 step_new-requires-clause-within c = omega (arith, c.requires.ordered, c.requires.within)
 
 pub gather-requires-clause-within : goal.gather-requires-clause-within
 gather-requires-clause-within c = omega (arith, c.requires.ordered, c.requires.within)
-
-pub gather-requires-clause-first : goal.gather-requires-clause-first
-gather-requires-clause-first c =
-    let at_first : c.deref-2.result.now ≡ c.in_ok-first.first.items = search rules in
-    at_first ∙ c.in_ok-first.ensures.traces
 
 pub split_at-requires-2 : goal.split_at-requires-2
 split_at-requires-2 c =
@@ -47,6 +44,8 @@ replay_behind-requires-clause-summed c = rw c.split_at-2.ensures.back c.requires
 
 pub returns-clause-traces : goal.returns-clause-traces
 returns-clause-traces c =
+    let at_first : c.deref-2.result.now ≡ c.in_ok-first.first.items = search rules in
+    let begins = begun c.args.self.lines.now c.args.new.now c.args.spot.keep c.deref-2.result.now (gathered-value.it c.in_ok-front.front) (at_first ∙ c.in_ok-first.ensures.traces) c.in_ok-front.ensures in
     let lines = c.args.self.lines.now in
     let traces = c.args.self.traces.now in
     let news = c.in_ok-news.news.items in
@@ -54,7 +53,7 @@ returns-clause-traces c =
     let long : length news ≡ length (drop c.args.spot.from traces) = c.in_ok-news.ensures.replays.len ∙ ap length c.split_at-2.ensures.back in
     ap (λ ts. take c.args.spot.keep traces ++ (firsts ++ ts)) (mended_merged news (drop c.args.spot.from traces) long)
     ∙ planned_traces lines c.args.new.now c.split_at.result.1.now c.args.spot.keep c.args.spot.from traces c.split_at-2.result.1.now firsts news (gathered-value.it c.in_ok-front.front).state
-    c.requires.kept c.split_at.ensures.back c.split_at-2.ensures.back c.in_ok-first.ensures.traces c.in_ok-front.ensures.state c.in_ok-news.ensures.replays.traces
+    c.requires.kept c.split_at.ensures.back c.split_at-2.ensures.back c.in_ok-first.ensures.traces begins.1 c.in_ok-news.ensures.replays.traces
 
 pub returns-clause-first : goal.returns-clause-first
 returns-clause-first c = ap length c.in_ok-first.ensures.traces ∙ length-traces_from (state_after first_state (take c.args.spot.keep c.args.self.lines.now)) c.args.new.now
@@ -75,28 +74,34 @@ returns-clause-len c =
 
 pub returns-clause-finals : goal.returns-clause-finals
 returns-clause-finals c =
+    let at_first : c.deref-2.result.now ≡ c.in_ok-first.first.items = search rules in
+    let begins = begun c.args.self.lines.now c.args.new.now c.args.spot.keep c.deref-2.result.now (gathered-value.it c.in_ok-front.front) (at_first ∙ c.in_ok-first.ensures.traces) c.in_ok-front.ensures in
     planned_finals c.args.self.lines.now c.args.new.now c.split_at.result.1.now c.args.spot.keep c.args.spot.from (gathered-value.it c.in_ok-front.front) (gathered-value.it c.replay_behind.new.front)
-    c.split_at.ensures.back c.in_ok-front.ensures.finals c.in_ok-front.ensures.state c.in_ok-news.ensures.replays.gathers
+    c.split_at.ensures.back begins.0 begins.1 c.in_ok-news.ensures.replays.gathers
 
 pub returns-clause-count : goal.returns-clause-count
 returns-clause-count c =
+    let at_first : c.deref-2.result.now ≡ c.in_ok-first.first.items = search rules in
+    let begins = begun c.args.self.lines.now c.args.new.now c.args.spot.keep c.deref-2.result.now (gathered-value.it c.in_ok-front.front) (at_first ∙ c.in_ok-first.ensures.traces) c.in_ok-front.ensures in
     let lines = c.args.self.lines.now in
     let traces = c.args.self.traces.now in
     let news = c.in_ok-news.news.items in
     let flags = planned_flags lines c.args.new.now c.split_at.result.1.now c.args.spot.keep c.args.spot.from traces c.split_at-2.result.1.now news (gathered-value.it c.in_ok-front.front).state
-    c.split_at.ensures.back c.split_at-2.ensures.back c.in_ok-front.ensures.state c.in_ok-news.ensures.replays.flags in
+    c.split_at.ensures.back c.split_at-2.ensures.back begins.1 c.in_ok-news.ensures.replays.flags in
     let whole = planned_finals lines c.args.new.now c.split_at.result.1.now c.args.spot.keep c.args.spot.from (gathered-value.it c.in_ok-front.front) (gathered-value.it c.replay_behind.new.front)
-    c.split_at.ensures.back c.in_ok-front.ensures.finals c.in_ok-front.ensures.state c.in_ok-news.ensures.replays.gathers in
+    c.split_at.ensures.back begins.0 begins.1 c.in_ok-news.ensures.replays.gathers in
     let long = ap length c.in_ok-first.ensures.traces ∙ length-traces_from (state_after first_state (take c.args.spot.keep lines)) c.args.new.now in
     twice_is (resolved c.args.self.finals.now) (final_value (gathered-value.it c.replay_behind.new.front)) lines c.args.new.now traces c.in_ok-first.first.items news c.args.spot.keep c.args.spot.from
     c.requires.kept (ap final_value c.requires.finals) (ap final_value whole) long flags
 
 pub returns-clause-ones : goal.returns-clause-ones
 returns-clause-ones c =
+    let at_first : c.deref-2.result.now ≡ c.in_ok-first.first.items = search rules in
+    let begins = begun c.args.self.lines.now c.args.new.now c.args.spot.keep c.deref-2.result.now (gathered-value.it c.in_ok-front.front) (at_first ∙ c.in_ok-first.ensures.traces) c.in_ok-front.ensures in
     let lines = c.args.self.lines.now in
     let traces = c.args.self.traces.now in
     planned_steps lines c.args.new.now c.split_at.result.1.now c.args.spot.keep c.args.spot.from traces c.split_at-2.result.1.now (gathered-value.it c.in_ok-front.front).state c.args.work.now.ones c.step_new.new.work.ones c.replay_behind.new.work.ones
-    c.requires.kept c.split_at.ensures.back c.split_at-2.ensures.back c.in_ok-front.ensures.state c.in_ok-first.ensures.ones c.in_ok-news.ensures.replays.ones
+    c.requires.kept c.split_at.ensures.back c.split_at-2.ensures.back begins.1 c.in_ok-first.ensures.ones c.in_ok-news.ensures.replays.ones
 
 pub returns-in_err-first-clause-ones_err : goal.returns-in_err-first-clause-ones_err
 returns-in_err-first-clause-ones_err c =
@@ -108,27 +113,73 @@ returns-in_err-front-clause-ones_err c =
 
 pub returns-in_err-news-clause-ones_err : goal.returns-in_err-news-clause-ones_err
 returns-in_err-news-clause-ones_err c =
+    let at_first : c.deref-2.result.now ≡ c.in_ok-first.first.items = search rules in
+    let begins = begun c.args.self.lines.now c.args.new.now c.args.spot.keep c.deref-2.result.now (gathered-value.it c.in_ok-front.front) (at_first ∙ c.in_ok-first.ensures.traces) c.in_ok-front.ensures in
     let lines = c.args.self.lines.now in
     let traces = c.args.self.traces.now in
     on-err _ (planned_last lines c.args.new.now c.split_at.result.1.now c.args.spot.keep c.args.spot.from traces c.split_at-2.result.1.now (gathered-value.it c.in_ok-front.front).state c.args.work.now.ones c.step_new.new.work.ones c.replay_behind.new.work.ones
-    c.requires.kept c.split_at.ensures.back c.split_at-2.ensures.back c.in_ok-front.ensures.state c.in_ok-first.ensures.ones c.in_err-news.ensures.ones_err)
+    c.requires.kept c.split_at.ensures.back c.split_at-2.ensures.back begins.1 c.in_ok-first.ensures.ones c.in_err-news.ensures.ones_err)
 
-pub returns-clause-looked_all : goal.returns-clause-looked_all
-returns-clause-looked_all c =
+pub returns-clause-looked : goal.returns-clause-looked
+returns-clause-looked c =
+    let at_first : c.deref-2.result.now ≡ c.in_ok-first.first.items = search rules in
+    let begins = begun c.args.self.lines.now c.args.new.now c.args.spot.keep c.deref-2.result.now (gathered-value.it c.in_ok-front.front) (at_first ∙ c.in_ok-first.ensures.traces) c.in_ok-front.ensures in
     let spot = c.args.spot in
     let n = spot.behind.loose in
-    let state = c.in_ok-front.ensures.state in
+    let state = begins.1 in
     let back = c.split_at.ensures.back in
-    subst (λ k. c.replay_behind.new.work.looked ≤ counted_on k (first_looks c.args.self.lines.now spot c.args.new.now)) c.step_new.ensures.looked
-    (subst (λ k. c.replay_behind.new.work.looked ≤ counted_on c.step_new.new.work.looked k) (λ i. n + looks_from (state_after (state i) (take n (back i))) spot.behind.chunks.now (drop n (back i))) c.in_ok-news.ensures.looked)
+    let here = (gathered-value.it c.in_ok-front.front).state in
+    let rest = c.split_at.result.1.now in
+    let same : n + looks_from (state_after here (take n rest)) spot.behind.chunks.now (drop n rest) ≡ first_looks c.args.self.lines.now spot c.args.new.now =
+    λ i. n + looks_from (state_after (state i) (take n (back i))) spot.behind.chunks.now (drop n (back i)) in
+    c.in_ok-news.ensures.looked.exact ∙ (λ i. counted_on (c.step_new.ensures.looked i) (same i))
+
+pub returns-clause-looked_within : goal.returns-clause-looked_within
+returns-clause-looked_within c =
+    let at_first : c.deref-2.result.now ≡ c.in_ok-first.first.items = search rules in
+    let begins = begun c.args.self.lines.now c.args.new.now c.args.spot.keep c.deref-2.result.now (gathered-value.it c.in_ok-front.front) (at_first ∙ c.in_ok-first.ensures.traces) c.in_ok-front.ensures in
+    let spot = c.args.spot in
+    let n = spot.behind.loose in
+    let state = begins.1 in
+    let back = c.split_at.ensures.back in
+    let here = (gathered-value.it c.in_ok-front.front).state in
+    let rest = c.split_at.result.1.now in
+    let same : n + looks_from (state_after here (take n rest)) spot.behind.chunks.now (drop n rest) ≡ first_looks c.args.self.lines.now spot c.args.new.now =
+    λ i. n + looks_from (state_after (state i) (take n (back i))) spot.behind.chunks.now (drop n (back i)) in
+    record {
+      least = omega (arith, c.step_new.ensures.looked, c.in_ok-news.ensures.looked.least);
+      most = subst (λ k. c.replay_behind.new.work.looked ≤ counted_on k (first_looks c.args.self.lines.now spot c.args.new.now)) c.step_new.ensures.looked
+          (subst (λ k. c.replay_behind.new.work.looked ≤ counted_on c.step_new.new.work.looked k) same c.in_ok-news.ensures.looked.most);
+    }
+
+pub returns-in_err-news-clause-looked_within : goal.returns-in_err-news-clause-looked_within
+returns-in_err-news-clause-looked_within c =
+    let at_first : c.deref-2.result.now ≡ c.in_ok-first.first.items = search rules in
+    let begins = begun c.args.self.lines.now c.args.new.now c.args.spot.keep c.deref-2.result.now (gathered-value.it c.in_ok-front.front) (at_first ∙ c.in_ok-first.ensures.traces) c.in_ok-front.ensures in
+    let spot = c.args.spot in
+    let n = spot.behind.loose in
+    let state = begins.1 in
+    let back = c.split_at.ensures.back in
+    let here = (gathered-value.it c.in_ok-front.front).state in
+    let rest = c.split_at.result.1.now in
+    let same : n + looks_from (state_after here (take n rest)) spot.behind.chunks.now (drop n rest) ≡ first_looks c.args.self.lines.now spot c.args.new.now =
+    λ i. n + looks_from (state_after (state i) (take n (back i))) spot.behind.chunks.now (drop n (back i)) in
+    record {
+      least = omega (arith, c.step_new.ensures.looked, c.in_err-news.ensures.looked.least);
+      most = subst (λ k. c.replay_behind.new.work.looked ≤ counted_on k (first_looks c.args.self.lines.now spot c.args.new.now)) c.step_new.ensures.looked
+          (subst (λ k. c.replay_behind.new.work.looked ≤ counted_on c.step_new.new.work.looked k) same c.in_err-news.ensures.looked.most);
+    }
 
 pub returns-clause-flags : goal.returns-clause-flags
-returns-clause-flags c = c.in_ok-news.ensures.replays.flags ∙ (λ i. flags_from (c.in_ok-front.ensures.state i) (c.split_at.ensures.back i) (c.split_at-2.ensures.back i))
+returns-clause-flags c =
+    let at_first : c.deref-2.result.now ≡ c.in_ok-first.first.items = search rules in
+    let begins = begun c.args.self.lines.now c.args.new.now c.args.spot.keep c.deref-2.result.now (gathered-value.it c.in_ok-front.front) (at_first ∙ c.in_ok-first.ensures.traces) c.in_ok-front.ensures in
+    c.in_ok-news.ensures.replays.flags ∙ (λ i. flags_from (begins.1 i) (c.split_at.ensures.back i) (c.split_at-2.ensures.back i))
 
 -- ---- in place
 
 pub returns-then-leave_same-clause-looked : goal.returns-then-leave_same-clause-looked
-returns-then-leave_same-clause-looked c = c.step_new.ensures.looked
+returns-then-leave_same-clause-looked c = c.step_new.ensures.looked ∙ none-more c.args.work.now.looked
 
 pub returns-then-leave_same-clause-traces : goal.returns-then-leave_same-clause-traces
 returns-then-leave_same-clause-traces c =

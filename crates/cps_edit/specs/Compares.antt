@@ -1,0 +1,14 @@
+-- How many comparisons a call counts. Our own.
+use Rattle.std.specs.Prelude.{◌≡◌, ◌≤◌, ℕ, Result, OnOk}
+use Rattle.cps_state.specs.Work.{Counts, counted_on}
+
+-- at most so many more, and the count is no less than it was
+pub record ComparesUpTo (old new : Counts) (looks : ℕ) : Type 0 where
+  pub least : old.looked ≤ new.looked
+  pub most : new.looked ≤ counted_on old.looked looks
+
+-- so many more where the call ends well; where it doesn't, at most these, and the count is no less than it was
+pub record Compares {T E : Type 0} (result : Result T E) (old new : Counts) (looks : ℕ) : Type 0 where
+  pub exact : OnOk result (new.looked ≡ counted_on old.looked looks)
+  pub least : old.looked ≤ new.looked
+  pub most : new.looked ≤ counted_on old.looked looks
