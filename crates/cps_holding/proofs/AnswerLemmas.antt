@@ -34,7 +34,7 @@ use Rattle.cps_state.specs.declared.key.Macro.{Macro as AMacro}
 use Rattle.cps_expr.specs.contracts.machine.MachinePartialEq.TheImpl.{eq-value as machine_eq}
 use Rattle.cps_expr.specs.contracts.radix.RadixPartialEq.TheImpl.{eq-value as radix_eq}
 use Rattle.cps_expr.specs.contracts.value.ValuePartialEq.TheImpl.{eq-value as value_eq}
-use Rattle.cps_code.specs.contracts.place.PlacePartialEq.TheImpl.{eq-value as place_eq}
+use Rattle.cps_place.specs.contracts.place.PlacePartialEq.TheImpl.{eq-value as place_eq}
 use Rattle.cps_state.specs.contracts.key.ControlPartialEq.TheImpl.{eq-value as control_eq}
 use Rattle.cps_state.specs.contracts.key.PhasePartialEq.TheImpl.{eq-value as phase_eq}
 use Rattle.cps_state.specs.contracts.key.ModePartialEq.TheImpl.{eq-value as mode_eq}
