@@ -1,9 +1,10 @@
 -- The division of a source into chunks, by their lengths alone, and what an edit makes of it. Our own.
 use Rattle.std.specs.Prelude.{◌≡◌, ℕ, suc, ◌+◌, ◌-◌, ◌≤◌, ◌<◌, nat_lt, List, [], ◌∷◌, ◌++◌, take, drop, sum, if◌then◌else◌}
+use Rattle.cps_text.specs.declared.limits.TheConstants.{MOST_CHUNK_LINES}
 
 -- a chunk has at most so many lines
 abbrev pub full : ℕ
-full = 64
+full = MOST_CHUNK_LINES
 
 -- a chunk and the next one don't fit in one
 abbrev pub IsApart : ℕ → List ℕ → Type 0

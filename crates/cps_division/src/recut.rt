@@ -8,9 +8,10 @@ ghost use Rattle.cps_division.specs.Staying.{IsTight};
 use crate::place::{Place, place_of};
 use crate::staying::{count_back, count_front, lines_of};
 use arrayvec::ArrayVec;
+use cps_text::limits::MOST_CHUNK_LINES;
 
-/// The most lines of a chunk.
-pub const FULL: usize = 64;
+/// The lines of a full chunk.
+pub const FULL: usize = MOST_CHUNK_LINES;
 
 /// The most chunks that come in the place of others.
 const MOST_NEW: usize = 4;
