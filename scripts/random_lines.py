@@ -43,12 +43,14 @@ STATEMENTS = [
 BOUNDS = [
     ("IFEQ", "e,e"), ("IFEQ", "e,e,n"), ("IFGT", "N,n"), ("IFLE", "*,e,n"), ("IF", "DEF,s"), ("IF", "-DEF,s,n"), ("IF", "e"), ("ELSE", ""),
     ("ENDIF", ""), ("ENDIF", ""), ("DUP", "2,1"), ("DUP", "r,n"), ("DUP", "r"), ("ENDD", ""), ("ENDD", ""), ("MACRO", "p"), ("ENDM", ""),
-    ("ENDM", ""), ("ENDM", ""), ("END", ""), ("IDENT", "T1"), ("ABS", ""), ("PERIPH", ""),
+    ("ENDM", ""), ("ENDM", ""), ("LOCAL", "l"), ("END", ""), ("IDENT", "T1"), ("ABS", ""), ("PERIPH", ""),
 ]
 ITEMS = [
     "1", "-1", "-0", "17B", "777777777777777777777", "3LABC", "2RAB", "3HA,B", "03LABC", "L*AB*", "H/A B/", "1L", "R.X.", "11LABCDEFGHIJK",
     "18B", "X",
 ]
+# What LOCAL names at the head of a macro's body, in an order that has wrong ones too.
+LOCAL_NAMES = ["LP", "A", "B", "Q", "N", "LP,A", "LP,B", "A,K,S", "LP,Q,.", "B,LONGNAME", "P", "A,A", "A=", "X1", "", "1A", ",A", "A LP"]
 ARGUMENTS = ["1", "A", "P", "S+1", "", "(A)", "60/1", "=1", "X1", "A B", "_", "N_1"]
 
 
@@ -74,7 +76,7 @@ class Lines:
                 "e": self.expression, "K": self.expression, "n": lambda: chance.choice(["0", "1", "2", "3", "N", "18", "63", "-1", "Q"]),
                 "w": lambda: chance.choice(["1", "6", "12", "15", "18", "30", "60", "N", "0", "61"]), "i": lambda: chance.choice(ITEMS),
                 "L": lambda: chance.choice(["1", "2", "3", chance.choice(ITEMS), str(chance.randrange(20))]), "s": lambda: chance.choice(NAMES),
-                "b": lambda: f"BLK{chance.randrange(70)}" if self.more_blocks else chance.choice(BLOCKS), "p": lambda: chance.choice(PARAMETERS),
+                "b": lambda: f"BLK{chance.randrange(70)}" if self.more_blocks else chance.choice(BLOCKS), "p": lambda: chance.choice(PARAMETERS), "l": lambda: chance.choice(LOCAL_NAMES),
                 "a": lambda: chance.choice(ARGUMENTS), "r": lambda: chance.choice(["0", "1", "2", "3", "N", "-1", "1001", "30", "1000"]),
             }.get(letter, lambda: letter)())
         return "".join(made)
@@ -135,7 +137,7 @@ class Lines:
             ("         IF      DEF," + chance.choice(NAMES[:5]), "         ENDIF"),
         ])
         if "MACRO" in front:
-            body = [line.replace(b"N", b"P") for line in body]
+            body = self.locals() + [line.replace(b"N", b"P") for line in body]
             call = f"{chance.choice(['', 'LP']):<9}{name:<8}{self.filled('a,a')}"
             return [front.encode(), *body, end.encode()] + [call.encode()] * chance.randrange(3)
         if "USE" in front and chance.random() < 0.5:
@@ -144,6 +146,20 @@ class Lines:
         if "IF" in front and chance.random() < 0.4:
             body.insert(chance.randrange(len(body) + 1), b"         ELSE")
         return [front[:MOST_BYTES].encode(), *body] + [end.encode()] * bool(end)
+
+    def locals(self):
+        """The LOCAL lines that the body of a macro begins with, often none; sometimes something stands between them."""
+        chance, lines = self.chance, []
+        if chance.random() < 0.4:
+            return lines
+        for _ in range(chance.choice([1, 1, 1, 2, 3])):
+            names = chance.choice(LOCAL_NAMES)
+            if chance.random() < 0.05:
+                names = ",".join(f"N{chance.randrange(30)}" for _ in range(chance.randrange(1, 16)))
+            lines.append(f"{chance.choice(['', '', '', '', 'L1', '+']):<9}{chance.choice(['LOCAL', 'LOCAL', 'LOCAL', 'local']):<8}{names}".encode())
+            if chance.random() < 0.05:
+                lines.append(chance.choice([b"* C", b"", b",", b"         LO_CAL  A", self.good()]))
+        return lines
 
     def wrong(self):
         """A line that no source may have: too long, with a wrong byte, or both."""

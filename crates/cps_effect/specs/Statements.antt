@@ -11,7 +11,7 @@ use Rattle.cps_reading.specs.declared.reading.Location.{Location}
 use Rattle.cps_effect.specs.Fields.{vfd, unread_vfd}
 use Rattle.cps_effect.specs.Head.{ident, declaration, base}
 use Rattle.cps_site.specs.Located.{present_flags}
-use Rattle.cps_effect.specs.Making.{flagged, unknown, unread}
+use Rattle.cps_effect.specs.Making.{flagged, misplaced, unknown, unread}
 use Rattle.cps_effect.specs.Origin.{org, unread_org}
 use Rattle.cps_effect.specs.Reserving.{bss, bssz}
 use Rattle.cps_effect.specs.Symbols.{equate, unread_equate, set_symbol, unread_set}
@@ -35,6 +35,7 @@ obeyed_plainly control location (row.Con values) = con control location values
 obeyed_plainly control location (row.Data numbers) = data_words control location numbers
 obeyed_plainly control location (row.Vfd fields) = vfd control location fields
 obeyed_plainly control location (row.Dis text) = dis control location text
+obeyed_plainly control location (row.Local names) = misplaced
 obeyed_plainly control location _ = unknown
 
 -- with operands that can't be read; those that aren't here take no location field
@@ -50,4 +51,5 @@ unreadable_plainly control location operation.Con = unread_words control locatio
 unreadable_plainly control location operation.Data = unread_words control location
 unreadable_plainly control location operation.Vfd = unread_vfd control location
 unreadable_plainly control location operation.Dis = unread_words control location
+unreadable_plainly control location operation.Local = misplaced
 unreadable_plainly control location _ = unread location

@@ -19,7 +19,7 @@ mod words;
 pub use ends::end;
 pub use head::leave_head;
 pub use instructions::{instruction, peripheral_instruction};
-pub use making::{flag, misplaced, unknown, unmatched};
+pub use making::{flag, misplaced, unknown, unmatched, unread};
 pub use numbers::plain_number;
 pub use statements::{obey_plainly, obey_unread_plainly};
 pub use value_now::{ValueNow, value_here};

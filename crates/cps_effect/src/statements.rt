@@ -6,7 +6,7 @@ ghost use Rattle.cps_effect.specs.Statements as statements;
 
 use crate::fields::{unread_vfd, vfd};
 use crate::head::{base, declaration, ident};
-use crate::making::{flag, unknown, unread};
+use crate::making::{flag, misplaced, unknown, unread};
 use crate::origin::{org, unread_org};
 use crate::reserving::{bss, bssz};
 use crate::symbols::{equate, set_symbol, unread_equate, unread_set};
@@ -45,6 +45,10 @@ pub fn obey_plainly<L: Lookup>(
         Row::Data(numbers) => data_words(recorder, front, &numbers),
         Row::Vfd(fields) => vfd(recorder, front, fields),
         Row::Dis(text) => dis(recorder, front, &text),
+        Row::Local(_) => {
+            misplaced(recorder);
+            Ok(())
+        }
         _ => {
             unknown(recorder);
             Ok(())
@@ -70,6 +74,10 @@ pub fn obey_unread_plainly<L: Lookup>(
             unread_words(recorder, front)
         }
         Operation::Vfd => unread_vfd(recorder, front),
+        Operation::Local => {
+            misplaced(recorder);
+            Ok(())
+        }
         _ => {
             unread(recorder, front.location);
             Ok(())

@@ -1,12 +1,12 @@
 -- The texts of elements: no operator and no sign stands in a number or a symbol.
 use Rattle.std.proofs.Common.{◌≡◌, ℕ, zero, suc, ◌+◌, ◌-◌, ◌^◌, ◌<◌, ◌≤◌, Bool, true, false, cond, ◌&&◌, ◌||◌, List, [], ◌∷◌, length, get_or, take, Option, None, Some, ◌⊎◌, inl, inr, refl, ap, arith}
-use Rattle.std.specs.Prelude.{◌==◌, codes, nat_lt, nat_le, not}
+use Rattle.std.specs.Prelude.{◌==◌, codes, nat_eq, nat_lt, nat_le, not}
 use Rattle.std.specs.List.{list_all}
 use Rattle.std.proofs.lemmas.Bool.Decides.{nat_tests}
 use Rattle.cps_text.specs.declared.name.Name.{Name}
 use Rattle.cps_text.specs.Name.{name_of}
-use Rattle.cps_text.specs.Symbol.{begins_symbol, continues_symbol, is_register, is_symbol, padded}
-use Rattle.cps_text.specs.Text.{capital, capitals, is_digit}
+use Rattle.cps_text.specs.Symbol.{begins_symbol, continues_symbol, generated_digits, is_generated, is_name, is_register, is_symbol, padded}
+use Rattle.cps_text.specs.Text.{among, capital, capitals, is_digit, is_letter}
 use Rattle.cps_expr.specs.declared.radix.Radix.{Radix}
 use Rattle.cps_expr.specs.declared.radix.Radix.TheVariants.{Octal, Decimal}
 use Rattle.cps_expr.specs.declared.term.Element.{Element}
@@ -52,11 +52,18 @@ plain-digits base (c ∷ digits) all =
     let parts = both-true (is_digit base c) (list_all (is_digit base) digits) all in
     (plain-character (is_digit base) refl refl refl refl c parts.0, plain-digits base digits parts.1)
 
-plain-symbol : (text : List ℕ) → list_all continues_symbol (capitals text) ≡ true → Plain text
+-- a character of a symbol or of a generated name, and the first one
+abbrev begins_name : ℕ → Bool
+begins_name c = begins_symbol c || among (codes "~") c
+
+abbrev continues_name : ℕ → Bool
+continues_name c = continues_symbol c || among (codes "~") c
+
+plain-symbol : (text : List ℕ) → list_all continues_name (capitals text) ≡ true → Plain text
 plain-symbol [] all = tt
 plain-symbol (c ∷ text) all =
-    let parts = both-true (continues_symbol (capital c)) (list_all continues_symbol (capitals text)) all in
-    (plain-character (λ d. continues_symbol (capital d)) refl refl refl refl c parts.0, plain-symbol text parts.1)
+    let parts = both-true (continues_name (capital c)) (list_all continues_name (capitals text)) all in
+    (plain-character (λ d. continues_name (capital d)) refl refl refl refl c parts.0, plain-symbol text parts.1)
 
 abbrev is_named : Option ℕ → Bool
 is_named None = false
@@ -99,7 +106,7 @@ first-digit : (base k c : ℕ) (text : List ℕ) → (nat_lt 0 (length (take k (
 first-digit base zero c text found = let no = found.0 in cc
 first-digit base (suc k) c text found = (both-true (is_digit base c) (list_all (is_digit base) (take k text)) found.1).0
 
-digit-begins-none : (base c : ℕ) → base ≤ 10 → is_digit base c ≡ true → begins_symbol (capital c) ≡ true → ⊥
+digit-begins-none : (base c : ℕ) → base ≤ 10 → is_digit base c ≡ true → begins_name (capital c) ≡ true → ⊥
 digit-begins-none base c small digit begins = grind (arith, nat_tests)
 
 number-with-plain : (limit : ℕ) (radix : Radix) (text : List ℕ) (n : ℕ) (named : Option ℕ) → base_named (last text) ≡ named → number_with limit named radix text ≡ Some n → Plain text
@@ -114,7 +121,7 @@ number-plain : (limit : ℕ) (radix : Radix) (text : List ℕ) (n : ℕ) → num
 number-plain limit radix text n is = number-with-plain limit radix text n (base_named (last text)) refl is
 
 number-with-first : (limit : ℕ) (radix : Radix) (c : ℕ) (text : List ℕ) (n : ℕ) (named : Option ℕ) → base_named (last (c ∷ text)) ≡ named → number_with limit named radix (c ∷ text) ≡ Some n
-    → begins_symbol (capital c) ≡ true → ⊥
+    → begins_name (capital c) ≡ true → ⊥
 number-with-first limit radix c text n None named is begins =
     let digits = digits-of limit (base_of radix) (c ∷ text) n is in
     digit-begins-none (base_of radix) c (base-small radix) (both-true (is_digit (base_of radix) c) (list_all (is_digit (base_of radix)) text) digits.1).0 begins
@@ -132,14 +139,65 @@ test-passed : {X : Type 0} (b : Bool) (x y : X) → cond b (Some x) None ≡ Som
 test-passed true x y is = refl
 test-passed false x y is = cc
 
-symbol-parts : (text : List ℕ) (name : Name) → name_of text ≡ Some name
-    → (begins_symbol (get_or (capitals text) 0 0) ≡ true) × (list_all continues_symbol (capitals text) ≡ true)
+or-true-left : (a b : Bool) → a ≡ true → (a || b) ≡ true
+or-true-left true b is = refl
+or-true-left false b is = cc
+
+or-true-right : (a b : Bool) → b ≡ true → (a || b) ≡ true
+or-true-right true b is = refl
+or-true-right false b is = is
+
+and-true : (a b : Bool) → a ≡ true → b ≡ true → (a && b) ≡ true
+and-true true b first second = second
+and-true false b first second = cc
+
+symbols-continue : (text : List ℕ) → list_all continues_symbol text ≡ true → list_all continues_name text ≡ true
+symbols-continue [] all = refl
+symbols-continue (c ∷ text) all =
+    let parts = both-true (continues_symbol c) (list_all continues_symbol text) all in
+    and-true (continues_name c) (list_all continues_name text) (or-true-left (continues_symbol c) (among (codes "~") c) parts.0) (symbols-continue text parts.1)
+
+digit-continues : (c : ℕ) → is_digit 10 c ≡ true → continues_symbol c ≡ true
+digit-continues c is = or-true-right (is_letter c) (is_digit 10 c || among (codes ".=") c) (or-true-left (is_digit 10 c) (among (codes ".=") c) is)
+
+digits-continue : (text : List ℕ) → list_all (is_digit 10) text ≡ true → list_all continues_symbol text ≡ true
+digits-continue [] all = refl
+digits-continue (c ∷ text) all =
+    let parts = both-true (is_digit 10 c) (list_all (is_digit 10) text) all in
+    and-true (continues_symbol c) (list_all continues_symbol text) (digit-continues c parts.0) (digits-continue text parts.1)
+
+abbrev NameParts : List ℕ → Type 0
+NameParts letters = (begins_name (get_or letters 0 0) ≡ true) × (list_all continues_name letters ≡ true)
+
+written-parts : (letters : List ℕ) → is_symbol letters ≡ true → NameParts letters
+written-parts letters symbol =
+    let parts = both-true (nat_lt 0 (length letters) && nat_le (length letters) 8) (begins_symbol (get_or letters 0 0) && (list_all continues_symbol letters && not (is_register letters))) symbol in
+    let later = both-true (begins_symbol (get_or letters 0 0)) (list_all continues_symbol letters && not (is_register letters)) parts.1 in (
+      or-true-left (begins_symbol (get_or letters 0 0)) (among (codes "~") (get_or letters 0 0)) later.0,
+      symbols-continue letters (both-true (list_all continues_symbol letters) (not (is_register letters)) later.1).0,
+    )
+
+generated-parts : (letters : List ℕ) → is_generated letters ≡ true → NameParts letters
+generated-parts [] generated = cc
+generated-parts (mark ∷ digits) generated =
+    let all = list_all (is_digit 10) digits in
+    let zeros = list_all (among (codes "0")) digits in
+    let parts = both-true (among (codes "~") mark) (nat_eq (length digits) generated_digits && (all && not zeros)) generated in
+    let later = both-true (nat_eq (length digits) generated_digits) (all && not zeros) parts.1 in (
+      or-true-right (begins_symbol mark) (among (codes "~") mark) parts.0,
+      and-true (continues_name mark) (list_all continues_name digits) (or-true-right (continues_symbol mark) (among (codes "~") mark) parts.0)
+          (symbols-continue digits (digits-continue digits (both-true all (not zeros) later.1).0)),
+    )
+
+either-parts : (letters : List ℕ) (symbol generated : Bool) → is_symbol letters ≡ symbol → is_generated letters ≡ generated → (symbol || generated) ≡ true → NameParts letters
+either-parts letters true generated is was one = written-parts letters is
+either-parts letters false true is was one = generated-parts letters was
+either-parts letters false false is was one = cc
+
+symbol-parts : (text : List ℕ) (name : Name) → name_of text ≡ Some name → NameParts (capitals text)
 symbol-parts text name is =
     let letters = capitals text in
-    let symbol = test-passed (is_symbol letters) (record { bytes = padded letters }) name is in
-    let parts = both-true (nat_lt 0 (length letters) && nat_le (length letters) 8) (begins_symbol (get_or letters 0 0) && (list_all continues_symbol letters && not (is_register letters))) symbol in
-    let later = both-true (begins_symbol (get_or letters 0 0)) (list_all continues_symbol letters && not (is_register letters)) parts.1 in
-    (later.0, (both-true (list_all continues_symbol letters) (not (is_register letters)) later.1).0)
+    either-parts letters (is_symbol letters) (is_generated letters) refl refl (test-passed (is_name letters) (record { bytes = padded letters }) name is)
 
 -- ---- elements
 

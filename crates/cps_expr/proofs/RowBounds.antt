@@ -8,7 +8,7 @@ use Rattle.cps_text.specs.Text.{is_blank}
 use Rattle.cps_expr.specs.declared.expr.ExprFault.{ExprFault}
 use Rattle.cps_expr.specs.declared.machine.Machine.{Machine}
 use Rattle.cps_expr.specs.declared.operation.Operation.{Operation}
-use Rattle.cps_expr.specs.declared.operation.Operation.TheVariants.{Ident, Abs, Periph, Base, Equate, Set, Org, Use, Bss, Bssz, Con, Data, Vfd, Dis, Compare, If, Else, Endif, Dup, Endd, Macro, Endm, End, Listing}
+use Rattle.cps_expr.specs.declared.operation.Operation.TheVariants.{Ident, Abs, Periph, Base, Equate, Set, Org, Use, Bss, Bssz, Con, Data, Vfd, Dis, Compare, If, Else, Endif, Dup, Endd, Macro, Local, Endm, End, Listing}
 use Rattle.cps_expr.specs.declared.radix.Radix.{Radix}
 use Rattle.cps_expr.specs.declared.row.DisText.{DisText}
 use Rattle.cps_expr.specs.declared.row.DisText.TheVariants.{Counted, Delimited}
@@ -140,6 +140,7 @@ row-bounded Endif tail machine radix made is = constant machine row.Endif made t
 row-bounded Dup tail machine radix made is = mapped row.Dup _ made (IsBounded machine) (λ x _. tt) is
 row-bounded Endd tail machine radix made is = constant machine row.Endd made tt is
 row-bounded Macro tail machine radix made is = mapped row.Macro _ made (IsBounded machine) (λ x _. tt) is
+row-bounded Local tail machine radix made is = mapped row.Local _ made (IsBounded machine) (λ x _. tt) is
 row-bounded Endm tail machine radix made is = constant machine row.Endm made tt is
 row-bounded End tail machine radix made is = constant machine row.End made tt is
 row-bounded Listing tail machine radix made is = constant machine row.Listing made tt is

@@ -3,7 +3,7 @@ use Rattle.std.specs.Prelude.{ℕ, ◌==◌, List, [], ◌∷◌, map, filter, s
 use Rattle.std.specs.Borrow.{Bor}
 use Rattle.std.specs.List.{find}
 use Rattle.cps_expr.specs.declared.operation.Operation.{Operation}
-use Rattle.cps_expr.specs.declared.operation.Operation.TheVariants.{Ident, Abs, Periph, Base, Equate, Set, Org, Use, Bss, Bssz, Con, Data, Vfd, Dis, Compare, If, Else, Endif, Dup, Endd, Macro, Endm, End, Listing}
+use Rattle.cps_expr.specs.declared.operation.Operation.TheVariants.{Ident, Abs, Periph, Base, Equate, Set, Org, Use, Bss, Bssz, Con, Data, Vfd, Dis, Compare, If, Else, Endif, Dup, Endd, Macro, Local, Endm, End, Listing}
 use Rattle.cps_expr.specs.declared.operation.Relation.TheVariants.{Equal, NotEqual, Greater, GreaterOrEqual, Less, LessOrEqual}
 use Rattle.cps_expr.specs.Same.{is_same}
 
@@ -44,6 +44,7 @@ operations =
     ∷ (codes "DUP", Dup)
     ∷ (codes "ENDD", Endd)
     ∷ (codes "MACRO", Macro)
+    ∷ (codes "LOCAL", Local)
     ∷ (codes "ENDM", Endm)
     ∷ (codes "END", End)
     ∷ (codes "TITLE", Listing)

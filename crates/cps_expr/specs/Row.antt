@@ -101,6 +101,12 @@ stands_twice texts text = nat_lt 1 (count_by (is_same text) texts)
 unfoldable pub parameters_of : List (List ℕ) → Option (List Name)
 parameters_of texts = if list_any (stands_twice texts) texts then None else all_some parameter_of texts
 
+-- ---- LOCAL: one local name or more, written as parameters are
+
+unfoldable pub locals_of : List (List ℕ) → Option (List Name)
+locals_of [] = None
+locals_of (text ∷ texts) = parameters_of (text ∷ texts)
+
 -- ---- DIS: a number of words, a comma and all characters behind it; or a comma and characters between two delimiters, the same in capitals
 
 abbrev pub is_comma : ℕ → Bool

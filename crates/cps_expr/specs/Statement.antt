@@ -7,7 +7,7 @@ use Rattle.cps_text.specs.Name.{name_of}
 use Rattle.cps_text.specs.Operands.{operands_of}
 use Rattle.cps_expr.specs.declared.machine.Machine.{Machine}
 use Rattle.cps_expr.specs.declared.operation.Operation.{Operation}
-use Rattle.cps_expr.specs.declared.operation.Operation.TheVariants.{Ident, Abs, Periph, Base, Equate, Set, Org, Use, Bss, Bssz, Con, Data, Vfd, Dis, Compare, If, Else, Endif, Dup, Endd, Macro, Endm, End, Listing}
+use Rattle.cps_expr.specs.declared.operation.Operation.TheVariants.{Ident, Abs, Periph, Base, Equate, Set, Org, Use, Bss, Bssz, Con, Data, Vfd, Dis, Compare, If, Else, Endif, Dup, Endd, Macro, Local, Endm, End, Listing}
 use Rattle.cps_expr.specs.declared.radix.Radix.{Radix}
 use Rattle.cps_expr.specs.declared.row.DisText.{DisText}
 use Rattle.cps_expr.specs.declared.row.DisText.TheVariants.{Counted, Delimited}
@@ -16,7 +16,7 @@ use Rattle.cps_expr.specs.declared.row.Row.TheVariants as row
 use Rattle.cps_expr.specs.Expression.{Expression, expression_of, has_counter, names_of}
 use Rattle.cps_expr.specs.Operation.{operation_named}
 use Rattle.cps_expr.specs.OperandList.{first_one, only_one, one_or_more}
-use Rattle.cps_expr.specs.Row.{radix_of, block_of, field_of, comparison_of, symbol_test_of, repetition_of, parameters_of, dis_text_of, words_of}
+use Rattle.cps_expr.specs.Row.{radix_of, block_of, field_of, comparison_of, symbol_test_of, repetition_of, parameters_of, locals_of, dis_text_of, words_of}
 
 -- ---- the table
 
@@ -46,6 +46,7 @@ row_with Endif tail machine radix = Some row.Endif
 row_with Dup tail machine radix = option_map row.Dup (repetition_of radix (operands_of tail))
 row_with Endd tail machine radix = Some row.Endd
 row_with Macro tail machine radix = option_map row.Macro (parameters_of (operands_of tail))
+row_with Local tail machine radix = option_map row.Local (locals_of (operands_of tail))
 row_with Endm tail machine radix = Some row.Endm
 row_with End tail machine radix = Some row.End
 row_with Listing tail machine radix = Some row.Listing

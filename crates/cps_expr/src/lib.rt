@@ -38,6 +38,7 @@ pub use machine::Machine;
 pub use names::Names;
 pub use operation::{Operation, Relation};
 pub use packing::pack_characters;
+pub use parameters::read_locals;
 pub use radix::Radix;
 pub use reads::{paired, read_expression, read_last, read_only};
 pub use row::{Block, Comparison, DisText, Field, Repetition, Row, SymbolTest};

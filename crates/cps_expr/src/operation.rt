@@ -42,6 +42,7 @@ pub enum Operation {
     Dup,
     Endd,
     Macro,
+    Local,
     Endm,
     End,
     /// TITLE, SPACE, EJECT and LIST
@@ -97,7 +98,7 @@ fn operations_with(letter: u8) -> &'static [(&'static [u8], Operation)]
             (b"IFLE", Operation::Compare(Relation::LessOrEqual)),
             (b"IF", Operation::If),
         ],
-        b'L' => &[(b"LIST", Operation::Listing)],
+        b'L' => &[(b"LOCAL", Operation::Local), (b"LIST", Operation::Listing)],
         b'M' => &[(b"MACRO", Operation::Macro)],
         b'O' => &[(b"ORG", Operation::Org)],
         b'P' => &[(b"PERIPH", Operation::Periph)],

@@ -1,9 +1,9 @@
-//! The parameters of MACRO.
+//! The parameters of MACRO, and the local names of LOCAL.
 ghost use Rattle.std.specs.Prelude.{◌≡◌};
 ghost use Rattle.std.specs.List.{list_any};
 ghost use Rattle.cps_text.specs.Operands.{operands_of};
 ghost use Rattle.cps_expr.specs.Reads.{Reads};
-ghost use Rattle.cps_expr.specs.Row.{is_equal_sign, parameter_of, parameters_of, stands_twice};
+ghost use Rattle.cps_expr.specs.Row.{is_equal_sign, parameter_of, parameters_of, locals_of, stands_twice};
 
 use crate::expr::ExprFault;
 use crate::radix::Radix;
@@ -54,6 +54,17 @@ pub(crate) fn read_parameters(
         return Err(ExprFault::Unreadable);
     }
     read_all(alloc, tail, radix)
+}
+
+/// One operand or more as local names, which are written as parameters are.
+#[tactic(auto, unfolding(crate::specs::Row::locals_of))]
+pub fn read_locals(alloc: Global, tail: &[u8]) -> Result<Sequence<Name>, ExprFault>
+    ensures { Reads result (locals_of (operands_of tail.now)) }
+{
+    if operands(tail).next().is_none() {
+        return Err(ExprFault::Unreadable);
+    }
+    read_parameters(alloc, tail, Radix::Decimal)
 }
 
 fn some_stands_twice(tail: &[u8]) -> bool

@@ -84,6 +84,8 @@ pub enum Row {
     Endd,
     /// The parameters.
     Macro(Sequence<Name>),
+    /// The local names.
+    Local(Sequence<Name>),
     Endm,
     End,
     Listing,

@@ -10,7 +10,7 @@ use crate::expr::ExprFault;
 use crate::machine::Machine;
 use crate::named_operand::{read_base, read_block, read_program};
 use crate::operation::Operation;
-use crate::parameters::read_parameters;
+use crate::parameters::{read_locals, read_parameters};
 use crate::radix::Radix;
 use crate::reads::{read_only, read_some};
 use crate::row::Row;
@@ -111,6 +111,7 @@ fn read_operands(
         Operation::Dup => Row::Dup(read_repetition(alloc, tail, radix)?),
         Operation::Endd => Row::Endd,
         Operation::Macro => Row::Macro(read_parameters(alloc, tail, radix)?),
+        Operation::Local => Row::Local(read_locals(alloc, tail)?),
         Operation::Endm => Row::Endm,
         Operation::End => Row::End,
         Operation::Listing => Row::Listing,

@@ -241,11 +241,15 @@ macro-is : (a b : AMacro) → (macro_eq.it) a b ≡ true → a ≡ b
 macro-is a b h =
     let both = and_parts (pointwise same_name a.parameters b.parameters) _ h in
     let parameters = (names-decides a.parameters b.parameters).0 both.0 in
-    let lines = (texts-decides a.lines b.lines).0 both.1 in
-    λ i. record { parameters = parameters i; lines = lines i }
+    let others = and_parts (pointwise (pointwise ◌==◌) a.locals b.locals) _ both.1 in
+    let locals = (texts-decides a.locals b.locals).0 others.0 in
+    let lines = (texts-decides a.lines b.lines).0 others.1 in
+    λ i. record { parameters = parameters i; locals = locals i; lines = lines i }
 
 macro-itself : (a : AMacro) → (macro_eq.it) a a ≡ true
-macro-itself a = and_from (pointwise same_name a.parameters a.parameters) _ ((names-decides a.parameters a.parameters).1 refl) ((texts-decides a.lines a.lines).1 refl)
+macro-itself a =
+    and_from (pointwise same_name a.parameters a.parameters) _ ((names-decides a.parameters a.parameters).1 refl)
+    (and_from (pointwise (pointwise ◌==◌) a.locals a.locals) _ ((texts-decides a.locals a.locals).1 refl) ((texts-decides a.lines a.lines).1 refl))
 
 -- ---- answers
 

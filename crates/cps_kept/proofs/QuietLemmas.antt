@@ -43,6 +43,7 @@ quiet-named (key.Kept n) h = refl
 quiet-named key.Uses h = refl
 quiet-named key.Ifs h = refl
 quiet-named key.Blocks h = refl
+quiet-named key.Locals h = refl
 
 quiet-counter : (b : Option Name) (k : Key) → is_quiet_key k ≡ true → same_key (key.Counter b) k ≡ false
 quiet-counter b key.Control h = refl
@@ -54,6 +55,7 @@ quiet-counter b (key.Kept n) h = refl
 quiet-counter b key.Uses h = refl
 quiet-counter b key.Ifs h = refl
 quiet-counter b key.Blocks h = refl
+quiet-counter b key.Locals h = refl
 
 quiet-label : (name : Name) (k : Key) → is_quiet_key k ≡ true → same_key k (key.Label name) ≡ false
 quiet-label name key.Control h = refl
@@ -65,6 +67,7 @@ quiet-label name (key.Kept n) h = refl
 quiet-label name key.Uses h = refl
 quiet-label name key.Ifs h = refl
 quiet-label name key.Blocks h = refl
+quiet-label name key.Locals h = refl
 
 abbrev all_quiet : List Put → Bool
 all_quiet puts = list_all (λ p. is_quiet_key p.key) puts

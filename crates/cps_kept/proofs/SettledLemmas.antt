@@ -77,6 +77,7 @@ fresh-key state (key.Kept n) name v is h = refl
 fresh-key state key.Uses name v is h = refl
 fresh-key state key.Ifs name v is h = refl
 fresh-key state key.Blocks name v is h = refl
+fresh-key state key.Locals name v is h = refl
 
 fresh-puts : (state : State) (puts : List Put) (name : Name) (v : Value) → labels_of state name ≡ Some v → are_fresh state puts ≡ true → puts_at (key.Label name) puts ≡ false
 fresh-puts state [] name v is h = refl

@@ -3,4 +3,5 @@ mod StandLemmas
 mod PlacingStands
 mod StatementStands
 mod LineStands
+mod LocalStands
 pub mod EditCounts

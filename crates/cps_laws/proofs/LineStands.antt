@@ -19,8 +19,11 @@ use Rattle.cps_laws.proofs.StandLemmas.{Fits, Mark, ask-fits, asked-stand, fresh
 use Rattle.cps_laws.proofs.StatementStands.{end-fits, here-fits, instruction-fits, leaving-head-fits, obeyed-fits, peripheral-fits, unreadable-fits}
 use Rattle.cps_laws.specs.Standing.{StandsWhereItAsks}
 use Rattle.cps_statement.specs.Keeping.{kept_for_dup, kept_for_macro, no_lines}
-use Rattle.cps_statement.specs.Macros.{bound, call_at, calling, calling_with, labelled, labelling}
-use Rattle.cps_statement.specs.Meaning.{assembled, before_end, after_end, calling_if, calling_named, card_in, end_in, endm, in_mode, in_phase, macro, obeyed, stated, statement, stays_in_head, unreadable}
+use Rattle.cps_statement.specs.Macros.{bound, call_at, calling, calling_with, labelled, labelling, opening_with}
+use Rattle.cps_local.specs.Cards.{card_in}
+use Rattle.cps_local.specs.Locals.{macro_of_lines}
+use Rattle.cps_statement.specs.Opening.{Opening, plain, none_opened}
+use Rattle.cps_statement.specs.Meaning.{assembled, before_end, after_end, calling_if, calling_named, end_in, endm, in_mode, in_phase, macro, obeyed, stated, statement, stays_in_head, unreadable}
 use Rattle.cps_statement.specs.Ranges.{beginning_range, closed, compared, count_flags, counting, defined, else_of, endif_of, hanging, if_compared, if_defined, line_count, opening, skipping_lines, test_flags, turned_round}
 use Rattle.cps_statement.specs.Repeating.{body_count, dup, repeating, repeating_by, repeating_lines, times_flags, times_in}
 use Rattle.cps_statement.specs.Scope.{Behind, asking_lines, asking_ranges, flagging, going_by, keeping, mode_in, opens_nothing, putting_ranges, taking_body}
@@ -113,14 +116,14 @@ call-at-fits control m Minus next rest later = later m (nothing_made (record no_
 call-at-fits control m (Symbol name) next rest later = site-label-fits control m name next rest (later true)
 call-at-fits control m NoSymbol next rest later = later m (nothing_made (record no_flags { location = true }))
 
-call-opening-fits : (b : Option Name) (m : Mark) (scope : Scope) (made : Made) (lines : List (List ℕ)) (pairs : Option Pairs) (behind : Behind) (rest : Course)
-    → ((there : Scope) (opened : List (List ℕ)) → Fits b (behind there opened rest) m) → Fits b (calling_with scope made lines pairs behind rest) m
-call-opening-fits b m scope made lines None behind rest later = later scope []
-call-opening-fits b m scope made lines (Some pairs) behind rest later = later scope (map (inserted pairs) lines)
+call-opening-fits : (b : Option Name) (m : Mark) (scope : Scope) (made : Made) (named : Macro) (pairs : Option Pairs) (behind : Behind) (rest : Course)
+    → ((there : Scope) (opened : Opening) → Fits b (behind there opened rest) m) → Fits b (calling_with scope made named pairs behind rest) m
+call-opening-fits b m scope made named None behind rest later = later scope none_opened
+call-opening-fits b m scope made named (Some pairs) behind rest later = later scope (opening_with pairs named)
 
 -- what comes after a statement, wherever it stands by then
 abbrev After : Option Name → Behind → Course → Type 0
-After b behind rest = (placed : Bool) (there : Scope) (opened : List (List ℕ)) → Fits b (behind there opened rest) (mark_of placed)
+After b behind rest = (placed : Bool) (there : Scope) (opened : Opening) → Fits b (behind there opened rest) (mark_of placed)
 
 abbrev Next : Option Name → (Scope → Part) → Course → Type 0
 Next b next rest = (placed : Bool) (there : Scope) → Fits b (next there rest) (mark_of placed)
@@ -128,17 +131,17 @@ Next b next rest = (placed : Bool) (there : Scope) → Fits b (next there rest) 
 calling-fits : (control : Control) (m : Bool) (scope : Scope) (location : Location) (named : Macro) (tail : List ℕ) (behind : Behind) (rest : Course)
     → After control.block behind rest → Fits control.block (calling control scope location named tail behind rest) (mark_of m)
 calling-fits control m scope location named tail behind rest later =
-    call-at-fits control m location (λ made. calling_with scope made named.lines (bound named.parameters tail) behind) rest (λ placed made.
-    call-opening-fits control.block (mark_of placed) scope made named.lines (bound named.parameters tail) behind rest (later placed))
+    call-at-fits control m location (λ made. calling_with scope made named (bound named.parameters tail) behind) rest (λ placed made.
+    call-opening-fits control.block (mark_of placed) scope made named (bound named.parameters tail) behind rest (later placed))
 
 calling-if-fits : (control : Control) (m : Bool) (scope : Scope) (location : Location) (tail : List ℕ) (named : Option Macro) (behind : Behind) (rest : Course)
     → After control.block behind rest → Fits control.block (calling_if control scope location tail named behind rest) (mark_of m)
-calling-if-fits control m scope location tail None behind rest later = later m scope []
+calling-if-fits control m scope location tail None behind rest later = later m scope none_opened
 calling-if-fits control m scope location tail (Some named) behind rest later = calling-fits control m scope location named tail behind rest later
 
 calling-named-fits : (control : Control) (m : Bool) (scope : Scope) (location : Location) (tail : List ℕ) (name : Option Name) (behind : Behind) (rest : Course)
     → After control.block behind rest → Fits control.block (calling_named control scope location tail name behind rest) (mark_of m)
-calling-named-fits control m scope location tail None behind rest later = later m scope []
+calling-named-fits control m scope location tail None behind rest later = later m scope none_opened
 calling-named-fits control m scope location tail (Some name) behind rest later =
     ask-fits control.block m (key.Macro name) (λ a. calling_if control scope location tail (macro_of a) behind rest) refl (λ a.
     calling-if-fits control m scope location tail (macro_of a) behind rest later)
@@ -281,6 +284,7 @@ all-obeyed-fits control m scope location (row.Con values) next rest later = obey
 all-obeyed-fits control m scope location (row.Data numbers) next rest later = obeyed-fits control m location (row.Data numbers) (next scope rest) (λ placed. later placed scope)
 all-obeyed-fits control m scope location (row.Vfd fields) next rest later = obeyed-fits control m location (row.Vfd fields) (next scope rest) (λ placed. later placed scope)
 all-obeyed-fits control m scope location (row.Dis text) next rest later = obeyed-fits control m location (row.Dis text) (next scope rest) (λ placed. later placed scope)
+all-obeyed-fits control m scope location (row.Local names) next rest later = obeyed-fits control m location (row.Local names) (next scope rest) (λ placed. later placed scope)
 all-obeyed-fits control m scope location row.Listing next rest later = obeyed-fits control m location row.Listing (next scope rest) (λ placed. later placed scope)
 
 all-unreadable-fits : (control : Control) (m : Bool) (scope : Scope) (location : Location) (named : Operation) (next : Scope → Part) (rest : Course)
@@ -308,22 +312,23 @@ all-unreadable-fits control m scope location operation.Dup next rest later = unr
 all-unreadable-fits control m scope location operation.Endd next rest later = unreadable-fits control m location operation.Endd (next scope rest) (λ placed. later placed scope)
 all-unreadable-fits control m scope location operation.Endm next rest later = unreadable-fits control m location operation.Endm (next scope rest) (λ placed. later placed scope)
 all-unreadable-fits control m scope location operation.End next rest later = unreadable-fits control m location operation.End (next scope rest) (λ placed. later placed scope)
+all-unreadable-fits control m scope location operation.Local next rest later = unreadable-fits control m location operation.Local (next scope rest) (λ placed. later placed scope)
 all-unreadable-fits control m scope location operation.Listing next rest later = unreadable-fits control m location operation.Listing (next scope rest) (λ placed. later placed scope)
 
 stated-fits : (control : Control) (m : Bool) (scope : Scope) (location : Location) (tail : List ℕ) (stating : Stating) (behind : Behind) (rest : Course)
     → After control.block behind rest → Fits control.block (stated control scope location tail stating behind rest) (mark_of m)
-stated-fits control m scope location tail Missing behind rest later = later m scope []
+stated-fits control m scope location tail Missing behind rest later = later m scope none_opened
 stated-fits control m scope location tail (Unknown name) behind rest later = calling-named-fits control m scope location tail name behind rest later
-stated-fits control m scope location tail (Stated row) behind rest later = all-obeyed-fits control m scope location row (opens_nothing behind) rest (λ placed there. later placed there [])
+stated-fits control m scope location tail (Stated row) behind rest later = all-obeyed-fits control m scope location row (opens_nothing behind) rest (λ placed there. later placed there none_opened)
 stated-fits control m scope location tail (Unreadable operation) behind rest later =
-    all-unreadable-fits control m scope location operation (opens_nothing behind) rest (λ placed there. later placed there [])
-stated-fits control m scope location tail (Instruction form) behind rest later = instruction-fits control m location form (behind scope [] rest) (later true scope [])
-stated-fits control m scope location tail (Peripheral form) behind rest later = peripheral-fits control m location form (behind scope [] rest) (later true scope [])
+    all-unreadable-fits control m scope location operation (opens_nothing behind) rest (λ placed there. later placed there none_opened)
+stated-fits control m scope location tail (Instruction form) behind rest later = instruction-fits control m location form (behind scope none_opened rest) (later true scope none_opened)
+stated-fits control m scope location tail (Peripheral form) behind rest later = peripheral-fits control m location form (behind scope none_opened rest) (later true scope none_opened)
 
 assembled-fits : (control : Control) (m : Bool) (scope : Scope) (fields : LineFields) (behind : Behind) (rest : Course)
     → After control.block behind rest → Fits control.block (assembled control scope fields behind rest) (mark_of m)
-assembled-fits control m scope CommentLine behind rest later = later m scope []
-assembled-fits control m scope ContinuedLine behind rest later = later m scope []
+assembled-fits control m scope CommentLine behind rest later = later m scope none_opened
+assembled-fits control m scope ContinuedLine behind rest later = later m scope none_opened
 assembled-fits control m scope (StatementLine statement) behind rest later =
     let stating = stating_in control.machine control.radix statement.operation statement.tail in
     let location = location_in statement.location in
@@ -359,20 +364,20 @@ defining-macro-fits : (b : Option Name) (m : Bool) (control : Control) (scope : 
     → ((there : Scope) → Fits b (next there rest) (mark_of m)) → Fits b (defining_macro control scope name body next rest) (mark_of m)
 defining-macro-fits b m control scope name body next rest later =
     body-fits b m control scope body.kept.lines (λ lines there.
-    putting (key.Macro name) (answer.Macro (record { parameters = body.parameters; lines = lines })) before next there) rest (λ lines there. later there)
+    putting (key.Macro name) (answer.Macro (macro_of_lines body.parameters lines)) before next there) rest (λ lines there. later there)
 
 treated-fits : (b : Option Name) (m : Bool) (control : Control) (scope : Scope) (mode : Mode) (text : List ℕ) (treatment : Treatment) (behind : Behind) (rest : Course)
     → After b behind rest → Fits b (treated control scope mode text treatment behind rest) (mark_of m)
 treated-fits b m control scope mode text (Passes going kept_at flags) behind rest later =
-    passing-fits b (mark_of m) control scope mode text going kept_at (λ there. flagging flags there (opens_nothing behind)) rest (λ there. later m there [])
+    passing-fits b (mark_of m) control scope mode text going kept_at (λ there. flagging flags there (opens_nothing behind)) rest (λ there. later m there none_opened)
 treated-fits b m control scope mode text (Resumes location) behind rest later =
-    resuming-fits b m control scope (λ there. flagging (present_flags location) there (opens_nothing behind)) rest (λ there. later m there [])
+    resuming-fits b m control scope (λ there. flagging (present_flags location) there (opens_nothing behind)) rest (λ there. later m there none_opened)
 treated-fits b m control scope mode text (Defines name body location) behind rest later =
-    defining-macro-fits b m control scope name body (λ there. flagging (present_flags location) there (opens_nothing behind)) rest (λ there. later m there [])
+    defining-macro-fits b m control scope name body (λ there. flagging (present_flags location) there (opens_nothing behind)) rest (λ there. later m there none_opened)
 treated-fits b m control scope mode text (Opens body with_line flags) behind rest later =
     body-fits b m control scope body.kept.lines
-    (λ lines there. flagged flags before behind there (repeated body.times (lines ++ last_line with_line text))) rest (λ lines there.
-    later m there (repeated body.times (lines ++ last_line with_line text)))
+    (λ lines there. flagged flags before behind there (plain (repeated body.times (lines ++ last_line with_line text)))) rest (λ lines there.
+    later m there (plain (repeated body.times (lines ++ last_line with_line text))))
 
 -- ---- each statement
 
@@ -390,7 +395,7 @@ in-mode-fits control m scope text (KeepDup body) behind rest later =
 
 before-end-fits : (control : Control) (m : Bool) (mode : Mode) (scope : Scope) (text : List ℕ) (location : Option Location) (behind : Behind) (rest : Course)
     → After control.block behind rest → Fits control.block (before_end control mode scope text location behind rest) (mark_of m)
-before-end-fits control m mode scope text (Some location) behind rest later = end-fits control m mode location (behind scope [] rest) (later true scope [])
+before-end-fits control m mode scope text (Some location) behind rest later = end-fits control m mode location (behind scope none_opened rest) (later true scope none_opened)
 before-end-fits control m mode scope text None behind rest later = in-mode-fits control m scope text (mode_in mode scope) behind rest later
 
 behind-end-fits : (b : Option Name) (m : Mark) (fields : LineFields) (rest : Course) → Fits b rest m → Fits b (after_end fields rest) m
@@ -403,7 +408,7 @@ in-phase-fits : (control : Control) (m : Bool) (mode : Mode) (scope : Scope) (te
 in-phase-fits control m mode scope text (Head head) behind rest later = before-end-fits control m mode scope text (end_in scope (card_in text)) behind rest later
 in-phase-fits control m mode scope text Body behind rest later = before-end-fits control m mode scope text (end_in scope (card_in text)) behind rest later
 in-phase-fits control m mode scope text AfterEnd behind rest later =
-    behind-end-fits control.block (mark_of m) (card_in text) (behind scope [] rest) (later m scope [])
+    behind-end-fits control.block (mark_of m) (card_in text) (behind scope none_opened rest) (later m scope none_opened)
 
 pub stands-where-it-asks : StandsWhereItAsks
 stands-where-it-asks scope text state running nowhere =

@@ -1,7 +1,10 @@
 -- Which statements have a place, by what they ask. Our own.
-use Rattle.std.specs.Prelude.{◌≡◌, ℕ, zero, List, [], ◌∷◌, Option, if◌then◌else◌}
+use Rattle.std.specs.Prelude.{◌≡◌, ℕ, zero, false, List, [], ◌∷◌, Option, if◌then◌else◌}
 use Rattle.std.specs.List.{list_any}
 use Rattle.cps_text.specs.declared.name.Name.{Name}
+use Rattle.cps_text.specs.Card.{LineFields}
+use Rattle.cps_text.specs.Insertion.{Pairs}
+use Rattle.cps_local.specs.Locals.{local_in}
 use Rattle.cps_state.specs.declared.item.Stand.{Stand}
 use Rattle.cps_state.specs.declared.item.Stand.TheVariants.{Nowhere, In}
 use Rattle.cps_state.specs.declared.key.Key.{Key}
@@ -40,3 +43,15 @@ stand_by block keys = if list_any (same_key (key.Counter block)) keys then In bl
 abbrev pub StandsWhereItAsks : Type 0
 StandsWhereItAsks = (scope : Scope) (text : List ℕ) (state : State) (running : Running) → running.present.stand ≡ Nowhere
     → (reached zero (alone scope text) state running).present.stand ≡ stand_by (block_in state running) (asked_by (alone scope text) state running)
+
+-- ---- the LOCAL lines of a call
+
+-- one of them, and nothing after it
+abbrev pub local_alone : Pairs → LineFields → Course
+local_alone pairs fields = local_in pairs fields (λ named. nothing) stop
+
+-- an item of one names no block by its place, and it asks no counter
+abbrev pub LocalLinesStandNowhere : Type 0
+LocalLinesStandNowhere = (pairs : Pairs) (fields : LineFields) (block : Option Name) (state : State) (running : Running) → running.present.stand ≡ Nowhere
+    → ((reached zero (local_alone pairs fields) state running).present.stand ≡ Nowhere)
+    × (list_any (same_key (key.Counter block)) (asked_by (local_alone pairs fields) state running) ≡ false)

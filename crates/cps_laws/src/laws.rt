@@ -1,6 +1,6 @@
 //! What the definitions of an expansion say, in the words of whole lists.
 ghost use Rattle.cps_laws.specs.CourseLaws.{TraceIsOfTheList, ItemsAreTheList, ItemsAreFew, DependsOnAsksAlone, AsksEachKeyOnce};
-ghost use Rattle.cps_laws.specs.Standing.{StandsWhereItAsks};
+ghost use Rattle.cps_laws.specs.Standing.{StandsWhereItAsks, LocalLinesStandNowhere};
 
 /// What a line does follows from the list of its statements.
 pub fn trace_is_of_the_list()
@@ -30,4 +30,9 @@ pub fn asks_each_key_once()
 /// A statement has its place in the block in use exactly if it asks where that block stands.
 pub fn stands_where_it_asks()
     ensures { StandsWhereItAsks }
+{}
+
+/// A LOCAL line of a call has no place, and asks where no block stands.
+pub fn local_lines_stand_nowhere()
+    ensures { LocalLinesStandNowhere }
 {}

@@ -1,13 +1,13 @@
 -- The cross-reference: each symbol that a line defines or reads, in the order of its characters, with its final value and its lines.
 -- From the manual's symbolic reference table; the layout is our profile's.
-use Rattle.std.specs.Prelude.{ℕ, ◌+◌, true, false, List, [], ◌∷◌, ◌++◌, map, flat_map, filter, find, codes, decimal, Option, None, Some, if◌then◌else◌}
+use Rattle.std.specs.Prelude.{ℕ, ◌+◌, true, false, List, [], ◌∷◌, ◌++◌, not, map, flat_map, filter, find, codes, decimal, Option, None, Some, if◌then◌else◌}
 use Rattle.std.specs.FinMap.{FinMap, from_entries, keys}
 use Rattle.std.specs.Option.{option_or, option_map_or}
 use Rattle.std.specs.Cmp.Lexicographic.{slice_cmp}
 use Rattle.std.specs.Ordering.{nat_cmp}
 use Rattle.std.specs.declared.cmp.Ordering.{Ordering}
 use Rattle.cps_text.specs.declared.name.Name.{Name}
-use Rattle.cps_text.specs.Name.{name_text}
+use Rattle.cps_text.specs.Name.{name_text, was_generated}
 use Rattle.cps_text.specs.Octal.{octal}
 use Rattle.cps_expr.specs.declared.value.Value.{Value}
 use Rattle.cps_expr.specs.Value.{same_name}
@@ -21,11 +21,15 @@ use Rattle.cps_listing.specs.Columns.{Column, laid_out}
 
 -- ---- the lines on which symbols stand
 
+-- generated names aren't shown
+abbrev pub shown_names : List Name → List Name
+shown_names names = filter (λ name. not (was_generated name)) names
+
 -- the symbols that a line defines, and those that it reads
 abbrev pub mentions_on : ℕ → List Name → List Name → List Mention
 mentions_on line defined read =
-    map (λ name. record { name = name; line = line; is_definition = true }) defined
-    ++ map (λ name. record { name = name; line = line; is_definition = false }) read
+    map (λ name. record { name = name; line = line; is_definition = true }) (shown_names defined)
+    ++ map (λ name. record { name = name; line = line; is_definition = false }) (shown_names read)
 
 -- on lines that have numbers from one on
 abbrev pub mentions_from : ℕ → List Outcome → List Mention

@@ -53,14 +53,16 @@ fn push_names(
     line: u32,
     is_definition: bool,
 ) -> Result<(), AllocError>
-    ensures { OnOk result (mentions.new.items ≡ mentions.old.items ++ map (λ name. record { name = name; line = line; is_definition = is_definition }) names.now) }
+    ensures { OnOk result (mentions.new.items ≡ mentions.old.items ++ map (λ name. record { name = name; line = line; is_definition = is_definition }) (texts.shown_names names.now)) }
 {
     for name in names {
-        mentions.push(Mention {
-            name: *name,
-            line,
-            is_definition,
-        })?;
+        if !name.was_generated() {
+            mentions.push(Mention {
+                name: *name,
+                line,
+                is_definition,
+            })?;
+        }
     }
     Ok(())
 }

@@ -1,6 +1,7 @@
 -- What a source line does in pass one: its own statement, and the statements that it opens. From the manual's descriptions of DUP and of macro calls; how
 -- deep expansions may stand, and how many statements a line may stand for, are our profile's.
-use Rattle.std.specs.Prelude.{ℕ, zero, suc, ◌+◌, Bool, true, false, List, [], ◌∷◌, if◌then◌else◌}
+use Rattle.std.specs.Prelude.{ℕ, zero, suc, ◌+◌, Bool, true, false, List, [], ◌∷◌, map, if◌then◌else◌}
+use Rattle.cps_text.specs.Insertion.{inserted}
 use Rattle.cps_state.specs.declared.key.Mode.{Mode}
 use Rattle.cps_state.specs.declared.key.Mode.TheVariants.{KeepDup}
 use Rattle.cps_state.specs.Course.{stop, begin, mark, settle, Part, ◌before◌, nothing, run, started, deepest, Trace, traced}
@@ -8,7 +9,9 @@ use Rattle.cps_state.specs.Keys.{State}
 use Rattle.cps_state.specs.Made.{no_flags}
 use Rattle.cps_statement.specs.declared.scope.Scope.{Scope}
 use Rattle.cps_statement.specs.declared.scope.Scope.TheVariants.{Source, Expansion}
+use Rattle.cps_local.specs.Locals.{naming_all}
 use Rattle.cps_statement.specs.Meaning.{statement}
+use Rattle.cps_statement.specs.Opening.{Opening, plain, naming}
 use Rattle.cps_statement.specs.Own.{new_expansion}
 
 -- ---- the end of an expansion
@@ -27,15 +30,18 @@ ended scope = if keeps_lines scope then mark (record no_flags { structure = true
 
 -- ---- statements one after another, each followed by those that it opens, one deeper
 
-abbrev pub walk : (ℕ → List (List ℕ) → Part) → ℕ → Scope → List (List ℕ) → (Scope → Part) → Part
+abbrev pub walk : (ℕ → Opening → Part) → ℕ → Scope → List (List ℕ) → (Scope → Part) → Part
 walk nested depth scope [] next = next scope
 walk nested depth scope (text ∷ texts) next =
     begin depth text before statement scope text (λ later opened. nested (depth + 1) opened before walk nested depth later texts next)
 
--- the statements of an expansion at a depth, where so many depths are looked at; it begins with no open range, and lines are assembled
-unfoldable pub body : ℕ → ℕ → List (List ℕ) → Part
-body zero depth texts rest = rest
-body (suc depths) depth texts rest = walk (body depths) depth (Expansion new_expansion) texts ended rest
+-- the statements of an expansion at a depth, where so many depths are looked at; it begins with no open range, and lines are assembled. LOCAL lines come first,
+-- and what the lines behind them are follows from the names of these
+unfoldable pub body : ℕ → ℕ → Opening → Part
+body zero depth opened rest = rest
+body (suc depths) depth (plain texts) rest = walk (body depths) depth (Expansion new_expansion) texts ended rest
+body (suc depths) depth (naming pairs locals lines) rest =
+    naming_all depth pairs locals (λ named. walk (body depths) depth (Expansion new_expansion) (map (inserted named) lines) ended) rest
 
 -- the first depth that is too deep: what stands below is not looked at
 abbrev pub too_deep : ℕ

@@ -1,13 +1,16 @@
 //! The statements that a source line stands for: its own, and those that it opens.
-ghost use Rattle.std.specs.Prelude.{◌≡◌, ◌≤◌, ◌+◌, ◌-◌, IfOk};
+ghost use Rattle.std.specs.Prelude.{◌≡◌, ◌≤◌, ◌+◌, ◌-◌, IfOk, Some};
 ghost use Rattle.cps_state.specs.Line.{Does, Goes};
 ghost use Rattle.cps_pass.specs.Expansion.{walk, body, ended, too_deep};
 ghost use Rattle.cps_pass.specs.Expansion as expansion;
 ghost use Rattle.cps_statement.specs.Taking.{Walks};
-ghost use Rattle.cps_statement.specs.Treating.{repeated};
+ghost use Rattle.cps_statement.specs.Opened.{opening_of, body_opening, lines_of};
+ghost use Rattle.cps_statement.specs.Opening.{plain};
 
+use cps_local::name_all;
 use cps_state::{Flags, Lookup, Mode, Recorder, Shared, Sheet, Trace};
-use cps_statement::{Opened, Own, Scope, step_statement};
+use cps_statement::{Body, Opened, Own, Repeated, Scope, insert_all, step_statement};
+use cps_text::Substitutes;
 use std::alloc::{AllocError, Global};
 
 /// Statements, each followed by those that it opens. False where one is too much.
@@ -26,7 +29,7 @@ fn go_through<L: Lookup>(
             return Ok(false);
         }
         if let Some(opened) = step_statement(recorder, scope, text.as_slice())? {
-            if !expand(recorder, depth + 1, &opened)? {
+            if !expand(recorder, depth + 1, opened)? {
                 return Ok(false);
             }
         }
@@ -39,10 +42,26 @@ fn go_through<L: Lookup>(
 fn expand<L: Lookup>(
     recorder: &mut Recorder<'_, L>,
     depth: u8,
-    opened: &Opened,
+    opened: Opened<'_>,
 ) -> Result<bool, AllocError>
     requires { depth ≤ too_deep }
-    ensures { IfOk result (λ complete. Goes (body (too_deep + 1 - depth) depth (repeated opened.now.times opened.now.lines.items)) complete L.answer recorder.old recorder.new) }
+    ensures { IfOk result (λ complete. Goes (body (too_deep + 1 - depth) depth (opening_of (Some opened.entry))) complete L.answer recorder.old recorder.new) }
+{
+    match opened {
+        Opened::Lines(lines) => repeat(recorder, depth, &lines),
+        Opened::Naming(called) => expand_body(recorder, depth, &called),
+    }
+}
+
+/// Lines so many times.
+#[cycle(expansion)]
+fn repeat<L: Lookup>(
+    recorder: &mut Recorder<'_, L>,
+    depth: u8,
+    opened: &Repeated,
+) -> Result<bool, AllocError>
+    requires { depth ≤ too_deep }
+    ensures { IfOk result (λ complete. Goes (body (too_deep + 1 - depth) depth (plain (lines_of opened.now))) complete L.answer recorder.old recorder.new) }
 {
     let alloc = recorder.alloc();
     let mut scope = Scope::Expansion(Own::at_start(alloc));
@@ -53,6 +72,26 @@ fn expand<L: Lookup>(
     }
     end_expansion(recorder, &scope);
     Ok(true)
+}
+
+/// The body of a call whose macro has LOCAL lines: these, and then the lines behind them.
+#[cycle(expansion)]
+fn expand_body<L: Lookup>(
+    recorder: &mut Recorder<'_, L>,
+    depth: u8,
+    called: &Body<'_>,
+) -> Result<bool, AllocError>
+    requires { depth ≤ too_deep }
+    ensures { IfOk result (λ complete. Goes (body (too_deep + 1 - depth) depth (body_opening called.now)) complete L.answer recorder.old recorder.new) }
+{
+    let alloc = recorder.alloc();
+    let mut known = Substitutes::of(alloc, &called.pairs)?;
+    if !name_all(recorder, depth, called.locals.as_slice(), &mut known)? {
+        return Ok(false);
+    }
+    let lines = insert_all(alloc, called.lines.as_slice(), &known)?;
+    let opened = Repeated { lines, times: 1 };
+    repeat(recorder, depth, &opened)
 }
 
 /// A body of DUP that is open ends with the expansion.
@@ -98,7 +137,7 @@ pub fn trace_line<L: Lookup>(
     let opened = step_statement(&mut recorder, &mut scope, line)?;
     recorder.settle();
     let complete = match opened {
-        Some(opened) => expand(&mut recorder, 1, &opened)?,
+        Some(opened) => expand(&mut recorder, 1, opened)?,
         None => true,
     };
     recorder.into_trace(complete)

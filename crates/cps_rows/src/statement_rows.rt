@@ -1,7 +1,7 @@
 //! The rows of statements.
-use super::assertions::{assert_row, assert_same};
+use super::assertions::{assert_row, assert_row_text, assert_same};
 use super::same_value::UNDEFINED;
-use cps_expr::{Machine, Operation, Radix, Row, Stmt, StmtFault, Value};
+use cps_expr::{Machine, Operation, Radix, Row, Stmt, StmtFault, Value, read_locals};
 use std::alloc::Global;
 use std::test::Fail;
 
@@ -24,7 +24,7 @@ fn refused(alloc: Global, operation: &str, tail: &str) -> Option<StmtFault> {
 
 #[test]
 fn refuses_operands(rt: HostRuntime) -> Result<(), Fail> {
-    const UNREADABLE: [(&str, &str); 44] = [
+    const UNREADABLE: [(&str, &str); 48] = [
         ("IDENT", ""),
         ("IDENT", "X1"),
         ("BASE", ""),
@@ -69,12 +69,16 @@ fn refuses_operands(rt: HostRuntime) -> Result<(), Fail> {
         ("DUP", "1,2,3"),
         ("MACRO", "A,B,a"),
         ("MACRO", "A=,B"),
+        ("LOCAL", ""),
+        ("LOCAL", "A,B,a"),
+        ("LOCAL", "A=,B"),
+        ("LOCAL", "A,X1"),
     ];
     for (at, (operation, tail)) in UNREADABLE.iter().enumerate() {
         let fault = refused(rt.alloc(), operation, tail);
         assert_row(&rt, at, &fault, &Some(StmtFault::Unreadable));
     }
-    const UNKNOWN: [&str; 7] = ["SA1", "NO", "MXX", "RE", "", "IFEQQ", "LOCAL"];
+    const UNKNOWN: [&str; 6] = ["SA1", "NO", "MXX", "RE", "", "IFEQQ"];
     for (at, operation) in UNKNOWN.iter().enumerate() {
         let fault = refused(rt.alloc(), operation, "1");
         assert_row(&rt, at, &fault, &Some(StmtFault::NoOperation));
@@ -103,5 +107,30 @@ fn takes_operands_out(rt: HostRuntime) -> Result<(), Fail> {
     let statement = read(rt.alloc(), b"CON", tail, Machine::Cp, Radix::Decimal)?;
     let numbers = taken(rt.alloc(), statement)?;
     assert_same(&rt, "values", &numbers.as_slice(), &[1, 6, 15].as_slice());
+    Ok(())
+}
+
+/// The local names of a tail, each with a bar behind it.
+fn joined_names(alloc: Global, tail: &[u8]) -> Result<Vec<u8>, Fail> {
+    let names = read_locals(alloc, tail)?;
+    let mut text = Vec::new(alloc);
+    for name in names.as_slice() {
+        text.extend_from_slice(name.text())?;
+        text.push(b'|')?;
+    }
+    Ok(text)
+}
+
+#[test]
+fn reads_local_names(rt: HostRuntime) -> Result<(), Fail> {
+    const ROWS: [(&str, &str); 3] = [
+        ("LP", "LP|"),
+        ("LP,b COMMENT", "LP|B|"),
+        (".1,A.B,LONGNAME,lp", ".1|A.B|LONGNAME|LP|"),
+    ];
+    for (at, (tail, want)) in ROWS.iter().enumerate() {
+        let text = joined_names(rt.alloc(), tail.as_bytes())?;
+        assert_row_text(&rt, at, &text, want)?;
+    }
     Ok(())
 }

@@ -1,7 +1,10 @@
 //! The text of macros, characters and fields.
 use super::assertions::{assert_row, assert_row_text, assert_same};
 use super::given::{line, name};
-use cps_text::{ArgFault, Fields, arguments, display, insert_text, push_octal};
+use cps_text::{
+    ArgFault, Fields, Line, LineFault, Name, Statement, Substitute, Substitutes, arguments,
+    display, insert_by, insert_text, push_octal,
+};
 use std::alloc::Global;
 use std::test::Fail;
 
@@ -65,6 +68,87 @@ fn inserts_arguments(rt: HostRuntime) -> Result<(), Fail> {
         assert_row_text(&rt, at, &text, want)?;
     }
     Ok(())
+}
+
+/// More names than are looked through one by one: what stands for the last, in small letters too, and for a parameter.
+#[test]
+fn inserts_generated_names(rt: HostRuntime) -> Result<(), Fail> {
+    const NAMES: [(&str, u32); 17] = [
+        ("A", 1),
+        ("B", 2),
+        ("C", 3),
+        ("D", 4),
+        ("E", 5),
+        ("F", 6),
+        ("G", 7),
+        ("H", 8),
+        ("I", 9),
+        ("J", 10),
+        ("K", 11),
+        ("L", 12),
+        ("M", 13),
+        ("N", 14),
+        ("O", 15),
+        ("P1", 16),
+        ("P17", 17),
+    ];
+    const ROWS: [(&str, &str); 4] = [
+        (
+            "A        CON     p17,P1,a",
+            "~0000001        CON     ~0000017,~0000016,~0000001",
+        ),
+        (
+            "P        CON     P_A,P1_7",
+            "ARG        CON     ARG~0000001,~00000167",
+        ),
+        ("* A", "* A"),
+        ("X_Y      CON     AB", "XY      CON     AB"),
+    ];
+    let arguments = [(name(b"P")?, b"ARG".as_slice())];
+    let mut known = Substitutes::of(rt.alloc(), &arguments)?;
+    for (text, number) in NAMES {
+        known.push(
+            name(text.as_bytes())?,
+            Substitute::Generated(Name::generated(number)),
+        )?;
+    }
+    for (at, (body, want)) in ROWS.iter().enumerate() {
+        let text = insert_by(rt.alloc(), body.as_bytes(), &known)?;
+        assert_row_text(&rt, at, &text, want)?;
+    }
+    Ok(())
+}
+
+/// A generated name stands in statements of expansions, and in no line of a source.
+#[test]
+fn tells_statements_from_lines(rt: HostRuntime) -> Result<(), Fail> {
+    const TILDES: [u8; 91] = [b'~'; 91];
+    let rows: [(&[u8], Option<LineFault>, Option<LineFault>); 5] = [
+        (b"~0000001 NO", None, Some(LineFault::BadCharacter)),
+        (
+            b"~0000001 NO {",
+            Some(LineFault::BadCharacter),
+            Some(LineFault::BadCharacter),
+        ),
+        (b"         NO", None, None),
+        (&TILDES[..90], None, Some(LineFault::BadCharacter)),
+        (
+            &TILDES,
+            Some(LineFault::LineTooLong),
+            Some(LineFault::LineTooLong),
+        ),
+    ];
+    for (at, (text, statement, line)) in rows.iter().enumerate() {
+        assert_row(&rt, at, &Statement::new(rt.alloc(), *text).err(), statement);
+        assert_row(&rt, at, &Line::new(rt.alloc(), *text).err(), line);
+    }
+    let whole = Statement::new(rt.alloc(), b"~0000001 NO")?;
+    assert_row_text(&rt, 5, whole.bytes(), "~0000001 NO")?;
+    let Fields::Statement(statement) = whole.fields() else {
+        return Err(Fail::from("a statement"));
+    };
+    assert_row_text(&rt, 6, statement.location, "~0000001")?;
+    assert_row_text(&rt, 7, statement.operation, "NO")
 }
 
 #[test]

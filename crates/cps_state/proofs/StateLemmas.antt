@@ -17,10 +17,10 @@ overwritten-all f e [] none before = before
 overwritten-all f e (p ∷ puts) none before = absurd (suc-ne-zero (length puts) none)
 
 -- the same puts where the other answers are the same
-pub overwritten-same : (control nominal uses blocks ranges : Answer) (f g : State) (puts others : List Put) → ((k : Key) → f k ≡ g k) → puts ≡ others
-    → overwritten (answers_in control nominal uses blocks ranges f) puts ≡ overwritten (answers_in control nominal uses blocks ranges g) others
-overwritten-same control nominal uses blocks ranges f g puts others same is =
-    λ i. overwritten (answers_in control nominal uses blocks ranges (λ k. same k i)) (is i)
+pub overwritten-same : (control nominal uses blocks ranges locals : Answer) (f g : State) (puts others : List Put) → ((k : Key) → f k ≡ g k) → puts ≡ others
+    → overwritten (answers_in control nominal uses blocks ranges locals f) puts ≡ overwritten (answers_in control nominal uses blocks ranges locals g) others
+overwritten-same control nominal uses blocks ranges locals f g puts others same is =
+    λ i. overwritten (answers_in control nominal uses blocks ranges locals (λ k. same k i)) (is i)
 
 -- one put more is shared: those that are left stand before the others
 pub shared-next : (rest next same more puts : List Put) (p : Put) (a : Answer) → rest ≡ next ++ p ∷ [] → more ≡ same ++ record { key = p.key; answer = a } ∷ [] → a ≡ p.answer

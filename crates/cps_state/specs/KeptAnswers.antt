@@ -12,14 +12,16 @@ is_other (key.Counter None) = false
 is_other key.Uses = false
 is_other key.Blocks = false
 is_other key.Ifs = false
+is_other key.Locals = false
 is_other other = true
 
 -- a state with this control, this place of the nominal block, these blocks that were left, this count of named blocks, these
--- open ranges, and these other answers
-abbrev pub answers_in : Answer → Answer → Answer → Answer → Answer → State → State
-answers_in control nominal uses blocks ranges others key.Control = Some control
-answers_in control nominal uses blocks ranges others (key.Counter None) = Some nominal
-answers_in control nominal uses blocks ranges others key.Uses = Some uses
-answers_in control nominal uses blocks ranges others key.Blocks = Some blocks
-answers_in control nominal uses blocks ranges others key.Ifs = Some ranges
-answers_in control nominal uses blocks ranges others other = others other
+-- open ranges, this count of generated names, and these other answers
+abbrev pub answers_in : Answer → Answer → Answer → Answer → Answer → Answer → State → State
+answers_in control nominal uses blocks ranges locals others key.Control = Some control
+answers_in control nominal uses blocks ranges locals others (key.Counter None) = Some nominal
+answers_in control nominal uses blocks ranges locals others key.Uses = Some uses
+answers_in control nominal uses blocks ranges locals others key.Blocks = Some blocks
+answers_in control nominal uses blocks ranges locals others key.Ifs = Some ranges
+answers_in control nominal uses blocks ranges locals others key.Locals = Some locals
+answers_in control nominal uses blocks ranges locals others other = others other

@@ -42,6 +42,7 @@ same_key (key.Kept a) (key.Kept b) = nat_eq a b
 same_key key.Uses key.Uses = true
 same_key key.Ifs key.Ifs = true
 same_key key.Blocks key.Blocks = true
+same_key key.Locals key.Locals = true
 same_key _ _ = false
 
 -- how many of the blocks that USE left are kept
@@ -68,6 +69,7 @@ first_state (key.Counter None) = Some (answer.Counter first_place)
 first_state key.Uses = Some (answer.Uses [])
 first_state key.Blocks = Some (answer.Count 0)
 first_state key.Ifs = Some (answer.Ifs [])
+first_state key.Locals = Some (answer.Count 0)
 first_state other = None
 
 -- ---- puts
@@ -130,7 +132,7 @@ abbrev pub text_of : Option Answer → List ℕ
 text_of (Some (answer.Text text)) = text
 text_of _ = []
 
--- none was begun
+-- none was begun, or generated
 abbrev pub count_of : Option Answer → ℕ
 count_of (Some (answer.Count count)) = count
 count_of _ = 0

@@ -61,7 +61,7 @@ pub fn macro_of(answer: Option<&Answer>) -> Result<Option<Macro>, AllocError>
     ensures { IfOk result (λ named. named ≡ macro_of (option_copied answer.entry)) }
 {
     match answer {
-        Some(Answer::Macro(named)) => Ok(Some(named.share()?)),
+        Some(Answer::Macro(named)) => Ok(Some(named.to_macro()?)),
         _ => Ok(None),
     }
 }

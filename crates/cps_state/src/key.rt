@@ -3,6 +3,7 @@ ghost use Rattle.std.specs.Prelude.{◌≡◌, IfOk, OnOk, reverse};
 ghost use Rattle.cps_state.specs.Keys.{same_block, same_key};
 
 use crate::shared::Shared;
+use crate::shared_macro::SharedMacro;
 use crate::shared_mode::SharedMode;
 use cps_code::Place;
 use cps_expr::{Machine, Radix, Value, is_same_name};
@@ -30,6 +31,8 @@ pub enum Key {
     Macro(Name),
     /// A line that is kept for a macro or for DUP; the first one is 0.
     Kept(u32),
+    /// How many names were generated for local names of macros' calls.
+    Locals,
 }
 
 /// What came in the head of a program.
@@ -143,10 +146,11 @@ pub enum Range {
     BehindElse,
 }
 
-/// A macro: its parameters, and the lines of its body.
+/// A macro: its parameters, the LOCAL lines that its body begins with, and the lines behind them.
 #[derive(PartialEq, Eq, Drop)]
 pub struct Macro {
     pub parameters: Shared<Name>,
+    pub locals: Shared<Shared<u8>>,
     pub lines: Shared<Shared<u8>>,
 }
 
@@ -157,6 +161,7 @@ impl Macro {
     {
         Ok(Macro {
             parameters: self.parameters.share()?,
+            locals: self.locals.share()?,
             lines: self.lines.share()?,
         })
     }
@@ -184,7 +189,7 @@ pub enum Answer {
     /// The newest range in front.
     Ifs(Shared<Range>),
     Count(u32),
-    Macro(Macro),
+    Macro(SharedMacro),
     /// The text of a line.
     Text(Shared<u8>),
 }
@@ -246,7 +251,8 @@ pub fn is_same_key(a: &Key, b: &Key) -> bool
         (Key::Setting(a), Key::Setting(b)) => is_same_name(*a, *b),
         (Key::Macro(a), Key::Macro(b)) => is_same_name(*a, *b),
         (Key::Kept(a), Key::Kept(b)) => a == b,
-        (Key::Uses, Key::Uses) | (Key::Ifs, Key::Ifs) | (Key::Blocks, Key::Blocks) => true,
+        (Key::Uses, Key::Uses) | (Key::Ifs, Key::Ifs) => true,
+        (Key::Blocks, Key::Blocks) | (Key::Locals, Key::Locals) => true,
         _ => false,
     }
 }

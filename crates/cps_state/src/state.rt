@@ -27,6 +27,7 @@ pub struct State {
     uses: Answer,
     blocks: Answer,
     ranges: Answer,
+    locals: Answer,
     others: HashMap<Key, Answer, Hashing>,
     /// For the answers of a line, before they are put.
     shared: Vec<Put>,
@@ -36,7 +37,7 @@ impl Lookup for State {
     ghost use Rattle.std.specs.HashMap as hash;
     ghost use Rattle.cps_state.specs.KeptAnswers.{answers_in};
 
-    ghost answer = { λ state. answers_in state.control state.nominal state.uses state.blocks state.ranges (hash.get ⟦<Key as PartialEq>⟧.eq state.others) };
+    ghost answer = { λ state. answers_in state.control state.nominal state.uses state.blocks state.ranges state.locals (hash.get ⟦<Key as PartialEq>⟧.eq state.others) };
 
     #[inline(always)]
     fn ask(&self, key: &Key) -> Option<&Answer> {
@@ -46,6 +47,7 @@ impl Lookup for State {
             Key::Uses => Some(&self.uses),
             Key::Blocks => Some(&self.blocks),
             Key::Ifs => Some(&self.ranges),
+            Key::Locals => Some(&self.locals),
             _ => self.others.get(key),
         }
     }
@@ -79,6 +81,7 @@ impl State {
             uses: Answer::Uses(Shared::empty()),
             blocks: Answer::Count(0),
             ranges: Answer::Ifs(Shared::empty()),
+            locals: Answer::Count(0),
             others: HashMap::with_hasher(alloc, hashing),
             shared: Vec::new(alloc),
         }
@@ -119,6 +122,7 @@ impl State {
             Key::Uses => drop(mem::replace(&mut self.uses, put.answer)),
             Key::Blocks => drop(mem::replace(&mut self.blocks, put.answer)),
             Key::Ifs => drop(mem::replace(&mut self.ranges, put.answer)),
+            Key::Locals => drop(mem::replace(&mut self.locals, put.answer)),
             key => self.put_other(key, put.answer),
         }
     }

@@ -5,14 +5,15 @@ use Rattle.cps_state.specs.Line.{Line, line_filled, runs}
 use Rattle.cps_state.specs.Keys.{State}
 use Rattle.cps_state.specs.Made.{Made}
 use Rattle.cps_statement.specs.declared.scope.Scope.{Scope}
+use Rattle.cps_statement.specs.Opening.{Opening}
 use Rattle.cps_statement.specs.Taking.{TakesBody, HandsOn}
 
 -- lines that were taken are opened, after what the statement makes
-pub taken-filled : {S : Type 0} (part : (List (List ℕ) → Scope → Part) → Part) (lines opened : List (List ℕ)) (opens : List (List ℕ) → List (List ℕ)) (scope : Scope) (made : Made)
+pub taken-filled : {S : Type 0} (part : (List (List ℕ) → Scope → Part) → Part) (lines : List (List ℕ)) (opened : Opening) (opens : List (List ℕ) → Opening) (scope : Scope) (made : Made)
     (f : S → State) (s t u : Line S)
     → TakesBody part lines scope f s t → u ≡ line_filled t made → opened ≡ opens lines
     → HandsOn (λ behind. part (λ taken later. fill made before behind later (opens taken))) scope opened f s u
 taken-filled part lines opened opens scope made f s t u takes fills are = λ behind rest.
     takes (λ taken later. fill made before behind later (opens taken)) rest
     ∙ ap (λ r. runs (behind scope (opens lines) rest) f r) (sym fills)
-    ∙ ap (λ (o : List (List ℕ)). runs (behind scope o rest) f u) (sym are)
+    ∙ ap (λ (o : Opening). runs (behind scope o rest) f u) (sym are)

@@ -2,6 +2,7 @@ pub mod Keeping
 pub mod Macros
 pub mod Meaning
 pub mod Opened
+pub mod Opening
 pub mod Own
 pub mod Ranges
 pub mod Repeating

@@ -1,6 +1,6 @@
 -- MACRO, and calls of macros. From the manual's sections on macro definitions and on macro calls; which names and parameters a macro may have, and that a call
 -- with too many arguments opens nothing, are our profile's.
-use Rattle.std.specs.Prelude.{ℕ, Bool, true, false, nat_lt, length, map, is_none, List, [], ◌∷◌, Option, None, Some, if◌then◌else◌}
+use Rattle.std.specs.Prelude.{ℕ, Bool, true, false, nat_lt, length, is_none, map, List, [], ◌∷◌, Option, None, Some, if◌then◌else◌}
 use Rattle.cps_text.specs.declared.name.Name.{Name}
 use Rattle.cps_text.specs.Arguments.{has_unclosed, arguments_of}
 use Rattle.cps_text.specs.Insertion.{Pairs, inserted}
@@ -22,6 +22,7 @@ use Rattle.cps_site.specs.Places.{filling_between, here_at}
 use Rattle.cps_site.specs.Placing.{asking_site, placing_flags, settling, word_start}
 use Rattle.cps_statement.specs.declared.scope.Scope.{Scope}
 use Rattle.cps_statement.specs.Keeping.{no_lines}
+use Rattle.cps_statement.specs.Opening.{Opening, plain, naming, none_opened}
 use Rattle.cps_statement.specs.Scope.{going_by, flagging, Behind}
 
 -- ---- MACRO
@@ -92,10 +93,18 @@ abbrev pub call_made : Made → Bool → Made
 call_made made true = made
 call_made made false = record made { flags = joined made.flags (record no_flags { operand = true }) }
 
+-- a macro without LOCAL lines stands for its lines with the arguments; the lines behind LOCAL lines wait for the names of these
+abbrev pub opening_behind : List (List ℕ) → Pairs → List (List ℕ) → Opening
+opening_behind [] pairs lines = plain (map (inserted pairs) lines)
+opening_behind (local ∷ locals) pairs lines = naming pairs (local ∷ locals) lines
+
+abbrev pub opening_with : Pairs → Macro → Opening
+opening_with pairs named = opening_behind named.locals pairs named.lines
+
 -- the lines of the body with the arguments, and none where there are no such
-abbrev pub calling_with : Scope → Made → List (List ℕ) → Option Pairs → Behind → Part
-calling_with scope made lines None behind = fill (call_made made false) before behind scope []
-calling_with scope made lines (Some pairs) behind = fill (call_made made true) before behind scope (map (inserted pairs) lines)
+abbrev pub calling_with : Scope → Made → Macro → Option Pairs → Behind → Part
+calling_with scope made named None behind = fill (call_made made false) before behind scope none_opened
+calling_with scope made named (Some pairs) behind = fill (call_made made true) before behind scope (opening_with pairs named)
 
 abbrev pub calling : Control → Scope → Location → Macro → List ℕ → Behind → Part
-calling control scope location named tail behind = call_at control location (λ made. calling_with scope made named.lines (bound named.parameters tail) behind)
+calling control scope location named tail behind = call_at control location (λ made. calling_with scope made named (bound named.parameters tail) behind)

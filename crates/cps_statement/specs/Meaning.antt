@@ -1,9 +1,8 @@
 -- What a statement does in pass one: by what it says, by the part of the program in which it stands, and by whether it is assembled, skipped or kept. From the
 -- manual's chapter on pseudo instructions; what stands in expansions, and how long a statement may be there, are our profile's.
-use Rattle.std.specs.Prelude.{ℕ, Bool, true, false, nat_lt, length, List, Option, None, Some, if◌then◌else◌}
-use Rattle.cps_text.specs.declared.limits.TheConstants.{MOST_CHARACTERS}
+use Rattle.std.specs.Prelude.{ℕ, Bool, true, false, List, Option, None, Some}
 use Rattle.cps_text.specs.declared.name.Name.{Name}
-use Rattle.cps_text.specs.Card.{StatementFields, LineFields, CommentLine, ContinuedLine, StatementLine, fields_of}
+use Rattle.cps_text.specs.Card.{StatementFields, LineFields, CommentLine, ContinuedLine, StatementLine}
 use Rattle.cps_expr.specs.declared.operation.Operation.{Operation}
 use Rattle.cps_expr.specs.declared.operation.Operation.TheVariants as operation
 use Rattle.cps_expr.specs.declared.row.Row.{Row}
@@ -31,6 +30,7 @@ use Rattle.cps_site.specs.Places.{asking_place}
 use Rattle.cps_effect.specs.Statements.{obeyed_plainly, unreadable_plainly}
 use Rattle.cps_statement.specs.declared.scope.Scope.{Scope}
 use Rattle.cps_statement.specs.declared.scope.Scope.TheVariants.{Source, Expansion}
+use Rattle.cps_local.specs.Cards.{card_in}
 use Rattle.cps_statement.specs.Keeping.{kept_for_macro, kept_for_dup}
 use Rattle.cps_statement.specs.Macros.{calling, macro_from}
 use Rattle.cps_statement.specs.Ranges.{if_compared, if_defined, else_of, endif_of}
@@ -136,13 +136,6 @@ assembled control scope (StatementLine statement) behind =
     assembled_as control scope (location_in statement.location) statement.tail (stating_in control.machine control.radix statement.operation statement.tail) behind
 
 -- ---- by the mode
-
--- the columns of a statement; one above 90 characters, which an expansion may have, is treated as a line that continues another
-abbrev pub most_columns : ℕ
-most_columns = MOST_CHARACTERS
-
-abbrev pub card_in : List ℕ → LineFields
-card_in text = if nat_lt most_columns (length text) then ContinuedLine else fields_of text
 
 abbrev pub in_mode : Control → Scope → List ℕ → Mode → Behind → Part
 in_mode control scope text Normal behind = assembled control scope (card_in text) behind

@@ -12,6 +12,7 @@ use Rattle.cps_state.specs.Course.{Part, ◌before◌, asking, putting}
 use Rattle.cps_state.specs.Keys.{ranges_of, text_of}
 use Rattle.cps_state.specs.declared.flags.Flags.{Flags}
 use Rattle.cps_effect.specs.Making.{flagged}
+use Rattle.cps_statement.specs.Opening.{Opening, none_opened}
 use Rattle.cps_statement.specs.declared.scope.Scope.{Scope}
 use Rattle.cps_statement.specs.declared.scope.Scope.TheVariants.{Source, Expansion}
 
@@ -60,7 +61,7 @@ taking_body control (Expansion own) count next = next (take count own.kept) (Exp
 
 -- what comes after a statement: where it stands by then, and the statements that it opens
 abbrev pub Behind : Type 0
-Behind = Scope → List (List ℕ) → Part
+Behind = Scope → Opening → Part
 
 abbrev pub opens_nothing : Behind → Scope → Part
-opens_nothing behind later = behind later []
+opens_nothing behind later = behind later none_opened

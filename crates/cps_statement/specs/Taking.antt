@@ -4,6 +4,7 @@ use Rattle.cps_state.specs.Course.{Course, Part}
 use Rattle.cps_state.specs.Keys.{State}
 use Rattle.cps_state.specs.Line.{Line, runs, goes_on}
 use Rattle.cps_statement.specs.declared.scope.Scope.{Scope}
+use Rattle.cps_statement.specs.Opening.{Opening}
 use Rattle.cps_statement.specs.Scope.{Behind}
 
 -- the lines that were kept were taken
@@ -11,7 +12,7 @@ abbrev pub TakesBody : {S : Type 0} → ((List (List ℕ) → Scope → Part) �
 TakesBody part lines scope answer old new = (next : List (List ℕ) → Scope → Part) (rest : Course) → runs (part next rest) answer old ≡ runs (next lines scope rest) answer new
 
 -- a statement was done, and hands on where it stands by then and what it opens
-abbrev pub HandsOn : {S : Type 0} → (Behind → Part) → Scope → List (List ℕ) → (S → State) → Line S → Line S → Type 0
+abbrev pub HandsOn : {S : Type 0} → (Behind → Part) → Scope → Opening → (S → State) → Line S → Line S → Type 0
 HandsOn part scope opened answer old new = (behind : Behind) (rest : Course) → runs (part behind rest) answer old ≡ runs (behind scope opened rest) answer new
 
 -- statements were completed, and hand on where they stand by then, or came to one that is too much

@@ -15,6 +15,8 @@ use Rattle.cps_effect.specs.Making.{flagged}
 use Rattle.cps_statement.specs.declared.scope.Scope.{Scope}
 use Rattle.cps_statement.specs.declared.treatment.Treatment.{Treatment}
 use Rattle.cps_statement.specs.declared.treatment.Treatment.TheVariants.{Passes, Resumes, Defines, Opens}
+use Rattle.cps_local.specs.Locals.{macro_of_lines}
+use Rattle.cps_statement.specs.Opening.{plain}
 use Rattle.cps_statement.specs.Scope.{going_by, asking_ranges, putting_ranges, keeping, taking_body, flagging, Behind, opens_nothing}
 
 -- what is done with lines is put only where it changes
@@ -38,7 +40,7 @@ resuming control scope next =
 abbrev pub defining_macro : Control → Scope → Name → MacroBody → (Scope → Part) → Part
 defining_macro control scope name body next =
     taking_body control scope body.kept.lines (λ lines later.
-    putting (key.Macro name) (answer.Macro (record { parameters = body.parameters; lines = lines })) before next later)
+    putting (key.Macro name) (answer.Macro (macro_of_lines body.parameters lines)) before next later)
 
 -- lines so many times
 abbrev pub repeated : ℕ → List (List ℕ) → List (List ℕ)
@@ -57,4 +59,4 @@ treated control scope mode text (Resumes location) behind = resuming control sco
 treated control scope mode text (Defines name body location) behind =
     defining_macro control scope name body (λ there. flagging (present_flags location) there (opens_nothing behind))
 treated control scope mode text (Opens body with_line flags) behind =
-    taking_body control scope body.kept.lines (λ lines there. flagged flags before behind there (repeated body.times (lines ++ last_line with_line text)))
+    taking_body control scope body.kept.lines (λ lines there. flagged flags before behind there (plain (repeated body.times (lines ++ last_line with_line text))))

@@ -13,6 +13,7 @@ mod statement;
 mod treating;
 mod treatment;
 
-pub use opened::Opened;
+pub use macros::insert_all;
+pub use opened::{Body, Opened, Repeated};
 pub use scope::{Own, Scope};
 pub use statement::step_statement;

@@ -3,18 +3,18 @@ ghost use Rattle.std.specs.Prelude.{◌≡◌, Some, OnOk, IfOk, option_map, map
 ghost use Rattle.cps_text.specs.Insertion.{pairs_value, inserted};
 ghost use Rattle.cps_state.specs.Line.{Hands};
 ghost use Rattle.cps_statement.specs.Macros as macros;
-ghost use Rattle.cps_statement.specs.Opened.{lines_of};
+ghost use Rattle.cps_statement.specs.Opened.{opening_of};
 ghost use Rattle.cps_statement.specs.Taking.{HandsOn};
 
 use crate::keeping::no_lines;
-use crate::opened::Opened;
+use crate::opened::{Body, Opened, Repeated};
 use crate::scope::{Scope, go_by};
 use cps_effect::flag;
 use cps_peripheral::is_builtin;
 use cps_reading::Location;
 use cps_site::{Front, ask_site, here_at, placing_flags, settle, word_start};
 use cps_state::{Flags, Lookup, Macro, MacroBody, Made, Mode, Recorder, Shared, Shown};
-use cps_text::{ArgFault, Name, arguments, insert_text};
+use cps_text::{ArgFault, Name, PairList, Substitution, arguments, insert_by};
 use std::alloc::{AllocError, Global};
 
 /// MACRO: the lines to come are kept; None where the parameters can't be read.
@@ -70,14 +70,14 @@ fn macro_mode(
 }
 
 /// A call of a macro: its symbol is defined, and the lines of the body are opened with the arguments.
-pub fn call<L: Lookup>(
+pub fn call<'a, L: Lookup>(
     recorder: &mut Recorder<'_, L>,
     front: Front,
     scope: &Scope,
     named: &Macro,
-    tail: &[u8],
-) -> Result<Option<Opened>, AllocError>
-    ensures { IfOk result (λ opened. HandsOn (macros.calling front.control scope.now front.location named.now tail.now) scope.now (lines_of opened) L.answer recorder.old recorder.new) }
+    tail: &'a [u8],
+) -> Result<Option<Opened<'a>>, AllocError>
+    ensures { IfOk result (λ opened. HandsOn (macros.calling front.control scope.now front.location named.now tail.now) scope.now (opening_of opened) L.answer recorder.old recorder.new) }
 {
     let alloc = recorder.alloc();
     let made = call_at(recorder, front)?;
@@ -128,46 +128,57 @@ fn label<L: Lookup>(recorder: &mut Recorder<'_, L>, front: Front) -> Result<Made
     ))
 }
 
-/// The lines of a macro with the arguments of a call; None where a parenthesis stays open, or there are too many.
-fn open_body(alloc: Global, named: &Macro, tail: &[u8]) -> Result<Option<Opened>, AllocError>
-    ensures { IfOk result (λ opened. option_map (λ o. lines_of (Some o)) opened ≡ option_map (λ pairs. map (inserted pairs) named.now.lines) (macros.bound named.now.parameters tail.now)) }
+/// What a macro opens with the arguments of a call; None where a parenthesis stays open, or there are too many.
+fn open_body<'a>(
+    alloc: Global,
+    named: &Macro,
+    tail: &'a [u8],
+) -> Result<Option<Opened<'a>>, AllocError>
+    ensures { IfOk result (λ opened. option_map (λ o. opening_of (Some o)) opened ≡ option_map (λ pairs. macros.opening_with pairs named.now) (macros.bound named.now.parameters tail.now)) }
 {
-    let parameters = named.parameters.as_slice();
-    let lines = named.lines.as_slice();
-    if parameters.is_empty() {
-        return Ok(Some(open_once(alloc, lines, &[])?));
+    if named.parameters.as_slice().is_empty() {
+        return Ok(Some(open_once(alloc, named, Vec::new(alloc))?));
     }
     match arguments(alloc, tail) {
-        Ok(list) => open_with(alloc, parameters, lines, &list),
+        Ok(list) => open_with(alloc, named, &list),
         Err(ArgFault::Unclosed) => Ok(None),
         Err(ArgFault::Memory) => Err(AllocError),
     }
 }
 
-fn open_with(
+fn open_with<'a>(
     alloc: Global,
-    parameters: &[Name],
-    lines: &[Shared<u8>],
-    list: &[&[u8]],
-) -> Result<Option<Opened>, AllocError>
-    ensures { IfOk result (λ opened. option_map (λ o. lines_of (Some o)) opened ≡ option_map (λ pairs. map (inserted pairs) lines.now) (macros.paired parameters.now (map (λ text. text.now) list.now))) }
+    named: &Macro,
+    list: &[&'a [u8]],
+) -> Result<Option<Opened<'a>>, AllocError>
+    ensures { IfOk result (λ opened. option_map (λ o. opening_of (Some o)) opened ≡ option_map (λ pairs. macros.opening_with pairs named.now) (macros.paired named.now.parameters (map (λ text. text.now) list.now))) }
 {
+    let parameters = named.parameters.as_slice();
     if list.len() > parameters.len() {
         return Ok(None);
     }
     let pairs = pair(alloc, parameters, list)?;
-    Ok(Some(open_once(alloc, lines, &pairs)?))
+    Ok(Some(open_once(alloc, named, pairs)?))
 }
 
-fn open_once(
+/// Where there are LOCAL lines, the lines behind them wait for the names of these.
+fn open_once<'a>(
     alloc: Global,
-    lines: &[Shared<u8>],
-    pairs: &[(Name, &[u8])],
-) -> Result<Opened, AllocError>
-    ensures { IfOk result (λ opened. lines_of (Some opened) ≡ map (inserted (pairs_value pairs.now)) lines.now) }
+    named: &Macro,
+    pairs: Vec<(Name, &'a [u8])>,
+) -> Result<Opened<'a>, AllocError>
+    ensures { IfOk result (λ opened. opening_of (Some opened) ≡ macros.opening_with (pairs_value pairs.entry.items) named.now) }
 {
-    let lines = insert_all(alloc, lines, pairs)?;
-    Ok(Opened { lines, times: 1 })
+    if named.locals.as_slice().is_empty() {
+        let lines = insert_all(alloc, named.lines.as_slice(), &PairList { pairs: &pairs })?;
+        return Ok(Opened::Lines(Repeated { lines, times: 1 }));
+    }
+    let body = Body {
+        pairs,
+        locals: named.locals.share()?,
+        lines: named.lines.share()?,
+    };
+    Ok(Opened::Naming(Box::new(alloc, body)?))
 }
 
 /// Each parameter with its argument; those that are missing are empty.
@@ -193,17 +204,17 @@ fn pair<'a>(
     Ok(pairs)
 }
 
-/// The lines of a body with these texts in place of names.
-fn insert_all(
+/// Lines of a body with what stands for their names.
+pub fn insert_all<S: Substitution>(
     alloc: Global,
     lines: &[Shared<u8>],
-    pairs: &[(Name, &[u8])],
+    known: &S,
 ) -> Result<Vec<Shared<u8>>, AllocError>
-    ensures { IfOk result (λ texts. texts.items ≡ map (inserted (pairs_value pairs.now)) lines.now) }
+    ensures { IfOk result (λ texts. texts.items ≡ map (inserted (S.pairs known.now)) lines.now) }
 {
     let mut texts = Vec::with_capacity(alloc, lines.len())?;
     for line in lines {
-        let text = insert_text(alloc, line.as_slice(), pairs)?;
+        let text = insert_by(alloc, line.as_slice(), known)?;
         texts.push(Shared::from_vec(text)?)?;
     }
     Ok(texts)

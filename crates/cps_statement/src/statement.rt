@@ -6,8 +6,9 @@ ghost use Rattle.cps_expr.specs.Operation.{operation_named};
 ghost use Rattle.cps_text.specs.CardFields.{fields_value, statement_value};
 ghost use Rattle.cps_reading.specs.Readings.{IsStating};
 ghost use Rattle.cps_state.specs.Line.{Does, Hands};
+ghost use Rattle.cps_local.specs.Cards as cards;
 ghost use Rattle.cps_statement.specs.Meaning as meaning;
-ghost use Rattle.cps_statement.specs.Opened.{lines_of};
+ghost use Rattle.cps_statement.specs.Opened.{opening_of};
 ghost use Rattle.cps_statement.specs.Taking.{HandsOn};
 
 use crate::keeping::{kept_for_dup, kept_for_macro};
@@ -24,13 +25,13 @@ use cps_effect::{
     peripheral_instruction, unknown, unmatched,
 };
 use cps_expr::{Operation, Row};
+use cps_local::card_in;
 use cps_reading::{Location, Stating, read_location, read_stating};
 use cps_site::{Front, stand};
 use cps_state::{
     Control, Flags, Key, Lookup, Mode, Phase, Recorder, control_of, macro_of, mode_of,
 };
-use cps_text::limits::MOST_CHARACTERS;
-use cps_text::{Fields, Name, StatementFields, read_fields};
+use cps_text::{Fields, Name, StatementFields};
 use std::alloc::AllocError;
 
 /// A statement as it is written, with its columns.
@@ -41,12 +42,12 @@ struct Written<'a> {
 }
 
 /// A statement. It hands on where it stands by then, and answers the statements that it opens.
-pub fn step_statement<L: Lookup>(
+pub fn step_statement<'a, L: Lookup>(
     recorder: &mut Recorder<'_, L>,
     scope: &mut Scope,
-    text: &[u8],
-) -> Result<Option<Opened>, AllocError>
-    ensures { IfOk result (λ opened. HandsOn (meaning.statement scope.old text.now) scope.new (lines_of opened) L.answer recorder.old recorder.new) }
+    text: &'a [u8],
+) -> Result<Option<Opened<'a>>, AllocError>
+    ensures { IfOk result (λ opened. HandsOn (meaning.statement scope.old text.now) scope.new (opening_of opened) L.answer recorder.old recorder.new) }
 {
     let known = recorder.note(Key::Control)?;
     let control = control_of(recorder.answer(known));
@@ -61,16 +62,6 @@ pub fn step_statement<L: Lookup>(
     }
 }
 
-/// The columns of a statement; one that is too long is treated as a line that continues another.
-fn card_in(text: &[u8]) -> Fields<'_>
-    ensures { fields_value result ≡ meaning.card_in text.now }
-{
-    if text.len() > MOST_CHARACTERS {
-        return Fields::Continued;
-    }
-    read_fields(text)
-}
-
 /// A line after END that is no comment has E alone.
 fn step_after_end<L: Lookup>(recorder: &mut Recorder<'_, L>, fields: Fields<'_>)
     ensures { Does (meaning.after_end (fields_value fields.entry)) L.answer recorder.old recorder.new }
@@ -82,15 +73,15 @@ fn step_after_end<L: Lookup>(recorder: &mut Recorder<'_, L>, fields: Fields<'_>)
 }
 
 /// A statement that is assembled, skipped or kept. END on a source line is obeyed in every mode.
-fn step_before_end<L: Lookup>(
+fn step_before_end<'a, L: Lookup>(
     recorder: &mut Recorder<'_, L>,
     control: Control,
     mode: Mode,
     scope: &mut Scope,
-    written: Written<'_>,
-) -> Result<Option<Opened>, AllocError>
-    requires { fields_value written.fields ≡ meaning.card_in written.text.now }
-    ensures { IfOk result (λ opened. HandsOn (meaning.before_end control mode scope.old written.entry.text.now (meaning.end_in scope.old (meaning.card_in written.entry.text.now))) scope.new (lines_of opened) L.answer recorder.old recorder.new) }
+    written: Written<'a>,
+) -> Result<Option<Opened<'a>>, AllocError>
+    requires { fields_value written.fields ≡ cards.card_in written.text.now }
+    ensures { IfOk result (λ opened. HandsOn (meaning.before_end control mode scope.old written.entry.text.now (meaning.end_in scope.old (cards.card_in written.entry.text.now))) scope.new (opening_of opened) L.answer recorder.old recorder.new) }
 {
     if let Some(location) = end_in(scope, written.fields) {
         end(recorder, Front { control, location }, &mode)?;
@@ -141,13 +132,13 @@ fn end_location(statement: StatementFields<'_>) -> Option<Location>
 }
 
 /// A statement that is assembled. The head ends, unless the statement stays in it.
-fn assemble<L: Lookup>(
+fn assemble<'a, L: Lookup>(
     recorder: &mut Recorder<'_, L>,
     control: Control,
     scope: &mut Scope,
-    fields: Fields<'_>,
-) -> Result<Option<Opened>, AllocError>
-    ensures { IfOk result (λ opened. HandsOn (meaning.assembled control scope.old (fields_value fields.entry)) scope.new (lines_of opened) L.answer recorder.old recorder.new) }
+    fields: Fields<'a>,
+) -> Result<Option<Opened<'a>>, AllocError>
+    ensures { IfOk result (λ opened. HandsOn (meaning.assembled control scope.old (fields_value fields.entry)) scope.new (opening_of opened) L.answer recorder.old recorder.new) }
 {
     match fields {
         Fields::Comment => {
@@ -219,15 +210,15 @@ fn operation_stays(operation: Operation) -> bool
     }
 }
 
-fn obey_stating<L: Lookup>(
+fn obey_stating<'a, L: Lookup>(
     recorder: &mut Recorder<'_, L>,
     front: Front,
     scope: &mut Scope,
-    tail: &[u8],
+    tail: &'a [u8],
     stating: Stating,
-) -> Result<Option<Opened>, AllocError>
+) -> Result<Option<Opened<'a>>, AllocError>
     requires { IsStating front.control.machine stating }
-    ensures { IfOk result (λ opened. HandsOn (meaning.stated front.control scope.old front.location tail.now stating) scope.new (lines_of opened) L.answer recorder.old recorder.new) }
+    ensures { IfOk result (λ opened. HandsOn (meaning.stated front.control scope.old front.location tail.now stating) scope.new (opening_of opened) L.answer recorder.old recorder.new) }
 {
     match stating {
         Stating::Missing => {
@@ -337,14 +328,14 @@ fn end_within<L: Lookup>(recorder: &mut Recorder<'_, L>, control: Control) -> Re
 }
 
 /// A call of a macro, if there is one; None: the operation is no symbol.
-fn call_named<L: Lookup>(
+fn call_named<'a, L: Lookup>(
     recorder: &mut Recorder<'_, L>,
     front: Front,
     scope: &Scope,
-    tail: &[u8],
+    tail: &'a [u8],
     name: Option<Name>,
-) -> Result<Option<Opened>, AllocError>
-    ensures { IfOk result (λ opened. HandsOn (meaning.calling_named front.control scope.now front.location tail.now name) scope.now (lines_of opened) L.answer recorder.old recorder.new) }
+) -> Result<Option<Opened<'a>>, AllocError>
+    ensures { IfOk result (λ opened. HandsOn (meaning.calling_named front.control scope.now front.location tail.now name) scope.now (opening_of opened) L.answer recorder.old recorder.new) }
 {
     let Some(name) = name else {
         unknown(recorder);

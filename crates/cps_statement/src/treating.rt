@@ -1,16 +1,20 @@
 //! Lines that are not assembled: they are skipped or kept, and closing ones open what was kept.
 ghost use Rattle.std.specs.Prelude.{◌≡◌, ◌++◌, IfOk, OnOk};
 ghost use Rattle.cps_state.specs.Line.{Hands};
-ghost use Rattle.cps_statement.specs.Opened.{lines_of};
+ghost use Rattle.cps_statement.specs.Opened.{opening_of};
+ghost use Rattle.cps_statement.specs.Opening.{plain};
 ghost use Rattle.cps_statement.specs.Taking.{HandsOn};
 ghost use Rattle.cps_statement.specs.Treating as treating;
 
-use crate::opened::Opened;
+use crate::opened::{Opened, Repeated};
 use crate::scope::{Scope, ask_ranges, go_by, keep, put_ranges, take_body};
 use crate::treatment::Treatment;
 use cps_effect::flag;
+use cps_local::macro_of_lines;
 use cps_site::present_flags;
-use cps_state::{Answer, Control, Key, Lookup, Macro, MacroBody, Mode, Range, Recorder, Shared};
+use cps_state::{
+    Answer, Control, Key, Lookup, MacroBody, Mode, Range, Recorder, Shared, SharedMacro,
+};
 use cps_text::Name;
 use std::alloc::{AllocError, Global};
 
@@ -23,13 +27,13 @@ pub struct Passing<'a> {
 }
 
 /// Treats a line so, and answers the statements that it opens.
-pub fn treat<L: Lookup>(
+pub fn treat<'a, L: Lookup>(
     recorder: &mut Recorder<'_, L>,
     passing: Passing<'_>,
     scope: &mut Scope,
     treatment: Treatment,
-) -> Result<Option<Opened>, AllocError>
-    ensures { IfOk result (λ opened. HandsOn (treating.treated passing.entry.control scope.old passing.entry.mode.now passing.entry.text.now treatment) scope.new (lines_of opened) L.answer recorder.old recorder.new) }
+) -> Result<Option<Opened<'a>>, AllocError>
+    ensures { IfOk result (λ opened. HandsOn (treating.treated passing.entry.control scope.old passing.entry.mode.now passing.entry.text.now treatment) scope.new (opening_of opened) L.answer recorder.old recorder.new) }
 {
     match treatment {
         Treatment::Passes(later, kept_at, flags) => {
@@ -125,10 +129,8 @@ fn define_macro<L: Lookup>(
     ensures { OnOk result (Hands (treating.defining_macro control scope.old name body) scope.new L.answer recorder.old recorder.new) }
 {
     let lines = take_body(recorder, control, scope, body.kept.lines)?;
-    let named = Macro {
-        parameters: body.parameters,
-        lines: Shared::from_vec(lines)?,
-    };
+    let named = macro_of_lines(body.parameters, lines)?;
+    let named = SharedMacro::new(recorder.alloc(), named)?;
     recorder.put(Key::Macro(name), Answer::Macro(named))
 }
 
@@ -149,11 +151,11 @@ fn with_last(
 }
 
 /// Lines that are opened so many times. Where there are none, nothing is opened, however often.
-fn open_lines(lines: Vec<Shared<u8>>, times: u32) -> Option<Opened>
-    ensures { lines_of result ≡ treating.repeated times lines.items }
+fn open_lines<'a>(lines: Vec<Shared<u8>>, times: u32) -> Option<Opened<'a>>
+    ensures { opening_of result ≡ plain (treating.repeated times lines.items) }
 {
     if lines.is_empty() {
         return None;
     }
-    Some(Opened { lines, times })
+    Some(Opened::Lines(Repeated { lines, times }))
 }

@@ -8,4 +8,5 @@ pub mod OrderLemmas
 pub mod PartLemmas
 pub mod PlaceLemmas
 pub mod RunLemmas
+pub mod SubstituteLemmas
 pub mod WorkedRows

@@ -5,7 +5,7 @@ use Rattle.cps_text.specs.Card.{CommentLine, ContinuedLine, StatementLine, field
 use Rattle.cps_text.specs.ItemInFront.{item_in_front, item_len}
 use Rattle.cps_text.specs.Display.{display_characters, display_of}
 use Rattle.cps_text.specs.Insertion.{Pairs, inserted}
-use Rattle.cps_text.specs.Name.{name_of, name_text}
+use Rattle.cps_text.specs.Name.{name_of, name_text, generated_name, generated_text, was_generated}
 use Rattle.cps_text.specs.Octal.{octal}
 use Rattle.cps_text.specs.Operands.{operands_of}
 use Rattle.cps_text.specs.Parts.{parts_up_to, parts_from}
@@ -198,8 +198,38 @@ nine_characters = refl
 digit_first : name_of (codes "1A") ≡ None
 digit_first = refl
 
+first_generated : option_map name_text (name_of (codes "~0000001")) ≡ Some (codes "~0000001")
+first_generated = refl
+
+last_generated : option_map name_text (name_of (codes "~9999999")) ≡ Some (codes "~9999999")
+last_generated = refl
+
+generated_by_number : generated_text 8390057 ≡ codes "~8390057"
+generated_by_number = refl
+
+no_number_zero : name_of (codes "~0000000") ≡ None
+no_number_zero = refl
+
+six_digits : name_of (codes "~000001") ≡ None
+six_digits = refl
+
+eight_digits : name_of (codes "~00000001") ≡ None
+eight_digits = refl
+
+letter_in_number : name_of (codes "~000000A") ≡ None
+letter_in_number = refl
+
+tilde_first : name_of (codes "~A") ≡ None
+tilde_first = refl
+
+generated_is_told : was_generated (generated_name 1) ≡ true
+generated_is_told = refl
+
 abbrev name : List ℕ → Name
 name text = record { bytes = padded (capitals text) }
+
+symbol_is_told : was_generated (name (codes "ab.1=")) ≡ false
+symbol_is_told = refl
 
 abbrev two : Pairs
 two = (name (codes "R"), codes "5") ∷ (name (codes "K"), codes "R_K") ∷ (name (codes "R"), codes "6") ∷ []

@@ -1,13 +1,12 @@
 -- The text that a line of a macro's body gives. From the manual's sections on macro definitions and on the concatenation mark.
-use Rattle.std.specs.Prelude.{ℕ, Bool, not, ◌||◌, List, map, filter, codes, Option, option_map, unwrap_or, if◌then◌else◌}
+use Rattle.std.specs.Prelude.{ℕ, Bool, not, ◌||◌, List, map, filter, codes, Option, option_map, option_and_then, unwrap_or, if◌then◌else◌}
 use Rattle.std.specs.Borrow.{Bor}
 use Rattle.std.specs.List.{find, flat_map}
-use Rattle.std.specs.Str.{bytes_eq}
 use Rattle.cps_text.specs.declared.name.Name.{Name}
 use Rattle.cps_text.specs.Card.{card, is_comment}
-use Rattle.cps_text.specs.Name.{name_text}
+use Rattle.cps_text.specs.Name.{is_one, name_of}
 use Rattle.cps_text.specs.Runs.{runs}
-use Rattle.cps_text.specs.Text.{among, capital, capitals, is_digit, is_letter}
+use Rattle.cps_text.specs.Text.{among, capital, is_digit, is_letter}
 
 -- a parameter stands in a run of letters, digits and points
 abbrev pub is_of_run : ℕ → Bool
@@ -20,12 +19,13 @@ Pairs = List (Name × List ℕ)
 abbrev pub pairs_value : List (Name × Bor (List ℕ)) → Pairs
 pairs_value pairs = map (λ pair. (pair.0, pair.1.now)) pairs
 
--- a run is a pair's name, in capitals or not; the first such pair counts
-abbrev pub is_named : List ℕ → Name → Bool
-is_named run name = bytes_eq (name_text name) (capitals run)
+-- the text that stands for a name; the first pair of it counts
+abbrev pub text_of : Pairs → Name → Option (List ℕ)
+text_of pairs name = option_map (λ pair. pair.1) (find (λ pair. is_one pair.0 name) pairs)
 
+-- that for a run that writes a name, in capitals or not
 abbrev pub text_for : Pairs → List ℕ → Option (List ℕ)
-text_for pairs run = option_map (λ pair. pair.1) (find (λ pair. is_named run pair.0) pairs)
+text_for pairs run = option_and_then (text_of pairs) (name_of run)
 
 -- the mark that joins what stands before and behind it
 abbrev pub is_mark : ℕ → Bool

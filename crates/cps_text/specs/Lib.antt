@@ -17,5 +17,6 @@ pub mod OperandsLeft
 pub mod Parts
 pub mod PartsLeft
 pub mod Runs
+pub mod Substitutes
 pub mod Symbol
 pub mod Text

@@ -1,6 +1,6 @@
 -- Lines of a source. Our own: the characters of the display code, and lower-case letters.
 use Prim.Native.Char.{code}
-use Rattle.std.specs.Prelude.{◌≡◌, ℕ, ◌≤◌, Bool, false, ◌&&◌, not, nat_le, IsTrue, List, length, codes}
+use Rattle.std.specs.Prelude.{◌≡◌, ℕ, ◌≤◌, Bool, false, ◌&&◌, ◌||◌, ◌==◌, not, nat_le, IsTrue, List, length, codes}
 use Rattle.std.specs.List.{list_all}
 use Rattle.cps_text.specs.Text.{among}
 
@@ -29,3 +29,20 @@ pub record IsLine (text : List ℕ) : Type 0 where
 pub record HasBadCharacter (text : List ℕ) : Type 0 where
   pub short : length text ≤ longest_line
   pub bad : all_accepted text ≡ false
+
+-- ---- statements: lines that may have `~` too, which generated names begin with; no source has them, expansions do
+
+abbrev pub is_stated_byte : ℕ → Bool
+is_stated_byte byte = is_accepted_byte byte || byte == code "~"
+
+abbrev pub all_stated : List ℕ → Bool
+all_stated text = list_all is_stated_byte text
+
+pub record IsStatement (text : List ℕ) : Type 0 where
+  pub short : length text ≤ longest_line
+  pub stated : IsTrue (all_stated text)
+
+-- a text that is short enough for a statement has a character that no statement may have
+pub record HasBadStatement (text : List ℕ) : Type 0 where
+  pub short : length text ≤ longest_line
+  pub bad : all_stated text ≡ false

@@ -1,5 +1,5 @@
 -- Symbols. From the manual's section on symbols; that other characters aren't allowed in them, and that registers are none, is our profile's.
-use Rattle.std.specs.Prelude.{ℕ, ◌-◌, Bool, false, ◌&&◌, ◌||◌, not, ◌==◌, nat_le, nat_lt, List, [], ◌∷◌, ◌++◌, length, slice_index, replicate, codes}
+use Rattle.std.specs.Prelude.{ℕ, ◌-◌, Bool, false, ◌&&◌, ◌||◌, not, ◌==◌, nat_le, nat_lt, nat_eq, List, [], ◌∷◌, ◌++◌, length, slice_index, replicate, codes}
 use Rattle.std.specs.List.{list_all}
 use Rattle.cps_text.specs.Text.{among, is_digit, is_letter}
 
@@ -25,6 +25,21 @@ abbrev pub is_symbol : List ℕ → Bool
 is_symbol text =
     (nat_lt 0 (length text) && nat_le (length text) longest_symbol)
     && (begins_symbol (slice_index text 0) && (list_all continues_symbol text && not (is_register text)))
+
+-- how many digits a generated name has
+abbrev pub generated_digits : ℕ
+generated_digits = 7
+
+-- a generated name, which LOCAL gives a local name of a macro's call: `~` and seven decimal digits, not all of them 0; no line of a source has `~`
+abbrev pub is_generated : List ℕ → Bool
+is_generated [] = false
+is_generated (mark ∷ digits) =
+    among (codes "~") mark
+    && (nat_eq (length digits) generated_digits && (list_all (is_digit 10) digits && not (list_all (among (codes "0")) digits)))
+
+-- a symbol that a source writes, or a generated name
+abbrev pub is_name : List ℕ → Bool
+is_name text = is_symbol text || is_generated text
 
 -- the characters and zeros behind them, as many as the longest symbol has
 abbrev pub padded : List ℕ → List ℕ

@@ -30,6 +30,9 @@ pub const MOST_BLOCKS: u32 = 64;
 /// The most blocks that USE left and that `USE *` may go back to.
 pub const MOST_LEFT_BLOCKS: usize = 64;
 
+/// The most names that are generated for the local names of macros' calls.
+pub const MOST_GENERATED: u32 = 9_999_999;
+
 /// The most words that a DIS may count.
 pub const MOST_COUNTED_WORDS: u8 = 100;
 

@@ -102,7 +102,7 @@ fn has_accepted_bytes(text: &[u8]) -> bool
     accepted
 }
 
-fn is_accepted(byte: u8) -> bool
+pub(crate) fn is_accepted(byte: u8) -> bool
     ensures { result ≡ is_accepted_byte byte }
 {
     (b' '..=b'z').contains(&byte) && byte != b'`'

@@ -1,5 +1,5 @@
 //! Symbols of the language.
-ghost use Rattle.std.specs.Prelude.{◌≡◌, ◌==◌, ◌≤◌, ◌<◌, length, IfSome, Some, refl};
+ghost use Rattle.std.specs.Prelude.{◌≡◌, ◌==◌, ◌≤◌, ◌<◌, length, IfSome, Some, refl, codes};
 ghost use Rattle.std.specs.List.{list_all, position};
 ghost use Rattle.std.specs.Int.{w64, from_le_bytes};
 ghost use Rattle.std.specs.Hash as fed;
@@ -8,8 +8,9 @@ ghost use Rattle.std.specs.Cmp.{on_total, on_po};
 ghost use Rattle.std.specs.Cmp.Lexicographic.{pointwise, slice_cmp, nat_list_cmp_total, texts_po, texts_ties};
 ghost use Rattle.std.specs.Cmp.Rules.{comparing, hashing};
 ghost use Rattle.std.proofs.Common.{rules};
-ghost use Rattle.cps_text.specs.Symbol.{begins_symbol, continues_symbol, is_register, is_symbol, padded, is_padding};
-ghost use Rattle.cps_text.specs.Text.{capitals};
+ghost use Rattle.cps_text.specs.Name.{digit_at, is_one};
+ghost use Rattle.cps_text.specs.Symbol.{begins_symbol, continues_symbol, is_register, is_symbol, is_generated, padded, is_padding};
+ghost use Rattle.cps_text.specs.Text.{among, capitals, is_digit};
 
 use crate::character::capital;
 use std::cmp::Ordering;
@@ -18,7 +19,10 @@ use std::hash::{Hash, Hasher};
 /// The most characters of a symbol.
 const LONGEST: usize = 8;
 
-/// A symbol in capitals: 1 to 8 characters. Names are ordered by their characters.
+/// The digits of a generated name.
+const GENERATED_DIGITS: usize = 7;
+
+/// A symbol in capitals, of 1 to 8 characters, or a generated name. Names are ordered by their characters.
 #[derive(Clone, Copy, Debug, Eq)]
 pub struct Name {
     bytes: [u8; LONGEST],
@@ -37,7 +41,7 @@ impl PartialEq for Name {
 
 /// Whether two names are one.
 fn is_one(left: Name, right: Name) -> bool
-    ensures { result ≡ pointwise ◌==◌ left.bytes right.bytes }
+    ensures { result ≡ is_one left right }
 {
     u64::from_le_bytes(left.bytes) == u64::from_le_bytes(right.bytes)
 }
@@ -85,9 +89,9 @@ impl Hash for Name {
 }
 
 impl Name {
-    ghost use Rattle.cps_text.specs.Name.{name_of, name_text};
+    ghost use Rattle.cps_text.specs.Name.{name_of, name_text, generated_name, was_generated};
 
-    /// The symbol that a text writes, in capitals or not. None: it writes none.
+    /// The symbol that a text writes, in capitals or not, or the generated name. None: it writes none.
     pub fn read(text: &[u8]) -> Option<Name>
         ensures { result ≡ name_of text.now }
     {
@@ -95,11 +99,37 @@ impl Name {
             return None;
         }
         let bytes = padded(text);
-        if is_symbol(&bytes[..text.len()]) {
+        let front = &bytes[..text.len()];
+        if is_symbol(front) || is_generated(front) {
             Some(Name { bytes })
         } else {
             None
         }
+    }
+
+    /// The generated name of a number: `~` and its seven decimal digits.
+    pub fn generated(number: u32) -> Name
+        ensures { result ≡ generated_name number }
+    {
+        Name {
+            bytes: [
+                b'~',
+                digit_at(1_000_000, number),
+                digit_at(100_000, number),
+                digit_at(10_000, number),
+                digit_at(1_000, number),
+                digit_at(100, number),
+                digit_at(10, number),
+                digit_at(1, number),
+            ],
+        }
+    }
+
+    /// Whether it is a generated name.
+    pub fn was_generated(&self) -> bool
+        ensures { result ≡ was_generated self.now }
+    {
+        self.bytes[0] == b'~'
     }
 
     /// The characters.
@@ -141,6 +171,40 @@ fn is_symbol(text: &[u8]) -> bool
         return false;
     }
     begins_symbol(text[0]) && all_continue(text) && !is_register(text)
+}
+
+/// Whether a text is a generated name: `~` and seven digits, not all of them 0.
+#[cold]
+#[inline(never)]
+fn is_generated(text: &[u8]) -> bool
+    ensures { result ≡ is_generated text.now }
+{
+    match text {
+        [b'~', digits @ ..] => {
+            digits.len() == GENERATED_DIGITS && all_digits(digits) && !all_zeros(digits)
+        }
+        _ => false,
+    }
+}
+
+fn all_digits(text: &[u8]) -> bool
+    ensures { result ≡ list_all (is_digit 10) text.now }
+{
+    text.iter().all(|byte| byte.is_ascii_digit())
+}
+
+fn all_zeros(text: &[u8]) -> bool
+    ensures { result ≡ list_all (among (codes "0")) text.now }
+{
+    text.iter().all(|byte| *byte == b'0')
+}
+
+/// The decimal digit of a number at a place.
+fn digit_at(place: u32, number: u32) -> u8
+    requires { 0 < place }
+    ensures { result ≡ digit_at place number }
+{
+    b'0' + (number / place % 10) as u8
 }
 
 fn all_continue(text: &[u8]) -> bool

@@ -1,12 +1,15 @@
-use Rattle.std.proofs.Common.{rules, arith, ◌+◌, ◌-◌, sym, ◌∙◌, true, false}
+use Rattle.std.proofs.Common.{rules, arith, ◌+◌, ◌-◌, sym, ap, ◌∙◌, map, true, false}
+use Rattle.cps_text.specs.Insertion.{pairs_value, inserted}
 use Rattle.cps_state.specs.Course.{begin}
 use Rattle.cps_state.specs.Line.{Goes}
+use Rattle.cps_local.specs.Locals.{naming_all}
+use Rattle.cps_local.specs.Naming.{Names}
 use Rattle.cps_pass.specs.Expansion.{walk, body, ended, too_deep}
 use Rattle.cps_statement.specs.Treating.{repeated}
 use Rattle.cps_statement.specs.Meaning.{statement}
-use Rattle.cps_statement.specs.Opened.{lines_of}
+use Rattle.cps_statement.specs.Opened.{opening_of}
 use Rattle.cps_statement.specs.Taking.{HandsOn, Walks}
-use Rattle.cps_pass.proofs.WalkLemmas.{walked, cut, begins-as, obeys-as, walks-as, opened-some, opened-none, one-turn, body-as, no-turn}
+use Rattle.cps_pass.proofs.WalkLemmas.{walked, cut, begins-as, obeys-as, walks-as, opened-some, opened-none, one-turn, body-as, no-turn, names-as, called-if, called-cut}
 use Rattle.cps_pass.proofs.expansion.+expansion.Goals as goal
 use Rattle.cps_pass.proofs.expansion.+expansion.Goals.{go_through-in-Some+in_ok-expand+else-not-branch-2, go_through-in_default}
 
@@ -17,14 +20,14 @@ go_through-loop-text-preserved g t c = λ next rest.
     let text = c.text-item.result in
     let begins : Goes (begin depth text) true f c.loop-text.recorder c.begin.new.self =
     begins-as depth c.in_ok-share.field-0 text c.in_ok-begin.field-0 true f c.loop-text.recorder c.begin.new.self c.in_ok-share.ensures c.if-not-branch.false c.in_ok-begin.ensures.begun in
-    let obeys : HandsOn (statement c.loop-text.scope text) c.step_statement.new.scope (lines_of c.in_ok-opened.field-0) f c.begin.new.self c.step_statement.new.recorder =
-    obeys-as c.loop-text.scope c.step_statement.new.scope c.as_slice.result.now text (lines_of c.in_ok-opened.field-0) f c.begin.new.self c.step_statement.new.recorder c.as_slice.ensures c.in_ok-opened.ensures in
+    let obeys : HandsOn (statement c.loop-text.scope text) c.step_statement.new.scope (opening_of c.in_ok-opened.field-0) f c.begin.new.self c.step_statement.new.recorder =
+    obeys-as c.loop-text.scope c.step_statement.new.scope c.as_slice.result.now text (opening_of c.in_ok-opened.field-0) f c.begin.new.self c.step_statement.new.recorder c.as_slice.ensures c.in_ok-opened.ensures in
     elim c.match-branch-4.branch [
-      | go_through-in-Some+in_ok-expand+else-not-branch-2 w ↦ rw w.recorder-is (sym (walked (body (too_deep - depth)) depth c.args.texts.now c.loop-text.text-index text c.loop-text.scope c.step_statement.new.scope (lines_of c.in_ok-opened.field-0) true f c.loop-text.recorder c.begin.new.self c.step_statement.new.recorder w.expand.new.recorder
+      | go_through-in-Some+in_ok-expand+else-not-branch-2 w ↦ rw w.recorder-is (sym (walked (body (too_deep - depth)) depth c.args.texts.now c.loop-text.text-index text c.loop-text.scope c.step_statement.new.scope (opening_of c.in_ok-opened.field-0) true f c.loop-text.recorder c.begin.new.self c.step_statement.new.recorder w.expand.new.recorder
           c.loop-text-test.true c.text-item.is begins obeys
           (opened-some (too_deep + 1 - (depth + 1)) (too_deep - depth) (depth + 1) c.in_ok-opened.field-0 w.in-Some.opened w.in_ok-expand.field-0 true f c.step_statement.new.recorder w.expand.new.recorder w.in-Some.is (omega arith) (search rules) w.in_ok-expand.ensures) next rest)
           ∙ c.loop-text.invariant next rest)
-      | go_through-in_default w ↦ rw w.recorder-is (sym (walked (body (too_deep - depth)) depth c.args.texts.now c.loop-text.text-index text c.loop-text.scope c.step_statement.new.scope (lines_of c.in_ok-opened.field-0) true f c.loop-text.recorder c.begin.new.self c.step_statement.new.recorder c.step_statement.new.recorder
+      | go_through-in_default w ↦ rw w.recorder-is (sym (walked (body (too_deep - depth)) depth c.args.texts.now c.loop-text.text-index text c.loop-text.scope c.step_statement.new.scope (opening_of c.in_ok-opened.field-0) true f c.loop-text.recorder c.begin.new.self c.step_statement.new.recorder c.step_statement.new.recorder
           c.loop-text-test.true c.text-item.is begins obeys
           (opened-none (too_deep - depth) (depth + 1) c.in_ok-opened.field-0 f c.step_statement.new.recorder (search rules)) next rest)
           ∙ c.loop-text.invariant next rest)
@@ -47,15 +50,15 @@ go_through-returns-then-not-branch-2 g t c = λ next rest.
     let text = c.text-item.result in
     let begins : Goes (begin depth text) true f c.loop-text.recorder c.begin.new.self =
     begins-as depth c.in_ok-share.field-0 text c.in_ok-begin.field-0 true f c.loop-text.recorder c.begin.new.self c.in_ok-share.ensures c.if-not-branch.false c.in_ok-begin.ensures.begun in
-    let obeys : HandsOn (statement c.loop-text.scope text) c.step_statement.new.scope (lines_of c.in_ok-opened.field-0) f c.begin.new.self c.step_statement.new.recorder =
-    obeys-as c.loop-text.scope c.step_statement.new.scope c.as_slice.result.now text (lines_of c.in_ok-opened.field-0) f c.begin.new.self c.step_statement.new.recorder c.as_slice.ensures c.in_ok-opened.ensures in
+    let obeys : HandsOn (statement c.loop-text.scope text) c.step_statement.new.scope (opening_of c.in_ok-opened.field-0) f c.begin.new.self c.step_statement.new.recorder =
+    obeys-as c.loop-text.scope c.step_statement.new.scope c.as_slice.result.now text (opening_of c.in_ok-opened.field-0) f c.begin.new.self c.step_statement.new.recorder c.as_slice.ensures c.in_ok-opened.ensures in
     sym (c.loop-text.invariant next rest)
-    ∙ walked (body (too_deep - depth)) depth c.args.texts.now c.loop-text.text-index text c.loop-text.scope c.step_statement.new.scope (lines_of c.in_ok-opened.field-0) false f c.loop-text.recorder c.begin.new.self c.step_statement.new.recorder c.expand.new.recorder
+    ∙ walked (body (too_deep - depth)) depth c.args.texts.now c.loop-text.text-index text c.loop-text.scope c.step_statement.new.scope (opening_of c.in_ok-opened.field-0) false f c.loop-text.recorder c.begin.new.self c.step_statement.new.recorder c.expand.new.recorder
     c.loop-text-test.true c.text-item.is begins obeys
     (opened-some (too_deep + 1 - (depth + 1)) (too_deep - depth) (depth + 1) c.in_ok-opened.field-0 c.in-Some.opened c.in_ok-expand.field-0 false f c.step_statement.new.recorder c.expand.new.recorder c.in-Some.is (omega arith) c.if-not-branch-2.true c.in_ok-expand.ensures) next rest
 
-pub expand-loop-turn-preserved : goal.expand-loop-turn-preserved
-expand-loop-turn-preserved g t c = λ next rest.
+pub repeat-loop-turn-preserved : goal.repeat-loop-turn-preserved
+repeat-loop-turn-preserved g t c = λ next rest.
     let f = g.L.Lookup.answer in
     let depth = c.args.depth in
     let lines = c.args.opened.now.lines.items in
@@ -64,8 +67,8 @@ expand-loop-turn-preserved g t c = λ next rest.
     sym (one-turn (body (too_deep - depth)) depth c.args.opened.now.times c.loop-turn._turn lines c.loop-turn.scope c.go_through.new.scope true f c.loop-turn.recorder c.go_through.new.recorder c.loop-turn-test.true walks next rest)
     ∙ c.loop-turn.invariant next rest
 
-pub expand-returns-then-not-branch : goal.expand-returns-then-not-branch
-expand-returns-then-not-branch g t c = λ rest.
+pub repeat-returns-then-not-branch : goal.repeat-returns-then-not-branch
+repeat-returns-then-not-branch g t c = λ rest.
     let f = g.L.Lookup.answer in
     let depth = c.args.depth in
     let lines = c.args.opened.now.lines.items in
@@ -75,8 +78,8 @@ expand-returns-then-not-branch g t c = λ rest.
     ∙ sym (c.loop-turn.invariant ended rest)
     ∙ one-turn (body (too_deep - depth)) depth c.args.opened.now.times c.loop-turn._turn lines c.loop-turn.scope c.go_through.new.scope false f c.loop-turn.recorder c.go_through.new.recorder c.loop-turn-test.true walks ended rest
 
-pub expand-returns : goal.expand-returns
-expand-returns g t c = λ rest.
+pub repeat-returns : goal.repeat-returns
+repeat-returns g t c = λ rest.
     let f = g.L.Lookup.answer in
     let depth = c.args.depth in
     let lines = c.args.opened.now.lines.items in
@@ -84,3 +87,28 @@ expand-returns g t c = λ rest.
     ∙ sym (c.loop-turn.invariant ended rest)
     ∙ no-turn (body (too_deep - depth)) depth c.args.opened.now.times c.loop-turn._turn lines c.loop-turn.scope f c.loop-turn.recorder c.loop-turn-test.false ended rest
     ∙ c.end_expansion.ensures rest
+
+pub expand_body-returns-then-not-branch : goal.expand_body-returns-then-not-branch
+expand_body-returns-then-not-branch g t c = λ rest.
+    let f = g.L.Lookup.answer in
+    let depth = c.args.depth in
+    let called = c.args.called.now in
+    let pairs = pairs_value called.pairs.items in
+    let named = c.name_all.new.known in
+    let names : Names (naming_all depth pairs called.locals) false named f c.args.recorder.now c.name_all.new.recorder =
+    names-as depth c.in_ok-known.known pairs named c.as_slice.result.now called.locals c.in_ok-name_all.field-0 false f c.args.recorder.now c.name_all.new.recorder
+    (c.in_ok-known.ensures ∙ ap pairs_value c.deref.ensures.value) c.as_slice.ensures c.if-not-branch.true c.in_ok-name_all.ensures in
+    called-cut depth pairs named called.locals called.lines f c.args.recorder.now c.name_all.new.recorder c.requires names rest
+
+pub expand_body-returns : goal.expand_body-returns
+expand_body-returns g t c =
+    let f = g.L.Lookup.answer in
+    let depth = c.args.depth in
+    let called = c.args.called.now in
+    let pairs = pairs_value called.pairs.items in
+    let named = c.name_all.new.known in
+    let names : Names (naming_all depth pairs called.locals) true named f c.args.recorder.now c.name_all.new.recorder =
+    names-as depth c.in_ok-known.known pairs named c.as_slice.result.now called.locals c.in_ok-name_all.field-0 true f c.args.recorder.now c.name_all.new.recorder
+    (c.in_ok-known.ensures ∙ ap pairs_value c.deref.ensures.value) c.as_slice.ensures c.if-not-branch.false c.in_ok-name_all.ensures in
+    called-if depth pairs named called.locals called.lines c.in_ok-lines.lines.items c.repeat.result f c.args.recorder.now c.name_all.new.recorder c.repeat.new.recorder c.requires names
+    (c.in_ok-lines.ensures ∙ ap (map (inserted named)) c.as_slice-2.ensures) c.repeat.ensures

@@ -9,10 +9,16 @@ use Rattle.cps_statement.specs.Own.{new_expansion}
 use Rattle.cps_pass.proofs.expansion.+expansion.Given as goal
 
 abbrev pub decreases-expand : goal.decreases-expand
-decreases-expand g l = 2 * (too_deep - l.depth) + 1
+decreases-expand g l = 4 * (too_deep - l.depth) + 3
+
+abbrev pub decreases-expand_body : goal.decreases-expand_body
+decreases-expand_body g l = 4 * (too_deep - l.depth) + 2
+
+abbrev pub decreases-repeat : goal.decreases-repeat
+decreases-repeat g l = 4 * (too_deep - l.depth) + 1
 
 abbrev pub decreases-go_through : goal.decreases-go_through
-decreases-go_through g l = 2 * (too_deep - l.depth)
+decreases-go_through g l = 4 * (too_deep - l.depth)
 
 -- the statements that are left go on from here
 abbrev pub invariant-go_through-loop-text : goal.invariant-go_through-loop-text
@@ -21,7 +27,7 @@ invariant-go_through-loop-text g l = (next : Scope → Part) (rest : Course) →
     ≡ runs (walk (body (too_deep - l.depth)) l.depth l.fn.scope l.texts next rest) g.L.Lookup.answer l.fn.recorder
 
 -- the turns that are left go on from here
-abbrev pub invariant-expand-loop-turn : goal.invariant-expand-loop-turn
-invariant-expand-loop-turn g l = (next : Scope → Part) (rest : Course) →
+abbrev pub invariant-repeat-loop-turn : goal.invariant-repeat-loop-turn
+invariant-repeat-loop-turn g l = (next : Scope → Part) (rest : Course) →
     runs (walk (body (too_deep - l.depth)) l.depth l.scope (repeated (l.opened.times - l._turn) l.opened.lines.items) next rest) g.L.Lookup.answer l.recorder
     ≡ runs (walk (body (too_deep - l.depth)) l.depth (Expansion new_expansion) (repeated l.opened.times l.opened.lines.items) next rest) g.L.Lookup.answer l.fn.recorder

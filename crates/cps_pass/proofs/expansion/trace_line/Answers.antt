@@ -5,7 +5,7 @@ use Rattle.cps_state.specs.Line.{line_started, runs}
 use Rattle.cps_statement.specs.declared.scope.Scope.TheVariants.{Source}
 use Rattle.cps_pass.specs.Expansion.{line_part, too_deep}
 use Rattle.cps_statement.specs.Meaning.{statement}
-use Rattle.cps_statement.specs.Opened.{lines_of}
+use Rattle.cps_statement.specs.Opened.{opening_of}
 use Rattle.cps_statement.specs.Taking.{HandsOn}
 use Rattle.cps_pass.proofs.WalkLemmas.{lined, done-is, opened-some, opened-none}
 use Rattle.cps_pass.proofs.expansion.trace_line.Goals as goal
@@ -20,8 +20,8 @@ returns g c =
     let later = c.step_statement.new.scope in
     let opened = c.in_ok-opened.opened in
     let own = c.step_statement.new.recorder in
-    let hands : HandsOn (statement Source line) later (lines_of opened) f first own =
-    subst (λ s. HandsOn (statement Source line) later (lines_of opened) f s own) c.new-recorder.ensures c.in_ok-opened.ensures in
+    let hands : HandsOn (statement Source line) later (opening_of opened) f first own =
+    subst (λ s. HandsOn (statement Source line) later (opening_of opened) f s own) c.new-recorder.ensures c.in_ok-opened.ensures in
     let runs : runs (line_part line stop) f first ≡ (c.match-opened.recorder, c.match-opened.complete) = elim c.match-opened.branch [
       | in-Some+in_ok-complete-in-Some w ↦ rw (w.recorder-is, w.complete-is) (lined line later opened w.in_ok-complete-in-Some.complete f first own c.settle.new.self w.expand.new.recorder hands c.settle.ensures
           (opened-some (too_deep + 1 - 1) too_deep 1 opened w.in-Some.opened w.in_ok-complete-in-Some.complete w.in_ok-complete-in-Some.complete f c.settle.new.self w.expand.new.recorder w.in-Some.is refl refl w.in_ok-complete-in-Some.ensures))

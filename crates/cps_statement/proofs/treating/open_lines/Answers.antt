@@ -1,5 +1,6 @@
 use Rattle.std.proofs.Common.{arith, ◌≡◌, ℕ, zero, suc, List, [], length, sym, ap, ◌∙◌, refl}
 use Rattle.std.proofs.lemmas.List.{nil_from_length}
+use Rattle.cps_statement.specs.Opening.{plain}
 use Rattle.cps_statement.specs.Treating.{repeated}
 use Rattle.cps_statement.proofs.treating.open_lines.Goals as goal
 
@@ -12,4 +13,4 @@ pub returns-then-is_empty : goal.returns-then-is_empty
 returns-then-is_empty c =
     let lines = c.args.lines.items in
     let empty : length lines ≡ 0 = grind arith in
-    sym (ap (λ (lines : List (List ℕ)). repeated c.args.times lines) (nil_from_length lines empty) ∙ repeated-none c.args.times)
+    sym (ap plain (ap (λ (lines : List (List ℕ)). repeated c.args.times lines) (nil_from_length lines empty) ∙ repeated-none c.args.times))

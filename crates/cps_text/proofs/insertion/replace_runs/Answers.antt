@@ -1,13 +1,13 @@
 use Rattle.std.proofs.Common.{rules, ◌<◌, ◌++◌, length, sym, ap, ◌∙◌, append_assoc}
 use Rattle.std.specs.List.{flat_map}
-use Rattle.cps_text.specs.Insertion.{is_of_run, pairs_value, replaced}
+use Rattle.cps_text.specs.Insertion.{is_of_run, replaced}
 use Rattle.cps_text.specs.Runs.{runs}
 use Rattle.cps_text.proofs.RunLemmas.{runs-next}
 use Rattle.cps_text.proofs.insertion.replace_runs.Goals as goal
 
 pub loop-rest-preserved : goal.loop-rest-preserved
-loop-rest-preserved c =
-    let f = replaced (pairs_value c.args.pairs.now) in
+loop-rest-preserved g c =
+    let f = replaced (g.S.Substitution.pairs c.args.substitution.now) in
     let before = c.loop-rest.text.items in
     let run = c.split_at.result.0.now in
     let behind = c.split_at.result.1.now in

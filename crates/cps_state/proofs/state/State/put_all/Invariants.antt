@@ -9,8 +9,8 @@ use Rattle.cps_state.proofs.state.State.put_all.Given as goal
 abbrev pub invariant-loop-put : goal.invariant-loop-put
 invariant-loop-put l = record {
   room : length l.puts.items ≤ hash.spare l.self.others;
-  left : overwritten (answers_in l.self.control l.self.nominal l.self.uses l.self.blocks l.self.ranges (hash.get (eq-value.it) l.self.others)) (reverse l.puts.items)
-      ≡ overwritten (answers_in l.fn.self.control l.fn.self.nominal l.fn.self.uses l.fn.self.blocks l.fn.self.ranges (hash.get (eq-value.it) l.fn.self.others)) (reverse l.fn.puts.items);
+  left : overwritten (answers_in l.self.control l.self.nominal l.self.uses l.self.blocks l.self.ranges l.self.locals (hash.get (eq-value.it) l.self.others)) (reverse l.puts.items)
+      ≡ overwritten (answers_in l.fn.self.control l.fn.self.nominal l.fn.self.uses l.fn.self.blocks l.fn.self.ranges l.fn.self.locals (hash.get (eq-value.it) l.fn.self.others)) (reverse l.fn.puts.items);
 }
 
 abbrev pub decreases-loop-put : goal.decreases-loop-put
