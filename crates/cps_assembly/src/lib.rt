@@ -1,5 +1,7 @@
-//! What two-pass assembly makes of a source, to which a session and batch assembly are both held; and how many of its lines are
-//! flagged.
+//! What two-pass assembly makes of a source, to which both session and batch are held; and how
+//! many of its lines are flagged.
+//!
+//! - `flagged.rt`: how many lines are flagged
 #![tactic(auto)]
 
 mod flagged;

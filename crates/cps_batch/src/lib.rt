@@ -1,5 +1,12 @@
-//! Batch assembly: a source is read to the end of its input, line by line as its bytes come, assembled, and shown in one of its
+//! Batch assembly: a source is read to the end of its input, assembled, and shown in one of its
 //! texts.
+//!
+//! - `assembling.rt`: batch assembly as a whole
+//! - `begun_line.rt`: a line, as its bytes come
+//! - `fault.rt`: why a source is not assembled, or its texts not written
+//! - `input.rt`: bytes, cut into lines
+//! - `intake.rt`: lines as they come, checked and kept
+//! - `passes.rt`: both passes over the lines
 #![tactic(auto)]
 
 mod assembling;

@@ -1,4 +1,12 @@
 //! Chunks of a source: runs of lines that are gone through as one line is.
+//!
+//! - `chunk.rt`: a chunk: how many lines it has, and its summary
+//! - `chunk_list.rt`: the chunks of a source, kept up to date
+//! - `entry.rt`: what stands at each key before an edit
+//! - `laws.rt`: laws of runs of lines
+//! - `redo.rt`: pass two of an edit over old lines, chunk by chunk
+//! - `replay.rt`: pass one of an edit over old lines, chunk by chunk
+//! - `summing.rt`: making the summaries that are missing
 #![tactic(auto)]
 
 mod chunk;

@@ -1,4 +1,10 @@
-//! The division of a source into chunks of 1 to 64 lines, and what an edit makes of it, by their lengths alone.
+//! The division of a source into chunks of 1 to 64 lines, and what an edit makes of it, by
+//! lengths alone.
+//!
+//! - `laws.rt`: laws of the lengths after an edit
+//! - `place.rt`: the chunk of a line
+//! - `recut.rt`: the chunks that an edit puts in the place of others
+//! - `staying.rt`: how many chunks at either end stay
 #![tactic(auto)]
 
 pub mod laws;

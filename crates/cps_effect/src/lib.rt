@@ -1,4 +1,20 @@
-//! What the statements do that neither skip lines nor keep nor open them: what each asks of the state of an assembly, what it puts there, and what it makes.
+//! The plain statements: all but conditions, DUP, macros and their calls. What each asks of the
+//! state, what it puts there, and what it makes.
+//!
+//! - `ends.rt`: END on a source line
+//! - `fields.rt`: VFD
+//! - `head.rt`: IDENT, ABS, PERIPH, BASE, and the end of the head
+//! - `instructions.rt`: instructions of both machines
+//! - `leaving.rt`: another block in use, for ORG and USE
+//! - `making.rt`: statements that make nothing but flags
+//! - `numbers.rt`: numbers that a statement takes in pass one
+//! - `origin.rt`: ORG
+//! - `reserving.rt`: BSS and BSSZ
+//! - `statements.rt`: the function of each row of the statement table
+//! - `symbols.rt`: EQU, `=` and SET
+//! - `uses.rt`: USE
+//! - `value_now.rt`: values in pass one
+//! - `words.rt`: CON, DATA and DIS
 #![tactic(auto)]
 
 mod ends;

@@ -1,4 +1,10 @@
-//! What stands after the last line of a source, gathered line by line: its symbols, its blocks and its pool of literals, and their final values.
+//! What stands after the last line of a source, gathered line by line: symbols, blocks, the pool
+//! of literals, and their final values.
+//!
+//! - `blocks.rt`: the sizes of blocks
+//! - `finals.rt`: final values
+//! - `gather.rt`: gathering them, line by line
+//! - `literals.rt`: the literal words of statements
 #![tactic(auto)]
 
 mod blocks;

@@ -1,5 +1,11 @@
-//! Whether a line does the same as before: in pass one by what it asked, in pass two by what its statements name. And what a run of lines asks, so that it is
-//! gone through as one line is.
+//! Whether a line does the same as before: in pass one by what it asked, in pass two by what its
+//! statements name. And what a run of lines asks, so that it is gone through as one line is.
+//!
+//! - `agreeing.rt`: final values before an edit and after it, compared at what a line names
+//! - `holding.rt`: what a line asked, compared with what stands now
+//! - `lasting.rt`: which puts of a run are the last at their key
+//! - `outside.rt`: what a run of lines asks of the state before it
+//! - `run.rt`: what is kept of a run of lines
 #![tactic(auto)]
 
 mod agreeing;

@@ -1,4 +1,20 @@
-//! An edit of a source: what its lines did in both passes is kept, and only what the edit disturbs is done again.
+//! What is kept of a source, and an edit: both passes are made beside it, and then take its
+//! place.
+//!
+//! - `along.rt`: how far open lines were gone through, and the chunk of the present one
+//! - `append.rt`: a line more at the end: a step of pass one, and pass two of what it changes
+//! - `arrival.rt`: the open lines that an appended line changes
+//! - `commit.rt`: new items in the place of old ones, without memory; room for one more
+//! - `edit.rt`: what an edit makes in both passes
+//! - `in_place.rt`: whether new lines leave the same for all others as the old ones did
+//! - `kept.rt`: both passes of an edit, made beside what is kept
+//! - `laws.rt`: the law of new lines that leave the same
+//! - `lists.rt`: lines, traces, outcomes and chunks; an append and a splice of them
+//! - `open.rt`: kept lines that an append may still change
+//! - `plan.rt`: what an edit makes in pass one
+//! - `quiet.rt`: lines that change no final value
+//! - `second.rt`: what an edit makes in pass two
+//! - `spot.rt`: where an edit stands: the lines that give way, and the chunks around them
 #![tactic(auto)]
 
 mod along;

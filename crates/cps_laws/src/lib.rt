@@ -1,4 +1,9 @@
-//! What the definitions of an expansion say, in the words of whole lists, and those of an edit, line by line: laws alone, and nothing that runs.
+//! Laws alone, and nothing that runs: of the statements that a line stands for, and of the lines
+//! that an edit disturbs. Each is a function without a body, whose contract is the law.
+//!
+//! - `edits.rt`: one law for each pass of an edit
+//! - `laws.rt`: laws of all courses, and of where a statement stands
+//! - `lines.rt`: laws of source lines
 #![tactic(auto)]
 
 pub mod edits;

@@ -1,4 +1,13 @@
-//! The four texts of an assembled source: the listing, the binary text, the cross-reference of its symbols, and its flagged lines.
+//! The four texts of an assembled source: the listing, the binary text, the cross-reference of
+//! its symbols, and its flagged lines.
+//!
+//! - `binary.rt`: the binary text
+//! - `flagged.rt`: the flags text
+//! - `mention.rt`: symbols with the lines that define and read them
+//! - `part.rt`: the calls that make or write a text
+//! - `printout.rt`: the texts of a source, made in one walk over its lines
+//! - `symbols.rt`: the cross-reference
+//! - `view.rt`: the trait of an assembled source
 #![tactic(auto)]
 
 mod binary;

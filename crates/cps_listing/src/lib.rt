@@ -1,4 +1,8 @@
-//! The rows of a listing: those of a line, and the last of a source that ends while a range is open; and the columns of rows.
+//! The rows of a listing: those of a line, and the last of a source that ends while a range is
+//! open; and the columns of rows.
+//!
+//! - `columns.rt`: rows, laid out in columns
+//! - `listing.rt`: the rows of the listing
 #![tactic(auto)]
 
 mod columns;

@@ -1,4 +1,7 @@
-//! Pass one: what a line asks of the state of an assembly, what it puts there, and what it makes, with the statements of its expansion.
+//! Pass one of a line: its statement, and the statements of its expansion.
+//!
+//! - `expansion.rt`: the statements of a line, each followed by those that it opens
+//! - `step.rt`: the step: the trace of a line
 #![tactic(auto)]
 
 mod expansion;

@@ -1,4 +1,8 @@
-//! The bits of words, parcels and fields, and the places in a program where instructions and fields begin.
+//! The bits of words, parcels and fields, and where instructions and fields begin.
+//!
+//! - `place.rt`: a place: a word, the bits used in it, and whether a forcing is pending
+//! - `placing.rt`: the least place where bits may begin
+//! - `widths.rt`: the widths of words and of their parts
 #![tactic(auto)]
 
 mod place;

@@ -1,4 +1,6 @@
 //! What a statement says: its location field, and its operation with the operands.
+//!
+//! - `reading.rt`: reading a statement, for a machine and in a base of numbers
 #![tactic(auto)]
 
 mod reading;

@@ -1,4 +1,13 @@
-//! Tests of the libraries' calls, by rows of worked examples.
+//! Tests of the calls of the crates up to `cps_peripheral`, by rows of worked examples.
+//!
+//! - `assertions.rt`: assertions that are proved once
+//! - `code_rows.rt`: codes of the central processor, and words
+//! - `expression_rows.rt`: expressions and data items
+//! - `given.rt`: names and lines that tests are given
+//! - `peripheral_rows.rt`: codes of a peripheral processor
+//! - `same_value.rt`: names that all stand for the same
+//! - `statement_rows.rt`: rows of statements
+//! - `text_rows.rt`: the text of macros, characters and fields
 #![tactic(auto)]
 
 #[cfg(test)]

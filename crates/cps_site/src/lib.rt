@@ -1,5 +1,13 @@
-//! Where a statement stands: its place, its location field, the symbols that this defines, the values that SET has given to those that its contents
-//! read; and what all placing statements share.
+//! Where a statement stands: its place, its location field, the symbols that this defines, the
+//! values that SET has given to those that its contents read; and what all placing statements
+//! share.
+//!
+//! - `asking.rt`: values at keys
+//! - `front.rt`: a statement before its operands: the control and the location field
+//! - `holding.rt`: the values that SET gave to the symbols of contents
+//! - `located.rt`: location fields, and the symbols that they define
+//! - `places.rt`: the place of the block in use, and what fills the bits before it
+//! - `placing.rt`: what all placing statements share
 #![tactic(auto)]
 
 mod asking;

@@ -1,4 +1,7 @@
 //! Statements at their final addresses, and what their symbols and literals stand for there.
+//!
+//! - `standing.rt`: a statement with the final values and its address
+//! - `symbols.rt`: what symbols stand for in it
 #![tactic(auto)]
 
 mod standing;

@@ -1,4 +1,26 @@
-//! The state of an assembly, what a line asks of it and puts there, and what pass one hands to pass two.
+//! The state of an assembly, what a line asks of it and puts there, and what pass one hands to
+//! pass two.
+//!
+//! - `answers.rt`: what an answer says; with none, what stands before the first line
+//! - `contents.rt`: the contents of a statement, where a single one is kept in place
+//! - `flags.rt`: flags, and their letters
+//! - `hashing.rt`: how maps hash, by a number that the program draws
+//! - `instruction.rt`: instructions of either machine
+//! - `item.rt`: an item: a statement with its depth, its text, its block and what it made
+//! - `key.rt`: keys and answers, and the modes
+//! - `log.rt`: what a line asked and put, and what is known of a key
+//! - `lookup.rt`: the trait of what answers keys
+//! - `machines.rt`: the words of the two machines
+//! - `made.rt`: what a statement made: contents, zeros, fillings, flags
+//! - `recorder.rt`: what a line has done so far, over the state that answers it
+//! - `shared.rt`: lists that are shared and not changed
+//! - `shared_macro.rt`: a macro in an answer
+//! - `shared_mode.rt`: a mode in an answer
+//! - `sheet.rt`: lists that one line hands on to the next
+//! - `state.rt`: the state: the last put at each key
+//! - `trace.rt`: a trace: what a line asked, put, made and read
+//! - `uses.rt`: the blocks that USE left
+//! - `work.rt`: counts of steps and comparisons
 #![tactic(auto)]
 
 mod answers;

@@ -1,4 +1,9 @@
-//! The table of the instructions of the central processor: their names, the operands that they ask for, and their codes.
+//! The instructions of the central processor: their names, operands and codes.
+//!
+//! - `digits.rt`: the digits that f, i, j and k stand for in a row
+//! - `operation.rt`: the operation of a name
+//! - `operation_table.rt`: the rows of each operation, by first letter
+//! - `register.rt`: registers as terms of a sum
 #![tactic(auto)]
 
 mod digits;

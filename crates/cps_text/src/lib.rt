@@ -1,4 +1,25 @@
-//! Lines of a source, their fields and operands, symbols, the text of macros, and readers and writers whose calls are counted.
+//! Lines of a source, their fields and operands, symbols, the text of macros, and readers and
+//! writers whose calls are counted.
+//!
+//! - `argument.rt`: one argument of a macro call
+//! - `argument_list.rt`: the arguments of a macro call
+//! - `card.rt`: a line, cut into its fields
+//! - `character.rt`: characters and their display code
+//! - `counted.rt`: readers and writers that count their calls, failures and bytes
+//! - `data_item.rt`: data items of characters
+//! - `insertion.rt`: arguments and generated names, put into a line of a macro's body
+//! - `limits.rt`: the limits of a source and of an assembly, each once
+//! - `line.rt`: a line of a source
+//! - `name.rt`: symbols and generated names
+//! - `octal.rt`: numbers in octal
+//! - `operand.rt`: the first operand of a text
+//! - `operand_list.rt`: operands, one after another
+//! - `part.rt`: the parts of a text between commas
+//! - `places.rt`: where blanks and other characters stand in a text
+//! - `run.rt`: the first run of a text: letters, digits and points
+//! - `statement.rt`: a statement of an expansion, which may hold `~`
+//! - `substitutes.rt`: what stands for the names of a body in a call, with an index for many
+//! - `tail.rt`: the operands of a variable field
 #![tactic(auto)]
 
 mod argument;
