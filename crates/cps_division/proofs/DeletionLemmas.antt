@@ -8,7 +8,7 @@ use Rattle.cps_division.proofs.DivisionLemmas.{lt-true, lt-false, joined-again}
 -- ---- chunks that end as others do
 
 -- they end with these, and with one more before them if there are any
-abbrev EndsWith : List ℕ → List ℕ → Type 0
+abbrev pub EndsWith : List ℕ → List ℕ → Type 0
 EndsWith last ns = ((ns ≡ []) × (last ≡ [])) ⊎ ((x : ℕ) × (xs : List ℕ) × (ns ≡ x ∷ (xs ++ last)))
 
 ends-changed : (last ns : List ℕ) → EndsWith last ns → (changed : List ℕ) × (ns ≡ changed ++ last)
@@ -16,7 +16,7 @@ ends-changed last ns (inl none) = ([], none.0 ∙ sym none.1)
 ends-changed last ns (inr some) = (some.0 ∷ some.1, some.2)
 
 -- what is joined before them changes one alone
-joined-ends : (n : ℕ) (last ns : List ℕ) → EndsWith last ns → EndsWith last (joined n ns)
+pub joined-ends : (n : ℕ) (last ns : List ℕ) → EndsWith last ns → EndsWith last (joined n ns)
 joined-ends n last ns (inl none) = subst (λ xs. EndsWith last (joined n xs)) (sym none.0) (at (nat_lt 0 n))
   where
     at : (some : Bool) → EndsWith last (if some then n ∷ [] else [])

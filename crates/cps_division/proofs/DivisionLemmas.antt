@@ -8,11 +8,11 @@ use Rattle.cps_division.specs.Division.{full, IsApart, AreChunks, joined, grown,
 -- ---- sums and tests
 
 -- the sum from the end on, which computes by the first length
-abbrev total : List ℕ → ℕ
+abbrev pub total : List ℕ → ℕ
 total [] = 0
 total (n ∷ ns) = n + total ns
 
-total-sum : (ns : List ℕ) → total ns ≡ sum ns
+pub total-sum : (ns : List ℕ) → total ns ≡ sum ns
 total-sum [] = refl
 total-sum (n ∷ ns) = ap (λ k. n + k) (total-sum ns) ∙ sym (sum_by-cons (λ x. x) n ns)
 
@@ -26,7 +26,7 @@ apart-more : (n m : ℕ) (ns : List ℕ) → n ≤ m → IsApart n ns → IsApar
 apart-more n m [] le h = tt
 apart-more n m (k ∷ ns) le h = omega (arith, le, h)
 
-joined-chunks : (n : ℕ) (ns : List ℕ) → n ≤ full → AreChunks ns → AreChunks (joined n ns)
+pub joined-chunks : (n : ℕ) (ns : List ℕ) → n ≤ full → AreChunks ns → AreChunks (joined n ns)
 joined-chunks n [] le d = at (nat_lt 0 n) refl
   where
     at : (b : Bool) → nat_lt 0 n ≡ b → AreChunks (if b then n ∷ [] else [])
@@ -38,7 +38,7 @@ joined-chunks n (m ∷ ms) le d = at (nat_lt full (n + m)) refl
     at true e = (omega (arith, lt-true full (n + m) e, d.1), le, lt-true full (n + m) e, d)
     at false e = (omega (arith, d.0), lt-false full (n + m) e, apart-more m (n + m) ms (omega arith) d.2, d.3)
 
-joined-total : (n : ℕ) (ns : List ℕ) → total (joined n ns) ≡ n + total ns
+pub joined-total : (n : ℕ) (ns : List ℕ) → total (joined n ns) ≡ n + total ns
 joined-total n [] = at (nat_lt 0 n) refl
   where
     at : (b : Bool) → nat_lt 0 n ≡ b → total (if b then n ∷ [] else []) ≡ n + 0
@@ -51,7 +51,7 @@ joined-total n (m ∷ ms) = at (nat_lt full (n + m))
     at false = add_assoc n m (total ms)
 
 -- what is joined before a division begins with as many lines
-joined-apart : (k n : ℕ) (ns : List ℕ) → full < k + n → 1 ≤ n → IsApart k (joined n ns)
+pub joined-apart : (k n : ℕ) (ns : List ℕ) → full < k + n → 1 ≤ n → IsApart k (joined n ns)
 joined-apart k n [] h one = at (nat_lt 0 n) refl
   where
     at : (b : Bool) → nat_lt 0 n ≡ b → IsApart k (if b then n ∷ [] else [])

@@ -1,4 +1,9 @@
 mod DivisionLemmas
+mod ExchangeLemmas
+mod PieceLemmas
+mod RunLemmas
+mod PiecesLemmas
+mod NamedLemmas
 mod DeletionLemmas
 mod PlaceLemmas
 mod InsertionLemmas

@@ -1,0 +1,114 @@
+//! What becomes of the division where two runs of lines change places.
+ghost use Rattle.std.specs.Prelude.{◌≡◌, ℕ, List, ◌+◌, ◌-◌, ◌<◌, ◌≤◌, ◌^◌, ◌++◌, length, get_or, take, reverse, nat_lt, sum, IfOk, OnOk, if◌then◌else◌, ◌∷◌, []};
+ghost use Rattle.cps_division.specs.Division.{AreChunks, joined};
+ghost use Rattle.cps_exchange.specs.Numbers.{numbers, exchanged_numbers};
+ghost use Rattle.cps_division.specs.Exchange.{part_of, rejoined, exchanged_at};
+ghost use Rattle.cps_division.specs.Pieces.{lines_in, lines_of as lines_of_pieces, cut_to, ArePieces, MayStandBefore, GoesNotOn, part_numbers};
+
+use crate::recut::FULL;
+use crate::staying::lines_of;
+use cps_exchange::Exchange;
+use std::alloc::{AllocError, Global};
+
+/// A chunk of the new division, and which of the old ones it is, counted from 0, if it has the lines of one.
+#[derive(Clone, Copy)]
+pub struct Piece {
+    pub lines: usize,
+    pub old: Option<usize>,
+}
+
+/// The chunks where two runs of lines have changed places.
+pub fn recut_exchange(
+    alloc: Global,
+    lengths: &[usize],
+    exchange: Exchange,
+) -> Result<Vec<Piece>, AllocError>
+    requires chunks { AreChunks lengths.now }
+    requires few { sum lengths.now < 2 ^ 63 }
+    requires first { exchange.keep < exchange.mid }
+    requires second { exchange.mid < exchange.from }
+    requires within { exchange.from ≤ sum lengths.now }
+    ensures lengths { IfOk result (λ pieces. lines_of_pieces pieces.items ≡ exchanged_at exchange lengths.now) }
+    ensures pieces { IfOk result (λ pieces. ArePieces lengths.now pieces.items (exchanged_numbers (sum lengths.now) exchange)) }
+{
+    let Exchange { keep, mid, from } = exchange;
+    let mut pieces = Vec::new(alloc);
+    set_run_before(&mut pieces, lengths, from, lines_of(lengths))?;
+    set_run_before(&mut pieces, lengths, keep, mid)?;
+    set_run_before(&mut pieces, lengths, mid, from)?;
+    set_run_before(&mut pieces, lengths, 0, keep)?;
+    pieces.reverse();
+    Ok(pieces)
+}
+
+/// Sets what the lines after the first `from` up to the first `to` have of chunks before pieces, which stand in the other order.
+fn set_run_before(
+    pieces: &mut Vec<Piece>,
+    lengths: &[usize],
+    from: usize,
+    to: usize,
+) -> Result<(), AllocError>
+    requires chunks { AreChunks lengths.now }
+    requires few { sum lengths.now < 2 ^ 63 }
+    requires ordered { from ≤ to }
+    requires within { to ≤ sum lengths.now }
+    ensures lengths { OnOk result (lines_in pieces.new.items ≡ rejoined (part_of from to lengths.now) (lines_in pieces.old.items)) }
+    ensures pieces { OnOk result ((more : List ℕ) → GoesNotOn to more → ArePieces lengths.now (reverse pieces.old.items) more → ArePieces lengths.now (reverse pieces.new.items) (numbers from (to - from) ++ more)) }
+{
+    let mut start = lines_of(lengths);
+    for chunk in (0..lengths.len()).rev() {
+        start -= lengths[chunk];
+        set_part_before(
+            pieces,
+            lengths[chunk],
+            chunk,
+            from.saturating_sub(start),
+            to.saturating_sub(start),
+        )?;
+    }
+    Ok(())
+}
+
+/// The same of what they have of a chunk, of which so many lines stand before them, and so many up to the last of them.
+fn set_part_before(
+    pieces: &mut Vec<Piece>,
+    lines: usize,
+    chunk: usize,
+    from: usize,
+    to: usize,
+) -> Result<(), AllocError>
+    ensures lengths { OnOk result (lines_in pieces.new.items ≡ rejoined (if nat_lt from (cut_to to lines) then (cut_to to lines - from) ∷ [] else []) (lines_in pieces.old.items)) }
+    ensures pieces { OnOk result ((lengths more : List ℕ) → AreChunks lengths → chunk < length lengths → lines ≡ get_or lengths chunk 0
+        → (from < cut_to to lines → cut_to to lines < lines → GoesNotOn (sum (take chunk lengths) + cut_to to lines) more)
+        → ArePieces lengths (reverse pieces.old.items) more → ArePieces lengths (reverse pieces.new.items) (part_numbers lengths chunk from (cut_to to lines) ++ more)) }
+{
+    let end = if to < lines { to } else { lines };
+    if end <= from {
+        return Ok(());
+    }
+    if end - from == lines {
+        return set_before(pieces, lines, Some(chunk));
+    }
+    set_before(pieces, end - from, None)
+}
+
+/// Sets so many lines before pieces, which stand in the other order: with the first of them where both fit in one.
+fn set_before(pieces: &mut Vec<Piece>, lines: usize, old: Option<usize>) -> Result<(), AllocError>
+    requires { 1 ≤ lines }
+    ensures lengths { OnOk result (lines_in pieces.new.items ≡ joined lines (lines_in pieces.old.items)) }
+    ensures pieces { OnOk result ((lengths ms more : List ℕ) → ArePieces lengths (reverse pieces.old.items) more → MayStandBefore lengths lines old ms more → ArePieces lengths (reverse pieces.new.items) (ms ++ more)) }
+{
+    if let Some(first) = pieces.pop() {
+        let both = lines.saturating_add(first.lines);
+        if both <= FULL {
+            pieces.push(Piece {
+                lines: both,
+                old: None,
+            })?;
+            return Ok(());
+        }
+        pieces.push(first)?;
+    }
+    pieces.push(Piece { lines, old })?;
+    Ok(())
+}
