@@ -1,5 +1,5 @@
 -- Lines that were there before, gone through part by part in pass one.
-use Rattle.std.proofs.Common.{arith, ◌≡◌, ℕ, ◌+◌, ◌<◌, ◌≤◌, get_or, refl, sym, ap, subst, ◌∙◌, add_assoc, List, [], ◌∷◌, ◌++◌, append_assoc, length, take, drop, map, Option, None, Some, true}
+use Rattle.std.proofs.Common.{arith, ◌≡◌, ℕ, zero, suc, ◌+◌, ◌<◌, ◌≤◌, get_or, refl, sym, ap, subst, ◌∙◌, add_assoc, List, [], ◌∷◌, ◌++◌, append_assoc, length, take, drop, map, Option, None, Some, true}
 use Rattle.std.specs.Prelude.{is_some, Result, Ok, Err, IfOk, OnOk, if◌then◌else◌}
 use Rattle.std.proofs.lemmas.List.{length-append, map-append, take-append-drop, drop_all}
 use Rattle.cps_state.specs.declared.key.Asked.{Asked}
@@ -19,7 +19,7 @@ use Rattle.cps_holding.specs.Run.{run_of}
 use Rattle.cps_holding.specs.RunGathering.{KeptRun}
 use Rattle.cps_chunks.specs.declared.chunk.Summary.{Summary}
 use Rattle.cps_chunks.specs.declared.chunk.Chunk.{Chunk}
-use Rattle.cps_chunks.specs.Chunks.{WereDone, IsSummed, AreSummed, stands, looks_from, Replays}
+use Rattle.cps_chunks.specs.Chunks.{WereDone, IsDone, AreDone, IsSummed, AreSummed, stands, looks_from, Replays}
 use Rattle.cps_chunks.proofs.RunLemmas.{run-law}
 
 -- ---- parts of lines
@@ -63,6 +63,64 @@ done-front n ls os done = (done.0, ap (take n) done.1 ∙ take-traces_from n don
 
 pub done-behind : (n : ℕ) (ls : List (List ℕ)) (os : List Trace) → WereDone ls os → WereDone (drop n ls) (drop n os)
 done-behind n ls os done = (state_after done.0 (take n ls), ap (drop n) done.1 ∙ drop-traces_from n done.0 ls)
+
+-- the front parts of lines and of what they did are as long
+pub done-parts : (n : ℕ) (ls : List (List ℕ)) (os : List Trace) → WereDone ls os → length (take n ls) ≡ length (take n os)
+done-parts n ls os done = sym (done-long (take n ls) (take n os) (done-front n ls os done))
+
+-- ---- lines of which each was done in some state
+
+pub meant-long : (ls : List (List ℕ)) (os : List Trace) → AllWereMeant ls os → length ls ≡ length os
+meant-long [] [] m = refl
+meant-long [] (o ∷ os) m = absurd m
+meant-long (l ∷ ls) [] m = absurd m
+meant-long (l ∷ ls) (o ∷ os) m = ap suc (meant-long ls os m.1)
+
+pub meant-front : (n : ℕ) (ls : List (List ℕ)) (os : List Trace) → AllWereMeant ls os → AllWereMeant (take n ls) (take n os)
+meant-front zero ls os m = tt
+meant-front (suc n) [] [] m = tt
+meant-front (suc n) [] (o ∷ os) m = absurd m
+meant-front (suc n) (l ∷ ls) [] m = absurd m
+meant-front (suc n) (l ∷ ls) (o ∷ os) m = (m.0, meant-front n ls os m.1)
+
+pub meant-behind : (n : ℕ) (ls : List (List ℕ)) (os : List Trace) → AllWereMeant ls os → AllWereMeant (drop n ls) (drop n os)
+meant-behind zero ls os m = m
+meant-behind (suc n) [] [] m = m
+meant-behind (suc n) [] (o ∷ os) m = absurd m
+meant-behind (suc n) (l ∷ ls) [] m = absurd m
+meant-behind (suc n) (l ∷ ls) (o ∷ os) m = meant-behind n ls os m.1
+
+-- ---- chunk by chunk, as far as something is gathered
+
+pub is-done : (summary : Option Summary) (ls : List (List ℕ)) (os : List Trace) → WereDone ls os → IsDone summary ls os
+is-done None ls os done = done-meant ls os done
+is-done (Some s) ls os done = done
+
+pub is-meant : (summary : Option Summary) (ls : List (List ℕ)) (os : List Trace) → IsDone summary ls os → AllWereMeant ls os
+is-meant None ls os done = done
+is-meant (Some s) ls os done = done-meant ls os done
+
+pub is-long : (summary : Option Summary) (ls : List (List ℕ)) (os : List Trace) → IsDone summary ls os → length ls ≡ length os
+is-long summary ls os done = meant-long ls os (is-meant summary ls os done)
+
+pub are-done : (chunks : List Chunk) (ls : List (List ℕ)) (os : List Trace) → AreSummed chunks os → WereDone ls os → AreDone chunks ls os
+are-done [] ls os summed done = none ls (sym (done-long ls os done) ∙ ap length summed)
+  where
+    none : (ms : List (List ℕ)) → length ms ≡ 0 → ms ≡ []
+    none [] e = refl
+    none (m ∷ ms) e = absurd (omega (arith, e))
+are-done (chunk ∷ chunks) ls os summed done = (
+  is-done chunk.summary (take chunk.lines ls) (take chunk.lines os) (done-front chunk.lines ls os done),
+  are-done chunks (drop chunk.lines ls) (drop chunk.lines os) summed.2 (done-behind chunk.lines ls os done),
+)
+
+pub done-next : (chunks : List Chunk) (i : ℕ) (chunk : Chunk) (ls : List (List ℕ)) (os : List Trace) → i < length chunks → chunk ≡ get_or chunks i chunk → AreDone (drop i chunks) ls os
+    → IsDone chunk.summary (take chunk.lines ls) (take chunk.lines os) × AreDone (drop (i + 1) chunks) (drop chunk.lines ls) (drop chunk.lines os)
+done-next chunks i chunk ls os lt is done = subst (λ (cs : List Chunk). AreDone cs ls os) (drop_at chunks i chunk lt is) done
+
+-- no line is left
+pub done-end : (chunks : List Chunk) (i : ℕ) (ls : List (List ℕ)) (os : List Trace) → length chunks ≤ i → AreDone (drop i chunks) ls os → ls ≡ []
+done-end chunks i ls os past done = subst (λ (cs : List Chunk). AreDone cs ls os) (drop_all i chunks past) done
 
 -- ---- what was found of them
 
@@ -125,7 +183,7 @@ within-part n f g ls l1 l2 os o1 o2 p q r s e there =
 -- ---- chunks that stand
 
 -- what a chunk's lines did is what they do, where all that they asked has the same answers
-pub stood : (summary : Option Summary) (f : State) (ls : List (List ℕ)) (os : List Trace) → WereDone ls os → IsSummed summary os → stands summary f ≡ true → os ≡ traces_from f ls
+pub stood : (summary : Option Summary) (f : State) (ls : List (List ℕ)) (os : List Trace) → IsDone summary ls os → IsSummed summary os → stands summary f ≡ true → os ≡ traces_from f ls
 stood None f ls os done is none = cc
 stood (Some s) f ls os done is here =
     let asks : s.run.asks ≡ (run_of (traces_from done.0 ls)).asks = ap (λ (r : KeptRun). r.asks) is.run ∙ ap (λ ts. (run_of ts).asks) done.1 in
@@ -156,14 +214,10 @@ looks-next chunks i chunk f g ls here behind lt is p q there =
 pub looks-end : (chunks : List Chunk) (i : ℕ) (f : State) (ls : List (List ℕ)) (w e : ℕ) → length chunks ≤ i → counted_on w (looks_from f (drop i chunks) ls) ≡ e → w ≡ e
 looks-end chunks i f ls w e past before = none-more w ∙ ap (λ (cs : List Chunk). counted_on w (looks_from f cs ls)) (sym (drop_all i chunks past)) ∙ before
 
--- the front parts of lines and of what they did are as long
-pub done-parts : (n : ℕ) (ls : List (List ℕ)) (os : List Trace) → WereDone ls os → length (take n ls) ≡ length (take n os)
-done-parts n ls os done = sym (done-long (take n ls) (take n os) (done-front n ls os done))
-
 -- no line is left
-pub replays-end : (a : Finals) (u : Counts) (ls : List (List ℕ)) (os : List Trace) → WereDone ls os → os ≡ [] → Replays a a u u ls os []
-replays-end a u [] os done none = subst (λ (ts : List Trace). Replays a a u u [] ts []) (sym none) (replays-none a u)
-replays-end a u (l ∷ ls) os done none = absurd (omega (arith, done-long (l ∷ ls) os done, ap length none))
+pub replays-end : (a : Finals) (u : Counts) (ls : List (List ℕ)) (os : List Trace) → ls ≡ [] → os ≡ [] → Replays a a u u ls os []
+replays-end a u ls os done none =
+    subst (λ (ms : List (List ℕ)). Replays a a u u ms os []) (sym done) (subst (λ (ts : List Trace). Replays a a u u [] ts []) (sym none) (replays-none a u))
 
 -- ---- results
 

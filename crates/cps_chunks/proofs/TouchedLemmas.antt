@@ -27,12 +27,12 @@ use Rattle.cps_naming.specs.Names.{statements_of}
 use Rattle.cps_naming.specs.Names.{all_pass}
 use Rattle.cps_chunks.specs.declared.chunk.Summary.{Summary}
 use Rattle.cps_chunks.specs.declared.chunk.Chunk.{Chunk}
-use Rattle.cps_chunks.specs.Chunks.{WereDone, IsSummed, AreSummed, lengths_of, AreMade, stands, looks_from, agrees, are_none, looks_again, looks_kept}
+use Rattle.cps_chunks.specs.Chunks.{WereDone, AreDone, IsSummed, AreSummed, lengths_of, AreMade, stands, looks_from, agrees, are_none, looks_again, looks_kept}
 use Rattle.cps_chunks.specs.Recuts.{Recuts}
 use Rattle.cps_chunks.specs.Touched.{cut, done_before, is_touched, touched_from, touched_of}
 use Rattle.cps_chunks.proofs.RunLemmas.{asks-no-more}
 use Rattle.cps_naming.proofs.NamesLemmas.{names-law}
-use Rattle.cps_chunks.proofs.ChunkLemmas.{state-append, done-long, done-front, done-behind, stood}
+use Rattle.cps_chunks.proofs.ChunkLemmas.{state-append, done-long, done-behind, is-long, are-done, stood}
 
 -- ---- lengths, and lists cut by them
 
@@ -253,8 +253,38 @@ one-behind false same none a b still p q = omega (arith, p, none-or-few (none &&
 add-kept : (a b x y z : ℕ) → a ≡ x → x ≤ 64 * y → b ≤ 64 * z → a + b ≤ 64 * (y + z)
 add-kept a b x y z is p q = omega arith
 
-add-behind : (a b c d x u y z : ℕ) → a ≡ x → c ≡ u → x + u ≤ 128 * y → b + d ≤ 128 * z → (a + b) + (c + d) ≤ 128 * (y + z)
-add-behind a b c d x u y z p q le rest = omega arith
+both-parts : (a c x u y : ℕ) → a ≡ x → c ≡ u → x + u ≤ 128 * y → a + c ≤ 128 * y
+both-parts a c x u y p q le = omega arith
+
+one-and-rest : (a b c d y z : ℕ) → a + c ≤ 128 * y → b + d ≤ 128 * z → (a + b) + (c + d) ≤ 128 * (y + z)
+one-and-rest a b c d y z le rest = omega arith
+
+-- ---- what is told of chunks
+
+-- None, or what its lines did, where something is gathered of them
+abbrev pub IsTold : Option Summary → List Trace → Option (List Trace) → Type 0
+IsTold summary here None = Unit {0}
+IsTold summary here (Some done) = (done ≡ here) × (is_some summary ≡ true)
+
+abbrev pub AreTold : List Chunk → List Trace → List (Option (List Trace)) → Type 0
+AreTold [] os dones = Unit {0}
+AreTold (c ∷ cs) os [] = ⊥
+AreTold (c ∷ cs) os (d ∷ dones) = IsTold c.summary (take c.lines os) d × AreTold cs (drop c.lines os) dones
+
+told-made : (cs : List Chunk) (os : List Trace) → AreMade cs → AreTold cs os (map Some (cut (lengths_of cs) os))
+told-made [] os made = tt
+told-made (c ∷ cs) os made =
+    let both = and_parts (is_some c.summary) (list_all (λ (chunk : Chunk). is_some chunk.summary) cs) made in
+    ((refl, both.0), told-made cs (drop c.lines os) both.1)
+
+all-long : (cs : List Chunk) (ls : List (List ℕ)) (os : List Trace) → AreDone cs ls os → AreSummed cs os → length ls ≡ length os
+all-long [] ls os done summed = ap length done ∙ sym (ap length summed)
+all-long (c ∷ cs) ls os done summed =
+    let n = c.lines in
+    let front = is-long c.summary (take n ls) (take n os) done.0 in
+    let behind = all-long cs (drop n ls) (drop n os) done.1 summed.2 in
+    ap length (sym (take-append-drop n ls)) ∙ length-append (take n ls) (drop n ls) ∙ (λ i. front i + behind i)
+    ∙ sym (length-append (take n os) (drop n os)) ∙ ap length (take-append-drop n os)
 
 -- ---- chunk by chunk
 
@@ -275,26 +305,65 @@ module _ (was now : Resolved) where
       (one-kept (holds (run_of (take n os)).asks f) (same_named was now (statements_of (take n os))) (length (take n os)) held (few n os short.0))
       (kept-touched cs (state_after f (take n ls)) (drop n ls) (drop n os) rest summed.2 both.1 short.1)
 
-  -- behind it
+  -- chunk by chunk, by what is told of each
+  pub told-touched : (cs : List Chunk) (f : State) (ls : List (List ℕ)) (os : List Trace) (flags : List (Option Trace)) (dones : List (Option (List Trace)))
+      → AreDone cs ls os → AreSummed cs os → AreTold cs os dones → AreShort (lengths_of cs) → map is_some flags ≡ flags_from f ls os
+      → looks_from f cs ls + looks_again (same_at was now) cs flags ≤ 128 * touched_from was now f (cut (lengths_of cs) ls) dones
+  told-touched [] f ls os flags dones done summed told short flagged = omega arith
+  told-touched (c ∷ cs) f ls os flags [] done summed told short flagged = absurd told
+  told-touched (c ∷ cs) f ls os flags (d ∷ dones) done summed told short flagged =
+      one-and-rest _ _ _ _ _ _ (first d told.0)
+      (told-touched cs (state_after f (take n ls)) (drop n ls) (drop n os) (drop n flags) dones done.1 summed.2 told.1 short.1 (flagged-behind n f ls os flags long flagged))
+    where
+      n : ℕ
+      n = c.lines
+
+      looked : ℕ
+      looked = if stands c.summary f then 0 else length (take n ls)
+
+      again : ℕ
+      again = if are_none (take n flags) && agrees c.summary (same_at was now) then 0 else unchanged_in (take n flags)
+
+      -- as many of them as of what they did, those of the other chunks too
+      long : length os ≡ length ls
+      long = sym (all-long (c ∷ cs) ls os done summed)
+
+      first : (d : Option (List Trace)) → IsTold c.summary (take n os) d → looked + again ≤ 128 * (if is_touched was now f d then 1 else 0)
+      first None told =
+          omega (
+            arith,
+            none-or-few (stands c.summary f) (length (take n ls)) (few n ls short.0),
+            none-or-few (are_none (take n flags) && agrees c.summary (same_at was now)) (unchanged_in (take n flags)) (unchanged-few n flags short.0),
+          )
+      first (Some done_here) told =
+          subst (λ (ts : List Trace). looked + again ≤ 128 * (if is_touched was now f (Some ts) then 1 else 0)) (sym told.0) (both-parts _ _ _ _ _
+          (ap (λ (b : Bool). if b then 0 else length (take n ls)) standing)
+          (ap (λ (b : Bool). if are_none (take n flags) && b then 0 else unchanged_in (take n flags)) agreeing)
+          (one-behind held same (are_none (take n flags)) (length (take n ls)) (unchanged_in (take n flags)) still (few n ls short.0) (unchanged-few n flags short.0)))
+        where
+          held : Bool
+          held = holds (run_of (take n os)).asks f
+
+          same : Bool
+          same = same_named was now (statements_of (take n os))
+
+          standing : stands c.summary f ≡ held
+          standing = stands-is c.summary (take n os) f summed.1 told.1
+
+          agreeing : agrees c.summary (same_at was now) ≡ same
+          agreeing = agrees-is was now c.summary (take n os) summed.1 told.1
+
+          still : held ≡ true → are_none (take n flags) ≡ true
+          still sure =
+              still-none f (take n ls) (take n os) (take n flags) (stood c.summary f (take n ls) (take n os) done.0 summed.1 (standing ∙ sure))
+              (flagged-front n f ls os flags flagged)
+
+  -- behind an edit
   behind-touched : (cs : List Chunk) (f : State) (ls : List (List ℕ)) (os : List Trace) (flags : List (Option Trace)) → WereDone ls os → AreSummed cs os → AreMade cs → AreShort (lengths_of cs)
       → map is_some flags ≡ flags_from f ls os
       → looks_from f cs ls + looks_again (same_at was now) cs flags ≤ 128 * touched_from was now f (cut (lengths_of cs) ls) (map Some (cut (lengths_of cs) os))
-  behind-touched [] f ls os flags done summed made short flagged = omega arith
-  behind-touched (c ∷ cs) f ls os flags done summed made short flagged =
-      let n = c.lines in
-      let held : Bool = holds (run_of (take n os)).asks f in
-      let same : Bool = same_named was now (statements_of (take n os)) in
-      let none : Bool = are_none (take n flags) in
-      let both = and_parts (is_some c.summary) (list_all (λ (chunk : Chunk). is_some chunk.summary) cs) made in
-      let standing : stands c.summary f ≡ held = stands-is c.summary (take n os) f summed.1 both.0 in
-      let agreeing : agrees c.summary (same_at was now) ≡ same = agrees-is was now c.summary (take n os) summed.1 both.0 in
-      let still : held ≡ true → none ≡ true = λ sure.
-      still-none f (take n ls) (take n os) (take n flags) (stood c.summary f (take n ls) (take n os) (done-front n ls os done) summed.1 (standing ∙ sure))
-      (flagged-front n f ls os flags flagged) in
-      add-behind _ _ _ _ _ _ _ _ (ap (λ (b : Bool). if b then 0 else length (take n ls)) standing) (ap (λ (b : Bool). if none && b then 0 else unchanged_in (take n flags)) agreeing)
-      (one-behind held same none (length (take n ls)) (unchanged_in (take n flags)) still (few n ls short.0) (unchanged-few n flags short.0))
-      (behind-touched cs (state_after f (take n ls)) (drop n ls) (drop n os) (drop n flags) (done-behind n ls os done) summed.2 both.1 short.1
-      (flagged-behind n f ls os flags (done-long ls os done) flagged))
+  behind-touched cs f ls os flags done summed made short flagged =
+      told-touched cs f ls os flags (map Some (cut (lengths_of cs) os)) (are-done cs ls os summed done) summed (told-made cs os made) short flagged
 
   -- those that come in the place of others
   pub new-touched : (f : State) (ns : List ℕ) (ls : List (List ℕ)) → touched_from was now f (cut ns ls) (nones {X = List Trace} (length ns)) ≡ length ns

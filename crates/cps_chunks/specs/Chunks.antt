@@ -9,7 +9,7 @@ use Rattle.cps_final.specs.Outcome.{Resolved, Outcome}
 use Rattle.cps_edit.specs.Passes.{state_after, traces_from, outcomes_by, GathersMore}
 use Rattle.cps_edit.specs.Disturbed.{kept, disturbed_from}
 use Rattle.cps_holding.specs.Holds.{holds}
-use Rattle.cps_edit.specs.Renewed.{merged, flags_from, unchanged_in, redone_from}
+use Rattle.cps_edit.specs.Renewed.{merged, flags_from, unchanged_in, redone_from, AllWereMeant}
 use Rattle.cps_holding.specs.RunGathering.{kept_run}
 use Rattle.cps_naming.specs.Names.{names_in, all_pass}
 use Rattle.cps_chunks.specs.declared.chunk.Summary.{Summary}
@@ -31,6 +31,17 @@ IsSummed summary traces = IfSome summary (IsSummary traces)
 abbrev pub AreSummed : List Chunk → List Trace → Type 0
 AreSummed [] traces = traces ≡ []
 AreSummed (chunk ∷ chunks) traces = (chunk.lines ≤ length traces) × IsSummed chunk.summary (take chunk.lines traces) × AreSummed chunks (drop chunk.lines traces)
+
+-- what is gathered is of lines that did this one after another; where nothing is gathered, each line did this in some state
+abbrev pub IsDone : Option Summary → List (List ℕ) → List Trace → Type 0
+IsDone None lines traces = AllWereMeant lines traces
+IsDone (Some summary) lines traces = WereDone lines traces
+
+-- so it is of each of the chunks of these lines
+abbrev pub AreDone : List Chunk → List (List ℕ) → List Trace → Type 0
+AreDone [] lines traces = lines ≡ []
+AreDone (chunk ∷ chunks) lines traces =
+    IsDone chunk.summary (take chunk.lines lines) (take chunk.lines traces) × AreDone chunks (drop chunk.lines lines) (drop chunk.lines traces)
 
 -- how many lines each chunk has
 abbrev pub lengths_of : List Chunk → List ℕ

@@ -3,6 +3,7 @@ pub mod Named
 pub mod Chunks
 pub mod Touched
 pub mod Recuts
+pub mod Handing
 pub use Rattle.cps_holding.specs.Holds
 pub use Rattle.cps_holding.specs.Run
 pub use Rattle.cps_holding.specs.RunGathering

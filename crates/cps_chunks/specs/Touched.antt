@@ -1,11 +1,16 @@
 -- Which chunks an edit touches, by the sources before it and after it and by their divisions alone. A chunk of the new division is touched if it isn't an old
 -- chunk with the same lines, or if something that its lines ask of the state in front of them has another answer there now, or if something that
 -- they name has another final value. Our own.
-use Rattle.std.specs.Prelude.{ℕ, ◌+◌, ◌-◌, Bool, true, not, ◌&&◌, List, [], ◌∷◌, ◌++◌, length, take, drop, map, Option, None, Some, if◌then◌else◌}
+use Rattle.std.specs.Prelude.{ℕ, ◌+◌, ◌-◌, Bool, true, not, ◌&&◌, nat_eq, List, [], ◌∷◌, ◌++◌, length, take, drop, map, Option, None, Some, if◌then◌else◌}
+use Rattle.std.specs.List.{list_any}
+use Rattle.std.specs.Cmp.Lexicographic.{pointwise}
 use Rattle.cps_state.specs.Keys.{State, first_state}
 use Rattle.cps_state.specs.Course.{Trace}
 use Rattle.cps_final.specs.Outcome.{Resolved}
 use Rattle.cps_division.specs.Staying.{stay_in_front, stay_behind}
+use Rattle.cps_exchange.specs.declared.exchange.Exchange.{Exchange}
+use Rattle.cps_exchange.specs.Exchange.{exchanged}
+use Rattle.cps_exchange.specs.Numbers.{numbers, exchanged_numbers}
 use Rattle.cps_edit.specs.Passes.{state_after, traces_of}
 use Rattle.cps_holding.specs.Holds.{holds}
 use Rattle.cps_holding.specs.Agreeing.{same_named}
@@ -41,3 +46,17 @@ abbrev pub touched_of : List (List ℕ) → Splice → List ℕ → List ℕ →
 touched_of lines splice olds news =
     touched_from (finals_in lines) (finals_in (spliced lines splice)) first_state (cut news (spliced lines splice))
     (done_before (traces_of lines) (stay_in_front splice.keep olds news) (stay_behind (length lines - splice.from) olds news) olds news)
+
+-- ---- a move
+
+-- What the lines of each chunk did before a move, by the numbers that they had; None: these aren't the numbers of the lines of an old chunk.
+abbrev pub did_as_chunks : List (List ℕ) → List (List ℕ) → List (List Trace) → List (Option (List Trace))
+did_as_chunks olds [] dones = []
+did_as_chunks olds (ns ∷ news) [] = []
+did_as_chunks olds (ns ∷ news) (done ∷ dones) = (if list_any (pointwise nat_eq ns) olds then Some done else None) ∷ did_as_chunks olds news dones
+
+-- how many chunks a move touches that makes one division of another
+abbrev pub touched_of_exchange : List (List ℕ) → Exchange → List ℕ → List ℕ → ℕ
+touched_of_exchange lines e olds news =
+    touched_from (finals_in lines) (finals_in (exchanged e lines)) first_state (cut news (exchanged e lines))
+    (did_as_chunks (cut olds (numbers 0 (length lines))) (cut news (exchanged_numbers (length lines) e)) (cut news (exchanged e (traces_of lines))))

@@ -4,7 +4,7 @@ ghost use Rattle.cps_state.specs.Work.{counted_on};
 ghost use Rattle.cps_edit.specs.Passes.{state_after};
 ghost use Rattle.cps_edit.specs.Disturbed.{kept, disturbed_from};
 ghost use Rattle.cps_edit.specs.Compares.{Compares};
-ghost use Rattle.cps_chunks.specs.Chunks.{WereDone, IsSummed, AreSummed, Replays, stands, looks_from};
+ghost use Rattle.cps_chunks.specs.Chunks.{WereDone, IsDone, AreDone, IsSummed, AreSummed, Replays, stands, looks_from};
 
 use crate::chunk::{Behind, Chunk, nones};
 use cps_edit::Front;
@@ -21,7 +21,7 @@ fn replay_chunk(
     chunk: &Chunk,
     work: &mut Work,
 ) -> Result<Vec<Option<Trace>>, AllocError>
-    requires done { WereDone lines.now olds.now }
+    requires done { IsDone chunk.now.summary lines.now olds.now }
     requires summed { IsSummed chunk.now.summary olds.now }
     ensures replays { IfOk result (λ news. Replays (⟦<Front as Gathered>⟧.gathered front.old) (⟦<Front as Gathered>⟧.gathered front.new) work.old work.new lines.now olds.now news.items) }
     ensures looked { Compares result work.old work.new (if stands chunk.now.summary (⟦<Front as Gathered>⟧.gathered front.old).state then 0 else length lines.now) }
@@ -45,7 +45,7 @@ pub fn replay_chunks(
     chunks: &[Chunk],
     work: &mut Work,
 ) -> Result<Vec<Option<Trace>>, AllocError>
-    requires done { WereDone lines.now olds.now }
+    requires done { AreDone chunks.now lines.now olds.now }
     requires summed { AreSummed chunks.now olds.now }
     ensures replays { IfOk result (λ news. Replays (⟦<Front as Gathered>⟧.gathered front.old) (⟦<Front as Gathered>⟧.gathered front.new) work.old work.new lines.now olds.now news.items) }
     ensures looked { Compares result work.old work.new (looks_from (⟦<Front as Gathered>⟧.gathered front.old).state chunks.now lines.now) }

@@ -9,6 +9,8 @@ use Rattle.cps_final.specs.Outcome.{Resolved}
 use Rattle.cps_edit.specs.Passes.{after, traces_of}
 use Rattle.cps_holding.specs.Holds.{holds}
 use Rattle.cps_holding.specs.Agreeing.{same_named}
+use Rattle.cps_exchange.specs.declared.exchange.Exchange.{Exchange}
+use Rattle.cps_exchange.specs.Exchange.{exchanged}
 use Rattle.cps_edit.specs.Splice.{Splice, spliced}
 
 -- ---- counterparts
@@ -70,3 +72,15 @@ redone_places was now state (place ∷ places) =
 -- how many lines an edit disturbs in pass two
 abbrev pub twos_of : List (List ℕ) → Splice → ℕ
 twos_of lines splice = redone_places (finals_in lines) (finals_in (spliced lines splice)) first_state (placed lines splice)
+
+-- ---- a move
+
+-- A move makes no line new: each line of the new source is one of the old source, and did there what that one did.
+
+-- how many lines it disturbs in pass one
+abbrev pub ones_of_exchange : List (List ℕ) → Exchange → ℕ
+ones_of_exchange lines e = disturbed_from first_state (exchanged e (all_kept lines))
+
+-- and how many in pass two
+abbrev pub twos_of_exchange : List (List ℕ) → Exchange → ℕ
+twos_of_exchange lines e = redone_places (finals_in lines) (finals_in (exchanged e lines)) first_state (exchanged e (all_kept lines))

@@ -4,7 +4,7 @@ use Rattle.cps_edit.specs.Passes.{state_after}
 use Rattle.cps_edit.specs.contracts.front.FrontGathered.TheImpl.{gathered-value}
 use Rattle.cps_edit.proofs.ReplayLemmas.{on-err, le-same}
 use Rattle.cps_chunks.specs.Chunks.{Replays, looks_from}
-use Rattle.cps_chunks.proofs.ChunkLemmas.{done-long, done-meant, done-front, done-behind, done-parts, replays-next, within-part, both, both-under, first-under}
+use Rattle.cps_chunks.proofs.ChunkLemmas.{are-done, done-long, done-meant, done-front, done-behind, done-parts, replays-next, within-part, both, both-under, first-under}
 use Rattle.cps_chunks.proofs.replay.replay_behind.Goals as goal
 
 pub split_at-requires : goal.split_at-requires
@@ -19,7 +19,10 @@ replay-requires-clause-meant c =
     (done-meant (take c.args.behind.loose c.args.lines.now) (take c.args.behind.loose c.args.olds.now) (done-front c.args.behind.loose c.args.lines.now c.args.olds.now c.requires.done))
 
 pub replay_chunks-requires-clause-done : goal.replay_chunks-requires-clause-done
-replay_chunks-requires-clause-done c = rw (c.split_at.ensures.back, c.split_at-2.ensures.back) (done-behind c.args.behind.loose c.args.lines.now c.args.olds.now c.requires.done)
+replay_chunks-requires-clause-done c =
+    let n = c.args.behind.loose in
+    rw (c.split_at.ensures.back, c.split_at-2.ensures.back)
+    (are-done c.args.behind.chunks.now (drop n c.args.lines.now) (drop n c.args.olds.now) c.requires.summed (done-behind n c.args.lines.now c.args.olds.now c.requires.done))
 
 pub replay_chunks-requires-clause-summed : goal.replay_chunks-requires-clause-summed
 replay_chunks-requires-clause-summed c = rw c.split_at-2.ensures.back c.requires.summed

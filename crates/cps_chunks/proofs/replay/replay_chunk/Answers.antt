@@ -6,14 +6,14 @@ use Rattle.cps_state.specs.Course.{Trace}
 use Rattle.cps_edit.specs.Compares.{Compares}
 use Rattle.cps_edit.specs.contracts.front.FrontGathered.TheImpl.{gathered-value}
 use Rattle.cps_chunks.specs.Chunks.{Replays, stands}
-use Rattle.cps_chunks.proofs.ChunkLemmas.{done-long, done-meant, replays-same, stood, on-ok, replays-whole}
+use Rattle.cps_chunks.proofs.ChunkLemmas.{is-long, is-meant, replays-same, stood, on-ok, replays-whole}
 use Rattle.cps_chunks.proofs.replay.replay_chunk.Goals as goal
 
 pub replay-requires-clause-same_len : goal.replay-requires-clause-same_len
-replay-requires-clause-same_len c = sym (done-long c.args.lines.now c.args.olds.now c.requires.done)
+replay-requires-clause-same_len c = is-long c.args.chunk.now.summary c.args.lines.now c.args.olds.now c.requires.done
 
 pub replay-requires-clause-meant : goal.replay-requires-clause-meant
-replay-requires-clause-meant c = done-meant c.args.lines.now c.args.olds.now c.requires.done
+replay-requires-clause-meant c = is-meant c.args.chunk.now.summary c.args.lines.now c.args.olds.now c.requires.done
 
 pub returns-then-stands_in-clause-replays : goal.returns-then-stands_in-clause-replays
 returns-then-stands_in-clause-replays c =

@@ -4,12 +4,12 @@ use Rattle.cps_state.specs.Work.{Counts, counted_on}
 use Rattle.cps_final.specs.Finals.{Finals}
 use Rattle.cps_edit.specs.Disturbed.{kept, disturbed_from}
 use Rattle.cps_edit.specs.contracts.front.FrontGathered.TheImpl.{gathered-value}
-use Rattle.cps_chunks.specs.Chunks.{WereDone, AreSummed, Replays, looks_from}
+use Rattle.cps_chunks.specs.Chunks.{AreDone, AreSummed, Replays, looks_from}
 use Rattle.cps_chunks.proofs.replay.replay_chunks.Given as goal
 
 abbrev pub invariant-loop-chunk : goal.invariant-loop-chunk
 invariant-loop-chunk l = record {
-  done : WereDone l.lines_left l.olds_left;
+  done : AreDone (drop l.chunk-index l.chunks) l.lines_left l.olds_left;
   summed : AreSummed (drop l.chunk-index l.chunks) l.olds_left;
   replays :
       (end : Finals) (w : Counts) (rest : List (Option Trace)) → Replays (gathered-value.it l.front) end l.work w l.lines_left l.olds_left rest
