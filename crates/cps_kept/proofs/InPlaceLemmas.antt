@@ -35,7 +35,7 @@ item-itself was item =
     (and_all _ _ (all-true (λ (name : Option Name). same_at was was (block name)) (λ name. at-same was was (block name) refl) (blocks_named item))
     (all-true (λ (word : ℕ). same_at was was (literal word)) (λ word. at-same was was (literal word) refl) (flat_map content_literals item.made.contents)))
 
-none-again : (was : Resolved) (n : ℕ) (ts : List Trace) → redone_from was was (map is_some (nones {X = Trace} n)) ts ≡ 0
+pub none-again : (was : Resolved) (n : ℕ) (ts : List Trace) → redone_from was was (map is_some (nones {X = Trace} n)) ts ≡ 0
 none-again was zero ts = refl
 none-again was (suc n) [] = refl
 none-again was (suc n) (t ∷ ts) = λ i. (if not (all-true (all_named (same_at was was)) (item-itself was) t.items i) then 1 else 0) + none-again was n ts i

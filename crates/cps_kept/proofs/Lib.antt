@@ -13,3 +13,5 @@ mod LookLemmas
 mod SpotLemmas
 pub mod KeptLemmas
 mod PlanLemmas
+pub mod MoveLemmas
+mod RenewalLemmas

@@ -22,7 +22,7 @@ pub front-parts : (keep loose : ℕ) (ts front : List Trace) → front ≡ take 
 front-parts keep loose ts front is long = (λ i. take (long i - loose) (is i)) ∙ take-take (keep - loose) keep ts (omega arith)
 
 -- some lists have these flags
-flagged : (bs : List Bool) → (news : List (Option Trace)) × (map is_some news ≡ bs)
+pub flagged : (bs : List Bool) → (news : List (Option Trace)) × (map is_some news ≡ bs)
 flagged [] = ([], refl)
 flagged (true ∷ bs) =
     let rest = flagged bs in

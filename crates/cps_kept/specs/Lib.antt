@@ -4,3 +4,5 @@ pub mod InPlace
 pub mod InPlaceLaw
 pub mod Looks
 pub mod Kept
+pub mod Renewed
+pub mod Exchanged

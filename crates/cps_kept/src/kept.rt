@@ -14,13 +14,16 @@ ghost use Rattle.cps_state.specs.declared.work.Tally.TheVariants.{Ones};
 ghost use Rattle.cps_pass.specs.Expansion.{trace_of};
 ghost use Rattle.cps_final.specs.Resolving.{resolved};
 ghost use Rattle.cps_edit.specs.Compares.{ComparesUpTo, Compares};
+ghost use Rattle.cps_chunks.specs.Chunks.{AreDone, AreSummed};
+ghost use Rattle.cps_kept.specs.Renewed.{AreLookedAt, IsRenewal, StepsAgain};
 
 use crate::edit::Edit;
 use crate::in_place::leave_same;
 use crate::plan::Plan;
+use crate::renewal::Renewal;
 use crate::second::{Second, step_two_all};
 use crate::spot::Spot;
-use cps_chunks::{Again, Entry, replay_behind};
+use cps_chunks::{Again, Chunk, Entry, replay_behind, replay_chunks};
 use cps_edit::{Ends, Front};
 use cps_final::{Finals, Gathered};
 use cps_pass::{Sheet, Trace, Work, step_over};
@@ -276,5 +279,26 @@ impl<'a> Kept<'a> {
             first,
             behind,
         })
+    }
+
+    /// Both passes over lines in another order, which are those of these chunks, beside what each did and made at its old place.
+    pub fn renew(self, chunks: &[Chunk], work: &mut Work) -> Result<Renewal, AllocError>
+        requires done { AreDone chunks.now self.lines.now self.traces.now }
+        requires summed { AreSummed chunks.now self.traces.now }
+        ensures renewal { IfOk result (λ renewal. IsRenewal self.entry.lines.now self.entry.traces.now (resolved self.entry.finals.now) renewal) }
+        ensures steps { StepsAgain result self.entry.lines.now self.entry.traces.now (resolved self.entry.finals.now) work.old work.new }
+        ensures looked { AreLookedAt chunks.now self.entry.lines.now self.entry.traces.now (resolved self.entry.finals.now) work.old work.new }
+    {
+        let mut front = Front::new(self.alloc, self.finals.hashing());
+        let news = replay_chunks(&mut front, self.lines, self.traces, chunks, work)?;
+        let again = Again {
+            alloc: self.alloc,
+            ends: Ends {
+                before: self.finals,
+                after: front.finals(),
+            },
+        };
+        let made = again.redo_chunks(&news, self.traces, chunks, work)?;
+        Ok(Renewal { news, made, front })
     }
 }

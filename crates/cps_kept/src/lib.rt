@@ -9,10 +9,11 @@
 //! - `in_place.rt`: whether new lines leave the same for all others as the old ones did
 //! - `kept.rt`: both passes of an edit, made beside what is kept
 //! - `laws.rt`: the law of new lines that leave the same
-//! - `lists.rt`: lines, traces, outcomes and chunks; an append and a splice of them
+//! - `lists.rt`: lines, traces, outcomes and chunks; an append, a splice and an exchange of them
 //! - `open.rt`: kept lines that an append may still change
 //! - `plan.rt`: what an edit makes in pass one
 //! - `quiet.rt`: lines that change no final value
+//! - `renewal.rt`: what is made anew of lines in another order
 //! - `second.rt`: what an edit makes in pass two
 //! - `spot.rt`: where an edit stands: the lines that give way, and the chunks around them
 #![tactic(auto)]
@@ -29,6 +30,7 @@ mod lists;
 mod open;
 mod plan;
 mod quiet;
+mod renewal;
 mod second;
 mod spot;
 
@@ -38,4 +40,5 @@ pub use edit::Edit;
 pub use kept::Kept;
 pub use lists::{Lists, NewLines};
 pub use plan::Plan;
+pub use renewal::Renewal;
 pub use spot::Spot;
