@@ -208,9 +208,11 @@ class Model:
             word, _, text = rest[1:].partition(b" ")
             return None if number_of(word) is None else (kind, (number_of(word),), text)
         words = rest[1:].split(b" ")
-        if kind != b"d" or len(words) > 2 or None in map(number_of, words):
+        if None in map(number_of, words):
             return None
-        return kind, (number_of(words[0]), number_of(words[-1])), b""
+        if kind == b"d" and len(words) <= 2:
+            return kind, (number_of(words[0]), number_of(words[-1])), b""
+        return (kind, tuple(map(number_of, words)), b"") if kind == b"m" and len(words) == 3 else None
 
     def refusal(self, read):
         """Why an edit is refused, from 1 to 5, or 0."""
@@ -218,6 +220,9 @@ class Model:
             return 5
         kind, numbers, text = read
         count = len(self.lines)
+        if kind == b"m":
+            first, last, after = numbers
+            return 0 if 1 <= first <= last <= count and after <= count and not first <= after < last else 1
         least, most = {b"a": (0, 0), b"i": (0, count), b"r": (1, count), b"d": (1, count)}[kind]
         if any(not least <= number <= most for number in numbers) or kind == b"d" and numbers[0] > numbers[1]:
             return 1
@@ -234,6 +239,12 @@ class Model:
             self.lines.insert(numbers[0], text)
         elif kind == b"r":
             self.lines[numbers[0] - 1] = text
+        elif kind == b"m":
+            first, last, after = numbers
+            moved = self.lines[first - 1 : last]
+            del self.lines[first - 1 : last]
+            at = after if after < first else after - len(moved)
+            self.lines[at:at] = moved
         else:
             del self.lines[numbers[0] - 1 : numbers[1]]
         self.steps = None
@@ -271,9 +282,11 @@ class Edits:
             first = chance.randrange(1, count + 1)
             last = min(count, first + chance.choice([0, 0, 1, 2, count // 4]))
             return chance.choice([b"d %d" % first, b"d %d %d" % (first, last)])
-        if count and kind < 0.36:
+        if count and kind < 0.24:
+            return self.moved(count)
+        if count and kind < 0.38:
             return b"r %d %s" % (chance.randrange(1, count + 1), self.lines.good())
-        if kind < 0.5:
+        if kind < 0.52:
             after = chance.randrange(count + 1)
             lines = self.lines.structure() if after or chance.random() < 0.5 else self.lines.head()
             self.waiting = [b"i %d %s" % (after + n, line) for n, line in enumerate(lines)] or [b"work"]
@@ -281,6 +294,15 @@ class Edits:
         if kind < 0.85:
             return b"i %d %s" % (chance.randrange(count + 1), self.lines.good())
         return b"a " + self.lines.good()
+
+    def moved(self, count):
+        """A move of one line, of some or of many, sometimes into its own midst."""
+        chance = self.chance
+        first = chance.randrange(1, count + 1)
+        last = min(count, first + chance.choice([0, 0, 0, 1, 2, 5, count // 4, count // 2]))
+        near = chance.choice([first - 2, first - 1, last, last + 1, first])
+        after = chance.choice([0, count, min(max(near, 0), count), chance.randrange(count + 1), chance.randrange(count + 1)])
+        return b"m %d %d %d" % (first, last, after)
 
     def odd(self, count):
         """A command that may be refused, or is none."""
@@ -290,6 +312,8 @@ class Edits:
             b"a " + wrong, b"i %d %s" % (number, wrong), b"r %d %s" % (number, wrong), b"i %d %s" % (number, good), b"r %d %s" % (number,
             good), b"d %d" % number,
             b"d %d %d" % (number, chance.randrange(count + 2)), b"d 00001", b"a", b"r 1", b"i 0", b"x 1", b"", b"d", b"d  1",
+            b"m %d %d %d" % (number, number, chance.randrange(count + 2)), b"m 1 1 %d" % number, b"m %d %d 0" % (max(count, 1), number),
+            b"m", b"m 1", b"m 1 1", b"m 1 1 100000", b"m 1 1 1 1", b"m 1  1", b"m 1 1 ", b"m 1 1 0 ", b"m 1\t1 0", b"m 1 1 00000",
             b"i 100000 X", b"i -1 X", b"list ", b"LIST", b"ax", b"a" + b"X" * 300,
             b"a " + b"X" * chance.randrange(195, 202), good.replace(b"\n", b"") or b"z", b"d 1 1 1", b"i 1\t", b"\x00", b"r 1  " + good[:80],
         ])

@@ -57,14 +57,18 @@ fn assert_edits(rt: &impl Abort, alloc: Global, at: usize, session: &mut Session
 }
 
 /// A full chunk is split at its front and in the middle, a chunk between two others grows and falls to nothing, others are
-/// shortened from within, and join, and at last the source falls to nothing too.
+/// shortened from within, and join, lines go over their ends, and at last the source falls to nothing too.
 #[test]
 fn chunks_split_and_join(rt: HostRuntime) {
-    const ROWS: [Row; 15] = [
+    const ROWS: [Row; 19] = [
         (64, Edit::Insert(0, b"  NO"), &[64]),
         (1, Edit::Insert(32, b"A CON A,B"), &[64, 1]),
         (1, Edit::Insert(0, b"* FRONT"), &[64, 2]),
         (62, Edit::Insert(65, b"N SET 1"), &[64, 64]),
+        (1, Edit::Move(1, 1, 64), &[64, 64]),
+        (1, Edit::Move(64, 64, 65), &[64, 64]),
+        (1, Edit::Move(1, 10, 128), &[54, 64, 10]),
+        (1, Edit::Move(119, 128, 0), &[64, 64]),
         (1, Edit::Insert(64, b"B  SX1 A"), &[64, 1, 64]),
         (1, Edit::Insert(64, b"  USE W"), &[64, 2, 64]),
         (1, Edit::Insert(130, b"* END"), &[64, 2, 64, 1]),

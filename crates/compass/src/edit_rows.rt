@@ -6,12 +6,13 @@ use cps_text::Line;
 use std::alloc::Global;
 use std::process::Abort;
 
-/// An edit of a session: of the lines after a number, at one, or from one to another.
+/// An edit of a session: of the lines after a number, at one, or from one to another, which a move puts after a third.
 #[derive(Clone, Copy)]
 pub enum Edit {
     Insert(u32, &'static [u8]),
     Replace(u32, &'static [u8]),
     Delete(u32, u32),
+    Move(u32, u32, u32),
 }
 
 /// What comes of an edit. A text that is no line counts as one for which there is no memory.
@@ -25,6 +26,7 @@ pub fn carry_out(
         Edit::Insert(after, text) => insert(alloc, session, work, *after, text),
         Edit::Replace(at, text) => replace(alloc, session, work, *at, text),
         Edit::Delete(first, last) => session.delete(*first, *last, work),
+        Edit::Move(first, last, after) => session.move_lines(*first, *last, *after, work),
     }
 }
 
@@ -95,8 +97,9 @@ fn assert_looks(rt: &impl Abort, alloc: Global, session: &mut Session, row: &Row
     assert_same(rt, "looks", &work.looked().max(most), &most);
 }
 
-/// Among 5,000 lines a comment takes the place of another: one step of each pass. Then a symbol gets another value, which the
-/// first line and the last one name: two steps more. Either compares at most the lines of three chunks, in both passes.
+/// Among 5,000 lines a comment takes the place of another: one step of each pass. Then it goes elsewhere, which takes no step. Then a
+/// symbol gets another value, which the first line and the last one name: two steps more. Each compares at most the lines of three
+/// chunks, in both passes.
 #[test]
 fn steps_few_of_many_lines(rt: HostRuntime) {
     const USE: &[u8] = b"   CON A";
@@ -109,6 +112,9 @@ fn steps_few_of_many_lines(rt: HostRuntime) {
     enter_times(rt.alloc(), &mut session, 1, USE);
     let comment = Edit::Replace(2_500, b"* two");
     let row = (comment, Ok(()), 5_000, Some(USE), [1, 1]);
+    assert_looks(&rt, rt.alloc(), &mut session, &row, 384);
+    let away = Edit::Move(2_500, 2_500, 10);
+    let row = (away, Ok(()), 5_000, Some(USE), [0, 0]);
     assert_looks(&rt, rt.alloc(), &mut session, &row, 384);
     let value = Edit::Replace(2_501, b"A  EQU 2");
     let row = (value, Ok(()), 5_000, Some(USE), [1, 3]);

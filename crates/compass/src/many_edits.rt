@@ -111,11 +111,18 @@ impl Course {
     fn edit(&mut self, count: u32) -> Edit {
         let after = self.numbers.below(count).saturating_add(1);
         let at = after.saturating_add(1);
-        match self.numbers.below(8) {
+        match self.numbers.below(10) {
             0..=3 if count < MOST_LINES => Edit::Insert(after, self.line()),
             0..=5 => Edit::Replace(at, self.line()),
+            6..=7 => self.moved(at, count),
             _ => Edit::Delete(at, at.saturating_add(self.numbers.below(3))),
         }
+    }
+
+    /// A move of one to three lines.
+    fn moved(&mut self, first: u32, count: u32) -> Edit {
+        let last = first.saturating_add(self.numbers.below(3));
+        Edit::Move(first, last, self.numbers.below(count).saturating_add(1))
     }
 }
 
@@ -186,7 +193,7 @@ fn edits_of_a_central_program_go_as_batch(rt: HostRuntime) {
         numbers: Numbers { last: 2 },
         instructions: CENTRAL,
     };
-    assert_course(&rt, rt.alloc(), b"         ABS", course, 100, 18);
+    assert_course(&rt, rt.alloc(), b"         ABS", course, 100, 11);
 }
 
 #[test]
@@ -195,5 +202,5 @@ fn edits_of_a_peripheral_program_go_as_batch(rt: HostRuntime) {
         numbers: Numbers { last: 1 },
         instructions: PERIPHERAL,
     };
-    assert_course(&rt, rt.alloc(), b"         PERIPH", course, 900, 16);
+    assert_course(&rt, rt.alloc(), b"         PERIPH", course, 900, 14);
 }

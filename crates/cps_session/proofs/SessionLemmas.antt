@@ -1,6 +1,8 @@
 -- What a session keeps of its source, and what an edit makes of it.
-use Rattle.std.proofs.Common.{◌≡◌, ℕ, suc, ◌+◌, ◌-◌, ◌<◌, ◌≤◌, sym, ap, subst, ◌∙◌, List, ◌∷◌, ◌++◌, length, get_or, take, drop, arith}
-use Rattle.std.specs.Prelude.{Option, Some, None, IfSome, MatchOption, slice_get, slice_set, slice_range, sum}
+use Rattle.std.proofs.Common.{◌≡◌, ℕ, suc, ◌+◌, ◌-◌, ◌<◌, ◌≤◌, ◌⊎◌, ⊎_elim, Bool, true, false, refl, sym, ap, subst, ◌∙◌, List, ◌∷◌, ◌++◌, length, get_or, take, drop, arith}
+use Rattle.std.proofs.lemmas.Bool.Decides.{nat_tests}
+use Rattle.cps_exchange.specs.Exchange.{IsWithin, exchange_at, move}
+use Rattle.std.specs.Prelude.{nat_lt, if◌then◌else◌, Option, Some, None, IfSome, MatchOption, slice_get, slice_set, slice_range, sum}
 use Rattle.std.proofs.lemmas.List.{length-map, set_split}
 use Rattle.std.proofs.lemmas.Option.{slice_get-get_or}
 use Rattle.cps_state.specs.Keys.{first_state}
@@ -80,3 +82,19 @@ recuts-told lines lengths told splice start end before ns same division order wi
 -- so many steps are at most so many
 pub stepped_up_to : (ones twos : ℕ) (old new : Counts) → new.ones ≡ counted_on old.ones ones → new.twos ≡ counted_on old.twos twos → HaveSteppedUpTo ones twos old new
 stepped_up_to ones twos old new first second = record { first = omega (arith, first); second = omega (arith, second); first_kept = omega (arith, first); second_kept = omega (arith, second) }
+
+-- ---- moves
+
+-- a move that a source has is within it
+pub move-within : (first last after count : ℕ) → 1 ≤ first → first ≤ last → last ≤ count → after ≤ count → ((first ≤ after) × (last ≤ after)) ⊎ (after < first)
+    → IsWithin count (move first last after)
+move-within first last after count one ordered within to place = at (nat_lt after first) refl
+  where
+    at : (b : Bool) → nat_lt after first ≡ b → IsWithin count (if b then exchange_at after (first - 1) last else exchange_at (first - 1) last after)
+    at true is =
+        let lt : after < first = grind (arith, nat_tests) in
+        record { first = omega (arith, lt); second = omega (arith, ordered); all = within }
+    at false is =
+        let le : first ≤ after = grind (arith, nat_tests) in
+        let past : last ≤ after = ⊎_elim (λ (behind : (first ≤ after) × (last ≤ after)). behind.1) (λ (lt : after < first). absurd (omega (arith, lt, le))) place in
+        record { first = omega (arith, ordered); second = past; all = to }

@@ -1,10 +1,12 @@
 -- A source as a list of lines, and what an edit makes of it. Our own.
 use Rattle.std.specs.Prelude.{◌≡◌, ℕ, ◌*◌, ◌-◌, ◌<◌, ◌≤◌, ◌⊎◌, List, ◌++◌, length, take, drop, Result, Ok, Err}
 use Rattle.cps_state.specs.Work.{Counts, counted_on}
+use Rattle.cps_exchange.specs.declared.exchange.Exchange.{Exchange}
+use Rattle.cps_division.specs.Exchange.{exchanged_at, moved_at}
 use Rattle.cps_edit.specs.Splice.{Splice}
-use Rattle.cps_edit.specs.Disturbed.{ones_of, twos_of}
+use Rattle.cps_edit.specs.Disturbed.{ones_of, twos_of, ones_of_exchange, twos_of_exchange}
 use Rattle.cps_edit.specs.Compares.{ComparesUpTo}
-use Rattle.cps_chunks.specs.Touched.{touched_of}
+use Rattle.cps_chunks.specs.Touched.{touched_of, touched_of_exchange}
 use Rattle.cps_session.specs.declared.session.EditFault.{EditFault}
 use Rattle.cps_session.specs.declared.session.EditFault.TheVariants as faults
 
@@ -33,6 +35,15 @@ LacksLines source first last = (first ≡ 0) ⊎ ((last < first) ⊎ (length sou
 abbrev pub without_lines : List (List ℕ) → ℕ → ℕ → List (List ℕ)
 without_lines source first last = take (first - 1) source ++ drop last source
 
+-- a source has the lines from one number to another, and these may go after a third: the front for 0, or a line that is none of them; after the last of
+-- them, and after the line before the first, they stand already
+abbrev pub HasMove : List (List ℕ) → ℕ → ℕ → ℕ → Type 0
+HasMove source first last after = HasLines source first last × (after ≤ length source) × ((after < first) ⊎ (last ≤ after))
+
+-- a source lacks one of these lines, or the one to go after, or they are to go into their own midst
+abbrev pub LacksMove : List (List ℕ) → ℕ → ℕ → ℕ → Type 0
+LacksMove source first last after = LacksLines source first last ⊎ ((length source < after) ⊎ ((first ≤ after) × (after < last)))
+
 -- ---- work
 
 -- so many steps of each pass were made
@@ -54,7 +65,22 @@ WorkOfEdit (Err faults.NoSuchLine) lines splice old new = new ≡ old
 WorkOfEdit (Err faults.TooManyLines) lines splice old new = new ≡ old
 WorkOfEdit (Err faults.Memory) lines splice old new = HaveSteppedUpTo (ones_of lines splice) (twos_of lines splice) old new
 
+-- so does a move
+abbrev pub WorkOfMove : {T : Type 0} → Result T EditFault → List (List ℕ) → Exchange → Counts → Counts → Type 0
+WorkOfMove (Ok done) lines e old new = HaveStepped (ones_of_exchange lines e) (twos_of_exchange lines e) old new
+WorkOfMove (Err faults.NoSuchLine) lines e old new = new ≡ old
+WorkOfMove (Err faults.TooManyLines) lines e old new = new ≡ old
+WorkOfMove (Err faults.Memory) lines e old new = HaveSteppedUpTo (ones_of_exchange lines e) (twos_of_exchange lines e) old new
+
 -- An edit compares at most 64 lines in each pass for each chunk that it touches, and the count is no less than it was. So it is too where the edit is refused:
 -- there the new lengths are those that it would make.
 abbrev pub LooksOfEdit : Source → Splice → List ℕ → Counts → Counts → Type 0
 LooksOfEdit old splice lengths was now = ComparesUpTo was now (128 * touched_of old.lines splice old.lengths lengths)
+
+-- so does a move
+abbrev pub LooksOfMove : Source → Exchange → Counts → Counts → Type 0
+LooksOfMove old e was now = ComparesUpTo was now (128 * touched_of_exchange old.lines e old.lengths (moved_at e old.lengths))
+
+-- the same where lines change their place
+abbrev pub LooksOfExchange : Source → Exchange → Counts → Counts → Type 0
+LooksOfExchange old e was now = ComparesUpTo was now (128 * touched_of_exchange old.lines e old.lengths (exchanged_at e old.lengths))

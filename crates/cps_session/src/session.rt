@@ -8,12 +8,15 @@ ghost use Rattle.cps_chunks.specs.Recuts.{Recuts};
 ghost use Rattle.cps_kept.specs.Kept.{splice_of};
 ghost use Rattle.cps_assembly.specs.Assembly.{assembly_of};
 ghost use Rattle.cps_assembly.specs.Flagged.{flagged_lines as flagged_in};
-ghost use Rattle.cps_session.specs.Edits.{HasLine, LacksLine, HasLines, LacksLines, without_lines, WorkOfEdit, LooksOfEdit};
+ghost use Rattle.cps_exchange.specs.Exchange.{exchanged, move};
+ghost use Rattle.cps_division.specs.Exchange.{exchanged_at, moved_at};
+ghost use Rattle.cps_session.specs.Edits.{HasLine, LacksLine, HasLines, LacksLines, HasMove, LacksMove, without_lines, WorkOfEdit, WorkOfMove, LooksOfEdit, LooksOfMove, LooksOfExchange};
 
 use cps_assembly::flagged_lines;
 use cps_division::laws::{a_deletion_divides_again, an_insertion_divides_again};
 use cps_division::{Recut, recut_deletion, recut_insertion, recut_replacement};
 use cps_edit::Front;
+use cps_exchange::Exchange;
 use cps_final::{Finals, Gathered, Outcome};
 use cps_kept::{Follower, Lists, NewLines};
 use cps_list::{Part, View, make_text};
@@ -266,6 +269,60 @@ impl Session {
             lines: Vec::new(self.alloc),
         };
         self.splice(new, recut, work)
+    }
+
+    /// Moves the lines from `first` to `last` after line `after`, 0 for the front, where lines count from 1, as they stand before the move. After line
+    /// `first - 1` and after line `last` they stand already: then nothing changes.
+    pub fn move_lines(
+        &mut self,
+        first: u32,
+        last: u32,
+        after: u32,
+        work: &mut Work,
+    ) -> Result<(), EditFault>
+        ensures ok { OnOk result (self.new.lines ≡ exchanged (move first last after) self.old.lines) }
+        ensures lengths { OnOk result (self.new.lengths ≡ moved_at (move first last after) self.old.lengths) }
+        ensures allowed { OnOk result (HasMove self.old.lines first last after) }
+        ensures err { OnErr result (self.new ≡ self.old) }
+        ensures no_line { IsErrOf result EditFault.NoSuchLine ↔ LacksMove self.old.lines first last after }
+        ensures too_many { IsErrOf result EditFault.TooManyLines → ⊥ }
+        ensures memory { IsErrOf result EditFault.Memory → HasMove self.old.lines first last after }
+        ensures work { WorkOfMove result self.old.lines (move first last after) work.old work.new }
+        ensures looked { LooksOfMove self.old (move first last after) work.old work.new }
+    {
+        let count = self.count();
+        if first == 0 || last < first || last > count || after > count {
+            return Err(EditFault::NoSuchLine);
+        }
+        if first <= after && after < last {
+            return Err(EditFault::NoSuchLine);
+        }
+        let exchange = Exchange::of_move(first as usize, last as usize, after as usize);
+        if exchange.is_idle() {
+            return Ok(());
+        }
+        self.exchange(exchange, work)
+    }
+
+    /// Exchanges two runs of lines, each of which has some.
+    fn exchange(&mut self, exchange: Exchange, work: &mut Work) -> Result<(), EditFault>
+        requires first { exchange.keep < exchange.mid }
+        requires second { exchange.mid < exchange.from }
+        requires within { exchange.from ≤ length self.old.lines }
+        ensures ok { OnOk result (self.new.lines ≡ exchanged exchange self.old.lines) }
+        ensures lengths { OnOk result (self.new.lengths ≡ exchanged_at exchange self.old.lengths) }
+        ensures err { OnErr result (self.new ≡ self.old) }
+        ensures only { OnErr result (IsErrOf result EditFault.Memory) }
+        ensures work { WorkOfMove result self.old.lines exchange work.old work.new }
+        ensures looked { LooksOfExchange self.old exchange work.old work.new }
+    {
+        let made = self.lists.exchange(self.front.finals(), exchange, work);
+        let Ok(front) = made else {
+            return Err(EditFault::Memory);
+        };
+        self.front = front;
+        self.follower = Follower::new(self.alloc, self.front.finals().hashing());
+        Ok(())
     }
 
     /// Puts a line behind the last.

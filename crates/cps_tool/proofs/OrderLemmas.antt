@@ -2,10 +2,10 @@
 use Rattle.std.proofs.Common.{◌≡◌, ℕ, ◌==◌, if◌then◌else◌, ⊎_elim, List, [], ◌++◌, drop, get_or, codes, refl, sym, ap, subst, ◌∙◌}
 use Rattle.std.specs.List.{after_first}
 use Rattle.std.proofs.lemmas.Slice.Eq.{bytes_eq-Decides}
-use Rattle.cps_tool.specs.Command.{Order, append, insert, replace, delete, list, binary, symbols, flags, work, quit, Spells, IsNumbered, IsRange}
+use Rattle.cps_tool.specs.Command.{Order, append, insert, replace, delete, move, list, binary, symbols, flags, work, quit, Spells, IsNumbered, IsRange, IsMove}
 use Rattle.cps_text.specs.Text.{is_blank}
 use Rattle.cps_tool.proofs.NumberLemmas.{number_in, number_is, text_behind}
-use Rattle.cps_tool.proofs.RangeLemmas.{last_in, first_is, last_is}
+use Rattle.cps_tool.proofs.RangeLemmas.{last_in, first_is, last_is, move_is}
 
 -- the first byte of a command
 abbrev letter_of : Order → ℕ
@@ -13,6 +13,7 @@ letter_of (append text) = 97
 letter_of (insert after text) = 105
 letter_of (replace at text) = 114
 letter_of (delete first last) = 100
+letter_of (move first last after) = 109
 letter_of list = 108
 letter_of binary = 98
 letter_of symbols = 115
@@ -31,6 +32,7 @@ begins line (append text) spells = ⊎_elim
 begins line (insert after text) spells = ap first_of spells.2
 begins line (replace at text) spells = ap first_of spells.2
 begins line (delete first last) spells = ap first_of spells.2
+begins line (move first last after) spells = ap first_of spells.2
 begins line list spells = ap first_of spells.1
 begins line binary spells = ap first_of spells.1
 begins line symbols spells = ap first_of spells.1
@@ -46,11 +48,12 @@ order_by letter rest =
     else (if letter == 105 then insert (number_in rest) (after_first is_blank rest)
     else (if letter == 114 then replace (number_in rest) (after_first is_blank rest)
     else (if letter == 100 then delete (number_in rest) (last_in (after_first is_blank rest) (number_in rest))
+    else (if letter == 109 then move (number_in rest) (number_in (after_first is_blank rest)) (number_in (after_first is_blank (after_first is_blank rest)))
     else (if letter == 108 then list
     else (if letter == 98 then binary
     else (if letter == 115 then symbols
     else (if letter == 102 then flags
-    else (if letter == 119 then work else quit))))))))
+    else (if letter == 119 then work else quit)))))))))
 
 -- the text of an `a` is what stands behind its blank
 text_of : (line text : List ℕ) → Spells line (append text) → text ≡ drop 2 line
@@ -65,6 +68,9 @@ numbered_at line bytes number text is numbered = let P : List ℕ → Type 0 = �
 range_at : (line bytes : List ℕ) (first last : ℕ) → drop 2 line ≡ bytes → IsRange bytes first last → IsRange (drop 2 line) first last
 range_at line bytes first last is range = let P : List ℕ → Type 0 = λ rest. IsRange rest first last in subst P (sym is) range
 
+move_at : (line bytes : List ℕ) (first last after : ℕ) → drop 2 line ≡ bytes → IsMove bytes first last after → IsMove (drop 2 line) first last after
+move_at line bytes first last after is numbers = let P : List ℕ → Type 0 = λ rest. IsMove rest first last after in subst P (sym is) numbers
+
 -- an order, by the letter that its line begins with
 by_letter : (line : List ℕ) (order : Order) → Spells line order → order ≡ order_by (letter_of order) (drop 2 line)
 by_letter line (append text) spells = ap append (text_of line text spells)
@@ -77,6 +83,12 @@ by_letter line (replace at text) spells =
 by_letter line (delete first last) spells =
     let range = range_at line spells.1 first last (ap (drop 2) spells.2) spells.3 in
     ap (λ n. delete n last) (first_is (drop 2 line) first last range) ∙ ap (delete (number_in (drop 2 line))) (last_is (drop 2 line) first last range)
+by_letter line (move first last after) spells =
+    let rest = drop 2 line in
+    let is = move_is rest first last after (move_at line spells.1 first last after (ap (drop 2) spells.2) spells.3) in
+    ap (λ n. move n last after) is.0
+    ∙ ap (λ n. move (number_in rest) n after) is.1
+    ∙ ap (move (number_in rest) (number_in (after_first is_blank rest))) is.2
 by_letter line list spells = refl
 by_letter line binary spells = refl
 by_letter line symbols spells = refl

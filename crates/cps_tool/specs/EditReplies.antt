@@ -2,10 +2,11 @@
 use Rattle.std.specs.Prelude.{◌≡◌, ℕ, ◌-◌, ◌<◌, ◌≤◌, List, length, insert, slice_set}
 use Rattle.cps_text.specs.Line.{longest_line, IsLine, HasBadCharacter}
 use Rattle.cps_state.specs.Work.{Counts, no_work}
+use Rattle.cps_exchange.specs.Exchange.{exchanged, move}
 use Rattle.cps_edit.specs.Splice.{Splice, insertion, replacement, deletion}
-use Rattle.cps_edit.specs.Disturbed.{ones_of, twos_of}
+use Rattle.cps_edit.specs.Disturbed.{ones_of, twos_of, ones_of_exchange, twos_of_exchange}
 use Rattle.cps_assembly.specs.Limits.{most_lines}
-use Rattle.cps_session.specs.Edits.{HasLine, LacksLine, HasLines, LacksLines, without_lines, HaveStepped, HaveSteppedUpTo}
+use Rattle.cps_session.specs.Edits.{HasLine, LacksLine, HasLines, LacksLines, HasMove, LacksMove, without_lines, HaveStepped, HaveSteppedUpTo}
 use Rattle.cps_tool.specs.declared.reply.Refusal.{Refusal}
 use Rattle.cps_tool.specs.declared.reply.Refusal.TheVariants as refusals
 use Rattle.cps_tool.specs.Reply.{Response, accepted, refused, shown, worked}
@@ -27,10 +28,13 @@ beginning source = at source no_work
 abbrev pub StepsOf : List (List ℕ) → Splice → Counts → Type 0
 StepsOf source edit work = HaveStepped (ones_of source edit) (twos_of source edit) no_work work
 
--- a refused command takes none; one for which there was no memory these at most
+-- a refused command takes none; one for which there was no memory so many at most
+abbrev pub StepsWhereRefused : Refusal → ℕ → ℕ → Counts → Type 0
+StepsWhereRefused refusals.NoMemory ones twos work = HaveSteppedUpTo ones twos no_work work
+StepsWhereRefused refusal ones twos work = work ≡ no_work
+
 abbrev pub StepsOfRefused : Refusal → List (List ℕ) → Splice → Counts → Type 0
-StepsOfRefused refusals.NoMemory source edit work = HaveSteppedUpTo (ones_of source edit) (twos_of source edit) no_work work
-StepsOfRefused refusal source edit work = work ≡ no_work
+StepsOfRefused refusal source edit work = StepsWhereRefused refusal (ones_of source edit) (twos_of source edit) work
 
 -- why a text is no line
 abbrev pub IsNoLine : List ℕ → Refusal → Type 0
@@ -103,3 +107,25 @@ Deleted old first last (refused refusal) new =
     IsNotDeleted old first last refusal × (new.source ≡ old) × StepsOfRefused refusal old (deletion first last) new.work
 Deleted old first last (shown bytes) new = ⊥
 Deleted old first last (worked ones twos) new = ⊥
+
+-- ---- a move
+
+-- Why lines are not moved.
+abbrev pub IsNotMoved : List (List ℕ) → ℕ → ℕ → ℕ → Refusal → Type 0
+IsNotMoved source first last after refusals.NoSuchLine = LacksMove source first last after
+IsNotMoved source first last after refusals.LineTooLong = ⊥
+IsNotMoved source first last after refusals.BadCharacter = ⊥
+IsNotMoved source first last after refusals.TooManyLines = ⊥
+IsNotMoved source first last after refusals.BadCommand = ⊥
+IsNotMoved source first last after refusals.NoMemory = HasMove source first last after
+
+-- a move was answered: it was made and the lines counted, or refused and the source not changed
+abbrev pub Moved : List (List ℕ) → ℕ → ℕ → ℕ → Response → Standing → Type 0
+Moved old first last after (accepted count) new =
+    HasMove old first last after × (new.source ≡ exchanged (move first last after) old) × (count ≡ length new.source)
+    × HaveStepped (ones_of_exchange old (move first last after)) (twos_of_exchange old (move first last after)) no_work new.work
+Moved old first last after (refused refusal) new =
+    IsNotMoved old first last after refusal × (new.source ≡ old)
+    × StepsWhereRefused refusal (ones_of_exchange old (move first last after)) (twos_of_exchange old (move first last after)) new.work
+Moved old first last after (shown bytes) new = ⊥
+Moved old first last after (worked ones twos) new = ⊥

@@ -14,10 +14,10 @@ use Rattle.cps_assembly.specs.Assembly.{assembly_of}
 use Rattle.cps_assembly.specs.Flagged.{flagged_lines}
 use Rattle.cps_batch.specs.Reads.{EndsEarly}
 use Rattle.cps_batch.specs.Lines.{Splits, without_return, last_line, lines_of}
-use Rattle.cps_tool.specs.Command.{Order, append, insert, replace, delete, list, binary, symbols, flags, work, quit, Spells, is_quit}
+use Rattle.cps_tool.specs.Command.{Order, append, insert, replace, delete, move, list, binary, symbols, flags, work, quit, Spells, is_quit}
 use Rattle.cps_tool.specs.declared.writing.RunFault.{RunFault}
 use Rattle.cps_tool.specs.declared.writing.RunFault.TheVariants as faults
-use Rattle.cps_tool.specs.EditReplies.{Standing, at, beginning, Inserted, Replaced, Deleted}
+use Rattle.cps_tool.specs.EditReplies.{Standing, at, beginning, Inserted, Replaced, Deleted, Moved}
 use Rattle.cps_tool.specs.Reply.{Response, accepted, refused, shown, worked, reply_text}
 use Rattle.cps_tool.specs.Written.{IsWritten}
 
@@ -34,6 +34,7 @@ Obeys old (append text) response new = Inserted old.source (length old.source) t
 Obeys old (insert after text) response new = Inserted old.source after text response new
 Obeys old (replace at text) response new = Replaced old.source at text response new
 Obeys old (delete first last) response new = Deleted old.source first last response new
+Obeys old (move first last after) response new = Moved old.source first last after response new
 Obeys old list response new = Queried old (listing_text (assembly_of old.source)) response new
 Obeys old binary response new = Queried old (binary_text (assembly_of old.source)) response new
 Obeys old symbols response new = Queried old (symbols_text (assembly_of old.source)) response new

@@ -1,7 +1,7 @@
 //! The commands of a script.
 ghost use Rattle.std.specs.Prelude.{◌≡◌, ℕ, ◌<◌, ◌≤◌, List, false, length, IfOk, IfSome, IfNone, MatchResult, MatchOption};
 ghost use Rattle.std.specs.List.{before_first, after_first, position_from};
-ghost use Rattle.cps_tool.specs.Command.{Order, append, insert, replace, delete, list, binary, symbols, flags, work, Spells, IsNumber, IsNumbered, IsRange, is_quit, is_quit_order, order_of};
+ghost use Rattle.cps_tool.specs.Command.{Order, append, insert, replace, delete, move, list, binary, symbols, flags, work, Spells, IsNumber, IsNumbered, IsPair, IsRange, IsMove, is_quit, is_quit_order, order_of};
 ghost use Rattle.cps_text.specs.Text.{is_blank};
 
 use cps_text::limits::MOST_COMMAND_BYTES;
@@ -28,6 +28,8 @@ pub enum Command<'a> {
     Replace(u32, &'a [u8]),
     /// To delete the lines from one number to another.
     Delete(u32, u32),
+    /// To move the lines from one number to another after the line of a third, 0 for the front.
+    Move(u32, u32, u32),
     /// To write the listing.
     Listing,
     /// To write the binary text.
@@ -102,7 +104,7 @@ fn read_query(line: &[u8]) -> Option<Command<'_>>
     }
 }
 
-/// The command to insert a text after a line, to put one in place of a line, or to delete lines, None where the line spells another or none.
+/// The command to insert a text after a line, to put one in place of a line, to delete lines or to move them, None where the line spells another or none.
 fn read_edit(line: &[u8]) -> Option<Command<'_>>
     requires { length line.now ≤ MOST_COMMAND_BYTES }
     ensures order { IfSome result (λ command. Spells line.now (order_of command)) }
@@ -110,6 +112,7 @@ fn read_edit(line: &[u8]) -> Option<Command<'_>>
     ensures no_insert { IfNone result ((after : ℕ) (text : List ℕ) → Spells line.now (insert after text) → ⊥) }
     ensures no_replace { IfNone result ((at : ℕ) (text : List ℕ) → Spells line.now (replace at text) → ⊥) }
     ensures no_delete { IfNone result ((first last : ℕ) → Spells line.now (delete first last) → ⊥) }
+    ensures no_move { IfNone result ((first last after : ℕ) → Spells line.now (move first last after) → ⊥) }
 {
     match line {
         [b'i', b' ', bytes @ ..] => {
@@ -123,6 +126,10 @@ fn read_edit(line: &[u8]) -> Option<Command<'_>>
         [b'd', b' ', bytes @ ..] => {
             let (first, last) = read_range(bytes)?;
             Some(Command::Delete(first, last))
+        }
+        [b'm', b' ', bytes @ ..] => {
+            let (first, last, after) = read_move(bytes)?;
+            Some(Command::Move(first, last, after))
         }
         _ => None,
     }
@@ -145,17 +152,35 @@ fn read_range(bytes: &[u8]) -> Option<(u32, u32)>
         ((first last : ℕ) → IsRange bytes.now first last → ⊥)
         (λ range. IsRange bytes.now range.0 range.1) }
 {
-    match first_blank(bytes) {
-        Some(at) => {
-            let first = read_number(&bytes[..at])?;
-            let last = read_number(&bytes[at + 1..])?;
-            Some((first, last))
-        }
-        None => {
-            let only = read_number(bytes)?;
-            Some((only, only))
-        }
+    if let Some(pair) = read_pair(bytes) {
+        return Some(pair);
     }
+    let only = read_number(bytes)?;
+    Some((only, only))
+}
+
+/// The numbers of the first and the last of some lines, and of the line that they go after, with a blank between two of them.
+fn read_move(bytes: &[u8]) -> Option<(u32, u32, u32)>
+    ensures { MatchOption result
+        ((first last after : ℕ) → IsMove bytes.now first last after → ⊥)
+        (λ numbers. IsMove bytes.now numbers.0 numbers.1 numbers.2) }
+{
+    let (digits, more) = split_at_blank(bytes);
+    let first = read_number(digits)?;
+    let (last, after) = read_pair(more)?;
+    Some((first, last, after))
+}
+
+/// Two numbers with a blank between them.
+fn read_pair(bytes: &[u8]) -> Option<(u32, u32)>
+    ensures { MatchOption result
+        ((one two : ℕ) → IsPair bytes.now one two → ⊥)
+        (λ pair. IsPair bytes.now pair.0 pair.1) }
+{
+    let (digits, more) = split_at_blank(bytes);
+    let one = read_number(digits)?;
+    let two = read_number(more)?;
+    Some((one, two))
 }
 
 /// The bytes before and behind the first blank, or all of them and none.

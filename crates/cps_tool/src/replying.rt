@@ -3,7 +3,7 @@ ghost use Rattle.std.specs.Prelude.{◌≡◌, ◌++◌, false, true, MatchOptio
 ghost use Rattle.cps_tool.specs.Command.{is_quit};
 ghost use Rattle.cps_text.specs.Counted.{failures_of, FailsOnce};
 ghost use Rattle.cps_text.specs.Line.{IsLine};
-ghost use Rattle.cps_tool.specs.EditReplies.{IsNoLine, Inserted, Replaced, Deleted, at};
+ghost use Rattle.cps_tool.specs.EditReplies.{IsNoLine, Inserted, Replaced, Deleted, Moved, at};
 ghost use Rattle.cps_tool.specs.Reply.{meaning_of, shown, refused, worked, refusal_of, reply_text, refusal_text};
 ghost use Rattle.cps_tool.specs.declared.reply.Refusal.TheVariants.{NoMemory};
 ghost use Rattle.cps_tool.specs.Script.{IsAnswered};
@@ -33,6 +33,9 @@ pub fn obey(alloc: Global, line: &[u8], session: &mut Session, work: &mut Work) 
         Ok(Command::Insert(after, text)) => Some(insert_line(alloc, after, text, session, work)),
         Ok(Command::Replace(at, text)) => Some(replace_line(alloc, at, text, session, work)),
         Ok(Command::Delete(first, last)) => Some(delete_lines(first, last, session, work)),
+        Ok(Command::Move(first, last, after)) => {
+            Some(move_lines(first, last, after, session, work))
+        }
         Ok(Command::Listing) => Some(show(session.text(alloc, Part::Listing))),
         Ok(Command::Binary) => Some(show(session.text(alloc, Part::Binary))),
         Ok(Command::Symbols) => Some(show(session.text(alloc, Part::Symbols))),
@@ -125,6 +128,17 @@ fn delete_lines(first: u32, last: u32, session: &mut Session, work: &mut Work) -
 {
     *work = Work::new();
     match session.delete(first, last, work) {
+        Ok(()) => Reply::Accepted(session.count()),
+        Err(fault) => Reply::Refused(refusal_of_edit(fault)),
+    }
+}
+
+/// Moves the lines from `first` to `last` after line `after`, 0 for the front, where lines count from 1.
+fn move_lines(first: u32, last: u32, after: u32, session: &mut Session, work: &mut Work) -> Reply
+    ensures { Moved session.old.lines first last after (meaning_of result) (at session.new.lines work.new) }
+{
+    *work = Work::new();
+    match session.move_lines(first, last, after, work) {
         Ok(()) => Reply::Accepted(session.count()),
         Err(fault) => Reply::Refused(refusal_of_edit(fault)),
     }

@@ -49,6 +49,7 @@ is written to standard output before the next line is read:
   i N TEXT  insert TEXT after line N, 0 for the front
   r N TEXT  replace line N by TEXT
   d N [M]   delete line N, or lines N to M
+  m A B C   move lines A to B after line C, 0 for the front
   list      write the listing
   binary    write the binary text: octal words by address
   symbols   write the cross-reference of the symbols

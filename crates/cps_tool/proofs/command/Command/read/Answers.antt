@@ -14,6 +14,6 @@ returns-in-Some-read_query-clause-only c = only_order c.args.line.now (order_of 
 
 pub returns-in-None-clause-order : goal.returns-in-None-clause-order
 returns-in-None-clause-order c = no_order c.args.line.now c.in-None.ensures.no_append
-    c.in_default.ensures.no_insert c.in_default.ensures.no_replace c.in_default.ensures.no_delete
+    c.in_default.ensures.no_insert c.in_default.ensures.no_replace c.in_default.ensures.no_delete c.in_default.ensures.no_move
     c.in_default-read_query.ensures.no_list c.in_default-read_query.ensures.no_binary c.in_default-read_query.ensures.no_symbols c.in_default-read_query.ensures.no_flags c.in_default-read_query.ensures.no_work
     c.in-None.ensures.no_quit
