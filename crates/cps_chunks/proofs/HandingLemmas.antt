@@ -4,26 +4,24 @@ use Rattle.std.specs.Prelude.{◌||◌, nat_eq, is_some, sum, IfSome, if◌then�
 use Rattle.std.specs.List.{list_all, list_any}
 use Rattle.std.specs.Cmp.Lexicographic.{pointwise, same_text}
 use Rattle.std.proofs.lemmas.Bool.{and_parts}
-use Rattle.std.proofs.lemmas.List.{length-append, length-drop, length-take, length-take-le, length-map, take-map, drop-map, drop-drop, take_more, map_more, get_or-set_other, get_or_default}
+use Rattle.std.proofs.lemmas.List.{length-take-le, length-map, take-map, drop-map, drop-drop, map_more, get_or-set_other, get_or_default}
 use Rattle.cps_state.specs.Course.{Trace}
-use Rattle.cps_state.specs.Keys.{State, first_state}
-use Rattle.cps_final.specs.Outcome.{Resolved}
+use Rattle.cps_state.specs.Keys.{first_state}
 use Rattle.cps_exchange.specs.declared.exchange.Exchange.{Exchange}
 use Rattle.cps_exchange.specs.Exchange.{IsWithin, exchanged}
 use Rattle.cps_exchange.specs.Numbers.{numbers, picked, exchanged_numbers}
 use Rattle.cps_exchange.proofs.NumberLemmas.{exchanged-picks}
 use Rattle.cps_division.specs.Exchange.{numbers_of}
-use Rattle.cps_division.specs.Pieces.{AreOfNone, AreNamed, ArePieces, lines_of}
+use Rattle.cps_division.specs.Pieces.{AreNamed, ArePieces, lines_of}
 use Rattle.cps_division.specs.declared.exchange.Piece.{Piece}
 use Rattle.cps_holding.specs.Agreeing.{same_at}
-use Rattle.cps_edit.specs.Passes.{traces_from, traces_of}
+use Rattle.cps_edit.specs.Passes.{traces_of}
 use Rattle.cps_edit.specs.Disturbed.{finals_in}
 use Rattle.cps_edit.specs.Renewed.{flags_from, AllWereMeant}
 use Rattle.cps_edit.proofs.SpliceLemmas.{length-traces_from}
 use Rattle.cps_edit.proofs.TakenLemmas.{drop_at}
-use Rattle.cps_chunks.specs.declared.chunk.Summary.{Summary}
 use Rattle.cps_chunks.specs.declared.chunk.Chunk.{Chunk}
-use Rattle.cps_chunks.specs.Chunks.{WereDone, IsDone, AreDone, IsSummed, AreSummed, AreMade, lengths_of, looks_from, looks_again, unsummed}
+use Rattle.cps_chunks.specs.Chunks.{WereDone, AreDone, IsSummed, AreSummed, AreMade, lengths_of, looks_from, looks_again, unsummed}
 use Rattle.cps_chunks.specs.Handing.{old_or_new, handed_on, left_without, HasLength, IsElsewhere, AreOnce}
 use Rattle.cps_chunks.specs.Touched.{cut, did_as_chunks, touched_from, touched_of_exchange}
 use Rattle.cps_chunks.proofs.ChunkLemmas.{done-long, done-front, done-behind, meant-front, meant-behind, is-done}

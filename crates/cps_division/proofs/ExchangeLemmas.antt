@@ -1,10 +1,10 @@
 -- The lengths of chunks after two runs of lines have changed places.
-use Rattle.std.proofs.Common.{◌≡◌, ◌⊎◌, inl, inr, ℕ, zero, suc, ◌+◌, ◌-◌, ◌<◌, ◌≤◌, refl, sym, ap, subst, ◌∙◌, List, [], ◌∷◌, ◌++◌, append_assoc, append-nil, length, take, drop, true, false, Bool, arith}
-use Rattle.std.specs.Prelude.{if◌then◌else◌, nat_lt, sum}
+use Rattle.std.proofs.Common.{◌≡◌, inl, inr, ℕ, zero, suc, ◌+◌, ◌-◌, ◌≤◌, refl, sym, ap, subst, ◌∙◌, List, [], ◌∷◌, ◌++◌, append-nil, length, take, drop, true, false, Bool, arith}
+use Rattle.std.specs.Prelude.{if◌then◌else◌, nat_lt}
 use Rattle.cps_division.specs.Division.{full, IsApart, AreChunks, IsDivision, joined}
 use Rattle.cps_exchange.specs.Exchange.{exchange_at}
 use Rattle.cps_division.specs.Exchange.{front_of, behind_of, part_of, rejoined, exchanged_at, whole, begun, inner}
-use Rattle.cps_division.proofs.DivisionLemmas.{total, total-sum, lt-true, lt-false, joined-chunks, joined-total, joined-apart, joined-again}
+use Rattle.cps_division.proofs.DivisionLemmas.{total, total-sum, lt-true, lt-false, joined-chunks, joined-total, joined-again}
 use Rattle.cps_division.proofs.DeletionLemmas.{EndsWith, joined-ends, joined-apart-same}
 
 -- ---- they divide as many lines

@@ -3,13 +3,12 @@ use Rattle.std.proofs.Common.{◌≡◌, ◌⊎◌, inl, inr, ℕ, zero, suc, �
 use Rattle.std.specs.Prelude.{if◌then◌else◌, nat_lt, sum, Result, Ok, Err, OnOk}
 use Rattle.std.proofs.lemmas.Bool.{cases_lt, lt-ltb, le-ltb}
 use Rattle.std.proofs.lemmas.List.{length-append, reverse-append}
-use Rattle.std.proofs.lemmas.List.Sums.{sum_by_more}
 use Rattle.cps_division.specs.Division.{AreChunks}
 use Rattle.cps_exchange.specs.Numbers.{numbers}
-use Rattle.cps_division.specs.Exchange.{numbers_of, BeginsWithPart}
+use Rattle.cps_division.specs.Exchange.{BeginsWithPart}
 use Rattle.cps_division.specs.declared.exchange.Piece.{Piece}
 use Rattle.cps_division.specs.Pieces.{cut_to, AreOfNone, AreNamed, ArePieces, MayStandBefore, GoesNotOn, part_numbers}
-use Rattle.cps_division.proofs.DivisionLemmas.{lt-true, lt-false}
+use Rattle.cps_division.proofs.DivisionLemmas.{lt-true}
 use Rattle.cps_division.proofs.PieceLemmas.{length-numbers, numbers-more, part-new}
 
 -- ---- a list's front and the rest

@@ -1,5 +1,5 @@
 -- Pieces in the other order.
-use Rattle.std.proofs.Common.{◌≡◌, refl, sym, ap, ◌∙◌, List, [], ◌∷◌, ◌++◌, map, reverse}
+use Rattle.std.proofs.Common.{◌≡◌, refl, sym, ap, ◌∙◌, List, [], ◌∷◌, ◌++◌, reverse}
 use Rattle.std.proofs.lemmas.List.{reverse-append, map-append}
 use Rattle.cps_division.specs.declared.exchange.Piece.{Piece}
 use Rattle.cps_division.specs.Pieces.{lines_of, lines_in}

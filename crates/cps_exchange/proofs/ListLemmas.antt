@@ -1,11 +1,11 @@
 -- Lists in which two runs have changed places.
-use Rattle.std.proofs.Common.{◌≡◌, ℕ, zero, suc, ◌+◌, ◌-◌, ◌<◌, ◌≤◌, refl, sym, ap, subst, ◌∙◌, List, [], ◌∷◌, ◌++◌, append_assoc, zero-add, length, take, drop, arith, true, false, Bool}
-use Rattle.std.specs.Prelude.{if◌then◌else◌, nat_lt, nat_eq, ◌||◌}
+use Rattle.std.proofs.Common.{◌≡◌, ℕ, suc, ◌+◌, ◌-◌, ◌<◌, ◌≤◌, refl, sym, ap, ◌∙◌, List, [], ◌∷◌, ◌++◌, append_assoc, zero-add, length, take, drop, arith, true, false, Bool}
+use Rattle.std.specs.Prelude.{if◌then◌else◌, nat_eq, ◌||◌}
 use Rattle.std.proofs.lemmas.List.{length-append, length-take, length-take-le, length-drop, drop_all, drop-append-le, drop-take, drop-drop, take-append-drop, take-take}
 use Rattle.std.proofs.lemmas.Bool.{lt-ltb, le-ltb}
 use Rattle.std.proofs.lemmas.Bool.Decides.{nat_tests}
 use Rattle.cps_exchange.specs.declared.exchange.Exchange.{Exchange}
-use Rattle.cps_exchange.specs.Exchange.{IsWithin, exchanged, exchange_at, is_idle, back_of, move}
+use Rattle.cps_exchange.specs.Exchange.{IsWithin, exchanged, exchange_at, is_idle, move}
 use Rattle.cps_exchange.specs.ExchangeLaws.{without_run, run_of, set_in, MovesTakeOut, TurnsBack}
 
 module _ {X : Type 0} where

@@ -1,5 +1,5 @@
 -- New lines that leave the same as those in whose place they stand.
-use Rattle.std.proofs.Common.{◌≡◌, ℕ, zero, suc, ◌+◌, ◌≤◌, refl, sym, ap, ◌∙◌, Bool, true, List, [], ◌∷◌, ◌++◌, append_assoc, length, take, drop, map, Option, None, Some, arith}
+use Rattle.std.proofs.Common.{◌≡◌, ℕ, zero, suc, ◌+◌, ◌≤◌, refl, sym, ap, ◌∙◌, Bool, true, List, [], ◌∷◌, ◌++◌, append_assoc, length, take, drop, map, Option, arith}
 use Rattle.std.specs.Prelude.{not, flat_map, is_some, if◌then◌else◌}
 use Rattle.std.specs.List.{list_all}
 use Rattle.std.proofs.lemmas.List.{take-take, take-append-drop}
@@ -12,7 +12,7 @@ use Rattle.cps_state.specs.Made.{content_literals}
 use Rattle.cps_final.specs.Layout.{puts_of}
 use Rattle.cps_final.specs.Finals.{finals_of, final_value, label, block, literal}
 use Rattle.cps_final.specs.Outcome.{Resolved, labels_read, blocks_named}
-use Rattle.cps_edit.specs.Passes.{after, state_after, traces_from, traces_of}
+use Rattle.cps_edit.specs.Passes.{state_after, traces_from, traces_of}
 use Rattle.cps_edit.specs.Splice.{splice_at, spliced}
 use Rattle.cps_edit.specs.Agreeing.{all_named, same_at}
 use Rattle.cps_edit.specs.Disturbed.{kept, disturbed_from, finals_in, ones_of, twos_of}

@@ -1,6 +1,6 @@
 -- What lines leave for all others.
-use Rattle.std.proofs.Common.{◌≡◌, ℕ, refl, sym, ap, ◌∙◌, Bool, true, List, [], ◌∷◌, ◌++◌, length, get_or, Option, None, Some, arith}
-use Rattle.std.specs.Prelude.{not, ◌&&◌, flat_map, nat_eq, is_some}
+use Rattle.std.proofs.Common.{◌≡◌, refl, sym, ap, ◌∙◌, Bool, true, List, [], ◌∷◌, ◌++◌, length, get_or, Option, None, Some, arith}
+use Rattle.std.specs.Prelude.{not, ◌&&◌, nat_eq, is_some}
 use Rattle.std.specs.List.{list_all}
 use Rattle.std.specs.Option.{option_or}
 use Rattle.std.specs.Cmp.Lexicographic.{pointwise}
@@ -15,7 +15,7 @@ use Rattle.cps_state.specs.Course.{Trace}
 use Rattle.cps_state.specs.Keys.{first_state, overwritten}
 use Rattle.cps_state.proofs.KnownLemmas.{same_key_is, same_key-true}
 use Rattle.cps_final.specs.Distinct.{distinct}
-use Rattle.cps_final.specs.Layout.{layout_of, puts_of}
+use Rattle.cps_final.specs.Layout.{layout_of}
 use Rattle.cps_final.specs.Pool.{literals_in}
 use Rattle.cps_final.specs.Finals.{Finals, finals_of, first_program, program_of}
 use Rattle.cps_edit.specs.Agreeing.{all_named}

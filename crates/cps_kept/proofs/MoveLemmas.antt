@@ -1,12 +1,11 @@
 -- Lines in another order, gone through beside what they did at their old places.
-use Rattle.std.proofs.Common.{arith, ◌≡◌, ℕ, zero, suc, ◌+◌, ◌*◌, ◌-◌, ◌<◌, ◌≤◌, refl, sym, ap, subst, ◌∙◌, Bool, true, false, List, [], ◌∷◌, ◌++◌, length, take, drop, map, Option, None, Some}
+use Rattle.std.proofs.Common.{arith, ◌≡◌, ℕ, zero, suc, ◌+◌, refl, sym, ap, subst, ◌∙◌, true, List, [], ◌∷◌, ◌++◌, length, take, drop, map, Some}
 use Rattle.std.specs.Prelude.{is_some, sum, if◌then◌else◌}
-use Rattle.std.proofs.lemmas.List.{length-append, length-map, map-append, take-map, drop-map}
+use Rattle.std.proofs.lemmas.List.{length-map, map-append, take-map, drop-map}
 use Rattle.cps_state.specs.Course.{Trace}
 use Rattle.cps_state.specs.Keys.{State, first_state}
-use Rattle.cps_state.specs.Work.{Counts, counted_on}
-use Rattle.cps_final.specs.Finals.{Finals, finals_of, final_value}
-use Rattle.cps_final.specs.Outcome.{Resolved, Outcome, outcome_of}
+use Rattle.cps_state.specs.Work.{Counts}
+use Rattle.cps_final.specs.Outcome.{Resolved, outcome_of}
 use Rattle.cps_exchange.specs.declared.exchange.Exchange.{Exchange}
 use Rattle.cps_exchange.specs.Exchange.{IsWithin, exchanged, is_idle}
 use Rattle.cps_exchange.proofs.ListLemmas.{idle-same}
@@ -15,11 +14,10 @@ use Rattle.cps_division.specs.Division.{AreChunks, IsDivision}
 use Rattle.cps_division.specs.Exchange.{exchanged_at}
 use Rattle.cps_division.specs.Pieces.{ArePieces, lines_of}
 use Rattle.cps_division.specs.declared.exchange.Piece.{Piece}
-use Rattle.cps_edit.specs.Passes.{after, traces_from, traces_of, outcomes_by}
-use Rattle.cps_edit.specs.Compares.{ComparesUpTo}
+use Rattle.cps_edit.specs.Passes.{after, traces_of, outcomes_by}
 use Rattle.cps_pass.specs.Expansion.{trace_of}
 use Rattle.cps_edit.specs.Disturbed.{kept, all_kept, is_disturbed, is_redone, disturbed_from, redone_places, finals_in, ones_of_exchange, twos_of_exchange}
-use Rattle.cps_edit.specs.Renewed.{merged, mended, flags_from, redone_from, AllWereMeant}
+use Rattle.cps_edit.specs.Renewed.{mended, flags_from, redone_from, AllWereMeant}
 use Rattle.cps_edit.proofs.SpliceLemmas.{length-traces_from, AllWereMeant-traces_from, kept-drop, none-disturbed, still-flags}
 use Rattle.cps_kept.proofs.InPlaceLemmas.{none-again}
 use Rattle.cps_edit.proofs.TakenLemmas.{mended_merged}
@@ -29,7 +27,7 @@ use Rattle.cps_chunks.specs.Touched.{touched_of_exchange}
 use Rattle.cps_chunks.proofs.HandingLemmas.{move-once, move-summed, move-done, move-touched}
 use Rattle.cps_chunks.proofs.TouchedLemmas.{chunks-short}
 use Rattle.cps_chunks.specs.declared.chunk.Chunk.{Chunk}
-use Rattle.cps_chunks.proofs.ChunkLemmas.{meant-long, meant-front, meant-behind}
+use Rattle.cps_chunks.proofs.ChunkLemmas.{meant-front, meant-behind}
 use Rattle.cps_chunks.proofs.ListLemmas.{summed-long, summed-forgotten, lengths-forgotten}
 use Rattle.cps_kept.specs.declared.lists.Lists.{Lists}
 use Rattle.cps_kept.specs.declared.renewal.Renewal.{Renewal}

@@ -1,12 +1,11 @@
 -- How many lines are compared of lines in another order.
-use Rattle.std.proofs.Common.{arith, ◌≡◌, ℕ, ◌+◌, ◌≤◌, refl, sym, ap, subst, ◌∙◌, List, map, Option}
+use Rattle.std.proofs.Common.{arith, ◌≡◌, ℕ, ◌+◌, ◌≤◌, refl, subst, List, map, Option}
 use Rattle.std.specs.Prelude.{is_some}
 use Rattle.cps_state.specs.Course.{Trace}
 use Rattle.cps_state.specs.Keys.{first_state}
 use Rattle.cps_state.specs.Work.{Counts, counted_on}
 use Rattle.cps_final.specs.Outcome.{Resolved}
 use Rattle.cps_edit.specs.Agreeing.{same_at}
-use Rattle.cps_edit.specs.Compares.{ComparesUpTo}
 use Rattle.cps_edit.specs.Disturbed.{finals_in}
 use Rattle.cps_edit.specs.Renewed.{flags_from}
 use Rattle.cps_edit.proofs.ReplayLemmas.{le-same}

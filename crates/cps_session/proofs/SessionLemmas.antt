@@ -6,10 +6,9 @@ use Rattle.std.specs.Prelude.{nat_lt, if◌then◌else◌, Option, Some, None, I
 use Rattle.std.proofs.lemmas.List.{length-map, set_split}
 use Rattle.std.proofs.lemmas.Option.{slice_get-get_or}
 use Rattle.cps_state.specs.Keys.{first_state}
-use Rattle.cps_state.specs.Course.{Trace}
 use Rattle.cps_state.specs.Work.{Counts, counted_on}
 use Rattle.cps_final.specs.Finals.{Finals, finals_of, final_value}
-use Rattle.cps_final.specs.Outcome.{Outcome, outcome_of}
+use Rattle.cps_final.specs.Outcome.{outcome_of}
 use Rattle.cps_kept.specs.declared.append.Follower.{Follower}
 use Rattle.cps_kept.specs.declared.lists.Lists.{Lists}
 use Rattle.cps_kept.specs.Append.{Follows}

@@ -1,9 +1,8 @@
-use Rattle.std.proofs.Common.{◌≡◌, ℕ, ◌+◌, ◌-◌, ◌<◌, ◌++◌, refl, sym, subst, ap, ◌∙◌, List, [], length, reverse, map, arith}
+use Rattle.std.proofs.Common.{◌≡◌, ℕ, ◌-◌, ◌++◌, refl, sym, subst, ap, ◌∙◌, [], length, reverse, arith}
 use Rattle.std.specs.Prelude.{sum}
 use Rattle.cps_exchange.specs.Numbers.{numbers}
 use Rattle.cps_division.specs.Pieces.{ArePieces, GoesNotOn}
 use Rattle.cps_division.proofs.NamedLemmas.{head-goes, head-some}
-use Rattle.cps_division.specs.declared.exchange.Piece.{Piece}
 use Rattle.cps_division.specs.Pieces.{lines_in, lines_of}
 use Rattle.cps_division.proofs.RunLemmas.{four-runs}
 use Rattle.cps_division.proofs.PiecesLemmas.{lines-reverse}

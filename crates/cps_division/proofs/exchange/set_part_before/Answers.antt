@@ -1,4 +1,4 @@
-use Rattle.std.proofs.Common.{◌≡◌, ◌-◌, ◌<◌, ◌≤◌, inl, inr, refl, sym, ap, ◌∙◌, arith}
+use Rattle.std.proofs.Common.{◌≡◌, ◌-◌, ◌<◌, inl, inr, refl, sym, ◌∙◌, arith}
 use Rattle.cps_division.specs.Pieces.{cut_to, part_numbers}
 use Rattle.cps_division.proofs.NamedLemmas.{part-may, on-ok, cut-is, cut-less}
 use Rattle.cps_division.proofs.exchange.set_part_before.Goals as goal

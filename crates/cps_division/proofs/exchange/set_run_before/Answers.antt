@@ -1,4 +1,4 @@
-use Rattle.std.proofs.Common.{◌≡◌, ℕ, ◌+◌, ◌-◌, ◌<◌, ◌≤◌, ◌++◌, reverse, subst, refl, sym, ap, ◌∙◌, List, [], ◌∷◌, length, get_or, take, drop, arith}
+use Rattle.std.proofs.Common.{◌≡◌, ◌+◌, ◌-◌, ◌<◌, ◌++◌, reverse, subst, refl, sym, ap, ◌∙◌, [], ◌∷◌, length, get_or, take, drop, arith}
 use Rattle.std.specs.Prelude.{if◌then◌else◌, nat_lt, sum}
 use Rattle.std.proofs.lemmas.List.Sums.{sum_by_more}
 use Rattle.cps_exchange.specs.Numbers.{numbers}

@@ -1,4 +1,4 @@
-use Rattle.std.proofs.Common.{arith, ◌≡◌, ◌+◌, ◌≤◌, ◌++◌, length, take, drop, ap, ◌∙◌}
+use Rattle.std.proofs.Common.{arith, ◌≡◌, ◌+◌, ◌≤◌, ◌++◌, length, take, drop, ◌∙◌}
 use Rattle.cps_chunks.specs.Chunks.{forgotten}
 use Rattle.cps_kept.proofs.CommitLemmas.{drop-few, chunks-changed}
 use Rattle.cps_kept.proofs.commit.put_chunks.Goals as goal

@@ -1,4 +1,3 @@
-use Rattle.std.proofs.Common.{sym}
 use Rattle.cps_tool.proofs.RangeLemmas.{pair_front, pair_back, pair_split}
 use Rattle.cps_tool.proofs.command.read_pair.Goals as goal
 

@@ -1,6 +1,5 @@
-use Rattle.std.proofs.Common.{rules, arith, ◌≡◌, ◌≤◌, [], List, ℕ, length, map, refl, sym, ap, subst, ◌∙◌}
+use Rattle.std.proofs.Common.{rules, arith, ◌≡◌, ◌≤◌, [], ℕ, length, map, ap, subst, ◌∙◌}
 use Rattle.std.specs.Prelude.{is_some}
-use Rattle.cps_state.specs.Course.{Trace}
 use Rattle.cps_state.specs.Keys.{State, first_state}
 use Rattle.cps_state.specs.Work.{counted_on}
 use Rattle.cps_final.specs.Finals.{finals_of, final_value}
@@ -10,7 +9,6 @@ use Rattle.cps_edit.specs.Disturbed.{kept, disturbed_from, finals_in}
 use Rattle.cps_edit.specs.Renewed.{merged, flags_from, redone_from}
 use Rattle.cps_edit.specs.contracts.front.FrontGathered.TheImpl.{gathered-value}
 use Rattle.cps_edit.proofs.SpliceLemmas.{gathered-state}
-use Rattle.cps_edit.proofs.ReplayLemmas.{le-same}
 use Rattle.cps_chunks.specs.Chunks.{looks_from}
 use Rattle.cps_kept.proofs.RenewalLemmas.{first-compared, both-compared}
 use Rattle.cps_kept.proofs.kept.Kept.renew.Goals as goal

@@ -1,4 +1,4 @@
-use Rattle.std.proofs.Common.{rules, arith, ◌≡◌, ◌∷◌, [], List, length, take, refl, ap, subst, ◌∙◌}
+use Rattle.std.proofs.Common.{rules, ◌≡◌, [], List, length, take, refl, subst}
 use Rattle.std.specs.Prelude.{IfOk}
 use Rattle.cps_state.specs.Keys.{State, first_state}
 use Rattle.cps_edit.specs.Passes.{state_after, traces_from}

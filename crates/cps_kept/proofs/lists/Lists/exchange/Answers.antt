@@ -1,10 +1,9 @@
-use Rattle.std.proofs.Common.{arith, ◌≡◌, ◌≤◌, ◌<◌, length, List, ℕ, sym, ap, subst, ◌∙◌, refl}
+use Rattle.std.proofs.Common.{arith, ◌≡◌, ◌≤◌, length, List, ℕ, sym, ap, subst, ◌∙◌}
 use Rattle.std.specs.Prelude.{sum}
 use Rattle.cps_exchange.specs.Exchange.{IsWithin, exchanged, back_of}
 use Rattle.cps_exchange.proofs.ListLemmas.{turns-back}
 use Rattle.cps_division.specs.Division.{AreChunks}
 use Rattle.cps_division.specs.Exchange.{exchanged_at}
-use Rattle.cps_division.specs.Pieces.{lines_of}
 use Rattle.cps_state.specs.Course.{Trace}
 use Rattle.cps_state.specs.Work.{counted_on}
 use Rattle.cps_final.specs.Finals.{finals_of, final_value}

@@ -1,4 +1,4 @@
-use Rattle.std.proofs.Common.{arith, ◌≡◌, ◌+◌, ◌*◌, ◌≤◌, ◌++◌, List, ℕ, length, take, drop, sym, ap, subst, ◌∙◌, refl}
+use Rattle.std.proofs.Common.{arith, ◌≡◌, ◌+◌, ◌≤◌, ◌++◌, List, ℕ, length, take, drop, sym, ap, subst, ◌∙◌, refl}
 use Rattle.std.proofs.lemmas.List.{length-map}
 use Rattle.cps_state.specs.Keys.{first_state}
 use Rattle.cps_state.specs.Work.{counted_on}
@@ -7,14 +7,13 @@ use Rattle.cps_division.specs.Recut.{recut}
 use Rattle.cps_final.specs.Finals.{finals_of}
 use Rattle.cps_final.specs.Outcome.{outcome_of}
 use Rattle.cps_edit.specs.Passes.{traces_of, outcomes_by}
-use Rattle.cps_edit.specs.Splice.{Splice, splice_at, spliced}
+use Rattle.cps_edit.specs.Splice.{splice_at, spliced}
 use Rattle.cps_edit.specs.Disturbed.{finals_in, twos_of}
 use Rattle.cps_edit.specs.Renewed.{mended}
 use Rattle.cps_edit.proofs.SpliceLemmas.{length-traces_from}
 use Rattle.cps_edit.proofs.ReplayLemmas.{on-err, le-same}
 use Rattle.cps_chunks.specs.Chunks.{AreSummed, lengths_of, all_unsummed}
 use Rattle.cps_chunks.specs.Recuts.{Recuts}
-use Rattle.cps_chunks.specs.Touched.{touched_of}
 use Rattle.cps_kept.specs.Kept.{splice_of}
 use Rattle.cps_kept.proofs.LookLemmas.{none-compared}
 use Rattle.cps_kept.proofs.KeptLemmas.{kept-of, kept-still}

@@ -1,4 +1,4 @@
-use Rattle.std.proofs.Common.{arith, ◌≡◌, ◌≤◌, List, ℕ, ◌∷◌, [], ◌++◌, length, sym, ap, subst, ◌∙◌}
+use Rattle.std.proofs.Common.{arith, ◌≡◌, ◌≤◌, List, ℕ, ◌∷◌, [], length, sym, ap, subst}
 use Rattle.std.proofs.lemmas.List.{length-append}
 use Rattle.cps_division.specs.Division.{inserted_at}
 use Rattle.cps_edit.specs.Splice.{insertion}

@@ -1,4 +1,4 @@
-use Rattle.std.proofs.Common.{arith, rules, ◌≡◌, ◌-◌, ◌≤◌, [], length, sym, ap, subst, ◌∙◌, List, ℕ}
+use Rattle.std.proofs.Common.{arith, rules, ◌≡◌, ◌-◌, [], length, sym, ap, subst, ◌∙◌, List, ℕ}
 use Rattle.cps_division.specs.Division.{AreChunks, IsDivision, deleted_at}
 use Rattle.cps_division.specs.Recut.{recut as recut_by}
 use Rattle.cps_edit.specs.Splice.{Splice, splice_at}

@@ -1,9 +1,8 @@
-use Rattle.std.proofs.Common.{◌≤◌, length, sym, ap, subst, ◌∙◌, List, ℕ, arith}
-use Rattle.cps_exchange.specs.Exchange.{IsWithin, exchanged}
+use Rattle.std.proofs.Common.{length, sym, ap, subst, ◌∙◌, arith}
+use Rattle.cps_exchange.specs.Exchange.{IsWithin}
 use Rattle.cps_exchange.proofs.ListLemmas.{exchanged-long}
 use Rattle.cps_edit.specs.Disturbed.{ones_of_exchange, twos_of_exchange}
 use Rattle.cps_kept.specs.Append.{Follows}
-use Rattle.cps_assembly.specs.Limits.{most_lines}
 use Rattle.cps_session.specs.Edits.{Source, HaveStepped, HaveSteppedUpTo, LooksOfExchange}
 use Rattle.cps_session.proofs.SessionLemmas.{kept_still}
 use Rattle.cps_session.proofs.session.Session.exchange.Goals as goal

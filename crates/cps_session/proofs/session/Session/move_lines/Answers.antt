@@ -1,4 +1,4 @@
-use Rattle.std.proofs.Common.{arith, ◌≡◌, ◌*◌, ◌≤◌, ◌-◌, true, false, length, List, ℕ, sym, ap, subst, ◌∙◌}
+use Rattle.std.proofs.Common.{arith, ◌≡◌, ◌*◌, true, false, length, List, ℕ, sym, ap, subst, ◌∙◌}
 use Rattle.std.specs.Prelude.{if◌then◌else◌}
 use Rattle.cps_state.specs.Work.{counted_on}
 use Rattle.cps_exchange.specs.Exchange.{IsWithin, is_idle, move}

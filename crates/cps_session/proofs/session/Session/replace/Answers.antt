@@ -1,4 +1,4 @@
-use Rattle.std.proofs.Common.{rules, arith, ◌≡◌, ◌-◌, ◌+◌, ◌≤◌, length, sym, ap, subst, ◌∙◌, List, ℕ}
+use Rattle.std.proofs.Common.{rules, arith, ◌≡◌, ◌-◌, length, sym, ap, subst, ◌∙◌, List, ℕ}
 use Rattle.std.specs.Prelude.{OnOk}
 use Rattle.cps_division.specs.Division.{AreChunks, IsDivision}
 use Rattle.cps_division.specs.Recut.{recut as recut_by}
