@@ -67,8 +67,8 @@ TEXTS = [
     part("flags", b"         IFEQ    1,2\n", b"end E\n1 flagged lines\n", 1),
 ]
 
-# 42 times 1,000 words, more statements than are kept from one pass for the other, and a label after them on line 85
-LONG = [part("symbols", b"   DUP 1000,1\n   BSS 1\n" * 42 + b"L  BSS 1\n", b"L        00000000000000122020 85\n")]
+# 21 times 20,000 statements, more than are kept from one pass for the other, with 1,000 words, and a label after them on line 442
+LONG = [part("symbols", (b"   DUP 1000,20\n" + b"*\n" * 19 + b"   BSS 1\n") * 21 + b"L  BSS 1\n", b"L        00000000000000051010 442\n")]
 
 # the lines that bytes are: what they stand for is told by the words of their binary text; a lone carriage return is an empty line
 LINES = [
@@ -95,10 +95,10 @@ WRONG_LINES = [
     wrong(b"A\nB\n" + b"X" * 91 + b"\n", b"line 3: line too long\n"),
     wrong(b"A\nB\n\r\r\n", b"line 3: bad character\n"),
     wrong(b"A\nB\n\xff\n", b"line 3: bad character\n"),
-    part("flags", b"\n" * 9998 + b"A", b"9999 O\n1 flagged lines\n", 1),
-    wrong(b"\n" * 9999 + b"A", b"too many lines\n"),
-    wrong(b"\n" * 10000 + b"~", b"too many lines\n"),
-    wrong(b"\n" * 9999 + b"~", b"line 10000: bad character\n"),
+    part("flags", b"\n" * 99_998 + b"A", b"99999 O\n1 flagged lines\n", 1),
+    wrong(b"\n" * 99_999 + b"A", b"too many lines\n"),
+    wrong(b"\n" * 100_000 + b"~", b"too many lines\n"),
+    wrong(b"\n" * 99_999 + b"~", b"line 100000: bad character\n"),
     part("flags", b"*" * 90, FLAGS),
     part("flags", b"*" * 90 + b"\r", FLAGS),
     wrong(b"*" * 91, b"line 1: line too long\n", "--part", "flags"),
@@ -127,12 +127,12 @@ SCRIPTS = [
     session(b"a A\na B\nquit\nd 1\n", b"ok 1 lines\nok 2 lines\n", 1),
 ]
 
-# A source has at most 9,999 lines: the last of them is taken, the next one refused, and a line may still be replaced. A body has at most
+# A source has at most 99,999 lines: the last of them is taken, the next one refused, and a line may still be replaced. A body has at most
 # 500, and a MACRO that isn't kept is none of them.
 LIMITS = [
-    session(b"a\n" * 9999 + b"a\ni 0\nr 9999 A\nflags\nd 9999\na\n",
-            entered(9999) + b"refused 4 too many lines\nrefused 4 too many lines\nok 9999 lines\n9999 O\n1 flagged lines\n"
-            b"ok 9998 lines\nok 9999 lines\n"),
+    session(b"a\n" * 99_999 + b"a\ni 0\nr 99999 A\nflags\nd 99999\nm 99998 99998 0\na\na\n",
+            entered(99_999) + b"refused 4 too many lines\nrefused 4 too many lines\nok 99999 lines\n99999 O\n1 flagged lines\n"
+            b"ok 99998 lines\nok 99998 lines\nok 99999 lines\nrefused 4 too many lines\n"),
     session(b"a M        MACRO\n" + b"a *\n" * 499 + b"a          CON     1\na N        MACRO\na          ENDM\na          M\nflags\nbinary\n",
             entered(504) + b"502 E\n1 flagged lines\nIDENT\n000000 00000000000000000001\n", 1),
     session(b"a M        MACRO\n" + b"a *\n" * 500 + b"a          CON     1\na N        MACRO\na          ENDM\na          M\nflags\nbinary\n",

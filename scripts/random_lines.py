@@ -2,7 +2,7 @@
 
 The model of the edits is a plain list of lines. What the texts of a source are it doesn't know.
 """
-MOST_LINES, MOST_BYTES, MOST_SCRIPT_BYTES = 9_999, 90, 200
+MOST_LINES, MOST_BYTES, MOST_SCRIPT_BYTES = 99_999, 90, 200
 CAUSES = {1: "no such line", 2: "line too long", 3: "bad character", 4: "too many lines", 5: "bad command", 6: "no memory"}
 WRONG = set(range(32)) | set(b"`{|}~") | set(range(127, 256))
 QUERIES = (b"list", b"binary", b"symbols", b"flags")
@@ -307,7 +307,7 @@ class Edits:
     def odd(self, count):
         """A command that may be refused, or is none."""
         chance, good, wrong = self.chance, self.lines.good(), self.lines.wrong()
-        number = chance.choice([0, 1, count, count + 1, count + 2, 9_999, 10_000, 99_999])
+        number = chance.choice([0, 1, count, count + 1, count + 2, 9_999, 10_000, 99_998, 99_999])
         return chance.choice([
             b"a " + wrong, b"i %d %s" % (number, wrong), b"r %d %s" % (number, wrong), b"i %d %s" % (number, good), b"r %d %s" % (number,
             good), b"d %d" % number,

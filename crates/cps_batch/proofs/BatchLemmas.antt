@@ -11,6 +11,7 @@ use Rattle.cps_list.specs.declared.part.Part.{Part}
 use Rattle.cps_batch.specs.declared.fault.BatchFault.{BatchFault}
 use Rattle.cps_batch.specs.declared.fault.BatchFault.TheVariants as faults
 use Rattle.cps_batch.specs.declared.input.Input.{Input}
+use Rattle.cps_assembly.specs.Limits.{most_lines}
 use Rattle.cps_batch.specs.Batch.{IsSource, IsWrong, IsFirstWrong, Refuses, IsReadWhole, Assembles, RunsBatch}
 use Rattle.cps_batch.specs.BegunLine.{IsBegun}
 use Rattle.cps_batch.specs.Input.{IsIntake, HasCome}
@@ -23,7 +24,7 @@ use Rattle.cps_batch.proofs.SplitLemmas.{splits-none, splits-line, splits-piece}
 pub source-none : IsSource []
 source-none = record { each = All-nil IsLine; few = omega arith }
 
-pub source-more : (lines : List (List ℕ)) (line : List ℕ) → IsSource lines → IsLine line → length lines + 1 ≤ 9999 → IsSource (lines ++ line ∷ [])
+pub source-more : (lines : List (List ℕ)) (line : List ℕ) → IsSource lines → IsLine line → length lines + 1 ≤ most_lines → IsSource (lines ++ line ∷ [])
 source-more lines line source is_line few = record {
   each = All-push IsLine lines line source.each is_line;
   few = omega (arith, length-append lines (line ∷ []));
@@ -138,13 +139,13 @@ runs-early remaining contents part fault reader reader' writer taken is consumes
 
 -- ---- how many lines have come
 
-pub kept-few : (kept lines : List (List ℕ)) → (kept ≡ lines) × IsSource lines → length kept ≤ 9999
+pub kept-few : (kept lines : List (List ℕ)) → (kept ≡ lines) × IsSource lines → length kept ≤ most_lines
 kept-few kept lines come =
     let same = ap length come.0 in
     let few = come.1.few in
     omega arith
 
-pub refused-few : (count : ℕ) (lines : List (List ℕ)) → (count ≡ length lines) × IsSource lines → count ≤ 9999
+pub refused-few : (count : ℕ) (lines : List (List ℕ)) → (count ≡ length lines) × IsSource lines → count ≤ most_lines
 refused-few count lines come =
     let same = come.0 in
     let few = come.1.few in

@@ -14,7 +14,7 @@ pub enum BatchFault {
     /// That line has a byte that no line may have.
     #[error("line {0}: bad character")]
     BadCharacter(u32),
-    /// There is a 10,000th line.
+    /// There is a 100,000th line.
     #[error("too many lines")]
     TooManyLines,
     /// Nothing is wrong with the source, and there was no memory.

@@ -21,7 +21,7 @@ use std::marker::Model;
 use std::mem::replace;
 
 /// Statements and their contents are kept for pass two up to so many. Where the lines make more, each line is gone through again.
-const MOST_KEPT: usize = 40_000;
+const MOST_KEPT: usize = 400_000;
 
 /// A text of a source, and the number of flagged lines.
 pub fn make_part(

@@ -12,7 +12,7 @@ pub fn items_are_the_list()
     ensures { ItemsAreTheList }
 {}
 
-/// A line has at most its own item and 2,000 others, none deeper than 10.
+/// A line has at most its own item and 20,000 others, none deeper than 10.
 pub fn items_are_few()
     ensures { ItemsAreFew }
 {}

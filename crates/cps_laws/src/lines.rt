@@ -11,7 +11,7 @@ pub fn items_of_a_line_are_its_list()
     ensures { LineItemsAreTheList }
 {}
 
-/// A source line has at most its own item and 2,000 others, none deeper than 10.
+/// A source line has at most its own item and 20,000 others, none deeper than 10.
 pub fn items_of_a_line_are_few()
     ensures { LineItemsAreFew }
 {}

@@ -12,7 +12,7 @@ use cps_state::{Lookup, Sheet, Tally, Trace, Work};
 use cps_text::Line;
 use std::alloc::{AllocError, Global};
 
-/// What a line asks, puts and makes in a state, with the statements that it opens. A line that opens more than 2,000 statements, or one at a depth
+/// What a line asks, puts and makes in a state, with the statements that it opens. A line that opens more than 20,000 statements, or one at a depth
 /// above 10, is dropped: it has E, and puts the control alone. It is one step of pass one, also where memory is refused.
 pub fn step_one<L: Lookup>(
     alloc: Global,
@@ -23,7 +23,7 @@ pub fn step_one<L: Lookup>(
     ensures trace { IfOk result (λ trace. trace ≡ expansion.trace_of line.now (L.answer state.now)) }
     // The line does the same in each state that agrees on what it asked.
     ensures asks_alone { IfOk result (λ trace. (other : keys.State) → Holds trace.asks other → trace ≡ expansion.trace_of line.now other) }
-    // It has at most 2,000 statements besides the line's own, and none deeper than 10.
+    // It has at most 20,000 statements besides the line's own, and none deeper than 10.
     ensures few { IfOk result (λ trace. AreFew trace.items) }
     // It asks each key once.
     ensures once { IfOk result (λ trace. EachOnce trace.asks) }

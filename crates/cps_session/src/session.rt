@@ -33,7 +33,7 @@ pub enum EditFault {
     /// The source has no line of that number.
     #[error("no such line")]
     NoSuchLine,
-    /// The source has 9,999 lines already.
+    /// The source has 99,999 lines already.
     #[error("too many lines")]
     TooManyLines,
     /// Nothing else is wrong, and there was no memory.
@@ -41,7 +41,7 @@ pub enum EditFault {
     Memory,
 }
 
-/// A source that is edited line by line. It has at most 9,999 lines.
+/// A source that is edited line by line. It has at most 99,999 lines.
 ///
 /// What its lines do in pass one and what pass two makes of them is kept. An edit makes anew what it disturbs, beside what is
 /// kept, and counts these steps in the caller's work; where it is refused, nothing changes.

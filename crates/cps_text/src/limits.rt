@@ -1,13 +1,13 @@
 //! The limits of a source and of an assembly, each once. All but those of words are this assembler's own.
 
 /// The most lines of a source.
-pub const MOST_LINES: usize = 9_999;
+pub const MOST_LINES: usize = 99_999;
 
 /// The most characters of a line, and of a statement of an expansion.
 pub const MOST_CHARACTERS: usize = 90;
 
 /// The most statements that a source line opens, at all depths.
-pub const MOST_STATEMENTS: usize = 2_000;
+pub const MOST_STATEMENTS: usize = 20_000;
 
 /// The greatest depth of a statement of an expansion; a source line stands at 0.
 pub const DEEPEST: u8 = 10;

@@ -9,7 +9,7 @@ pub enum Refusal {
     LineTooLong,
     /// The text has a byte that no line may have.
     BadCharacter,
-    /// The source has 9,999 lines already.
+    /// The source has 99,999 lines already.
     TooManyLines,
     /// The line is no command.
     BadCommand,
