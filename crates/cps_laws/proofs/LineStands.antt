@@ -60,9 +60,9 @@ use Rattle.cps_state.specs.declared.key.Phase.{Phase}
 use Rattle.cps_state.specs.declared.key.Range.TheVariants.{BeforeElse, BehindElse}
 use Rattle.cps_state.specs.declared.key.Range.{Range}
 use Rattle.cps_text.specs.Card.{CommentLine, ContinuedLine, LineFields, StatementLine}
-use Rattle.cps_text.specs.Insertion.{Pairs, inserted}
+use Rattle.cps_text.specs.Insertion.{Pairs}
 use Rattle.cps_text.specs.declared.name.Name.{Name}
-use Rattle.std.proofs.Common.{◌∙◌, Bool, List, None, Option, Some, [], false, length, map, refl, suc, take, true, zero, ℕ, ◌++◌, ◌+◌, ◌∷◌}
+use Rattle.std.proofs.Common.{◌∙◌, Bool, List, None, Option, Some, [], false, length, refl, suc, take, true, zero, ℕ, ◌++◌, ◌+◌, ◌∷◌}
 use Rattle.std.specs.Prelude.{nat_eq, nat_le}
 
 -- ---- where a statement stands

@@ -1,5 +1,5 @@
 -- The LOCAL lines of a call stand nowhere.
-use Rattle.std.proofs.Common.{◌≡◌, refl, ap, ◌∙◌, ℕ, zero, ◌+◌, Bool, true, false, List, [], ◌∷◌, ◌++◌, Option, Some, None, length}
+use Rattle.std.proofs.Common.{◌≡◌, refl, ap, ◌∙◌, ℕ, ◌+◌, Bool, true, false, List, Option, Some, None, length}
 use Rattle.std.specs.Prelude.{if◌then◌else◌, nat_lt}
 use Rattle.std.specs.List.{list_any}
 use Rattle.cps_text.specs.declared.limits.TheConstants.{MOST_GENERATED}
@@ -17,7 +17,7 @@ use Rattle.cps_reading.specs.declared.reading.Location.{Location}
 use Rattle.cps_reading.specs.Reading.{location_in}
 use Rattle.cps_site.specs.Located.{present_flags}
 use Rattle.cps_effect.specs.Making.{flagged}
-use Rattle.cps_local.specs.Locals.{giving_up, generating, naming_by, names_new}
+use Rattle.cps_local.specs.Locals.{giving_up, naming_by, names_new}
 use Rattle.cps_laws.proofs.StandLemmas.{Fits, ask-fits, fresh, if-fits, stands, stop-fits}
 use Rattle.cps_laws.specs.Standing.{asked_by, local_alone, LocalLinesStandNowhere}
 

@@ -1,32 +1,50 @@
 -- Which lines an edit disturbs, told of each line by itself: by the state in front of it, what the same line did in the old source, and the final values
--- of both sources. Our own.
-use Rattle.std.specs.Prelude.{◌≡◌, ℕ, zero, suc, ◌+◌, Bool, List, [], length, get_or, take, Option, if◌then◌else◌}
+-- of both sources. The lines may be those of a splice or of a move. Our own.
+use Rattle.std.specs.Prelude.{◌≡◌, ℕ, zero, suc, ◌+◌, Bool, List, [], length, get_or, take, map, Option, if◌then◌else◌}
 use Rattle.cps_state.specs.Course.{Trace}
 use Rattle.cps_state.specs.Keys.{State, first_state}
+use Rattle.cps_final.specs.Outcome.{Resolved}
+use Rattle.cps_exchange.specs.declared.exchange.Exchange.{Exchange}
+use Rattle.cps_exchange.specs.Exchange.{exchanged}
 use Rattle.cps_edit.specs.Passes.{state_after}
 use Rattle.cps_edit.specs.Splice.{Splice, spliced}
-use Rattle.cps_edit.specs.Disturbed.{fresh, placed, is_disturbed, is_redone_at, finals_in, ones_of, twos_of}
+use Rattle.cps_edit.specs.Disturbed.{Placed, fresh, all_kept, placed, is_disturbed, disturbed_from, is_redone_at, redone_places}
 
 -- how many of the numbers from 0 below a bound pass
 abbrev pub count_below : (ℕ → Bool) → ℕ → ℕ
 count_below passes zero = 0
 count_below passes (suc n) = count_below passes n + (if passes n then 1 else 0)
 
--- the state in front of the line that n others stand before in the new source
-abbrev pub state_before : List (List ℕ) → Splice → ℕ → State
-state_before lines splice n = state_after first_state (take n (spliced lines splice))
+-- ---- the lines of the new source
+
+abbrev pub line_of : Placed → List ℕ
+line_of place = place.line
+
+abbrev pub lines_of : List Placed → List (List ℕ)
+lines_of places = map line_of places
+
+-- they are the lines that the edit leaves, be it a splice or a move
+abbrev pub PlacesAreTheSource : Type 0
+PlacesAreTheSource = (lines : List (List ℕ))
+    → ((splice : Splice) → lines_of (placed lines splice) ≡ spliced lines splice)
+    × ((e : Exchange) → lines_of (exchanged e (all_kept lines)) ≡ exchanged e lines)
+
+-- ---- how many are disturbed
+
+-- the state in front of the line that n others stand before
+abbrev pub state_before : List Placed → ℕ → State
+state_before places n = state_after first_state (take n (lines_of places))
 
 -- what that line did in the old source; None: it is new
-abbrev pub did_before : List (List ℕ) → Splice → ℕ → Option Trace
-did_before lines splice n = (get_or (placed lines splice) n (fresh [])).old
+abbrev pub did_before : List Placed → ℕ → Option Trace
+did_before places n = (get_or places n (fresh [])).old
 
 -- pass one: the lines that are disturbed, each in the state in front of it
 abbrev pub OnesAreCounted : Type 0
-OnesAreCounted = (lines : List (List ℕ)) (splice : Splice)
-    → ones_of lines splice ≡ count_below (λ n. is_disturbed (did_before lines splice n) (state_before lines splice n)) (length (spliced lines splice))
+OnesAreCounted = (places : List Placed)
+    → disturbed_from first_state places ≡ count_below (λ n. is_disturbed (did_before places n) (state_before places n)) (length places)
 
 -- pass two: those, and the lines that name something with another final value
 abbrev pub TwosAreCounted : Type 0
-TwosAreCounted = (lines : List (List ℕ)) (splice : Splice)
-    → twos_of lines splice
-    ≡ count_below (λ n. is_redone_at (finals_in lines) (finals_in (spliced lines splice)) (did_before lines splice n) (state_before lines splice n)) (length (spliced lines splice))
+TwosAreCounted = (was now : Resolved) (places : List Placed)
+    → redone_places was now first_state places ≡ count_below (λ n. is_redone_at was now (did_before places n) (state_before places n)) (length places)

@@ -1,5 +1,10 @@
 //! What the counts of the lines that an edit disturbs say of each line.
-ghost use Rattle.cps_laws.specs.EditLaws.{OnesAreCounted, TwosAreCounted};
+ghost use Rattle.cps_laws.specs.EditLaws.{PlacesAreTheSource, OnesAreCounted, TwosAreCounted};
+
+/// The lines that are counted are those that the edit leaves.
+pub fn counted_lines_are_the_source()
+    ensures { PlacesAreTheSource }
+{}
 
 /// How many lines an edit disturbs in pass one is how many are disturbed, each told by the state in front of it.
 pub fn disturbed_lines_are_counted()
