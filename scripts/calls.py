@@ -1,5 +1,8 @@
 """Calls of the program, for `run-examples`: the words behind its name, what stands on standard input, the status, what is written and
 what is told on standard error."""
+import os
+
+EXAMPLES = os.path.normpath(os.path.join(os.path.dirname(os.path.abspath(__file__)), "../examples"))
 
 PARTS = b"listing, binary, symbols, flags, all"
 HELP = b"\n\nFor more information, try '--help'.\n"
@@ -145,22 +148,51 @@ LIMITS = [
             entered(501) + FLAGS + b"IDENT\n000000 00000000000000000001\n000001 00000000000000000001\n"),
 ]
 
+# a source in a file, and files that can't be opened
+DECK = os.path.join(EXAMPLES, "first.cps")
+
+
+def unopened(name, told):
+    """Batch assembly of a file that can't be read: standard input is not read in its place."""
+    return ["batch", name], b"A\n", 2, b"", b"cannot read " + told
+
+
+with open(os.path.join(EXAMPLES, "first.texts"), "rb") as it:
+    DECK_TEXTS = it.read()
+FILES = [
+    (["batch", DECK], b"A\n", 0, DECK_TEXTS, b""),
+    (["batch", "--part", "flags", DECK], b"A\n", 0, FLAGS, b""),
+    (["batch", DECK, "--part=flags"], b"A\n", 0, FLAGS, b""),
+    (["batch", "-", "--part", "binary"], PROGRAM, 0, BINARY, b""),
+    (["batch", "--part", "binary", "--", "-"], PROGRAM, 0, BINARY, b""),
+    unopened(os.path.join(EXAMPLES, "none.cps"), os.path.join(EXAMPLES, "none.cps").encode() + b": No such file or directory\n"),
+    unopened("none\x1b[31m\n.cps", b"none?[31m\n.cps: No such file or directory\n"),
+    unopened(os.path.join(DECK, "more"), os.path.join(DECK, "more").encode() + b": Not a directory\n"),
+    unopened("", b": No such file or directory\n"),
+    unopened(EXAMPLES, EXAMPLES.encode() + b": is a directory\n"),
+]
+
 # words that ask nothing
 WORDS = [
     refused([], b"'compass' requires a subcommand but one was not provided\n  [subcommands: batch, session]\n\nUsage: compass <COMMAND>"),
     refused(["other"], b"unrecognized subcommand 'other'\n\nUsage: compass <COMMAND>"),
+    refused(["oth\x1b\x9ber"], b"unrecognized subcommand 'oth??er'\n\nUsage: compass <COMMAND>"),
     refused(["batch", "--part", "other"], b"invalid value 'other' for '--part <PART>'\n  [possible values: " + PARTS + b"]"),
+    refused(["batch", "--part", "list"], b"invalid value 'list' for '--part <PART>'\n  [possible values: " + PARTS + b"]\n\n  tip: a similar value exists: 'listing'"),
+    refused(["batch", "--part", "flagsx", DECK], b"invalid value 'flagsx' for '--part <PART>'\n  [possible values: " + PARTS + b"]\n\n  tip: a similar value exists: 'flags'"),
+    refused(["batch", "--part", ""], b"invalid value '' for '--part <PART>'\n  [possible values: " + PARTS + b"]"),
     refused(["batch", "--part"], b"a value is required for '--part <PART>' but none was supplied"),
-    refused(["batch", "--wide"], b"unexpected argument '--wide' found\n\nUsage: compass batch [OPTIONS]"),
+    refused(["batch", "--wide"], b"unexpected argument '--wide' found\n\n  tip: to pass '--wide' as a value, use '-- --wide'\n\nUsage: compass batch [OPTIONS] [FILE]"),
+    refused(["batch", DECK, "more"], b"unexpected argument 'more' found\n\nUsage: compass batch [OPTIONS] [FILE]"),
     refused(["session", "name"], b"unexpected argument 'name' found\n\nUsage: compass session"),
 ]
 
-CALLS = TEXTS + LONG + LINES + WRONG_LINES + SCRIPTS + LIMITS + WORDS
+CALLS = TEXTS + LONG + LINES + WRONG_LINES + SCRIPTS + LIMITS + FILES + WORDS
 
 # words that ask for help or the version, and what is written among other lines, none of which has more than 80 columns
 HELPS = [
     (["--help"], b"Usage: compass <COMMAND>"),
-    (["batch", "--help"], b"Usage: compass batch [OPTIONS]"),
+    (["batch", "--help"], b"Usage: compass batch [OPTIONS] [FILE]"),
     (["session", "-h"], b"Usage: compass session"),
     (["--version"], b"compass "),
 ]

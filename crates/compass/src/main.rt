@@ -1,6 +1,6 @@
 //! A cross-assembler for COMPASS Version 3.
 //!
-//! `compass batch [--part PART]` assembles the source on standard input and writes its texts to standard output.
+//! `compass batch [--part PART] [FILE]` assembles a source, of standard input where no file is named, and writes its texts to standard output.
 //! `compass session` runs a script of edits and queries on a source, and writes the replies.
 //! The status is 0, or 1 where at the end a line of the source is flagged, or 2 after a fault, which is told to standard
 //! error.
@@ -16,6 +16,7 @@ mod call_rows;
 mod chunk_rows;
 #[cfg(test)]
 mod devices;
+mod disk;
 #[cfg(test)]
 mod edit_rows;
 #[cfg(test)]
@@ -30,7 +31,8 @@ mod run_rows;
 mod running;
 
 use cps_text::Counted;
-use cps_tool::{Hashing, run_words};
+use cps_tool::{Hashing, Host, run_call};
+use disk::Disk;
 use std::io::ErrorKind;
 use std::process::ExitCode;
 use std::random::RandomSource;
@@ -62,18 +64,15 @@ fn call(rt: &HostRuntime) -> Result<u8, &'static str> {
     else {
         return Err(NO_MEMORY);
     };
-    let hashing = draw_hashing(rt)?;
+    let host = Host {
+        alloc: rt.alloc(),
+        hashing: draw_hashing(rt)?,
+        sources: Disk { rt },
+    };
     let mut reader = Counted::new(rt.reader());
     let mut writer = Counted::new(io::writer(rt));
     let mut errors = Counted::new(rt.stderr());
-    Ok(run_words(
-        rt.alloc(),
-        hashing,
-        &words,
-        &mut reader,
-        &mut writer,
-        &mut errors,
-    ))
+    Ok(run_call(&host, &words, &mut reader, &mut writer, &mut errors))
 }
 
 /// The words of the call.

@@ -7,4 +7,5 @@ pub mod RangeLemmas
 pub mod MetLemmas
 pub mod AlikeLemmas
 pub mod RequestLemmas
+pub mod ServingLemmas
 pub mod RequestRows

@@ -12,9 +12,9 @@ use Rattle.clap.specs.declared.error.kind.ErrorKind.TheVariants.{DisplayHelp, Di
 use Rattle.clap.specs.declared.parser.matches.ArgMatches.{ArgMatches}
 use Rattle.clap.specs.declared.parser.matches.ArgMatches.TheViews.{out-ArgMatches, out-SubCommand}
 use Rattle.clap.specs.declared.parser.matches.SubCommand.{SubCommand}
-use Rattle.cps_tool.specs.Request.{IsAnswer, IsMet, IsUntold, Says, answer_at, answer_from, answer_of, answer_unless, compass, part_named, part_word, refuses, request_from, request_in, request_named, request_of, tells}
-use Rattle.cps_tool.specs.declared.request.Request.{Request}
-use Rattle.cps_tool.specs.declared.request.Request.TheVariants.{Batch, Session}
+use Rattle.cps_tool.specs.Request.{Answer, IsAnswer, IsMet, IsUntold, Says, answer_at, answer_from, answer_named, answer_of, answer_of_part, answer_unless, asks, compass, file_in, file_named, part_named, part_word, refuses, request_in, request_of, tells}
+use Rattle.cps_tool.specs.declared.request.Call.{Call}
+use Rattle.cps_tool.specs.declared.request.Request.TheVariants.{Session}
 use Rattle.cps_tool.specs.declared.request.Unread.{Unread}
 use Rattle.cps_tool.specs.declared.request.Unread.TheVariants.{Told, Wrong, Memory}
 use Rattle.cps_tool.proofs.AlikeLemmas.{alike_faults, first_answer}
@@ -26,45 +26,42 @@ some_same x y e = ap (λ o. unwrap_or o x) e
 
 module _ {Z : Type 0} where
   batch_in : (o : Option (Box SubCommand Z)) (rows : List Row) → option_map (λ b. (out-SubCommand (box_value b)).name.now) o ≡ Some (codes "batch")
-      → option_map (λ p. p.1) (subcommand_rows o) ≡ Some rows → request_from (subcommand_rows o) ≡ option_map Batch (part_named (part_word rows))
+      → option_map (λ p. p.1) (subcommand_rows o) ≡ Some rows → answer_from (subcommand_rows o) ≡ answer_of_part (part_named (part_word rows)) (file_in rows)
   batch_in None rows name same = cc
-  batch_in (Some b) rows name same = ap₂ request_named (some_same _ _ name) (some_same _ _ same)
+  batch_in (Some b) rows name same = ap₂ answer_named (some_same _ _ name) (some_same _ _ same)
 
   session_in : (o : Option (Box SubCommand Z)) → (option_map (λ b. (out-SubCommand (box_value b)).name.now) o ≡ Some (codes "batch") → ⊥)
-      → IsMet (subcommand_rows o) → request_from (subcommand_rows o) ≡ Some Session
+      → IsMet (subcommand_rows o) → answer_from (subcommand_rows o) ≡ asks Session None
   session_in None other met = absurd met
   session_in (Some b) other (inl e) = absurd (other (ap Some e))
-  session_in (Some b) other (inr e) = ap (λ name. request_named name (rows_of (found_of (out-SubCommand (box_value b)).matches))) e
+  session_in (Some b) other (inr e) = ap (λ name. answer_named name (rows_of (found_of (out-SubCommand (box_value b)).matches))) e
 
 -- at the command `batch` a part is asked for
 pub batch_asked : (m : ArgMatches) (rows : List Row) → subcommand_name_of m ≡ Some (codes "batch")
     → option_map (λ p. p.1) (subcommand_rows (out-ArgMatches m).subcommand) ≡ Some rows
-    → request_from (subcommand_rows_of m) ≡ option_map Batch (part_named (part_word rows))
+    → answer_from (subcommand_rows_of m) ≡ answer_of_part (part_named (part_word rows)) (file_in rows)
 batch_asked m rows name same = batch_in (out-ArgMatches m).subcommand rows name same
 
 -- at the other command a session is
 pub session_asked : (m : ArgMatches) → (subcommand_name_of m ≡ Some (codes "batch") → ⊥) → IsMet (subcommand_rows_of m)
-    → request_from (subcommand_rows_of m) ≡ Some Session
+    → answer_from (subcommand_rows_of m) ≡ asks Session None
 session_asked m other met = session_in (out-ArgMatches m).subcommand other met
 
 -- ---- words without a fault are answered by the command that was met
 
 module _ (words : List Text) (met : Option (Text × List Row)) (none : fault_of compass words ≡ []) (same : met ≡ subcommand_of compass words) where
-  answer_is : (o : Option Request) → request_from met ≡ o → answer_of words ≡ answer_from o
-  answer_is o e = ap (λ faults. answer_unless faults (subcommand_of compass words)) none ∙ ap answer_from (ap request_from (sym same) ∙ e)
+  pub answered_by : (answer : Answer) → answer_from met ≡ answer → answer_of words ≡ answer
+  answered_by answer e = ap (λ faults. answer_unless faults (subcommand_of compass words)) none ∙ ap answer_from (sym same) ∙ e
 
-  pub asked_by : (request : Request) → request_from met ≡ Some request → request_of words ≡ Some request
-  asked_by request e = ap request_in (answer_is (Some request) e)
-
-  pub refused_by : (unread : Unread) → IsUntold unread → (unread ≡ Memory) ⊎ (request_from met ≡ None) → IsAnswer words unread
+  pub refused_by : (unread : Unread) → IsUntold unread → (unread ≡ Memory) ⊎ (answer_from met ≡ refuses) → IsAnswer words unread
   refused_by (Told text) untold why = absurd untold
   refused_by (Wrong text) untold (inl e) = cc
-  refused_by (Wrong text) untold (inr e) = answer_is None e
+  refused_by (Wrong text) untold (inr e) = answered_by refuses e
   refused_by Memory untold why = tt
 
-  pub refused_with : (r : Result Request Unread) → IfErr r (λ unread. (unread ≡ Memory) ⊎ (request_from met ≡ None)) → IfErr r IsUntold
+  pub refused_with : (r : Result Call Unread) → IfErr r (λ unread. (unread ≡ Memory) ⊎ (answer_from met ≡ refuses)) → IfErr r IsUntold
       → IfErr r (IsAnswer words)
-  refused_with (Ok request) why untold = tt
+  refused_with (Ok call) why untold = tt
   refused_with (Err unread) why untold = refused_by unread untold why
 
 -- ---- words with a fault are answered by it
@@ -106,3 +103,8 @@ word_read found text none word empty is value =
     now_of : (o : Option (Bor Text)) → (unwrap_or o none).now ≡ unwrap_or (option_map (λ (s : Bor Text). s.now) o) []
     now_of None = empty
     now_of (Some s) = refl
+
+-- the file, as it is read
+pub file_read : (found : Found) (text name : Option (Bor Text)) → option_map (λ (s : Bor Text). s.now) name ≡ file_named (option_map (λ (s : Bor Text). s.now) text)
+    → option_map (λ (s : Bor Text). s.now) text ≡ first_value found (codes "file") → option_map (λ (s : Bor Text). s.now) name ≡ file_in (rows_of found)
+file_read found text name is value = is ∙ ap file_named (value ∙ first_value-rows found (codes "file"))

@@ -3,7 +3,7 @@ use Rattle.std.proofs.Common.{◌≡◌, List, [], ◌∷◌, Some, None, refl, 
 use Rattle.clap.specs.Words.{Text}
 use Rattle.clap.proofs.OnLiterals.{clap_on_literals}
 use Rattle.cps_list.specs.declared.part.Part.TheVariants.{Listing, Binary, Symbols, Flags, All}
-use Rattle.cps_tool.specs.Request.{answer_of, refuses, request_of, tells}
+use Rattle.cps_tool.specs.Request.{answer_of, asks, refuses, request_of, tells}
 use Rattle.cps_tool.specs.declared.request.Request.TheVariants.{Batch, Session}
 
 -- a call's words, after the program's name
@@ -54,9 +54,29 @@ missing_part : request_of (call (codes "batch" ∷ codes "--part" ∷ [])) ≡ N
 unfolding clap_on_literals
 missing_part = refl
 
-extra_word : request_of (call (codes "batch" ∷ codes "extra" ∷ [])) ≡ None
+file_row : answer_of (call (codes "batch" ∷ codes "deck.cps" ∷ [])) ≡ asks (Batch All) (Some (codes "deck.cps"))
+unfolding clap_on_literals
+file_row = refl
+
+part_of_file : answer_of (call (codes "batch" ∷ codes "deck.cps" ∷ codes "--part" ∷ codes "flags" ∷ [])) ≡ asks (Batch Flags) (Some (codes "deck.cps"))
+unfolding clap_on_literals
+part_of_file = refl
+
+standard_input : answer_of (call (codes "batch" ∷ codes "-" ∷ [])) ≡ asks (Batch All) None
+unfolding clap_on_literals
+standard_input = refl
+
+no_file : answer_of (call (codes "batch" ∷ [])) ≡ asks (Batch All) None
+unfolding clap_on_literals
+no_file = refl
+
+extra_word : answer_of (call (codes "batch" ∷ codes "deck.cps" ∷ codes "extra" ∷ [])) ≡ refuses
 unfolding clap_on_literals
 extra_word = refl
+
+file_of_a_session : answer_of (call (codes "session" ∷ codes "deck.cps" ∷ [])) ≡ refuses
+unfolding clap_on_literals
+file_of_a_session = refl
 
 asks_help : answer_of (call (codes "--help" ∷ [])) ≡ tells
 unfolding clap_on_literals

@@ -1,12 +1,14 @@
 -- What a call of the program does, and the status that it ends with. Our own.
-use Rattle.std.specs.Prelude.{◌≡◌, ℕ, ◌⊎◌, List, [], Option, Result, Ok, Err, if◌then◌else◌, ◌==◌}
+use Rattle.std.specs.Prelude.{◌≡◌, ℕ, ◌⊎◌, List, [], Option, Some, None, Result, Ok, Err, if◌then◌else◌, ◌==◌}
 use Rattle.cps_text.specs.declared.counted.Counted.{Counted}
-use Rattle.cps_text.specs.Counted.{failures_of, FailsOnce}
+use Rattle.cps_text.specs.Counted.{inner_of, calls_of, failures_of, moved_of, idle_of, FailsOnce}
 use Rattle.cps_batch.specs.declared.fault.BatchFault.{BatchFault}
 use Rattle.cps_batch.specs.Batch.{RunsBatch}
 use Rattle.cps_tool.specs.declared.request.Request.{Request}
 use Rattle.cps_tool.specs.declared.request.Request.TheVariants.{Batch, Session}
 use Rattle.cps_tool.specs.declared.writing.RunFault.{RunFault}
+use Rattle.cps_tool.specs.declared.request.Unread.{Unread}
+use Rattle.cps_tool.specs.declared.request.Unread.TheVariants.{Told, Wrong, Memory}
 use Rattle.cps_tool.specs.Request.{Answer, asks, tells, refuses}
 use Rattle.cps_tool.specs.Script.{RunsScript}
 use Rattle.cps_tool.specs.Written.{IsWritten, IsFrontWritten}
@@ -38,14 +40,43 @@ Tells contents status writer writer' = (text : List ℕ) × (
     ⊎ ((status ≡ 2) × IsFrontWritten contents writer writer' text × FailsOnce writer writer')
     )
 
--- What a call does, by what its words are answered: what they ask is done; or the help or the version is told; or they are refused. Nothing is
--- read where they ask nothing. Memory may be refused at any words.
+-- the help or the version is told, or nothing is written
+abbrev pub TellsUnread : {W : Type 0} → (W → Option (List ℕ)) → Unread → ℕ → Counted W → Counted W → Type 0
+TellsUnread contents (Told text) status writer writer' = Tells contents status writer writer'
+TellsUnread contents (Wrong text) status writer writer' = (status ≡ 2) × (writer' ≡ writer)
+TellsUnread contents Memory status writer writer' = (status ≡ 2) × (writer' ≡ writer)
+
+-- What a call does that has no files, by what its words are answered: what they ask is done; or the help or the version is told; or they are
+-- refused, and so is each file. Nothing is read where they ask nothing. Memory may be refused at any words.
 abbrev pub Serves : {R W : Type 0} → (R → Option (List ℕ)) → (W → Option (List ℕ)) → Answer → ℕ → Counted R → Counted R → Counted W → Counted W → Type 0
-Serves remaining contents (asks request) status reader reader' writer writer' =
+Serves remaining contents (asks request None) status reader reader' writer writer' =
     IsUndone status reader reader' writer writer' ⊎ Calls remaining contents request status reader reader' writer writer'
+Serves remaining contents (asks request (Some name)) status reader reader' writer writer' = IsUndone status reader reader' writer writer'
 Serves remaining contents tells status reader reader' writer writer' =
     IsUndone status reader reader' writer writer' ⊎ ((reader' ≡ reader) × Tells contents status writer writer')
 Serves remaining contents refuses status reader reader' writer writer' = IsUndone status reader reader' writer writer'
+
+-- a reader that was not read yet
+pub record IsUnread {F : Type 0} (file : Counted F) : Type 0 where
+  pub calls : calls_of file ≡ 0
+  pub failures : failures_of file ≡ 0
+  pub moved : moved_of file ≡ 0
+  pub idle : idle_of file ≡ 0
+
+-- what is asked is done with a file that holds these bytes, which is read in the place of standard input
+pub record CallsOnFile {F W : Type 0} (holds : Option (List ℕ)) (remaining : F → Option (List ℕ)) (contents : W → Option (List ℕ)) (request : Request) (status : ℕ) (writer writer' : Counted W) : Type 0 where
+  pub file : Counted F
+  pub file' : Counted F
+  pub unread : IsUnread file
+  pub bytes : remaining (inner_of file) ≡ holds
+  pub calls : Calls remaining contents request status file file' writer writer'
+
+-- What a call does that has files: so it is where none is named. A named file can't be opened, and then nothing is done, or what is asked is done
+-- with it; standard input isn't read.
+abbrev pub ServesWith : {F R W : Type 0} → (List ℕ → Option (List ℕ)) → (F → Option (List ℕ)) → (R → Option (List ℕ)) → (W → Option (List ℕ)) → Answer → ℕ → Counted R → Counted R → Counted W → Counted W → Type 0
+ServesWith holds opened remaining contents (asks request (Some name)) status reader reader' writer writer' =
+    IsUndone status reader reader' writer writer' ⊎ ((reader' ≡ reader) × CallsOnFile (holds name) opened contents request status writer writer')
+ServesWith holds opened remaining contents answer status reader reader' writer writer' = Serves remaining contents answer status reader reader' writer writer'
 
 -- nothing is said of a call that ends with another status than 2
 abbrev pub IsQuiet : {E : Type 0} → ℕ → Counted E → Counted E → Type 0

@@ -1,11 +1,13 @@
 -- What the words of a call ask of the program. Our own; what words mean to a command line is `clap`'s.
-use Rattle.std.specs.Prelude.{◌≡◌, ◌⊎◌, true, false, List, [], ◌∷◌, Option, Some, None, if◌then◌else◌, codes, bytes_eq, option_map, option_and_then, unwrap_or, ⊤}
+use Rattle.std.specs.Prelude.{◌≡◌, ◌⊎◌, true, false, List, [], ◌∷◌, Option, Some, None, if◌then◌else◌, codes, bytes_eq, option_map, unwrap_or, ⊤}
+use Rattle.std.specs.Borrow.{Bor}
 use Rattle.clap.specs.Words.{App, Kinds, Row, Rule, Shape, Text, fault_of, first_of, new_rule, subcommand_of}
 use Rattle.clap.specs.Simple.{new_shape}
 use Rattle.clap.specs.declared.error.kind.ErrorKind.{ErrorKind}
 use Rattle.clap.specs.declared.error.kind.ErrorKind.TheVariants.{DisplayHelp, DisplayVersion, OutOfMemory}
 use Rattle.cps_list.specs.declared.part.Part.{Part}
 use Rattle.cps_list.specs.declared.part.Part.TheVariants.{Listing, Binary, Symbols, Flags, All}
+use Rattle.cps_tool.specs.declared.request.Call.{Call}
 use Rattle.cps_tool.specs.declared.request.Request.{Request}
 use Rattle.cps_tool.specs.declared.request.Request.TheVariants.{Batch, Session}
 use Rattle.cps_tool.specs.declared.request.Unread.{Unread}
@@ -21,9 +23,13 @@ part_rule = record (new_rule (codes "part")) {
   defaults = codes "all" ∷ [];
 }
 
--- `batch [--part PART]`
+-- FILE, which may be left out
+abbrev pub file_rule : Rule
+file_rule = record (new_rule (codes "file")) { value_names = 1 }
+
+-- `batch [--part PART] [FILE]`
 abbrev pub batch_shape : Shape
-batch_shape = record (new_shape (codes "batch")) { rules = part_rule ∷ [] }
+batch_shape = record (new_shape (codes "batch")) { rules = part_rule ∷ file_rule ∷ [] }
 
 -- `session`
 abbrev pub session_shape : Shape
@@ -56,25 +62,35 @@ part_named word = if bytes_eq word (codes "listing") then Some Listing
 abbrev pub part_word : List Row → Text
 part_word rows = unwrap_or (first_of (codes "part") rows) []
 
--- what a command of that name asks, with the values of its options
-abbrev pub request_named : Text → List Row → Option Request
-request_named name rows = if bytes_eq name (codes "batch") then option_map Batch (part_named (part_word rows))
-    else if bytes_eq name (codes "session") then Some Session
-    else None
+-- the file that a word names: standard input, where it is `-`
+abbrev pub file_named : Option Text → Option Text
+file_named None = None
+file_named (Some word) = if bytes_eq word (codes "-") then None else Some word
 
-abbrev pub request_from : Option (Text × List Row) → Option Request
-request_from = option_and_then (λ met. request_named met.0 met.1)
+-- the file that is named, None where standard input is
+abbrev pub file_in : List Row → Option Text
+file_in rows = file_named (first_of (codes "file") rows)
 
 -- ---- what is answered to them
 
--- what the words ask, or that the help or the version is told, or that the words are wrong
+-- what the words ask, of a file or of standard input, which is None; or that the help or the version is told; or that the words are wrong
 pub data Answer : Type 0 where
-  asks : Request → Answer
+  asks : Request → Option Text → Answer
   tells : Answer
   refuses : Answer
 
-abbrev pub answer_from : Option Request → Answer
-answer_from (Some request) = asks request
+abbrev pub answer_of_part : Option Part → Option Text → Answer
+answer_of_part (Some part) file = asks (Batch part) file
+answer_of_part None file = refuses
+
+-- what is answered where a command of that name was met, with the values of its options
+abbrev pub answer_named : Text → List Row → Answer
+answer_named name rows = if bytes_eq name (codes "batch") then answer_of_part (part_named (part_word rows)) (file_in rows)
+    else if bytes_eq name (codes "session") then asks Session None
+    else refuses
+
+abbrev pub answer_from : Option (Text × List Row) → Answer
+answer_from (Some met) = answer_named met.0 met.1
 answer_from None = refuses
 
 -- for `clap` it is a fault too where the help or the version is asked for
@@ -85,19 +101,23 @@ answer_at _ = refuses
 
 -- the first fault decides, and where there is none, the command that was met
 abbrev pub answer_unless : Kinds → Option (Text × List Row) → Answer
-answer_unless [] met = answer_from (request_from met)
+answer_unless [] met = answer_from met
 answer_unless (fault ∷ faults) met = answer_at fault
 
 -- what is answered to the words of a call
 abbrev pub answer_of : List Text → Answer
 answer_of words = answer_unless (fault_of compass words) (subcommand_of compass words)
 
+-- that a call is what the words ask
+abbrev pub asked_by : Call → Answer
+asked_by call = asks call.request (option_map (λ (name : Bor Text). name.now) call.file)
+
+-- what the words of a call ask
 abbrev pub request_in : Answer → Option Request
-request_in (asks request) = Some request
+request_in (asks request file) = Some request
 request_in tells = None
 request_in refuses = None
 
--- what the words of a call ask
 abbrev pub request_of : List Text → Option Request
 request_of words = request_in (answer_of words)
 
@@ -119,6 +139,12 @@ abbrev pub IsUntold : Unread → Type 0
 IsUntold (Told text) = ⊥
 IsUntold (Wrong text) = ⊤
 IsUntold Memory = ⊤
+
+-- the words are said to be wrong
+abbrev pub IsWrong : Unread → Type 0
+IsWrong (Told text) = ⊥
+IsWrong (Wrong text) = ⊤
+IsWrong Memory = ⊥
 
 -- what may be said of a fault of that kind
 abbrev pub Says : ErrorKind → Unread → Type 0

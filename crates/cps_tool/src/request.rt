@@ -1,11 +1,12 @@
 //! The words of a call of the program, and what they ask.
-ghost use Rattle.std.specs.Prelude.{◌≡◌, ◌⊎◌, IfOk, IfErr, Some, None, false};
+ghost use Rattle.std.specs.Prelude.{◌≡◌, ◌⊎◌, IfOk, IfErr, Some, None, false, option_map};
 ghost use Rattle.clap.specs.Words.{app_of, kind_of, rule_of, subcommand_rows_of};
 ghost use Rattle.clap.specs.Simple.{shape_of};
 ghost use Rattle.clap.specs.Walk.{texts};
 ghost use Rattle.clap.specs.declared.builder.command.Command.TheViews.{out-Command};
-ghost use Rattle.cps_tool.specs.Request.{IsAnswer, IsMet, IsUntold, Says, batch_shape, compass, part_named, part_rule, request_from, request_of, session_shape};
+ghost use Rattle.cps_tool.specs.Request.{IsAnswer, IsMet, IsUntold, IsWrong, Says, answer_from, answer_of, asked_by, batch_shape, compass, file_named, file_rule, part_named, part_rule, refuses, request_of, session_shape};
 
+use super::shown::shown;
 use clap::error::ErrorKind;
 use clap::{Arg, ArgMatches, Command, Error};
 use cps_list::Part;
@@ -16,8 +17,9 @@ const VERSION: &str = "0.9.0";
 const ABOUT: &str = "A cross-assembler for COMPASS Version 3 of the CDC 6000 series";
 
 const MORE: &str = "\
-A source (batch) or a script (session) is read from standard input, and what is
-asked for is written to standard output. 'compass COMMAND --help' says more.
+A source (batch) is read from a file or from standard input, a script (session)
+from standard input, and what is asked for is written to standard output.
+'compass COMMAND --help' says more.
 
 Exit status:
   0  no line is flagged
@@ -27,8 +29,7 @@ Exit status:
 const BATCH_ABOUT: &str = "Assemble a source";
 
 const BATCH_MORE: &str = "\
-The source is read from standard input, and its PART is written to standard
-output:
+The source is read from FILE, and its PART is written to standard output:
   listing  the listing
   binary   the binary text: octal words by address
   symbols  the cross-reference of the symbols
@@ -67,10 +68,18 @@ Exit status:
 /// What a call of the program asks.
 #[derive(Clone, Copy, PartialEq, Eq)]
 pub enum Request {
-    /// To assemble the source on standard input, and to write a part of that.
+    /// To assemble a source, and to write a part of that.
     Batch(Part),
-    /// To run the script on standard input.
+    /// To run a script.
     Session,
+}
+
+/// What a call asks, and of which file.
+#[derive(Clone, Copy)]
+pub struct Call<'a> {
+    pub request: Request,
+    /// The file's name, None for standard input.
+    pub file: Option<&'a str>,
 }
 
 /// What is said where a call asks nothing of the kind, or where memory was refused. A text ends with a newline.
@@ -85,8 +94,8 @@ pub enum Unread {
 }
 
 /// Reads the words of a call, of which the first is the program's name.
-pub fn read_words<'a>(alloc: Global, words: &'a [&'a str]) -> Result<Request, Unread>
-    ensures asked { IfOk result (λ request. request_of (texts words.now) ≡ Some request) }
+pub fn read_words<'a>(alloc: Global, words: &'a [&'a str]) -> Result<Call<'a>, Unread>
+    ensures asked { IfOk result (λ call. answer_of (texts words.now) ≡ asked_by call) }
     // A call that asks something fails only where memory was refused.
     ensures unread { IfErr result (λ unread. (unread ≡ Unread.Memory) ⊎ (request_of (texts words.now) ≡ None)) }
     // What is said is what is answered.
@@ -123,7 +132,8 @@ fn batch_command<'a>(alloc: Global) -> Result<Command<'a>, AllocError>
     let command = Command::new(alloc, "batch")
         .about(BATCH_ABOUT)
         .after_help(BATCH_MORE);
-    command.arg(part_argument(alloc))
+    let command = command.arg(part_argument(alloc))?;
+    command.arg(file_argument(alloc))
 }
 
 fn part_argument<'a>(alloc: Global) -> Arg<'a>
@@ -137,6 +147,15 @@ fn part_argument<'a>(alloc: Global) -> Arg<'a>
         .help("What to write")
 }
 
+fn file_argument<'a>(alloc: Global) -> Arg<'a>
+    ensures rule { rule_of result ≡ file_rule }
+    ensures local { result.global ≡ false }
+{
+    Arg::new(alloc, "file")
+        .value_name("FILE")
+        .help("The source: standard input where it is left out or '-'")
+}
+
 fn session_command<'a>(alloc: Global) -> Command<'a>
     ensures shape { shape_of result ≡ session_shape }
     ensures local { (out-Command result).has_globals ≡ false }
@@ -147,19 +166,35 @@ fn session_command<'a>(alloc: Global) -> Command<'a>
 }
 
 /// What words ask in which `clap` found no fault.
-fn read_matches(alloc: Global, matches: &ArgMatches<'_>) -> Result<Request, Unread>
+fn read_matches<'a>(alloc: Global, matches: &ArgMatches<'a>) -> Result<Call<'a>, Unread>
     requires { IsMet (subcommand_rows_of matches.now) }
-    ensures asked { IfOk result (λ request. request_from (subcommand_rows_of matches.now) ≡ Some request) }
-    ensures unread { IfErr result (λ unread. (unread ≡ Unread.Memory) ⊎ (request_from (subcommand_rows_of matches.now) ≡ None)) }
+    ensures asked { IfOk result (λ call. answer_from (subcommand_rows_of matches.now) ≡ asked_by call) }
+    ensures unread { IfErr result (λ unread. (unread ≡ Unread.Memory) ⊎ (answer_from (subcommand_rows_of matches.now) ≡ refuses)) }
     ensures untold { IfErr result IsUntold }
 {
     let Some(batch) = matches.subcommand_matches("batch") else {
-        return Ok(Request::Session);
+        return Ok(Call {
+            request: Request::Session,
+            file: None,
+        });
     };
     let word = batch.get_str("part").unwrap_or("");
     match read_part(word) {
-        Some(part) => Ok(Request::Batch(part)),
+        Some(part) => Ok(Call {
+            request: Request::Batch(part),
+            file: read_file(batch.get_str("file")),
+        }),
         None => Err(say_no_part(alloc, word)),
+    }
+}
+
+/// The file that a word names, None for standard input.
+fn read_file(word: Option<&str>) -> Option<&str>
+    ensures { option_map (λ name. name.now) result ≡ file_named (option_map (λ name. name.now) word.entry) }
+{
+    match word {
+        Some("-") => None,
+        _ => word,
     }
 }
 
@@ -181,10 +216,39 @@ fn read_part(word: &str) -> Option<Part>
 fn say_no_part(alloc: Global, word: &str) -> Unread
     ensures { IsUntold result }
 {
+    let tip = match similar_part(word) {
+        Some(name) => format!(in alloc; "\n  tip: a similar value exists: '{name}'\n"),
+        None => Ok(String::new(alloc)),
+    };
+    let Ok(tip) = tip else {
+        return Unread::Memory;
+    };
     let text = format!(in alloc;
-        "error: invalid value '{word}' for '--part <PART>'\n  [possible values: listing, binary, symbols, flags, all]\n\nFor more information, try '--help'.\n"
+        "error: invalid value '{word}' for '--part <PART>'\n  [possible values: listing, binary, symbols, flags, all]\n{tip}\nFor more information, try '--help'.\n"
     );
     match text {
+        Ok(text) => wrong(alloc, &text),
+        Err(_) => Unread::Memory,
+    }
+}
+
+/// The first part whose name the word begins, or begins with.
+fn similar_part(word: &str) -> Option<&'static str> {
+    const NAMES: [&str; 5] = ["listing", "binary", "symbols", "flags", "all"];
+    if word.is_empty() {
+        return None;
+    }
+    NAMES
+        .iter()
+        .copied()
+        .find(|name| name.starts_with(word) || word.starts_with(*name))
+}
+
+/// What is wrong with the words.
+fn wrong(alloc: Global, text: &str) -> Unread
+    ensures { (result ≡ Unread.Memory) ⊎ IsWrong result }
+{
+    match shown(alloc, text) {
         Ok(text) => Unread::Wrong(text),
         Err(_) => Unread::Memory,
     }
@@ -200,6 +264,6 @@ fn say(alloc: Global, error: &Error) -> Unread
     match error.kind() {
         ErrorKind::OutOfMemory => Unread::Memory,
         ErrorKind::DisplayHelp | ErrorKind::DisplayVersion => Unread::Told(text),
-        _ => Unread::Wrong(text),
+        _ => wrong(alloc, &text),
     }
 }

@@ -1,12 +1,13 @@
 //! A call of the program, by its words.
-ghost use Rattle.std.specs.Prelude.{◌≡◌};
+ghost use Rattle.std.specs.Prelude.{◌≡◌, ◌⊎◌};
 ghost use Rattle.clap.specs.Walk.{texts};
-ghost use Rattle.cps_tool.specs.CommandLine.{status_with, Calls, Serves, Tells, IsQuiet};
+ghost use Rattle.cps_tool.specs.CommandLine.{status_with, Calls, CallsOnFile, Serves, ServesWith, Tells, TellsUnread, IsQuiet};
 ghost use Rattle.cps_tool.specs.Request.{answer_of};
 ghost use Rattle.cps_tool.specs.declared.request.Request.TheVariants as requests;
 
-use super::request::{Request, Unread, read_words};
+use super::request::{Call, Request, Unread, read_words};
 use super::script::run_script;
+use super::sources::{Sources, unopened_text};
 use super::writing::write_bytes;
 use arrayvec::ArrayString;
 use cps_batch::batch;
@@ -29,7 +30,7 @@ const FAULTY: u8 = 2;
 /// which is told to `errors`. With another status nothing is written to `errors`.
 ///
 /// Help and version, where they are asked for, go to `writer`, with status 0 where it takes them whole. Wrong words are
-/// told to `errors`.
+/// told to `errors`. A file that is named is refused: `run_call` reads files.
 pub fn run_words<'a, R: Read, W: Write, E: Write>(
     alloc: Global,
     hashing: Hashing,
@@ -41,35 +42,113 @@ pub fn run_words<'a, R: Read, W: Write, E: Write>(
     ensures serves { Serves R.remaining W.contents (answer_of (texts words.now)) result reader.old reader.new writer.old writer.new }
     ensures quiet { IsQuiet result errors.old errors.new }
 {
+    let host = Host {
+        alloc,
+        hashing,
+        sources: (),
+    };
     match read_words(alloc, words) {
-        Ok(Request::Batch(part)) => run_batch(alloc, hashing, reader, writer, errors, part),
-        Ok(Request::Session) => run_session(alloc, hashing, reader, writer, errors),
-        Err(Unread::Told(text)) => tell(writer, errors, text.as_str()),
-        Err(Unread::Wrong(text)) => complain(errors, text.as_str()),
-        Err(Unread::Memory) => complain(errors, "no memory\n"),
+        Ok(
+            Call {
+                request,
+                file: None,
+            },
+        ) => run_request(&host, request, reader, writer, errors),
+        Ok(_) => complain(errors, "error: no file is read here\n"),
+        Err(unread) => tell_unread(unread, writer, errors),
     }
 }
 
-fn run_batch<R: Read, W: Write, E: Write>(
-    alloc: Global,
-    hashing: Hashing,
+/// What a call runs on: its memory, how its maps hash, and the files that it may name.
+#[derive(Drop)]
+pub struct Host<S> {
+    pub alloc: Global,
+    pub hashing: Hashing,
+    pub sources: S,
+}
+
+/// Does what the words of a call ask, as `run_words` does, and reads the file that they name in the place of `reader`. A file that can't be
+/// opened is told to `errors`, with status 2.
+pub fn run_call<'a, S: Sources, R: Read, W: Write, E: Write>(
+    host: &Host<S>,
+    words: &'a [&'a str],
     reader: &mut Counted<R>,
     writer: &mut Counted<W>,
     errors: &mut Counted<E>,
+) -> u8
+    ensures serves { ServesWith (S.holds host.now.sources) S.Opened.remaining R.remaining W.contents (answer_of (texts words.now)) result reader.old reader.new writer.old writer.new }
+    ensures quiet { IsQuiet result errors.old errors.new }
+{
+    match read_words(host.alloc, words) {
+        Ok(
+            Call {
+                request,
+                file: Some(name),
+            },
+        ) => run_on_file(host, request, name, writer, errors),
+        Ok(Call { request, .. }) => run_request(host, request, reader, writer, errors),
+        Err(unread) => tell_unread(unread, writer, errors),
+    }
+}
+
+/// Does what is asked of a file.
+fn run_on_file<S: Sources, W: Write, E: Write>(
+    host: &Host<S>,
+    request: Request,
+    name: &str,
+    writer: &mut Counted<W>,
+    errors: &mut Counted<E>,
+) -> u8
+    ensures calls { ((result ≡ FAULTY) × (writer.new ≡ writer.old)) ⊎ CallsOnFile (S.holds host.now.sources name.now) S.Opened.remaining W.contents request result writer.old writer.new }
+    ensures quiet { IsQuiet result errors.old errors.new }
+{
+    match host.sources.open(name) {
+        Ok(file) => {
+            let mut file = Counted::new(file);
+            run_request(host, request, &mut file, writer, errors)
+        }
+        Err(error) => match unopened_text(host.alloc, name, &error) {
+            Ok(text) => complain(errors, text.as_str()),
+            Err(_) => complain(errors, "no memory\n"),
+        },
+    }
+}
+
+/// Does what is asked of what a reader gives.
+fn run_request<S, R: Read, W: Write, E: Write>(
+    host: &Host<S>,
+    request: Request,
+    reader: &mut Counted<R>,
+    writer: &mut Counted<W>,
+    errors: &mut Counted<E>,
+) -> u8
+    ensures calls { Calls R.remaining W.contents request result reader.old reader.new writer.old writer.new }
+    ensures quiet { IsQuiet result errors.old errors.new }
+{
+    match request {
+        Request::Batch(part) => run_batch(host, part, reader, writer, errors),
+        Request::Session => run_session(host, reader, writer, errors),
+    }
+}
+
+fn run_batch<S, R: Read, W: Write, E: Write>(
+    host: &Host<S>,
     part: Part,
+    reader: &mut Counted<R>,
+    writer: &mut Counted<W>,
+    errors: &mut Counted<E>,
 ) -> u8
     ensures calls { Calls R.remaining W.contents (requests.Batch part) result reader.old reader.new writer.old writer.new }
     ensures quiet { IsQuiet result errors.old errors.new }
 {
-    match batch(alloc, hashing, reader, writer, part) {
+    match batch(host.alloc, host.hashing, reader, writer, part) {
         Ok(count) => status_of_count(count),
         Err(fault) => complain_of(errors, fault),
     }
 }
 
-fn run_session<R: Read, W: Write, E: Write>(
-    alloc: Global,
-    hashing: Hashing,
+fn run_session<S, R: Read, W: Write, E: Write>(
+    host: &Host<S>,
     reader: &mut Counted<R>,
     writer: &mut Counted<W>,
     errors: &mut Counted<E>,
@@ -77,10 +156,26 @@ fn run_session<R: Read, W: Write, E: Write>(
     ensures calls { Calls R.remaining W.contents requests.Session result reader.old reader.new writer.old writer.new }
     ensures quiet { IsQuiet result errors.old errors.new }
 {
-    let mut session = Session::new(alloc, hashing);
-    match run_script(alloc, reader, writer, &mut session) {
+    let mut session = Session::new(host.alloc, host.hashing);
+    match run_script(host.alloc, reader, writer, &mut session) {
         Ok(count) => status_of_count(count),
         Err(fault) => complain_of(errors, fault),
+    }
+}
+
+/// Says why words ask nothing.
+fn tell_unread<W: Write, E: Write>(
+    unread: Unread,
+    writer: &mut Counted<W>,
+    errors: &mut Counted<E>,
+) -> u8
+    ensures tells { TellsUnread W.contents unread result writer.old writer.new }
+    ensures quiet { IsQuiet result errors.old errors.new }
+{
+    match unread {
+        Unread::Told(text) => tell(writer, errors, text.as_str()),
+        Unread::Wrong(text) => complain(errors, text.as_str()),
+        Unread::Memory => complain(errors, "no memory\n"),
     }
 }
 

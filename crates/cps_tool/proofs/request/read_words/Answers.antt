@@ -2,9 +2,9 @@ use Rattle.std.proofs.Common.{◌≡◌, ◌∙◌, [], sym, ap, subst}
 use Rattle.std.proofs.lemmas.Result.{IfOk-weaker, IfErr-weaker}
 use Rattle.clap.specs.Words.{HasKind, fault_of, is_simple, is_simple_and_free, subcommand_of, subcommand_rows_of}
 use Rattle.clap.specs.Walk.{texts}
-use Rattle.cps_tool.specs.Request.{IsMet, compass}
+use Rattle.cps_tool.specs.Request.{IsMet, asked_by, compass}
 use Rattle.cps_tool.proofs.MetLemmas.{compass_free, compass_simple, met_of}
-use Rattle.cps_tool.proofs.RequestLemmas.{asked_by, refused_with, stopped_by, unread_asks}
+use Rattle.cps_tool.proofs.RequestLemmas.{answered_by, refused_with, stopped_by, unread_asks}
 use Rattle.cps_tool.proofs.request.read_words.Goals as goal
 use Rattle.cps_tool.proofs.request.read_words.Goals.{In-Ok-try_get_matches_from}
 
@@ -28,7 +28,7 @@ returns-in-Ok-try_get_matches_from c =
     let r = c.read_matches.result in
     let answer = refused_with words met none same r c.read_matches.ensures.unread c.read_matches.ensures.untold in
     record {
-      asked = IfOk-weaker r _ _ (asked_by words met none same) c.read_matches.ensures.asked;
+      asked = IfOk-weaker r _ _ (λ call e. answered_by words met none same (asked_by call) e) c.read_matches.ensures.asked;
       unread = IfErr-weaker r _ _ (unread_asks words) answer;
       said = answer;
     }

@@ -1,0 +1,27 @@
+//! The files of the machine.
+use cps_tool::Sources;
+use std::fs::File;
+use std::io::ErrorKind;
+use std::{fs, io};
+
+/// The files of the machine, by their paths.
+#[derive(Clone, Copy)]
+pub struct Disk<'a> {
+    pub rt: &'a HostRuntime,
+}
+
+impl<'a> Sources for Disk<'a> {
+    ghost use Rattle.std.specs.Prelude.{None};
+
+    type Opened = File;
+
+    // What a file of the machine has isn't known.
+    ghost holds = { λ disk name. None };
+
+    fn open(&self, name: &str) -> io::Result<File> {
+        if fs::metadata(self.rt, name)?.is_dir() {
+            return Err(io::Error::from(ErrorKind::IsADirectory));
+        }
+        File::open(self.rt, name)
+    }
+}
