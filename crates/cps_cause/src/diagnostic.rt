@@ -1,0 +1,40 @@
+//! A cause, and where it shows.
+use crate::cause::Cause;
+use crate::columns::Columns;
+use crate::places::Places;
+use crate::quotation::Quotation;
+use cps_state::Shared;
+use std::alloc::AllocError;
+
+/// A cause of a line's flag, and where it shows.
+#[derive(Drop)]
+pub struct Diagnostic {
+    /// Where it shows in the source line.
+    pub columns: Columns,
+    pub cause: Cause,
+    /// Where it shows in the statement, which is the line itself where no text stands here.
+    pub within: Columns,
+    /// The text of a statement of the line's expansion; empty for the line's own statement.
+    pub statement: Shared<u8>,
+    /// How often an equal one comes in the line's expansion.
+    pub times: u32,
+}
+
+impl Diagnostic {
+    /// Appends why there is the flag, as a sentence without its point, with what it quotes of the statement or of its source line.
+    pub fn push_words<P: Places>(
+        &self,
+        line: &[u8],
+        places: &P,
+        text: &mut Vec<u8>,
+    ) -> Result<(), AllocError> {
+        let statement = self.statement.as_slice();
+        let written = if statement.is_empty() {
+            line
+        } else {
+            statement
+        };
+        let quotation = Quotation::of(written, self.within);
+        self.cause.push_words(text, quotation, places)
+    }
+}

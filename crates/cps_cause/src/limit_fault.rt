@@ -1,0 +1,131 @@
+//! Why a statement passes a limit.
+
+use crate::quotation::Quotation;
+use crate::words::{push_number, push_quoted};
+use cps_expr::Operation;
+use std::alloc::AllocError;
+
+/// The limit that a statement passes.
+#[derive(Clone, Copy, PartialEq, Eq)]
+pub enum LimitFault {
+    /// ORG goes past the machine's words, which are so many.
+    Origin(u32),
+    /// The statement's words would pass the machine's, which are so many.
+    Words(u32),
+    /// The statement stands past the machine's words when all blocks are placed.
+    Address(FarAddress),
+    /// A literal does.
+    Literal(FarAddress),
+    /// It would begin a named block too many.
+    Blocks,
+    /// It would open a range too many.
+    Ranges,
+    /// It would repeat lines too often.
+    Times(i64),
+    /// The line isn't kept, since so many are kept already.
+    Line,
+    /// A body is dropped, since it has more lines than it may have.
+    Body,
+    /// A statement of an expansion has so many characters.
+    Characters(usize),
+    /// A statement of an expansion would stand too deep.
+    Depth,
+    /// The line would open too many statements.
+    Statements,
+    /// There are no more names for local names.
+    Names,
+}
+
+/// A final address, in words, and how many the machine has.
+#[derive(Clone, Copy, PartialEq, Eq)]
+pub struct FarAddress {
+    pub address: u64,
+    pub words: u32,
+}
+
+impl LimitFault {
+    /// Appends the words.
+    pub(crate) fn push_words(
+        self,
+        text: &mut Vec<u8>,
+        quotation: Quotation<'_>,
+    ) -> Result<(), AllocError> {
+        match self {
+            LimitFault::Origin(words) => push_origin(text, quotation.shown, words),
+            LimitFault::Words(words) => {
+                let words = i64::from(words);
+                push_number(text, b"this would pass the machine's ", words, b" words")
+            }
+            LimitFault::Address(place) => place.push_words(text, b"this stands at word "),
+            LimitFault::Literal(place) => place.push_words(text, b"the literal stands at word "),
+            LimitFault::Blocks => push_quoted(
+                text,
+                b"",
+                quotation.shown,
+                b" would be a 65th named block, and 64 are the most",
+            ),
+            LimitFault::Times(times) => {
+                push_number(
+                    text,
+                    b"lines are repeated 1,000 times at most, and not ",
+                    times,
+                    b"",
+                )
+            }
+            LimitFault::Body => push_body(text, quotation.operation),
+            LimitFault::Characters(count) => {
+                let count = i64::try_from(count).unwrap_or(0);
+                push_number(
+                    text,
+                    b"with its arguments this has ",
+                    count,
+                    b" characters, and 90 are the most",
+                )
+            }
+            _ => text.extend_from_slice(self.sentence()),
+        }
+    }
+
+    /// The words that nothing is filled into.
+    fn sentence(self) -> &'static [u8] {
+        match self {
+            LimitFault::Ranges => b"20 ranges are open already, so this one does nothing",
+            LimitFault::Line =>
+                b"500 lines are kept already, the most that a body has; this one isn't",
+            LimitFault::Depth => {
+                b"this would open statements more than 10 deep; does a macro call itself?"
+            }
+            LimitFault::Statements => b"this would open more than 20,000 statements",
+            LimitFault::Names => b"9,999,999 local names were given names, and there are no more",
+            _ => b"",
+        }
+    }
+}
+
+/// Appends that an address is past so many words.
+fn push_origin(text: &mut Vec<u8>, shown: &[u8], words: u32) -> Result<(), AllocError> {
+    push_number(text, b"the machine has ", i64::from(words), b" words, and ")?;
+    push_quoted(text, b"", shown, b" is past them")
+}
+
+/// Appends that a body with too many lines is dropped.
+fn push_body(text: &mut Vec<u8>, operation: &[u8]) -> Result<(), AllocError> {
+    text.extend_from_slice(b"more than 500 lines came, so ")?;
+    match Operation::named(operation) {
+        Some(Operation::Endm) => text.extend_from_slice(b"the macro isn't defined"),
+        _ => text.extend_from_slice(b"nothing is repeated"),
+    }
+}
+
+impl FarAddress {
+    fn push_words(self, text: &mut Vec<u8>, before: &[u8]) -> Result<(), AllocError> {
+        let address = i64::try_from(self.address).unwrap_or(0);
+        push_number(
+            text,
+            before,
+            address,
+            b" when all blocks are placed, and the machine has ",
+        )?;
+        push_number(text, b"", i64::from(self.words), b" words")
+    }
+}

@@ -1,0 +1,61 @@
+//! Why an operation field has flag O.
+
+use crate::quotation::Quotation;
+use crate::words::push_quoted;
+use std::alloc::AllocError;
+
+/// What is wrong with an operation field.
+#[derive(Clone, Copy, PartialEq, Eq)]
+pub enum OperationFault {
+    /// It is empty, and something stands in the location field.
+    Missing,
+    /// It is a symbol, no operation, and no macro's name.
+    Unknown,
+    /// It is the name of a macro that is defined below.
+    DefinedBelow,
+    /// It is an instruction of a peripheral processor, and the program is for the central one.
+    Peripheral,
+    /// It is an instruction of the central processor, and the program is for a peripheral one.
+    Central,
+    /// It is no operation, and no symbol that a macro could have for its name.
+    NoName,
+}
+
+impl OperationFault {
+    /// Appends the words.
+    pub(crate) fn push_words(
+        self,
+        text: &mut Vec<u8>,
+        quotation: Quotation<'_>,
+    ) -> Result<(), AllocError> {
+        push_quoted(text, self.front(), quotation.shown, self.rest())
+    }
+
+    /// What is told before the text that is quoted.
+    fn front(self) -> &'static [u8] {
+        match self {
+            OperationFault::Missing => b"no operation stands behind ",
+            _ => b"",
+        }
+    }
+
+    /// What is told behind it.
+    fn rest(self) -> &'static [u8] {
+        match self {
+            OperationFault::Missing => b"",
+            OperationFault::Unknown => b" is no operation, and no macro above has this name",
+            OperationFault::DefinedBelow => {
+                b" is no operation, and the macro of this name is defined below"
+            }
+            OperationFault::Peripheral => {
+                b" is an instruction of a peripheral processor, and no PERIPH stands above"
+            }
+            OperationFault::Central => {
+                b" is an instruction of the central processor, and PERIPH stands above"
+            }
+            OperationFault::NoName => {
+                b" is no operation, and no symbol that a macro could have for its name"
+            }
+        }
+    }
+}
