@@ -1,0 +1,3 @@
+pub mod Explaining
+pub mod SymbolsNow
+pub mod Telling

@@ -1,0 +1,59 @@
+//! The causes of a line's flags.
+ghost use Rattle.std.specs.Prelude.{◌≡◌, IfOk, is_some};
+ghost use Rattle.cps_gather.specs.Finals.{final_value, is_open_at_end};
+ghost use Rattle.cps_final.specs.Outcome.{outcome_of};
+ghost use Rattle.cps_explain.specs.Explaining.{Explains};
+
+use crate::structure::open_in;
+use crate::teller::Teller;
+use crate::walk::find_all;
+use cps_cause::{Cause, Diagnostic, StructureFault};
+use cps_final::{Finals, Gathered, Output, flags_of};
+use cps_finding::filled_columns;
+use cps_state::{Key, Lookup, Trace, mode_of};
+use cps_text::Line;
+use std::alloc::{AllocError, Global};
+
+/// Why a line is flagged, from what it did in pass one and the final values of its source: its causes, by statement and column. Each letter of the line has
+/// one, and no other letter has. It is told of any line, trace and values, also of such that don't belong together.
+pub fn explain(
+    alloc: Global,
+    line: &Line,
+    trace: &Trace,
+    finals: &Finals,
+) -> Result<Vec<Diagnostic>, AllocError>
+    ensures { IfOk result (λ told. Explains line.now (outcome_of (final_value (⟦<Finals as Gathered>⟧.gathered finals.now)) trace.now).rows told.items) }
+{
+    let mut output = Output::new(alloc);
+    output.replace(trace.items(), finals)?;
+    let wanted = flags_of(output.rows());
+    let mut teller = Teller::new(alloc, wanted, line.bytes().len());
+    if wanted.has_flag() {
+        let found = find_all(alloc, line, trace, finals)?;
+        tell_all(&mut teller, found)?;
+    }
+    teller.finish(filled_columns(line.bytes()))
+}
+
+/// What is open where a source ends, None where nothing is. It shows in the line that opened it.
+pub fn explain_end(finals: &Finals) -> Result<Option<Cause>, AllocError>
+    ensures { IfOk result (λ cause. is_some cause ≡ is_open_at_end (⟦<Finals as Gathered>⟧.gathered finals.now)) }
+{
+    if !finals.is_open_at_end() {
+        return Ok(None);
+    }
+    let mode = mode_of(finals.state().ask(&Key::Control))?;
+    let fault = StructureFault::SourceOpen(open_in(&mode));
+    Ok(Some(Cause::Structure(fault)))
+}
+
+/// Tells what was found.
+fn tell_all(teller: &mut Teller, found: Vec<Diagnostic>) -> Result<(), AllocError>
+    ensures wanted { teller.new.wanted ≡ teller.old.wanted }
+    ensures length { teller.new.length ≡ teller.old.length }
+{
+    for diagnostic in found {
+        teller.tell(diagnostic)?;
+    }
+    Ok(())
+}
