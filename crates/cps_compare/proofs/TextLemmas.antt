@@ -1,0 +1,42 @@
+-- A text, piece by piece.
+use Rattle.std.proofs.Common.{◌≡◌, ℕ, ◌<◌, ◌≤◌, zero, suc, ◌+◌, ◌/◌, ◌%◌, Bool, List, [], ◌∷◌, ◌++◌, length, filter, Option, None, Some, refl, ap, ◌∙◌, arith, append_assoc, length-append}
+use Rattle.std.specs.Prelude.{unwrap_or, All}
+use Rattle.std.specs.List.{range_with_len}
+use Rattle.std.specs.Option.{ForSome}
+use Rattle.std.proofs.lemmas.List.Elements.{All-filter, All-from_get_or}
+use Rattle.std.proofs.lemmas.List.FromFn.{length-range_with_len, get_or-range_with_len}
+use Rattle.cps_text.specs.Octal.{octal}
+
+pub five-pieces : (t a b c d e r1 r2 r3 r4 r5 : List ℕ) → r1 ≡ t ++ a → r2 ≡ r1 ++ b → r3 ≡ r2 ++ c → r4 ≡ r3 ++ d → r5 ≡ r4 ++ e → r5 ≡ t ++ (a ++ b ++ c ++ d ++ e)
+five-pieces t a b c d e r1 r2 r3 r4 r5 e1 e2 e3 e4 e5 =
+    e5 ∙ ap (λ (l : List ℕ). l ++ e) (e4 ∙ ap (λ (l : List ℕ). l ++ d) (e3 ∙ ap (λ (l : List ℕ). l ++ c) (e2 ∙ ap (λ (l : List ℕ). l ++ b) e1))) ∙ simp append_assoc
+
+pub six-pieces : (t a b c d e f r1 r2 r3 r4 r5 r6 : List ℕ) → r1 ≡ t ++ a → r2 ≡ r1 ++ b → r3 ≡ r2 ++ c → r4 ≡ r3 ++ d → r5 ≡ r4 ++ e → r6 ≡ r5 ++ f
+    → r6 ≡ t ++ (a ++ b ++ c ++ d ++ e ++ f)
+six-pieces t a b c d e f r1 r2 r3 r4 r5 r6 e1 e2 e3 e4 e5 e6 =
+    e6 ∙ ap (λ (l : List ℕ). l ++ f) (five-pieces t a b c d e r1 r2 r3 r4 r5 e1 e2 e3 e4 e5) ∙ append_assoc t (a ++ b ++ c ++ d ++ e) f
+
+-- how many digits there are
+pub octal-length : (digits number : ℕ) → length (octal digits number) ≡ digits
+unfolding octal
+octal-length zero number = refl
+octal-length (suc digits) number =
+    let shorter = octal-length digits (number / 8) in
+    let whole = length-append (octal digits (number / 8)) ((48 + number % 8) ∷ []) in
+    omega (arith, shorter, whole)
+
+-- a chosen value, or another
+pub unwrap-below : (o : Option ℕ) (d n : ℕ) → ForSome o (λ x. x < n) → d < n → unwrap_or o d < n
+unwrap-below None d n chosen other = other
+unwrap-below (Some x) d n chosen other = chosen x refl
+
+-- places of a word
+pub places-below : (test : ℕ → Bool) (count n : ℕ) → count ≤ n → All (λ place. place < n) (filter test (range_with_len 0 count))
+places-below test count n few =
+    All-filter test (λ place. place < n) (range_with_len 0 count)
+    (All-from_get_or (λ place. place < n) (range_with_len 0 count) 0
+    (λ i within.
+    let long = length-range_with_len 0 count in
+    let here : i < count = omega (arith, long) in
+    let at = get_or-range_with_len 0 count i 0 here in
+    omega (arith, at)))

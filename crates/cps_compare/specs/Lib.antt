@@ -1,0 +1,8 @@
+pub mod Rows
+pub mod Given
+pub mod Makers
+pub mod Differences
+pub mod Told
+pub mod Comparison
+pub mod Reading
+pub mod Counting
