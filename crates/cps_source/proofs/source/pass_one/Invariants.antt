@@ -1,0 +1,11 @@
+use Rattle.std.proofs.Common.{◌≡◌, take}
+use Rattle.cps_final.specs.Finals.{Gathers}
+use Rattle.cps_gather.specs.contracts.gather.GatherGathered.TheImpl.{gathered-value}
+use Rattle.cps_assembly.specs.Assembly.{traces_of}
+use Rattle.cps_source.proofs.source.pass_one.Given as goal
+
+abbrev pub invariant-loop-line : goal.invariant-loop-line
+invariant-loop-line l = record {
+  traces : l.traces.items ≡ traces_of (take l.line-index l.lines);
+  gathered : Gathers (gathered-value.it l.gather) (traces_of (take l.line-index l.lines));
+}
