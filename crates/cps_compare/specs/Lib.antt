@@ -5,4 +5,4 @@ pub mod Differences
 pub mod Told
 pub mod Comparison
 pub mod Reading
-pub mod Counting
+pub mod Shown

@@ -27,9 +27,12 @@ signed_of assembly = signed_from 1 assembly.outcomes ++ map (signed_by Literal) 
 
 -- whether bits meet an octal digit of a word, of which the first is 0
 abbrev pub meets : ℕ → ℕ → Piece → Bool
-meets address digit piece = covers_word address piece && (nat_lt piece.first (3 * digit + 3) && nat_lt (3 * digit) (piece.first + piece.width))
+meets address digit piece =
+    covers_word address piece && (nat_lt piece.first (3 * digit + 3) && nat_lt (3 * digit) (piece.first + piece.width))
 
 -- the maker of a digit is that of the last bits that meet it; a word has 20 digits
 abbrev pub maker_of : List Signed → ℕ → ℕ → Maker
 maker_of all address digit =
-    if nat_lt digit 20 then option_map_or (λ signed. signed.maker) (find (λ signed. meets address digit signed.piece) (reverse all)) Nobody else Nobody
+    if nat_lt digit 20
+    then option_map_or (λ signed. signed.maker) (find (λ signed. meets address digit signed.piece) (reverse all)) Nobody
+    else Nobody

@@ -1,13 +1,10 @@
 -- For the loops that read and count, not part of what a reader believes: what is left of a text, and the slots of words.
 use Rattle.std.specs.Prelude.{◌≡◌, ℕ, ◌+◌, ◌*◌, ◌&&◌, ◌==◌, nat_lt, List, [], ◌∷◌, ◌++◌, length, map, Option, slice_index_or, if◌then◌else◌}
-use Rattle.cps_expr.specs.declared.machine.Machine.{Machine}
-use Rattle.cps_code.specs.Image.{Piece, ArePacked}
+use Rattle.cps_code.specs.Image.{ArePacked}
 use Rattle.cps_compare.specs.declared.maker.Maker.{Maker}
 use Rattle.cps_compare.specs.declared.maker.Maker.TheVariants.{Nobody}
 use Rattle.cps_compare.specs.Makers.{Signed, maker_of}
 use Rattle.cps_compare.specs.Given.{most_words}
-use Rattle.cps_compare.specs.Differences.{digits_in}
-use Rattle.cps_compare.specs.Told.{Sides}
 
 -- the digits at an address
 abbrev pub digits_at : List (List ℕ) → ℕ → List ℕ
@@ -34,12 +31,3 @@ AreMade all slots = (address digit : ℕ) → maker_at slots address digit ≡ m
 pub record IsDeck (all : List Signed) (words : List (Option ℕ)) (slots : List Maker) : Type 0 where
   pub packed : ArePacked (map (λ signed. signed.piece) all) words
   pub made : AreMade all slots
-
--- an octal text and a source, as they are kept
-abbrev pub shown_sides : Machine → List (List ℕ) → List Piece → List Maker → List (List ℕ) → Sides
-shown_sides machine given pieces slots lines = record {
-  given = digits_at given;
-  deck = digits_in machine pieces;
-  maker = maker_at slots;
-  lines = lines;
-}

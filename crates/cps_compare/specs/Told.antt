@@ -8,7 +8,8 @@ use Rattle.cps_compare.specs.declared.maker.Maker.{Maker}
 use Rattle.cps_compare.specs.declared.maker.Maker.TheVariants.{Nobody, Line, Literal}
 use Rattle.cps_compare.specs.Differences.{differs, is_compared, has_digits, places}
 
--- an octal text and a source: the digits that the one gives for each address, the digits of the words of the other, what made these, and its lines
+-- an octal text and a source: the digits that the one gives for each address; the digits of the words of the other, what made them, and
+-- its lines
 pub record Sides : Type 0 where
   pub given : ℕ → List ℕ
   pub deck : ℕ → Option (List ℕ)
@@ -25,7 +26,8 @@ abbrev pub octal_text : List ℕ → List ℕ
 octal_text digits = if has_digits digits then digits else codes "(no digits)"
 
 abbrev pub word_rows : ℕ → List ℕ → Option (List ℕ) → List ℕ
-word_rows address digits word = octal 6 address ++ codes " deck  " ++ deck_text word ++ codes "\n       octal " ++ octal_text digits ++ codes "\n"
+word_rows address digits word =
+    octal 6 address ++ codes " deck  " ++ deck_text word ++ codes "\n       octal " ++ octal_text digits ++ codes "\n"
 
 -- a caret below a digit; the first one stands in column 14
 abbrev pub caret_at : ℕ → Column
@@ -98,4 +100,6 @@ last_row differing compared low high =
 
 -- what is told: the words that differ, by rising addresses, and how many they are
 abbrev pub told_text : Sides → ℕ → ℕ → List ℕ
-told_text sides low high = flat_map (rows_at sides) (addresses low high) ++ last_row (count_differing sides low high) (count_compared sides low high) low high
+told_text sides low high =
+    flat_map (rows_at sides) (addresses low high)
+    ++ last_row (count_differing sides low high) (count_compared sides low high) low high

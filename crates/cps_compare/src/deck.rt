@@ -79,7 +79,8 @@ fn pool_pieces(alloc: Global, finals: &Finals) -> Result<Vec<Piece>, AllocError>
 
 /// A literal at its final address, if that is below the machine's limit.
 fn push_literal(pieces: &mut Vec<Piece>, finals: &Finals, word: u64) -> Result<(), AllocError>
-    ensures { OnOk result (map piece_of pieces.new.items ≡ map piece_of pieces.old.items ++ texts.literal_piece (⟦<Finals as Gathered>⟧.gathered finals.now) word) }
+    ensures { OnOk result (map piece_of pieces.new.items ≡ map piece_of pieces.old.items
+        ++ texts.literal_piece (⟦<Finals as Gathered>⟧.gathered finals.now) word) }
 {
     let machine = finals.machine();
     let address = finals.literal_address(word);
@@ -92,7 +93,8 @@ fn push_literal(pieces: &mut Vec<Piece>, finals: &Finals, word: u64) -> Result<(
 /// One word of a machine at an address: the low bits of a number.
 fn word_piece(machine: Machine, address: u32, number: u64) -> Piece
     requires { address < limit machine }
-    ensures { piece_of result ≡ record { address = address; first = 0; width = bits_of machine; number = number % 2 ^ bits_of machine; times = 1 } }
+    ensures { piece_of result
+        ≡ record { address = address; first = 0; width = bits_of machine; number = number % 2 ^ bits_of machine; times = 1 } }
 {
     let width = word_bits(machine);
     Piece {

@@ -4,6 +4,7 @@
 //! - `comparison.rt`: the comparison as a whole
 //! - `deck.rt`: the words of a source, and what made their digits
 //! - `difference.rt`: whether two words differ, and where
+//! - `difference_rows.rt`: the rows that tell a difference
 //! - `fault.rt`: why nothing is compared
 //! - `limits.rt`: the addresses and the columns that are compared
 //! - `maker.rt`: what made digits of a word
@@ -11,12 +12,14 @@
 //! - `octal_text.rt`: the words that an octal text gives
 //! - `octal_words.rt`: digits by address
 //! - `row.rt`: a row of an octal text
-//! - `telling.rt`: the rows that tell a difference
+//! - `sides.rt`: an octal text and a source, side by side
+//! - `telling.rt`: what is told so far
 #![tactic(auto)]
 
 mod comparison;
 mod deck;
 mod difference;
+mod difference_rows;
 mod fault;
 mod limits;
 mod maker;
@@ -24,6 +27,7 @@ mod makers;
 mod octal_text;
 mod octal_words;
 mod row;
+mod sides;
 mod telling;
 
 pub use comparison::{Comparison, compare};

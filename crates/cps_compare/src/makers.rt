@@ -54,7 +54,8 @@ impl Makers {
 
     /// Has somebody make a piece, over what stands.
     pub fn mark(&mut self, maker: Maker, piece: Piece) -> Result<(), AllocError>
-        ensures { (all : List Signed) → AreMade all self.old → OnOk result (AreMade (all ++ signed_by maker (piece_of piece) ∷ []) self.new) }
+        ensures { (all : List Signed) → AreMade all self.old
+            → OnOk result (AreMade (all ++ signed_by maker (piece_of piece) ∷ []) self.new) }
     {
         let end = piece.address as usize + piece.times as usize;
         make_room(&mut self.slots, MOST_DIGITS * end)?;

@@ -36,7 +36,8 @@ pub fn read_octal(
 
 /// The first row of a text, and what stands behind it.
 fn cut_row(text: &[u8]) -> (&[u8], Option<&[u8]>)
-    ensures rows { slice_split rows.is_newline text.now ≡ result.0.now ∷ option_map_or (λ rest. slice_split rows.is_newline rest.now) result.1 [] }
+    ensures rows { slice_split rows.is_newline text.now
+        ≡ result.0.now ∷ option_map_or (λ rest. slice_split rows.is_newline rest.now) result.1 [] }
     ensures shorter { IfSome result.1 (λ rest. length rest.now < length text.now) }
 {
     match newline_at(text) {

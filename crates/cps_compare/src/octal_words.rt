@@ -106,7 +106,8 @@ impl OctalWords {
 
     /// Adds the digits of a row that begin at an address.
     pub fn add(&mut self, machine: Machine, address: u32, digits: &[u8]) -> Result<(), AllocError>
-        ensures { OnOk result (digits_at self.new ≡ with_row (size_of machine) (digits_at self.old) (record { address = address; digits = digits.now })) }
+        ensures { OnOk result (digits_at self.new
+            ≡ with_row (size_of machine) (digits_at self.old) (record { address = address; digits = digits.now })) }
     {
         let size = word_digits(machine);
         let begun = begun(self.get(address).len(), size);

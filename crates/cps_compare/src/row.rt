@@ -32,7 +32,8 @@ pub fn read_row(
 /// The part of a row that is its address, and what stands behind it.
 fn address_in(row: &[u8]) -> Option<(&[u8], Option<&[u8]>)>
     ensures row { MatchOption result (rows.row_from (rows.parts_of row.now) ≡ rows.unread_row)
-        (λ found. rows.row_from (rows.parts_of row.now) ≡ rows.row_at found.0.now (rows.digits_in (option_map_or (λ rest. rows.parts_of rest.now) found.1 []))) }
+        (λ found. rows.row_from (rows.parts_of row.now)
+        ≡ rows.row_at found.0.now (rows.digits_in (option_map_or (λ rest. rows.parts_of rest.now) found.1 []))) }
     ensures digits { IfSome result (λ found. rows.are_digits found.0.now ≡ true) }
 {
     let mut rest = Some(row);
@@ -48,7 +49,8 @@ fn address_in(row: &[u8]) -> Option<(&[u8], Option<&[u8]>)>
 
 /// Appends the digits of the parts of a text, up to the first part that has another byte.
 fn push_digits(digits: &mut Vec<u8>, text: Option<&[u8]>) -> Result<(), AllocError>
-    ensures { OnOk result (digits.new.items ≡ digits.old.items ++ rows.digits_in (option_map_or (λ text. rows.parts_of text.now) text.entry [])) }
+    ensures { OnOk result (digits.new.items ≡ digits.old.items
+        ++ rows.digits_in (option_map_or (λ text. rows.parts_of text.now) text.entry [])) }
 {
     let mut rest = text;
     while let Some(text) = rest {

@@ -1,141 +1,69 @@
-//! The rows that tell a difference.
-ghost use Rattle.std.specs.Prelude.{◌≡◌, [], ◌++◌, ◌<◌, length, map, OnOk, IfSome, All};
-ghost use Rattle.std.specs.List.{position};
-ghost use Rattle.std.specs.Option.{option_map};
-ghost use Rattle.cps_text.specs.Text.{is_filled};
+//! What is told so far.
+ghost use Rattle.std.specs.Prelude.{◌≡◌, [], ◌++◌, ◌+◌, ◌<◌, ◌≤◌, ◌^◌, OnOk, option_map};
 ghost use Rattle.cps_compare.specs.Told as told;
-ghost use Rattle.cps_compare.specs.Reading.{maker_at};
 
-use super::maker::Maker;
-use super::makers::Makers;
-use cps_list::View;
-use cps_listing::{fill_columns, push_decimal};
+use super::difference::differs;
+use cps_listing::push_decimal;
 use cps_text::push_octal;
-use std::alloc::AllocError;
+use std::alloc::{AllocError, Global};
 
 /// The octal digits of an address.
 const ADDRESS_DIGITS: u8 = 6;
 
-/// The columns before a word.
-const BEFORE_WORD: usize = 13;
-
-/// The rows of a word of a source, and of the digits of an octal text for it.
-pub fn push_words(
-    text: &mut Vec<u8>,
-    address: u32,
-    digits: &[u8],
-    word: Option<&[u8]>,
-) -> Result<(), AllocError>
-    ensures { OnOk result (text.new.items ≡ text.old.items ++ told.word_rows address digits.now (option_map (λ word. word.now) word.entry)) }
-{
-    push_octal(text, u64::from(address), ADDRESS_DIGITS)?;
-    text.extend_from_slice(b" deck  ")?;
-    text.extend_from_slice(deck_text(word))?;
-    text.extend_from_slice(b"\n       octal ")?;
-    text.extend_from_slice(octal_text(digits))?;
-    text.push(b'\n')?;
-    Ok(())
+/// What is told so far.
+#[derive(Drop)]
+pub struct Telling {
+    pub text: Vec<u8>,
+    /// How many words differ.
+    pub differing: u32,
+    /// How many addresses have digits or a word.
+    pub compared: u32,
 }
 
-fn deck_text(word: Option<&[u8]>) -> &[u8]
-    ensures { result.now ≡ told.deck_text (option_map (λ word. word.now) word.entry) }
-{
-    match word {
-        Some(word) => word,
-        None => b"(no word)",
-    }
-}
+impl Telling {
+    ghost use Rattle.cps_compare.specs.Shown.{Counts};
 
-fn octal_text(digits: &[u8]) -> &[u8]
-    ensures { result.now ≡ told.octal_text digits.now }
-{
-    if digits.is_empty() {
-        b"(no digits)"
-    } else {
-        digits
-    }
-}
-
-/// The row of carets below digits.
-pub fn push_carets(text: &mut Vec<u8>, places: &[usize]) -> Result<(), AllocError>
-    requires { All (λ place. place < 20) places.now }
-    ensures { OnOk result (text.new.items ≡ text.old.items ++ told.caret_row places.now) }
-{
-    let before = text.len();
-    for place in places {
-        fill_columns(text, before, BEFORE_WORD + *place)?;
-        text.push(b'^')?;
-    }
-    text.push(b'\n')?;
-    Ok(())
-}
-
-/// The rows of what made the digits at some places of a word.
-pub fn push_makers<V: View>(
-    text: &mut Vec<u8>,
-    view: &V,
-    makers: &Makers,
-    address: u32,
-    places: &[usize],
-) -> Result<(), AllocError>
-    ensures { OnOk result (text.new.items ≡ text.old.items
-        ++ told.maker_rows (V.assembly view.now).lines Maker.Nobody (map (maker_at makers.now address) places.now)) }
-{
-    let mut last = Maker::Nobody;
-    for place in places {
-        let maker = makers.get(address, *place);
-        if !last.is_same(maker) {
-            push_maker(text, view, maker)?;
+    /// Nothing is told. Takes no memory yet.
+    pub fn new(alloc: Global) -> Telling
+        ensures text { result.text.items ≡ [] }
+        ensures differing { result.differing ≡ 0 }
+        ensures compared { result.compared ≡ 0 }
+    {
+        Telling {
+            text: Vec::new(alloc),
+            differing: 0,
+            compared: 0,
         }
-        last = maker;
     }
-    Ok(())
-}
 
-fn push_maker<V: View>(text: &mut Vec<u8>, view: &V, maker: Maker) -> Result<(), AllocError>
-    ensures { OnOk result (text.new.items ≡ text.old.items ++ told.maker_row (V.assembly view.now).lines maker) }
-{
-    match maker {
-        Maker::Nobody => Ok(()),
-        Maker::Line(number) => push_line(text, number, line_at(view, number)),
-        Maker::Literal => text.extend_from_slice(b"       a literal\n"),
+    /// Counts the words at an address.
+    pub fn count(&mut self, digits: &[u8], word: Option<&[u8]>)
+        requires { self.old.compared + self.old.differing < 2 ^ 30 }
+        ensures counts { Counts digits.now (option_map (λ word. word.now) word.entry) self.old self.new }
+        ensures few { self.new.compared + self.new.differing ≤ self.old.compared + self.old.differing + 2 }
+        ensures text { self.new.text.items ≡ self.old.text.items }
+    {
+        if differs(digits, word) {
+            self.differing += 1;
+        }
+        if !digits.is_empty() || word.is_some() {
+            self.compared += 1;
+        }
     }
-}
 
-fn push_line(text: &mut Vec<u8>, number: u32, line: &[u8]) -> Result<(), AllocError>
-    ensures { OnOk result (text.new.items ≡ text.old.items ++ told.line_row number line.now) }
-{
-    text.extend_from_slice(b"       line ")?;
-    push_decimal(text, u64::from(number))?;
-    text.extend_from_slice(b": ")?;
-    text.extend_from_slice(trimmed(line))?;
-    text.push(b'\n')?;
-    Ok(())
-}
-
-/// A line of a source; no bytes where there is none.
-fn line_at<V: View>(view: &V, number: u32) -> &[u8]
-    ensures { result.now ≡ told.line_at (V.assembly view.now).lines number }
-{
-    match view.line(number) {
-        Some(line) => line.bytes(),
-        None => &[],
+    /// Adds the last row.
+    pub fn push_last(&mut self, low: u32, high: u32) -> Result<(), AllocError>
+        ensures text { OnOk result (self.new.text.items ≡ self.old.text.items
+            ++ told.last_row self.old.differing self.old.compared low high) }
+        ensures count { self.new.differing ≡ self.old.differing }
+    {
+        push_decimal(&mut self.text, u64::from(self.differing))?;
+        self.text.extend_from_slice(b" of ")?;
+        push_decimal(&mut self.text, u64::from(self.compared))?;
+        self.text.extend_from_slice(b" words differ (")?;
+        push_octal(&mut self.text, u64::from(low), ADDRESS_DIGITS)?;
+        self.text.extend_from_slice(b" to ")?;
+        push_octal(&mut self.text, u64::from(high), ADDRESS_DIGITS)?;
+        self.text.extend_from_slice(b")\n")
     }
-}
-
-/// A line from its first character on that is no blank.
-fn trimmed(line: &[u8]) -> &[u8]
-    ensures { result.now ≡ told.trimmed line.now }
-{
-    match filled_at(line) {
-        Some(at) => &line[at..],
-        None => &[],
-    }
-}
-
-fn filled_at(line: &[u8]) -> Option<usize>
-    ensures place { result ≡ position is_filled line.now }
-    ensures within { IfSome result (λ at. at < length line.now) }
-{
-    line.iter().position(|byte| *byte != b' ')
 }

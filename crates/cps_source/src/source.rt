@@ -109,7 +109,8 @@ fn pass_one(alloc: Global, gather: &mut Gather, lines: &[Line]) -> Result<Vec<Tr
 /// Pass one of the line after those that were gathered.
 fn step_next(alloc: Global, gather: &mut Gather, line: &Line) -> Result<Trace, AllocError>
     ensures { IfOk result (λ trace. (before : List (List ℕ)) → Gathers (⟦<Gather as Gathered>⟧.gathered gather.old) (traces_of before)
-        → (traces_of (before ++ line.now ∷ []) ≡ traces_of before ++ trace ∷ []) × Gathers (⟦<Gather as Gathered>⟧.gathered gather.new) (traces_of (before ++ line.now ∷ []))) }
+        → (traces_of (before ++ line.now ∷ []) ≡ traces_of before ++ trace ∷ [])
+        × Gathers (⟦<Gather as Gathered>⟧.gathered gather.new) (traces_of (before ++ line.now ∷ []))) }
 {
     let sheet = Sheet::new(alloc);
     let trace = step_over(alloc, &mut Work::new(), sheet, line, gather.state())?;

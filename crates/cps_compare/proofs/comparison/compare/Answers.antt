@@ -7,7 +7,8 @@ use Rattle.cps_compare.specs.Given.{given_in}
 use Rattle.cps_compare.specs.Makers.{signed_of, maker_of}
 use Rattle.cps_compare.specs.Differences.{size_of, digits_in, IsLow, IsHigh}
 use Rattle.cps_compare.specs.Told.{Sides, told_text, count_differing}
-use Rattle.cps_compare.specs.Reading.{digits_at, maker_at, shown_sides}
+use Rattle.cps_compare.specs.Reading.{digits_at, maker_at}
+use Rattle.cps_compare.specs.Shown.{shown_sides}
 use Rattle.cps_compare.specs.Comparison.{sides_of}
 use Rattle.cps_compare.proofs.DeckLemmas.{pieces-of}
 use Rattle.cps_compare.proofs.comparison.compare.Goals as goal
@@ -23,7 +24,7 @@ returns-in-Ok-tell_all g c =
     let given : digits_at words ≡ given_in (size_of (machine_of assembly.finals)) limits.columns octal = c.in-Ok.ensures ∙ ap (λ m. given_in (size_of m) limits.columns octal) machine in
     let made : maker_at deck.makers ≡ maker_of (signed_of assembly) = fun_ext (λ address. fun_ext (λ digit. c.in-Ok-of.ensures.made address digit)) in
     let packed : ArePacked (pieces_of assembly) deck.words = subst (λ (l : List Piece). ArePacked l deck.words) (pieces-of assembly) c.in-Ok-of.ensures.packed in
-    let sides : shown_sides c.machine-machine.result words (pieces_of assembly) deck.makers assembly.lines ≡ sides_of limits octal assembly =
+    let sides : shown_sides (record { machine = c.machine-machine.result; words = words; deck = deck }) (pieces_of assembly) assembly.lines ≡ sides_of limits octal assembly =
     (λ i. record { given = given i; deck = digits_in (machine i) (pieces_of assembly); maker = made i; lines = assembly.lines }) in
     let told = c.in-Ok-tell_all.ensures (pieces_of assembly) packed in
     let low = c.in-Some.low in
@@ -31,8 +32,8 @@ returns-in-Ok-tell_all g c =
     record {
       low = low;
       high = high;
-      is_low = subst (λ (f : ℕ → List ℕ). IsLow limits.from f low) given c.in-Some.ensures.none.0;
-      is_high = subst (λ (f : ℕ → List ℕ). IsHigh limits.to f high) given c.in-Some.ensures.none.1;
+      is_low = subst (λ (f : ℕ → List ℕ). IsLow limits.from f low) given c.in-Some.ensures.span.0;
+      is_high = subst (λ (f : ℕ → List ℕ). IsHigh limits.to f high) given c.in-Some.ensures.span.1;
       text = told.0 ∙ ap (λ (s : Sides). told_text s low high) sides;
       count = told.1 ∙ ap (λ (s : Sides). count_differing s low high) sides;
     }

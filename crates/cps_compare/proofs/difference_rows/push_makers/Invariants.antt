@@ -3,7 +3,7 @@ use Rattle.std.specs.Prelude.{map}
 use Rattle.cps_compare.specs.declared.maker.Maker.TheVariants.{Nobody}
 use Rattle.cps_compare.specs.Told.{maker_rows}
 use Rattle.cps_compare.specs.Reading.{maker_at}
-use Rattle.cps_compare.proofs.telling.push_makers.Given as goal
+use Rattle.cps_compare.proofs.difference_rows.push_makers.Given as goal
 
 abbrev pub invariant-loop-place : goal.invariant-loop-place
 invariant-loop-place g l =

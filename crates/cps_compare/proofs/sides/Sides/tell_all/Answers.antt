@@ -2,10 +2,10 @@ use Rattle.std.proofs.Common.{◌≡◌, ℕ, ◌+◌, ◌-◌, ◌≤◌, ◌++
 use Rattle.std.specs.List.{count_by, range_with_len}
 use Rattle.cps_compare.specs.Differences.{is_compared}
 use Rattle.cps_compare.specs.Told.{rows_at, differs_at, last_row}
-use Rattle.cps_compare.specs.Reading.{shown_sides}
-use Rattle.cps_compare.specs.Counting.{one_if}
+use Rattle.cps_compare.specs.Shown.{shown_sides}
+use Rattle.cps_compare.specs.Shown.{one_if}
 use Rattle.cps_compare.proofs.ToldLemmas.{rows-more, counts-more}
-use Rattle.cps_compare.proofs.comparison.Sides.tell_all.Goals as goal
+use Rattle.cps_compare.proofs.sides.Sides.tell_all.Goals as goal
 
 pub loop-address-preserved : goal.loop-address-preserved
 loop-address-preserved g c =
@@ -19,7 +19,7 @@ loop-address-preserved g c =
       few = omega (arith, few, more, from);
       within = omega (arith, below);
       told = λ pieces packed.
-          let sides = shown_sides c.args.self.now.machine c.args.self.now.words pieces c.args.self.now.deck.makers (g.V.View.assembly c.args.view.now).lines in
+          let sides = shown_sides c.args.self.now pieces (g.V.View.assembly c.args.view.now).lines in
           let was = c.loop-address.invariant.told pieces packed in
           let counts = c.in_ok-tell.ensures.counts pieces packed in (
             c.in_ok-tell.ensures.text pieces packed ∙ ap (λ l. l ++ rows_at sides at) was.0 ∙ sym (rows-more (rows_at sides) low at from),
@@ -33,7 +33,7 @@ pub returns : goal.returns
 returns g c = λ pieces packed.
     let low = c.args.low in
     let high = c.args.high in
-    let sides = shown_sides c.args.self.now.machine c.args.self.now.words pieces c.args.self.now.deck.makers (g.V.View.assembly c.args.view.now).lines in
+    let sides = shown_sides c.args.self.now pieces (g.V.View.assembly c.args.view.now).lines in
     let within = c.loop-address.invariant.within in
     let past = c.loop-address-test.false in
     let same : c.loop-address.address - low ≡ high + 1 - low = omega (arith, within, past) in

@@ -4,7 +4,7 @@ use Rattle.std.proofs.lemmas.List.{take_rest, drop_all}
 use Rattle.cps_text.specs.Text.{is_filled}
 use Rattle.cps_text.proofs.PlaceLemmas.{position_or_len-none}
 use Rattle.cps_compare.proofs.CutLemmas.{place-Some}
-use Rattle.cps_compare.proofs.telling.trimmed.Goals as goal
+use Rattle.cps_compare.proofs.difference_rows.trimmed.Goals as goal
 
 pub returns-in-Some : goal.returns-in-Some
 returns-in-Some c =

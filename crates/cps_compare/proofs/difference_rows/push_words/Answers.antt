@@ -3,7 +3,7 @@ use Rattle.std.specs.Option.{option_map}
 use Rattle.cps_text.specs.Octal.{octal}
 use Rattle.cps_compare.specs.Told.{deck_text, octal_text}
 use Rattle.cps_compare.proofs.TextLemmas.{six-pieces}
-use Rattle.cps_compare.proofs.telling.push_words.Goals as goal
+use Rattle.cps_compare.proofs.difference_rows.push_words.Goals as goal
 
 pub returns : goal.returns
 returns c =

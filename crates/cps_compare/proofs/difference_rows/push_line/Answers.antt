@@ -1,7 +1,7 @@
 use Rattle.std.proofs.Common.{◌++◌, ap, ◌∙◌, codes, decimal}
 use Rattle.cps_compare.specs.Told.{trimmed}
 use Rattle.cps_compare.proofs.TextLemmas.{five-pieces}
-use Rattle.cps_compare.proofs.telling.push_line.Goals as goal
+use Rattle.cps_compare.proofs.difference_rows.push_line.Goals as goal
 
 pub returns : goal.returns
 returns c =
