@@ -11,6 +11,7 @@ use Rattle.cps_compare.specs.Makers.{signed_of, maker_of}
 use Rattle.cps_compare.specs.Differences.{size_of, deck_of, IsLow, IsHigh}
 use Rattle.cps_compare.specs.Told.{Sides, told_text, count_differing}
 
+-- what is compared: the digits that the octal text gives, and the words of the source
 abbrev pub sides_of : Limits → List ℕ → Assembly → Sides
 sides_of limits octal assembly = record {
   given = given_in (size_of (machine_of assembly.finals)) limits.columns octal;

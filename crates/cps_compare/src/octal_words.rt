@@ -110,9 +110,9 @@ impl OctalWords {
             ≡ with_row (size_of machine) (digits_at self.old) (record { address = address; digits = digits.now })) }
     {
         let size = word_digits(machine);
-        let begun = begun(self.get(address).len(), size);
+        let front = begun_len(self.get(address).len(), size);
         for (before, digit) in digits.iter().enumerate() {
-            let at = begun + before;
+            let at = front + before;
             self.put(address as usize + at / size, at % size, *digit)?;
         }
         Ok(())
@@ -177,8 +177,8 @@ pub fn word_digits(machine: Machine) -> usize
 }
 
 /// How many digits a row goes on behind, of a word that has so many.
-fn begun(count: usize, size: usize) -> usize
-    ensures begun { (word : List ℕ) → count ≡ length word → result ≡ length (spec.begun size word) }
+fn begun_len(count: usize, size: usize) -> usize
+    ensures len { (word : List ℕ) → count ≡ length word → result ≡ length (spec.begun size word) }
     ensures few { result ≤ size }
 {
     if count < size { count } else { 0 }

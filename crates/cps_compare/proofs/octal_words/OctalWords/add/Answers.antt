@@ -23,13 +23,13 @@ loop-before-preserved c =
     let before = c.loop-before.before in
     let within = c.loop-before-test.true in
     let digit = get_or digits before 0 in
-    let at = c.begun-begun.result + before in
+    let at = c.begun_len-front.result + before in
     let q = at / held in
     let r = at % held in
     let some : 0 < size = subst (λ n. 0 < n) same c.word_digits-size.ensures.some in
     let small : r < size = subst (λ n. r < n) same (mod_below at held c.word_digits-size.ensures.some) in
     let split : at ≡ q * size + r = sym (div-add-mod' at held) ∙ ap (λ n. q * n + r) same in
-    let start = c.begun-begun.ensures.begun (given address) (ap length c.get.ensures.digits) ∙ ap (λ n. length (begun n (given address))) same in
+    let start = c.begun_len-front.ensures.len (given address) (ap length c.get.ensures.digits) ∙ ap (λ n. length (begun n (given address))) same in
     let taken = length-take-le before digits (omega arith) in
     let front : length (begun size (given address)) + length (take before digits) ≡ q * size + r = (λ i. sym start i + taken i) ∙ split in
     c.in_ok-put.ensures
