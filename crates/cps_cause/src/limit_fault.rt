@@ -3,6 +3,10 @@
 use crate::quotation::Quotation;
 use crate::words::{push_number, push_quoted};
 use cps_expr::Operation;
+use cps_text::limits::{
+    DEEPEST, MOST_BLOCKS, MOST_BODY_LINES, MOST_CHARACTERS, MOST_GENERATED, MOST_RANGES,
+    MOST_STATEMENTS, MOST_TIMES,
+};
 use std::alloc::AllocError;
 
 /// The limit that a statement passes.
@@ -58,45 +62,44 @@ impl LimitFault {
             }
             LimitFault::Address(place) => place.push_words(text, b"this stands at word "),
             LimitFault::Literal(place) => place.push_words(text, b"the literal stands at word "),
-            LimitFault::Blocks => push_quoted(
-                text,
-                b"",
-                quotation.shown,
-                b" would be a 65th named block, and 64 are the most",
-            ),
-            LimitFault::Times(times) => {
-                push_number(
-                    text,
-                    b"lines are repeated 1,000 times at most, and not ",
-                    times,
-                    b"",
-                )
-            }
+            LimitFault::Blocks => push_blocks(text, quotation.shown),
+            LimitFault::Times(times) => push_times(text, times),
             LimitFault::Body => push_body(text, quotation.operation),
-            LimitFault::Characters(count) => {
-                let count = i64::try_from(count).unwrap_or(0);
-                push_number(
-                    text,
-                    b"with its arguments this has ",
-                    count,
-                    b" characters, and 90 are the most",
-                )
-            }
-            _ => text.extend_from_slice(self.sentence()),
+            LimitFault::Characters(count) => push_characters(text, count),
+            _ => push_number(text, self.front(), self.most(), self.rest()),
         }
     }
 
-    /// The words that nothing is filled into.
-    fn sentence(self) -> &'static [u8] {
+    /// What is told before the most that there may be.
+    fn front(self) -> &'static [u8] {
         match self {
-            LimitFault::Ranges => b"20 ranges are open already, so this one does nothing",
-            LimitFault::Line =>
-                b"500 lines are kept already, the most that a body has; this one isn't",
-            LimitFault::Depth => {
-                b"this would open statements more than 10 deep; does a macro call itself?"
+            LimitFault::Depth => b"this would open statements more than ",
+            LimitFault::Statements => b"this would open more than ",
+            _ => b"",
+        }
+    }
+
+    /// The most that there may be.
+    fn most(self) -> i64 {
+        match self {
+            LimitFault::Ranges => MOST_RANGES as i64,
+            LimitFault::Depth => i64::from(DEEPEST),
+            LimitFault::Statements => MOST_STATEMENTS as i64,
+            LimitFault::Names => i64::from(MOST_GENERATED),
+            _ => i64::from(MOST_BODY_LINES),
+        }
+    }
+
+    /// What is told behind it.
+    fn rest(self) -> &'static [u8] {
+        match self {
+            LimitFault::Ranges => b" ranges are open already, so this one does nothing",
+            LimitFault::Line => {
+                b" lines are kept already, the most that a body has; this one isn't"
             }
-            LimitFault::Statements => b"this would open more than 20,000 statements",
-            LimitFault::Names => b"9,999,999 local names were given names, and there are no more",
+            LimitFault::Depth => b" deep; does a macro call itself?",
+            LimitFault::Statements => b" statements",
+            LimitFault::Names => b" local names have names of their own, and there are no more",
             _ => b"",
         }
     }
@@ -108,9 +111,43 @@ fn push_origin(text: &mut Vec<u8>, shown: &[u8], words: u32) -> Result<(), Alloc
     push_quoted(text, b"", shown, b" is past them")
 }
 
+/// Appends that a named block would be one too many.
+fn push_blocks(text: &mut Vec<u8>, shown: &[u8]) -> Result<(), AllocError> {
+    push_quoted(text, b"", shown, b" would be a named block more than ")?;
+    push_number(text, b"", i64::from(MOST_BLOCKS), b", the most")
+}
+
+/// Appends that lines would be repeated too often.
+fn push_times(text: &mut Vec<u8>, times: i64) -> Result<(), AllocError> {
+    push_number(
+        text,
+        b"lines are repeated ",
+        MOST_TIMES as i64,
+        b" times at most, ",
+    )?;
+    push_number(text, b"and not ", times, b"")
+}
+
+/// Appends that a statement has too many characters.
+fn push_characters(text: &mut Vec<u8>, count: usize) -> Result<(), AllocError> {
+    let count = i64::try_from(count).unwrap_or(0);
+    push_number(
+        text,
+        b"with its arguments this has ",
+        count,
+        b" characters, ",
+    )?;
+    push_number(text, b"and ", MOST_CHARACTERS as i64, b" are the most")
+}
+
 /// Appends that a body with too many lines is dropped.
 fn push_body(text: &mut Vec<u8>, operation: &[u8]) -> Result<(), AllocError> {
-    text.extend_from_slice(b"more than 500 lines came, so ")?;
+    push_number(
+        text,
+        b"more than ",
+        i64::from(MOST_BODY_LINES),
+        b" lines came, so ",
+    )?;
     match Operation::named(operation) {
         Some(Operation::Endm) => text.extend_from_slice(b"the macro isn't defined"),
         _ => text.extend_from_slice(b"nothing is repeated"),

@@ -326,7 +326,7 @@ const MORE_WORDS: [(&[&str], &str); 40] = [
     ),
     (
         &["          DUP     1001,1", "*"],
-        "1:19-22 E lines are repeated 1,000 times at most, and not 1001\n",
+        "1:19-22 E lines are repeated 1000 times at most, and not 1001\n",
     ),
     (
         &["          ENDD"],

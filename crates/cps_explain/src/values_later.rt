@@ -12,6 +12,9 @@ use std::alloc::{AllocError, Global};
 /// The bits of a central processor's word.
 const WORD_BITS: u8 = 60;
 
+/// The words that a jump of a peripheral processor goes at most, either way.
+const FARTHEST: u64 = 31;
+
 /// What goes into bits.
 #[derive(Clone, Copy)]
 struct FieldValue<'a> {
@@ -201,7 +204,7 @@ fn find_cut(
 
 /// A target that is too far away.
 fn find_far(findings: &mut Findings, distance: i64, columns: Columns) -> Result<(), AllocError> {
-    if distance.unsigned_abs() <= 31 {
+    if distance.unsigned_abs() <= FARTHEST {
         return Ok(());
     }
     findings.add(Cause::Value(ValueFault::TooFar(distance)), columns)

@@ -15,6 +15,9 @@ use cps_text::Name;
 use cps_text::limits::MOST_TIMES;
 use std::alloc::AllocError;
 
+/// The greatest width of a field.
+const MOST_BITS: i64 = 60;
+
 /// What is wrong with values that a statement takes as it is read.
 pub fn find_now(
     recorder: &mut Recorder<'_, Asks>,
@@ -166,11 +169,11 @@ fn too_often(number: i64) -> Option<Cause> {
     Some(Cause::Limit(LimitFault::Times(number)))
 }
 
-/// A width is a number from 1 to 60.
+/// Why a value is no width of a field.
 fn unfit_width(value: Value) -> Option<Cause> {
     match value.block {
         Some(block) => Some(Cause::Width(WidthFault::InBlock(block))),
-        None if (1..=60).contains(&value.offset) => None,
+        None if (1..=MOST_BITS).contains(&value.offset) => None,
         None => Some(Cause::Width(WidthFault::OutOfRange(value.offset))),
     }
 }
