@@ -1,0 +1,2 @@
+" Sources of COMPASS.
+autocmd BufNewFile,BufRead *.cps set filetype=compass
