@@ -146,6 +146,10 @@ LIMITS = [
             entered(503) + b"502 E\n503 E\n2 flagged lines\nIDENT\n", 1),
     session(b"a          DUP     2,500\n" + b"a *\n" * 499 + b"a          CON     1\nflags\nbinary\n",
             entered(501) + FLAGS + b"IDENT\n000000 00000000000000000001\n000001 00000000000000000001\n"),
+    # 10,000 comments go behind a statement and back. There the head has ended, which each of them asks; the statements find what they found.
+    session(b"a\n" * 10_000 + b"a          CON     1\na          CON     2\nm 1 10000 10001\nwork\nbinary\nm 2 10001 0\nwork\nd 1 10000\nwork\n",
+            entered(10_002) + b"ok 10002 lines\nones 10000 twos 10000\nIDENT\n000000 00000000000000000001\n000001 00000000000000000002\n"
+            b"ok 10002 lines\nones 10000 twos 10000\nok 2 lines\nones 0 twos 0\n"),
 ]
 
 # a source in a file, and files that can't be opened
