@@ -1,5 +1,5 @@
 -- What a call of the program does, and the status that it ends with. Our own.
-use Rattle.std.specs.Prelude.{◌≡◌, ℕ, ◌⊎◌, List, [], Option, Some, None, Result, Ok, Err, if◌then◌else◌, ◌==◌}
+use Rattle.std.specs.Prelude.{◌≡◌, ℕ, ◌⊎◌, List, [], Option, Some, None, Result, Ok, Err, if◌then◌else◌, ◌==◌, ⊤}
 use Rattle.cps_text.specs.declared.counted.Counted.{Counted}
 use Rattle.cps_text.specs.Counted.{inner_of, calls_of, failures_of, moved_of, idle_of, FailsOnce}
 use Rattle.cps_batch.specs.declared.fault.BatchFault.{BatchFault}
@@ -71,12 +71,16 @@ pub record CallsOnFile {F W : Type 0} (holds : Option (List ℕ)) (remaining : F
   pub bytes : remaining (inner_of file) ≡ holds
   pub calls : Calls remaining contents request status file file' writer writer'
 
--- What a call does that has files: so it is where none is named. A named file can't be opened, and then nothing is done, or what is asked is done
--- with it; standard input isn't read.
-abbrev pub ServesWith : {F R W : Type 0} → (List ℕ → Option (List ℕ)) → (F → Option (List ℕ)) → (R → Option (List ℕ)) → (W → Option (List ℕ)) → Answer → ℕ → Counted R → Counted R → Counted W → Counted W → Type 0
-ServesWith holds opened remaining contents (asks request (Some name)) status reader reader' writer writer' =
-    IsUndone status reader reader' writer writer' ⊎ ((reader' ≡ reader) × CallsOnFile (holds name) opened contents request status writer writer')
-ServesWith holds opened remaining contents answer status reader reader' writer writer' = Serves remaining contents answer status reader reader' writer writer'
+-- What a call with files does with standard input: what a call without them does; where a file is named it isn't read.
+abbrev pub ServesIn : {R W : Type 0} → (R → Option (List ℕ)) → (W → Option (List ℕ)) → Answer → ℕ → Counted R → Counted R → Counted W → Counted W → Type 0
+ServesIn remaining contents (asks request (Some name)) status reader reader' writer writer' = reader' ≡ reader
+ServesIn remaining contents answer status reader reader' writer writer' = Serves remaining contents answer status reader reader' writer writer'
+
+-- What it does with a file that is named: what is asked is done with it; or it can't be opened, or there is no memory, and then nothing is done.
+abbrev pub ServesFile : {F W : Type 0} → (List ℕ → Option (List ℕ)) → (F → Option (List ℕ)) → (W → Option (List ℕ)) → Answer → ℕ → Counted W → Counted W → Type 0
+ServesFile holds opened contents (asks request (Some name)) status writer writer' =
+    ((status ≡ 2) × (writer' ≡ writer)) ⊎ CallsOnFile (holds name) opened contents request status writer writer'
+ServesFile holds opened contents answer status writer writer' = ⊤
 
 -- nothing is said of a call that ends with another status than 2
 abbrev pub IsQuiet : {E : Type 0} → ℕ → Counted E → Counted E → Type 0

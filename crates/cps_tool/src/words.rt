@@ -1,7 +1,7 @@
 //! A call of the program, by its words.
 ghost use Rattle.std.specs.Prelude.{◌≡◌, ◌⊎◌};
 ghost use Rattle.clap.specs.Walk.{texts};
-ghost use Rattle.cps_tool.specs.CommandLine.{status_with, Calls, CallsOnFile, Serves, ServesWith, Tells, TellsUnread, IsQuiet};
+ghost use Rattle.cps_tool.specs.CommandLine.{status_with, Calls, CallsOnFile, Serves, ServesFile, ServesIn, Tells, TellsUnread, IsQuiet};
 ghost use Rattle.cps_tool.specs.Request.{answer_of};
 ghost use Rattle.cps_tool.specs.declared.request.Request.TheVariants as requests;
 
@@ -76,7 +76,8 @@ pub fn run_call<'a, S: Sources, R: Read, W: Write, E: Write>(
     writer: &mut Counted<W>,
     errors: &mut Counted<E>,
 ) -> u8
-    ensures serves { ServesWith (S.holds host.now.sources) S.Opened.remaining R.remaining W.contents (answer_of (texts words.now)) result reader.old reader.new writer.old writer.new }
+    ensures input { ServesIn R.remaining W.contents (answer_of (texts words.now)) result reader.old reader.new writer.old writer.new }
+    ensures file { ServesFile (S.holds host.now.sources) S.Opened.remaining W.contents (answer_of (texts words.now)) result writer.old writer.new }
     ensures quiet { IsQuiet result errors.old errors.new }
 {
     match read_words(host.alloc, words) {
