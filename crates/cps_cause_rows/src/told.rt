@@ -74,8 +74,8 @@ fn told_under(
     for (at, trace) in traces.iter().enumerate() {
         if let Some(line) = lines.get(at) {
             let number = at.saturating_add(1);
-            is_told = tell_line(alloc, &mut text, telling, number, (line, trace, finals))
-                && is_told;
+            let told = explain(alloc, line, trace, finals);
+            is_told = tell_line(&mut text, telling, number, line, told) && is_told;
         }
     }
     let is_told = tell_end(&mut text, finals).is_ok() && is_told;
@@ -83,14 +83,13 @@ fn told_under(
 }
 
 fn tell_line(
-    alloc: Global,
     text: &mut Vec<u8>,
     telling: Telling,
     number: usize,
-    done: (&Line, &Trace, &Finals),
+    line: &Line,
+    told: Result<Vec<Diagnostic>, AllocError>,
 ) -> bool {
-    let (line, trace, finals) = done;
-    match explain(alloc, line, trace, finals) {
+    match told {
         Ok(told) => {
             let is_told = tell_all(text, telling, number, line.bytes(), &told);
             drop(told);
