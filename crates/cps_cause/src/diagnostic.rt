@@ -7,7 +7,6 @@ use cps_state::Shared;
 use std::alloc::AllocError;
 
 /// A cause of a line's flag, and where it shows.
-#[derive(Drop)]
 pub struct Diagnostic {
     /// Where it shows in the source line.
     pub columns: Columns,
@@ -18,6 +17,20 @@ pub struct Diagnostic {
     pub statement: Shared<u8>,
     /// How often an equal one comes in the line's expansion.
     pub times: u32,
+}
+
+// Written out, so that it is proved once.
+impl Drop for Diagnostic {
+    fn drop(self) {
+        let Diagnostic {
+            columns: _,
+            cause: _,
+            within: _,
+            statement,
+            times: _,
+        } = self;
+        drop(statement);
+    }
 }
 
 impl Diagnostic {

@@ -1,5 +1,7 @@
 //! The causes of a line's flags.
-ghost use Rattle.std.specs.Prelude.{◌≡◌, IfOk, is_some};
+ghost use Rattle.std.specs.Prelude.{◌≡◌, IfOk, IfSome, is_some};
+ghost use Rattle.cps_cause.specs.declared.letter.Letter.TheVariants.{E};
+ghost use Rattle.cps_cause.specs.Letters.{letter_of};
 ghost use Rattle.cps_gather.specs.Finals.{final_value, is_open_at_end};
 ghost use Rattle.cps_final.specs.Outcome.{outcome_of};
 ghost use Rattle.cps_explain.specs.Explaining.{Explains};
@@ -37,7 +39,8 @@ pub fn explain(
 
 /// What is open where a source ends, None where nothing is. It shows in the line that opened it.
 pub fn explain_end(finals: &Finals) -> Result<Option<Cause>, AllocError>
-    ensures { IfOk result (λ cause. is_some cause ≡ is_open_at_end (⟦<Finals as Gathered>⟧.gathered finals.now)) }
+    ensures open { IfOk result (λ cause. is_some cause ≡ is_open_at_end (⟦<Finals as Gathered>⟧.gathered finals.now)) }
+    ensures letter { IfOk result (λ cause. IfSome cause (λ c. letter_of c ≡ E)) }
 {
     if !finals.is_open_at_end() {
         return Ok(None);

@@ -56,8 +56,9 @@ impl Teller {
         if !letter.is_among(self.wanted) {
             return Ok(());
         }
-        let columns = found.columns.within(self.len);
-        self.told.push(Diagnostic { columns, ..found })?;
+        let mut told = found;
+        told.columns = told.columns.within(self.len);
+        self.told.push(told)?;
         self.letters = letter.added_to(self.letters);
         Ok(())
     }
