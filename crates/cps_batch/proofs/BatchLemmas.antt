@@ -1,123 +1,15 @@
--- Lines of a source that come one after another, by their bytes.
-use Rattle.std.proofs.Common.{◌≡◌, ℕ, ◌+◌, ◌≤◌, List, [], ◌∷◌, ◌++◌, map, length, refl, sym, ap, subst, ◌∙◌, arith, append_assoc, append-nil, length-append, true}
-use Rattle.std.proofs.lemmas.List.{map-append}
-use Rattle.std.proofs.lemmas.List.Elements.{All-nil, All-push}
+-- A run of batch assembly, by what was done with the lines that were read.
+use Rattle.std.proofs.Common.{ℕ, List}
 use Rattle.std.specs.Prelude.{Option, Result, Ok, Err}
-use Rattle.std.specs.Io.KnownBytes.{Consumes}
 use Rattle.cps_text.specs.declared.counted.Counted.{Counted}
-use Rattle.cps_text.specs.Counted.{inner_of}
-use Rattle.cps_text.specs.Line.{IsLine}
+use Rattle.cps_input.specs.declared.fault.InputFault.TheVariants as inputs
+use Rattle.cps_input.specs.Sources.{IsReadWhole}
 use Rattle.cps_list.specs.declared.part.Part.{Part}
 use Rattle.cps_batch.specs.declared.fault.BatchFault.{BatchFault}
 use Rattle.cps_batch.specs.declared.fault.BatchFault.TheVariants as faults
-use Rattle.cps_batch.specs.declared.input.Input.{Input}
-use Rattle.cps_assembly.specs.Limits.{most_lines}
-use Rattle.cps_batch.specs.Batch.{IsSource, IsWrong, IsFirstWrong, Refuses, IsReadWhole, Assembles, RunsBatch}
-use Rattle.cps_batch.specs.BegunLine.{IsBegun}
-use Rattle.cps_batch.specs.Input.{IsIntake, HasCome}
-use Rattle.cps_batch.specs.Reads.{EndsEarly}
-use Rattle.cps_batch.specs.Lines.{HasText, has_no_newline, newline, without_return, last_line, lines_of}
-use Rattle.cps_batch.proofs.SplitLemmas.{splits-none, splits-line, splits-piece}
+use Rattle.cps_batch.specs.Batch.{Assembles, RunsBatch}
 
--- ---- lines
-
-pub source-none : IsSource []
-source-none = record { each = All-nil IsLine; few = omega arith }
-
-pub source-more : (lines : List (List ℕ)) (line : List ℕ) → IsSource lines → IsLine line → length lines + 1 ≤ most_lines → IsSource (lines ++ line ∷ [])
-source-more lines line source is_line few = record {
-  each = All-push IsLine lines line source.each is_line;
-  few = omega (arith, length-append lines (line ∷ []));
-}
-
--- a line that no source may have, after lines that one may have
-pub wrong-here : (lines : List (List ℕ)) (line : List ℕ) (fault : BatchFault) (number : ℕ) → IsSource lines → number ≡ length lines + 1 → IsWrong number line fault
-    → IsFirstWrong (lines ++ line ∷ []) fault
-wrong-here lines line fault number source is wrong = record {
-  front = lines;
-  line = line;
-  back = [];
-  whole = refl;
-  before = source;
-  wrong = subst (λ n. IsWrong n line fault) is wrong;
-}
-
--- what comes after it doesn't matter
-pub wrong-before : (lines : List (List ℕ)) (line : List ℕ) (fault : BatchFault) → IsFirstWrong lines fault → IsFirstWrong (lines ++ line ∷ []) fault
-wrong-before lines line fault first = record {
-  front = first.front;
-  line = first.line;
-  back = first.back ++ line ∷ [];
-  whole = ap (λ ls. ls ++ line ∷ []) first.whole ∙ append_assoc first.front (first.line ∷ first.back) (line ∷ []);
-  before = first.before;
-  wrong = first.wrong;
-}
-
--- ---- bytes
-
-pub come-none : (input : Input) → IsIntake input.intake [] → IsBegun input.begun [] → HasCome input []
-come-none input intake begun = record { lines = []; rest = []; splits = splits-none; begun = begun; intake = intake }
-
-pub come-piece : (old new : Input) (taken piece : List ℕ) → HasCome old taken → has_no_newline piece ≡ true → new.intake ≡ old.intake
-    → ((begun : List ℕ) → IsBegun old.begun begun → IsBegun new.begun (begun ++ piece)) → HasCome new (taken ++ piece)
-come-piece old new taken piece so_far other same push = record {
-  lines = so_far.lines;
-  rest = so_far.rest ++ piece;
-  splits = splits-piece taken so_far.lines so_far.rest piece so_far.splits other;
-  begun = push so_far.rest so_far.begun;
-  intake = subst (λ i. IsIntake i (map without_return so_far.lines)) (sym same) so_far.intake;
-}
-
-pub come-line : (old new : Input) (taken : List ℕ) → HasCome old taken
-    → ((lines : List (List ℕ)) (line : List ℕ) → IsIntake old.intake lines → IsBegun old.begun line → IsIntake new.intake (lines ++ without_return line ∷ []))
-    → IsBegun new.begun [] → HasCome new (taken ++ newline ∷ [])
-come-line old new taken so_far with_line empty = record {
-  lines = so_far.lines ++ so_far.rest ∷ [];
-  rest = [];
-  splits = splits-line taken [] so_far.lines [] so_far.rest [] so_far.splits splits-none;
-  begun = empty;
-  intake = subst (λ ls. IsIntake new.intake ls) (sym (map-append without_return so_far.lines (so_far.rest ∷ [])))
-      (with_line (map without_return so_far.lines) so_far.rest so_far.intake so_far.begun);
-}
-
--- ---- the end of the bytes
-
-last_line-some : (rest : List ℕ) → (rest ≡ [] → ⊥) → last_line rest ≡ without_return rest ∷ []
-last_line-some [] some = absurd (some refl)
-last_line-some (b ∷ bytes) some = refl
-
--- no line has begun
-pub text-whole : (input : Input) (taken : List ℕ) → (come : HasCome input taken) → come.rest ≡ [] → HasText taken (map without_return come.lines)
-text-whole input taken come none = record {
-  lines = come.lines;
-  rest = come.rest;
-  splits = come.splits;
-  all = sym (ap (λ r. lines_of come.lines r) none ∙ append-nil (map without_return come.lines));
-}
-
--- a line has begun
-pub text-unended : (input : Input) (taken : List ℕ) → (come : HasCome input taken) → (come.rest ≡ [] → ⊥)
-    → HasText taken (map without_return come.lines ++ without_return come.rest ∷ [])
-text-unended input taken come some = record {
-  lines = come.lines;
-  rest = come.rest;
-  splits = come.splits;
-  all = sym (ap (λ ls. map without_return come.lines ++ ls) (last_line-some come.rest some));
-}
-
--- ---- a run
-
--- the lines of an input that are not assembled
-pub refused : {W : Type 0} (contents : W → Option (List ℕ)) (part : Part) (fault : BatchFault) (lines : List (List ℕ)) (writer : Counted W)
-    → Refuses fault lines → Assembles contents part (Err fault) lines writer writer
-refused contents part (faults.LineTooLong at) lines writer why = (why, refl)
-refused contents part (faults.BadCharacter at) lines writer why = (why, refl)
-refused contents part faults.TooManyLines lines writer why = (why, refl)
-refused contents part faults.Memory lines writer why = (why, refl)
-refused contents part faults.ReadFault lines writer why = absurd why
-refused contents part faults.WriteFault lines writer why = absurd why
-
--- an input that was read to its end
+-- lines that were assembled
 pub runs : {R W : Type 0} (remaining : R → Option (List ℕ)) (contents : W → Option (List ℕ)) (part : Part) (result : Result ℕ BatchFault)
     (reader reader' : Counted R) (writer writer' : Counted W) (lines : List (List ℕ)) → IsReadWhole remaining reader reader' lines
     → Assembles contents part result lines writer writer' → RunsBatch remaining contents part result reader reader' writer writer'
@@ -126,27 +18,9 @@ runs remaining contents part (Err (faults.LineTooLong at)) reader reader' writer
 runs remaining contents part (Err (faults.BadCharacter at)) reader reader' writer writer' lines whole done = (lines, whole, done)
 runs remaining contents part (Err faults.TooManyLines) reader reader' writer writer' lines whole done = (lines, whole, done)
 runs remaining contents part (Err faults.Memory) reader reader' writer writer' lines whole done = (lines, whole, done)
-runs remaining contents part (Err faults.ReadFault) reader reader' writer writer' lines whole done = absurd done.0
+runs remaining contents part (Err faults.ReadFault) reader reader' writer writer' lines whole ((inputs.ReadFault, is, why), same) = absurd why
+runs remaining contents part (Err faults.ReadFault) reader reader' writer writer' lines whole ((inputs.LineTooLong at, is, why), same) = cc
+runs remaining contents part (Err faults.ReadFault) reader reader' writer writer' lines whole ((inputs.BadCharacter at, is, why), same) = cc
+runs remaining contents part (Err faults.ReadFault) reader reader' writer writer' lines whole ((inputs.TooManyLines, is, why), same) = cc
+runs remaining contents part (Err faults.ReadFault) reader reader' writer writer' lines whole ((inputs.Memory, is, why), same) = cc
 runs remaining contents part (Err faults.WriteFault) reader reader' writer writer' lines whole done = (lines, whole, done)
-
--- an input that was not
-pub runs-early : {R W : Type 0} (remaining : R → Option (List ℕ)) (contents : W → Option (List ℕ)) (part : Part) (fault : BatchFault)
-    (reader reader' : Counted R) (writer : Counted W) (taken : List ℕ) → fault ≡ faults.ReadFault
-    → Consumes (remaining (inner_of reader)) (remaining (inner_of reader')) taken → EndsEarly reader reader' taken
-    → RunsBatch remaining contents part (Err fault) reader reader' writer writer
-runs-early remaining contents part fault reader reader' writer taken is consumes early =
-    subst (λ f. RunsBatch remaining contents part (Err f) reader reader' writer writer) (sym is) (taken, consumes, early, refl)
-
--- ---- how many lines have come
-
-pub kept-few : (kept lines : List (List ℕ)) → (kept ≡ lines) × IsSource lines → length kept ≤ most_lines
-kept-few kept lines come =
-    let same = ap length come.0 in
-    let few = come.1.few in
-    omega arith
-
-pub refused-few : (count : ℕ) (lines : List (List ℕ)) → (count ≡ length lines) × IsSource lines → count ≤ most_lines
-refused-few count lines come =
-    let same = come.0 in
-    let few = come.1.few in
-    omega arith

@@ -1,5 +1,8 @@
 //! Why a source that is read whole is not assembled, or its texts not written.
+ghost use Rattle.std.specs.Prelude.{◌≡◌};
+ghost use Rattle.cps_batch.specs.Batch as batch;
 
+use cps_input::InputFault;
 use thiserror::Error;
 
 /// Why batch assembly ends without its texts. A line's number counts from 1.
@@ -23,4 +26,19 @@ pub enum BatchFault {
     /// A write failed, or took none of the bytes it was given.
     #[error("write fault")]
     WriteFault,
+}
+
+impl BatchFault {
+    /// A fault of the input, as batch assembly answers it.
+    pub fn of_input(fault: InputFault) -> BatchFault
+        ensures { result ≡ batch.of_input fault }
+    {
+        match fault {
+            InputFault::ReadFault => BatchFault::ReadFault,
+            InputFault::LineTooLong(number) => BatchFault::LineTooLong(number),
+            InputFault::BadCharacter(number) => BatchFault::BadCharacter(number),
+            InputFault::TooManyLines => BatchFault::TooManyLines,
+            InputFault::Memory => BatchFault::Memory,
+        }
+    }
 }

@@ -1,5 +1,0 @@
-use Rattle.cps_batch.proofs.BatchLemmas.{come-none}
-use Rattle.cps_batch.proofs.input.Input.new.Goals as goal
-
-pub returns : goal.returns
-returns c = come-none _ c.new.ensures c.new-2.ensures

@@ -1,0 +1,133 @@
+-- Lines of a source that come one after another, by their bytes.
+use Rattle.std.proofs.Common.{◌≡◌, ℕ, ◌+◌, ◌≤◌, List, [], ◌∷◌, ◌++◌, map, length, refl, sym, ap, subst, ◌∙◌, arith, append_assoc, append-nil, length-append, true}
+use Rattle.std.proofs.lemmas.List.{map-append}
+use Rattle.std.proofs.lemmas.List.Elements.{All-nil, All-push}
+use Rattle.std.specs.Prelude.{Option, Result, Ok, Err, MatchResult}
+use Rattle.std.specs.declared.vec.Vec.{Vec}
+use Rattle.cps_text.specs.declared.counted.Counted.{Counted}
+use Rattle.cps_text.specs.Line.{IsLine}
+use Rattle.cps_input.specs.declared.fault.InputFault.{InputFault}
+use Rattle.cps_input.specs.declared.fault.InputFault.TheVariants as faults
+use Rattle.cps_input.specs.declared.input.Input.{Input}
+use Rattle.cps_text.specs.declared.limits.TheConstants.{MOST_LINES}
+use Rattle.cps_input.specs.Sources.{IsSource, IsWrong, IsFirstWrong, Refuses, ReadsLines}
+use Rattle.cps_input.specs.Reads.{IsAllRead}
+use Rattle.cps_input.specs.BegunLine.{IsBegun}
+use Rattle.cps_input.specs.Input.{IsIntake, HasCome}
+use Rattle.cps_input.specs.Lines.{HasText, has_no_newline, newline, without_return, last_line, lines_of}
+use Rattle.cps_input.proofs.SplitLemmas.{splits-none, splits-line, splits-piece}
+
+-- ---- lines
+
+pub source-none : IsSource []
+source-none = record { each = All-nil IsLine; few = omega arith }
+
+pub source-more : (lines : List (List ℕ)) (line : List ℕ) → IsSource lines → IsLine line → length lines + 1 ≤ MOST_LINES → IsSource (lines ++ line ∷ [])
+source-more lines line source is_line few = record {
+  each = All-push IsLine lines line source.each is_line;
+  few = omega (arith, length-append lines (line ∷ []));
+}
+
+-- a line that no source may have, after lines that one may have
+pub wrong-here : (lines : List (List ℕ)) (line : List ℕ) (fault : InputFault) (number : ℕ) → IsSource lines → number ≡ length lines + 1 → IsWrong number line fault
+    → IsFirstWrong (lines ++ line ∷ []) fault
+wrong-here lines line fault number source is wrong = record {
+  front = lines;
+  line = line;
+  back = [];
+  whole = refl;
+  before = source;
+  wrong = subst (λ n. IsWrong n line fault) is wrong;
+}
+
+-- what comes after it doesn't matter
+pub wrong-before : (lines : List (List ℕ)) (line : List ℕ) (fault : InputFault) → IsFirstWrong lines fault → IsFirstWrong (lines ++ line ∷ []) fault
+wrong-before lines line fault first = record {
+  front = first.front;
+  line = first.line;
+  back = first.back ++ line ∷ [];
+  whole = ap (λ ls. ls ++ line ∷ []) first.whole ∙ append_assoc first.front (first.line ∷ first.back) (line ∷ []);
+  before = first.before;
+  wrong = first.wrong;
+}
+
+-- ---- bytes
+
+pub come-none : (input : Input) → IsIntake input.intake [] → IsBegun input.begun [] → HasCome input []
+come-none input intake begun = record { lines = []; rest = []; splits = splits-none; begun = begun; intake = intake }
+
+pub come-piece : (old new : Input) (taken piece : List ℕ) → HasCome old taken → has_no_newline piece ≡ true → new.intake ≡ old.intake
+    → ((begun : List ℕ) → IsBegun old.begun begun → IsBegun new.begun (begun ++ piece)) → HasCome new (taken ++ piece)
+come-piece old new taken piece so_far other same push = record {
+  lines = so_far.lines;
+  rest = so_far.rest ++ piece;
+  splits = splits-piece taken so_far.lines so_far.rest piece so_far.splits other;
+  begun = push so_far.rest so_far.begun;
+  intake = subst (λ i. IsIntake i (map without_return so_far.lines)) (sym same) so_far.intake;
+}
+
+pub come-line : (old new : Input) (taken : List ℕ) → HasCome old taken
+    → ((lines : List (List ℕ)) (line : List ℕ) → IsIntake old.intake lines → IsBegun old.begun line → IsIntake new.intake (lines ++ without_return line ∷ []))
+    → IsBegun new.begun [] → HasCome new (taken ++ newline ∷ [])
+come-line old new taken so_far with_line empty = record {
+  lines = so_far.lines ++ so_far.rest ∷ [];
+  rest = [];
+  splits = splits-line taken [] so_far.lines [] so_far.rest [] so_far.splits splits-none;
+  begun = empty;
+  intake = subst (λ ls. IsIntake new.intake ls) (sym (map-append without_return so_far.lines (so_far.rest ∷ [])))
+      (with_line (map without_return so_far.lines) so_far.rest so_far.intake so_far.begun);
+}
+
+-- ---- the end of the bytes
+
+last_line-some : (rest : List ℕ) → (rest ≡ [] → ⊥) → last_line rest ≡ without_return rest ∷ []
+last_line-some [] some = absurd (some refl)
+last_line-some (b ∷ bytes) some = refl
+
+-- no line has begun
+pub text-whole : (input : Input) (taken : List ℕ) → (come : HasCome input taken) → come.rest ≡ [] → HasText taken (map without_return come.lines)
+text-whole input taken come none = record {
+  lines = come.lines;
+  rest = come.rest;
+  splits = come.splits;
+  all = sym (ap (λ r. lines_of come.lines r) none ∙ append-nil (map without_return come.lines));
+}
+
+-- a line has begun
+pub text-unended : (input : Input) (taken : List ℕ) → (come : HasCome input taken) → (come.rest ≡ [] → ⊥)
+    → HasText taken (map without_return come.lines ++ without_return come.rest ∷ [])
+text-unended input taken come some = record {
+  lines = come.lines;
+  rest = come.rest;
+  splits = come.splits;
+  all = sym (ap (λ ls. map without_return come.lines ++ ls) (last_line-some come.rest some));
+}
+
+-- ---- what was read
+
+-- an input that was read to its end, by what became of its lines
+pub lines-read : {R Z : Type 0} (remaining : R → Option (List ℕ)) (result : Result (Vec (List ℕ) Z) InputFault) (old new : Counted R) (bytes : List ℕ)
+    (source : List (List ℕ)) → IsAllRead remaining old new bytes → HasText bytes source
+    → MatchResult result (λ lines. (lines.items ≡ source) × IsSource source) (λ fault. Refuses fault source) → ReadsLines remaining result old new
+lines-read remaining (Ok lines) old new bytes source read text came =
+    let same = sym came.0 in
+    (record { bytes = bytes; read = read; text = subst (λ ls. HasText bytes ls) same text }, subst IsSource same came.1)
+lines-read remaining (Err (faults.LineTooLong at)) old new bytes source read text came = (source, record { bytes = bytes; read = read; text = text }, came)
+lines-read remaining (Err (faults.BadCharacter at)) old new bytes source read text came = (source, record { bytes = bytes; read = read; text = text }, came)
+lines-read remaining (Err faults.TooManyLines) old new bytes source read text came = (source, record { bytes = bytes; read = read; text = text }, came)
+lines-read remaining (Err faults.Memory) old new bytes source read text came = (source, record { bytes = bytes; read = read; text = text }, came)
+lines-read remaining (Err faults.ReadFault) old new bytes source read text came = absurd came
+
+-- ---- how many lines have come
+
+pub kept-few : (kept lines : List (List ℕ)) → (kept ≡ lines) × IsSource lines → length kept ≤ MOST_LINES
+kept-few kept lines come =
+    let same = ap length come.0 in
+    let few = come.1.few in
+    omega arith
+
+pub refused-few : (count : ℕ) (lines : List (List ℕ)) → (count ≡ length lines) × IsSource lines → count ≤ MOST_LINES
+refused-few count lines come =
+    let same = come.0 in
+    let few = come.1.few in
+    omega arith

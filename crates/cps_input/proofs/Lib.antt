@@ -1,0 +1,4 @@
+pub mod InputLemmas
+pub mod BegunLemmas
+pub mod ReadLemmas
+pub mod SplitLemmas

@@ -1,0 +1,29 @@
+-- For the loop over an input's bytes, not part of what a reader believes: lines or bytes that have come.
+use Rattle.std.specs.Prelude.{◌≡◌, ℕ, List, length, map}
+use Rattle.cps_input.specs.declared.intake.Intake.{Intake}
+use Rattle.cps_input.specs.declared.intake.Intake.TheVariants.{Kept, Refused, Faulty}
+use Rattle.cps_input.specs.declared.input.Input.{Input}
+use Rattle.cps_input.specs.declared.kept_bytes.KeptBytes.{KeptBytes}
+use Rattle.cps_input.specs.declared.kept_bytes.KeptBytes.TheVariants as bytes
+use Rattle.cps_input.specs.Sources.{IsSource, IsFirstWrong}
+use Rattle.cps_input.specs.BegunLine.{IsBegun}
+use Rattle.cps_input.specs.Lines.{Splits, without_return}
+
+-- these lines have come
+abbrev pub IsIntake : Intake → List (List ℕ) → Type 0
+IsIntake (Kept kept) lines = (kept.items ≡ lines) × IsSource lines
+IsIntake (Refused count) lines = (count ≡ length lines) × IsSource lines
+IsIntake (Faulty fault) lines = IsFirstWrong lines fault
+
+-- these bytes have come
+pub record HasCome (input : Input) (taken : List ℕ) : Type 0 where
+  pub lines : List (List ℕ)
+  pub rest : List ℕ
+  pub splits : Splits taken lines rest
+  pub begun : IsBegun input.begun rest
+  pub intake : IsIntake input.intake (map without_return lines)
+
+-- these bytes have come, and are kept if there was memory
+abbrev pub HasBytes : KeptBytes → List ℕ → Type 0
+HasBytes (bytes.Kept kept) taken = kept.items ≡ taken
+HasBytes bytes.Refused taken = Unit {0}

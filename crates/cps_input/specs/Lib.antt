@@ -1,0 +1,5 @@
+pub mod Lines
+pub mod Reads
+pub mod BegunLine
+pub mod Sources
+pub mod Input

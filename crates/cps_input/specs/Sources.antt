@@ -1,0 +1,54 @@
+-- The lines of a source, and what reading them answers. Our own.
+use Rattle.std.specs.Prelude.{◌≡◌, ℕ, ◌+◌, ◌<◌, ◌≤◌, List, ◌∷◌, ◌++◌, length, Option, Result, Ok, Err}
+use Rattle.std.specs.List.{All}
+use Rattle.std.specs.declared.vec.Vec.{Vec}
+use Rattle.cps_text.specs.declared.counted.Counted.{Counted}
+use Rattle.cps_text.specs.declared.limits.TheConstants.{MOST_LINES}
+use Rattle.cps_text.specs.Line.{longest_line, IsLine, HasBadCharacter}
+use Rattle.cps_input.specs.declared.fault.InputFault.{InputFault}
+use Rattle.cps_input.specs.declared.fault.InputFault.TheVariants as faults
+use Rattle.cps_input.specs.Lines.{HasText}
+use Rattle.cps_input.specs.Reads.{IsAllRead, IsCutShort}
+
+-- lines that a source may have: no text that is no line, and not too many
+pub record IsSource (lines : List (List ℕ)) : Type 0 where
+  pub each : All IsLine lines
+  pub few : length lines ≤ MOST_LINES
+
+-- What is wrong with the line of a number, where lines count from 1: it is too long; it is short enough and has a bad character;
+-- it is a line, and one too many.
+abbrev pub IsWrong : ℕ → List ℕ → InputFault → Type 0
+IsWrong number line (faults.LineTooLong at) = (at ≡ number) × (longest_line < length line)
+IsWrong number line (faults.BadCharacter at) = (at ≡ number) × HasBadCharacter line
+IsWrong number line faults.TooManyLines = (MOST_LINES < number) × IsLine line
+IsWrong number line faults.ReadFault = ⊥
+IsWrong number line faults.Memory = ⊥
+
+-- the first line that no source may have is wrong in this way
+pub record IsFirstWrong (lines : List (List ℕ)) (fault : InputFault) : Type 0 where
+  pub front : List (List ℕ)
+  pub line : List ℕ
+  pub back : List (List ℕ)
+  pub whole : lines ≡ front ++ line ∷ back
+  pub before : IsSource front
+  pub wrong : IsWrong (length front + 1) line fault
+
+-- why the lines of an input are not given: the first that no source may have is wrong; or none is, and there was no memory
+abbrev pub Refuses : InputFault → List (List ℕ) → Type 0
+Refuses (faults.LineTooLong at) lines = IsFirstWrong lines (faults.LineTooLong at)
+Refuses (faults.BadCharacter at) lines = IsFirstWrong lines (faults.BadCharacter at)
+Refuses faults.TooManyLines lines = IsFirstWrong lines faults.TooManyLines
+Refuses faults.Memory lines = IsSource lines
+Refuses faults.ReadFault lines = ⊥
+
+-- an input was read to its end, and has these lines
+pub record IsReadWhole {R : Type 0} (remaining : R → Option (List ℕ)) (old new : Counted R) (lines : List (List ℕ)) : Type 0 where
+  pub bytes : List ℕ
+  pub read : IsAllRead remaining old new bytes
+  pub text : HasText bytes lines
+
+-- What reading the lines of a source answers. The input is read to its end, and then its lines decide.
+abbrev pub ReadsLines : {R Z : Type 0} → (R → Option (List ℕ)) → Result (Vec (List ℕ) Z) InputFault → Counted R → Counted R → Type 0
+ReadsLines remaining (Ok lines) old new = IsReadWhole remaining old new lines.items × IsSource lines.items
+ReadsLines remaining (Err faults.ReadFault) old new = IsCutShort remaining old new
+ReadsLines remaining (Err fault) old new = (lines : List (List ℕ)) × IsReadWhole remaining old new lines × Refuses fault lines

@@ -1,0 +1,99 @@
+//! A line of a source or of a script, as its bytes come.
+ghost use Rattle.std.specs.Prelude.{◌≡◌, ℕ, List, [], ◌∷◌, ◌++◌, ◌<◌, length, MatchOption, IsTrue, ◌↔◌};
+ghost use Rattle.cps_input.specs.Lines.{without_return};
+ghost use Rattle.cps_input.specs.BegunLine.{IsBegun, more_past};
+
+use arrayvec::ArrayVec;
+use cps_text::limits::MOST_COMMAND_BYTES;
+
+/// What came past the room of a line.
+#[derive(Clone, Copy, PartialEq, Eq)]
+pub enum Past {
+    /// No byte.
+    Nothing,
+    /// A carriage return, which is dropped if the line ends here.
+    Return,
+    /// More than that: the line is too long.
+    More,
+}
+
+/// A line of which some bytes have come. As many are kept as a command of a script has, and more than a line of a source has.
+#[derive(Drop)]
+pub struct BegunLine {
+    pub bytes: ArrayVec<u8, MOST_COMMAND_BYTES>,
+    pub past: Past,
+}
+
+impl BegunLine {
+    /// A line of which no byte has come.
+    pub fn new() -> BegunLine
+        ensures { IsBegun result [] }
+    {
+        BegunLine {
+            bytes: ArrayVec::new(),
+            past: Past::Nothing,
+        }
+    }
+
+    /// Whether no byte has come.
+    pub fn is_empty(&self) -> bool
+        ensures { (begun : List ℕ) → IsBegun self.now begun → IsTrue result ↔ (begun ≡ []) }
+    {
+        self.bytes.is_empty()
+    }
+
+    /// Takes the next byte. Past 200 bytes none is kept.
+    pub fn push(&mut self, byte: u8)
+        ensures { (begun : List ℕ) → IsBegun self.old begun → IsBegun self.new (begun ++ byte ∷ []) }
+    {
+        if !self.bytes.is_full() {
+            self.bytes.push(byte);
+            return;
+        }
+        self.past = past_after(self.past, byte);
+    }
+
+    /// Takes the next bytes, as `push` does one by one.
+    pub fn push_all(&mut self, bytes: &[u8])
+        ensures { (begun : List ℕ) → IsBegun self.old begun → IsBegun self.new (begun ++ bytes.now) }
+    {
+        if self.bytes.try_extend_from_slice(bytes).is_ok() {
+            return;
+        }
+        for byte in bytes {
+            self.push(*byte);
+        }
+    }
+
+    /// The line without the carriage return at its end, None where it has more than 200 bytes.
+    pub fn text(&self) -> Option<&[u8]>
+        ensures { (begun : List ℕ) → IsBegun self.now begun
+            → MatchOption result (MOST_COMMAND_BYTES < length (without_return begun)) (λ text. text.now ≡ without_return begun) }
+    {
+        match self.past {
+            Past::More => None,
+            Past::Return => Some(self.bytes.as_slice()),
+            Past::Nothing => Some(trimmed(self.bytes.as_slice())),
+        }
+    }
+}
+
+fn trimmed(line: &[u8]) -> &[u8]
+    ensures { result.now ≡ without_return line.now }
+{
+    let len = line.len();
+    if len > 0 && line[len - 1] == b'\r' {
+        &line[..len - 1]
+    } else {
+        line
+    }
+}
+
+fn past_after(past: Past, byte: u8) -> Past
+    ensures { result ≡ more_past past byte }
+{
+    match past {
+        Past::Nothing if byte == b'\r' => Past::Return,
+        _ => Past::More,
+    }
+}

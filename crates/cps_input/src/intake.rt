@@ -1,0 +1,115 @@
+//! The lines of a source, as they come.
+ghost use Rattle.std.specs.Prelude.{◌≡◌, ℕ, List, [], ◌∷◌, ◌++◌, ◌+◌, ◌<◌, ◌≤◌, length, MatchOption, MatchResult};
+ghost use Rattle.cps_text.specs.Line.{IsLine};
+ghost use Rattle.cps_input.specs.Sources.{IsSource, IsWrong, Refuses};
+ghost use Rattle.cps_input.specs.BegunLine.{IsBegun};
+ghost use Rattle.cps_input.specs.Input.{IsIntake};
+ghost use Rattle.cps_input.specs.Lines.{without_return};
+
+use super::begun_line::BegunLine;
+use super::fault::InputFault;
+use cps_text::limits::{MOST_COMMAND_BYTES, MOST_LINES};
+use cps_text::{Line, LineFault};
+use std::alloc::Global;
+
+/// Lines of a source that have come one after another.
+#[derive(Drop)]
+pub enum Intake {
+    /// Lines that a source may have.
+    Kept(Vec<Line>),
+    /// So many lines that a source may have, where there was no memory for them.
+    Refused(u32),
+    /// Lines of which the first that no source may have is wrong in this way.
+    Faulty(InputFault),
+}
+
+impl Intake {
+    /// No line.
+    pub fn new(alloc: Global) -> Intake
+        ensures { IsIntake result [] }
+    {
+        Intake::Kept(Vec::new(alloc))
+    }
+
+    /// These lines and one more, which is checked also where there was no memory for them.
+    pub fn with_line(self, alloc: Global, begun: &BegunLine) -> Intake
+        requires { (lines : List (List ℕ)) × IsIntake self lines }
+        ensures { (lines : List (List ℕ)) (line : List ℕ) → IsIntake self lines → IsBegun begun.now line → IsIntake result (lines ++ without_return line ∷ []) }
+    {
+        match self {
+            Intake::Kept(lines) => keep(alloc, lines, begun.text()),
+            Intake::Refused(count) => count_on(count, begun.text()),
+            Intake::Faulty(fault) => Intake::Faulty(fault),
+        }
+    }
+
+    /// The lines, if a source may have them and there was memory.
+    pub fn into_lines(self) -> Result<Vec<Line>, InputFault>
+        ensures { (source : List (List ℕ)) → IsIntake self source → MatchResult result (λ lines. (lines.items ≡ source) × IsSource source) (λ fault. Refuses fault source) }
+    {
+        match self {
+            Intake::Kept(lines) => Ok(lines),
+            Intake::Refused(_) => Err(InputFault::Memory),
+            Intake::Faulty(fault) => Err(fault),
+        }
+    }
+}
+
+/// These lines and one more, None where more bytes came than are kept of a line. A line that there is no room for takes no memory.
+fn keep(alloc: Global, lines: Vec<Line>, text: Option<&[u8]>) -> Intake
+    requires { length lines.items ≤ MOST_LINES }
+    ensures { (line : List ℕ) → MatchOption text.entry (MOST_COMMAND_BYTES < length line) (λ text. text.now ≡ line) → IsSource lines.items → IsIntake result (lines.items ++ line ∷ []) }
+{
+    if lines.len() == MOST_LINES {
+        return count_on(MOST_LINES as u32, text);
+    }
+    let number = lines.len() as u32 + 1;
+    let Some(text) = text else {
+        return Intake::Faulty(InputFault::LineTooLong(number));
+    };
+    match Line::new(alloc, text) {
+        Ok(line) => push_line(lines, number, line),
+        Err(LineFault::LineTooLong) => Intake::Faulty(InputFault::LineTooLong(number)),
+        Err(LineFault::BadCharacter) => Intake::Faulty(InputFault::BadCharacter(number)),
+        Err(LineFault::Memory) => Intake::Refused(number),
+    }
+}
+
+/// These lines and one more, or their number where there is no memory for it.
+fn push_line(lines: Vec<Line>, number: u32, line: Line) -> Intake
+    ensures { number ≡ length lines.items + 1 → IsSource (lines.items ++ line ∷ []) → IsIntake result (lines.items ++ line ∷ []) }
+{
+    let mut lines = lines;
+    match lines.push(line) {
+        Ok(_) => Intake::Kept(lines),
+        Err(_) => Intake::Refused(number),
+    }
+}
+
+/// One line more than so many, None where more bytes came than are kept of a line.
+fn count_on(count: u32, text: Option<&[u8]>) -> Intake
+    requires { count ≤ MOST_LINES }
+    ensures { (lines : List (List ℕ)) (line : List ℕ) → MatchOption text.entry (MOST_COMMAND_BYTES < length line) (λ text. text.now ≡ line) → count ≡ length lines → IsSource lines → IsIntake result (lines ++ line ∷ []) }
+{
+    let number = count + 1;
+    let Some(text) = text else {
+        return Intake::Faulty(InputFault::LineTooLong(number));
+    };
+    match fault_of(number, text) {
+        Some(fault) => Intake::Faulty(fault),
+        None => Intake::Refused(number),
+    }
+}
+
+/// What is wrong with the line of this number, None where a source may have it.
+fn fault_of(number: u32, text: &[u8]) -> Option<InputFault>
+    ensures { MatchOption result (IsLine text.now × (number ≤ MOST_LINES)) (λ fault. IsWrong number text.now fault) }
+{
+    match Line::check(text) {
+        Err(LineFault::LineTooLong) => Some(InputFault::LineTooLong(number)),
+        Err(LineFault::BadCharacter) => Some(InputFault::BadCharacter(number)),
+        Err(LineFault::Memory) => unreachable!(),
+        Ok(()) if number as usize > MOST_LINES => Some(InputFault::TooManyLines),
+        Ok(()) => None,
+    }
+}
