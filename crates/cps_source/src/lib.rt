@@ -1,9 +1,12 @@
 //! A source that is assembled whole, as the view from which texts are written and with which others
 //! are compared.
 //!
-//! - `source.rt`: the source, and both passes over its lines
+//! - `pass_one.rt`: pass one of all lines
+//! - `source.rt`: the source
 #![tactic(auto)]
 
+mod pass_one;
 mod source;
 
+pub use pass_one::PassOne;
 pub use source::Source;

@@ -1,11 +1,10 @@
 //! A source that is assembled whole.
-ghost use Rattle.std.specs.Prelude.{◌≡◌, ℕ, List, [], ◌∷◌, ◌++◌, ◌≤◌, length, IfOk, OnOk};
-ghost use Rattle.cps_final.specs.Finals.{Gathers};
-ghost use Rattle.cps_assembly.specs.Assembly.{outcomes_under, traces_of};
+ghost use Rattle.std.specs.Prelude.{◌≡◌, ◌≤◌, length, IfOk};
 
-use cps_final::{Finals, Gather, Gathered, Outcome, step_two};
+use crate::pass_one::PassOne;
+use cps_final::{Finals, Gather, Gathered, Outcome};
 use cps_list::View;
-use cps_pass::{Hashing, Sheet, Trace, Work, step_over};
+use cps_pass::Hashing;
 use cps_text::Line;
 use cps_text::limits::MOST_LINES;
 use std::alloc::{AllocError, Global};
@@ -81,50 +80,12 @@ impl Source {
         requires { length lines.items ≤ MOST_LINES }
         ensures { IfOk result (λ source. source ≡ lines.items) }
     {
-        let mut gather = Gather::new(alloc, hashing);
-        let traces = pass_one(alloc, &mut gather, &lines)?;
-        let outcomes = pass_two(alloc, gather.finals(), &traces)?;
+        let one = PassOne::of(alloc, hashing, &lines)?;
+        let outcomes = one.make_outcomes(alloc)?;
         Ok(Source {
             lines,
             outcomes,
-            gather,
+            gather: one.into_gather(),
         })
     }
-}
-
-/// What each line does in pass one.
-fn pass_one(alloc: Global, gather: &mut Gather, lines: &[Line]) -> Result<Vec<Trace>, AllocError>
-    requires { Gathers (⟦<Gather as Gathered>⟧.gathered gather.old) (traces_of []) }
-    ensures traces { IfOk result (λ traces. traces.items ≡ traces_of lines.now) }
-    ensures gathered { OnOk result (Gathers (⟦<Gather as Gathered>⟧.gathered gather.new) (traces_of lines.now)) }
-{
-    let mut traces = Vec::new(alloc);
-    for line in lines {
-        let trace = step_next(alloc, gather, line)?;
-        traces.push(trace)?;
-    }
-    Ok(traces)
-}
-
-/// Pass one of the line after those that were gathered.
-fn step_next(alloc: Global, gather: &mut Gather, line: &Line) -> Result<Trace, AllocError>
-    ensures { IfOk result (λ trace. (before : List (List ℕ)) → Gathers (⟦<Gather as Gathered>⟧.gathered gather.old) (traces_of before)
-        → (traces_of (before ++ line.now ∷ []) ≡ traces_of before ++ trace ∷ [])
-        × Gathers (⟦<Gather as Gathered>⟧.gathered gather.new) (traces_of (before ++ line.now ∷ []))) }
-{
-    let sheet = Sheet::new(alloc);
-    let trace = step_over(alloc, &mut Work::new(), sheet, line, gather.state())?;
-    gather.add(&trace)?;
-    Ok(trace)
-}
-
-/// What pass two makes of each line, under the final values.
-fn pass_two(alloc: Global, finals: &Finals, traces: &[Trace]) -> Result<Vec<Outcome>, AllocError>
-    ensures { IfOk result (λ outcomes. outcomes.items ≡ outcomes_under (⟦<Finals as Gathered>⟧.gathered finals.now) traces.now) }
-{
-    let mut outcomes = Vec::new(alloc);
-    for trace in traces {
-        outcomes.push(step_two(alloc, &mut Work::new(), trace, finals)?)?;
-    }
-    Ok(outcomes)
 }

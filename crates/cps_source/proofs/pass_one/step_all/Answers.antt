@@ -4,7 +4,7 @@ use Rattle.cps_state.specs.Course.{Trace}
 use Rattle.cps_final.specs.Finals.{finals_of}
 use Rattle.cps_assembly.specs.Assembly.{traces_of}
 use Rattle.cps_source.proofs.SourceLemmas.{front-next}
-use Rattle.cps_source.proofs.source.pass_one.Goals as goal
+use Rattle.cps_source.proofs.pass_one.step_all.Goals as goal
 
 pub loop-line-preserved : goal.loop-line-preserved
 loop-line-preserved c =

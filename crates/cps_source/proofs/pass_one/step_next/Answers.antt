@@ -4,7 +4,7 @@ use Rattle.cps_final.specs.Finals.{Gathers}
 use Rattle.cps_gather.specs.contracts.gather.GatherGathered.TheImpl.{gathered-value}
 use Rattle.cps_assembly.specs.Assembly.{traces_of}
 use Rattle.cps_source.proofs.SourceLemmas.{step-next}
-use Rattle.cps_source.proofs.source.step_next.Goals as goal
+use Rattle.cps_source.proofs.pass_one.step_next.Goals as goal
 
 pub returns : goal.returns
 returns c = λ before gathers.

@@ -2,7 +2,7 @@ use Rattle.std.proofs.Common.{◌≡◌, take}
 use Rattle.cps_final.specs.Finals.{Gathers}
 use Rattle.cps_gather.specs.contracts.gather.GatherGathered.TheImpl.{gathered-value}
 use Rattle.cps_assembly.specs.Assembly.{traces_of}
-use Rattle.cps_source.proofs.source.pass_one.Given as goal
+use Rattle.cps_source.proofs.pass_one.step_all.Given as goal
 
 abbrev pub invariant-loop-line : goal.invariant-loop-line
 invariant-loop-line l = record {

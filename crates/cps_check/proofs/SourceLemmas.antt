@@ -1,0 +1,175 @@
+-- What is told of a line, and of one line after another.
+use Rattle.std.proofs.Common.{◌≡◌, ℕ, ◌+◌, ◌<◌, ◌≤◌, min, true, false, List, [], ◌∷◌, ◌++◌, length, get_or, take, map, refl, sym, ap, subst, ◌∙◌, arith, length-take, length-take-le}
+use Rattle.std.specs.Prelude.{◌↔◌, nat_eq}
+use Rattle.std.specs.Borrow.{Bor}
+use Rattle.std.proofs.lemmas.Bool.Decides.{nat_tests}
+use Rattle.std.proofs.lemmas.List.{length-map, get_or-map, get_or-take, get_or_default, map_more, nil_from_length, take_all, take_min, take_more}
+use Rattle.cps_text.specs.declared.limits.TheConstants.{MOST_LINES}
+use Rattle.cps_text.specs.Line.{IsLine}
+use Rattle.cps_state.specs.Course.{Trace}
+use Rattle.cps_final.specs.Finals.{Finals, final_value}
+use Rattle.cps_final.specs.Outcome.{Outcome, outcome_of}
+use Rattle.cps_cause.specs.declared.diagnostic.Diagnostic.{Diagnostic}
+use Rattle.cps_explain.specs.Explaining.{Explains}
+use Rattle.cps_card.specs.declared.fault.CharacterFault.{CharacterFault}
+use Rattle.cps_card.specs.Card.{card_of, cards_of}
+use Rattle.cps_card.specs.Faults.{AreFaults}
+use Rattle.cps_card.proofs.CardLemmas.{card_of-line}
+use Rattle.cps_state.specs.Keys.{first_state}
+use Rattle.cps_edit.proofs.SpliceLemmas.{length-traces_from}
+use Rattle.cps_assembly.specs.Assembly.{outcomes_under, traces_of}
+use Rattle.cps_check.specs.Adding.{Adds, AddsLine, AddsLines}
+use Rattle.cps_check.specs.Reports.{Report, ReportsLine, ReportsLines, flag_report, fault_report}
+use Rattle.cps_check.proofs.TextLemmas.{Adds-append, Adds-none}
+use Rattle.cps_check.proofs.ReportLemmas.{ReportsLines-next}
+use Rattle.cps_check.proofs.FlagLemmas.{true-false}
+
+-- ---- one line
+
+none-mapped : {X Y : Type 0} (f : X → Y) (xs : List X) → map f xs ≡ [] → xs ≡ []
+none-mapped f xs is = nil_from_length xs (sym (length-map xs f) ∙ ap length is)
+
+-- a line that no source may have
+pub ReportsLine-faults : (number : ℕ) (line : List ℕ) (outcome : Outcome) (faults : List CharacterFault) → AreFaults number line faults
+    → (faults ≡ []) ↔ IsLine line → (faults ≡ [] → ⊥) → ReportsLine number line outcome (map (fault_report number line) faults)
+ReportsLine-faults number line outcome faults are none some = record {
+  flags = λ is. absurd (some (none.1 is));
+  faults = λ _. (faults, are, refl);
+  some = λ is. none.0 (none-mapped (fault_report number line) faults is);
+}
+
+-- a line that a source may have
+pub ReportsLine-flags : (number : ℕ) (line card : List ℕ) (outcome : Outcome) (told : List Diagnostic) → IsLine line → card ≡ card_of line
+    → Explains card outcome.rows told → ReportsLine number line outcome (map (flag_report number line) told)
+ReportsLine-flags number line card outcome told is same explains = record {
+  flags = λ _. (told, subst (λ (l : List ℕ). Explains l outcome.rows told) (same ∙ card_of-line line is) explains, refl);
+  faults = λ other. absurd (other is);
+  some = λ _. is;
+}
+
+filled : {X : Type 0} (xs : List X) → nat_eq (length xs) 0 ≡ false → xs ≡ [] → ⊥
+filled xs some is = let none : length xs ≡ 0 = ap length is in true-false (sym (ap (λ n. nat_eq n 0) none) ∙ some)
+
+empty : {X : Type 0} (xs : List X) → nat_eq (length xs) 0 ≡ true → xs ≡ []
+empty xs none = nil_from_length xs (grind (arith, nat_tests))
+
+-- a line with faults is told
+pub AddsLine-faults : (name : List ℕ) (number : ℕ) (line : List ℕ) (outcome : Outcome) (faults told : List CharacterFault) (old new : List ℕ)
+    → AreFaults number line faults → (faults ≡ []) ↔ IsLine line → nat_eq (length faults) 0 ≡ false → told ≡ faults
+    → Adds name (map (fault_report number line) told) old new → AddsLine name number line outcome old new
+AddsLine-faults name number line outcome faults told old new are none some is added = record {
+  reports = map (fault_report number line) faults;
+  told = ReportsLine-faults number line outcome faults are none (filled faults some);
+  added = subst (λ (fs : List CharacterFault). Adds name (map (fault_report number line) fs) old new) is added;
+}
+
+-- a line without
+pub AddsLine-flags : (name : List ℕ) (number : ℕ) (line card : List ℕ) (outcome : Outcome) (faults : List CharacterFault) (causes told : List Diagnostic)
+    (old new : List ℕ) → (faults ≡ []) ↔ IsLine line → nat_eq (length faults) 0 ≡ true → card ≡ card_of line → Explains card outcome.rows causes
+    → told ≡ causes → Adds name (map (flag_report number line) told) old new → AddsLine name number line outcome old new
+AddsLine-flags name number line card outcome faults causes told old new none nothing same explains is added = record {
+  reports = map (flag_report number line) causes;
+  told = ReportsLine-flags number line card outcome causes (none.0 (empty faults nothing)) same explains;
+  added = subst (λ (ds : List Diagnostic). Adds name (map (flag_report number line) ds) old new) is added;
+}
+
+-- ---- lines and their cards
+
+abbrev pub texts_of : List (Bor (List ℕ)) → List (List ℕ)
+texts_of lines = map (λ line. line.now) lines
+
+-- a card stands for a line that is looked at
+pub card-within : (lines : List (Bor (List ℕ))) (cards : List (List ℕ)) (at : ℕ) → cards ≡ cards_of (texts_of lines) → at < length cards
+    → (at < length lines) × (at < MOST_LINES)
+card-within lines cards at is within =
+    let count : length cards ≡ min MOST_LINES (length lines) =
+    ap length is ∙ length-map (take MOST_LINES (texts_of lines)) card_of ∙ length-take MOST_LINES (texts_of lines)
+    ∙ ap (min MOST_LINES) (length-map lines (λ (line : Bor (List ℕ)). line.now)) in
+    (omega arith, omega arith)
+
+pub card-at : (lines : List (Bor (List ℕ))) (cards : List (List ℕ)) (at : ℕ) (line : Bor (List ℕ)) (card : List ℕ) → cards ≡ cards_of (texts_of lines)
+    → at < length cards → line ≡ get_or lines at line → card ≡ get_or cards at card → card ≡ card_of line.now
+card-at lines cards at line card is within line_is card_is =
+    let inside = card-within lines cards at is within in
+    let front = take MOST_LINES (texts_of lines) in
+    let count : length cards ≡ length front = ap length is ∙ length-map front card_of in
+    let here : at < length front = omega arith in
+    card_is ∙ ap (λ (cs : List (List ℕ)). get_or cs at card) is
+    ∙ get_or-map card_of front at [] card here
+    ∙ ap card_of (get_or-take MOST_LINES (texts_of lines) at [] inside.1 ∙ get_or-map (λ (l : Bor (List ℕ)). l.now) lines at line [] inside.0
+    ∙ ap (λ (l : Bor (List ℕ)). l.now) (sym line_is))
+
+-- the same of a line that is looked up
+pub card-of : (lines : List (Bor (List ℕ))) (cards : List (List ℕ)) (at : ℕ) (d : Bor (List ℕ)) (card : List ℕ) → cards ≡ cards_of (texts_of lines)
+    → at < length cards → card ≡ get_or cards at card → card ≡ card_of (get_or lines at d).now
+card-of lines cards at d card is within card_is =
+    let line = get_or lines at d in
+    card-at lines cards at line card is within (get_or_default lines at d line (card-within lines cards at is within).0) card_is
+
+-- what a card does stands for a line that is looked at
+pub trace-within : (lines : List (Bor (List ℕ))) (cards : List (List ℕ)) (traces : List Trace) (at : ℕ) → cards ≡ cards_of (texts_of lines)
+    → traces ≡ traces_of cards → at < length traces → (at < length cards) × (at < length lines) × (at < MOST_LINES)
+trace-within lines cards traces at is traces_is within =
+    let count : length traces ≡ length cards = ap length traces_is ∙ length-traces_from first_state cards in
+    let here : at < length cards = omega arith in
+    let inside = card-within lines cards at is here in
+    (here, inside.0, inside.1)
+
+-- ---- one line after another
+
+pub AddsLines-none : (name : List ℕ) (finals : Finals) (lines : List (Bor (List ℕ))) (traces : List Trace) (text : List ℕ)
+    → AddsLines name (take 0 (texts_of lines)) (outcomes_under finals (take 0 traces)) text text
+AddsLines-none name finals lines traces text = record { reports = []; told = refl; added = Adds-none name text }
+
+-- all lines that are looked at
+pub AddsLines-all : (name : List ℕ) (finals : Finals) (lines : List (Bor (List ℕ))) (cards : List (List ℕ)) (traces : List Trace) (at : ℕ) (old new : List ℕ)
+    → cards ≡ cards_of (texts_of lines) → traces ≡ traces_of cards → length traces ≤ at → at ≤ length traces
+    → AddsLines name (take at (texts_of lines)) (outcomes_under finals (take at traces)) old new
+    → AddsLines name (take MOST_LINES (texts_of lines)) (outcomes_under finals traces) old new
+AddsLines-all name finals lines cards traces at old new is traces_is past within added =
+    let front = take MOST_LINES (texts_of lines) in
+    let count : length traces ≡ length front = ap length traces_is ∙ length-traces_from first_state cards ∙ ap length is ∙ length-map front card_of in
+    let some : min MOST_LINES (length (texts_of lines)) ≡ length front = sym (length-take MOST_LINES (texts_of lines)) in
+    let at_is : at ≡ min MOST_LINES (length (texts_of lines)) = omega arith in
+    let lines_is : take at (texts_of lines) ≡ front = ap (λ (n : ℕ). take n (texts_of lines)) at_is ∙ take_min MOST_LINES (texts_of lines) in
+    subst (λ (ls : List (List ℕ)). AddsLines name ls (outcomes_under finals traces) old new) lines_is
+    (subst (λ (ts : List Trace). AddsLines name (take at (texts_of lines)) (outcomes_under finals ts) old new) (take_all at traces past) added)
+
+-- ---- one line more
+
+pub AddsLines-next : (name : List ℕ) (finals : Finals) (lines : List (Bor (List ℕ))) (traces : List Trace) (at : ℕ) (line : Bor (List ℕ)) (trace : Trace)
+    (old text new : List ℕ) → at < length lines → at < length traces → line ≡ get_or lines at line → trace ≡ get_or traces at trace
+    → AddsLines name (take at (texts_of lines)) (outcomes_under finals (take at traces)) old text
+    → AddsLine name (at + 1) line.now (outcome_of (final_value finals) trace) text new
+    → AddsLines name (take (at + 1) (texts_of lines)) (outcomes_under finals (take (at + 1) traces)) old new
+AddsLines-next name finals lines traces at line trace old text new in_lines in_traces line_is trace_is before here =
+    let texts = texts_of lines in
+    let long : at < length texts = let e = length-map lines (λ (l : Bor (List ℕ)). l.now) in omega arith in
+    let front : length (take at texts) ≡ at = length-take-le at texts (omega arith) in
+    let same : length (take at texts) ≡ length (outcomes_under finals (take at traces)) =
+    front ∙ sym (length-map (take at traces) (outcome_of (final_value finals)) ∙ length-take-le at traces (omega arith)) in
+    let text_is : take (at + 1) texts ≡ take at texts ++ line.now ∷ [] =
+    take_more texts at [] long
+    ∙ ap (λ (l : List ℕ). take at texts ++ l ∷ []) (get_or-map (λ (l : Bor (List ℕ)). l.now) lines at line [] in_lines ∙ ap (λ (l : Bor (List ℕ)). l.now) (sym line_is)) in
+    let outcome_is : outcomes_under finals (take (at + 1) traces) ≡ outcomes_under finals (take at traces) ++ outcome_of (final_value finals) trace ∷ [] =
+    map_more (outcome_of (final_value finals)) traces at trace in_traces
+    ∙ ap (λ (t : Trace). outcomes_under finals (take at traces) ++ outcome_of (final_value finals) t ∷ []) (sym trace_is) in
+    record {
+      reports = before.reports ++ here.reports;
+      told =
+          subst (λ (ls : List (List ℕ)). ReportsLines 1 ls (outcomes_under finals (take (at + 1) traces)) (before.reports ++ here.reports)) (sym text_is)
+          (subst (λ (os : List Outcome). ReportsLines 1 (take at texts ++ line.now ∷ []) os (before.reports ++ here.reports)) (sym outcome_is)
+          (ReportsLines-next 1 (at + 1) (take at texts) line.now (outcomes_under finals (take at traces)) (outcome_of (final_value finals) trace)
+          before.reports here.reports same (omega arith) before.told here.told));
+      added = Adds-append name before.reports here.reports old text new before.added here.added;
+    }
+
+-- the same of a line that is looked up
+pub AddsLines-more : (name : List ℕ) (finals : Finals) (lines : List (Bor (List ℕ))) (traces : List Trace) (at : ℕ) (d : Bor (List ℕ)) (trace : Trace)
+    (old text new : List ℕ) → at < length lines → at < length traces → trace ≡ get_or traces at trace
+    → AddsLines name (take at (texts_of lines)) (outcomes_under finals (take at traces)) old text
+    → AddsLine name (at + 1) (get_or lines at d).now (outcome_of (final_value finals) trace) text new
+    → AddsLines name (take (at + 1) (texts_of lines)) (outcomes_under finals (take (at + 1) traces)) old new
+AddsLines-more name finals lines traces at d trace old text new in_lines in_traces trace_is before here =
+    let line = get_or lines at d in
+    AddsLines-next name finals lines traces at line trace old text new in_lines in_traces (get_or_default lines at d line in_lines) trace_is before here

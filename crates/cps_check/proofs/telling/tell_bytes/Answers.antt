@@ -1,0 +1,16 @@
+use Rattle.std.proofs.Common.{ℕ, List, map, subst}
+use Rattle.std.specs.Borrow.{Bor}
+use Rattle.cps_check.specs.Reports.{Reports}
+use Rattle.cps_check.proofs.SourceLemmas.{texts_of}
+use Rattle.cps_check.proofs.telling.tell_bytes.Goals as goal
+
+pub returns : goal.returns
+returns c =
+    let told = c.in_ok-text.ensures in
+    record {
+      lines = texts_of c.in_ok-lines.lines.items;
+      cut = c.in_ok-lines.ensures;
+      reports = told.0;
+      all = subst (λ (lines : List (Bor (List ℕ))). Reports (texts_of lines) told.0) c.deref.ensures.value told.1;
+      tells = told.2;
+    }

@@ -1,0 +1,53 @@
+//! A check as a whole.
+ghost use Rattle.std.specs.Prelude.{◌≤◌, ◌+◌};
+ghost use Rattle.cps_text.specs.Counted.{calls_of};
+ghost use Rattle.cps_check.specs.Check.{Checks, RunsCheck};
+
+use crate::fault::CheckFault;
+use crate::telling::tell_bytes;
+use cps_input::read_bytes;
+use cps_pass::Hashing;
+use cps_text::Counted;
+use cps_text::limits::MOST_READS;
+use cps_writing::write_text;
+use std::alloc::Global;
+use std::io::{Read, Write};
+
+/// Reads a text to the end of the input and assembles it, a card for each line. It writes what is told of it under a name: each flag,
+/// with its cause, and what makes a line none. It gives whether anything is told.
+///
+/// The input is read to its end before anything is said of its lines, and nothing is written before the text is made.
+pub fn check<R: Read, W: Write>(
+    alloc: Global,
+    hashing: Hashing,
+    name: &[u8],
+    reader: &mut Counted<R>,
+    writer: &mut Counted<W>,
+) -> Result<bool, CheckFault>
+    ensures run { RunsCheck R.remaining W.contents name.now result reader.old reader.new writer.old writer.new }
+    ensures reads { calls_of reader.new ≤ calls_of reader.old + MOST_READS }
+{
+    match read_bytes(alloc, reader) {
+        Ok(bytes) => check_bytes(alloc, hashing, name, &bytes, writer),
+        Err(fault) => Err(CheckFault::of_input(fault)),
+    }
+}
+
+/// Writes what is told of a text, and gives whether anything is.
+fn check_bytes<W: Write>(
+    alloc: Global,
+    hashing: Hashing,
+    name: &[u8],
+    bytes: &[u8],
+    writer: &mut Counted<W>,
+) -> Result<bool, CheckFault>
+    ensures { Checks W.contents name.now bytes.now result writer.old writer.new }
+{
+    let Ok(text) = tell_bytes(alloc, hashing, name, bytes) else {
+        return Err(CheckFault::Memory);
+    };
+    match write_text(writer, &text) {
+        Ok(()) => Ok(!text.is_empty()),
+        Err(_) => Err(CheckFault::WriteFault),
+    }
+}

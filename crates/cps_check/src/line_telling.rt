@@ -1,0 +1,137 @@
+//! What is told of the lines of a source, one after another.
+ghost use Rattle.std.specs.Prelude.{◌≡◌, map, take, OnOk};
+ghost use Rattle.cps_final.specs.Finals.{final_value, is_open_at_end};
+ghost use Rattle.cps_final.specs.Outcome.{outcome_of};
+ghost use Rattle.cps_card.specs.Card.{card_of, cards_of};
+ghost use Rattle.cps_assembly.specs.Assembly.{outcomes_under, traces_of};
+ghost use Rattle.cps_check.specs.Adding.{AddsLine, AddsLines, AddsEnd};
+
+use crate::known_places::KnownPlaces;
+use crate::told_line::ToldLine;
+use cps_card::faults_of;
+use cps_cause::{Diagnostic, Places};
+use cps_explain::{explain, explain_end};
+use cps_final::{Finals, Gathered};
+use cps_finding::Card;
+use cps_pass::Trace;
+use cps_state::Shared;
+use cps_text::Line;
+use cps_text::limits::MOST_LINES;
+use std::alloc::{AllocError, Global};
+
+/// A line of a source that is checked.
+#[derive(Clone, Copy)]
+pub struct CheckedLine<'a> {
+    /// From 1.
+    pub number: u32,
+    pub line: &'a [u8],
+    /// What stands for it.
+    pub card: &'a Line,
+    /// What that does in pass one.
+    pub trace: &'a Trace,
+}
+
+/// The telling of a source: its name, and its final values.
+#[derive(Clone, Copy)]
+pub struct LineTelling<'a> {
+    pub alloc: Global,
+    pub name: &'a [u8],
+    pub finals: &'a Finals,
+}
+
+impl LineTelling<'_> {
+    /// Appends what is told of lines for which cards stand that do this, and gives the places behind the last.
+    pub fn tell_lines(
+        &self,
+        lines: &[&[u8]],
+        cards: &[Line],
+        traces: &[Trace],
+        text: &mut Vec<u8>,
+    ) -> Result<KnownPlaces, AllocError>
+        requires cards { cards.now ≡ cards_of (map (λ line. line.now) lines.now) }
+        requires traces { traces.now ≡ traces_of cards.now }
+        ensures { OnOk result (AddsLines self.now.name.now (take MOST_LINES (map (λ line. line.now) lines.now))
+            (outcomes_under (⟦<Finals as Gathered>⟧.gathered self.now.finals.now) traces.now) text.old.items text.new.items) }
+    {
+        let mut places = KnownPlaces::of(self.alloc, self.finals.hashing(), traces)?;
+        for (at, trace) in traces.iter().enumerate() {
+            let line = CheckedLine {
+                number: at as u32 + 1,
+                line: lines[at],
+                card: &cards[at],
+                trace,
+            };
+            self.tell_line(&line, &places, text)?;
+            places.pass(line.number, trace)?;
+        }
+        Ok(places)
+    }
+
+    /// Appends what is told of a line.
+    fn tell_line(
+        &self,
+        line: &CheckedLine<'_>,
+        places: &KnownPlaces,
+        text: &mut Vec<u8>,
+    ) -> Result<(), AllocError>
+        requires { line.now.card.now ≡ card_of line.now.line.now }
+        ensures { OnOk result (AddsLine self.now.name.now line.now.number line.now.line.now
+            (outcome_of (final_value (⟦<Finals as Gathered>⟧.gathered self.now.finals.now)) line.now.trace.now)
+            text.old.items text.new.items) }
+    {
+        let told = ToldLine {
+            name: self.name,
+            number: line.number,
+            line: line.line,
+        };
+        let faults = faults_of(self.alloc, line.line, line.number)?;
+        let found = faults.as_slice();
+        if found.is_empty() {
+            let causes = explain(self.alloc, line.card, line.trace, self.finals)?;
+            told.push_flags(self.alloc, places, &causes, text)?;
+            return Ok(());
+        }
+        told.push_faults(self.alloc, found, text)?;
+        Ok(())
+    }
+
+    /// Appends what is told where the source ends, in the line that opened what is open there.
+    pub fn tell_end(
+        &self,
+        cards: &[Line],
+        places: &KnownPlaces,
+        text: &mut Vec<u8>,
+    ) -> Result<(), AllocError>
+        ensures { OnOk result (AddsEnd self.now.name.now (is_open_at_end (⟦<Finals as Gathered>⟧.gathered self.now.finals.now))
+            text.old.items text.new.items) }
+    {
+        let Some(cause) = explain_end(self.finals)? else {
+            return Ok(());
+        };
+        let number = places.line_of_opening().unwrap_or(1);
+        let line = line_at(cards, number);
+        let told = ToldLine {
+            name: self.name,
+            number,
+            line,
+        };
+        let columns = Card::of(line).operation_or_all();
+        let end = Diagnostic {
+            columns,
+            cause,
+            within: columns,
+            statement: Shared::empty(),
+            times: 1,
+        };
+        told.push_flag(self.alloc, places, &end, text)?;
+        Ok(())
+    }
+}
+
+/// A line, whose number counts from 1; no bytes where there is none.
+fn line_at(lines: &[Line], number: u32) -> &[u8] {
+    match lines.get((number as usize).saturating_sub(1)) {
+        Some(line) => line.bytes(),
+        None => &[],
+    }
+}

@@ -1,0 +1,160 @@
+//! A line of which something is told.
+ghost use Rattle.std.specs.Prelude.{◌≡◌, ◌∷◌, ◌++◌, [], map, take, OnOk};
+ghost use Rattle.cps_check.specs.Adding.{Adds, excess_of};
+ghost use Rattle.cps_check.specs.Reports.{flag_report, fault_report};
+ghost use Rattle.cps_check.specs.Rows as rows;
+
+use crate::heads::push_head;
+use crate::known_places::KnownPlaces;
+use crate::limits::MOST_SHOWN;
+use crate::rows::{push_caret_row, push_line_row, push_statement_row};
+use cps_card::{CharacterFault, push_shown, shown_width};
+use cps_cause::Diagnostic;
+use cps_text::limits::MOST_LINES;
+use std::alloc::{AllocError, Global};
+
+/// A line of which something is told.
+#[derive(Clone, Copy)]
+pub struct ToldLine<'a> {
+    /// The name of the source.
+    pub name: &'a [u8],
+    /// The line's number, from 1.
+    pub number: u32,
+    pub line: &'a [u8],
+}
+
+impl ToldLine<'_> {
+    /// Appends causes of flags.
+    pub fn push_flags(
+        &self,
+        alloc: Global,
+        places: &KnownPlaces,
+        told: &[Diagnostic],
+        text: &mut Vec<u8>,
+    ) -> Result<(), AllocError>
+        ensures { OnOk result (Adds self.now.name.now (map (flag_report self.now.number self.now.line.now) told.now)
+            text.old.items text.new.items) }
+    {
+        for diagnostic in told {
+            self.push_flag(alloc, places, diagnostic, text)?;
+        }
+        Ok(())
+    }
+
+    /// Appends a cause of a flag.
+    pub fn push_flag(
+        &self,
+        alloc: Global,
+        places: &KnownPlaces,
+        told: &Diagnostic,
+        text: &mut Vec<u8>,
+    ) -> Result<(), AllocError>
+        ensures { OnOk result (Adds self.now.name.now (flag_report self.now.number self.now.line.now told.now ∷ [])
+            text.old.items text.new.items) }
+    {
+        let mut words = Vec::new(alloc);
+        told.push_words(self.line, places, &mut words)?;
+        let letter = told.cause.letter();
+        push_head(
+            text,
+            self.name,
+            self.number,
+            told.columns.first,
+            Some(letter),
+        )?;
+        text.extend_from_slice(&words)?;
+        text.extend_from_slice(b"\n")?;
+        push_flag_rows(text, self.number, self.line, told)?;
+        Ok(())
+    }
+
+    /// Appends what is wrong in the line, if no source may have it.
+    pub fn push_faults(
+        &self,
+        alloc: Global,
+        faults: &[CharacterFault],
+        text: &mut Vec<u8>,
+    ) -> Result<(), AllocError>
+        ensures { OnOk result (Adds self.now.name.now (map (fault_report self.now.number self.now.line.now) faults.now)
+            text.old.items text.new.items) }
+    {
+        for fault in faults {
+            self.push_fault(alloc, fault, text)?;
+        }
+        Ok(())
+    }
+
+    fn push_fault(
+        &self,
+        alloc: Global,
+        fault: &CharacterFault,
+        text: &mut Vec<u8>,
+    ) -> Result<(), AllocError>
+        ensures { OnOk result (Adds self.now.name.now (fault_report self.now.number self.now.line.now fault.now ∷ [])
+            text.old.items text.new.items) }
+    {
+        let mut words = Vec::new(alloc);
+        fault.push_words(self.line, &mut words)?;
+        push_head(text, self.name, self.number, fault.first, None)?;
+        text.extend_from_slice(&words)?;
+        text.extend_from_slice(b"\n")?;
+        push_fault_rows(alloc, self.number, self.line, fault, text)?;
+        Ok(())
+    }
+}
+
+/// Appends the rows that show a cause of a flag.
+fn push_flag_rows(
+    text: &mut Vec<u8>,
+    number: u32,
+    line: &[u8],
+    told: &Diagnostic,
+) -> Result<(), AllocError>
+    ensures { OnOk result (text.new.items ≡ text.old.items ++ rows.flag_rows number line.now told.now) }
+{
+    push_line_row(text, number, line)?;
+    let before = told.columns.first.saturating_sub(1);
+    push_caret_row(text, before, told.columns.last)?;
+    push_statement_row(text, told.statement.as_slice(), told.times)
+}
+
+/// Appends the rows that show bad bytes.
+fn push_fault_rows(
+    alloc: Global,
+    number: u32,
+    line: &[u8],
+    fault: &CharacterFault,
+    text: &mut Vec<u8>,
+) -> Result<(), AllocError>
+    ensures { OnOk result (text.new.items ≡ text.old.items ++ rows.fault_rows number line.now fault.now) }
+{
+    let front = front_of(line, MOST_SHOWN);
+    let mut shown = Vec::new(alloc);
+    push_shown(front, &mut shown)?;
+    push_line_row(text, number, &shown)?;
+    let before = shown_width(front_of(front, fault.first.saturating_sub(1)));
+    let last = shown_width(front_of(front, fault.last));
+    push_caret_row(text, before, last)
+}
+
+/// The first so many bytes of a line, as far as it has them.
+fn front_of(line: &[u8], count: usize) -> &[u8]
+    ensures { result.now ≡ take count line.now }
+{
+    &line[..count.min(line.len())]
+}
+
+/// Appends that so many lines are too many, where they are.
+pub fn push_excess(text: &mut Vec<u8>, name: &[u8], count: usize) -> Result<(), AllocError>
+    ensures { OnOk result (Adds name.now (excess_of count) text.old.items text.new.items) }
+{
+    if count <= MOST_LINES {
+        return Ok(());
+    }
+    push_head(text, name, MOST_LINES as u32 + 1, 1, None)?;
+    text.extend_from_slice(
+        b"a source has 99,999 lines at most; the lines from here on are not looked at",
+    )?;
+    text.extend_from_slice(b"\n")?;
+    Ok(())
+}
