@@ -1,0 +1,63 @@
+//! The run of a comparison. What a function holds is dropped by calls, whose proofs stand once.
+ghost use Rattle.std.specs.Prelude.{◌<◌, ◌^◌};
+ghost use Rattle.std.specs.Option.{ForSome};
+
+use cps_compare::Limits;
+use cps_octal::{OctalFault, Setup, compare_inputs};
+use cps_pass::Hashing;
+use cps_text::Counted;
+use std::alloc::Global;
+use std::io::{Read, Write};
+
+/// All addresses for which the octal text gives digits, and all columns.
+pub const ALL: Limits = Limits {
+    from: None,
+    to: None,
+    columns: None,
+};
+
+/// What came of a comparison, and what was written.
+#[derive(Drop)]
+pub struct Ran {
+    pub end: Result<u32, OctalFault>,
+    pub text: Vec<u8>,
+}
+
+/// The bytes of these lines, each with a newline. None: no memory.
+pub fn joined(alloc: Global, lines: &[&str]) -> Option<Vec<u8>> {
+    let mut text = Vec::new(alloc);
+    let mut is_whole = true;
+    for line in lines {
+        let is_joined = text.extend_from_slice(line.as_bytes()).is_ok();
+        is_whole = text.push(b'\n').is_ok() && is_joined && is_whole;
+    }
+    if is_whole { Some(text) } else { None }
+}
+
+/// Compares texts that are read at once.
+pub fn run(alloc: Global, octal: &[u8], source: &[u8], limits: Limits) -> Ran
+    requires { ForSome limits.to (λ to. to < 2 ^ 18) }
+{
+    let mut octal = Counted::new(octal);
+    let mut source = Counted::new(source);
+    let mut writer = Counted::new(Vec::new(alloc));
+    let end = run_between(alloc, limits, &mut octal, &mut source, &mut writer);
+    Ran {
+        end,
+        text: writer.into_inner(),
+    }
+}
+
+/// Compares what readers give. Only here a comparison is run.
+pub fn run_between<O: Read, R: Read, W: Write>(
+    alloc: Global,
+    limits: Limits,
+    octal: &mut Counted<O>,
+    source: &mut Counted<R>,
+    writer: &mut Counted<W>,
+) -> Result<u32, OctalFault>
+    requires { ForSome limits.to (λ to. to < 2 ^ 18) }
+{
+    let hashing = Hashing::by(1);
+    compare_inputs(alloc, Setup { hashing, limits }, octal, source, writer)
+}
