@@ -1,1 +1,3 @@
+mod EnteringLemmas
+mod EnteringRows
 pub mod SessionLemmas

@@ -3,6 +3,7 @@ ghost use Rattle.std.specs.Prelude.{◌≡◌, ◌-◌, ◌<◌, ◌≤◌, ◌�
 ghost use Rattle.cps_list.specs.Texts.{text_of};
 ghost use Rattle.cps_division.specs.Division.{IsDivision, inserted_at, deleted_at};
 ghost use Rattle.cps_division.specs.Recut.{recut as recut_by};
+ghost use Rattle.cps_edit.specs.Compares.{Steps};
 ghost use Rattle.cps_edit.specs.Splice.{splice_at, spliced, insertion, replacement, deletion};
 ghost use Rattle.cps_chunks.specs.Recuts.{Recuts};
 ghost use Rattle.cps_kept.specs.Kept.{splice_of};
@@ -11,7 +12,9 @@ ghost use Rattle.cps_assembly.specs.Flagged.{flagged_lines as flagged_in};
 ghost use Rattle.cps_exchange.specs.Exchange.{exchanged, move};
 ghost use Rattle.cps_division.specs.Exchange.{exchanged_at, moved_at};
 ghost use Rattle.cps_session.specs.Edits.{HasLine, LacksLine, HasLines, LacksLines, HasMove, LacksMove, without_lines, WorkOfEdit, WorkOfMove, LooksOfEdit, LooksOfMove, LooksOfExchange};
+ghost use Rattle.cps_session.specs.Entering.{full_chunks};
 
+use crate::entering::kept_of;
 use cps_assembly::flagged_lines;
 use cps_division::laws::{a_deletion_divides_again, an_insertion_divides_again};
 use cps_division::{Recut, recut_deletion, recut_insertion, recut_replacement};
@@ -125,6 +128,31 @@ impl Session {
             front: Front::new(alloc, hashing),
             follower: Follower::new(alloc, hashing),
         }
+    }
+
+    /// A source that begins with these lines. Both passes are made of each, once, and these steps are counted in the caller's work; no line is compared. The
+    /// source and its division are those that come of appending the lines one by one, where an append may step lines in front of it again. An error: there was no
+    /// memory.
+    pub fn enter(
+        alloc: Global,
+        hashing: Hashing,
+        lines: Vec<Line>,
+        work: &mut Work,
+    ) -> Result<Session, AllocError>
+        requires { length lines.items ≤ MOST_LINES }
+        ensures lines { IfOk result (λ session. session.lines ≡ lines.items) }
+        ensures lengths { IfOk result (λ session. session.lengths ≡ full_chunks (length lines.items)) }
+        ensures steps { Steps result work.old work.new (length lines.items) (length lines.items) }
+        ensures looked { work.new.looked ≡ work.old.looked }
+    {
+        let mut front = Front::new(alloc, hashing);
+        let lists = kept_of(alloc, &mut front, lines, work)?;
+        Ok(Session {
+            alloc,
+            lists,
+            front,
+            follower: Follower::new(alloc, hashing),
+        })
     }
 
     /// How many lines the source has.
