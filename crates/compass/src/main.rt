@@ -1,8 +1,11 @@
 //! A cross-assembler for COMPASS Version 3.
 //!
 //! `compass batch [--part PART] [FILE]` assembles a source, of standard input where no file is named, and writes its texts to standard output.
-//! `compass session` runs a script of edits and queries on a source, and writes the replies.
-//! The status is 0, or 1 where at the end a line of the source is flagged, or 2 after a fault, which is told to standard
+//! `compass session [--source FILE]` runs a script of edits and queries on a source, and writes the replies.
+//! `compass check [FILE]` tells of each flag, and of each byte that no line may have.
+//! `compass compare OCTAL [FILE]` tells which words of a source differ from an octal text.
+//! `compass explain WORD` tells of a flag or an operation.
+//! The status is 0, or 1 where a line of the source is flagged or a word differs, or 2 after a fault, which is told to standard
 //! error.
 #![tactic(auto)]
 
@@ -19,6 +22,8 @@ mod devices;
 mod disk;
 #[cfg(test)]
 mod edit_rows;
+#[cfg(test)]
+mod enter_rows;
 #[cfg(test)]
 mod many_edits;
 #[cfg(test)]

@@ -4,8 +4,4 @@ pub mod NumberLemmas
 pub mod OrderLemmas
 pub mod ProgressLemmas
 pub mod RangeLemmas
-pub mod MetLemmas
-pub mod AlikeLemmas
-pub mod RequestLemmas
 pub mod ServingLemmas
-pub mod RequestRows

@@ -6,18 +6,18 @@ use Rattle.std.specs.Prelude.{IfSome, None, Some}
 use Rattle.std.proofs.KnownBytes.{Appends-nil, Appends-trans}
 use Rattle.std.proofs.lemmas.List.Folds.{list_all-append}
 use Rattle.std.proofs.lemmas.List.{map-append}
-use Rattle.cps_batch.specs.declared.begun_line.BegunLine.{BegunLine}
+use Rattle.cps_input.specs.declared.begun_line.BegunLine.{BegunLine}
 use Rattle.cps_state.specs.Work.{Counts, no_work}
 use Rattle.cps_text.specs.declared.counted.Counted.{Counted}
 use Rattle.cps_tool.specs.declared.writing.RunFault.{RunFault}
 use Rattle.cps_tool.specs.declared.writing.RunFault.TheVariants as faults
 use Rattle.cps_tool.specs.declared.script.Flow.{Flow}
 use Rattle.cps_tool.specs.declared.script.Flow.TheVariants.{GoesOn, Ends}
-use Rattle.cps_batch.specs.BegunLine.{IsBegun}
+use Rattle.cps_input.specs.BegunLine.{IsBegun}
 use Rattle.cps_tool.specs.Command.{is_quit}
 use Rattle.cps_tool.specs.EditReplies.{Standing, at, beginning}
-use Rattle.cps_batch.proofs.SplitLemmas.{left_true, right_true, splits-none, splits-line, splits-byte, split_of}
-use Rattle.cps_batch.specs.Lines.{Splits, without_return, last_line, newline}
+use Rattle.cps_input.proofs.SplitLemmas.{left_true, right_true, splits-none, splits-line, splits-byte, split_of}
+use Rattle.cps_input.specs.Lines.{Splits, without_return, last_line, newline}
 use Rattle.cps_tool.specs.Reply.{Response, reply_text}
 use Rattle.cps_tool.specs.Script.{Run, RunsScript, Script, FrontOfScript, LinesOfScript, IsAnswered, HasQuit, LacksQuit, IsReadToEnd, AreAnswered, goes_on, command_lines, before_quit}
 use Rattle.cps_tool.specs.Progress.{MatchFlow, IsReplied, IsPartlyReplied, IsLast, Progress, Takes, Finishes}

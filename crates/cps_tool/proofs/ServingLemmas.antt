@@ -1,11 +1,24 @@
 -- What the proofs of a call by its words cite.
-use Rattle.std.proofs.Common.{◌≡◌, ℕ, List, Option, Some, None, refl, sym, subst, inl, inr}
+use Rattle.std.proofs.Common.{◌≡◌, ℕ, List, Option, Some, None, Result, refl, sym, subst, inl, inr, ◌⊎◌}
 use Rattle.cps_text.specs.declared.counted.Counted.{Counted}
 use Rattle.clap.specs.Words.{Text}
-use Rattle.cps_tool.specs.declared.request.Unread.{Unread}
-use Rattle.cps_tool.specs.declared.request.Unread.TheVariants.{Told, Wrong, Memory}
-use Rattle.cps_tool.specs.Request.{Answer, IsAnswer, answer_of, asks, refuses, tells}
-use Rattle.cps_tool.specs.CommandLine.{Serves, ServesFile, ServesIn, TellsUnread}
+use Rattle.cps_words.specs.declared.unread.Unread.{Unread}
+use Rattle.cps_words.specs.declared.unread.Unread.TheVariants.{Told, Wrong, Memory}
+use Rattle.cps_compare.specs.declared.limits.Limits.{Limits}
+use Rattle.cps_octal.specs.declared.fault.OctalFault.{OctalFault}
+use Rattle.cps_octal.specs.Octal.{RunsComparison}
+use Rattle.cps_words.specs.Request.{Answer, IsAnswer, answer_of, asks, refuses, tells}
+use Rattle.cps_input.specs.Sources.{IsReadWhole, IsSource}
+use Rattle.cps_words.specs.declared.comparand.Comparand.{Comparand}
+use Rattle.cps_words.specs.declared.request.Request.{Request}
+use Rattle.cps_words.specs.declared.request.Request.TheVariants.{Compare}
+use Rattle.std.specs.Borrow.{Bor}
+use Rattle.std.specs.Prelude.{option_map}
+use Rattle.cps_words.specs.Task.{task_of, Task, batch, check, compare, explain, session}
+use Rattle.cps_tool.specs.CommandLine.{Calls, Compares, EditsFile, IsOpened, IsUndone, RunsFrom, Serves, ServesOne, ServesWith, TellsUnread, WithFile, status_of}
+use Rattle.cps_tool.specs.Files.{AreFiles, ComparesFiles}
+use Rattle.cps_tool.specs.declared.comparing.Files.{Files}
+use Rattle.cps_tool.specs.declared.comparing.Files.TheVariants.{Both, Octal, Source}
 
 module _ {R W : Type 0} (remaining : R → Option (List ℕ)) (contents : W → Option (List ℕ)) (status : ℕ) (reader : Counted R) (writer writer' : Counted W) where
   -- nothing was done
@@ -21,22 +34,100 @@ module _ {R W : Type 0} (remaining : R → Option (List ℕ)) (contents : W → 
   serves_unread words (Wrong text) is told = undone (answer_of words) told.0 told.1
   serves_unread words Memory is told = undone (answer_of words) told.0 told.1
 
-  pub serves_unread_in : (words : List Text) (unread : Unread) → IsAnswer words unread → TellsUnread contents unread status writer writer'
-      → ServesIn remaining contents (answer_of words) status reader reader writer writer'
-  serves_unread_in words unread is told = go (answer_of words) (serves_unread words unread is told)
+  pub serves_unread_with : {F : Type 0} (holds : List ℕ → Option (List ℕ)) (opened : F → Option (List ℕ)) (words : List Text) (unread : Unread)
+      → IsAnswer words unread → TellsUnread contents unread status writer writer'
+      → ServesWith holds opened remaining contents (answer_of words) status reader reader writer writer'
+  serves_unread_with holds opened words unread is told = go (answer_of words) (serves_unread words unread is told)
     where
-      go : (answer : Answer) → Serves remaining contents answer status reader reader writer writer' → ServesIn remaining contents answer status reader reader writer writer'
-      go (asks request None) s = s
-      go (asks request (Some name)) s = refl
+      go : (answer : Answer) → Serves remaining contents answer status reader reader writer writer'
+          → ServesWith holds opened remaining contents answer status reader reader writer writer'
+      go (asks (batch part) None) s = s
+      go (asks session None) s = s
+      go (asks check None) s = s
+      go (asks (explain word) None) s = s
+      go (asks (compare octal limits) None) (inl idle) = inl idle
+      go (asks (compare octal limits) None) (inr calls) = elim calls [ ]
+      go (asks (batch part) (Some name)) s = inl s
+      go (asks session (Some name)) s = inl s
+      go (asks check (Some name)) s = inl s
+      go (asks (explain word) (Some name)) s = inl s
+      go (asks (compare octal limits) (Some name)) s = inl s
       go tells s = s
       go refuses s = s
 
-  pub serves_unread_file : {F : Type 0} (holds : List ℕ → Option (List ℕ)) (opened : F → Option (List ℕ)) (words : List Text) (unread : Unread)
-      → IsAnswer words unread → TellsUnread contents unread status writer writer' → ServesFile holds opened contents (answer_of words) status writer writer'
-  serves_unread_file holds opened words unread is told = go (answer_of words) (serves_unread words unread is told)
-    where
-      go : (answer : Answer) → Serves remaining contents answer status reader reader writer writer' → ServesFile holds opened contents answer status writer writer'
-      go (asks request None) s = tt
-      go (asks request (Some name)) s = inl (s.0, s.2)
-      go tells s = tt
-      go refuses s = tt
+-- files that were opened by their names, and compared
+pub compares : {F R W : Type 0} (holds : List ℕ → Option (List ℕ)) (opened : F → Option (List ℕ)) (remaining : R → Option (List ℕ)) (contents : W → Option (List ℕ))
+    (limits : Limits) (octal source : Option Text) (status : ℕ) (result : Result ℕ OctalFault) (files : Files F) (reader reader' : Counted R) (writer writer' : Counted W)
+    → AreFiles holds opened octal source files → ComparesFiles opened remaining contents limits result files reader reader' writer writer' → status ≡ status_of result
+    → Compares holds opened remaining contents limits octal source status reader reader' writer writer'
+compares holds opened remaining contents limits (Some octal) (Some source) status result (Both file deck) reader reader' writer writer' are ran is = (
+  ran.0,
+  record {
+    file = file;
+    file' = ran.1.0;
+    is_opened = are.0;
+    does = record { file = deck; file' = ran.1.1; is_opened = are.1; does = (result, is, ran.1.2) };
+  },
+)
+compares holds opened remaining contents limits (Some octal) None status result (Octal file) reader reader' writer writer' are ran is =
+    record { file = file; file' = ran.0; is_opened = are; does = (result, is, ran.1) }
+compares holds opened remaining contents limits None (Some source) status result (Source deck) reader reader' writer writer' are ran is =
+    record { file = deck; file' = ran.0; is_opened = are; does = (result, is, ran.1) }
+compares holds opened remaining contents limits None None status result files reader reader' writer writer' are ran is = elim are [ ]
+compares holds opened remaining contents limits None (Some source) status result (Octal file) reader reader' writer writer' are ran is = elim are [ ]
+compares holds opened remaining contents limits None (Some source) status result (Both file deck) reader reader' writer writer' are ran is = elim are [ ]
+compares holds opened remaining contents limits (Some octal) None status result (Source deck) reader reader' writer writer' are ran is = elim are [ ]
+compares holds opened remaining contents limits (Some octal) None status result (Both file deck) reader reader' writer writer' are ran is = elim are [ ]
+compares holds opened remaining contents limits (Some octal) (Some source) status result (Octal file) reader reader' writer writer' are ran is = elim are [ ]
+compares holds opened remaining contents limits (Some octal) (Some source) status result (Source deck) reader reader' writer writer' are ran is = elim are [ ]
+
+-- a session over the lines of a file
+pub edits_file : {F R W : Type 0} (holds : Option (List ℕ)) (opened : F → Option (List ℕ)) (remaining : R → Option (List ℕ)) (contents : W → Option (List ℕ)) (status : ℕ)
+    (lines : List (List ℕ)) (file file' : Counted F) (reader reader' : Counted R) (writer writer' : Counted W)
+    → IsOpened holds opened file → IsReadWhole opened file file' lines × IsSource lines
+    → IsUndone status reader reader' writer writer' ⊎ RunsFrom remaining contents lines status reader reader' writer writer'
+    → IsUndone status reader reader' writer writer'
+    ⊎ WithFile holds opened (λ file file'. EditsFile opened remaining contents status file file' reader reader' writer writer')
+edits_file holds opened remaining contents status lines file file' reader reader' writer writer' is read (inl idle) = inl idle
+edits_file holds opened remaining contents status lines file file' reader reader' writer writer' is read (inr runs) =
+    inr (record { file = file; file' = file'; is_opened = is; does = (lines, read.0, read.1, runs) })
+
+-- what is asked of one input, done with a file
+pub serves_file : {F R W : Type 0} (holds : List ℕ → Option (List ℕ)) (opened : F → Option (List ℕ)) (remaining : R → Option (List ℕ)) (contents : W → Option (List ℕ))
+    (task : Task) (name : Text) (status : ℕ) (file file' : Counted F) (reader : Counted R) (writer writer' : Counted W)
+    → IsOpened (holds name) opened file → IsUndone status file file' writer writer' ⊎ Calls opened contents task status file file' writer writer'
+    → ServesOne holds opened remaining contents (asks task (Some name)) status reader reader writer writer'
+serves_file holds opened remaining contents task name status file file' reader writer writer' is (inl idle) = inl (idle.0, refl, idle.2)
+serves_file holds opened remaining contents task name status file file' reader writer writer' is (inr calls) =
+    inr (refl, record { file = file; file' = file'; is_opened = is; does = calls })
+
+-- ---- files that were compared, by the sides that are files
+
+module _ {F R W : Type 0} (opened : F → Option (List ℕ)) (remaining : R → Option (List ℕ)) (contents : W → Option (List ℕ)) (limits : Limits)
+    (result : Result ℕ OctalFault) (files : Files F) (reader reader' : Counted R) (writer writer' : Counted W) where
+  compares_as : (sides : Files F) → files ≡ sides → ComparesFiles opened remaining contents limits result sides reader reader' writer writer'
+      → ComparesFiles opened remaining contents limits result files reader reader' writer writer'
+  compares_as sides is ran = subst (λ (files : Files F). ComparesFiles opened remaining contents limits result files reader reader' writer writer') (sym is) ran
+
+  pub octal_compared : (file file' : Counted F) → files ≡ Octal file
+      → RunsComparison opened remaining contents limits result file file' reader reader' writer writer'
+      → ComparesFiles opened remaining contents limits result files reader reader' writer writer'
+  octal_compared file file' is ran = compares_as (Octal file) is (file', ran)
+
+  pub source_compared : (deck deck' : Counted F) → files ≡ Source deck
+      → RunsComparison remaining opened contents limits result reader reader' deck deck' writer writer'
+      → ComparesFiles opened remaining contents limits result files reader reader' writer writer'
+  source_compared deck deck' is ran = compares_as (Source deck) is (deck', ran)
+
+  pub both_compared : (file file' deck deck' : Counted F) → files ≡ Both file deck → reader' ≡ reader
+      → RunsComparison opened opened contents limits result file file' deck deck' writer writer'
+      → ComparesFiles opened remaining contents limits result files reader reader' writer writer'
+  both_compared file file' deck deck' is still ran = compares_as (Both file deck) is (still, (file', deck', ran))
+
+-- a comparison was asked, and done
+pub serves_compared : {F R W : Type 0} (holds : List ℕ → Option (List ℕ)) (opened : F → Option (List ℕ)) (remaining : R → Option (List ℕ)) (contents : W → Option (List ℕ))
+    (request : Request) (comparand : Comparand) (named : Option Text) (status : ℕ) (reader reader' : Counted R) (writer writer' : Counted W) → request ≡ Compare comparand
+    → Compares holds opened remaining contents comparand.limits (option_map (λ (name : Bor Text). name.now) comparand.octal) named status reader reader' writer writer'
+    → ServesWith holds opened remaining contents (asks (task_of request) named) status reader reader' writer writer'
+serves_compared holds opened remaining contents request comparand named status reader reader' writer writer' is done =
+    subst (λ request. ServesWith holds opened remaining contents (asks (task_of request) named) status reader reader' writer writer') (sym is) (inr done)

@@ -1,46 +1,84 @@
 -- What a call of the program does, and the status that it ends with. Our own.
-use Rattle.std.specs.Prelude.{◌≡◌, ℕ, ◌⊎◌, List, [], Option, Some, None, Result, Ok, Err, if◌then◌else◌, ◌==◌, ⊤}
+use Rattle.std.specs.Prelude.{◌≡◌, ℕ, Bool, true, false, ◌⊎◌, List, [], Option, Some, None, Result, Ok, Err, if◌then◌else◌, ◌==◌}
 use Rattle.cps_text.specs.declared.counted.Counted.{Counted}
 use Rattle.cps_text.specs.Counted.{inner_of, calls_of, failures_of, moved_of, idle_of, FailsOnce}
 use Rattle.cps_batch.specs.declared.fault.BatchFault.{BatchFault}
 use Rattle.cps_batch.specs.Batch.{RunsBatch}
-use Rattle.cps_tool.specs.declared.request.Request.{Request}
-use Rattle.cps_tool.specs.declared.request.Request.TheVariants.{Batch, Session}
+use Rattle.cps_check.specs.declared.fault.CheckFault.{CheckFault}
+use Rattle.cps_check.specs.Check.{RunsCheck}
+use Rattle.cps_compare.specs.declared.limits.Limits.{Limits}
+use Rattle.cps_octal.specs.declared.fault.OctalFault.{OctalFault}
+use Rattle.cps_octal.specs.Octal.{RunsComparison}
+use Rattle.clap.specs.Words.{Text}
+use Rattle.cps_input.specs.Sources.{IsSource, IsReadWhole}
+use Rattle.cps_manual.specs.Manual as manual
+use Rattle.cps_words.specs.Task.{Task, batch, session, check, compare, explain}
+use Rattle.cps_words.specs.declared.unread.Unread.{Unread}
+use Rattle.cps_words.specs.declared.unread.Unread.TheVariants.{Told, Wrong, Memory}
+use Rattle.cps_words.specs.Request.{Answer, asks, tells, refuses}
 use Rattle.cps_tool.specs.declared.writing.RunFault.{RunFault}
-use Rattle.cps_tool.specs.declared.request.Unread.{Unread}
-use Rattle.cps_tool.specs.declared.request.Unread.TheVariants.{Told, Wrong, Memory}
-use Rattle.cps_tool.specs.Request.{Answer, asks, tells, refuses}
 use Rattle.cps_tool.specs.Script.{RunsScript}
 use Rattle.cps_tool.specs.Written.{IsWritten, IsFrontWritten}
 
--- the status with so many flagged lines
+-- the status with so many flagged lines, or words that differ
 abbrev pub status_with : ℕ → ℕ
 status_with count = if count == 0 then 0 else 1
 
--- 2 after a fault, else 1 where a line is flagged, else 0
+-- the status where something was told, or nothing
+abbrev pub status_told : Bool → ℕ
+status_told is_told = if is_told then 1 else 0
+
+-- 2 after a fault, else 1 where a line is flagged or a word differs, else 0
 abbrev pub status_of : {F : Type 0} → Result ℕ F → ℕ
 status_of (Ok count) = status_with count
 status_of (Err fault) = 2
 
--- nothing was done: the words are wrong, or there was no memory to read them
+-- 2 after a fault, else 1 where something was told, else 0
+abbrev pub status_of_check : {F : Type 0} → Result Bool F → ℕ
+status_of_check (Ok is_told) = status_told is_told
+status_of_check (Err fault) = 2
+
+-- nothing was done: the words are wrong, a file can't be opened, or there was no memory for either
 abbrev pub IsUndone : {R W : Type 0} → ℕ → Counted R → Counted R → Counted W → Counted W → Type 0
 IsUndone status reader reader' writer writer' = (status ≡ 2) × (reader' ≡ reader) × (writer' ≡ writer)
 
--- what is done that the words ask: batch assembly, or the script of a session that begins with no line
-abbrev pub Calls : {R W : Type 0} → (R → Option (List ℕ)) → (W → Option (List ℕ)) → Request → ℕ → Counted R → Counted R → Counted W → Counted W → Type 0
-Calls remaining contents (Batch part) status reader reader' writer writer' =
-    (result : Result ℕ BatchFault) × (status ≡ status_of result) × RunsBatch remaining contents part result reader reader' writer writer'
-Calls remaining contents Session status reader reader' writer writer' =
-    (result : Result ℕ RunFault) × (source : List (List ℕ)) × (status ≡ status_of result) × RunsScript remaining contents [] source result reader reader' writer writer'
+-- nothing was written, after a fault
+abbrev pub IsIdle : {W : Type 0} → ℕ → Counted W → Counted W → Type 0
+IsIdle status writer writer' = (status ≡ 2) × (writer' ≡ writer)
 
--- The help or the version was told: the writer took the whole of a text, and no write failed; or it took a front of one, where a write failed.
-abbrev pub Tells : {W : Type 0} → (W → Option (List ℕ)) → ℕ → Counted W → Counted W → Type 0
-Tells contents status writer writer' = (text : List ℕ) × (
+-- A text was told: the writer took the whole of it, and no write failed; or it took a front of it, where a write failed.
+abbrev pub TellsText : {W : Type 0} → (W → Option (List ℕ)) → ℕ → List ℕ → Counted W → Counted W → Type 0
+TellsText contents status text writer writer' =
     ((status ≡ 0) × IsWritten contents writer writer' text × (failures_of writer' ≡ failures_of writer))
     ⊎ ((status ≡ 2) × IsFrontWritten contents writer writer' text × FailsOnce writer writer')
-    )
 
--- the help or the version is told, or nothing is written
+-- a script is run over a source that begins with these lines
+abbrev pub RunsFrom : {R W : Type 0} → (R → Option (List ℕ)) → (W → Option (List ℕ)) → List (List ℕ) → ℕ → Counted R → Counted R → Counted W → Counted W → Type 0
+RunsFrom remaining contents lines status reader reader' writer writer' =
+    (result : Result ℕ RunFault) × (source : List (List ℕ)) × (status ≡ status_of result) × RunsScript remaining contents lines source result reader reader' writer writer'
+
+-- what is told of a word: there is something, and of an instruction it is the rows of the tables
+pub record Explains (word text : List ℕ) : Type 0 where
+  pub some : manual.is_told word ≡ true
+  pub rows : manual.is_told_by_sentences word ≡ false → text ≡ manual.instruction_text word
+
+-- What is done that the words ask with one input: batch assembly; or the script of a session that begins with no line; or a check, under some name of
+-- the input; or a word is explained, and nothing is read. A comparison has two inputs.
+abbrev pub Calls : {R W : Type 0} → (R → Option (List ℕ)) → (W → Option (List ℕ)) → Task → ℕ → Counted R → Counted R → Counted W → Counted W → Type 0
+Calls remaining contents (batch part) status reader reader' writer writer' =
+    (result : Result ℕ BatchFault) × (status ≡ status_of result) × RunsBatch remaining contents part result reader reader' writer writer'
+Calls remaining contents session status reader reader' writer writer' = RunsFrom remaining contents [] status reader reader' writer writer'
+Calls remaining contents check status reader reader' writer writer' =
+    (result : Result Bool CheckFault) × (name : List ℕ) × (status ≡ status_of_check result) × RunsCheck remaining contents name result reader reader' writer writer'
+Calls remaining contents (explain word) status reader reader' writer writer' =
+    (reader' ≡ reader) × ((text : List ℕ) × Explains word text × TellsText contents status text writer writer')
+Calls remaining contents (compare octal limits) status reader reader' writer writer' = ⊥
+
+-- the help or the version is told
+abbrev pub Tells : {W : Type 0} → (W → Option (List ℕ)) → ℕ → Counted W → Counted W → Type 0
+Tells contents status writer writer' = (text : List ℕ) × TellsText contents status text writer writer'
+
+-- it is told, or nothing is written
 abbrev pub TellsUnread : {W : Type 0} → (W → Option (List ℕ)) → Unread → ℕ → Counted W → Counted W → Type 0
 TellsUnread contents (Told text) status writer writer' = Tells contents status writer writer'
 TellsUnread contents (Wrong text) status writer writer' = (status ≡ 2) × (writer' ≡ writer)
@@ -49,38 +87,74 @@ TellsUnread contents Memory status writer writer' = (status ≡ 2) × (writer' �
 -- What a call does that has no files, by what its words are answered: what they ask is done; or the help or the version is told; or they are
 -- refused, and so is each file. Nothing is read where they ask nothing. Memory may be refused at any words.
 abbrev pub Serves : {R W : Type 0} → (R → Option (List ℕ)) → (W → Option (List ℕ)) → Answer → ℕ → Counted R → Counted R → Counted W → Counted W → Type 0
-Serves remaining contents (asks request None) status reader reader' writer writer' =
-    IsUndone status reader reader' writer writer' ⊎ Calls remaining contents request status reader reader' writer writer'
-Serves remaining contents (asks request (Some name)) status reader reader' writer writer' = IsUndone status reader reader' writer writer'
+Serves remaining contents (asks task None) status reader reader' writer writer' =
+    IsUndone status reader reader' writer writer' ⊎ Calls remaining contents task status reader reader' writer writer'
+Serves remaining contents (asks task (Some name)) status reader reader' writer writer' = IsUndone status reader reader' writer writer'
 Serves remaining contents tells status reader reader' writer writer' =
     IsUndone status reader reader' writer writer' ⊎ ((reader' ≡ reader) × Tells contents status writer writer')
 Serves remaining contents refuses status reader reader' writer writer' = IsUndone status reader reader' writer writer'
 
--- a reader that was not read yet
-pub record IsUnread {F : Type 0} (file : Counted F) : Type 0 where
+-- ---- files
+
+-- a file that was opened, of which nothing was read yet, and which holds these bytes
+pub record IsOpened {F : Type 0} (holds : Option (List ℕ)) (opened : F → Option (List ℕ)) (file : Counted F) : Type 0 where
+  pub bytes : opened (inner_of file) ≡ holds
   pub calls : calls_of file ≡ 0
   pub failures : failures_of file ≡ 0
   pub moved : moved_of file ≡ 0
   pub idle : idle_of file ≡ 0
 
--- what is asked is done with a file that holds these bytes, which is read in the place of standard input
-pub record CallsOnFile {F W : Type 0} (holds : Option (List ℕ)) (remaining : F → Option (List ℕ)) (contents : W → Option (List ℕ)) (request : Request) (status : ℕ) (writer writer' : Counted W) : Type 0 where
+-- a file that holds these bytes was opened, and this was done with it
+pub record WithFile {F : Type 0} (holds : Option (List ℕ)) (opened : F → Option (List ℕ)) (Does : Counted F → Counted F → Type 0) : Type 0 where
   pub file : Counted F
   pub file' : Counted F
-  pub unread : IsUnread file
-  pub bytes : remaining (inner_of file) ≡ holds
-  pub calls : Calls remaining contents request status file file' writer writer'
+  pub is_opened : IsOpened holds opened file
+  pub does : Does file file'
 
--- What a call with files does with standard input: what a call without them does; where a file is named it isn't read.
-abbrev pub ServesIn : {R W : Type 0} → (R → Option (List ℕ)) → (W → Option (List ℕ)) → Answer → ℕ → Counted R → Counted R → Counted W → Counted W → Type 0
-ServesIn remaining contents (asks request (Some name)) status reader reader' writer writer' = reader' ≡ reader
-ServesIn remaining contents answer status reader reader' writer writer' = Serves remaining contents answer status reader reader' writer writer'
+-- the octal text and the source of a comparison were read, and words that differ were told
+abbrev pub Compared : {O R W : Type 0} → (O → Option (List ℕ)) → (R → Option (List ℕ)) → (W → Option (List ℕ)) → Limits → ℕ
+    → Counted O → Counted O → Counted R → Counted R → Counted W → Counted W → Type 0
+Compared given remaining contents limits status octal octal' source source' writer writer' =
+    (result : Result ℕ OctalFault) × (status ≡ status_of result)
+    × RunsComparison given remaining contents limits result octal octal' source source' writer writer'
 
--- What it does with a file that is named: what is asked is done with it; or it can't be opened, or there is no memory, and then nothing is done.
-abbrev pub ServesFile : {F W : Type 0} → (List ℕ → Option (List ℕ)) → (F → Option (List ℕ)) → (W → Option (List ℕ)) → Answer → ℕ → Counted W → Counted W → Type 0
-ServesFile holds opened contents (asks request (Some name)) status writer writer' =
-    ((status ≡ 2) × (writer' ≡ writer)) ⊎ CallsOnFile (holds name) opened contents request status writer writer'
-ServesFile holds opened contents answer status writer writer' = ⊤
+-- a comparison, by the names of the octal text and of the source: standard input is the one that has no name
+abbrev pub Compares : {F R W : Type 0} → (List ℕ → Option (List ℕ)) → (F → Option (List ℕ)) → (R → Option (List ℕ)) → (W → Option (List ℕ))
+    → Limits → Option Text → Option Text → ℕ → Counted R → Counted R → Counted W → Counted W → Type 0
+Compares holds opened remaining contents limits (Some octal) (Some source) status reader reader' writer writer' =
+    (reader' ≡ reader) × WithFile (holds octal) opened (λ file file'. WithFile (holds source) opened (λ deck deck'.
+    Compared opened opened contents limits status file file' deck deck' writer writer'))
+Compares holds opened remaining contents limits (Some octal) None status reader reader' writer writer' =
+    WithFile (holds octal) opened (λ file file'. Compared opened remaining contents limits status file file' reader reader' writer writer')
+Compares holds opened remaining contents limits None (Some source) status reader reader' writer writer' =
+    WithFile (holds source) opened (λ deck deck'. Compared remaining opened contents limits status reader reader' deck deck' writer writer')
+Compares holds opened remaining contents limits None None status reader reader' writer writer' = ⊥
+
+-- a session that begins with the lines of a file, which is read as batch reads it
+abbrev pub EditsFile : {F R W : Type 0} → (F → Option (List ℕ)) → (R → Option (List ℕ)) → (W → Option (List ℕ)) → ℕ
+    → Counted F → Counted F → Counted R → Counted R → Counted W → Counted W → Type 0
+EditsFile opened remaining contents status file file' reader reader' writer writer' =
+    (lines : List (List ℕ)) × IsReadWhole opened file file' lines × IsSource lines × RunsFrom remaining contents lines status reader reader' writer writer'
+
+-- What a call of one input does that may name a file: what is asked is done with it in the place of standard input, which isn't read. It may be that
+-- the file can't be opened, and then nothing is done.
+abbrev pub ServesOne : {F R W : Type 0} → (List ℕ → Option (List ℕ)) → (F → Option (List ℕ)) → (R → Option (List ℕ)) → (W → Option (List ℕ)) → Answer → ℕ
+    → Counted R → Counted R → Counted W → Counted W → Type 0
+ServesOne holds opened remaining contents (asks task (Some name)) status reader reader' writer writer' =
+    IsUndone status reader reader' writer writer'
+    ⊎ ((reader' ≡ reader) × WithFile (holds name) opened (λ file file'. Calls opened contents task status file file' writer writer'))
+ServesOne holds opened remaining contents answer status reader reader' writer writer' = Serves remaining contents answer status reader reader' writer writer'
+
+-- What a call does that may name files. The file of a session is its source, and standard input its script; a session whose file is no source does nothing.
+abbrev pub ServesWith : {F R W : Type 0} → (List ℕ → Option (List ℕ)) → (F → Option (List ℕ)) → (R → Option (List ℕ)) → (W → Option (List ℕ)) → Answer → ℕ
+    → Counted R → Counted R → Counted W → Counted W → Type 0
+ServesWith holds opened remaining contents (asks (compare octal limits) source) status reader reader' writer writer' =
+    IsUndone status reader reader' writer writer'
+    ⊎ Compares holds opened remaining contents limits octal source status reader reader' writer writer'
+ServesWith holds opened remaining contents (asks session (Some name)) status reader reader' writer writer' =
+    IsUndone status reader reader' writer writer'
+    ⊎ WithFile (holds name) opened (λ file file'. EditsFile opened remaining contents status file file' reader reader' writer writer')
+ServesWith holds opened remaining contents answer status reader reader' writer writer' = ServesOne holds opened remaining contents answer status reader reader' writer writer'
 
 -- nothing is said of a call that ends with another status than 2
 abbrev pub IsQuiet : {E : Type 0} → ℕ → Counted E → Counted E → Type 0

@@ -4,5 +4,5 @@ pub mod Reply
 pub mod Written
 pub mod Script
 pub mod Progress
-pub mod Request
 pub mod CommandLine
+pub mod Files

@@ -5,14 +5,14 @@ use Rattle.std.specs.Io.KnownBytes.{Appends}
 use Rattle.cps_tool.specs.declared.script.Flow.{Flow}
 use Rattle.cps_tool.specs.declared.script.Flow.TheVariants.{GoesOn, Ends}
 use Rattle.cps_tool.specs.declared.writing.RunFault.{RunFault}
-use Rattle.cps_batch.specs.declared.begun_line.BegunLine.{BegunLine}
-use Rattle.cps_batch.specs.Lines.{Splits, without_return}
+use Rattle.cps_input.specs.declared.begun_line.BegunLine.{BegunLine}
+use Rattle.cps_input.specs.Lines.{Splits, without_return}
 use Rattle.cps_tool.specs.EditReplies.{Standing}
 use Rattle.cps_tool.specs.Command.{is_quit}
 use Rattle.cps_tool.specs.Reply.{Response, reply_text}
 use Rattle.cps_tool.specs.Script.{IsAnswered, Run, Script, FrontOfScript, IsInputEnd, HasQuit, goes_on}
 use Rattle.cps_tool.specs.Written.{AppendsFront}
-use Rattle.cps_batch.specs.BegunLine.{IsBegun}
+use Rattle.cps_input.specs.BegunLine.{IsBegun}
 
 -- one fact where a script goes on, and another where it ends
 abbrev pub MatchFlow : Flow → Type 0 → Type 0 → Type 0

@@ -1,30 +1,37 @@
 //! What the program does: a script of edits and queries, and a call of the program by its words.
 //!
 //! - `command.rt`: a line of a script, read
+//! - `comparing.rt`: a comparison of an octal text with a source
+//! - `host.rt`: what a call runs on
 //! - `reply.rt`: replies
 //! - `replying.rt`: obeying a command, and writing the reply
-//! - `request.rt`: the words of a call, read, with help and version
+//! - `running.rt`: what is asked of one input, done
 //! - `script.rt`: the loop over the bytes of a script
-//! - `shown.rt`: words of a call, as a message shows them
+//! - `sessions.rt`: a session, with the lines that it begins with
 //! - `sources.rt`: the files that a call names
+//! - `telling.rt`: what a call tells
 //! - `words.rt`: what the words of a call ask, done
 //! - `writing.rt`: the loop that writes a reply
 #![tactic(auto)]
 
 mod command;
+mod comparing;
+mod host;
 mod reply;
 mod replying;
-mod request;
+mod running;
 mod script;
-mod shown;
+mod sessions;
 mod sources;
+mod telling;
 mod words;
 mod writing;
 
 pub use command::{Command, ScriptFault};
 pub use cps_pass::Hashing;
-pub use request::{Call, Request, Unread, read_words};
+pub use cps_words::{Call, Request, Unread, read_words};
+pub use host::Host;
 pub use script::run_script;
 pub use sources::Sources;
-pub use words::{Host, run_call, run_words};
+pub use words::{run_call, run_words};
 pub use writing::RunFault;

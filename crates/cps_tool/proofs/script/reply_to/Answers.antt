@@ -1,5 +1,5 @@
 use Rattle.std.proofs.Common.{◌<◌, length, refl, inr}
-use Rattle.cps_batch.specs.Lines.{without_return}
+use Rattle.cps_input.specs.Lines.{without_return}
 use Rattle.cps_tool.proofs.CommandLemmas.{no_command, is_quit-long}
 use Rattle.cps_tool.proofs.script.reply_to.Goals as goal
 

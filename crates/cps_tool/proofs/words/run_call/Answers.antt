@@ -1,14 +1,9 @@
 use Rattle.clap.specs.Walk.{texts}
-use Rattle.cps_tool.proofs.ServingLemmas.{serves_unread_in, serves_unread_file}
+use Rattle.cps_tool.proofs.ServingLemmas.{serves_unread_with}
 use Rattle.cps_tool.proofs.words.run_call.Goals as goal
 
-pub returns-in-Err-clause-input : goal.returns-in-Err-clause-input
-returns-in-Err-clause-input g c =
-    serves_unread_in g.R.Read.remaining g.W.Write.contents c.tell_unread.result c.args.reader.now c.args.writer.now c.tell_unread.new.writer
-    (texts c.args.words.now) c.in-Err.unread c.in-Err.ensures.said c.tell_unread.ensures.tells
-
-pub returns-in-Err-clause-file : goal.returns-in-Err-clause-file
-returns-in-Err-clause-file g c =
-    serves_unread_file g.R.Read.remaining g.W.Write.contents c.tell_unread.result c.args.reader.now c.args.writer.now c.tell_unread.new.writer
+pub returns-in-Err-clause-serves : goal.returns-in-Err-clause-serves
+returns-in-Err-clause-serves g c =
+    serves_unread_with g.R.Read.remaining g.W.Write.contents c.tell_unread.result c.args.reader.now c.args.writer.now c.tell_unread.new.writer
     (g.S.Sources.holds c.args.host.now.sources) g.S.Opened.Read.remaining
     (texts c.args.words.now) c.in-Err.unread c.in-Err.ensures.said c.tell_unread.ensures.tells

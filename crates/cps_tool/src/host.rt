@@ -1,0 +1,12 @@
+//! What a call of the program runs on.
+
+use cps_pass::Hashing;
+use std::alloc::Global;
+
+/// What a call runs on: its memory, how its maps hash, and the files that it may name.
+#[derive(Drop)]
+pub struct Host<S> {
+    pub alloc: Global,
+    pub hashing: Hashing,
+    pub sources: S,
+}

@@ -1,0 +1,128 @@
+//! What is asked of one input, done with it.
+ghost use Rattle.std.specs.Prelude.{◌≡◌, ◌⊎◌, ℕ, List};
+ghost use Rattle.cps_tool.specs.CommandLine.{Calls, Explains, IsIdle, IsQuiet, IsUndone, TellsText};
+ghost use Rattle.cps_words.specs.Task as tasks;
+ghost use Rattle.cps_words.specs.Task.{task_of};
+
+use super::host::Host;
+use super::sessions::run_script_over;
+use super::telling::{
+    NO_FILES, NO_MEMORY, complain, complain_of, status_of_count, status_of_told, tell,
+};
+use cps_batch::batch;
+use cps_check::check;
+use cps_list::Part;
+use cps_manual::manual_text;
+use cps_session::Session;
+use cps_text::Counted;
+use cps_words::{Call, Request, shown};
+use std::alloc::{AllocError, Global};
+use std::io::{Read, Write};
+
+/// What a check calls standard input.
+const STANDARD_INPUT: &str = "<stdin>";
+
+/// Does what a call asks with what a reader gives, which is the file that it names or standard input.
+pub fn run_request<'a, S, R: Read, W: Write, E: Write>(
+    host: &Host<S>,
+    call: Call<'a>,
+    reader: &mut Counted<R>,
+    writer: &mut Counted<W>,
+    errors: &mut Counted<E>,
+) -> u8
+    ensures calls { IsUndone result reader.old reader.new writer.old writer.new ⊎ Calls R.remaining W.contents (task_of call.entry.request) result reader.old reader.new writer.old writer.new }
+    ensures quiet { IsQuiet result errors.old errors.new }
+{
+    match call.request {
+        Request::Batch(part) => run_batch(host, part, reader, writer, errors),
+        Request::Session => run_session(host, reader, writer, errors),
+        Request::Check => match shown(host.alloc, call.file.unwrap_or(STANDARD_INPUT)) {
+            Ok(name) => run_check(host, name.as_bytes(), reader, writer, errors),
+            Err(_) => complain(errors, NO_MEMORY),
+        },
+        Request::Compare(_) => complain(errors, NO_FILES),
+        Request::Explain(word) => run_explanation(host, word, writer, errors),
+    }
+}
+
+fn run_batch<S, R: Read, W: Write, E: Write>(
+    host: &Host<S>,
+    part: Part,
+    reader: &mut Counted<R>,
+    writer: &mut Counted<W>,
+    errors: &mut Counted<E>,
+) -> u8
+    ensures calls { Calls R.remaining W.contents (tasks.batch part) result reader.old reader.new writer.old writer.new }
+    ensures quiet { IsQuiet result errors.old errors.new }
+{
+    match batch(host.alloc, host.hashing, reader, writer, part) {
+        Ok(count) => status_of_count(count),
+        Err(fault) => complain_of(errors, fault),
+    }
+}
+
+fn run_session<S, R: Read, W: Write, E: Write>(
+    host: &Host<S>,
+    reader: &mut Counted<R>,
+    writer: &mut Counted<W>,
+    errors: &mut Counted<E>,
+) -> u8
+    ensures calls { Calls R.remaining W.contents tasks.session result reader.old reader.new writer.old writer.new }
+    ensures quiet { IsQuiet result errors.old errors.new }
+{
+    run_script_over(
+        host.alloc,
+        Session::new(host.alloc, host.hashing),
+        reader,
+        writer,
+        errors,
+    )
+}
+
+fn run_check<S, R: Read, W: Write, E: Write>(
+    host: &Host<S>,
+    name: &[u8],
+    reader: &mut Counted<R>,
+    writer: &mut Counted<W>,
+    errors: &mut Counted<E>,
+) -> u8
+    ensures calls { Calls R.remaining W.contents tasks.check result reader.old reader.new writer.old writer.new }
+    ensures quiet { IsQuiet result errors.old errors.new }
+{
+    match check(host.alloc, host.hashing, name, reader, writer) {
+        Ok(is_told) => status_of_told(is_told),
+        Err(fault) => complain_of(errors, fault),
+    }
+}
+
+/// Tells of the letter of a flag or of an operation.
+fn run_explanation<S, W: Write, E: Write>(
+    host: &Host<S>,
+    word: &str,
+    writer: &mut Counted<W>,
+    errors: &mut Counted<E>,
+) -> u8
+    ensures tells { IsIdle result writer.old writer.new ⊎ ((text : List ℕ) × Explains word.now text × TellsText W.contents result text writer.old writer.new) }
+    ensures quiet { IsQuiet result errors.old errors.new }
+{
+    match manual_text(host.alloc, word.as_bytes()) {
+        Ok(Some(text)) => tell(writer, errors, &text),
+        Ok(None) => complain_of_word(host.alloc, word, errors),
+        Err(_) => complain(errors, NO_MEMORY),
+    }
+}
+
+/// Tells that a word can't be explained.
+fn complain_of_word<E: Write>(alloc: Global, word: &str, errors: &mut Counted<E>) -> u8
+    ensures { result ≡ 2 }
+{
+    match unknown_text(alloc, word) {
+        Ok(text) => complain(errors, text.as_str()),
+        Err(_) => complain(errors, NO_MEMORY),
+    }
+}
+
+fn unknown_text(alloc: Global, word: &str) -> Result<String, AllocError> {
+    let text = format!(in alloc; "error: '{word}' is no letter of a flag and no operation\n")?;
+    shown(alloc, &text)
+}

@@ -1,0 +1,5 @@
+pub mod NumberLemmas
+pub mod AlikeLemmas
+pub mod SimpleLemmas
+pub mod RequestLemmas
+pub mod RequestRows

@@ -1,0 +1,250 @@
+-- Rows of what words ask.
+use Rattle.std.proofs.Common.{◌≡◌, ℕ, List, [], ◌∷◌, Option, Some, None, refl, codes}
+use Rattle.clap.specs.Words.{Text}
+use Rattle.clap.proofs.OnLiterals.{clap_on_literals}
+use Rattle.cps_compare.specs.declared.limits.Columns.{Columns}
+use Rattle.cps_compare.specs.declared.limits.Limits.{Limits}
+use Rattle.cps_list.specs.declared.part.Part.TheVariants.{Listing, Binary, Symbols, Flags, All}
+use Rattle.cps_words.specs.Request.{answer_of, asks, refuses, request_of, tells}
+use Rattle.cps_words.specs.Task.{batch, session, check, compare, explain}
+
+-- a call's words, after the program's name
+abbrev call : List Text → List Text
+call words = codes "compass" ∷ words
+
+default_part : request_of (call (codes "batch" ∷ [])) ≡ Some (batch All)
+unfolding clap_on_literals
+default_part = refl
+
+listing_part : request_of (call (codes "batch" ∷ codes "--part" ∷ codes "listing" ∷ [])) ≡ Some (batch Listing)
+unfolding clap_on_literals
+listing_part = refl
+
+binary_part : request_of (call (codes "batch" ∷ codes "--part=binary" ∷ [])) ≡ Some (batch Binary)
+unfolding clap_on_literals
+binary_part = refl
+
+symbols_part : request_of (call (codes "batch" ∷ codes "--part" ∷ codes "symbols" ∷ [])) ≡ Some (batch Symbols)
+unfolding clap_on_literals
+symbols_part = refl
+
+flags_part : request_of (call (codes "batch" ∷ codes "--part" ∷ codes "flags" ∷ [])) ≡ Some (batch Flags)
+unfolding clap_on_literals
+flags_part = refl
+
+all_part : request_of (call (codes "batch" ∷ codes "--part" ∷ codes "all" ∷ [])) ≡ Some (batch All)
+unfolding clap_on_literals
+all_part = refl
+
+session_row : request_of (call (codes "session" ∷ [])) ≡ Some session
+unfolding clap_on_literals
+session_row = refl
+
+no_command : request_of (call []) ≡ None
+unfolding clap_on_literals
+no_command = refl
+
+other_command : request_of (call (codes "other" ∷ [])) ≡ None
+unfolding clap_on_literals
+other_command = refl
+
+other_part : request_of (call (codes "batch" ∷ codes "--part" ∷ codes "other" ∷ [])) ≡ None
+unfolding clap_on_literals
+other_part = refl
+
+missing_part : request_of (call (codes "batch" ∷ codes "--part" ∷ [])) ≡ None
+unfolding clap_on_literals
+missing_part = refl
+
+file_row : answer_of (call (codes "batch" ∷ codes "deck.cps" ∷ [])) ≡ asks (batch All) (Some (codes "deck.cps"))
+unfolding clap_on_literals
+file_row = refl
+
+part_of_file : answer_of (call (codes "batch" ∷ codes "deck.cps" ∷ codes "--part" ∷ codes "flags" ∷ [])) ≡ asks (batch Flags) (Some (codes "deck.cps"))
+unfolding clap_on_literals
+part_of_file = refl
+
+standard_input : answer_of (call (codes "batch" ∷ codes "-" ∷ [])) ≡ asks (batch All) None
+unfolding clap_on_literals
+standard_input = refl
+
+no_file : answer_of (call (codes "batch" ∷ [])) ≡ asks (batch All) None
+unfolding clap_on_literals
+no_file = refl
+
+extra_word : answer_of (call (codes "batch" ∷ codes "deck.cps" ∷ codes "extra" ∷ [])) ≡ refuses
+unfolding clap_on_literals
+extra_word = refl
+
+file_of_a_session : answer_of (call (codes "session" ∷ codes "deck.cps" ∷ [])) ≡ refuses
+unfolding clap_on_literals
+file_of_a_session = refl
+
+asks_help : answer_of (call (codes "--help" ∷ [])) ≡ tells
+unfolding clap_on_literals
+asks_help = refl
+
+asks_batch_help : answer_of (call (codes "batch" ∷ codes "-h" ∷ [])) ≡ tells
+unfolding clap_on_literals
+asks_batch_help = refl
+
+asks_version : answer_of (call (codes "--version" ∷ [])) ≡ tells
+unfolding clap_on_literals
+asks_version = refl
+
+no_help_request : request_of (call (codes "--help" ∷ [])) ≡ None
+unfolding clap_on_literals
+no_help_request = refl
+
+help_is_no_command : answer_of (call (codes "help" ∷ [])) ≡ refuses
+unfolding clap_on_literals
+help_is_no_command = refl
+
+-- ---- `check`
+
+check_row : answer_of (call (codes "check" ∷ codes "deck.cps" ∷ [])) ≡ asks check (Some (codes "deck.cps"))
+unfolding clap_on_literals
+check_row = refl
+
+check_of_standard_input : answer_of (call (codes "check" ∷ [])) ≡ asks check None
+unfolding clap_on_literals
+check_of_standard_input = refl
+
+check_of_a_minus : answer_of (call (codes "check" ∷ codes "-" ∷ [])) ≡ asks check None
+unfolding clap_on_literals
+check_of_a_minus = refl
+
+part_of_a_check : answer_of (call (codes "check" ∷ codes "--part" ∷ codes "flags" ∷ [])) ≡ refuses
+unfolding clap_on_literals
+part_of_a_check = refl
+
+two_files_to_check : answer_of (call (codes "check" ∷ codes "deck.cps" ∷ codes "extra" ∷ [])) ≡ refuses
+unfolding clap_on_literals
+two_files_to_check = refl
+
+check_help : answer_of (call (codes "check" ∷ codes "--help" ∷ [])) ≡ tells
+unfolding clap_on_literals
+check_help = refl
+
+-- ---- `compare`
+
+abbrev all_of_it : Limits
+all_of_it = record { from = None; to = None; columns = None }
+
+abbrev columns_of : ℕ → ℕ → Option Columns
+columns_of first last = Some (record { first = first; last = last })
+
+compare_row : answer_of (call (codes "compare" ∷ codes "old.oct" ∷ codes "deck.cps" ∷ []))
+    ≡ asks (compare (Some (codes "old.oct")) all_of_it) (Some (codes "deck.cps"))
+unfolding clap_on_literals
+compare_row = refl
+
+compare_of_standard_input : answer_of (call (codes "compare" ∷ codes "old.oct" ∷ [])) ≡ asks (compare (Some (codes "old.oct")) all_of_it) None
+unfolding clap_on_literals
+compare_of_standard_input = refl
+
+octal_of_standard_input : answer_of (call (codes "compare" ∷ codes "-" ∷ codes "deck.cps" ∷ [])) ≡ asks (compare None all_of_it) (Some (codes "deck.cps"))
+unfolding clap_on_literals
+octal_of_standard_input = refl
+
+twice_standard_input : answer_of (call (codes "compare" ∷ codes "-" ∷ [])) ≡ refuses
+unfolding clap_on_literals
+twice_standard_input = refl
+
+twice_a_minus : answer_of (call (codes "compare" ∷ codes "-" ∷ codes "-" ∷ [])) ≡ refuses
+unfolding clap_on_literals
+twice_a_minus = refl
+
+no_octal : answer_of (call (codes "compare" ∷ [])) ≡ refuses
+unfolding clap_on_literals
+no_octal = refl
+
+limits_row : answer_of (call (codes "compare" ∷ codes "--from" ∷ codes "100" ∷ codes "--to=777777" ∷ codes "--columns" ∷ codes "10-36" ∷ codes "old.oct" ∷ []))
+    ≡ asks (compare (Some (codes "old.oct")) (record { from = Some 64; to = Some 262143; columns = columns_of 10 36 })) None
+unfolding clap_on_literals
+limits_row = refl
+
+one_column : answer_of (call (codes "compare" ∷ codes "old.oct" ∷ codes "--columns" ∷ codes "7" ∷ []))
+    ≡ asks (compare (Some (codes "old.oct")) (record { from = None; to = None; columns = columns_of 7 7 })) None
+unfolding clap_on_literals
+one_column = refl
+
+no_octal_digit : answer_of (call (codes "compare" ∷ codes "--from" ∷ codes "8" ∷ codes "old.oct" ∷ [])) ≡ refuses
+unfolding clap_on_literals
+no_octal_digit = refl
+
+seven_digits : answer_of (call (codes "compare" ∷ codes "--to" ∷ codes "0000001" ∷ codes "old.oct" ∷ [])) ≡ refuses
+unfolding clap_on_literals
+seven_digits = refl
+
+plus_of_an_address : answer_of (call (codes "compare" ∷ codes "--to" ∷ codes "+1" ∷ codes "old.oct" ∷ [])) ≡ refuses
+unfolding clap_on_literals
+plus_of_an_address = refl
+
+empty_address : answer_of (call (codes "compare" ∷ codes "--to=" ∷ codes "old.oct" ∷ [])) ≡ refuses
+unfolding clap_on_literals
+empty_address = refl
+
+falling_columns : answer_of (call (codes "compare" ∷ codes "--columns" ∷ codes "36-10" ∷ codes "old.oct" ∷ [])) ≡ refuses
+unfolding clap_on_literals
+falling_columns = refl
+
+column_nought : answer_of (call (codes "compare" ∷ codes "--columns" ∷ codes "0-10" ∷ codes "old.oct" ∷ [])) ≡ refuses
+unfolding clap_on_literals
+column_nought = refl
+
+no_last_column : answer_of (call (codes "compare" ∷ codes "--columns" ∷ codes "10-" ∷ codes "old.oct" ∷ [])) ≡ refuses
+unfolding clap_on_literals
+no_last_column = refl
+
+three_columns : answer_of (call (codes "compare" ∷ codes "--columns" ∷ codes "1-2-3" ∷ codes "old.oct" ∷ [])) ≡ refuses
+unfolding clap_on_literals
+three_columns = refl
+
+six_digits_of_a_column : answer_of (call (codes "compare" ∷ codes "--columns" ∷ codes "000001" ∷ codes "old.oct" ∷ [])) ≡ refuses
+unfolding clap_on_literals
+six_digits_of_a_column = refl
+
+-- ---- `session --source`
+
+session_of_a_source : answer_of (call (codes "session" ∷ codes "--source" ∷ codes "deck.cps" ∷ [])) ≡ asks session (Some (codes "deck.cps"))
+unfolding clap_on_literals
+session_of_a_source = refl
+
+session_of_no_line : answer_of (call (codes "session" ∷ [])) ≡ asks session None
+unfolding clap_on_literals
+session_of_no_line = refl
+
+session_of_standard_input : answer_of (call (codes "session" ∷ codes "--source" ∷ codes "-" ∷ [])) ≡ refuses
+unfolding clap_on_literals
+session_of_standard_input = refl
+
+source_without_a_file : answer_of (call (codes "session" ∷ codes "--source" ∷ [])) ≡ refuses
+unfolding clap_on_literals
+source_without_a_file = refl
+
+source_of_a_batch : answer_of (call (codes "batch" ∷ codes "--source" ∷ codes "deck.cps" ∷ [])) ≡ refuses
+unfolding clap_on_literals
+source_of_a_batch = refl
+
+-- ---- `explain`
+
+explain_row : answer_of (call (codes "explain" ∷ codes "VFD" ∷ [])) ≡ asks (explain (codes "VFD")) None
+unfolding clap_on_literals
+explain_row = refl
+
+explain_a_sign : answer_of (call (codes "explain" ∷ codes "=" ∷ [])) ≡ asks (explain (codes "=")) None
+unfolding clap_on_literals
+explain_a_sign = refl
+
+explain_nothing : answer_of (call (codes "explain" ∷ [])) ≡ refuses
+unfolding clap_on_literals
+explain_nothing = refl
+
+explain_two : answer_of (call (codes "explain" ∷ codes "A" ∷ codes "B" ∷ [])) ≡ refuses
+unfolding clap_on_literals
+explain_two = refl
+
+explain_help : answer_of (call (codes "explain" ∷ codes "--help" ∷ [])) ≡ tells
+unfolding clap_on_literals
+explain_help = refl

@@ -1,0 +1,5 @@
+pub mod Commands
+pub mod Values
+pub mod Task
+pub mod Request
+pub mod Reading

@@ -1,0 +1,25 @@
+-- What a call of the program is to do. Our own.
+use Rattle.std.specs.Prelude.{Option, option_map}
+use Rattle.std.specs.Borrow.{Bor}
+use Rattle.clap.specs.Words.{Text}
+use Rattle.cps_list.specs.declared.part.Part.{Part}
+use Rattle.cps_compare.specs.declared.limits.Limits.{Limits}
+use Rattle.cps_words.specs.declared.request.Request.{Request}
+use Rattle.cps_words.specs.declared.request.Request.TheVariants.{Batch, Session, Check, Compare, Explain}
+
+-- to assemble a source and write a part of that; to run a script; to tell what is wrong in a source; to compare one with an octal text,
+-- which is standard input where it has no name; to explain a flag or an operation
+pub data Task : Type 0 where
+  batch : Part → Task
+  session : Task
+  check : Task
+  compare : Option Text → Limits → Task
+  explain : Text → Task
+
+-- what a request of the code asks
+abbrev pub task_of : Request → Task
+task_of (Batch part) = batch part
+task_of Session = session
+task_of Check = check
+task_of (Compare comparand) = compare (option_map (λ (name : Bor Text). name.now) comparand.octal) comparand.limits
+task_of (Explain word) = explain word.now

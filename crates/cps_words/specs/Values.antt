@@ -1,0 +1,92 @@
+-- What the values of options and operands name. Our own.
+use Prim.Native.Char.{code}
+use Rattle.std.specs.Prelude.{ℕ, Bool, ◌==◌, ◌&&◌, nat_le, nat_lt, List, [], length, Option, Some, None, if◌then◌else◌, codes, bytes_eq, option_map, unwrap_or}
+use Rattle.std.specs.List.{after_first, before_first, list_all, position_or_len}
+use Rattle.std.specs.Char.{is_digit}
+use Rattle.std.specs.Str.Parse.{digits_value}
+use Rattle.clap.specs.Words.{Row, Text, first_of}
+use Rattle.cps_compare.specs.declared.limits.Columns.{Columns}
+use Rattle.cps_compare.specs.declared.limits.Limits.{Limits}
+use Rattle.cps_list.specs.declared.part.Part.{Part}
+use Rattle.cps_list.specs.declared.part.Part.TheVariants.{Listing, Binary, Symbols, Flags, All}
+
+-- the part that a word names
+abbrev pub part_named : Text → Option Part
+part_named word = if bytes_eq word (codes "listing") then Some Listing
+    else if bytes_eq word (codes "binary") then Some Binary
+    else if bytes_eq word (codes "symbols") then Some Symbols
+    else if bytes_eq word (codes "flags") then Some Flags
+    else if bytes_eq word (codes "all") then Some All
+    else None
+
+-- the value of `--part`
+abbrev pub part_word : List Row → Text
+part_word rows = unwrap_or (first_of (codes "part") rows) []
+
+-- the file that a word names: standard input, where it is `-`
+abbrev pub file_named : Option Text → Option Text
+file_named None = None
+file_named (Some word) = if bytes_eq word (codes "-") then None else Some word
+
+-- the file that is named, None where standard input is
+abbrev pub file_in : List Row → Option Text
+file_in rows = file_named (first_of (codes "file") rows)
+
+-- the word that is to be explained
+abbrev pub word_explained : List Row → Text
+word_explained rows = unwrap_or (first_of (codes "word") rows) []
+
+-- ---- what is compared
+
+-- the octal text, None where standard input is
+abbrev pub octal_in : List Row → Option Text
+octal_in rows = file_named (first_of (codes "octal") rows)
+
+-- the number that a word writes in digits of a radix, of which it may have so many
+abbrev pub number_named : ℕ → ℕ → Text → Option ℕ
+number_named radix most word =
+    if nat_lt 0 (length word) && (nat_le (length word) most && list_all (λ digit. is_digit digit radix) word)
+    then Some (digits_value radix word) else None
+
+-- an address: 1 to 6 octal digits
+abbrev pub address_named : Text → Option ℕ
+address_named word = number_named 8 6 word
+
+-- a column: 1 to 5 decimal digits
+abbrev pub column_named : Text → Option ℕ
+column_named word = number_named 10 5 word
+
+-- columns count from 1, and the first is not behind the last
+abbrev pub columns_between : Option ℕ → Option ℕ → Option Columns
+columns_between (Some first) (Some last) = if nat_le 1 first && nat_le first last then Some (record { first = first; last = last }) else None
+columns_between _ _ = None
+
+abbrev pub is_minus : ℕ → Bool
+is_minus byte = byte == code "-"
+
+-- what stands before and behind the first minus of a word, None where it has none
+abbrev pub halves_of : Text → Option (Text × Text)
+halves_of word = if nat_lt (position_or_len is_minus word) (length word) then Some (before_first is_minus word, after_first is_minus word) else None
+
+-- one column alone is the first and the last
+abbrev pub columns_from : Text → Option (Text × Text) → Option Columns
+columns_from word None = columns_between (column_named word) (column_named word)
+columns_from word (Some halves) = columns_between (column_named halves.0) (column_named halves.1)
+
+-- the columns that a word names: two with a minus between them, or one
+abbrev pub columns_named : Text → Option Columns
+columns_named word = columns_from word (halves_of word)
+
+-- what an option limits, which is nothing where it is left out; None as a whole where its value is wrong
+abbrev pub limit_from : {X : Type 0} → (Text → Option X) → Option Text → Option (Option X)
+limit_from named None = Some None
+limit_from named (Some word) = option_map (λ limit. Some limit) (named word)
+
+abbrev pub limits_from : Option (Option ℕ) → Option (Option ℕ) → Option (Option Columns) → Option Limits
+limits_from (Some from) (Some to) (Some columns) = Some (record { from = from; to = to; columns = columns })
+limits_from _ _ _ = None
+
+-- the limits that the options name, None where one of their values is wrong
+abbrev pub limits_in : List Row → Option Limits
+limits_in rows = limits_from (limit_from address_named (first_of (codes "from") rows)) (limit_from address_named (first_of (codes "to") rows))
+    (limit_from columns_named (first_of (codes "columns") rows))

@@ -1,0 +1,136 @@
+//! The words of a call of the program, and what they ask.
+ghost use Rattle.std.specs.Prelude.{◌≡◌, ◌⊎◌, IfOk, IfErr, None};
+ghost use Rattle.clap.specs.Words.{found_of, rows_of, subcommand_rows_of};
+ghost use Rattle.clap.specs.Walk.{texts};
+ghost use Rattle.cps_words.specs.Request.{IsAnswer, answer_from, answer_named, answer_of, answer_of_batch, answer_of_compare, answer_of_session, asked_by, request_of};
+ghost use Rattle.cps_words.specs.Reading.{Reads};
+
+use super::command_line::compass_command;
+use super::comparand::Comparand;
+use super::limits::read_limits;
+use super::unread::{Unread, say, say_no_part, say_wrong_value, wrong};
+use super::values::{read_file, read_part, word_in};
+use clap::ArgMatches;
+use cps_list::Part;
+use std::alloc::Global;
+
+/// What a call of the program asks.
+#[derive(Clone, Copy)]
+pub enum Request<'a> {
+    /// To assemble a source, and to write a part of that.
+    Batch(Part),
+    /// To run a script, over a source that begins with the lines of the call's file, or with no line where there is none.
+    Session,
+    /// To tell what is wrong in a source.
+    Check,
+    /// To compare a source with an octal text.
+    Compare(Comparand<'a>),
+    /// To explain a flag, by its letter, or an operation, by its name.
+    Explain(&'a str),
+}
+
+/// What a call asks, and of which file.
+#[derive(Clone, Copy)]
+pub struct Call<'a> {
+    pub request: Request<'a>,
+    /// The file's name, None for standard input. Of a session None where it begins with no line; where a word is explained there is none.
+    pub file: Option<&'a str>,
+}
+
+/// Reads the words of a call, of which the first is the program's name.
+pub fn read_words<'a>(alloc: Global, words: &'a [&'a str]) -> Result<Call<'a>, Unread>
+    ensures asked { IfOk result (λ call. answer_of (texts words.now) ≡ asked_by call) }
+    // A call that asks something fails only where memory was refused.
+    ensures unread { IfErr result (λ unread. (unread ≡ Unread.Memory) ⊎ (request_of (texts words.now) ≡ None)) }
+    // What is said is what is answered.
+    ensures said { IfErr result (IsAnswer (texts words.now)) }
+{
+    let Ok(command) = compass_command(alloc) else {
+        return Err(Unread::Memory);
+    };
+    match command.try_get_matches_from(words) {
+        Ok(matches) => read_matches(alloc, &matches),
+        Err(error) => Err(say(alloc, &error)),
+    }
+}
+
+/// What words ask in which `clap` found no fault. It finds one in words without a command.
+fn read_matches<'a>(alloc: Global, matches: &ArgMatches<'a>) -> Result<Call<'a>, Unread>
+    ensures { Reads (answer_from (subcommand_rows_of matches.now)) result }
+{
+    match matches.subcommand() {
+        Some((name, values)) => read_command(alloc, name, values),
+        None => Err(wrong(alloc, NO_COMMAND)),
+    }
+}
+
+const NO_COMMAND: &str = "error: a command is wanted\n";
+
+/// What a command asks, by the values of its options and operands.
+fn read_command<'a>(alloc: Global, name: &str, values: &ArgMatches<'a>) -> Result<Call<'a>, Unread>
+    ensures { Reads (answer_named name.now (rows_of (found_of values.now))) result }
+{
+    match name {
+        "batch" => read_batch(alloc, values),
+        "session" => read_session(alloc, values),
+        "check" => Ok(Call {
+            request: Request::Check,
+            file: read_file(word_in(values, "file")),
+        }),
+        "compare" => read_compare(alloc, values),
+        "explain" => Ok(Call {
+            request: Request::Explain(word_in(values, "word").unwrap_or("")),
+            file: None,
+        }),
+        _ => Err(wrong(alloc, NO_COMMAND)),
+    }
+}
+
+fn read_batch<'a>(alloc: Global, values: &ArgMatches<'a>) -> Result<Call<'a>, Unread>
+    ensures { Reads (answer_of_batch (rows_of (found_of values.now))) result }
+{
+    let word = word_in(values, "part").unwrap_or("");
+    match read_part(word) {
+        Some(part) => Ok(Call {
+            request: Request::Batch(part),
+            file: read_file(word_in(values, "file")),
+        }),
+        None => Err(say_no_part(alloc, word)),
+    }
+}
+
+fn read_session<'a>(alloc: Global, values: &ArgMatches<'a>) -> Result<Call<'a>, Unread>
+    ensures { Reads (answer_of_session (rows_of (found_of values.now))) result }
+{
+    let source = word_in(values, "source");
+    match source {
+        Some("-") => Err(say_wrong_value(
+            alloc,
+            "--source <FILE>",
+            "-",
+            "standard input has the script",
+        )),
+        _ => Ok(Call {
+            request: Request::Session,
+            file: source,
+        }),
+    }
+}
+
+fn read_compare<'a>(alloc: Global, values: &ArgMatches<'a>) -> Result<Call<'a>, Unread>
+    ensures { Reads (answer_of_compare (rows_of (found_of values.now))) result }
+{
+    let limits = read_limits(alloc, values)?;
+    let octal = read_file(word_in(values, "octal"));
+    let file = read_file(word_in(values, "file"));
+    if octal.is_none() && file.is_none() {
+        return Err(wrong(alloc, TWICE_STANDARD_INPUT));
+    }
+    Ok(Call {
+        request: Request::Compare(Comparand { octal, limits }),
+        file,
+    })
+}
+
+const TWICE_STANDARD_INPUT: &str =
+    "error: OCTAL and FILE can't both be standard input\n\nFor more information, try '--help'.\n";
