@@ -1,0 +1,47 @@
+# Completion of the words of compass in bash. Read it in ~/.bashrc:
+#   . ~/compass/completions/compass.bash
+
+# The words that begin with - or name a command, by the command that stands before them.
+_compass_words() {
+  case $1 in
+    '') echo 'batch session check compare explain -h --help -V --version' ;;
+    batch) echo '--part -h --help' ;;
+    session) echo '--source -h --help' ;;
+    check) echo '-h --help' ;;
+    compare) echo '--from --to --columns -h --help' ;;
+    explain) echo '-h --help' ;;
+  esac
+}
+
+# Offers what begins as the word does that is typed: compgen's answer to the options that are given.
+_compass_offer() {
+  mapfile -t COMPREPLY < <(compgen "$@" -- "$word")
+}
+
+_compass_offer_files() {
+  compopt -o filenames
+  _compass_offer -f
+}
+
+_compass() {
+  local word=$2 before=$3 command=
+  COMPREPLY=()
+  [ "$COMP_CWORD" -eq 1 ] || command=${COMP_WORDS[1]}
+  # `--part=PART` comes as three words.
+  [ "$before" != = ] || before=${COMP_WORDS[COMP_CWORD - 2]}
+  case $command$before in
+    batch--part) _compass_offer -W 'listing binary symbols flags all' ;;
+    session--source) _compass_offer_files ;;
+    compare--from | compare--to | compare--columns) ;;
+    *)
+      case $command,$word in
+        *,-*) _compass_offer -W "$(_compass_words "$command")" ;;
+        ,*) _compass_offer -X '-*' -W "$(_compass_words '')" ;;
+        explain,*) _compass_offer -W 'A D E L O T U V' ;;
+        batch,* | check,* | compare,*) _compass_offer_files ;;
+      esac
+      ;;
+  esac
+}
+
+complete -F _compass compass

@@ -1,0 +1,24 @@
+# Completion of the words of compass in fish. Link it into ~/.config/fish/completions.
+
+complete -c compass -f
+complete -c compass -s h -l help -d 'Print help'
+complete -c compass -n __fish_use_subcommand -s V -l version -d 'Print the version'
+
+complete -c compass -n __fish_use_subcommand -a batch -d 'Assemble a source'
+complete -c compass -n '__fish_seen_subcommand_from batch' -F
+complete -c compass -n '__fish_seen_subcommand_from batch' -l part -x -a 'listing binary symbols flags all' -d 'What to write'
+
+complete -c compass -n __fish_use_subcommand -a session -d 'Edit a source line by line, and ask for its texts'
+complete -c compass -n '__fish_seen_subcommand_from session' -l source -r -F -d 'File whose lines it begins with'
+
+complete -c compass -n __fish_use_subcommand -a check -d 'Tell what is wrong in a source'
+complete -c compass -n '__fish_seen_subcommand_from check' -F
+
+complete -c compass -n __fish_use_subcommand -a compare -d 'Compare the words of a source with an octal listing or dump'
+complete -c compass -n '__fish_seen_subcommand_from compare' -F
+complete -c compass -n '__fish_seen_subcommand_from compare' -l from -x -d 'First address, in octal'
+complete -c compass -n '__fish_seen_subcommand_from compare' -l to -x -d 'Last address, in octal'
+complete -c compass -n '__fish_seen_subcommand_from compare' -l columns -x -d 'Columns of each row that are read, first-last'
+
+complete -c compass -n __fish_use_subcommand -a explain -d 'Explain a flag or an operation'
+complete -c compass -n '__fish_seen_subcommand_from explain' -a 'A D E L O T U V' -d 'Flag'
