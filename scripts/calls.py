@@ -176,9 +176,30 @@ FILES = [
     unopened(EXAMPLES, EXAMPLES.encode() + b": is a directory\n"),
 ]
 
+# sessions that begin with the lines of a file
+TABBED = os.path.join(EXAMPLES, "tabbed")
+SOURCES = [
+    (["session", "--source", DECK], b"flags\ni 0 *\nwork\n", 0, b"0 flagged lines\nok 7 lines\nones 1 twos 1\n", b""),
+    (["session", "--source=" + DECK], b"work\nbinary\n", 0, b"ones 0 twos 0\nIDENT FIRST\n000000 71600000017276000002\n000001 00000000004600046000\n", b""),
+    (["session", "--source", os.path.join(EXAMPLES, "flags.cps")], b"", 1, b"", b""),
+    (["session", "--source", TABBED], b"flags\n", 2, b"", b"line 2: bad character\n"),
+    (["session", "--source", os.path.join(EXAMPLES, "none.cps")], b"flags\n", 2, b"", b"cannot read " + os.path.join(EXAMPLES, "none.cps").encode() + b": No such file or directory\n"),
+]
+
+# words of the language; the forms and codes are the manuals'
+CENTRAL = b"An instruction of the central processor: i, j and k are digits of registers,\nK is an expression or a literal, n an expression.\n"
+PERIPHERAL = b"An instruction of a peripheral processor: d, m, c and a target are expressions,\nm and c may be literals.\n"
+EXPLAINED = [
+    (["explain", "V"], b"A\n", 0, b"V: a width of VFD that isn't plain, or isn't from 1 to 60\n", b""),
+    (["explain", "t"], b"A\n", 0, b"T: a value that was cut\n", b""),
+    (["explain", "rj"], b"A\n", 0, CENTRAL + b"RJ    K         30 bits  0100K; the next instruction begins a word\n", b""),
+    (["explain", "MX6"], b"A\n", 0, CENTRAL + b"MXi   n         15 bits  43in\n", b""),
+    (["explain", "LJM"], b"A\n", 0, PERIPHERAL + b"LJM   m or m,d  24 bits  01dd mmmm\n", b""),
+]
+
 # words that ask nothing
 WORDS = [
-    refused([], b"'compass' requires a subcommand but one was not provided\n  [subcommands: batch, session]\n\nUsage: compass <COMMAND>"),
+    refused([], b"'compass' requires a subcommand but one was not provided\n  [subcommands: batch, session, check, compare, explain]\n\nUsage: compass <COMMAND>"),
     refused(["other"], b"unrecognized subcommand 'other'\n\nUsage: compass <COMMAND>"),
     refused(["oth\x1b\x9ber"], b"unrecognized subcommand 'oth??er'\n\nUsage: compass <COMMAND>"),
     refused(["batch", "--part", "other"], b"invalid value 'other' for '--part <PART>'\n  [possible values: " + PARTS + b"]"),
@@ -188,15 +209,19 @@ WORDS = [
     refused(["batch", "--part"], b"a value is required for '--part <PART>' but none was supplied"),
     refused(["batch", "--wide"], b"unexpected argument '--wide' found\n\n  tip: to pass '--wide' as a value, use '-- --wide'\n\nUsage: compass batch [OPTIONS] [FILE]"),
     refused(["batch", DECK, "more"], b"unexpected argument 'more' found\n\nUsage: compass batch [OPTIONS] [FILE]"),
-    refused(["session", "name"], b"unexpected argument 'name' found\n\nUsage: compass session"),
+    refused(["session", "--source", "-"], b"invalid value '-' for '--source <FILE>': standard input has the script"),
+    refused(["session", "name"], b"unexpected argument 'name' found\n\nUsage: compass session [OPTIONS]"),
 ]
 
-CALLS = TEXTS + LONG + LINES + WRONG_LINES + SCRIPTS + LIMITS + FILES + WORDS
+CALLS = TEXTS + LONG + LINES + WRONG_LINES + SCRIPTS + LIMITS + FILES + SOURCES + EXPLAINED + WORDS
 
 # words that ask for help or the version, and what is written among other lines, none of which has more than 80 columns
 HELPS = [
     (["--help"], b"Usage: compass <COMMAND>"),
     (["batch", "--help"], b"Usage: compass batch [OPTIONS] [FILE]"),
     (["session", "-h"], b"Usage: compass session"),
+    (["check", "--help"], b"Usage: compass check [FILE]"),
+    (["compare", "--help"], b"Usage: compass compare [OPTIONS] <OCTAL> [FILE]"),
+    (["explain", "--help"], b"Usage: compass explain <WORD>"),
     (["--version"], b"compass "),
 ]
