@@ -1,7 +1,9 @@
 //! A source that is assembled whole.
 ghost use Rattle.std.specs.Prelude.{◌≡◌, ◌≤◌, length, IfOk};
+ghost use Rattle.cps_assembly.specs.Flagged.{flagged_lines as flagged_in};
 
 use crate::pass_one::PassOne;
+use cps_assembly::flagged_lines;
 use cps_final::{Finals, Gather, Gathered, Outcome};
 use cps_list::View;
 use cps_pass::Hashing;
@@ -87,5 +89,12 @@ impl Source {
             outcomes,
             gather: one.into_gather(),
         })
+    }
+
+    /// How many lines have a flag, and one more if a range is open after the last. Takes no memory.
+    pub fn flagged_lines(&self) -> u32
+        ensures { result ≡ flagged_in self.now }
+    {
+        flagged_lines(&self.outcomes, self.open_at_end()) as u32
     }
 }

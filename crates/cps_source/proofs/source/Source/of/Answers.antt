@@ -1,4 +1,4 @@
-use Rattle.std.proofs.Common.{List, ℕ, ap, ◌∙◌}
+use Rattle.std.proofs.Common.{List, ap, ◌∙◌}
 use Rattle.cps_state.specs.Course.{Trace}
 use Rattle.cps_final.specs.Finals.{finals_of}
 use Rattle.cps_assembly.specs.Assembly.{traces_of, outcomes_under}
