@@ -1,3 +1,4 @@
 pub mod Placing
 pub mod Outputs
 pub mod Steps
+pub mod Export

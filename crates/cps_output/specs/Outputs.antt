@@ -1,5 +1,5 @@
 -- Which files the texts of a source go into, and what becomes of these. Our own.
-use Rattle.std.specs.Prelude.{◌≡◌, ℕ, List, [], ◌∷◌, ◌++◌, Option, None, Some, Result, Ok, Err}
+use Rattle.std.specs.Prelude.{◌≡◌, ℕ, List, [], ◌∷◌, ◌++◌, Option, None, Some, Result, Ok, Err, option_map}
 use Rattle.std.specs.Borrow.{Bor}
 use Rattle.cps_list.specs.declared.part.Part.TheVariants as part
 use Rattle.cps_list.specs.Assembly.{Assembly}
@@ -9,18 +9,37 @@ use Rattle.cps_output.specs.declared.fault.OutputFault.TheVariants.{Memory, Uncr
 use Rattle.cps_output.specs.declared.outputs.Outputs.{Outputs}
 use Rattle.cps_output.specs.Placing.{Placed, with_files}
 
+-- the names of the files that texts are wanted in, None where a text isn't wanted
+pub record Names : Type 0 where
+  pub listing : Option (List ℕ)
+  pub binary : Option (List ℕ)
+  pub symbols : Option (List ℕ)
+  pub flags : Option (List ℕ)
+
+abbrev pub name_of : Option (Bor (List ℕ)) → Option (List ℕ)
+name_of output = option_map (λ (name : Bor (List ℕ)). name.now) output
+
+-- the names that outputs of the code have
+abbrev pub names_of : Outputs → Names
+names_of outputs = record {
+  listing = name_of outputs.listing;
+  binary = name_of outputs.binary;
+  symbols = name_of outputs.symbols;
+  flags = name_of outputs.flags;
+}
+
 -- the file of a text, if it is wanted
-abbrev pub file_of : List ℕ → Option (Bor (List ℕ)) → List Placed
+abbrev pub file_of : List ℕ → Option (List ℕ) → List Placed
 file_of text None = []
-file_of text (Some name) = record { name = name.now; bytes = text } ∷ []
+file_of text (Some name) = record { name = name; bytes = text } ∷ []
 
 -- the files of the texts that are wanted, in the order in which they are placed
-abbrev pub files_of : Assembly → Outputs → List Placed
-files_of assembly outputs =
-    file_of (text_of part.Listing assembly) outputs.listing
-    ++ file_of (text_of part.Binary assembly) outputs.binary
-    ++ file_of (text_of part.Symbols assembly) outputs.symbols
-    ++ file_of (text_of part.Flags assembly) outputs.flags
+abbrev pub files_of : Assembly → Names → List Placed
+files_of assembly names =
+    file_of (text_of part.Listing assembly) names.listing
+    ++ file_of (text_of part.Binary assembly) names.binary
+    ++ file_of (text_of part.Symbols assembly) names.symbols
+    ++ file_of (text_of part.Flags assembly) names.flags
 
 -- right behind these files one of that name goes
 abbrev pub IsNext : List Placed → List ℕ → List Placed → Type 0

@@ -7,7 +7,7 @@ use Rattle.cps_output.specs.declared.fault.OutputFault.{OutputFault}
 use Rattle.cps_output.specs.declared.fault.OutputFault.TheVariants.{Memory, Uncreated, Unwritten, Unplaced}
 use Rattle.cps_output.specs.declared.outputs.Output.{Output}
 use Rattle.cps_output.specs.declared.outputs.Outputs.{Outputs}
-use Rattle.cps_output.specs.Outputs.{file_of}
+use Rattle.cps_output.specs.Outputs.{file_of, name_of}
 use Rattle.cps_output.specs.Placing.{Placed}
 
 -- the four texts, the last one first
@@ -22,7 +22,7 @@ last_first outputs =
 -- the files of texts of which the last is placed first
 abbrev pub files_from : Assembly → List Output → List Placed
 files_from assembly [] = []
-files_from assembly (output ∷ rest) = files_from assembly rest ++ file_of (text_of output.part assembly) output.name
+files_from assembly (output ∷ rest) = files_from assembly rest ++ file_of (text_of output.part assembly) (name_of output.name)
 
 -- the text of the file of that name isn't written
 abbrev pub IsUnwritten : List ℕ → OutputFault → Type 0

@@ -5,7 +5,7 @@ use std::io;
 /// Why texts aren't in their files.
 #[derive(Drop)]
 pub enum OutputFault<'a> {
-    /// There was no memory for a text. No file was placed.
+    /// There was no memory for a text, or to make a file. No file was placed.
     Memory,
     /// The file of that name can't be made, for that reason. No file was placed.
     Uncreated(&'a str, io::Error),

@@ -1,16 +1,25 @@
-//! Texts of an assembled source, written into files that are named: each file gets its whole text, or stays as it was.
+//! Texts of a source, written into files that are named: each file gets its whole text, or stays as it was.
 //!
+//! - `export.rt`: what is made of a source
+//! - `export_fault.rt`: why not all is made of a source that is wanted
+//! - `exporting.rt`: a source that is read whole, assembled, and written into files
 //! - `fault.rt`: why texts aren't in their files
 //! - `outputs.rt`: which texts are wanted, and in which files
 //! - `targets.rt`: what puts files in their places
-//! - `writing.rt`: the calls that write the texts and place the files
+//! - `writing.rt`: the calls that write the texts of an assembled source and place the files
 #![tactic(auto)]
 
+mod export;
+mod export_fault;
+mod exporting;
 mod fault;
 mod outputs;
 mod targets;
 mod writing;
 
+pub use export::Export;
+pub use export_fault::ExportFault;
+pub use exporting::export_source;
 pub use fault::{OutputFault, reason_of};
 pub use outputs::{Output, Outputs};
 pub use targets::Targets;

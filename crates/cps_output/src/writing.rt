@@ -2,7 +2,7 @@
 ghost use Rattle.std.specs.Prelude.{◌≡◌, Some, IfSome, IfOk, IfErr, OnOk, MatchResult};
 ghost use Rattle.std.specs.Io.KnownBytes.{Appends};
 ghost use Rattle.cps_list.specs.Texts.{text_of};
-ghost use Rattle.cps_output.specs.Outputs.{files_of, Places};
+ghost use Rattle.cps_output.specs.Outputs.{files_of, names_of, Places};
 ghost use Rattle.cps_output.specs.Placing.{one_less, one_more_on_ok, with_placed};
 ghost use Rattle.cps_output.specs.Steps.{files_from, IsUnplaced, IsUnwritten};
 
@@ -12,7 +12,7 @@ use super::targets::Targets;
 use cps_list::{Part, View, make_text};
 use std::alloc::Global;
 use std::io;
-use std::io::Write;
+use std::io::{ErrorKind, Write};
 
 /// Writes each text that is wanted into its file: the listing, the binary text, the cross-reference and the flags text, in
 /// this order. All are written before the first file is placed. After a fault no draft is left.
@@ -22,7 +22,7 @@ pub fn write_outputs<'a, T: Targets, V: View>(
     view: &V,
     outputs: Outputs<'a>,
 ) -> Result<(), OutputFault<'a>>
-    ensures placed { Places result (T.placed targets.old) (T.placed targets.new) (files_of (V.assembly view.now) outputs.entry) }
+    ensures placed { Places result (T.placed targets.old) (T.placed targets.new) (files_of (V.assembly view.now) (names_of outputs.entry)) }
     ensures waiting { T.waiting targets.new ≡ T.waiting targets.old }
 {
     let outputs = outputs.last_first();
@@ -94,6 +94,7 @@ fn write_draft<'a, T: Targets, V: View>(
     };
     let mut draft = match targets.create(name) {
         Ok(draft) => draft,
+        Err(error) if error.kind() == ErrorKind::OutOfMemory => return Err(OutputFault::Memory),
         Err(error) => return Err(OutputFault::Uncreated(name, error)),
     };
     match fill(&mut draft, &text) {

@@ -1,0 +1,13 @@
+//! What is made of a source.
+
+use crate::outputs::Outputs;
+use cps_list::Part;
+use cps_pass::Hashing;
+
+/// What is made of a source: texts in files, and a part that is written, None where none is.
+#[derive(Clone, Copy)]
+pub struct Export<'a> {
+    pub hashing: Hashing,
+    pub outputs: Outputs<'a>,
+    pub part: Option<Part>,
+}
