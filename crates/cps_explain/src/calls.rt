@@ -39,6 +39,11 @@ pub fn find_call(
     Ok(())
 }
 
+/// Where the arguments of a call end: at the first blank outside parentheses.
+pub fn arguments_end(tail: &[u8]) -> usize {
+    Arguments::of(tail, 0).end
+}
+
 /// Places in the arguments of a call.
 #[derive(Clone, Copy)]
 struct Arguments {

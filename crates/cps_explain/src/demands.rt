@@ -6,7 +6,7 @@ use cps_text::limits::{MOST_BODY_LINES, MOST_COUNTED_LINES, MOST_COUNTED_WORDS};
 use std::alloc::{AllocError, Global};
 
 /// What a statement takes of a value.
-#[derive(Clone, Copy, PartialEq, Eq)]
+#[derive(Clone, Copy)]
 pub enum Demand {
     Any,
     /// An address in any block.

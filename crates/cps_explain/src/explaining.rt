@@ -6,6 +6,7 @@ ghost use Rattle.cps_gather.specs.Finals.{final_value, is_open_at_end};
 ghost use Rattle.cps_final.specs.Outcome.{outcome_of};
 ghost use Rattle.cps_explain.specs.Explaining.{Explains};
 
+use crate::showing::OpeningLine;
 use crate::structure::open_in;
 use crate::teller::Teller;
 use crate::walk::find_all;
@@ -32,7 +33,7 @@ pub fn explain(
     let mut teller = Teller::new(alloc, wanted, line.bytes().len());
     if wanted.has_flag() {
         let found = find_all(alloc, line, trace, finals)?;
-        tell_all(&mut teller, found)?;
+        tell_all(&mut teller, &OpeningLine::of(line.bytes()), found)?;
     }
     teller.finish(filled_columns(line.bytes()))
 }
@@ -50,13 +51,19 @@ pub fn explain_end(finals: &Finals) -> Result<Option<Cause>, AllocError>
     Ok(Some(Cause::Structure(fault)))
 }
 
-/// Tells what was found.
-fn tell_all(teller: &mut Teller, found: Vec<Diagnostic>) -> Result<(), AllocError>
+/// Tells what was found, each where it shows in the line.
+fn tell_all(
+    teller: &mut Teller,
+    line: &OpeningLine<'_>,
+    found: Vec<Diagnostic>,
+) -> Result<(), AllocError>
     ensures wanted { teller.new.wanted ≡ teller.old.wanted }
     ensures length { teller.new.length ≡ teller.old.length }
 {
     for diagnostic in found {
-        teller.tell(diagnostic)?;
+        let mut shown = diagnostic;
+        shown.columns = line.columns_of(&shown);
+        teller.tell(shown)?;
     }
     Ok(())
 }

@@ -6,6 +6,7 @@
 //! - `demands.rt`: what a statement takes of the values of its operands
 //! - `explaining.rt`: the causes of a line's flags
 //! - `locations.rt`: location fields and operation fields
+//! - `showing.rt`: where in a line shows what is found in the statements that it opens
 //! - `structure.rt`: where statements stand, and limits of what is open
 //! - `symbols_now.rt`: what symbols stand for where a statement is read
 //! - `teller.rt`: causes as they are told, none of another letter than the line has
@@ -20,6 +21,7 @@ mod causes;
 mod demands;
 mod explaining;
 mod locations;
+mod showing;
 mod structure;
 mod symbols_now;
 mod teller;

@@ -48,13 +48,29 @@ pub fn find_all(
         findings: Findings::new(alloc, card.operation_or_all()),
     };
     let mut scope = Scope::Source;
-    look(&mut walk, &mut recorder, &scope, line.bytes())?;
-    let opened = step_statement(&mut recorder, &mut scope, line.bytes())?;
-    if let Some(opened) = opened {
-        expand(&mut walk, &mut recorder, 1, opened)?;
-    }
+    let walked = go_through_line(&mut walk, &mut recorder, &mut scope);
+    drop(scope);
+    drop(recorder);
+    drop(asks);
     let Walk { findings, .. } = walk;
-    findings.finish()
+    match walked {
+        Ok(()) => findings.finish(),
+        Err(_) => Err(AllocError),
+    }
+}
+
+/// The line's own statement, followed by those that it opens. What is held meanwhile is dropped by its caller, in one place.
+fn go_through_line(
+    walk: &mut Walk<'_>,
+    recorder: &mut Recorder<'_, Asks>,
+    scope: &mut Scope,
+) -> Result<(), AllocError> {
+    let text = walk.card.text;
+    look(walk, recorder, scope, text)?;
+    if let Some(opened) = step_statement(recorder, scope, text)? {
+        expand(walk, recorder, 1, opened)?;
+    }
+    Ok(())
 }
 
 /// Looks for causes in the next statement, before it is stepped.
@@ -179,12 +195,28 @@ fn repeat(
     requires { depth ≤ DEEPEST + 1 }
 {
     let mut scope = Scope::Expansion(Own::at_start(recorder.alloc()));
+    let is_whole = take_turns(walk, recorder, &mut scope, depth, opened);
+    drop(scope);
+    is_whole
+}
+
+/// Lines so many times, in their expansion.
+#[cycle(walking)]
+fn take_turns(
+    walk: &mut Walk<'_>,
+    recorder: &mut Recorder<'_, Asks>,
+    scope: &mut Scope,
+    depth: u8,
+    opened: &Repeated,
+) -> Result<bool, AllocError>
+    requires { depth ≤ DEEPEST + 1 }
+{
     for _turn in 0..opened.times {
-        if !go_through(walk, recorder, &mut scope, depth, &opened.lines)? {
+        if !go_through(walk, recorder, scope, depth, &opened.lines)? {
             return Ok(false);
         }
     }
-    if keeps_lines(&scope) {
+    if keeps_lines(scope) {
         walk.findings
             .add_to_operation(Cause::Structure(StructureFault::ExpansionKeeps))?;
     }
@@ -216,17 +248,29 @@ fn expand_body(
 ) -> Result<bool, AllocError>
     requires { depth ≤ DEEPEST + 1 }
 {
+    match insert_names(walk, recorder, depth, called)? {
+        Some(opened) => repeat(walk, recorder, depth, &opened),
+        None => Ok(false),
+    }
+}
+
+/// The lines of a body behind its LOCAL lines, with arguments and names; None where the names are too many.
+fn insert_names(
+    walk: &mut Walk<'_>,
+    recorder: &mut Recorder<'_, Asks>,
+    depth: u8,
+    called: &Body<'_>,
+) -> Result<Option<Repeated>, AllocError> {
     let alloc = recorder.alloc();
     let mut known = Substitutes::of(alloc, &called.pairs)?;
     let is_whole = name_all(recorder, depth, called.locals.as_slice(), &mut known)?;
     find_locals(walk, recorder, called)?;
     if !is_whole {
         find_dropped(walk, depth)?;
-        return Ok(false);
+        return Ok(None);
     }
     let lines = insert_all(alloc, called.lines.as_slice(), &known)?;
-    let opened = Repeated { lines, times: 1 };
-    repeat(walk, recorder, depth, &opened)
+    Ok(Some(Repeated { lines, times: 1 }))
 }
 
 /// The LOCAL lines of a call.
