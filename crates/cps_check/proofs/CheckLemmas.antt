@@ -8,6 +8,7 @@ use Rattle.cps_writing.specs.declared.writing.ListFault.TheVariants as lists
 use Rattle.cps_writing.specs.Writing.{Writes}
 use Rattle.cps_check.specs.declared.fault.CheckFault.{CheckFault}
 use Rattle.cps_check.specs.declared.fault.CheckFault.TheVariants as faults
+use Rattle.cps_check.specs.Adding.{TellsBytes}
 use Rattle.cps_check.specs.Check.{Checks, IsCheckOf, RunsCheck}
 
 -- an input that was read to its end
@@ -18,6 +19,11 @@ runs remaining contents name (Ok is_told) reader reader' writer writer' bytes re
 runs remaining contents name (Err faults.ReadFault) reader reader' writer writer' bytes read done = absurd done
 runs remaining contents name (Err faults.Memory) reader reader' writer writer' bytes read done = (bytes, read, done)
 runs remaining contents name (Err faults.WriteFault) reader reader' writer writer' bytes read done = (bytes, read, done)
+
+-- a text that was written whole
+pub all-written : {W : Type 0} (contents : W → Option (List ℕ)) (name bytes text : List ℕ) (is_wrong : Bool) (done : Unit {0}) (old new : Counted W)
+    → Writes contents (Ok done) old new text → TellsBytes name bytes text is_wrong → Checks contents name bytes (Ok is_wrong) old new
+all-written contents name bytes text is_wrong done old new written telling = (text, telling.told, telling.wrong, written.0, written.1)
 
 -- a text of which a front was written
 abbrev pub failed : ListFault → Result (Unit {0}) ListFault

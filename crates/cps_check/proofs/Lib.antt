@@ -5,3 +5,4 @@ pub mod CheckLemmas
 pub mod FlagLemmas
 pub mod AgreementLemmas
 pub mod WholeLemmas
+pub mod ErrorLemmas

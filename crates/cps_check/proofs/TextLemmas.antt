@@ -33,9 +33,9 @@ Adds-next name report xs at d a b c within before here =
 -- ---- one report
 
 pub Adds-one : (name : List ℕ) (report : Report) (words old new : List ℕ)
-    → new ≡ old ++ (head_of name report.number report.column report.letter ++ words ++ codes "\n" ++ report.rows) → Adds name (report ∷ []) old new
+    → new ≡ old ++ (head_of name report.number report.column report.kind ++ words ++ codes "\n" ++ report.rows) → Adds name (report ∷ []) old new
 Adds-one name report words old new is =
-    let piece = head_of name report.number report.column report.letter ++ words ++ codes "\n" ++ report.rows in
+    let piece = head_of name report.number report.column report.kind ++ words ++ codes "\n" ++ report.rows in
     record { piece = piece; added = is; tells = (piece, [], sym (append-nil piece), record { words = words; whole = refl }, refl) }
 
 -- pieces of a text, one behind the other

@@ -1,5 +1,6 @@
 -- What is told of a source as a whole.
-use Rattle.std.proofs.Common.{◌≡◌, ℕ, List, [], ◌++◌, length, map, take, refl, sym, ap, subst, ◌∙◌}
+use Rattle.std.proofs.Common.{◌≡◌, ℕ, ◌+◌, Bool, List, [], ◌++◌, length, take, refl, sym, ap, subst, ◌∙◌}
+use Rattle.std.specs.Prelude.{◌||◌, nat_lt}
 use Rattle.std.proofs.lemmas.List.{length-map}
 use Rattle.cps_state.specs.Keys.{first_state}
 use Rattle.cps_state.specs.Course.{Trace}
@@ -9,17 +10,19 @@ use Rattle.cps_card.specs.Card.{card_of, cards_of}
 use Rattle.cps_edit.proofs.SpliceLemmas.{length-traces_from}
 use Rattle.cps_assembly.specs.Limits.{most_lines}
 use Rattle.cps_assembly.specs.Assembly.{outcomes_of, outcomes_under, traces_of}
-use Rattle.cps_check.specs.Adding.{Adds, AddsLines, AddsEnd, excess_of}
-use Rattle.cps_check.specs.Reports.{Report, Reports, ReportsEnd, ReportsLines}
+use Rattle.cps_check.specs.Adding.{Adds, AddsLines, AddsEnd, TellsSource, excess_of}
+use Rattle.cps_check.specs.Reports.{ReportsEnd, ReportsLines, has_errors}
 use Rattle.cps_check.specs.Texts.{Tells}
+use Rattle.cps_check.proofs.ErrorLemmas.{both-wrong, excess-wrong}
 use Rattle.cps_check.proofs.TextLemmas.{Adds-append}
 use Rattle.cps_check.proofs.ReportLemmas.{ReportsLines-all}
 
-pub whole : (name : List ℕ) (lines cards : List (List ℕ)) (traces : List Trace) (finals : Finals) (count : ℕ) (t0 t1 t2 t3 : List ℕ)
+pub whole : (name : List ℕ) (lines cards : List (List ℕ)) (traces : List Trace) (finals : Finals) (count : ℕ) (is_wrong is_open : Bool)
+    (t0 t1 t2 t3 : List ℕ)
     → cards ≡ cards_of lines → traces ≡ traces_of cards → finals ≡ finals_of traces → count ≡ length lines → t0 ≡ []
-    → AddsLines name (take most_lines lines) (outcomes_under finals traces) t0 t1 → Adds name (excess_of count) t1 t2 → AddsEnd name (is_open_at_end finals) t2 t3
-    → (reports : List Report) × Reports lines reports × Tells name reports t3
-whole name lines cards traces finals count t0 t1 t2 t3 cards_is traces_are finals_are count_is empty told excess ended =
+    → AddsLines name (take most_lines lines) (outcomes_under finals traces) is_wrong t0 t1 → Adds name (excess_of count) t1 t2
+    → AddsEnd name (is_open_at_end finals) is_open t2 t3 → TellsSource name lines t3 ((is_wrong || nat_lt most_lines count) || is_open)
+whole name lines cards traces finals count is_wrong is_open t0 t1 t2 t3 cards_is traces_are finals_are count_is empty told excess ended =
     let all : traces ≡ traces_of (cards_of lines) = traces_are ∙ ap traces_of cards_is in
     let last : finals ≡ finals_of (traces_of (cards_of lines)) = finals_are ∙ ap finals_of all in
     let outcomes : outcomes_under finals traces ≡ outcomes_of (cards_of lines) =
@@ -33,14 +36,19 @@ whole name lines cards traces finals count t0 t1 t2 t3 cards_is traces_are final
     let more : Adds name (excess_of (length lines)) t1 t2 = subst (λ (n : ℕ). Adds name (excess_of n) t1 t2) count_is excess in
     let both : Adds name of_lines t0 t2 = Adds-append name told.reports (excess_of (length lines)) t0 t1 t2 told.added more in
     let added : Adds name (of_lines ++ ended.reports) t0 t3 = Adds-append name of_lines ended.reports t0 t2 t3 both ended.added in
-    let text : t3 ≡ added.piece = added.added ∙ ap (λ (t : List ℕ). t ++ added.piece) empty in (
-      of_lines ++ ended.reports,
-      record {
+    let text : t3 ≡ added.piece = added.added ∙ ap (λ (t : List ℕ). t ++ added.piece) empty in
+    let long_wrong : nat_lt most_lines count ≡ has_errors (excess_of (length lines)) =
+    excess-wrong (nat_lt most_lines count) (most_lines + 1) ∙ ap (λ n. has_errors (excess_of n)) count_is in
+    let lines_wrong = both-wrong is_wrong (nat_lt most_lines count) told.reports (excess_of (length lines)) told.wrong long_wrong in
+    record {
+      reports = of_lines ++ ended.reports;
+      all = record {
         of_lines = of_lines;
         of_end = ended.reports;
         all = refl;
         each = ReportsLines-all lines (outcomes_of (cards_of lines)) told.reports long front;
         end = subst (λ b. ReportsEnd b ended.reports) (ap is_open_at_end last) ended.told;
-      },
-      subst (λ (t : List ℕ). Tells name (of_lines ++ ended.reports) t) (sym text) added.tells,
-    )
+      };
+      tells = subst (λ (t : List ℕ). Tells name (of_lines ++ ended.reports) t) (sym text) added.tells;
+      wrong = both-wrong (is_wrong || nat_lt most_lines count) is_open of_lines ended.reports lines_wrong ended.wrong;
+    }

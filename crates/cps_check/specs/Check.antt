@@ -1,5 +1,5 @@
 -- A check of a source, from its bytes to what is told. Our own.
-use Rattle.std.specs.Prelude.{◌≡◌, ℕ, Bool, nat_lt, List, ◌++◌, length, Option, Result, Ok, Err}
+use Rattle.std.specs.Prelude.{◌≡◌, ℕ, Bool, List, ◌++◌, Option, Result, Ok, Err}
 use Rattle.std.specs.Io.KnownBytes.{Appends}
 use Rattle.cps_text.specs.declared.counted.Counted.{Counted}
 use Rattle.cps_text.specs.Counted.{inner_of, failures_of, FailsOnce}
@@ -9,7 +9,7 @@ use Rattle.cps_input.specs.Lines.{HasText}
 use Rattle.cps_input.specs.Reads.{IsAllRead, IsCutShort}
 use Rattle.cps_check.specs.declared.fault.CheckFault.{CheckFault}
 use Rattle.cps_check.specs.declared.fault.CheckFault.TheVariants as faults
-use Rattle.cps_check.specs.Reports.{Report, Reports}
+use Rattle.cps_check.specs.Reports.{Report, Reports, has_errors}
 use Rattle.cps_check.specs.Texts.{Tells}
 
 -- why a check ends where its input is not given; reading bytes has no other fault
@@ -26,11 +26,11 @@ pub record IsCheckOf (name bytes text : List ℕ) : Type 0 where
   pub all : Reports lines reports
   pub tells : Tells name reports text
 
--- What is written of an input with these bytes, by the result, which says whether something is told: the text; or a front of it, where a write failed; or
+-- What is written of an input with these bytes, by the result, which says whether an error is told: the text; or a front of it, where a write failed; or
 -- nothing.
 abbrev pub Checks : {W : Type 0} → (W → Option (List ℕ)) → List ℕ → List ℕ → Result Bool CheckFault → Counted W → Counted W → Type 0
-Checks contents name bytes (Ok is_told) old new =
-    (text : List ℕ) × IsCheckOf name bytes text × (is_told ≡ nat_lt 0 (length text))
+Checks contents name bytes (Ok is_wrong) old new =
+    (text : List ℕ) × (told : IsCheckOf name bytes text) × (is_wrong ≡ has_errors told.reports)
     × Appends (contents (inner_of old)) (contents (inner_of new)) text × (failures_of new ≡ failures_of old)
 Checks contents name bytes (Err faults.WriteFault) old new =
     (front back : List ℕ) × IsCheckOf name bytes (front ++ back) × Appends (contents (inner_of old)) (contents (inner_of new)) front × FailsOnce old new

@@ -1,8 +1,8 @@
--- What is told of a source: each flag, and each byte that no line may have. Our own.
-use Rattle.std.specs.Prelude.{◌≡◌, ℕ, ◌+◌, Bool, true, false, List, [], ◌∷◌, ◌++◌, map, Option, None, Some}
+-- What is told of a source: each flag, each byte that no line may have, and notes. Our own.
+use Rattle.std.specs.Prelude.{◌≡◌, ℕ, ◌+◌, Bool, true, false, List, [], ◌∷◌, ◌++◌, map}
+use Rattle.std.specs.List.{list_any}
 use Rattle.cps_text.specs.Line.{IsLine}
 use Rattle.cps_final.specs.Outcome.{Outcome}
-use Rattle.cps_cause.specs.declared.letter.Letter.{Letter}
 use Rattle.cps_cause.specs.declared.letter.Letter.TheVariants.{E}
 use Rattle.cps_cause.specs.declared.diagnostic.Diagnostic.{Diagnostic}
 use Rattle.cps_cause.specs.Letters.{letter_of}
@@ -11,14 +11,27 @@ use Rattle.cps_card.specs.declared.fault.CharacterFault.{CharacterFault}
 use Rattle.cps_card.specs.Card.{cards_of}
 use Rattle.cps_card.specs.Faults.{AreFaults}
 use Rattle.cps_assembly.specs.Assembly.{outcomes_of, ends_open}
-use Rattle.cps_check.specs.Rows.{flag_rows, fault_rows}
+use Rattle.cps_check.specs.declared.kind.Kind.{Kind}
+use Rattle.cps_check.specs.declared.kind.Kind.TheVariants as kinds
+use Rattle.cps_check.specs.declared.notes.Note.{Note}
+use Rattle.cps_check.specs.Rows.{flag_rows, fault_rows, note_rows}
 
--- What is told of a place: the number of its line and its column, both from 1; the letter of a flag, none where no flag is told; and the rows that show it.
+-- What is told of a place: the number of its line and its column, both from 1; whether it is a flag, what no source may have or a note; and the rows
+-- that show it.
 pub record Report : Type 0 where
   pub number : ℕ
   pub column : ℕ
-  pub letter : Option Letter
+  pub kind : Kind
   pub rows : List ℕ
+
+-- whether an error is told, and no note
+abbrev pub is_error : Kind → Bool
+is_error (kinds.Flag letter) = true
+is_error kinds.Wrong = true
+is_error kinds.Note = false
+
+abbrev pub has_errors : List Report → Bool
+has_errors reports = list_any (λ report. is_error report.kind) reports
 
 -- ---- a line
 
@@ -27,25 +40,36 @@ abbrev pub flag_report : ℕ → List ℕ → Diagnostic → Report
 flag_report number line d = record {
   number = number;
   column = d.columns.first;
-  letter = Some (letter_of d.cause);
+  kind = kinds.Flag (letter_of d.cause);
   rows = flag_rows number line d;
 }
 
 -- bytes that no line may have
 abbrev pub fault_report : ℕ → List ℕ → CharacterFault → Report
-fault_report number line fault = record { number = number; column = fault.first; letter = None; rows = fault_rows number line fault }
+fault_report number line fault = record { number = number; column = fault.first; kind = kinds.Wrong; rows = fault_rows number line fault }
 
--- What is told of a line whose card makes this: of one that a source may have a cause of each flag, and of another what is wrong in it.
+-- what may stand in the line and is often not meant so; when a note comes no definition fixes
+abbrev pub note_report : ℕ → List ℕ → Note → Report
+note_report number line note = record { number = number; column = note.columns.first; kind = kinds.Note; rows = note_rows number line note }
+
+-- of a line that a source may have: a cause of each flag, and notes behind them
+pub record ReportsFlags (number : ℕ) (line : List ℕ) (outcome : Outcome) (reports : List Report) : Type 0 where
+  pub told : List Diagnostic
+  pub notes : List Note
+  pub explains : Explains line outcome.rows told
+  pub all : reports ≡ map (flag_report number line) told ++ map (note_report number line) notes
+
+-- What is told of a line whose card makes this: of one that a source may have its flags, and of another what is wrong in it.
 pub record ReportsLine (number : ℕ) (line : List ℕ) (outcome : Outcome) (reports : List Report) : Type 0 where
-  pub flags : IsLine line → (told : List Diagnostic) × Explains line outcome.rows told × (reports ≡ map (flag_report number line) told)
+  pub flags : IsLine line → ReportsFlags number line outcome reports
   pub faults : (IsLine line → ⊥) → (faults : List CharacterFault) × AreFaults number line faults × (reports ≡ map (fault_report number line) faults)
-  pub some : reports ≡ [] → IsLine line
+  pub some : has_errors reports ≡ false → IsLine line
 
 -- ---- a source
 
 -- a line that is one too many
 abbrev pub excess_report : ℕ → Report
-excess_report number = record { number = number; column = 1; letter = None; rows = [] }
+excess_report number = record { number = number; column = 1; kind = kinds.Wrong; rows = [] }
 
 -- what is told of lines from a number on; of those for which no card stands the first is told, as one too many
 abbrev pub ReportsLines : ℕ → List (List ℕ) → List Outcome → List Report → Type 0
@@ -57,7 +81,7 @@ ReportsLines number (line ∷ lines) (outcome ∷ outcomes) reports =
 -- what is told where a source ends: a range that is open, in the line that opened it
 abbrev pub ReportsEnd : Bool → List Report → Type 0
 ReportsEnd false reports = reports ≡ []
-ReportsEnd true reports = (report : Report) × (reports ≡ report ∷ []) × (report.letter ≡ Some E)
+ReportsEnd true reports = (report : Report) × (reports ≡ report ∷ []) × (report.kind ≡ kinds.Flag E)
 
 -- what is told of a text with these lines
 pub record Reports (lines : List (List ℕ)) (reports : List Report) : Type 0 where

@@ -6,6 +6,7 @@ use Rattle.cps_cause.specs.declared.diagnostic.Diagnostic.{Diagnostic}
 use Rattle.cps_card.specs.declared.fault.CharacterFault.{CharacterFault}
 use Rattle.cps_card.specs.Shown.{shown, shown_width}
 use Rattle.cps_check.specs.declared.limits.TheConstants.{MOST_SHOWN}
+use Rattle.cps_check.specs.declared.notes.Note.{Note}
 
 -- the line behind its number
 abbrev pub line_row : ℕ → List ℕ → List ℕ
@@ -36,6 +37,10 @@ statement_row statement times = if length statement == 0 then [] else stated_row
 -- the rows that show a cause of a flag
 abbrev pub flag_rows : ℕ → List ℕ → Diagnostic → List ℕ
 flag_rows number line d = line_row number line ++ caret_row (d.columns.first - 1) d.columns.last ++ statement_row d.statement d.times
+
+-- the rows that show a note
+abbrev pub note_rows : ℕ → List ℕ → Note → List ℕ
+note_rows number line note = line_row number line ++ caret_row (note.columns.first - 1) note.columns.last
 
 -- ---- lines that no source may have
 

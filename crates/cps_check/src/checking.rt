@@ -14,7 +14,7 @@ use std::alloc::Global;
 use std::io::{Read, Write};
 
 /// Reads a text to the end of the input and assembles it, a card for each line. It writes what is told of it under a name: each flag,
-/// with its cause, and what makes a line none. It gives whether anything is told.
+/// with its cause, what makes a line none, and notes. It gives whether an error is told, and not notes alone.
 ///
 /// The input is read to its end before anything is said of its lines, and nothing is written before the text is made.
 pub fn check<R: Read, W: Write>(
@@ -33,7 +33,7 @@ pub fn check<R: Read, W: Write>(
     }
 }
 
-/// Writes what is told of a text, and gives whether anything is.
+/// Writes what is told of a text, and gives whether an error is.
 fn check_bytes<W: Write>(
     alloc: Global,
     hashing: Hashing,
@@ -43,11 +43,11 @@ fn check_bytes<W: Write>(
 ) -> Result<bool, CheckFault>
     ensures { Checks W.contents name.now bytes.now result writer.old writer.new }
 {
-    let Ok(text) = tell_bytes(alloc, hashing, name, bytes) else {
+    let Ok(telling) = tell_bytes(alloc, hashing, name, bytes) else {
         return Err(CheckFault::Memory);
     };
-    match write_text(writer, &text) {
-        Ok(()) => Ok(!text.is_empty()),
+    match write_text(writer, &telling.text) {
+        Ok(()) => Ok(telling.is_wrong),
         Err(_) => Err(CheckFault::WriteFault),
     }
 }

@@ -2,36 +2,45 @@
 ghost use Rattle.std.specs.Prelude.{◌≡◌, ◌++◌, OnOk};
 ghost use Rattle.cps_check.specs.Texts as texts;
 
+use crate::kind::Kind;
 use cps_cause::Letter;
 use cps_listing::push_decimal;
 use cps_state::Flags;
 use std::alloc::AllocError;
 
-/// Appends where a report stands, and the letter of its flag.
+/// Appends where a report stands, and what it tells: of a flag its letter.
 pub fn push_head(
     text: &mut Vec<u8>,
     name: &[u8],
     number: u32,
     column: usize,
-    letter: Option<Letter>,
+    kind: Kind,
 ) -> Result<(), AllocError>
-    ensures { OnOk result (text.new.items ≡ text.old.items ++ texts.head_of name.now number column letter) }
+    ensures { OnOk result (text.new.items ≡ text.old.items ++ texts.head_of name.now number column kind) }
 {
     text.extend_from_slice(name)?;
     text.extend_from_slice(b":")?;
     push_decimal(text, u64::from(number))?;
     text.extend_from_slice(b":")?;
     push_decimal(text, column as u64)?;
-    text.extend_from_slice(b": error: ")?;
-    push_letter(text, letter)
+    text.extend_from_slice(b": ")?;
+    push_kind(text, kind)
 }
 
-fn push_letter(text: &mut Vec<u8>, letter: Option<Letter>) -> Result<(), AllocError>
-    ensures { OnOk result (text.new.items ≡ text.old.items ++ texts.letter_text letter) }
+fn push_kind(text: &mut Vec<u8>, kind: Kind) -> Result<(), AllocError>
+    ensures { OnOk result (text.new.items ≡ text.old.items ++ texts.kind_text kind) }
 {
-    let Some(letter) = letter else {
-        return Ok(());
-    };
+    match kind {
+        Kind::Flag(letter) => push_flag_kind(text, letter),
+        Kind::Wrong => text.extend_from_slice(b"error: "),
+        Kind::Note => text.extend_from_slice(b"note: "),
+    }
+}
+
+fn push_flag_kind(text: &mut Vec<u8>, letter: Letter) -> Result<(), AllocError>
+    ensures { OnOk result (text.new.items ≡ text.old.items ++ texts.flag_text letter) }
+{
+    text.extend_from_slice(b"error: ")?;
     letter.added_to(Flags::none()).push_letters(text)?;
     text.extend_from_slice(b": ")
 }

@@ -2,25 +2,39 @@
 
 use crate::openings::Openings;
 use cps_cause::Places;
+use cps_final::LineSymbols;
 use cps_state::{Hashing, Key, Phase, Put, Trace, control_of};
 use cps_text::Name;
 use std::alloc::{AllocError, Global};
 use std::collections::HashMap;
 
-/// In which lines of a source symbols have their values; and, up to the line at hand, which lines opened what is open, ended the head
-/// and ended the program.
+/// A symbol that has a value.
+#[derive(Clone, Copy)]
+struct Known {
+    /// The line that first gave it one.
+    line: u32,
+    /// Whether a line reads it.
+    is_read: bool,
+}
+
+/// In which lines of a source symbols have their values, and which are read; and, up to the line at hand, which lines opened what is open,
+/// ended the head and ended the program.
 #[derive(Drop)]
 pub struct KnownPlaces {
-    /// The line that first gave each symbol a value.
-    symbols: HashMap<Name, u32, Hashing>,
+    symbols: HashMap<Name, Known, Hashing>,
     openings: Openings,
     body: Option<u32>,
     end: Option<u32>,
+    /// Whether `takes_end` told that the program has ended.
+    is_end_taken: bool,
 }
 
 impl Places for KnownPlaces {
     fn line_of_symbol(&self, name: Name) -> Option<u32> {
-        self.symbols.get(&name).copied()
+        match self.symbols.get(&name) {
+            Some(known) => Some(known.line),
+            None => None,
+        }
     }
 
     fn line_of_opening(&self) -> Option<u32> {
@@ -49,12 +63,33 @@ impl KnownPlaces {
             number = number.saturating_add(1);
             note_symbols(&mut symbols, number, trace.puts())?;
         }
+        let mut of_line = LineSymbols::new(alloc, hashing);
+        for trace in traces {
+            of_line.replace(trace)?;
+            note_readings(&mut symbols, of_line.read())?;
+        }
         Ok(KnownPlaces {
             symbols,
             openings: Openings::new(alloc),
             body: None,
             end: None,
+            is_end_taken: false,
         })
+    }
+
+    /// Whether the line of this number is the first that gives the symbol a value, and no line reads it.
+    pub fn is_unread_of(&self, name: Name, number: u32) -> bool {
+        match self.symbols.get(&name) {
+            Some(known) => known.line == number && !known.is_read,
+            None => false,
+        }
+    }
+
+    /// Whether the program has ended, once: asked again, it says no.
+    pub fn takes_end(&mut self) -> bool {
+        let takes = self.end.is_some() && !self.is_end_taken;
+        self.is_end_taken = self.end.is_some();
+        takes
     }
 
     /// Behind the line of this number, which does this.
@@ -85,7 +120,7 @@ fn note_first(line: &mut Option<u32>, number: u32) {
 
 /// Notes the symbols to which a line gives their first values.
 fn note_symbols(
-    symbols: &mut HashMap<Name, u32, Hashing>,
+    symbols: &mut HashMap<Name, Known, Hashing>,
     number: u32,
     puts: &[Put],
 ) -> Result<(), AllocError> {
@@ -100,12 +135,40 @@ fn note_symbols(
 }
 
 fn note_symbol(
-    symbols: &mut HashMap<Name, u32, Hashing>,
+    symbols: &mut HashMap<Name, Known, Hashing>,
     number: u32,
     name: Name,
 ) -> Result<(), AllocError> {
     if symbols.get(&name).is_none() {
-        symbols.insert(name, number)?;
+        let known = Known {
+            line: number,
+            is_read: false,
+        };
+        symbols.insert(name, known)?;
     }
+    Ok(())
+}
+
+/// Notes that symbols are read.
+fn note_readings(
+    symbols: &mut HashMap<Name, Known, Hashing>,
+    names: &[Name],
+) -> Result<(), AllocError> {
+    for name in names {
+        note_reading(symbols, *name)?;
+    }
+    Ok(())
+}
+
+fn note_reading(symbols: &mut HashMap<Name, Known, Hashing>, name: Name) -> Result<(), AllocError> {
+    let line = match symbols.get(&name) {
+        Some(known) if !known.is_read => known.line,
+        _ => return Ok(()),
+    };
+    let known = Known {
+        line,
+        is_read: true,
+    };
+    symbols.insert(name, known)?;
     Ok(())
 }

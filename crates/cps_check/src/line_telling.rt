@@ -1,5 +1,5 @@
 //! What is told of the lines of a source, one after another.
-ghost use Rattle.std.specs.Prelude.{◌≡◌, map, take, OnOk};
+ghost use Rattle.std.specs.Prelude.{◌≡◌, map, take, IfOk};
 ghost use Rattle.cps_final.specs.Finals.{final_value, is_open_at_end};
 ghost use Rattle.cps_final.specs.Outcome.{outcome_of};
 ghost use Rattle.cps_card.specs.Card.{card_of, cards_of};
@@ -7,6 +7,7 @@ ghost use Rattle.cps_assembly.specs.Assembly.{outcomes_under, traces_of};
 ghost use Rattle.cps_check.specs.Adding.{AddsLine, AddsLines, AddsEnd};
 
 use crate::known_places::KnownPlaces;
+use crate::notes::find_notes;
 use crate::told_line::ToldLine;
 use cps_card::faults_of;
 use cps_cause::{Diagnostic, Places};
@@ -31,6 +32,14 @@ pub struct CheckedLine<'a> {
     pub trace: &'a Trace,
 }
 
+/// What is known behind the last line.
+#[derive(Drop)]
+pub struct Passed {
+    pub places: KnownPlaces,
+    /// Whether an error was told.
+    pub is_wrong: bool,
+}
+
 /// The telling of a source: its name, and its final values.
 #[derive(Clone, Copy)]
 pub struct LineTelling<'a> {
@@ -40,20 +49,21 @@ pub struct LineTelling<'a> {
 }
 
 impl LineTelling<'_> {
-    /// Appends what is told of lines for which cards stand that do this, and gives the places behind the last.
+    /// Appends what is told of lines for which cards stand that do this.
     pub fn tell_lines(
         &self,
         lines: &[&[u8]],
         cards: &[Line],
         traces: &[Trace],
         text: &mut Vec<u8>,
-    ) -> Result<KnownPlaces, AllocError>
+    ) -> Result<Passed, AllocError>
         requires cards { cards.now ≡ cards_of (map (λ line. line.now) lines.now) }
         requires traces { traces.now ≡ traces_of cards.now }
-        ensures { OnOk result (AddsLines self.now.name.now (take MOST_LINES (map (λ line. line.now) lines.now))
-            (outcomes_under (⟦<Finals as Gathered>⟧.gathered self.now.finals.now) traces.now) text.old.items text.new.items) }
+        ensures { IfOk result (λ passed. AddsLines self.now.name.now (take MOST_LINES (map (λ line. line.now) lines.now))
+            (outcomes_under (⟦<Finals as Gathered>⟧.gathered self.now.finals.now) traces.now) passed.is_wrong text.old.items text.new.items) }
     {
         let mut places = KnownPlaces::of(self.alloc, self.finals.hashing(), traces)?;
+        let mut is_wrong = false;
         for (at, trace) in traces.iter().enumerate() {
             let line = CheckedLine {
                 number: at as u32 + 1,
@@ -61,23 +71,24 @@ impl LineTelling<'_> {
                 card: &cards[at],
                 trace,
             };
-            self.tell_line(&line, &places, text)?;
+            let is_wrong_here = self.tell_line(&line, &mut places, text)?;
+            is_wrong = is_wrong | is_wrong_here;
             places.pass(line.number, trace)?;
         }
-        Ok(places)
+        Ok(Passed { places, is_wrong })
     }
 
-    /// Appends what is told of a line.
+    /// Appends what is told of a line, and gives whether an error is.
     fn tell_line(
         &self,
         line: &CheckedLine<'_>,
-        places: &KnownPlaces,
+        places: &mut KnownPlaces,
         text: &mut Vec<u8>,
-    ) -> Result<(), AllocError>
+    ) -> Result<bool, AllocError>
         requires { line.now.card.now ≡ card_of line.now.line.now }
-        ensures { OnOk result (AddsLine self.now.name.now line.now.number line.now.line.now
+        ensures { IfOk result (λ is_wrong. AddsLine self.now.name.now line.now.number line.now.line.now
             (outcome_of (final_value (⟦<Finals as Gathered>⟧.gathered self.now.finals.now)) line.now.trace.now)
-            text.old.items text.new.items) }
+            is_wrong text.old.items text.new.items) }
     {
         let told = ToldLine {
             name: self.name,
@@ -89,24 +100,26 @@ impl LineTelling<'_> {
         if found.is_empty() {
             let causes = explain(self.alloc, line.card, line.trace, self.finals)?;
             told.push_flags(self.alloc, places, &causes, text)?;
-            return Ok(());
+            let notes = find_notes(self.alloc, line, places)?;
+            told.push_notes(self.alloc, &notes, text)?;
+            return Ok(!causes.is_empty());
         }
         told.push_faults(self.alloc, found, text)?;
-        Ok(())
+        Ok(true)
     }
 
-    /// Appends what is told where the source ends, in the line that opened what is open there.
+    /// Appends what is told where the source ends, in the line that opened what is open there, and gives whether something is.
     pub fn tell_end(
         &self,
         cards: &[Line],
         places: &KnownPlaces,
         text: &mut Vec<u8>,
-    ) -> Result<(), AllocError>
-        ensures { OnOk result (AddsEnd self.now.name.now (is_open_at_end (⟦<Finals as Gathered>⟧.gathered self.now.finals.now))
-            text.old.items text.new.items) }
+    ) -> Result<bool, AllocError>
+        ensures { IfOk result (λ is_wrong. AddsEnd self.now.name.now (is_open_at_end (⟦<Finals as Gathered>⟧.gathered self.now.finals.now))
+            is_wrong text.old.items text.new.items) }
     {
         let Some(cause) = explain_end(self.finals)? else {
-            return Ok(());
+            return Ok(false);
         };
         let number = places.line_of_opening().unwrap_or(1);
         let line = line_at(cards, number);
@@ -124,7 +137,7 @@ impl LineTelling<'_> {
             times: 1,
         };
         told.push_flag(self.alloc, places, &end, text)?;
-        Ok(())
+        Ok(true)
     }
 }
 

@@ -1,15 +1,22 @@
 //! What is told of a text.
-ghost use Rattle.std.specs.Prelude.{List, map, IfOk};
-ghost use Rattle.cps_check.specs.Check.{IsCheckOf};
-ghost use Rattle.cps_check.specs.Reports.{Report, Reports};
-ghost use Rattle.cps_check.specs.Texts.{Tells};
+ghost use Rattle.std.specs.Prelude.{map, IfOk};
+ghost use Rattle.cps_check.specs.Adding.{TellsSource, TellsBytes};
 
 use crate::line_telling::LineTelling;
 use crate::told_line::push_excess;
 use cps_card::{cut_lines, make_cards};
 use cps_pass::Hashing;
 use cps_source::PassOne;
+use cps_text::limits::MOST_LINES;
 use std::alloc::{AllocError, Global};
+
+/// What is told of a text.
+#[derive(Drop)]
+pub struct Telling {
+    pub text: Vec<u8>,
+    /// Whether an error is told, and not notes alone.
+    pub is_wrong: bool,
+}
 
 /// What is told of a text, under its name.
 pub fn tell_bytes(
@@ -17,23 +24,22 @@ pub fn tell_bytes(
     hashing: Hashing,
     name: &[u8],
     bytes: &[u8],
-) -> Result<Vec<u8>, AllocError>
-    ensures { IfOk result (λ text. IsCheckOf name.now bytes.now text.items) }
+) -> Result<Telling, AllocError>
+    ensures { IfOk result (λ telling. TellsBytes name.now bytes.now telling.text.items telling.is_wrong) }
 {
     let lines = cut_lines(alloc, bytes)?;
-    let text = tell_source(alloc, hashing, name, &lines)?;
-    Ok(text)
+    let telling = tell_source(alloc, hashing, name, &lines)?;
+    Ok(telling)
 }
 
-/// What is told of lines: each flag, with its cause, and each byte that no line may have. The first 99,999 are looked at.
+/// What is told of lines: each flag, with its cause, each byte that no line may have, and notes. The first 99,999 are looked at.
 fn tell_source(
     alloc: Global,
     hashing: Hashing,
     name: &[u8],
     lines: &[&[u8]],
-) -> Result<Vec<u8>, AllocError>
-    ensures { IfOk result (λ text. (reports : List Report)
-        × Reports (map (λ line. line.now) lines.now) reports × Tells name.now reports text.items) }
+) -> Result<Telling, AllocError>
+    ensures { IfOk result (λ telling. TellsSource name.now (map (λ line. line.now) lines.now) telling.text.items telling.is_wrong) }
 {
     let cards = make_cards(alloc, lines)?;
     let one = PassOne::of(alloc, hashing, &cards)?;
@@ -43,8 +49,9 @@ fn tell_source(
         finals: one.finals(),
     };
     let mut text = Vec::new(alloc);
-    let places = telling.tell_lines(lines, &cards, one.traces(), &mut text)?;
+    let passed = telling.tell_lines(lines, &cards, one.traces(), &mut text)?;
     push_excess(&mut text, name, lines.len())?;
-    telling.tell_end(&cards, &places, &mut text)?;
-    Ok(text)
+    let is_open = telling.tell_end(&cards, &passed.places, &mut text)?;
+    let is_wrong = passed.is_wrong | (lines.len() > MOST_LINES) | is_open;
+    Ok(Telling { text, is_wrong })
 }

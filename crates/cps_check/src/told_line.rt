@@ -1,12 +1,14 @@
 //! A line of which something is told.
 ghost use Rattle.std.specs.Prelude.{◌≡◌, ◌∷◌, ◌++◌, [], map, take, OnOk};
 ghost use Rattle.cps_check.specs.Adding.{Adds, excess_of};
-ghost use Rattle.cps_check.specs.Reports.{flag_report, fault_report};
+ghost use Rattle.cps_check.specs.Reports.{flag_report, fault_report, note_report};
 ghost use Rattle.cps_check.specs.Rows as rows;
 
 use crate::heads::push_head;
+use crate::kind::Kind;
 use crate::known_places::KnownPlaces;
 use crate::limits::MOST_SHOWN;
+use crate::notes::Note;
 use crate::rows::{push_caret_row, push_line_row, push_statement_row};
 use cps_card::{CharacterFault, push_shown, shown_width};
 use cps_cause::Diagnostic;
@@ -60,7 +62,7 @@ impl ToldLine<'_> {
             self.name,
             self.number,
             told.columns.first,
-            Some(letter),
+            Kind::Flag(letter),
         )?;
         text.extend_from_slice(&words)?;
         text.extend_from_slice(b"\n")?;
@@ -95,10 +97,40 @@ impl ToldLine<'_> {
     {
         let mut words = Vec::new(alloc);
         fault.push_words(self.line, &mut words)?;
-        push_head(text, self.name, self.number, fault.first, None)?;
+        push_head(text, self.name, self.number, fault.first, Kind::Wrong)?;
         text.extend_from_slice(&words)?;
         text.extend_from_slice(b"\n")?;
         push_fault_rows(alloc, self.number, self.line, fault, text)?;
+        Ok(())
+    }
+
+    /// Appends notes.
+    pub fn push_notes(
+        &self,
+        alloc: Global,
+        notes: &[Note],
+        text: &mut Vec<u8>,
+    ) -> Result<(), AllocError>
+        ensures { OnOk result (Adds self.now.name.now (map (note_report self.now.number self.now.line.now) notes.now)
+            text.old.items text.new.items) }
+    {
+        for note in notes {
+            self.push_note(alloc, note, text)?;
+        }
+        Ok(())
+    }
+
+    fn push_note(&self, alloc: Global, note: &Note, text: &mut Vec<u8>) -> Result<(), AllocError>
+        ensures { OnOk result (Adds self.now.name.now (note_report self.now.number self.now.line.now note.now ∷ [])
+            text.old.items text.new.items) }
+    {
+        let mut words = Vec::new(alloc);
+        note.remark.push_words(&mut words)?;
+        let first = note.columns.first;
+        push_head(text, self.name, self.number, first, Kind::Note)?;
+        text.extend_from_slice(&words)?;
+        text.extend_from_slice(b"\n")?;
+        push_note_rows(text, self.number, self.line, note)?;
         Ok(())
     }
 }
@@ -137,6 +169,20 @@ fn push_fault_rows(
     push_caret_row(text, before, last)
 }
 
+/// Appends the rows that show a note.
+fn push_note_rows(
+    text: &mut Vec<u8>,
+    number: u32,
+    line: &[u8],
+    note: &Note,
+) -> Result<(), AllocError>
+    ensures { OnOk result (text.new.items ≡ text.old.items ++ rows.note_rows number line.now note.now) }
+{
+    push_line_row(text, number, line)?;
+    let before = note.columns.first.saturating_sub(1);
+    push_caret_row(text, before, note.columns.last)
+}
+
 /// The first so many bytes of a line, as far as it has them.
 fn front_of(line: &[u8], count: usize) -> &[u8]
     ensures { result.now ≡ take count line.now }
@@ -151,7 +197,7 @@ pub fn push_excess(text: &mut Vec<u8>, name: &[u8], count: usize) -> Result<(), 
     if count <= MOST_LINES {
         return Ok(());
     }
-    push_head(text, name, MOST_LINES as u32 + 1, 1, None)?;
+    push_head(text, name, MOST_LINES as u32 + 1, 1, Kind::Wrong)?;
     text.extend_from_slice(
         b"a source has 99,999 lines at most; the lines from here on are not looked at",
     )?;

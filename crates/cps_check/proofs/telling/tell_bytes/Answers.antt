@@ -1,4 +1,4 @@
-use Rattle.std.proofs.Common.{ℕ, List, map, subst}
+use Rattle.std.proofs.Common.{ℕ, List, subst}
 use Rattle.std.specs.Borrow.{Bor}
 use Rattle.cps_check.specs.Reports.{Reports}
 use Rattle.cps_check.proofs.SourceLemmas.{texts_of}
@@ -6,11 +6,14 @@ use Rattle.cps_check.proofs.telling.tell_bytes.Goals as goal
 
 pub returns : goal.returns
 returns c =
-    let told = c.in_ok-text.ensures in
+    let told = c.in_ok-telling.ensures in
     record {
-      lines = texts_of c.in_ok-lines.lines.items;
-      cut = c.in_ok-lines.ensures;
-      reports = told.0;
-      all = subst (λ (lines : List (Bor (List ℕ))). Reports (texts_of lines) told.0) c.deref.ensures.value told.1;
-      tells = told.2;
+      told = record {
+        lines = texts_of c.in_ok-lines.lines.items;
+        cut = c.in_ok-lines.ensures;
+        reports = told.reports;
+        all = subst (λ (lines : List (Bor (List ℕ))). Reports (texts_of lines) told.reports) c.deref.ensures.value told.all;
+        tells = told.tells;
+      };
+      wrong = told.wrong;
     }

@@ -18,10 +18,11 @@ tell_lines-requires-clause-traces c =
 pub returns : goal.returns
 returns c =
     whole c.args.name.now (texts_of c.args.lines.now) c.in_ok-cards.cards.items c.traces.result.now (gathered-value.it c.finals.result.now) (length c.args.lines.now)
+    c.in_ok-passed.passed.is_wrong c.in_ok-is_open.is_open
     c.new-text.result.items c.tell_lines.new.text.items c.push_excess.new.text.items c.tell_end.new.text.items
     c.in_ok-cards.ensures
     (c.traces.ensures ∙ c.in_ok-one.ensures ∙ ap traces_of c.deref.ensures.value)
     (c.finals.ensures ∙ ap finals_of (sym c.traces.ensures))
     (sym (length-map c.args.lines.now (λ (line : Bor (List ℕ)). line.now)))
     c.new-text.ensures.items
-    c.in_ok-places.ensures c.in_ok-push_excess.ensures c.in_ok-tell_end.ensures
+    c.in_ok-passed.ensures c.in_ok-push_excess.ensures c.in_ok-is_open.ensures

@@ -1,12 +1,13 @@
-use Rattle.std.proofs.Common.{◌≡◌, ℕ, ◌+◌, ◌<◌, true, List, [], ◌∷◌, ◌++◌, codes, ap, sym, subst, ◌∙◌, arith, append-nil, None}
+use Rattle.std.proofs.Common.{◌≡◌, ℕ, ◌+◌, ◌<◌, true, List, ◌++◌, codes, ap, sym, subst, ◌∙◌, arith, append-nil}
 use Rattle.std.specs.Prelude.{nat_lt}
-use Rattle.std.proofs.lemmas.Bool.{cond-true, cond-false}
+use Rattle.std.proofs.lemmas.Bool.{cond-true}
 use Rattle.std.proofs.lemmas.Bool.Decides.{nat_tests}
 use Rattle.cps_assembly.specs.Limits.{most_lines}
 use Rattle.cps_check.specs.Adding.{Adds}
+use Rattle.cps_check.specs.declared.kind.Kind.TheVariants as kinds
 use Rattle.cps_check.specs.Reports.{Report, excess_report}
 use Rattle.cps_check.specs.Texts.{head_of}
-use Rattle.cps_check.proofs.TextLemmas.{Adds-none, Adds-one, three-pieces}
+use Rattle.cps_check.proofs.TextLemmas.{Adds-one, three-pieces}
 use Rattle.cps_check.proofs.told_line.push_excess.Goals as goal
 
 pub returns : goal.returns
@@ -17,7 +18,7 @@ returns c =
     let more : most_lines < c.args.count = c.if-count-le-MOST_LINES.false in
     let test : nat_lt most_lines c.args.count ≡ true = grind (arith, nat_tests) in
     let words = codes "a source has 99,999 lines at most; the lines from here on are not looked at" in
-    let head = head_of name (most_lines + 1) 1 None in
+    let head = head_of name (most_lines + 1) 1 kinds.Wrong in
     subst (λ (reports : List Report). Adds name reports old new) (sym (cond-true _ _ _ test))
     (Adds-one name (excess_report (most_lines + 1)) words old new
     (three-pieces old head words (codes "\n") c.push_head.new.text.items c.extend_from_slice.new.self.items new

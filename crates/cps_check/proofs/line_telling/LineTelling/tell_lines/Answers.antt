@@ -34,10 +34,10 @@ pub loop-at-preserved : goal.loop-at-preserved
 loop-at-preserved c =
     let within = trace-within c.args.lines.now c.args.cards.now c.args.traces.now c.loop-at.at c.requires.cards c.requires.traces c.loop-at-test.true in
     AddsLines-more c.args.self.now.name.now (gathered-value.it c.args.self.now.finals.now) c.args.lines.now c.args.traces.now c.loop-at.at
-    _ c.index-traces-at.result c.args.text.now.items c.loop-at.text.items c.tell_line.new.text.items within.1 c.loop-at-test.true
-    c.index-traces-at.is c.loop-at.invariant c.in_ok-tell_line.ensures
+    _ c.index-traces-at.result c.loop-at.is_wrong c.in_ok-is_wrong_here.is_wrong_here c.args.text.now.items c.loop-at.text.items c.tell_line.new.text.items within.1 c.loop-at-test.true
+    c.index-traces-at.is c.loop-at.invariant c.in_ok-is_wrong_here.ensures
 
 pub returns : goal.returns
 returns c =
-    AddsLines-all c.args.self.now.name.now (gathered-value.it c.args.self.now.finals.now) c.args.lines.now c.args.cards.now c.args.traces.now c.loop-at.at
+    AddsLines-all c.args.self.now.name.now (gathered-value.it c.args.self.now.finals.now) c.args.lines.now c.args.cards.now c.args.traces.now c.loop-at.at c.loop-at.is_wrong
     c.args.text.now.items c.loop-at.text.items c.requires.cards c.requires.traces c.loop-at-test.false (omega arith) c.loop-at.invariant

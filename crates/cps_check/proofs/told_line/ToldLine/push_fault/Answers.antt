@@ -1,4 +1,5 @@
-use Rattle.std.proofs.Common.{◌++◌, codes, ap, ◌∙◌, None}
+use Rattle.std.proofs.Common.{◌++◌, codes, ap, ◌∙◌}
+use Rattle.cps_check.specs.declared.kind.Kind.TheVariants as kinds
 use Rattle.cps_check.specs.Reports.{fault_report}
 use Rattle.cps_check.specs.Rows.{fault_rows}
 use Rattle.cps_check.specs.Texts.{head_of}
@@ -14,7 +15,7 @@ returns c =
     let old = c.args.text.now.items in
     let words = c.push_words.new.text.items in
     Adds-one name (fault_report number line fault) words old c.push_fault_rows.new.text.items
-    (four-pieces old (head_of name number fault.first None) words (codes "\n") (fault_rows number line fault)
+    (four-pieces old (head_of name number fault.first kinds.Wrong) words (codes "\n") (fault_rows number line fault)
     c.push_head.new.text.items c.extend_from_slice.new.self.items c.extend_from_slice-2.new.self.items c.push_fault_rows.new.text.items
     c.in_ok-push_head.ensures
     (c.in_ok-extend_from_slice.ensures.items ∙ ap (λ w. c.push_head.new.text.items ++ w) c.deref.ensures.value)

@@ -1,6 +1,7 @@
-use Rattle.std.proofs.Common.{◌++◌, codes, ap, ◌∙◌, Some}
+use Rattle.std.proofs.Common.{◌++◌, codes, ap, ◌∙◌}
 use Rattle.cps_cause.specs.declared.letter.Letter.{Letter}
 use Rattle.cps_cause.specs.Letters.{letter_of}
+use Rattle.cps_check.specs.declared.kind.Kind.TheVariants as kinds
 use Rattle.cps_check.specs.Reports.{flag_report}
 use Rattle.cps_check.specs.Rows.{flag_rows}
 use Rattle.cps_check.specs.Texts.{head_of}
@@ -16,9 +17,9 @@ returns c =
     let old = c.args.text.now.items in
     let words = c.push_words.new.text.items in
     Adds-one name (flag_report number line told) words old c.push_flag_rows.new.text.items
-    (four-pieces old (head_of name number told.columns.first (Some (letter_of told.cause))) words (codes "\n") (flag_rows number line told)
+    (four-pieces old (head_of name number told.columns.first (kinds.Flag (letter_of told.cause))) words (codes "\n") (flag_rows number line told)
     c.push_head.new.text.items c.extend_from_slice.new.self.items c.extend_from_slice-2.new.self.items c.push_flag_rows.new.text.items
-    (c.in_ok-push_head.ensures ∙ ap (λ (l : Letter). old ++ head_of name number told.columns.first (Some l)) c.letter-letter.ensures)
+    (c.in_ok-push_head.ensures ∙ ap (λ (l : Letter). old ++ head_of name number told.columns.first (kinds.Flag l)) c.letter-letter.ensures)
     (c.in_ok-extend_from_slice.ensures.items ∙ ap (λ w. c.push_head.new.text.items ++ w) c.deref.ensures.value)
     c.in_ok-extend_from_slice-2.ensures.items
     c.in_ok-push_flag_rows.ensures)

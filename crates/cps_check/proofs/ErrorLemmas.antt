@@ -1,0 +1,68 @@
+-- Which reports tell errors.
+use Rattle.std.proofs.Common.{◌≡◌, ℕ, Bool, true, false, List, [], ◌∷◌, ◌++◌, length, map, refl, sym, ap, ◌∙◌, arith}
+use Rattle.std.specs.Prelude.{◌||◌, not, nat_eq, if◌then◌else◌}
+use Rattle.std.proofs.lemmas.Bool.Decides.{nat_tests}
+use Rattle.std.proofs.lemmas.List.Folds.{list_any-append}
+use Rattle.cps_cause.specs.declared.diagnostic.Diagnostic.{Diagnostic}
+use Rattle.cps_card.specs.declared.fault.CharacterFault.{CharacterFault}
+use Rattle.cps_check.specs.declared.notes.Note.{Note}
+use Rattle.cps_check.specs.Reports.{Report, excess_report, fault_report, flag_report, has_errors, is_error, note_report}
+use Rattle.cps_check.proofs.FlagLemmas.{true-false}
+
+-- ---- reports one behind the other
+
+pub errors-append : (reports others : List Report) → has_errors (reports ++ others) ≡ (has_errors reports || has_errors others)
+errors-append reports others = list_any-append (λ (report : Report). is_error report.kind) reports others
+
+pub both-wrong : (a b : Bool) (reports others : List Report) → a ≡ has_errors reports → b ≡ has_errors others → (a || b) ≡ has_errors (reports ++ others)
+both-wrong a b reports others here back =
+    ap (λ (x : Bool). x || b) here ∙ ap (λ (x : Bool). has_errors reports || x) back ∙ sym (errors-append reports others)
+
+none-left : (a b : Bool) → (a || b) ≡ false → a ≡ false
+none-left false b is = refl
+none-left true b is = is
+
+none-right : (a b : Bool) → (a || b) ≡ false → b ≡ false
+none-right false b is = is
+none-right true b is = absurd (true-false is)
+
+pub none-front : (reports others : List Report) → has_errors (reports ++ others) ≡ false → has_errors reports ≡ false
+none-front reports others is = none-left (has_errors reports) (has_errors others) (sym (errors-append reports others) ∙ is)
+
+pub none-back : (reports others : List Report) → has_errors (reports ++ others) ≡ false → has_errors others ≡ false
+none-back reports others is = none-right (has_errors reports) (has_errors others) (sym (errors-append reports others) ∙ is)
+
+pub none-both : (reports others : List Report) → has_errors reports ≡ false → has_errors others ≡ false → has_errors (reports ++ others) ≡ false
+none-both reports others here back = sym (both-wrong false false reports others (sym here) (sym back))
+
+-- ---- notes
+
+pub with-notes : (reports : List Report) (number : ℕ) (line : List ℕ) (notes : List Note)
+    → has_errors (reports ++ map (note_report number line) notes) ≡ has_errors reports
+with-notes [] number line [] = refl
+with-notes [] number line (note ∷ notes) = with-notes [] number line notes
+with-notes (report ∷ reports) number line notes = ap (λ (b : Bool). is_error report.kind || b) (with-notes reports number line notes)
+
+-- ---- flags, and what no source may have
+
+pub no-flags : (number : ℕ) (line : List ℕ) (told : List Diagnostic) → has_errors (map (flag_report number line) told) ≡ false → told ≡ []
+no-flags number line [] is = refl
+no-flags number line (d ∷ told) is = absurd (true-false is)
+
+pub no-faults : (number : ℕ) (line : List ℕ) (faults : List CharacterFault) → has_errors (map (fault_report number line) faults) ≡ false → faults ≡ []
+no-faults number line [] is = refl
+no-faults number line (fault ∷ faults) is = absurd (true-false is)
+
+pub flags-wrong : (number : ℕ) (line : List ℕ) (told : List Diagnostic) (none : Bool) → none ≡ nat_eq (length told) 0
+    → not none ≡ has_errors (map (flag_report number line) told)
+flags-wrong number line [] none is = ap not is
+flags-wrong number line (d ∷ told) none is =
+    let test : nat_eq (length (d ∷ told)) 0 ≡ false = grind (arith, nat_tests) in ap not (is ∙ test)
+
+pub faults-wrong : (number : ℕ) (line : List ℕ) (faults : List CharacterFault) → (faults ≡ [] → ⊥) → true ≡ has_errors (map (fault_report number line) faults)
+faults-wrong number line [] some = absurd (some refl)
+faults-wrong number line (fault ∷ faults) some = refl
+
+pub excess-wrong : (test : Bool) (number : ℕ) → test ≡ has_errors (if test then excess_report number ∷ [] else [])
+excess-wrong true number = refl
+excess-wrong false number = refl

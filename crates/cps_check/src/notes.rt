@@ -1,0 +1,181 @@
+//! Notes: what may stand in a line and is often not meant so.
+
+use crate::known_places::KnownPlaces;
+use crate::line_telling::CheckedLine;
+use cps_cause::Columns;
+use cps_expr::Operation;
+use cps_finding::{Card, filled_len};
+use cps_state::{Answer, Asked, Key, Phase, macro_of};
+use cps_text::{Fields, Name, capital};
+use std::alloc::{AllocError, Global};
+
+/// What brings in the text of a common deck where decks are kept, and is a comment here.
+const CALL: &[u8] = b"*CALL";
+
+/// What a note says.
+#[derive(Clone, Copy)]
+pub enum Remark {
+    /// The line begins with `*CALL`.
+    Call,
+    /// It stands behind the end of the program.
+    BehindEnd,
+    /// No line reads the symbol that the line defines.
+    Unread(Name),
+    /// It may have operands, and has none but text in column 30 or later.
+    FarOperands,
+}
+
+/// A note, and where it shows in its line.
+#[derive(Clone, Copy)]
+pub struct Note {
+    pub columns: Columns,
+    pub remark: Remark,
+}
+
+impl Remark {
+    /// Appends what it says.
+    pub fn push_words(self, text: &mut Vec<u8>) -> Result<(), AllocError> {
+        match self {
+            Remark::Call => {
+                text.extend_from_slice(b"*CALL is a comment here, and brings no text in")
+            }
+            Remark::BehindEnd => text.extend_from_slice(
+                b"nothing behind END is assembled; another program is a source of its own",
+            ),
+            Remark::Unread(name) => {
+                text.extend_from_slice(b"nothing reads ")?;
+                text.extend_from_slice(name.text())
+            }
+            Remark::FarOperands => text.extend_from_slice(
+                b"no operand stands here; what begins in column 30 or later is a comment",
+            ),
+        }
+    }
+}
+
+/// The notes of a line, by column. What stands behind the end of the program is noted once.
+pub fn find_notes(
+    alloc: Global,
+    line: &CheckedLine<'_>,
+    places: &mut KnownPlaces,
+) -> Result<Vec<Note>, AllocError> {
+    let mut notes = Vec::new(alloc);
+    let card = Card::of(line.line);
+    push_some(&mut notes, find_call(line.line))?;
+    push_some(&mut notes, find_behind_end(&card, places))?;
+    push_some(&mut notes, find_unread(line.number, &card, places))?;
+    push_some(&mut notes, find_far_operands(line, &card)?)?;
+    Ok(notes)
+}
+
+fn push_some(notes: &mut Vec<Note>, note: Option<Note>) -> Result<(), AllocError> {
+    if let Some(note) = note {
+        notes.push(note)?;
+    }
+    Ok(())
+}
+
+/// A line that begins with `*CALL`, in capitals or not, and goes on with a blank or a comma, if at all.
+fn find_call(line: &[u8]) -> Option<Note> {
+    if line.len() < CALL.len() {
+        return None;
+    }
+    let (front, rest) = line.split_at(CALL.len());
+    for (at, byte) in front.iter().enumerate() {
+        if capital(*byte) != CALL[at] {
+            return None;
+        }
+    }
+    match rest {
+        [] | [b' ' | b',', ..] => Some(Note {
+            columns: Columns::behind(0, CALL.len()),
+            remark: Remark::Call,
+        }),
+        _ => None,
+    }
+}
+
+/// The first line that is no comment behind the end of the program.
+fn find_behind_end(card: &Card<'_>, places: &mut KnownPlaces) -> Option<Note> {
+    if let Fields::Comment = card.fields {
+        return None;
+    }
+    if !places.takes_end() {
+        return None;
+    }
+    Some(Note {
+        columns: card.operation_or_all(),
+        remark: Remark::BehindEnd,
+    })
+}
+
+/// A location field with a symbol that the line is the first to define, and that no line reads.
+fn find_unread(number: u32, card: &Card<'_>, places: &KnownPlaces) -> Option<Note> {
+    let columns = card.location?;
+    let name = Name::read(columns.of(card.text))?;
+    if !places.is_unread_of(name, number) {
+        return None;
+    }
+    Some(Note {
+        columns,
+        remark: Remark::Unread(name),
+    })
+}
+
+/// Text in column 30 or later of a statement that is assembled, may have operands, and has none.
+fn find_far_operands(line: &CheckedLine<'_>, card: &Card<'_>) -> Result<Option<Note>, AllocError> {
+    let Fields::Statement(fields) = card.fields else {
+        return Ok(None);
+    };
+    if !fields.variable.is_empty() || fields.comment.is_empty() {
+        return Ok(None);
+    }
+    if !may_have_operands(fields.operation, line.trace.asks())? {
+        return Ok(None);
+    }
+    let before = card.before_tail.saturating_sub(fields.comment.len());
+    Ok(Some(Note {
+        columns: Columns::behind(before, filled_len(fields.comment)),
+        remark: Remark::FarOperands,
+    }))
+}
+
+/// Whether a line that asked this is a USE that is assembled, or a call of a macro with parameters: these may have operands, and none.
+fn may_have_operands(operation: &[u8], asks: &[Asked]) -> Result<bool, AllocError> {
+    match Operation::named(operation) {
+        Some(Operation::Use) => Ok(is_assembled(asks)),
+        Some(_) => Ok(false),
+        None => calls_with_parameters(operation, asks),
+    }
+}
+
+/// Whether a line that asked this is assembled: not skipped, kept, or behind the end.
+fn is_assembled(asks: &[Asked]) -> bool {
+    for asked in asks {
+        if let Key::Control = asked.key {
+            return match &asked.answer {
+                Some(Answer::Control(control, mode)) => {
+                    mode.is_normal() && control.phase != Phase::AfterEnd
+                }
+                _ => true,
+            };
+        }
+    }
+    false
+}
+
+/// Whether a line that asked this calls a macro of this name, which has parameters.
+fn calls_with_parameters(operation: &[u8], asks: &[Asked]) -> Result<bool, AllocError> {
+    let Some(name) = Name::read(operation) else {
+        return Ok(false);
+    };
+    for asked in asks {
+        if asked.key == Key::Macro(name) {
+            let Some(called) = macro_of(asked.answer.as_ref())? else {
+                return Ok(false);
+            };
+            return Ok(!called.parameters.as_slice().is_empty());
+        }
+    }
+    Ok(false)
+}
