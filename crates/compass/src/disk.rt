@@ -1,4 +1,6 @@
 //! The files of the machine.
+use super::draft::Draft;
+use cps_output::Targets;
 use cps_tool::Sources;
 use std::fs::File;
 use std::io::ErrorKind;
@@ -23,5 +25,28 @@ impl<'a> Sources for Disk<'a> {
             return Err(io::Error::from(ErrorKind::IsADirectory));
         }
         File::open(self.rt, name)
+    }
+}
+
+impl<'a> Targets for Disk<'a> {
+    ghost use Rattle.std.specs.Prelude.{None};
+
+    type Draft = Draft<'a>;
+
+    // Nor is it known which files were placed, and which drafts stand.
+    ghost placed = { λ disk. None };
+
+    ghost waiting = { λ disk. None };
+
+    fn create(&mut self, name: &str) -> io::Result<Draft<'a>> {
+        Draft::new(self.rt, name)
+    }
+
+    fn place(&mut self, _name: &str, draft: Draft<'a>) -> io::Result<()> {
+        draft.place(self.rt)
+    }
+
+    fn discard(&mut self, _name: &str, draft: Draft<'a>) {
+        draft.discard(self.rt);
     }
 }

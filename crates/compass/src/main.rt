@@ -1,6 +1,7 @@
 //! A cross-assembler for COMPASS Version 3.
 //!
-//! `compass batch [--part PART] [FILE]` assembles a source, of standard input where no file is named, and writes its texts to standard output.
+//! `compass batch [--part PART] [--listing FILE] .. [FILE]` assembles a source, of standard input where no file is named, and writes its texts to
+//! standard output or into files.
 //! `compass session [--source FILE]` runs a script of edits and queries on a source, and writes the replies.
 //! `compass check [FILE]` tells of each flag, and of each byte that no line may have.
 //! `compass compare OCTAL [FILE]` tells which words of a source differ from an octal text.
@@ -9,31 +10,9 @@
 //! error.
 #![tactic(auto)]
 
-#[cfg(test)]
-mod assertions;
-#[cfg(test)]
-mod batch_rows;
-#[cfg(test)]
-mod call_rows;
-#[cfg(test)]
-mod chunk_rows;
-#[cfg(test)]
-mod devices;
 mod disk;
-#[cfg(test)]
-mod edit_rows;
-#[cfg(test)]
-mod enter_rows;
-#[cfg(test)]
-mod many_edits;
-#[cfg(test)]
-mod part_rows;
-#[cfg(test)]
-mod pass_rows;
-#[cfg(test)]
-mod run_rows;
-#[cfg(test)]
-mod running;
+mod draft;
+mod successor;
 
 use cps_text::Counted;
 use cps_tool::{Hashing, Host, run_call};
@@ -69,15 +48,15 @@ fn call(rt: &HostRuntime) -> Result<u8, &'static str> {
     else {
         return Err(NO_MEMORY);
     };
-    let host = Host {
+    let mut host = Host {
         alloc: rt.alloc(),
         hashing: draw_hashing(rt)?,
-        sources: Disk { rt },
+        files: Disk { rt },
     };
     let mut reader = Counted::new(rt.reader());
     let mut writer = Counted::new(io::writer(rt));
     let mut errors = Counted::new(rt.stderr());
-    Ok(run_call(&host, &words, &mut reader, &mut writer, &mut errors))
+    Ok(run_call(&mut host, &words, &mut reader, &mut writer, &mut errors))
 }
 
 /// The words of the call.

@@ -1,5 +1,5 @@
 -- What the proofs of a call by its words cite.
-use Rattle.std.proofs.Common.{◌≡◌, ℕ, List, Option, Some, None, Result, refl, sym, subst, inl, inr, ◌⊎◌}
+use Rattle.std.proofs.Common.{◌≡◌, ap, ℕ, List, Option, Some, None, Result, refl, sym, subst, inl, inr, ◌⊎◌}
 use Rattle.cps_text.specs.declared.counted.Counted.{Counted}
 use Rattle.clap.specs.Words.{Text}
 use Rattle.cps_words.specs.declared.unread.Unread.{Unread}
@@ -11,11 +11,15 @@ use Rattle.cps_words.specs.Request.{Answer, IsAnswer, answer_of, asks, refuses, 
 use Rattle.cps_input.specs.Sources.{IsReadWhole, IsSource}
 use Rattle.cps_words.specs.declared.comparand.Comparand.{Comparand}
 use Rattle.cps_words.specs.declared.request.Request.{Request}
-use Rattle.cps_words.specs.declared.request.Request.TheVariants.{Compare}
+use Rattle.cps_words.specs.declared.request.Request.TheVariants.{Check, Compare, Export}
+use Rattle.cps_list.specs.declared.part.Part.{Part}
+use Rattle.cps_output.specs.declared.outputs.Outputs.{Outputs}
+use Rattle.cps_output.specs.Outputs.{name_of, names_of}
+use Rattle.cps_output.specs.Placing.{Placed}
 use Rattle.std.specs.Borrow.{Bor}
-use Rattle.std.specs.Prelude.{option_map}
-use Rattle.cps_words.specs.Task.{task_of, Task, batch, check, compare, explain, session}
-use Rattle.cps_tool.specs.CommandLine.{Calls, Compares, EditsFile, IsOpened, IsUndone, RunsFrom, Serves, ServesOne, ServesWith, TellsUnread, WithFile, status_of}
+use Rattle.std.specs.Prelude.{option_map, unwrap_or}
+use Rattle.cps_words.specs.Task.{task_of, Task, batch, export, check, compare, explain, session}
+use Rattle.cps_tool.specs.CommandLine.{Calls, ChecksAs, Compares, EditsFile, Exported, IsOpened, IsUndone, RunsFrom, Serves, ServesCall, ServesOne, ServesWith, TellsUnread, WithFile, status_of, told_name}
 use Rattle.cps_tool.specs.Files.{AreFiles, ComparesFiles}
 use Rattle.cps_tool.specs.declared.comparing.Files.{Files}
 use Rattle.cps_tool.specs.declared.comparing.Files.TheVariants.{Both, Octal, Source}
@@ -42,18 +46,56 @@ module _ {R W : Type 0} (remaining : R → Option (List ℕ)) (contents : W → 
       go : (answer : Answer) → Serves remaining contents answer status reader reader writer writer'
           → ServesWith holds opened remaining contents answer status reader reader writer writer'
       go (asks (batch part) None) s = s
+      go (asks (export names part) None) s = s
       go (asks session None) s = s
       go (asks check None) s = s
       go (asks (explain word) None) s = s
       go (asks (compare octal limits) None) (inl idle) = inl idle
       go (asks (compare octal limits) None) (inr calls) = elim calls [ ]
       go (asks (batch part) (Some name)) s = inl s
+      go (asks (export names part) (Some name)) s = inl s
       go (asks session (Some name)) s = inl s
       go (asks check (Some name)) s = inl s
       go (asks (explain word) (Some name)) s = inl s
       go (asks (compare octal limits) (Some name)) s = inl s
       go tells s = s
       go refuses s = s
+
+-- ---- a call that places no file
+
+module _ {T F R W : Type 0} (holds : T → List ℕ → Option (List ℕ)) (placed : T → Option (List Placed)) (opened : F → Option (List ℕ)) (remaining : R → Option (List ℕ))
+    (contents : W → Option (List ℕ)) (status : ℕ) (files : T) (reader reader' : Counted R) (writer writer' : Counted W) where
+  pub serves_call : (answer : Answer) → ServesWith (holds files) opened remaining contents answer status reader reader' writer writer'
+      → ServesCall holds placed opened remaining contents answer status files files reader reader' writer writer'
+  serves_call (asks (export names part) None) (inl idle) = inr (idle, refl)
+  serves_call (asks (export names part) None) (inr calls) = elim calls [ ]
+  serves_call (asks (export names part) (Some name)) (inl idle) = inr (idle, refl)
+  serves_call (asks (export names part) (Some name)) (inr with) = absurd with.1.does
+  serves_call (asks (batch part) file) s = (s, refl)
+  serves_call (asks session file) s = (s, refl)
+  serves_call (asks check file) s = (s, refl)
+  serves_call (asks (compare octal limits) file) s = (s, refl)
+  serves_call (asks (explain word) file) s = (s, refl)
+  serves_call tells s = (s, refl)
+  serves_call refuses s = (s, refl)
+
+-- an export was asked, of standard input or of a file
+module _ {T F R W : Type 0} (holds : T → List ℕ → Option (List ℕ)) (placed : T → Option (List Placed)) (opened : F → Option (List ℕ)) (remaining : R → Option (List ℕ))
+    (contents : W → Option (List ℕ)) (request : Request) (outputs : Outputs) (part : Option Part) (is : request ≡ Export outputs part)
+    (status : ℕ) (files files' : T) (reader : Counted R) (writer writer' : Counted W) where
+  pub exports_input : (reader' : Counted R)
+      → Exported placed remaining contents (record { names = names_of outputs; part = part }) status files files' reader reader' writer writer'
+      → ServesCall holds placed opened remaining contents (asks (task_of request) None) status files files' reader reader' writer writer'
+  exports_input reader' exported =
+      subst (λ request. ServesCall holds placed opened remaining contents (asks (task_of request) None) status files files' reader reader' writer writer') (sym is)
+      (inl exported)
+
+  pub exports_file : (name : Text) (file file' : Counted F) → IsOpened (holds files name) opened file
+      → Exported placed opened contents (record { names = names_of outputs; part = part }) status files files' file file' writer writer'
+      → ServesCall holds placed opened remaining contents (asks (task_of request) (Some name)) status files files' reader reader writer writer'
+  exports_file name file file' opens exported =
+      subst (λ request. ServesCall holds placed opened remaining contents (asks (task_of request) (Some name)) status files files' reader reader writer writer') (sym is)
+      (inl (refl, record { file = file; file' = file'; is_opened = opens; does = exported }))
 
 -- files that were opened by their names, and compared
 pub compares : {F R W : Type 0} (holds : List ℕ → Option (List ℕ)) (opened : F → Option (List ℕ)) (remaining : R → Option (List ℕ)) (contents : W → Option (List ℕ))
@@ -93,13 +135,32 @@ edits_file holds opened remaining contents status lines file file' reader reader
     inr (record { file = file; file' = file'; is_opened = is; does = (lines, read.0, read.1, runs) })
 
 -- what is asked of one input, done with a file
-pub serves_file : {F R W : Type 0} (holds : List ℕ → Option (List ℕ)) (opened : F → Option (List ℕ)) (remaining : R → Option (List ℕ)) (contents : W → Option (List ℕ))
-    (task : Task) (name : Text) (status : ℕ) (file file' : Counted F) (reader : Counted R) (writer writer' : Counted W)
-    → IsOpened (holds name) opened file → IsUndone status file file' writer writer' ⊎ Calls opened contents task status file file' writer writer'
-    → ServesOne holds opened remaining contents (asks task (Some name)) status reader reader writer writer'
-serves_file holds opened remaining contents task name status file file' reader writer writer' is (inl idle) = inl (idle.0, refl, idle.2)
-serves_file holds opened remaining contents task name status file file' reader writer writer' is (inr calls) =
-    inr (refl, record { file = file; file' = file'; is_opened = is; does = calls })
+module _ {F R W : Type 0} (holds : List ℕ → Option (List ℕ)) (opened : F → Option (List ℕ)) (remaining : R → Option (List ℕ)) (contents : W → Option (List ℕ))
+    (task : Task) (name : Text) (status : ℕ) (file file' : Counted F) (reader : Counted R) (writer writer' : Counted W) (is : IsOpened (holds name) opened file) where
+  serves_named : IsUndone status file file' writer writer' ⊎ Calls opened contents task (Some name) status file file' writer writer'
+      → ServesOne holds opened remaining contents (asks task (Some name)) status reader reader writer writer'
+  serves_named (inl idle) = inl (idle.0, refl, idle.2)
+  serves_named (inr calls) = inr (refl, record { file = file; file' = file'; is_opened = is; does = calls })
+
+  pub serves_file : (named : Option Text) → named ≡ Some name → IsUndone status file file' writer writer' ⊎ Calls opened contents task named status file file' writer writer'
+      → ServesOne holds opened remaining contents (asks task named) status reader reader writer writer'
+  serves_file named same done =
+      subst (λ (n : Option Text). ServesOne holds opened remaining contents (asks task n) status reader reader writer writer') (sym same)
+      (serves_named (subst (λ (n : Option Text). IsUndone status file file' writer writer' ⊎ Calls opened contents task n status file file' writer writer') same done))
+
+-- the name of a file, or that of standard input
+pub unwrapped : (file : Option (Bor (List ℕ))) (default found : Bor (List ℕ)) → found ≡ unwrap_or file default → found.now ≡ unwrap_or (name_of file) default.now
+unwrapped None default found same = ap (λ (name : Bor (List ℕ)). name.now) same
+unwrapped (Some name) default found same = ap (λ (name : Bor (List ℕ)). name.now) same
+
+-- a check was asked, and done under the input's name
+pub checks_as : {R W : Type 0} (remaining : R → Option (List ℕ)) (contents : W → Option (List ℕ)) (request : Request) (named : Option Text) (name : List ℕ) (status : ℕ)
+    (reader reader' : Counted R) (writer writer' : Counted W) → request ≡ Check → name ≡ told_name named
+    → ChecksAs remaining contents name status reader reader' writer writer'
+    → IsUndone status reader reader' writer writer' ⊎ Calls remaining contents (task_of request) named status reader reader' writer writer'
+checks_as remaining contents request named name status reader reader' writer writer' is same done =
+    subst (λ request. IsUndone status reader reader' writer writer' ⊎ Calls remaining contents (task_of request) named status reader reader' writer writer') (sym is)
+    (inr (subst (λ (name : List ℕ). ChecksAs remaining contents name status reader reader' writer writer') same done))
 
 -- ---- files that were compared, by the sides that are files
 

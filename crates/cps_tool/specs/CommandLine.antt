@@ -1,5 +1,5 @@
 -- What a call of the program does, and the status that it ends with. Our own.
-use Rattle.std.specs.Prelude.{◌≡◌, ℕ, Bool, true, false, ◌⊎◌, List, [], Option, Some, None, Result, Ok, Err, if◌then◌else◌, ◌==◌}
+use Rattle.std.specs.Prelude.{◌≡◌, ℕ, Bool, true, false, ◌⊎◌, List, [], Option, Some, None, Result, Ok, Err, if◌then◌else◌, ◌==◌, codes, unwrap_or}
 use Rattle.cps_text.specs.declared.counted.Counted.{Counted}
 use Rattle.cps_text.specs.Counted.{inner_of, calls_of, failures_of, moved_of, idle_of, FailsOnce}
 use Rattle.cps_batch.specs.declared.fault.BatchFault.{BatchFault}
@@ -12,7 +12,11 @@ use Rattle.cps_octal.specs.Octal.{RunsComparison}
 use Rattle.clap.specs.Words.{Text}
 use Rattle.cps_input.specs.Sources.{IsSource, IsReadWhole}
 use Rattle.cps_manual.specs.Manual as manual
-use Rattle.cps_words.specs.Task.{Task, batch, session, check, compare, explain}
+use Rattle.cps_output.specs.declared.export_fault.ExportFault.{ExportFault}
+use Rattle.cps_output.specs.Export.{Exports, Wanted}
+use Rattle.cps_output.specs.Placing.{Placed}
+use Rattle.cps_words.specs.Task.{Task, batch, export, session, check, compare, explain}
+use Rattle.cps_words.specs.Shown.{shown}
 use Rattle.cps_words.specs.declared.unread.Unread.{Unread}
 use Rattle.cps_words.specs.declared.unread.Unread.TheVariants.{Told, Wrong, Memory}
 use Rattle.cps_words.specs.Request.{Answer, asks, tells, refuses}
@@ -24,18 +28,18 @@ use Rattle.cps_tool.specs.Written.{IsWritten, IsFrontWritten}
 abbrev pub status_with : ℕ → ℕ
 status_with count = if count == 0 then 0 else 1
 
--- the status where something was told, or nothing
-abbrev pub status_told : Bool → ℕ
-status_told is_told = if is_told then 1 else 0
+-- the status where an error was told, or none
+abbrev pub status_if : Bool → ℕ
+status_if is_wrong = if is_wrong then 1 else 0
 
 -- 2 after a fault, else 1 where a line is flagged or a word differs, else 0
 abbrev pub status_of : {F : Type 0} → Result ℕ F → ℕ
 status_of (Ok count) = status_with count
 status_of (Err fault) = 2
 
--- 2 after a fault, else 1 where something was told, else 0
+-- 2 after a fault, else 1 where an error was told, else 0
 abbrev pub status_of_check : {F : Type 0} → Result Bool F → ℕ
-status_of_check (Ok is_told) = status_told is_told
+status_of_check (Ok is_wrong) = status_if is_wrong
 status_of_check (Err fault) = 2
 
 -- nothing was done: the words are wrong, a file can't be opened, or there was no memory for either
@@ -62,17 +66,27 @@ pub record Explains (word text : List ℕ) : Type 0 where
   pub some : manual.is_told word ≡ true
   pub rows : manual.is_told_by_sentences word ≡ false → text ≡ manual.instruction_text word
 
--- What is done that the words ask with one input: batch assembly; or the script of a session that begins with no line; or a check, under some name of
--- the input; or a word is explained, and nothing is read. A comparison has two inputs.
-abbrev pub Calls : {R W : Type 0} → (R → Option (List ℕ)) → (W → Option (List ℕ)) → Task → ℕ → Counted R → Counted R → Counted W → Counted W → Type 0
-Calls remaining contents (batch part) status reader reader' writer writer' =
+-- the name under which a check tells: that of the file, as a message shows it
+abbrev pub told_name : Option Text → List ℕ
+told_name named = shown (unwrap_or named (codes "<stdin>"))
+
+-- a check told under a name
+abbrev pub ChecksAs : {R W : Type 0} → (R → Option (List ℕ)) → (W → Option (List ℕ)) → List ℕ → ℕ → Counted R → Counted R → Counted W → Counted W → Type 0
+ChecksAs remaining contents name status reader reader' writer writer' =
+    (result : Result Bool CheckFault) × (status ≡ status_of_check result) × RunsCheck remaining contents name result reader reader' writer writer'
+
+-- What is done that the words ask with one input, which is the file of that name, or standard input: batch assembly; or the script of a session that
+-- begins with no line; or a check; or a word is explained, and nothing is read. A comparison has two inputs, and an export writes files.
+abbrev pub Calls : {R W : Type 0} → (R → Option (List ℕ)) → (W → Option (List ℕ)) → Task → Option Text → ℕ
+    → Counted R → Counted R → Counted W → Counted W → Type 0
+Calls remaining contents (batch part) named status reader reader' writer writer' =
     (result : Result ℕ BatchFault) × (status ≡ status_of result) × RunsBatch remaining contents part result reader reader' writer writer'
-Calls remaining contents session status reader reader' writer writer' = RunsFrom remaining contents [] status reader reader' writer writer'
-Calls remaining contents check status reader reader' writer writer' =
-    (result : Result Bool CheckFault) × (name : List ℕ) × (status ≡ status_of_check result) × RunsCheck remaining contents name result reader reader' writer writer'
-Calls remaining contents (explain word) status reader reader' writer writer' =
+Calls remaining contents session named status reader reader' writer writer' = RunsFrom remaining contents [] status reader reader' writer writer'
+Calls remaining contents check named status reader reader' writer writer' = ChecksAs remaining contents (told_name named) status reader reader' writer writer'
+Calls remaining contents (explain word) named status reader reader' writer writer' =
     (reader' ≡ reader) × ((text : List ℕ) × Explains word text × TellsText contents status text writer writer')
-Calls remaining contents (compare octal limits) status reader reader' writer writer' = ⊥
+Calls remaining contents (export names part) named status reader reader' writer writer' = ⊥
+Calls remaining contents (compare octal limits) named status reader reader' writer writer' = ⊥
 
 -- the help or the version is told
 abbrev pub Tells : {W : Type 0} → (W → Option (List ℕ)) → ℕ → Counted W → Counted W → Type 0
@@ -88,7 +102,7 @@ TellsUnread contents Memory status writer writer' = (status ≡ 2) × (writer' �
 -- refused, and so is each file. Nothing is read where they ask nothing. Memory may be refused at any words.
 abbrev pub Serves : {R W : Type 0} → (R → Option (List ℕ)) → (W → Option (List ℕ)) → Answer → ℕ → Counted R → Counted R → Counted W → Counted W → Type 0
 Serves remaining contents (asks task None) status reader reader' writer writer' =
-    IsUndone status reader reader' writer writer' ⊎ Calls remaining contents task status reader reader' writer writer'
+    IsUndone status reader reader' writer writer' ⊎ Calls remaining contents task None status reader reader' writer writer'
 Serves remaining contents (asks task (Some name)) status reader reader' writer writer' = IsUndone status reader reader' writer writer'
 Serves remaining contents tells status reader reader' writer writer' =
     IsUndone status reader reader' writer writer' ⊎ ((reader' ≡ reader) × Tells contents status writer writer')
@@ -142,7 +156,7 @@ abbrev pub ServesOne : {F R W : Type 0} → (List ℕ → Option (List ℕ)) →
     → Counted R → Counted R → Counted W → Counted W → Type 0
 ServesOne holds opened remaining contents (asks task (Some name)) status reader reader' writer writer' =
     IsUndone status reader reader' writer writer'
-    ⊎ ((reader' ≡ reader) × WithFile (holds name) opened (λ file file'. Calls opened contents task status file file' writer writer'))
+    ⊎ ((reader' ≡ reader) × WithFile (holds name) opened (λ file file'. Calls opened contents task (Some name) status file file' writer writer'))
 ServesOne holds opened remaining contents answer status reader reader' writer writer' = Serves remaining contents answer status reader reader' writer writer'
 
 -- What a call does that may name files. The file of a session is its source, and standard input its script; a session whose file is no source does nothing.
@@ -155,6 +169,27 @@ ServesWith holds opened remaining contents (asks session (Some name)) status rea
     IsUndone status reader reader' writer writer'
     ⊎ WithFile (holds name) opened (λ file file'. EditsFile opened remaining contents status file file' reader reader' writer writer')
 ServesWith holds opened remaining contents answer status reader reader' writer writer' = ServesOne holds opened remaining contents answer status reader reader' writer writer'
+
+-- ---- files that are written
+
+-- the texts of a source were written into files, and then a part
+abbrev pub Exported : {T R W : Type 0} → (T → Option (List Placed)) → (R → Option (List ℕ)) → (W → Option (List ℕ)) → Wanted → ℕ
+    → T → T → Counted R → Counted R → Counted W → Counted W → Type 0
+Exported placed remaining contents wanted status files files' reader reader' writer writer' =
+    (result : Result ℕ ExportFault) × (status ≡ status_of result) × Exports placed remaining contents wanted result files files' reader reader' writer writer'
+
+-- What a call does that may write files. An export reads the file that is named in the place of standard input, and no other call places a file.
+abbrev pub ServesCall : {T F R W : Type 0} → (T → List ℕ → Option (List ℕ)) → (T → Option (List Placed)) → (F → Option (List ℕ)) → (R → Option (List ℕ))
+    → (W → Option (List ℕ)) → Answer → ℕ → T → T → Counted R → Counted R → Counted W → Counted W → Type 0
+ServesCall holds placed opened remaining contents (asks (export names part) None) status files files' reader reader' writer writer' =
+    Exported placed remaining contents (record { names = names; part = part }) status files files' reader reader' writer writer'
+    ⊎ (IsUndone status reader reader' writer writer' × (placed files' ≡ placed files))
+ServesCall holds placed opened remaining contents (asks (export names part) (Some name)) status files files' reader reader' writer writer' =
+    ((reader' ≡ reader) × WithFile (holds files name) opened (λ file file'.
+    Exported placed opened contents (record { names = names; part = part }) status files files' file file' writer writer'))
+    ⊎ (IsUndone status reader reader' writer writer' × (placed files' ≡ placed files))
+ServesCall holds placed opened remaining contents answer status files files' reader reader' writer writer' =
+    ServesWith (holds files) opened remaining contents answer status reader reader' writer writer' × (placed files' ≡ placed files)
 
 -- nothing is said of a call that ends with another status than 2
 abbrev pub IsQuiet : {E : Type 0} → ℕ → Counted E → Counted E → Type 0

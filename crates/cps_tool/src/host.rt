@@ -8,5 +8,5 @@ use std::alloc::Global;
 pub struct Host<S> {
     pub alloc: Global,
     pub hashing: Hashing,
-    pub sources: S,
+    pub files: S,
 }

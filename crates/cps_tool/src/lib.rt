@@ -2,6 +2,7 @@
 //!
 //! - `command.rt`: a line of a script, read
 //! - `comparing.rt`: a comparison of an octal text with a source
+//! - `exporting.rt`: a source, written into files
 //! - `host.rt`: what a call runs on
 //! - `reply.rt`: replies
 //! - `replying.rt`: obeying a command, and writing the reply
@@ -16,6 +17,7 @@
 
 mod command;
 mod comparing;
+mod exporting;
 mod host;
 mod reply;
 mod replying;
@@ -28,6 +30,7 @@ mod words;
 mod writing;
 
 pub use command::{Command, ScriptFault};
+pub use cps_output::Targets;
 pub use cps_pass::Hashing;
 pub use cps_words::{Call, Request, Unread, read_words};
 pub use host::Host;

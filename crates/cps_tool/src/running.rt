@@ -1,13 +1,14 @@
 //! What is asked of one input, done with it.
-ghost use Rattle.std.specs.Prelude.{◌≡◌, ◌⊎◌, ℕ, List};
-ghost use Rattle.cps_tool.specs.CommandLine.{Calls, Explains, IsIdle, IsQuiet, IsUndone, TellsText};
+ghost use Rattle.std.specs.Prelude.{◌≡◌, ◌⊎◌, ℕ, List, None};
+ghost use Rattle.cps_output.specs.Outputs.{name_of};
+ghost use Rattle.cps_tool.specs.CommandLine.{Calls, ChecksAs, Explains, IsIdle, IsQuiet, IsUndone, TellsText};
 ghost use Rattle.cps_words.specs.Task as tasks;
 ghost use Rattle.cps_words.specs.Task.{task_of};
 
 use super::host::Host;
 use super::sessions::run_script_over;
 use super::telling::{
-    NO_FILES, NO_MEMORY, complain, complain_of, status_of_count, status_of_told, tell,
+    NO_FILES, NO_MEMORY, complain, complain_of, status_of_check, status_of_count, tell,
 };
 use cps_batch::batch;
 use cps_check::check;
@@ -30,7 +31,7 @@ pub fn run_request<'a, S, R: Read, W: Write, E: Write>(
     writer: &mut Counted<W>,
     errors: &mut Counted<E>,
 ) -> u8
-    ensures calls { IsUndone result reader.old reader.new writer.old writer.new ⊎ Calls R.remaining W.contents (task_of call.entry.request) result reader.old reader.new writer.old writer.new }
+    ensures calls { IsUndone result reader.old reader.new writer.old writer.new ⊎ Calls R.remaining W.contents (task_of call.entry.request) (name_of call.entry.file) result reader.old reader.new writer.old writer.new }
     ensures quiet { IsQuiet result errors.old errors.new }
 {
     match call.request {
@@ -40,7 +41,7 @@ pub fn run_request<'a, S, R: Read, W: Write, E: Write>(
             Ok(name) => run_check(host, name.as_bytes(), reader, writer, errors),
             Err(_) => complain(errors, NO_MEMORY),
         },
-        Request::Compare(_) => complain(errors, NO_FILES),
+        Request::Export(_, _) | Request::Compare(_) => complain(errors, NO_FILES),
         Request::Explain(word) => run_explanation(host, word, writer, errors),
     }
 }
@@ -52,7 +53,7 @@ fn run_batch<S, R: Read, W: Write, E: Write>(
     writer: &mut Counted<W>,
     errors: &mut Counted<E>,
 ) -> u8
-    ensures calls { Calls R.remaining W.contents (tasks.batch part) result reader.old reader.new writer.old writer.new }
+    ensures calls { Calls R.remaining W.contents (tasks.batch part) None result reader.old reader.new writer.old writer.new }
     ensures quiet { IsQuiet result errors.old errors.new }
 {
     match batch(host.alloc, host.hashing, reader, writer, part) {
@@ -67,7 +68,7 @@ fn run_session<S, R: Read, W: Write, E: Write>(
     writer: &mut Counted<W>,
     errors: &mut Counted<E>,
 ) -> u8
-    ensures calls { Calls R.remaining W.contents tasks.session result reader.old reader.new writer.old writer.new }
+    ensures calls { Calls R.remaining W.contents tasks.session None result reader.old reader.new writer.old writer.new }
     ensures quiet { IsQuiet result errors.old errors.new }
 {
     run_script_over(
@@ -86,11 +87,11 @@ fn run_check<S, R: Read, W: Write, E: Write>(
     writer: &mut Counted<W>,
     errors: &mut Counted<E>,
 ) -> u8
-    ensures calls { Calls R.remaining W.contents tasks.check result reader.old reader.new writer.old writer.new }
+    ensures calls { ChecksAs R.remaining W.contents name.now result reader.old reader.new writer.old writer.new }
     ensures quiet { IsQuiet result errors.old errors.new }
 {
     match check(host.alloc, host.hashing, name, reader, writer) {
-        Ok(is_told) => status_of_told(is_told),
+        Ok(is_wrong) => status_of_check(is_wrong),
         Err(fault) => complain_of(errors, fault),
     }
 }

@@ -22,11 +22,11 @@ pub fn run_session_from<S: Sources, R: Read, W: Write, E: Write>(
     writer: &mut Counted<W>,
     errors: &mut Counted<E>,
 ) -> u8
-    ensures runs { IsUndone result reader.old reader.new writer.old writer.new ⊎ WithFile (S.holds host.now.sources name.now) S.Opened.remaining
+    ensures runs { IsUndone result reader.old reader.new writer.old writer.new ⊎ WithFile (S.holds host.now.files name.now) S.Opened.remaining
         (λ file file'. EditsFile S.Opened.remaining R.remaining W.contents result file file' reader.old reader.new writer.old writer.new) }
     ensures quiet { IsQuiet result errors.old errors.new }
 {
-    match open_input(host.alloc, &host.sources, name, errors) {
+    match open_input(host.alloc, &host.files, name, errors) {
         Some(file) => {
             let mut file = file;
             match read_lines(host.alloc, &mut file) {

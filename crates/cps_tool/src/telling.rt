@@ -1,6 +1,6 @@
 //! What a call tells: what was asked for, or what is wrong.
 ghost use Rattle.std.specs.Prelude.{◌≡◌};
-ghost use Rattle.cps_tool.specs.CommandLine.{status_told, status_with, TellsText, TellsUnread, IsQuiet};
+ghost use Rattle.cps_tool.specs.CommandLine.{status_if, status_with, TellsText, TellsUnread, IsQuiet};
 
 use super::writing::write_bytes;
 use arrayvec::ArrayString;
@@ -42,11 +42,11 @@ pub fn status_of_count(count: u32) -> u8
     if count == 0 { CLEAN } else { FLAGGED }
 }
 
-/// The status after a run that told something, or nothing.
-pub fn status_of_told(is_told: bool) -> u8
-    ensures { result ≡ status_told is_told }
+/// The status after a check that told an error, or none.
+pub fn status_of_check(is_wrong: bool) -> u8
+    ensures { result ≡ status_if is_wrong }
 {
-    if is_told { FLAGGED } else { CLEAN }
+    if is_wrong { FLAGGED } else { CLEAN }
 }
 
 /// Writes what was asked for.

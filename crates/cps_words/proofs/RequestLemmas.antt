@@ -1,5 +1,5 @@
 -- What the proofs of the reading of words cite.
-use Rattle.std.proofs.Common.{◌≡◌, ◌⊎◌, ◌∙◌, List, [], ◌∷◌, Option, None, Result, Ok, Err, IfOk, IfErr, refl, sym, ap, inl, inr}
+use Rattle.std.proofs.Common.{◌≡◌, ◌⊎◌, ◌∙◌, List, [], ◌∷◌, Option, Some, None, Result, Ok, Err, option_map, IfOk, IfErr, refl, sym, ap, inl, inr}
 use Rattle.clap.specs.Words.{IsAmong, Kinds, Row, Text, fault_of, subcommand_of}
 use Rattle.clap.specs.declared.error.kind.ErrorKind.{ErrorKind}
 use Rattle.clap.specs.declared.error.kind.ErrorKind.TheVariants.{OutOfMemory}
@@ -10,6 +10,12 @@ use Rattle.cps_words.specs.declared.request.Call.{Call}
 use Rattle.cps_words.specs.declared.unread.Unread.{Unread}
 use Rattle.cps_words.specs.declared.unread.Unread.TheVariants.{Told, Wrong, Memory}
 use Rattle.cps_words.proofs.AlikeLemmas.{alike_faults, first_answer}
+
+-- a command that was met, by its name and its rows
+pub met_is : {X : Type 0} (n : X → Text) (r : X → List Row) (met : Option X) (name : Text) (rows : List Row) → Some name ≡ option_map n met
+    → Some rows ≡ option_map (λ (p : Text × List Row). p.1) (option_map {U = Text × List Row} (λ x. (n x, r x)) met) → option_map {U = Text × List Row} (λ x. (n x, r x)) met ≡ Some (name, rows)
+met_is n r None name rows named had = cc
+met_is n r (Some x) name rows named had = cc
 
 -- ---- words without a fault are answered by the command that was met
 
@@ -23,7 +29,7 @@ module _ (words : List Text) (met : Option (Text × List Row)) (none : fault_of 
 
   pub said_of : (r : Result Call Unread) → Reads (answer_from met) r → IfErr r (IsAnswer words)
   said_of (Ok call) reads = tt
-  said_of (Err (Told text)) reads = absurd reads
+  said_of (Err (Told text)) reads = answer_is ∙ reads
   said_of (Err (Wrong text)) reads = answer_is ∙ reads
   said_of (Err Memory) reads = tt
 

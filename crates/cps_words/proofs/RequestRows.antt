@@ -5,8 +5,9 @@ use Rattle.clap.proofs.OnLiterals.{clap_on_literals}
 use Rattle.cps_compare.specs.declared.limits.Columns.{Columns}
 use Rattle.cps_compare.specs.declared.limits.Limits.{Limits}
 use Rattle.cps_list.specs.declared.part.Part.TheVariants.{Listing, Binary, Symbols, Flags, All}
+use Rattle.cps_output.specs.Outputs.{Names}
 use Rattle.cps_words.specs.Request.{answer_of, asks, refuses, request_of, tells}
-use Rattle.cps_words.specs.Task.{batch, session, check, compare, explain}
+use Rattle.cps_words.specs.Task.{batch, export, session, check, compare, explain}
 
 -- a call's words, after the program's name
 abbrev call : List Text → List Text
@@ -96,9 +97,48 @@ no_help_request : request_of (call (codes "--help" ∷ [])) ≡ None
 unfolding clap_on_literals
 no_help_request = refl
 
-help_is_no_command : answer_of (call (codes "help" ∷ [])) ≡ refuses
+help_of_the_program : answer_of (call (codes "help" ∷ [])) ≡ tells
 unfolding clap_on_literals
-help_is_no_command = refl
+help_of_the_program = refl
+
+help_of_a_command : answer_of (call (codes "help" ∷ codes "check" ∷ [])) ≡ tells
+unfolding clap_on_literals
+help_of_a_command = refl
+
+help_of_no_command : answer_of (call (codes "help" ∷ codes "list" ∷ [])) ≡ refuses
+unfolding clap_on_literals
+help_of_no_command = refl
+
+-- ---- `batch` with files
+
+abbrev no_file_of_a_text : Names
+no_file_of_a_text = record { listing = None; binary = None; symbols = None; flags = None }
+
+one_output : answer_of (call (codes "batch" ∷ codes "--listing" ∷ codes "d.lst" ∷ codes "deck.cps" ∷ []))
+    ≡ asks (export (record no_file_of_a_text { listing = Some (codes "d.lst") }) None) (Some (codes "deck.cps"))
+unfolding clap_on_literals
+one_output = refl
+
+four_outputs : answer_of (call (codes "batch" ∷ codes "--part" ∷ codes "flags" ∷ codes "--listing=l" ∷ codes "--binary=b" ∷ codes "--symbols=s" ∷ codes "--flags=f" ∷ []))
+    ≡ asks (export (record { listing = Some (codes "l"); binary = Some (codes "b"); symbols = Some (codes "s"); flags = Some (codes "f") }) (Some Flags)) None
+unfolding clap_on_literals
+four_outputs = refl
+
+output_over_the_source : answer_of (call (codes "batch" ∷ codes "--binary" ∷ codes "deck.cps" ∷ codes "deck.cps" ∷ [])) ≡ refuses
+unfolding clap_on_literals
+output_over_the_source = refl
+
+output_to_a_minus : answer_of (call (codes "batch" ∷ codes "--symbols" ∷ codes "-" ∷ [])) ≡ refuses
+unfolding clap_on_literals
+output_to_a_minus = refl
+
+two_outputs_in_one : answer_of (call (codes "batch" ∷ codes "--listing" ∷ codes "x" ∷ codes "--flags" ∷ codes "x" ∷ [])) ≡ refuses
+unfolding clap_on_literals
+two_outputs_in_one = refl
+
+output_of_a_check : answer_of (call (codes "check" ∷ codes "--flags" ∷ codes "x" ∷ [])) ≡ refuses
+unfolding clap_on_literals
+output_of_a_check = refl
 
 -- ---- `check`
 

@@ -3,3 +3,4 @@ pub mod Values
 pub mod Task
 pub mod Request
 pub mod Reading
+pub mod Shown

@@ -7,10 +7,10 @@ use Rattle.cps_words.specs.declared.request.Call.{Call}
 use Rattle.cps_words.specs.declared.unread.Unread.{Unread}
 use Rattle.cps_words.specs.declared.unread.Unread.TheVariants.{Told, Wrong, Memory}
 
--- words that are answered so are read: the call is what they ask, or a text refuses them, or there was no memory
+-- words that are answered so are read: the call is what they ask, or a text tells the help, or refuses them, or there was no memory
 abbrev pub Reads : Answer → Result Call Unread → Type 0
 Reads answer (Ok call) = answer ≡ asked_by call
-Reads answer (Err (Told text)) = ⊥
+Reads answer (Err (Told text)) = answer ≡ tells
 Reads answer (Err (Wrong text)) = answer ≡ refuses
 Reads answer (Err Memory) = ⊤
 
@@ -20,6 +20,12 @@ ReadsValue named (Ok value) = named ≡ Some value
 ReadsValue named (Err (Told text)) = ⊥
 ReadsValue named (Err (Wrong text)) = named ≡ None
 ReadsValue named (Err Memory) = ⊤
+
+-- the help or the version is told, or there was no memory
+abbrev pub IsTold : Unread → Type 0
+IsTold (Told text) = ⊤
+IsTold (Wrong text) = ⊥
+IsTold Memory = ⊤
 
 -- no help and no version is told
 abbrev pub IsRefusal : Unread → Type 0

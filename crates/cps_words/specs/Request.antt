@@ -1,14 +1,16 @@
 -- What the words of a call ask of the program. Our own; what words mean to a command line is `clap`'s.
-use Rattle.std.specs.Prelude.{◌≡◌, List, [], ◌∷◌, Option, Some, None, if◌then◌else◌, codes, bytes_eq, option_map, ⊤}
+use Rattle.std.specs.Prelude.{◌≡◌, List, [], ◌∷◌, Option, Some, None, if◌then◌else◌, codes, bytes_eq, option_map, unwrap_or, ⊤}
 use Rattle.std.specs.Borrow.{Bor}
 use Rattle.clap.specs.Words.{Kinds, Row, Text, fault_of, first_of, subcommand_of}
 use Rattle.clap.specs.declared.error.kind.ErrorKind.{ErrorKind}
 use Rattle.clap.specs.declared.error.kind.ErrorKind.TheVariants.{DisplayHelp, DisplayVersion}
 use Rattle.cps_compare.specs.declared.limits.Limits.{Limits}
 use Rattle.cps_list.specs.declared.part.Part.{Part}
+use Rattle.cps_list.specs.declared.part.Part.TheVariants.{All}
+use Rattle.cps_output.specs.Outputs.{Names}
 use Rattle.cps_words.specs.Commands.{compass}
-use Rattle.cps_words.specs.Values.{file_in, limits_in, octal_in, part_named, part_word, word_explained}
-use Rattle.cps_words.specs.Task.{Task, batch, session, check, compare, explain, task_of}
+use Rattle.cps_words.specs.Values.{are_apart, file_in, is_command, limits_in, names_in, octal_in, part_in, wants_no_file, word_explained}
+use Rattle.cps_words.specs.Task.{Task, batch, export, session, check, compare, explain, task_of}
 use Rattle.cps_words.specs.declared.request.Call.{Call}
 use Rattle.cps_words.specs.declared.unread.Unread.{Unread}
 use Rattle.cps_words.specs.declared.unread.Unread.TheVariants.{Told, Wrong, Memory}
@@ -20,12 +22,16 @@ pub data Answer : Type 0 where
   tells : Answer
   refuses : Answer
 
-abbrev pub answer_of_part : Option Part → Option Text → Answer
-answer_of_part (Some part) file = asks (batch part) file
-answer_of_part None file = refuses
+-- with no file for a text a part is written, which is `all` where none is named
+abbrev pub answer_of_part : Names → Option (Option Part) → Option Text → Answer
+answer_of_part names None file = refuses
+answer_of_part names (Some part) file =
+    if wants_no_file names then asks (batch (unwrap_or part All)) file
+    else if are_apart file names then asks (export names part) file
+    else refuses
 
 abbrev pub answer_of_batch : List Row → Answer
-answer_of_batch rows = answer_of_part (part_named (part_word rows)) (file_in rows)
+answer_of_batch rows = answer_of_part (names_in rows) (part_in rows) (file_in rows)
 
 -- standard input has the script, so a session can't begin with its lines
 abbrev pub answer_of_source : Option Text → Answer
@@ -44,6 +50,11 @@ answer_of_limits (Some limits) octal file = asks (compare octal limits) file
 abbrev pub answer_of_compare : List Row → Answer
 answer_of_compare rows = answer_of_limits (limits_in rows) (octal_in rows) (file_in rows)
 
+-- the help of the program, or of a command
+abbrev pub answer_of_help : Option Text → Answer
+answer_of_help None = tells
+answer_of_help (Some name) = if is_command name then tells else refuses
+
 -- what is answered where a command of that name was met, with the values of its options and operands
 abbrev pub answer_named : Text → List Row → Answer
 answer_named name rows = if bytes_eq name (codes "batch") then answer_of_batch rows
@@ -51,6 +62,7 @@ answer_named name rows = if bytes_eq name (codes "batch") then answer_of_batch r
     else if bytes_eq name (codes "check") then asks check (file_in rows)
     else if bytes_eq name (codes "compare") then answer_of_compare rows
     else if bytes_eq name (codes "explain") then asks (explain (word_explained rows)) None
+    else if bytes_eq name (codes "help") then answer_of_help (first_of (codes "command") rows)
     else refuses
 
 abbrev pub answer_from : Option (Text × List Row) → Answer

@@ -4,13 +4,15 @@ use Rattle.std.specs.Borrow.{Bor}
 use Rattle.clap.specs.Words.{Text}
 use Rattle.cps_list.specs.declared.part.Part.{Part}
 use Rattle.cps_compare.specs.declared.limits.Limits.{Limits}
+use Rattle.cps_output.specs.Outputs.{Names, names_of}
 use Rattle.cps_words.specs.declared.request.Request.{Request}
-use Rattle.cps_words.specs.declared.request.Request.TheVariants.{Batch, Session, Check, Compare, Explain}
+use Rattle.cps_words.specs.declared.request.Request.TheVariants.{Batch, Export, Session, Check, Compare, Explain}
 
--- to assemble a source and write a part of that; to run a script; to tell what is wrong in a source; to compare one with an octal text,
+-- to assemble a source and write a part of that; the same, with texts that go into files, where no part may be wanted; to run a script; to tell what is wrong in a source; to compare one with an octal text,
 -- which is standard input where it has no name; to explain a flag or an operation
 pub data Task : Type 0 where
   batch : Part → Task
+  export : Names → Option Part → Task
   session : Task
   check : Task
   compare : Option Text → Limits → Task
@@ -19,6 +21,7 @@ pub data Task : Type 0 where
 -- what a request of the code asks
 abbrev pub task_of : Request → Task
 task_of (Batch part) = batch part
+task_of (Export outputs part) = export (names_of outputs) part
 task_of Session = session
 task_of Check = check
 task_of (Compare comparand) = compare (option_map (λ (name : Bor Text). name.now) comparand.octal) comparand.limits

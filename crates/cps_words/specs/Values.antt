@@ -1,7 +1,7 @@
 -- What the values of options and operands name. Our own.
 use Prim.Native.Char.{code}
-use Rattle.std.specs.Prelude.{ℕ, Bool, ◌==◌, ◌&&◌, nat_le, nat_lt, List, [], length, Option, Some, None, if◌then◌else◌, codes, bytes_eq, option_map, unwrap_or}
-use Rattle.std.specs.List.{after_first, before_first, list_all, position_or_len}
+use Rattle.std.specs.Prelude.{ℕ, Bool, true, false, not, ◌==◌, ◌&&◌, nat_le, nat_lt, List, [], ◌∷◌, length, Option, Some, None, is_none, if◌then◌else◌, codes, bytes_eq, option_map, unwrap_or}
+use Rattle.std.specs.List.{after_first, before_first, list_all, list_any, position_or_len}
 use Rattle.std.specs.Char.{is_digit}
 use Rattle.std.specs.Str.Parse.{digits_value}
 use Rattle.clap.specs.Words.{Row, Text, first_of}
@@ -9,6 +9,7 @@ use Rattle.cps_compare.specs.declared.limits.Columns.{Columns}
 use Rattle.cps_compare.specs.declared.limits.Limits.{Limits}
 use Rattle.cps_list.specs.declared.part.Part.{Part}
 use Rattle.cps_list.specs.declared.part.Part.TheVariants.{Listing, Binary, Symbols, Flags, All}
+use Rattle.cps_output.specs.Outputs.{Names}
 
 -- the part that a word names
 abbrev pub part_named : Text → Option Part
@@ -19,10 +20,6 @@ part_named word = if bytes_eq word (codes "listing") then Some Listing
     else if bytes_eq word (codes "all") then Some All
     else None
 
--- the value of `--part`
-abbrev pub part_word : List Row → Text
-part_word rows = unwrap_or (first_of (codes "part") rows) []
-
 -- the file that a word names: standard input, where it is `-`
 abbrev pub file_named : Option Text → Option Text
 file_named None = None
@@ -32,9 +29,57 @@ file_named (Some word) = if bytes_eq word (codes "-") then None else Some word
 abbrev pub file_in : List Row → Option Text
 file_in rows = file_named (first_of (codes "file") rows)
 
+-- ---- files that texts are wanted in
+
+-- the names that the options give
+abbrev pub names_in : List Row → Names
+names_in rows = record {
+  listing = first_of (codes "listing") rows;
+  binary = first_of (codes "binary") rows;
+  symbols = first_of (codes "symbols") rows;
+  flags = first_of (codes "flags") rows;
+}
+
+-- no text is wanted in a file
+abbrev pub wants_no_file : Names → Bool
+wants_no_file names = is_none names.listing && (is_none names.binary && (is_none names.symbols && is_none names.flags))
+
+abbrev pub is_name : Text → Option Text → Bool
+is_name name None = false
+is_name name (Some other) = bytes_eq name other
+
+-- no two of the names that are given are the same
+abbrev pub are_distinct : List (Option Text) → Bool
+are_distinct [] = true
+are_distinct (None ∷ names) = are_distinct names
+are_distinct (Some name ∷ names) = not (list_any (is_name name) names) && are_distinct names
+
+-- a text goes neither to standard output, nor over the source, nor where another text goes
+abbrev pub are_apart : Option Text → Names → Bool
+are_apart source names =
+    are_distinct (Some (codes "-") ∷ source ∷ names.listing ∷ names.binary ∷ names.symbols ∷ names.flags ∷ [])
+
+-- ---- what is explained, or has a help
+
+-- a word is the name of a command
+abbrev pub is_command : Text → Bool
+is_command word = list_any (bytes_eq word)
+    (codes "batch" ∷ codes "session" ∷ codes "check" ∷ codes "compare" ∷ codes "explain" ∷ codes "help" ∷ [])
+
 -- the word that is to be explained
 abbrev pub word_explained : List Row → Text
 word_explained rows = unwrap_or (first_of (codes "word") rows) []
+
+-- ---- options that may be left out
+
+-- what an option names, which is nothing where it is left out; None as a whole where its value names nothing
+abbrev pub value_from : {X : Type 0} → (Text → Option X) → Option Text → Option (Option X)
+value_from named None = Some None
+value_from named (Some word) = option_map (λ value. Some value) (named word)
+
+-- the part that is named
+abbrev pub part_in : List Row → Option (Option Part)
+part_in rows = value_from part_named (first_of (codes "part") rows)
 
 -- ---- what is compared
 
@@ -77,16 +122,11 @@ columns_from word (Some halves) = columns_between (column_named halves.0) (colum
 abbrev pub columns_named : Text → Option Columns
 columns_named word = columns_from word (halves_of word)
 
--- what an option limits, which is nothing where it is left out; None as a whole where its value is wrong
-abbrev pub limit_from : {X : Type 0} → (Text → Option X) → Option Text → Option (Option X)
-limit_from named None = Some None
-limit_from named (Some word) = option_map (λ limit. Some limit) (named word)
-
 abbrev pub limits_from : Option (Option ℕ) → Option (Option ℕ) → Option (Option Columns) → Option Limits
 limits_from (Some from) (Some to) (Some columns) = Some (record { from = from; to = to; columns = columns })
 limits_from _ _ _ = None
 
 -- the limits that the options name, None where one of their values is wrong
 abbrev pub limits_in : List Row → Option Limits
-limits_in rows = limits_from (limit_from address_named (first_of (codes "from") rows)) (limit_from address_named (first_of (codes "to") rows))
-    (limit_from columns_named (first_of (codes "columns") rows))
+limits_in rows = limits_from (value_from address_named (first_of (codes "from") rows)) (value_from address_named (first_of (codes "to") rows))
+    (value_from columns_named (first_of (codes "columns") rows))

@@ -3,11 +3,11 @@ ghost use Rattle.std.specs.Prelude.{◌≡◌, IfOk, false};
 ghost use Rattle.clap.specs.Words.{app_of, new_app, rule_of, with_rule, with_subcommand};
 ghost use Rattle.clap.specs.Simple.{shape_of};
 ghost use Rattle.clap.specs.declared.builder.command.Command.TheViews.{out-Command};
-ghost use Rattle.cps_words.specs.Commands.{bare_compass, batch_shape, check_shape, columns_rule, compare_shape, compass, explain_shape, file_rule, from_rule, octal_rule, part_rule, session_shape, source_rule, to_rule, word_rule};
+ghost use Rattle.cps_words.specs.Commands.{bare_compass, batch_shape, check_shape, compare_shape, compass, explain_shape, help_shape, operand_rule, option_rule, session_shape, wanted_rule};
 
 use super::helps::{
     ABOUT, BATCH_ABOUT, BATCH_MORE, CHECK_ABOUT, CHECK_MORE, COMPARE_ABOUT, COMPARE_MORE,
-    EXPLAIN_ABOUT, EXPLAIN_MORE, MORE, SESSION_ABOUT, SESSION_MORE,
+    EXPLAIN_ABOUT, EXPLAIN_MORE, HELP_ABOUT, HELP_MORE, MORE, SESSION_ABOUT, SESSION_MORE,
 };
 use clap::{Arg, Command};
 use std::alloc::{AllocError, Global};
@@ -22,7 +22,8 @@ pub fn compass_command<'a>(alloc: Global) -> Result<Command<'a>, AllocError>
     let command = with_command(command, session_command(alloc)?)?;
     let command = with_command(command, check_command(alloc)?)?;
     let command = with_command(command, compare_command(alloc)?)?;
-    with_command(command, explain_command(alloc)?)
+    let command = with_command(command, explain_command(alloc)?)?;
+    with_command(command, help_command(alloc)?)
 }
 
 /// `compass` before it has its commands.
@@ -50,28 +51,37 @@ fn batch_command<'a>(alloc: Global) -> Result<Command<'a>, AllocError>
     ensures local { IfOk result (λ command. (out-Command command).has_globals ≡ false) }
 {
     let command = bare_command(alloc, "batch", BATCH_ABOUT, BATCH_MORE);
-    let command = with_argument(command, part_argument(alloc))?;
-    with_argument(command, file_argument(alloc))
-}
-
-fn part_argument<'a>(alloc: Global) -> Arg<'a>
-    ensures rule { rule_of result ≡ part_rule }
-    ensures local { result.global ≡ false }
-{
-    Arg::new(alloc, "part")
-        .long("part")
-        .value_name("PART")
-        .default_value("all")
-        .help("What to write")
-}
-
-fn file_argument<'a>(alloc: Global) -> Arg<'a>
-    ensures rule { rule_of result ≡ file_rule }
-    ensures local { result.global ≡ false }
-{
-    Arg::new(alloc, "file")
-        .value_name("FILE")
-        .help("The source: standard input where it is left out or '-'")
+    let command = with_argument(
+        command,
+        option(
+            alloc,
+            "part",
+            "PART",
+            "What to write [default: all, or none beside files]",
+        ),
+    )?;
+    let command = with_argument(
+        command,
+        option(alloc, "listing", "FILE", "Write the listing into FILE"),
+    )?;
+    let command = with_argument(
+        command,
+        option(alloc, "binary", "FILE", "Write the binary text into FILE"),
+    )?;
+    let command = with_argument(
+        command,
+        option(
+            alloc,
+            "symbols",
+            "FILE",
+            "Write the cross-reference into FILE",
+        ),
+    )?;
+    let command = with_argument(
+        command,
+        option(alloc, "flags", "FILE", "Write the flagged lines into FILE"),
+    )?;
+    with_argument(command, operand(alloc, "file", "FILE", FILE_ABOUT))
 }
 
 fn session_command<'a>(alloc: Global) -> Result<Command<'a>, AllocError>
@@ -79,17 +89,15 @@ fn session_command<'a>(alloc: Global) -> Result<Command<'a>, AllocError>
     ensures local { IfOk result (λ command. (out-Command command).has_globals ≡ false) }
 {
     let command = bare_command(alloc, "session", SESSION_ABOUT, SESSION_MORE);
-    with_argument(command, source_argument(alloc))
-}
-
-fn source_argument<'a>(alloc: Global) -> Arg<'a>
-    ensures rule { rule_of result ≡ source_rule }
-    ensures local { result.global ≡ false }
-{
-    Arg::new(alloc, "source")
-        .long("source")
-        .value_name("FILE")
-        .help("A file whose lines the session begins with")
+    with_argument(
+        command,
+        option(
+            alloc,
+            "source",
+            "FILE",
+            "A file whose lines the session begins with",
+        ),
+    )
 }
 
 fn check_command<'a>(alloc: Global) -> Result<Command<'a>, AllocError>
@@ -97,7 +105,7 @@ fn check_command<'a>(alloc: Global) -> Result<Command<'a>, AllocError>
     ensures local { IfOk result (λ command. (out-Command command).has_globals ≡ false) }
 {
     let command = bare_command(alloc, "check", CHECK_ABOUT, CHECK_MORE);
-    with_argument(command, file_argument(alloc))
+    with_argument(command, operand(alloc, "file", "FILE", FILE_ABOUT))
 }
 
 fn compare_command<'a>(alloc: Global) -> Result<Command<'a>, AllocError>
@@ -105,51 +113,43 @@ fn compare_command<'a>(alloc: Global) -> Result<Command<'a>, AllocError>
     ensures local { IfOk result (λ command. (out-Command command).has_globals ≡ false) }
 {
     let command = bare_command(alloc, "compare", COMPARE_ABOUT, COMPARE_MORE);
-    let command = with_argument(command, from_argument(alloc))?;
-    let command = with_argument(command, to_argument(alloc))?;
-    let command = with_argument(command, columns_argument(alloc))?;
-    let command = with_argument(command, octal_argument(alloc))?;
-    with_argument(command, file_argument(alloc))
-}
-
-fn from_argument<'a>(alloc: Global) -> Arg<'a>
-    ensures rule { rule_of result ≡ from_rule }
-    ensures local { result.global ≡ false }
-{
-    Arg::new(alloc, "from")
-        .long("from")
-        .value_name("A")
-        .help("The first address, in octal [default: OCTAL's first]")
-}
-
-fn to_argument<'a>(alloc: Global) -> Arg<'a>
-    ensures rule { rule_of result ≡ to_rule }
-    ensures local { result.global ≡ false }
-{
-    Arg::new(alloc, "to")
-        .long("to")
-        .value_name("B")
-        .help("The last address, in octal [default: OCTAL's last]")
-}
-
-fn columns_argument<'a>(alloc: Global) -> Arg<'a>
-    ensures rule { rule_of result ≡ columns_rule }
-    ensures local { result.global ≡ false }
-{
-    Arg::new(alloc, "columns")
-        .long("columns")
-        .value_name("F-L")
-        .help("The columns of OCTAL that are read [default: all]")
-}
-
-fn octal_argument<'a>(alloc: Global) -> Arg<'a>
-    ensures rule { rule_of result ≡ octal_rule }
-    ensures local { result.global ≡ false }
-{
-    Arg::new(alloc, "octal")
-        .value_name("OCTAL")
-        .required(true)
-        .help("The octal listing or dump: standard input where it is '-'")
+    let command = with_argument(
+        command,
+        option(
+            alloc,
+            "from",
+            "A",
+            "The first address, in octal [default: OCTAL's first]",
+        ),
+    )?;
+    let command = with_argument(
+        command,
+        option(
+            alloc,
+            "to",
+            "B",
+            "The last address, in octal [default: OCTAL's last]",
+        ),
+    )?;
+    let command = with_argument(
+        command,
+        option(
+            alloc,
+            "columns",
+            "F-L",
+            "The columns of OCTAL that are read [default: all]",
+        ),
+    )?;
+    let command = with_argument(
+        command,
+        wanted_operand(
+            alloc,
+            "octal",
+            "OCTAL",
+            "The octal listing or dump: standard input where it is '-'",
+        ),
+    )?;
+    with_argument(command, operand(alloc, "file", "FILE", FILE_ABOUT))
 }
 
 fn explain_command<'a>(alloc: Global) -> Result<Command<'a>, AllocError>
@@ -157,17 +157,63 @@ fn explain_command<'a>(alloc: Global) -> Result<Command<'a>, AllocError>
     ensures local { IfOk result (λ command. (out-Command command).has_globals ≡ false) }
 {
     let command = bare_command(alloc, "explain", EXPLAIN_ABOUT, EXPLAIN_MORE);
-    with_argument(command, word_argument(alloc))
+    with_argument(
+        command,
+        wanted_operand(
+            alloc,
+            "word",
+            "WORD",
+            "The letter of a flag, or the name of an operation",
+        ),
+    )
 }
 
-fn word_argument<'a>(alloc: Global) -> Arg<'a>
-    ensures rule { rule_of result ≡ word_rule }
+fn help_command<'a>(alloc: Global) -> Result<Command<'a>, AllocError>
+    ensures shape { IfOk result (λ command. shape_of command ≡ help_shape) }
+    ensures local { IfOk result (λ command. (out-Command command).has_globals ≡ false) }
+{
+    let command = bare_command(alloc, "help", HELP_ABOUT, HELP_MORE);
+    with_argument(
+        command,
+        operand(
+            alloc,
+            "command",
+            "COMMAND",
+            "The command: the program where it is left out",
+        ),
+    )
+}
+
+const FILE_ABOUT: &str = "The source: standard input where it is left out or '-'";
+
+/// `--NAME VALUE`, which may be left out.
+fn option<'a>(alloc: Global, name: &'a str, value: &'a str, help: &'a str) -> Arg<'a>
+    ensures rule { rule_of result ≡ option_rule name.entry.now }
     ensures local { result.global ≡ false }
 {
-    Arg::new(alloc, "word")
-        .value_name("WORD")
+    Arg::new(alloc, name)
+        .long(name)
+        .value_name(value)
+        .help(help)
+}
+
+/// An operand, which may be left out.
+fn operand<'a>(alloc: Global, name: &'a str, value: &'a str, help: &'a str) -> Arg<'a>
+    ensures rule { rule_of result ≡ operand_rule name.entry.now }
+    ensures local { result.global ≡ false }
+{
+    Arg::new(alloc, name).value_name(value).help(help)
+}
+
+/// An operand that is wanted.
+fn wanted_operand<'a>(alloc: Global, name: &'a str, value: &'a str, help: &'a str) -> Arg<'a>
+    ensures rule { rule_of result ≡ wanted_rule name.entry.now }
+    ensures local { result.global ≡ false }
+{
+    Arg::new(alloc, name)
+        .value_name(value)
         .required(true)
-        .help("The letter of a flag, or the name of an operation")
+        .help(help)
 }
 
 /// A command without arguments, with its help.

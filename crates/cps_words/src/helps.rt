@@ -22,6 +22,10 @@ The source is read from FILE, and its PART is written to standard output:
   flags    the flagged lines, and their count
   all      these four, in this order
 
+--listing, --binary, --symbols and --flags write a text into a file of its own,
+which then has the whole text, or stays as it was. Beside them nothing goes to
+standard output but a PART that --part names.
+
 Exit status:
   0  no line is flagged
   1  a line is flagged, or a range is open at the end
@@ -100,3 +104,12 @@ Exit status:
   0  WORD is explained
   2  there is no such flag or operation, or a fault, which is said on standard
      error";
+
+pub const HELP_ABOUT: &str = "Write the help of the program or of a command";
+
+pub const HELP_MORE: &str = "\
+'compass help COMMAND' writes what 'compass COMMAND --help' does.
+
+Exit status:
+  0  the help is written
+  2  there is no such command, or a fault, which is said on standard error";

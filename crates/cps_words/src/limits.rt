@@ -2,7 +2,7 @@
 ghost use Rattle.std.specs.Prelude.{◌<◌, ◌^◌, IfOk, option_map};
 ghost use Rattle.std.specs.Option.{ForSome};
 ghost use Rattle.clap.specs.Words.{found_of, rows_of};
-ghost use Rattle.cps_words.specs.Values.{address_named, columns_named, limit_from, limits_in};
+ghost use Rattle.cps_words.specs.Values.{address_named, columns_named, value_from, limits_in};
 ghost use Rattle.cps_words.specs.Reading.{ReadsValue};
 
 use super::numbers::{read_address, read_columns};
@@ -29,7 +29,7 @@ fn read_address_limit(
     option: &str,
     word: Option<&str>,
 ) -> Result<Option<u32>, Unread>
-    ensures limit { ReadsValue (limit_from address_named (option_map (λ word. word.now) word.entry)) result }
+    ensures limit { ReadsValue (value_from address_named (option_map (λ word. word.now) word.entry)) result }
     ensures low { IfOk result (λ address. ForSome address (λ address. address < 2 ^ 18)) }
 {
     let Some(word) = word else {
@@ -43,7 +43,7 @@ fn read_address_limit(
 
 /// The columns that an option names, None where it is left out.
 fn read_columns_limit(alloc: Global, word: Option<&str>) -> Result<Option<Columns>, Unread>
-    ensures { ReadsValue (limit_from columns_named (option_map (λ word. word.now) word.entry)) result }
+    ensures { ReadsValue (value_from columns_named (option_map (λ word. word.now) word.entry)) result }
 {
     let Some(word) = word else {
         return Ok(None);

@@ -1,17 +1,21 @@
 //! The words of a call of the program, and what they ask.
-ghost use Rattle.std.specs.Prelude.{◌≡◌, ◌⊎◌, IfOk, IfErr, None};
+ghost use Rattle.std.specs.Prelude.{◌≡◌, ◌⊎◌, IfOk, IfErr, None, option_map};
 ghost use Rattle.clap.specs.Words.{found_of, rows_of, subcommand_rows_of};
 ghost use Rattle.clap.specs.Walk.{texts};
 ghost use Rattle.cps_words.specs.Request.{IsAnswer, answer_from, answer_named, answer_of, answer_of_batch, answer_of_compare, answer_of_session, asked_by, request_of};
-ghost use Rattle.cps_words.specs.Reading.{Reads};
+ghost use Rattle.cps_words.specs.Reading.{Reads, ReadsValue};
+ghost use Rattle.cps_words.specs.Values.{part_named, value_from};
 
 use super::command_line::compass_command;
 use super::comparand::Comparand;
+use super::help::read_help;
 use super::limits::read_limits;
+use super::outputs::{are_apart, read_outputs, say_taken, wants_no_file};
 use super::unread::{Unread, say, say_no_part, say_wrong_value, wrong};
-use super::values::{read_file, read_part, word_in};
+use super::values::{part_of_name, read_file, word_in};
 use clap::ArgMatches;
 use cps_list::Part;
+use cps_output::Outputs;
 use std::alloc::Global;
 
 /// What a call of the program asks.
@@ -19,6 +23,8 @@ use std::alloc::Global;
 pub enum Request<'a> {
     /// To assemble a source, and to write a part of that.
     Batch(Part),
+    /// To assemble a source, to write texts of that into files, and then a part, None where none is wanted.
+    Export(Outputs<'a>, Option<Part>),
     /// To run a script, over a source that begins with the lines of the call's file, or with no line where there is none.
     Session,
     /// To tell what is wrong in a source.
@@ -82,6 +88,7 @@ fn read_command<'a>(alloc: Global, name: &str, values: &ArgMatches<'a>) -> Resul
             request: Request::Explain(word_in(values, "word").unwrap_or("")),
             file: None,
         }),
+        "help" => read_help(alloc, word_in(values, "command")),
         _ => Err(wrong(alloc, NO_COMMAND)),
     }
 }
@@ -89,12 +96,33 @@ fn read_command<'a>(alloc: Global, name: &str, values: &ArgMatches<'a>) -> Resul
 fn read_batch<'a>(alloc: Global, values: &ArgMatches<'a>) -> Result<Call<'a>, Unread>
     ensures { Reads (answer_of_batch (rows_of (found_of values.now))) result }
 {
-    let word = word_in(values, "part").unwrap_or("");
-    match read_part(word) {
-        Some(part) => Ok(Call {
-            request: Request::Batch(part),
-            file: read_file(word_in(values, "file")),
-        }),
+    let part = read_part(alloc, word_in(values, "part"))?;
+    let file = read_file(word_in(values, "file"));
+    let outputs = read_outputs(values);
+    if wants_no_file(outputs) {
+        return Ok(Call {
+            request: Request::Batch(part.unwrap_or(Part::All)),
+            file,
+        });
+    }
+    if !are_apart(file, outputs) {
+        return Err(say_taken(alloc, file, outputs));
+    }
+    Ok(Call {
+        request: Request::Export(outputs, part),
+        file,
+    })
+}
+
+/// The part that a word names, None where there is no word.
+fn read_part(alloc: Global, word: Option<&str>) -> Result<Option<Part>, Unread>
+    ensures { ReadsValue (value_from part_named (option_map (λ word. word.now) word.entry)) result }
+{
+    let Some(word) = word else {
+        return Ok(None);
+    };
+    match part_of_name(word) {
+        Some(part) => Ok(Some(part)),
         None => Err(say_no_part(alloc, word)),
     }
 }

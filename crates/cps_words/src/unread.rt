@@ -39,6 +39,19 @@ pub fn say_no_part(alloc: Global, word: &str) -> Unread
     }
 }
 
+/// What is said of a word that names no command.
+pub fn say_no_command(alloc: Global, word: &str) -> Unread
+    ensures { (result ≡ Unread.Memory) ⊎ IsWrong result }
+{
+    let text = format!(in alloc;
+        "error: unrecognized subcommand '{word}'\n\nFor more information, try '--help'.\n"
+    );
+    match text {
+        Ok(text) => wrong(alloc, &text),
+        Err(_) => Unread::Memory,
+    }
+}
+
 /// What is said of a value that an option can't have, with what to write.
 pub fn say_wrong_value(alloc: Global, option: &str, word: &str, wanted: &str) -> Unread
     ensures { IsRefusal result }

@@ -24,7 +24,7 @@ pub fn read_file(word: Option<&str>) -> Option<&str>
 }
 
 /// The part that a word names.
-pub fn read_part(word: &str) -> Option<Part>
+pub fn part_of_name(word: &str) -> Option<Part>
     ensures { result ≡ part_named word.now }
 {
     match word {

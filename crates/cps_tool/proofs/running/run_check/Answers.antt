@@ -2,7 +2,7 @@ use Rattle.std.specs.Prelude.{Ok, Err}
 use Rattle.cps_tool.proofs.running.run_check.Goals as goal
 
 pub returns-in-Ok-clause-calls : goal.returns-in-Ok-clause-calls
-returns-in-Ok-clause-calls g c = (Ok c.in-Ok.is_told, c.args.name.now, c.status_of_told.ensures, c.in-Ok.ensures.run)
+returns-in-Ok-clause-calls g c = (Ok c.in-Ok.is_wrong, c.status_of_check.ensures, c.in-Ok.ensures.run)
 
 pub returns-in-Err-clause-calls : goal.returns-in-Err-clause-calls
-returns-in-Err-clause-calls g c = (Err c.in-Err.fault, c.args.name.now, c.complain_of.ensures, c.in-Err.ensures.run)
+returns-in-Err-clause-calls g c = (Err c.in-Err.fault, c.complain_of.ensures, c.in-Err.ensures.run)

@@ -5,11 +5,11 @@ use Rattle.cps_words.proofs.command_line.compare_command.Goals as goal
 
 pub returns-clause-shape : goal.returns-clause-shape
 returns-clause-shape c =
-    let with_from = c.in_ok-command.ensures.app ∙ ap₂ with_rule c.bare_command-command.ensures.app c.from_argument.ensures.rule in
-    let with_to = c.in_ok-command-2.ensures.app ∙ ap₂ with_rule with_from c.to_argument.ensures.rule in
-    let with_columns = c.in_ok-command-3.ensures.app ∙ ap₂ with_rule with_to c.columns_argument.ensures.rule in
-    let with_octal = c.in_ok-command-4.ensures.app ∙ ap₂ with_rule with_columns c.octal_argument.ensures.rule in
-    IfOk-weaker c.with_argument-5.result _ _ (λ r h. ap (λ (a : App). a.top) (h ∙ ap₂ with_rule with_octal c.file_argument.ensures.rule))
+    let with_from = c.in_ok-command.ensures.app ∙ ap₂ with_rule c.bare_command-command.ensures.app c.option.ensures.rule in
+    let with_to = c.in_ok-command-2.ensures.app ∙ ap₂ with_rule with_from c.option-2.ensures.rule in
+    let with_columns = c.in_ok-command-3.ensures.app ∙ ap₂ with_rule with_to c.option-3.ensures.rule in
+    let with_octal = c.in_ok-command-4.ensures.app ∙ ap₂ with_rule with_columns c.wanted_operand.ensures.rule in
+    IfOk-weaker c.with_argument-5.result _ _ (λ r h. ap (λ (a : App). a.top) (h ∙ ap₂ with_rule with_octal c.operand.ensures.rule))
     c.with_argument-5.ensures.app
 
 pub returns-clause-local : goal.returns-clause-local

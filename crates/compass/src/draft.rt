@@ -1,0 +1,88 @@
+//! Files of the machine that aren't in their places yet.
+use super::successor::Successor;
+use std::fs::{File, OpenOptions};
+use std::io::{ErrorKind, Write};
+use std::{fs, io};
+
+/// The names of standard output.
+const OUTPUT: [&str; 3] = ["/dev/stdout", "/dev/fd/1", "/proc/self/fd/1"];
+
+/// How the names begin of what a process has open already.
+const OPEN_ALREADY: [&str; 3] = ["/dev/std", "/dev/fd/", "/proc/"];
+
+/// A file that isn't in its place yet; or what is no regular file, which is written in its place.
+#[derive(Drop)]
+pub enum Draft<'a> {
+    Successor(Successor),
+    /// A device or a pipe, or what a process has open already.
+    InPlace(File),
+    /// Standard output, which goes on where it is.
+    Output(&'a HostRuntime),
+}
+
+impl<'a> Draft<'a> {
+    /// Makes a draft of the file of that name. A file that stands must be one that may be written, and no directory.
+    pub fn new(rt: &'a HostRuntime, name: &str) -> io::Result<Draft<'a>> {
+        if OUTPUT.contains(&name) {
+            return Ok(Draft::Output(rt));
+        }
+        match fs::metadata(rt, name) {
+            Ok(standing) if standing.is_file() && !is_open_already(name) => {
+                Ok(Draft::Successor(Successor::over(rt, name, &standing)?))
+            }
+            Ok(_) => Ok(Draft::InPlace(open_at_end(rt, name)?)),
+            Err(error) if error.kind() == ErrorKind::NotFound && is_free(rt, name) => {
+                Ok(Draft::Successor(Successor::new(rt, name)?))
+            }
+            Err(error) => Err(error),
+        }
+    }
+
+    /// Puts it in its place. What can't be put there is discarded.
+    pub fn place(self, rt: &HostRuntime) -> io::Result<()> {
+        match self {
+            Draft::Successor(file) => file.place(rt),
+            Draft::InPlace(_) | Draft::Output(_) => Ok(()),
+        }
+    }
+
+    /// Takes it away. What was written in its place stays.
+    pub fn discard(self, rt: &HostRuntime) {
+        if let Draft::Successor(file) = self {
+            file.remove(rt);
+        }
+    }
+}
+
+impl Write for Draft<'_> {
+    fn write(&mut self, buf: &[u8]) -> io::Result<usize> {
+        match self {
+            Draft::Successor(file) => file.write(buf),
+            Draft::InPlace(file) => file.write(buf),
+            Draft::Output(rt) => io::writer(*rt).write(buf),
+        }
+    }
+
+    /// Sees that a file is kept at a power failure too.
+    fn flush(&mut self) -> io::Result<()> {
+        match self {
+            Draft::Successor(file) => file.flush(),
+            Draft::InPlace(_) | Draft::Output(_) => Ok(()),
+        }
+    }
+}
+
+/// Opens what is written behind what it has. The machine refuses a directory.
+fn open_at_end(rt: &HostRuntime, name: &str) -> io::Result<File> {
+    OpenOptions::new().append(true).open(rt, name)
+}
+
+/// Whether a name is that of what a process has open already.
+fn is_open_already(name: &str) -> bool {
+    OPEN_ALREADY.iter().any(|front| name.starts_with(*front))
+}
+
+/// Whether nothing stands under a name, and no link to nothing either.
+fn is_free(rt: &HostRuntime, name: &str) -> bool {
+    !name.is_empty() && fs::symlink_metadata(rt, name).is_err()
+}

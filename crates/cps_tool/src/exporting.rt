@@ -1,0 +1,53 @@
+//! A source, written into files.
+ghost use Rattle.std.specs.Prelude.{◌≡◌};
+ghost use Rattle.cps_output.specs.Export.{wanted_of};
+ghost use Rattle.cps_tool.specs.CommandLine.{Exported, IsQuiet};
+
+use super::host::Host;
+use super::telling::{NO_MEMORY, complain, status_of_count};
+use cps_output::{Export, ExportFault, Targets, export_source};
+use cps_text::Counted;
+use cps_words::shown;
+use std::alloc::{AllocError, Global};
+use std::io::{Read, Write};
+
+/// Writes what is wanted of the source that a reader gives. A fault is told.
+pub fn run_export<'a, S: Targets, R: Read, W: Write, E: Write>(
+    host: &mut Host<S>,
+    export: Export<'a>,
+    reader: &mut Counted<R>,
+    writer: &mut Counted<W>,
+    errors: &mut Counted<E>,
+) -> u8
+    ensures exported { Exported S.placed R.remaining W.contents (wanted_of export.entry) result
+        host.old.files host.new.files reader.old reader.new writer.old writer.new }
+    ensures waiting { S.waiting host.new.files ≡ S.waiting host.old.files }
+    ensures quiet { IsQuiet result errors.old errors.new }
+{
+    match export_source(host.alloc, export, &mut host.files, reader, writer) {
+        Ok(count) => status_of_count(count),
+        Err(fault) => complain_of_export(host.alloc, &fault, errors),
+    }
+}
+
+/// Tells why not all is made that is wanted.
+fn complain_of_export<E: Write>(
+    alloc: Global,
+    fault: &ExportFault<'_>,
+    errors: &mut Counted<E>,
+) -> u8
+    ensures { result ≡ 2 }
+{
+    match line_of(alloc, fault) {
+        Ok(line) => complain(errors, line.as_str()),
+        Err(_) => complain(errors, NO_MEMORY),
+    }
+}
+
+/// The line that tells a fault.
+fn line_of(alloc: Global, fault: &ExportFault<'_>) -> Result<String, AllocError> {
+    let text = fault.text(alloc)?;
+    let mut line = shown(alloc, &text)?;
+    line.push('\n')?;
+    Ok(line)
+}
