@@ -5,21 +5,20 @@ use cps_text::Counted;
 use std::alloc::Global;
 use std::process::Abort;
 
-/// Asserts of each text of a table that this is told of it under the name `a.cps`.
-pub fn assert_rows(rt: &impl Abort, alloc: Global, rows: &[(&[u8], &str)]) {
-    for (at, (text, want)) in rows.iter().enumerate() {
-        assert_row(rt, alloc, at, text, want);
+/// Asserts of each text of a table that the answer says whether an error is told, and that this is told of it under the name `a.cps`.
+pub fn assert_rows(rt: &impl Abort, alloc: Global, rows: &[(&[u8], bool, &str)]) {
+    for (at, (text, is_wrong, want)) in rows.iter().enumerate() {
+        let mut reader = Counted::new(*text);
+        let mut writer = Counted::new(Vec::new(alloc));
+        let end = run(alloc, &mut reader, &mut writer);
+        assert_end(rt, end, Ok(*is_wrong));
+        let told = writer.into_inner();
+        assert_row(rt, at, &told, want);
     }
 }
 
-/// Asserts that this is told of a text, and that the answer says whether anything is.
-fn assert_row(rt: &impl Abort, alloc: Global, at: usize, text: &[u8], want: &str) {
-    let mut reader = Counted::new(text);
-    let mut writer = Counted::new(Vec::new(alloc));
-    let end = run(alloc, &mut reader, &mut writer);
-    assert_end(rt, end, Ok(!want.is_empty()));
-    let told = writer.into_inner();
-    assert_eq!(rt; str::from_utf8(&told).ok(), Some(want), "row {at}");
+fn assert_row(rt: &impl Abort, at: usize, got: &[u8], want: &str) {
+    assert_eq!(rt; str::from_utf8(got).ok(), Some(want), "row {at}");
 }
 
 /// Asserts what a check answers.

@@ -1,8 +1,8 @@
 //! Inputs that fail, and outputs.
 use super::assertions::assert_end;
-use super::devices::{FailingReader, SlowWriter};
 use super::running::run;
 use cps_check::CheckFault;
+use cps_devices::{SlowReader, SlowWriter};
 use cps_text::Counted;
 use std::alloc::Global;
 use std::process::Abort;
@@ -10,7 +10,10 @@ use std::process::Abort;
 /// Where a read fails nothing is written.
 #[test]
 fn tells_a_failed_read(rt: HostRuntime) {
-    let mut reader = Counted::new(FailingReader { rest: b"A\n" });
+    let mut reader = Counted::new(SlowReader {
+        rest: b"A\n",
+        fails: true,
+    });
     let mut writer = Counted::new(Vec::new(rt.alloc()));
     let end = run(rt.alloc(), &mut reader, &mut writer);
     assert_end(&rt, end, Err(CheckFault::ReadFault));

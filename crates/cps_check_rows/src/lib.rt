@@ -2,8 +2,8 @@
 //!
 //! - `assertions.rt`: assertions
 //! - `device_rows.rt`: inputs that fail, and outputs
-//! - `devices.rt`: readers and writers that fail
 //! - `line_rows.rt`: what is told of lines
+//! - `note_rows.rt`: notes
 //! - `running.rt`: a run of a check
 //! - `source_rows.rt`: what is told of a source as a whole
 #![tactic(auto)]
@@ -13,9 +13,9 @@ mod assertions;
 #[cfg(test)]
 mod device_rows;
 #[cfg(test)]
-mod devices;
-#[cfg(test)]
 mod line_rows;
+#[cfg(test)]
+mod note_rows;
 #[cfg(test)]
 mod running;
 #[cfg(test)]

@@ -8,14 +8,7 @@ use cps_text::Name;
 use std::alloc::{AllocError, Global};
 
 /// What SET gave T and U, and the words where A, B and C stand.
-#[derive(Clone, Copy, Debug, PartialEq, Eq)]
-struct Seen {
-    t: Option<i64>,
-    u: Option<i64>,
-    a: Option<i64>,
-    b: Option<i64>,
-    c: Option<i64>,
-}
+type Seen = [Option<i64>; 5];
 
 fn setting<L: Lookup>(state: &L, symbol: &[u8]) -> Option<i64> {
     let value = value_of(state.ask(&Key::Setting(Name::read(symbol)?)))?;
@@ -28,13 +21,13 @@ fn label<L: Lookup>(state: &L, symbol: &[u8]) -> Option<i64> {
 }
 
 fn seen_in<L: Lookup>(state: &L) -> Seen {
-    Seen {
-        t: setting(state, b"T"),
-        u: setting(state, b"U"),
-        a: label(state, b"A"),
-        b: label(state, b"B"),
-        c: label(state, b"C"),
-    }
+    [
+        setting(state, b"T"),
+        setting(state, b"U"),
+        label(state, b"A"),
+        label(state, b"B"),
+        label(state, b"C"),
+    ]
 }
 
 /// In front of an edit behind these lines, of which the last two are in no chunk.
@@ -84,13 +77,7 @@ const LINES: [&str; 8] = [
 
 #[test]
 fn finds_what_stands_in_front(rt: HostRuntime) {
-    let seen = Seen {
-        t: Some(3),
-        u: Some(2),
-        a: Some(0),
-        b: Some(1),
-        c: Some(2),
-    };
+    let seen = [Some(3), Some(2), Some(0), Some(1), Some(2)];
     let both = find_both(rt.alloc(), &LINES);
     assert_eq!(&rt; both, Some((seen, seen)));
 }

@@ -6,19 +6,14 @@ use cps_pass::{Hashing, State, Trace};
 use std::alloc::Global;
 
 /// How many labels, blocks and literals a run names.
-#[derive(Clone, Copy, Debug, PartialEq, Eq)]
-struct Counts {
-    labels: usize,
-    blocks: usize,
-    literals: usize,
-}
+type Counts = [usize; 3];
 
 fn counts_of(names: &Names) -> Counts {
-    Counts {
-        labels: names.labels().len(),
-        blocks: names.blocks().len(),
-        literals: names.literals().len(),
-    }
+    [
+        names.labels().len(),
+        names.blocks().len(),
+        names.literals().len(),
+    ]
 }
 
 fn count(alloc: Global, traces: &[Trace]) -> Option<Counts> {
@@ -58,11 +53,6 @@ const LINES: [&str; 6] = [
 
 #[test]
 fn names_each_once(rt: HostRuntime) {
-    let counts = Counts {
-        labels: 2,
-        blocks: 2,
-        literals: 1,
-    };
     let counted = counts_over(rt.alloc(), &LINES);
-    assert_eq!(&rt; counted, Some(counts));
+    assert_eq!(&rt; counted, Some([2, 2, 1]));
 }

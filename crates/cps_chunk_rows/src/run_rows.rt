@@ -7,13 +7,7 @@ use cps_pass::{Hashing, Lookup, State, Trace};
 use std::alloc::{AllocError, Global};
 
 /// How many lines the chunk of a run has, how many keys the run puts at, and whether it stands in the state in front of it and in the one behind it.
-#[derive(Clone, Copy, Debug, PartialEq, Eq)]
-struct Seen {
-    lines: Option<usize>,
-    keys: usize,
-    in_front: bool,
-    behind: bool,
-}
+type Seen = (Option<usize>, usize, bool, bool);
 
 /// How many lines the chunk of all these lines has, once what they did is gathered.
 fn gather_lines(alloc: Global, traces: &[Trace]) -> Result<Option<usize>, AllocError> {
@@ -33,12 +27,8 @@ fn lines_gathered(alloc: Global, traces: &[Trace]) -> Option<usize> {
 }
 
 fn seen_of(run: &Run, lines: Option<usize>, front: &State, behind: &State) -> Seen {
-    Seen {
-        lines,
-        keys: run.lasts().iter().filter(|is_last| **is_last).count(),
-        in_front: run.stands_in(front),
-        behind: run.stands_in(behind),
-    }
+    let keys = run.lasts().iter().filter(|is_last| **is_last).count();
+    (lines, keys, run.stands_in(front), run.stands_in(behind))
 }
 
 fn see(alloc: Global, traces: &[Trace], front: &State, behind: &State) -> Option<Seen> {
@@ -78,12 +68,6 @@ const LINES: [&str; 3] = [
 
 #[test]
 fn puts_at_each_key_once(rt: HostRuntime) {
-    let seen = Seen {
-        lines: Some(3),
-        keys: 4,
-        in_front: true,
-        behind: false,
-    };
     let found = run_over(rt.alloc(), &LINES);
-    assert_eq!(&rt; found, Some(seen));
+    assert_eq!(&rt; found, Some((Some(3), 4, true, false)));
 }

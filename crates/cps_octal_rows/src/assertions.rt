@@ -29,13 +29,9 @@ pub fn assert_told(rt: &impl Abort, alloc: Global, at: usize, row: &Row, limits:
     requires { ForSome limits.to (λ to. to < 2 ^ 18) }
 {
     let (octal, source, differing, told) = *row;
-    match ran(alloc, octal, source, limits) {
-        Some(ran) => {
-            assert_ran(rt, at, &ran, Ok(differing), told);
-            drop(ran);
-        }
-        None => assert_row(rt, at, b"no memory", told),
-    }
+    let ran = ran(rt, alloc, octal, source, limits);
+    assert_ran(rt, at, &ran, Ok(differing), told);
+    drop(ran);
 }
 
 /// Asserts that a comparison of these lines ends with a fault and writes nothing.
@@ -46,21 +42,17 @@ pub fn assert_fault(
     source: &[&str],
     fault: OctalFault,
 ) {
-    match ran(alloc, octal, source, ALL) {
-        Some(ran) => {
-            assert_ran(rt, 0, &ran, Err(fault), "");
-            drop(ran);
-        }
-        None => assert_row(rt, 0, b"no memory", ""),
-    }
+    let ran = ran(rt, alloc, octal, source, ALL);
+    assert_ran(rt, 0, &ran, Err(fault), "");
+    drop(ran);
 }
 
-fn ran(alloc: Global, octal: &[&str], source: &[&str], limits: Limits) -> Option<Ran>
+fn ran(rt: &impl Abort, alloc: Global, octal: &[&str], source: &[&str], limits: Limits) -> Ran
     requires { ForSome limits.to (λ to. to < 2 ^ 18) }
 {
-    let octal = joined(alloc, octal)?;
-    let source = joined(alloc, source)?;
-    Some(run(alloc, &octal, &source, limits))
+    let octal = joined(rt, alloc, octal);
+    let source = joined(rt, alloc, source);
+    run(alloc, &octal, &source, limits)
 }
 
 fn assert_ran(rt: &impl Abort, at: usize, got: &Ran, want: Result<u32, OctalFault>, told: &str) {

@@ -1,7 +1,7 @@
 //! Reads and writes that fail.
 use super::assertions::assert_same;
-use super::devices::{FailingReader, FailingWriter};
 use super::running::{ALL, run_between};
+use cps_devices::{SlowReader, SlowWriter};
 use cps_input::InputFault;
 use cps_octal::OctalFault;
 use cps_text::Counted;
@@ -18,7 +18,10 @@ const TOLD: &[u8] = b"0 of 1 words differ (000100 to 000100)\n";
 /// Where a read of the octal text fails the source isn't read.
 #[test]
 fn tells_a_failed_read_of_the_octal_text(rt: HostRuntime) {
-    let mut octal = Counted::new(FailingReader { rest: OCTAL });
+    let mut octal = Counted::new(SlowReader {
+        rest: OCTAL,
+        fails: true,
+    });
     let mut source = Counted::new(SOURCE);
     let mut writer = Counted::new(Vec::new(rt.alloc()));
     let end = run_between(rt.alloc(), ALL, &mut octal, &mut source, &mut writer);
@@ -32,7 +35,10 @@ fn tells_a_failed_read_of_the_octal_text(rt: HostRuntime) {
 #[test]
 fn tells_a_failed_read_of_the_source(rt: HostRuntime) {
     let mut octal = Counted::new(OCTAL);
-    let mut source = Counted::new(FailingReader { rest: b"`\n" });
+    let mut source = Counted::new(SlowReader {
+        rest: b"`\n",
+        fails: true,
+    });
     let mut writer = Counted::new(Vec::new(rt.alloc()));
     let end = run_between(rt.alloc(), ALL, &mut octal, &mut source, &mut writer);
     let want = Err(OctalFault::Source(InputFault::ReadFault));
@@ -45,7 +51,7 @@ fn tells_a_failed_read_of_the_source(rt: HostRuntime) {
 fn assert_failed_write(rt: &impl Abort, alloc: Global, room: usize, want: &[u8]) {
     let mut octal = Counted::new(OCTAL);
     let mut source = Counted::new(SOURCE);
-    let mut writer = Counted::new(FailingWriter {
+    let mut writer = Counted::new(SlowWriter {
         taken: Vec::new(alloc),
         room,
     });

@@ -2,7 +2,6 @@
 //!
 //! - `assertions.rt`: assertions
 //! - `device_rows.rt`: reads and writes that fail
-//! - `devices.rt`: readers and writers that fail
 //! - `limit_rows.rt`: addresses and columns that are asked for
 //! - `row_rows.rt`: rows of octal texts in their forms
 //! - `running.rt`: the run of a comparison
@@ -13,8 +12,6 @@
 mod assertions;
 #[cfg(test)]
 mod device_rows;
-#[cfg(test)]
-mod devices;
 #[cfg(test)]
 mod limit_rows;
 #[cfg(test)]

@@ -8,6 +8,7 @@ use cps_pass::Hashing;
 use cps_text::Counted;
 use std::alloc::Global;
 use std::io::{Read, Write};
+use std::process::Abort;
 
 /// All addresses for which the octal text gives digits, and all columns.
 pub const ALL: Limits = Limits {
@@ -23,15 +24,14 @@ pub struct Ran {
     pub text: Vec<u8>,
 }
 
-/// The bytes of these lines, each with a newline. None: no memory.
-pub fn joined(alloc: Global, lines: &[&str]) -> Option<Vec<u8>> {
+/// The bytes of these lines, each with a newline.
+pub fn joined(rt: &impl Abort, alloc: Global, lines: &[&str]) -> Vec<u8> {
     let mut text = Vec::new(alloc);
-    let mut is_whole = true;
     for line in lines {
-        let is_joined = text.extend_from_slice(line.as_bytes()).is_ok();
-        is_whole = text.push(b'\n').is_ok() && is_joined && is_whole;
+        text.extend_from_slice(line.as_bytes()).expect(rt, "memory");
+        text.push(b'\n').expect(rt, "memory");
     }
-    if is_whole { Some(text) } else { None }
+    text
 }
 
 /// Compares texts that are read at once.

@@ -6,6 +6,7 @@ use cps_source::Source;
 use cps_text::Line;
 use cps_text::limits::MOST_LINES;
 use std::alloc::Global;
+use std::process::Abort;
 
 /// What became of the texts of a source.
 #[derive(Drop)]
@@ -17,45 +18,47 @@ pub struct Ran {
     pub waiting: u64,
 }
 
-/// Writes the texts of a source where one call of the files fails. None where there is no memory.
-pub fn run(alloc: Global, source: &str, outputs: Outputs<'_>, failing: u64) -> Option<Ran> {
-    let source = assemble(alloc, source)?;
+/// Writes the texts of a source where one call of the files fails.
+pub fn run(
+    rt: &impl Abort,
+    alloc: Global,
+    source: &str,
+    outputs: Outputs<'_>,
+    failing: u64,
+) -> Ran {
+    let source = assemble(rt, alloc, source);
     let calls = Calls::failing_at(failing);
     let mut shelf = Shelf::new(alloc, &calls);
-    let told = tell(alloc, &mut shelf, &source, outputs);
+    let told = tell(rt, alloc, &mut shelf, &source, outputs);
     drop(source);
     let (placed, waiting) = shelf.into_parts();
-    Some(Ran {
-        told: told?,
+    Ran {
+        told,
         placed,
         waiting,
-    })
+    }
 }
 
-/// What is told of the fault. None where there is no memory to tell it.
+/// What is told of the fault, None where there is none.
 fn tell(
+    rt: &impl Abort,
     alloc: Global,
     shelf: &mut Shelf<'_>,
     source: &Source,
     outputs: Outputs<'_>,
-) -> Option<Option<String>> {
+) -> Option<String> {
     match write_outputs(alloc, shelf, source, outputs) {
-        Ok(()) => Some(None),
-        Err(fault) => match fault.text(alloc) {
-            Ok(text) => Some(Some(text)),
-            Err(_) => None,
-        },
+        Ok(()) => None,
+        Err(fault) => Some(fault.text(alloc).expect(rt, "memory")),
     }
 }
 
-fn assemble(alloc: Global, source: &str) -> Option<Source> {
+fn assemble(rt: &impl Abort, alloc: Global, source: &str) -> Source {
     let mut lines = Vec::new(alloc);
     for text in source.lines() {
-        let line = Line::new(alloc, text.as_bytes()).ok()?;
-        lines.push(line).ok()?;
+        let line = Line::new(alloc, text.as_bytes()).expect(rt, "a line");
+        lines.push(line).expect(rt, "memory");
     }
-    if lines.len() > MOST_LINES as usize {
-        return None;
-    }
-    Source::of(alloc, Hashing::by(1), lines).ok()
+    assert!(rt; lines.len() <= MOST_LINES as usize);
+    Source::of(alloc, Hashing::by(1), lines).expect(rt, "memory")
 }

@@ -1,5 +1,5 @@
 //! What is told, and which files are placed.
-use super::running::{Ran, run};
+use super::running::run;
 use cps_output::Outputs;
 use std::alloc::Global;
 use std::process::Abort;
@@ -45,53 +45,41 @@ const ALL: Outputs<'static> = Outputs {
     flags: Some("t1.flags"),
 };
 
+/// A call that fails, and what is told then.
+type Row = (u64, Option<&'static str>);
+
 /// Asserts what is told where one call fails, and that these files are placed and no other, and no draft is left.
-fn assert_ran(
-    rt: &impl Abort,
-    failing: u64,
-    ran: &Option<Ran>,
-    told: Option<&str>,
-    files: &[(&str, &str)],
-) {
-    match ran {
-        Some(ran) => {
-            assert_eq!(rt; ran.told.as_deref(), told, "call {failing}, told");
-            assert_eq!(rt; ran.waiting, 0, "call {failing}, drafts");
-            assert_placed(rt, failing, ran, files);
-        }
-        None => assert!(rt; false, "call {failing}, no memory"),
-    }
-}
-
-fn assert_placed(rt: &impl Abort, failing: u64, ran: &Ran, files: &[(&str, &str)]) {
-    assert_eq!(rt; ran.placed.len(), files.len(), "call {failing}, files");
-    for (placed, (name, text)) in ran.placed.iter().zip(files) {
-        assert_eq!(rt; placed.name.as_str(), *name, "call {failing}, a name");
-        assert_eq!(rt;
-            str::from_utf8(&placed.bytes).ok(),
-            Some(*text),
-            "call {failing}, a text"
-        );
-    }
-}
-
 fn assert_row(
     rt: &impl Abort,
     alloc: Global,
     outputs: Outputs<'_>,
-    row: &(u64, Option<&str>),
+    row: &Row,
     files: &[(&str, &str)],
 ) {
-    let (failing, told) = row;
-    let ran = run(alloc, PROGRAM, outputs, *failing);
-    assert_ran(rt, *failing, &ran, *told, files);
+    let (failing, told) = *row;
+    let ran = run(rt, alloc, PROGRAM, outputs, failing);
+    assert_text(rt, failing, ran.told.as_deref(), told);
+    assert_count(rt, failing, ran.waiting as usize, 0);
+    assert_count(rt, failing, ran.placed.len(), files.len());
+    for (placed, (name, text)) in ran.placed.iter().zip(files) {
+        assert_text(rt, failing, Some(placed.name.as_str()), Some(*name));
+        assert_text(rt, failing, str::from_utf8(&placed.bytes).ok(), Some(*text));
+    }
     drop(ran);
+}
+
+fn assert_text(rt: &impl Abort, failing: u64, got: Option<&str>, want: Option<&str>) {
+    assert_eq!(rt; got, want, "call {failing}");
+}
+
+fn assert_count(rt: &impl Abort, failing: u64, got: usize, want: usize) {
+    assert_eq!(rt; got, want, "call {failing}, drafts or files");
 }
 
 /// Each text is made as a draft, written and flushed, the last one first: calls 1 to 12. No file is placed where one of these fails.
 #[test]
 fn places_nothing_after_a_failed_write(rt: HostRuntime) {
-    const ROWS: [(u64, Option<&str>); 12] = [
+    const ROWS: [Row; 12] = [
         (1, Some("cannot write t1.flags: No space left on device")),
         (2, Some("cannot write t1.flags: No space left on device")),
         (3, Some("cannot write t1.flags: No space left on device")),
@@ -113,7 +101,7 @@ fn places_nothing_after_a_failed_write(rt: HostRuntime) {
 /// The files are placed at calls 13 to 16. Those before a failed one stay.
 #[test]
 fn places_files_in_order(rt: HostRuntime) {
-    const ROWS: [((u64, Option<&str>), usize); 6] = [
+    const ROWS: [(Row, usize); 6] = [
         (
             (13, Some("cannot write t1.list: No space left on device")),
             0,

@@ -1,7 +1,6 @@
 //! Assertions for whose proofs a caller doesn't pay again.
 use std::fmt::Debug;
 use std::process::Abort;
-use std::test::Fail;
 
 /// Asserts that two values are the same.
 pub fn assert_same<T: PartialEq + Debug>(rt: &impl Abort, what: &str, got: &T, want: &T) {
@@ -14,7 +13,6 @@ pub fn assert_row<T: PartialEq + Debug>(rt: &impl Abort, at: usize, got: &T, wan
 }
 
 /// Asserts that the text that a row of a table gives is what it wants.
-pub fn assert_row_text(rt: &impl Abort, at: usize, got: &[u8], want: &str) -> Result<(), Fail> {
-    assert_eq!(rt; str::from_utf8(got)?, want, "row {at}");
-    Ok(())
+pub fn assert_row_text(rt: &impl Abort, at: usize, got: &[u8], want: &str) {
+    assert_eq!(rt; str::from_utf8(got).ok(), Some(want), "row {at}");
 }

@@ -7,43 +7,33 @@ use cps_code::{
 use cps_expr::{Radix, Value};
 use std::alloc::Global;
 use std::process::Abort;
-use std::test::Fail;
 
 fn read(alloc: Global, operation: &[u8], tail: &[u8], radix: Radix) -> Result<CpForm, FormFault> {
     cp_form(alloc, operation, tail, radix)
 }
 
 /// The value of an expression where no name is defined, or a literal's word in place of its address.
-pub fn number_of(operand: &Operand, here: i64) -> Result<i64, Fail> {
+pub fn number_of(rt: &impl Abort, operand: &Operand, here: i64) -> i64 {
     match operand {
         Operand::Expression(expression) => {
             let valued = expression.value(&UNDEFINED, Value::plain(here));
-            let value = valued.value.ok_or("a value")?;
-            Ok(value.offset)
+            valued.value.expect(rt, "a value").offset
         }
-        Operand::Literal(word) => {
-            let Ok(number) = i64::try_from(*word) else {
-                return Err(Fail::from("not a word"));
-            };
-            Ok(number)
-        }
+        Operand::Literal(word) => i64::try_from(*word).expect(rt, "a word"),
     }
 }
 
 /// The code of a form with its operand's number in its hole, `*` being 3.
-pub fn filled(form: &CpForm) -> Result<Filled, Fail> {
+pub fn filled(rt: &impl Abort, form: &CpForm) -> Filled {
     match form.holes() {
-        [] => Ok(form.fill(&[])),
-        [hole] => {
-            let number = number_of(&hole.operand, 3)?;
-            Ok(form.fill(&[number]))
-        }
-        _ => Err(Fail::from("more than one hole")),
+        [] => form.fill(&[]),
+        [hole] => form.fill(&[number_of(rt, &hole.operand, 3)]),
+        _ => rt.panic("more than one hole"),
     }
 }
 
 #[test]
-fn codes_statements(rt: HostRuntime) -> Result<(), Fail> {
+fn codes_statements(rt: HostRuntime) {
     const ROWS: [(&[u8], &[u8], u64, bool); 26] = [
         (b"SA1", b"B1+3", 0o5111000003, false),
         (b"SX6", b"X1", 0o73610, false),
@@ -73,19 +63,18 @@ fn codes_statements(rt: HostRuntime) -> Result<(), Fail> {
         (b"EQ", b"=r/ a/ X", 0o0400005501, false),
     ];
     for (at, (operation, tail, digits, is_truncated)) in ROWS.iter().enumerate() {
-        let form = read(rt.alloc(), operation, tail, Radix::Decimal)?;
+        let form = read(rt.alloc(), operation, tail, Radix::Decimal).expect(&rt, "a form");
         let want = Filled {
             digits: *digits,
             is_truncated: *is_truncated,
             is_out_of_range: false,
         };
-        assert_row(&rt, at, &filled(&form)?, &want);
+        assert_row(&rt, at, &filled(&rt, &form), &want);
     }
-    Ok(())
 }
 
 #[test]
-fn refuses_statements(rt: HostRuntime) -> Result<(), Fail> {
+fn refuses_statements(rt: HostRuntime) {
     const ROWS: [(&[u8], &[u8], Radix, FormFault); 16] = [
         (b"XX", b"1", Radix::Decimal, FormFault::NoOperation),
         (b"SA1", b"-X1", Radix::Decimal, FormFault::Unreadable),
@@ -108,18 +97,10 @@ fn refuses_statements(rt: HostRuntime) -> Result<(), Fail> {
         let refused = read(rt.alloc(), operation, tail, *radix).err();
         assert_row(&rt, at, &refused, &Some(*fault));
     }
-    Ok(())
 }
 
 /// Puts bits of a number over a word's.
-fn deposit(
-    rt: &impl Abort,
-    words: &mut Words,
-    address: u32,
-    first: u8,
-    width: u8,
-    number: u64,
-) -> Result<(), Fail> {
+fn deposit(rt: &impl Abort, words: &mut Words, address: u32, first: u8, width: u8, number: u64) {
     assert!(rt; address < 1000 && first < 60 && 0 < width && width <= 60 - first);
     assert!(rt; number < 1 << width);
     let piece = Piece {
@@ -129,18 +110,11 @@ fn deposit(
         number,
         times: 1,
     };
-    assert_eq!(rt; words.deposit(piece), Ok(()));
-    Ok(())
+    words.deposit(piece).expect(rt, "memory");
 }
 
 /// Where the next bits begin. What fills the bits before them is put into the words.
-fn advance(
-    rt: &impl Abort,
-    words: &mut Words,
-    place: Place,
-    bits: u8,
-    force: Force,
-) -> Result<Placed, Fail> {
+fn advance(rt: &impl Abort, words: &mut Words, place: Place, bits: u8, force: Force) -> Placed {
     assert!(rt; place.word < 100 && (bits == 0 || bits == 15 || bits == 30));
     let placed = place_next(place, bits, force);
     if let Some(filling) = placed.filling {
@@ -151,9 +125,9 @@ fn advance(
             filling.first,
             filling.width,
             filling.number,
-        )?;
+        );
     }
-    Ok(placed)
+    placed
 }
 
 fn beginning() -> Place {
@@ -165,46 +139,52 @@ fn beginning() -> Place {
 }
 
 /// Puts a statement's code into the words. Gives where it begins, and the place after it.
-fn put(
-    rt: &impl Abort,
-    words: &mut Words,
-    place: Place,
-    form: &CpForm,
-) -> Result<(Place, Place), Fail> {
-    let code = filled(form)?;
-    let placed = advance(rt, words, place, form.bits(), Force::Free)?;
+fn put(rt: &impl Abort, words: &mut Words, place: Place, form: &CpForm) -> (Place, Place) {
+    let code = filled(rt, form);
+    let placed = advance(rt, words, place, form.bits(), Force::Free);
     let start = placed.start;
-    deposit(rt, words, start.word, start.used, form.bits(), code.digits)?;
+    deposit(rt, words, start.word, start.used, form.bits(), code.digits);
     let after = Place {
         word: placed.after.word,
         used: placed.after.used,
         is_pending: form.forces_after(),
     };
-    Ok((start, after))
+    (start, after)
+}
+
+/// Puts a statement so many times into words, then another one. The words, and where the last one begins.
+fn packed(
+    rt: &impl Abort,
+    alloc: Global,
+    form: &CpForm,
+    times: u8,
+    last: &CpForm,
+) -> (Words, Place) {
+    let mut words = Words::new(alloc);
+    let mut place = beginning();
+    for _ in 0..times {
+        let (_, after) = put(rt, &mut words, place, form);
+        place = after;
+    }
+    let (start, after) = put(rt, &mut words, place, last);
+    advance(rt, &mut words, after, 0, Force::NewWord);
+    (words, start)
 }
 
 #[test]
-fn packs_words(rt: HostRuntime) -> Result<(), Fail> {
-    let last = read(rt.alloc(), b"SA1", b"B0+1", Radix::Decimal)?;
+fn packs_words(rt: HostRuntime) {
     // A statement, how often it stands in front, and the first word.
     const ROWS: [(&[u8], &[u8], u8, u64); 2] = [
         (b"NO", b"", 3, 0o46000_46000_46000_46000),
         (b"EQ", b"0", 1, 0o04000_00000_46000_46000),
     ];
+    let last = read(rt.alloc(), b"SA1", b"B0+1", Radix::Decimal).expect(&rt, "a form");
     for (at, (operation, tail, times, first_word)) in ROWS.iter().enumerate() {
-        let form = read(rt.alloc(), operation, tail, Radix::Decimal)?;
-        let mut words = Words::new(rt.alloc());
-        let mut place = beginning();
-        for _ in 0..*times {
-            let (_, after) = put(&rt, &mut words, place, &form)?;
-            place = after;
-        }
-        let (start, after) = put(&rt, &mut words, place, &last)?;
-        advance(&rt, &mut words, after, 0, Force::NewWord)?;
+        let form = read(rt.alloc(), operation, tail, Radix::Decimal).expect(&rt, "a form");
+        let (words, start) = packed(&rt, rt.alloc(), &form, *times, &last);
         assert_row(&rt, at, &(start.word, start.used), &(1, 0));
         assert_row(&rt, at, &words.get(0), &Some(*first_word));
         assert_row(&rt, at, &words.get(1), &Some(0o51100_00001_46000_46000));
         assert_row(&rt, at, &words.get(2), &None);
     }
-    Ok(())
 }

@@ -3,7 +3,7 @@ use super::assertions::{assert_row, assert_row_text, assert_same};
 use super::same_value::{SameValue, UNDEFINED};
 use cps_expr::{Expr, ExprFault, Radix, Value};
 use std::alloc::Global;
-use std::test::Fail;
+use std::process::Abort;
 
 /// The greatest number of an expression.
 const GREATEST: i64 = 576_460_752_303_423_487;
@@ -19,17 +19,36 @@ fn valued(expression: &Expr, names: &SameValue, here: Value) -> (Option<Value>, 
 }
 
 /// The names of an expression, each with a blank behind it.
-fn named(alloc: Global, expression: &Expr) -> Result<Vec<u8>, Fail> {
+fn named(rt: &impl Abort, alloc: Global, expression: &Expr) -> Vec<u8> {
     let mut text = Vec::new(alloc);
     for name in expression.names() {
-        text.extend_from_slice(name.text())?;
-        text.push(b' ')?;
+        text.extend_from_slice(name.text()).expect(rt, "memory");
+        text.push(b' ').expect(rt, "memory");
     }
-    Ok(text)
+    text
+}
+
+/// The value of an expression, which is plain.
+fn plain_value(
+    rt: &impl Abort,
+    alloc: Global,
+    text: &[u8],
+    radix: Radix,
+) -> Result<Option<i64>, ExprFault> {
+    match read(alloc, text, radix)?
+        .value(&UNDEFINED, Value::plain(3))
+        .value
+    {
+        Some(value) => {
+            assert_same(rt, "a plain value", &value, &Value::plain(value.offset));
+            Ok(Some(value.offset))
+        }
+        None => Ok(None),
+    }
 }
 
 #[test]
-fn values_expressions(rt: HostRuntime) -> Result<(), Fail> {
+fn values_expressions(rt: HostRuntime) {
     // `*` is plain 3, and no name is defined.
     const ROWS: [(&[u8], Radix, Result<Option<i64>, ExprFault>); 34] = [
         (b"2+3*4", Radix::Decimal, Ok(Some(14))),
@@ -76,24 +95,16 @@ fn values_expressions(rt: HostRuntime) -> Result<(), Fail> {
         (b"A=9", Radix::Decimal, Ok(Some(0))),
     ];
     for (at, (text, radix, want)) in ROWS.iter().enumerate() {
-        let got = match read(rt.alloc(), text, *radix) {
-            Ok(expression) => Ok(valued(&expression, &UNDEFINED, Value::plain(3)).0),
-            Err(fault) => Err(fault),
-        };
-        let want = match want {
-            Ok(value) => Ok(value.map(|offset| Value::plain(offset))),
-            Err(fault) => Err(*fault),
-        };
-        assert_row(&rt, at, &got, &want);
+        assert_row(&rt, at, &plain_value(&rt, rt.alloc(), text, *radix), want);
     }
-    Ok(())
 }
 
 #[test]
-fn tells_undefined_names(rt: HostRuntime) -> Result<(), Fail> {
-    let expression = read(rt.alloc(), b"first*2-7/first+second", Radix::Decimal)?;
-    let names = named(rt.alloc(), &expression)?;
-    assert_row_text(&rt, 0, &names, "FIRST FIRST SECOND ")?;
+fn tells_undefined_names(rt: HostRuntime) {
+    let text = b"first*2-7/first+second";
+    let expression = read(rt.alloc(), text, Radix::Decimal).expect(&rt, "an expression");
+    let names = named(&rt, rt.alloc(), &expression);
+    assert_row_text(&rt, 0, &names, "FIRST FIRST SECOND ");
     assert!(rt; !expression.has_counter());
     let got = valued(&expression, &UNDEFINED, Value::plain(3));
     assert_same(&rt, "undefined", &got, &(Some(Value::plain(0)), true));
@@ -102,10 +113,13 @@ fn tells_undefined_names(rt: HostRuntime) -> Result<(), Fail> {
     };
     let got = valued(&expression, &defined, Value::plain(3));
     assert_same(&rt, "defined", &got, &(Some(Value::plain(20)), false));
-    let counted = read(rt.alloc(), b"2*3**", Radix::Decimal)?;
+}
+
+#[test]
+fn tells_a_counter(rt: HostRuntime) {
+    let counted = read(rt.alloc(), b"2*3**", Radix::Decimal).expect(&rt, "an expression");
     assert!(rt; counted.has_counter());
     assert!(rt; counted.names().is_empty());
-    Ok(())
 }
 
 fn add_term(
@@ -118,10 +132,10 @@ fn add_term(
 }
 
 #[test]
-fn adds_terms(rt: HostRuntime) -> Result<(), Fail> {
+fn adds_terms(rt: HostRuntime) {
     let mut expression = Expr::new(rt.alloc());
-    add_term(&mut expression, false, b"2*A", Radix::Decimal)?;
-    add_term(&mut expression, true, b"17", Radix::Octal)?;
+    add_term(&mut expression, false, b"2*A", Radix::Decimal).expect(&rt, "a term");
+    add_term(&mut expression, true, b"17", Radix::Octal).expect(&rt, "a term");
     let refused = add_term(&mut expression, false, b"B1", Radix::Decimal).err();
     assert_same(&rt, "a register", &refused, &Some(ExprFault::Unreadable));
     let defined = SameValue {
@@ -129,5 +143,4 @@ fn adds_terms(rt: HostRuntime) -> Result<(), Fail> {
     };
     let got = valued(&expression, &defined, Value::plain(3));
     assert_same(&rt, "the value", &got, &(Some(Value::plain(-1)), false));
-    Ok(())
 }

@@ -1,14 +1,12 @@
 //! What tests are given: names and lines.
 use cps_text::{Line, Name};
 use std::alloc::Global;
-use std::test::Fail;
+use std::process::Abort;
 
-pub fn name(text: &[u8]) -> Result<Name, Fail> {
-    let name = Name::read(text).ok_or("a symbol")?;
-    Ok(name)
+pub fn name(rt: &impl Abort, text: &[u8]) -> Name {
+    Name::read(text).expect(rt, "a symbol")
 }
 
-pub fn line(alloc: Global, text: &[u8]) -> Result<Line, Fail> {
-    let line = Line::new(alloc, text)?;
-    Ok(line)
+pub fn line(rt: &impl Abort, alloc: Global, text: &[u8]) -> Line {
+    Line::new(alloc, text).expect(rt, "a line")
 }

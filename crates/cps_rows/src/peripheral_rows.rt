@@ -5,22 +5,19 @@ use cps_code::{Filled, FormFault};
 use cps_expr::Radix;
 use cps_peripheral::{PpForm, pp_form};
 use std::alloc::Global;
-use std::test::Fail;
+use std::process::Abort;
 
 /// The code of a form with its operands' numbers in its holes, `*` being 0.
-fn filled(form: &PpForm) -> Result<Filled, Fail> {
+fn filled(rt: &impl Abort, form: &PpForm) -> Filled {
     match form.holes() {
-        [] => Ok(form.fill(&[])),
-        [hole] => {
-            let number = number_of(&hole.operand, 0)?;
-            Ok(form.fill(&[number]))
-        }
+        [] => form.fill(&[]),
+        [hole] => form.fill(&[number_of(rt, &hole.operand, 0)]),
         [first, second] => {
-            let number = number_of(&first.operand, 0)?;
-            let next = number_of(&second.operand, 0)?;
-            Ok(form.fill(&[number, next]))
+            let number = number_of(rt, &first.operand, 0);
+            let next = number_of(rt, &second.operand, 0);
+            form.fill(&[number, next])
         }
-        _ => Err(Fail::from("more than two holes")),
+        _ => rt.panic("more than two holes"),
     }
 }
 
@@ -30,7 +27,7 @@ fn read(alloc: Global, operation: &[u8], tail: &[u8]) -> Result<PpForm, FormFaul
 }
 
 #[test]
-fn codes_peripheral_statements(rt: HostRuntime) -> Result<(), Fail> {
+fn codes_peripheral_statements(rt: HostRuntime) {
     // A statement, its bits, its code, and whether a distance is out of range.
     const ROWS: [(&[u8], &[u8], u8, u64, bool); 7] = [
         (b"PSN", b"5", 12, 0o0000, false),
@@ -47,15 +44,14 @@ fn codes_peripheral_statements(rt: HostRuntime) -> Result<(), Fail> {
             is_truncated: false,
             is_out_of_range: *is_out_of_range,
         };
-        let form = read(rt.alloc(), operation, tail)?;
+        let form = read(rt.alloc(), operation, tail).expect(&rt, "a form");
         assert_row(&rt, at, &form.bits(), bits);
-        assert_row(&rt, at, &filled(&form)?, &want);
+        assert_row(&rt, at, &filled(&rt, &form), &want);
     }
-    Ok(())
 }
 
 #[test]
-fn refuses_peripheral_statements(rt: HostRuntime) -> Result<(), Fail> {
+fn refuses_peripheral_statements(rt: HostRuntime) {
     const ROWS: [(&[u8], &[u8], FormFault); 11] = [
         (b"NO", b"", FormFault::NoOperation),
         (b"LDX", b"5", FormFault::NoOperation),
@@ -73,5 +69,4 @@ fn refuses_peripheral_statements(rt: HostRuntime) -> Result<(), Fail> {
         let got = read(rt.alloc(), operation, tail).err();
         assert_row(&rt, at, &got, &Some(*fault));
     }
-    Ok(())
 }

@@ -1,9 +1,9 @@
 //! The rows of statements.
 use super::assertions::{assert_row, assert_row_text, assert_same};
 use super::same_value::UNDEFINED;
-use cps_expr::{Machine, Operation, Radix, Row, Stmt, StmtFault, Value, read_locals};
+use cps_expr::{Expr, Machine, Operation, Radix, Row, Stmt, StmtFault, Value, read_locals};
 use std::alloc::Global;
-use std::test::Fail;
+use std::process::Abort;
 
 fn read(
     alloc: Global,
@@ -23,7 +23,7 @@ fn refused(alloc: Global, operation: &str, tail: &str) -> Option<StmtFault> {
 }
 
 #[test]
-fn refuses_operands(rt: HostRuntime) -> Result<(), Fail> {
+fn refuses_operands(rt: HostRuntime) {
     const UNREADABLE: [(&str, &str); 48] = [
         ("IDENT", ""),
         ("IDENT", "X1"),
@@ -85,52 +85,55 @@ fn refuses_operands(rt: HostRuntime) -> Result<(), Fail> {
         let found = Operation::named(operation.as_bytes());
         assert_row(&rt, at, &found, &None);
     }
-    Ok(())
 }
 
 /// The values of an operation's expressions, taken out of the statement.
-fn taken(alloc: Global, statement: Stmt) -> Result<Vec<i64>, Fail> {
-    let Row::Con(values) = statement.into_row() else {
-        return Err(Fail::from("not CON"));
-    };
-    let mut numbers = Vec::new(alloc);
-    for expression in values.into_vec() {
-        let value = expression.value(&UNDEFINED, Value::plain(3)).value;
-        numbers.push(value.ok_or("a value")?.offset)?;
+fn taken(rt: &impl Abort, alloc: Global, statement: Stmt) -> Vec<i64> {
+    match statement.into_row() {
+        Row::Con(values) => numbers_of(rt, alloc, &values.into_vec()),
+        _ => rt.panic("not CON"),
     }
-    Ok(numbers)
+}
+
+/// The values of expressions, `*` being 3.
+fn numbers_of(rt: &impl Abort, alloc: Global, values: &[Expr]) -> Vec<i64> {
+    let mut numbers = Vec::new(alloc);
+    for expression in values {
+        let value = expression.value(&UNDEFINED, Value::plain(3)).value;
+        let offset = value.expect(rt, "a value").offset;
+        numbers.push(offset).expect(rt, "memory");
+    }
+    numbers
 }
 
 #[test]
-fn takes_operands_out(rt: HostRuntime) -> Result<(), Fail> {
+fn takes_operands_out(rt: HostRuntime) {
     let tail = b"1,2**,17B";
-    let statement = read(rt.alloc(), b"CON", tail, Machine::Cp, Radix::Decimal)?;
-    let numbers = taken(rt.alloc(), statement)?;
+    let statement = read(rt.alloc(), b"CON", tail, Machine::Cp, Radix::Decimal);
+    let numbers = taken(&rt, rt.alloc(), statement.expect(&rt, "a statement"));
     assert_same(&rt, "values", &numbers.as_slice(), &[1, 6, 15].as_slice());
-    Ok(())
 }
 
 /// The local names of a tail, each with a bar behind it.
-fn joined_names(alloc: Global, tail: &[u8]) -> Result<Vec<u8>, Fail> {
-    let names = read_locals(alloc, tail)?;
+fn joined_names(rt: &impl Abort, alloc: Global, tail: &[u8]) -> Vec<u8> {
+    let names = read_locals(alloc, tail).expect(rt, "names");
     let mut text = Vec::new(alloc);
     for name in names.as_slice() {
-        text.extend_from_slice(name.text())?;
-        text.push(b'|')?;
+        text.extend_from_slice(name.text()).expect(rt, "memory");
+        text.push(b'|').expect(rt, "memory");
     }
-    Ok(text)
+    text
 }
 
 #[test]
-fn reads_local_names(rt: HostRuntime) -> Result<(), Fail> {
+fn reads_local_names(rt: HostRuntime) {
     const ROWS: [(&str, &str); 3] = [
         ("LP", "LP|"),
         ("LP,b COMMENT", "LP|B|"),
         (".1,A.B,LONGNAME,lp", ".1|A.B|LONGNAME|LP|"),
     ];
     for (at, (tail, want)) in ROWS.iter().enumerate() {
-        let text = joined_names(rt.alloc(), tail.as_bytes())?;
-        assert_row_text(&rt, at, &text, want)?;
+        let text = joined_names(&rt, rt.alloc(), tail.as_bytes());
+        assert_row_text(&rt, at, &text, want);
     }
-    Ok(())
 }

@@ -1,7 +1,7 @@
 //! A thousand edits of all kinds, in two sessions: after each the texts of the session are those of batch assembly.
+use super::assembling::assemble;
 use super::assertions::{assert_row, assert_same};
 use super::edit_rows::{Edit, carry_out};
-use super::running::assemble;
 use cps_list::Part;
 use cps_pass::{Hashing, Work};
 use cps_session::Session;
@@ -142,7 +142,7 @@ fn source_of(alloc: Global, session: &Session) -> Result<Vec<u8>, AllocError> {
 pub fn assert_as_batch(rt: &impl Abort, alloc: Global, at: usize, session: &Session) {
     let source = source_of(alloc, session).unwrap_or_else(|_| Vec::new(alloc));
     let want = assemble(alloc, &source, Part::All);
-    let want = str::from_utf8(&want.text).unwrap_or("");
+    let want = str::from_utf8(&want).unwrap_or("");
     let got = session
         .text(alloc, Part::All)
         .unwrap_or_else(|_| Vec::new(alloc));

@@ -7,11 +7,6 @@ pub fn assert_same<T: PartialEq + Debug>(rt: &impl Abort, what: &str, got: &T, w
     assert_eq!(rt; got, want, "{what}");
 }
 
-/// Asserts that a text is what is wanted.
-pub fn assert_bytes(rt: &impl Abort, what: &str, got: &[u8], want: &str) {
-    assert_eq!(rt; str::from_utf8(got).ok(), Some(want), "{what}");
-}
-
 /// Asserts that the text that a row of a table gives is what is wanted.
 pub fn assert_row(rt: &impl Abort, at: usize, what: &str, got: &[u8], want: &str) {
     assert_eq!(rt; str::from_utf8(got).ok(), Some(want), "row {at}, {what}");

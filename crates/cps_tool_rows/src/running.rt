@@ -48,12 +48,6 @@ pub struct Written {
     pub text: Vec<u8>,
 }
 
-/// Assembles a source that is read at once.
-pub fn assemble(alloc: Global, source: &[u8], part: Part) -> Written {
-    let mut reader = Counted::new(source);
-    assemble_from(alloc, &mut reader, part)
-}
-
 /// Assembles a source that a reader gives.
 pub fn assemble_from<R: Read>(alloc: Global, reader: &mut Counted<R>, part: Part) -> Written {
     let mut writer = Counted::new(Vec::new(alloc));

@@ -1,7 +1,7 @@
 //! The texts of a session, one by one and all at once.
 use super::assertions::{assert_row, assert_same};
-use super::devices::SlowWriter;
 use super::edit_rows::insert;
+use cps_devices::SlowWriter;
 use cps_list::{
     ListFault, Part, View, write_all_parts, write_binary, write_flags, write_listing, write_symbols,
 };

@@ -1,8 +1,8 @@
 //! Sources that are read whole.
 use super::assertions::{assert_bytes, assert_same};
-use super::devices::{Resuming, SlowReader, SlowWriter};
 use super::running::{Written, assemble_from, assemble_into};
 use cps_batch::BatchFault;
+use cps_devices::{Resuming, SlowReader, SlowWriter};
 use cps_list::Part;
 use cps_text::Counted;
 use std::alloc::Global;

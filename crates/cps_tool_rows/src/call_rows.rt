@@ -1,6 +1,6 @@
 //! Calls of the program whose devices fail.
 use super::assertions::{assert_bytes, assert_same};
-use super::devices::{SlowReader, SlowWriter};
+use cps_devices::{SlowReader, SlowWriter};
 use cps_text::Counted;
 use cps_tool::{Hashing, run_words};
 use std::alloc::Global;

@@ -1,0 +1,74 @@
+//! Notes.
+use super::assertions::assert_rows;
+
+/// Lines of which notes are told, and lines of which none is.
+const NOTES: [(&[u8], bool, &str); 15] = [
+    (
+        b"TWO       EQU     2\n",
+        false,
+        "a.cps:1:1: note: nothing reads TWO\n    1 | TWO       EQU     2\n      | ^^^\n",
+    ),
+    (b"TWO       EQU     2\n          CON     TWO\n", false, ""),
+    (
+        b"          IF      DEF,TAG,1\n          NO\nTAG       NO\n",
+        false,
+        "",
+    ),
+    (b"N         SET     1\nN         SET     2\n", false, ""),
+    (
+        b"M         MACRO   P\nP         EQU     1\n          ENDM\n          M       TAG\n",
+        false,
+        "",
+    ),
+    (
+        b"          IFEQ    1,2\nA         EQU     2\n          USE                BUFFERS\n          ENDIF\n",
+        false,
+        "",
+    ),
+    (
+        b"*CALL COMCCIO\n*call,A\n*CALLED\n* CALL\n",
+        false,
+        "a.cps:1:1: note: *CALL is a comment here, and brings no text in\n    1 | *CALL COMCCIO\n      | ^^^^^\na.cps:2:1: note: *CALL is a comment here, and brings no text in\n    2 | *call,A\n      | ^^^^^\n",
+    ),
+    (
+        b"*CALL\t\nA         EQU     1\x01\n",
+        true,
+        "a.cps:1:6: error: a tab is no character of a line; blanks to column 11, 18 or 30?\n    1 | *CALL \n      |      ^\na.cps:2:20: error: byte 01 is no character of a line\n    2 | A         EQU     1?\n      |                    ^\n",
+    ),
+    (b"          END\n* A COMMENT\n\n", false, ""),
+    (
+        b"          END\n* A COMMENT\n          IDENT   B\n          END\n",
+        true,
+        "a.cps:3:11: error: E: the program has ended in line 1; only comments may follow\n    3 |           IDENT   B\n      |           ^^^^^^^^^\na.cps:3:11: note: nothing behind END is assembled; another program is a source of its own\n    3 |           IDENT   B\n      |           ^^^^^\na.cps:4:11: error: E: the program has ended in line 1; only comments may follow\n    4 |           END\n      |           ^^^\n",
+    ),
+    (
+        b"          USE                BUFFERS  \n",
+        false,
+        "a.cps:1:30: note: no operand stands here; what begins in column 30 or later is a comment\n    1 |           USE                BUFFERS  \n      |                              ^^^^^^^\n",
+    ),
+    (
+        b"          USE               BUFFERS\n          USE\n          NO                 COMMENT\n",
+        false,
+        "",
+    ),
+    (
+        b"M         MACRO              COMMENT\n          ENDM\n          M                  COMMENT\n",
+        false,
+        "",
+    ),
+    (
+        b"M         MACRO   P\n          ENDM\n          M       1          COMMENT\n          M                  1,2\n",
+        false,
+        "a.cps:4:30: note: no operand stands here; what begins in column 30 or later is a comment\n    4 |           M                  1,2\n      |                              ^^^\n",
+    ),
+    (
+        b"M         MACRO   P\n          ENDM\nTAG       M                  1\n",
+        false,
+        "a.cps:3:1: note: nothing reads TAG\n    3 | TAG       M                  1\n      | ^^^\na.cps:3:30: note: no operand stands here; what begins in column 30 or later is a comment\n    3 | TAG       M                  1\n      |                              ^\n",
+    ),
+];
+
+#[test]
+fn tells_notes(rt: HostRuntime) {
+    assert_rows(&rt, rt.alloc(), &NOTES);
+}

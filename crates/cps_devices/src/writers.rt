@@ -1,0 +1,47 @@
+//! Writers that are slow or full.
+ghost use Rattle.std.specs.Prelude.{Some};
+
+use std::io;
+use std::io::{ErrorKind, Write};
+
+/// A writer that takes one byte a call, and fails where its room is used up.
+#[derive(Drop)]
+pub struct SlowWriter {
+    pub taken: Vec<u8>,
+    /// How many bytes it still takes.
+    pub room: usize,
+}
+
+impl Write for SlowWriter {
+    ghost contents = { λ writer. Some writer.taken.items };
+
+    fn write(&mut self, buf: &[u8]) -> io::Result<usize> {
+        if self.room == 0 {
+            return Err(io::Error::from(ErrorKind::BrokenPipe));
+        }
+        if buf.is_empty() {
+            return Ok(0);
+        }
+        self.room -= 1;
+        self.taken.push(buf[0])?;
+        Ok(1)
+    }
+
+    fn flush(&mut self) -> io::Result<()> {
+        Ok(())
+    }
+}
+
+/// A writer that takes nothing.
+#[derive(Drop)]
+pub struct Idle;
+
+impl Write for Idle {
+    fn write(&mut self, _buf: &[u8]) -> io::Result<usize> {
+        Ok(0)
+    }
+
+    fn flush(&mut self) -> io::Result<()> {
+        Ok(())
+    }
+}

@@ -1,0 +1,28 @@
+//! Tests of a session and of pass one, by rows of worked examples, and beside batch assembly.
+//!
+//! - `assembling.rt`: batch assembly of a source
+//! - `assertions.rt`: assertions
+//! - `chunk_rows.rt`: sources of some chunks, which edits split, shorten and join
+//! - `edit_rows.rt`: edits of a session
+//! - `enter_rows.rt`: sessions that begin with lines
+//! - `many_edits.rt`: a thousand edits
+//! - `part_rows.rt`: the texts of a session
+//! - `pass_rows.rt`: pass one, line by line
+#![tactic(auto)]
+
+#[cfg(test)]
+mod assembling;
+#[cfg(test)]
+mod assertions;
+#[cfg(test)]
+mod chunk_rows;
+#[cfg(test)]
+mod edit_rows;
+#[cfg(test)]
+mod enter_rows;
+#[cfg(test)]
+mod many_edits;
+#[cfg(test)]
+mod part_rows;
+#[cfg(test)]
+mod pass_rows;
