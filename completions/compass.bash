@@ -4,12 +4,13 @@
 # The words that begin with - or name a command, by the command that stands before them.
 _compass_words() {
   case $1 in
-    '') echo 'batch session check compare explain -h --help -V --version' ;;
-    batch) echo '--part -h --help' ;;
+    '') echo 'batch session check compare explain help -h --help -V --version' ;;
+    batch) echo '--part --listing --binary --symbols --flags -h --help' ;;
     session) echo '--source -h --help' ;;
     check) echo '-h --help' ;;
     compare) echo '--from --to --columns -h --help' ;;
     explain) echo '-h --help' ;;
+    help) echo '-h --help' ;;
   esac
 }
 
@@ -31,13 +32,14 @@ _compass() {
   [ "$before" != = ] || before=${COMP_WORDS[COMP_CWORD - 2]}
   case $command$before in
     batch--part) _compass_offer -W 'listing binary symbols flags all' ;;
-    session--source) _compass_offer_files ;;
+    batch--listing | batch--binary | batch--symbols | batch--flags | session--source) _compass_offer_files ;;
     compare--from | compare--to | compare--columns) ;;
     *)
       case $command,$word in
         *,-*) _compass_offer -W "$(_compass_words "$command")" ;;
         ,*) _compass_offer -X '-*' -W "$(_compass_words '')" ;;
         explain,*) _compass_offer -W 'A D E L O T U V' ;;
+        help,*) _compass_offer -W 'batch session check compare explain help' ;;
         batch,* | check,* | compare,*) _compass_offer_files ;;
       esac
       ;;

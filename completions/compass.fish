@@ -6,7 +6,11 @@ complete -c compass -n __fish_use_subcommand -s V -l version -d 'Print the versi
 
 complete -c compass -n __fish_use_subcommand -a batch -d 'Assemble a source'
 complete -c compass -n '__fish_seen_subcommand_from batch' -F
-complete -c compass -n '__fish_seen_subcommand_from batch' -l part -x -a 'listing binary symbols flags all' -d 'What to write'
+complete -c compass -n '__fish_seen_subcommand_from batch' -l part -x -a 'listing binary symbols flags all' -d 'What to write to standard output'
+complete -c compass -n '__fish_seen_subcommand_from batch' -l listing -r -F -d 'File for the listing'
+complete -c compass -n '__fish_seen_subcommand_from batch' -l binary -r -F -d 'File for the binary text'
+complete -c compass -n '__fish_seen_subcommand_from batch' -l symbols -r -F -d 'File for the cross-reference'
+complete -c compass -n '__fish_seen_subcommand_from batch' -l flags -r -F -d 'File for the flagged lines'
 
 complete -c compass -n __fish_use_subcommand -a session -d 'Edit a source line by line, and ask for its texts'
 complete -c compass -n '__fish_seen_subcommand_from session' -l source -r -F -d 'File whose lines it begins with'
@@ -22,3 +26,6 @@ complete -c compass -n '__fish_seen_subcommand_from compare' -l columns -x -d 'C
 
 complete -c compass -n __fish_use_subcommand -a explain -d 'Explain a flag or an operation'
 complete -c compass -n '__fish_seen_subcommand_from explain' -a 'A D E L O T U V' -d 'Flag'
+
+complete -c compass -n __fish_use_subcommand -a help -d 'Write the help of the program or of a command'
+complete -c compass -n '__fish_seen_subcommand_from help' -a 'batch session check compare explain help' -d 'Command'

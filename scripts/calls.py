@@ -199,7 +199,7 @@ EXPLAINED = [
 
 # words that ask nothing
 WORDS = [
-    refused([], b"'compass' requires a subcommand but one was not provided\n  [subcommands: batch, session, check, compare, explain]\n\nUsage: compass <COMMAND>"),
+    refused([], b"'compass' requires a subcommand but one was not provided\n  [subcommands: batch, session, check, compare, explain, help]\n\nUsage: compass <COMMAND>"),
     refused(["other"], b"unrecognized subcommand 'other'\n\nUsage: compass <COMMAND>"),
     refused(["oth\x1b\x9ber"], b"unrecognized subcommand 'oth??er'\n\nUsage: compass <COMMAND>"),
     refused(["batch", "--part", "other"], b"invalid value 'other' for '--part <PART>'\n  [possible values: " + PARTS + b"]"),
@@ -210,6 +210,8 @@ WORDS = [
     refused(["batch", "--wide"], b"unexpected argument '--wide' found\n\n  tip: to pass '--wide' as a value, use '-- --wide'\n\nUsage: compass batch [OPTIONS] [FILE]"),
     refused(["batch", DECK, "more"], b"unexpected argument 'more' found\n\nUsage: compass batch [OPTIONS] [FILE]"),
     refused(["session", "--source", "-"], b"invalid value '-' for '--source <FILE>': standard input has the script"),
+    refused(["help", "other"], b"unrecognized subcommand 'other'"),
+    refused(["help", "batch", "more"], b"unexpected argument 'more' found\n\nUsage: compass help [COMMAND]"),
     refused(["session", "name"], b"unexpected argument 'name' found\n\nUsage: compass session [OPTIONS]"),
 ]
 
@@ -223,5 +225,12 @@ HELPS = [
     (["check", "--help"], b"Usage: compass check [FILE]"),
     (["compare", "--help"], b"Usage: compass compare [OPTIONS] <OCTAL> [FILE]"),
     (["explain", "--help"], b"Usage: compass explain <WORD>"),
+    (["help"], b"Usage: compass <COMMAND>"),
+    (["help", "batch"], b"Usage: compass batch [OPTIONS] [FILE]"),
+    (["help", "session"], b"Usage: compass session"),
+    (["help", "check"], b"Usage: compass check [FILE]"),
+    (["help", "compare"], b"Usage: compass compare [OPTIONS] <OCTAL> [FILE]"),
+    (["help", "explain"], b"Usage: compass explain <WORD>"),
+    (["help", "help"], b"Usage: compass help [COMMAND]"),
     (["--version"], b"compass "),
 ]

@@ -41,6 +41,9 @@ NAME:14:19: error: V: a field has 1 to 60 bits, and not 61
 NAME:17:11: error: E: the program has ended in line 16; only comments may follow
    17 |           CON     1                        E, BEHIND THE END
       |           ^^^^^^^^^
+NAME:17:11: note: nothing behind END is assembled; another program is a source of its own
+   17 |           CON     1                        E, BEHIND THE END
+      |           ^^^
 """
 
 # what an expansion does, and what is open at the end: its line is told last
@@ -56,9 +59,9 @@ FUNC      MACRO   CODE,ADDR
           FUNC    1,AWAY
 AWAY      PS
 """, b"""\
-<stdin>:6:11: error: U: no line above gives AWAY a value, and it must have one here; it has one from line 7
+<stdin>:6:21: error: U: no line above gives AWAY a value, and it must have one here; it has one from line 7
     6 |           FUNC    1,AWAY
-      |           ^^^^
+      |                     ^^^^
       = in its expansion: IFNE    AWAY,0
 """),
     checked(b"          DUP     3,1\n          CON     Q\n", b"""\
@@ -127,6 +130,38 @@ WRONG_LINES = [
     checked(b"*\n" * 99_999 + b"A\nB\n", b"<stdin>:100000:1: error: a source has 99,999 lines at most; the lines from here on are not looked at\n"),
 ]
 
+# notes, which change no status
+NOTES = [
+    (["check"], b"TWO       EQU     2\n*CALL COMCCIO\n          USE                TABLES\n", 0, b"""\
+<stdin>:1:1: note: nothing reads TWO
+    1 | TWO       EQU     2
+      | ^^^
+<stdin>:2:1: note: *CALL is a comment here, and brings no text in
+    2 | *CALL COMCCIO
+      | ^^^^^
+<stdin>:3:30: note: no operand stands here; what begins in column 30 or later is a comment
+    3 |           USE                TABLES
+      |                              ^^^^^^
+""", b""),
+    checked(b"A         CON     B\n          END\n*\nB         CON     A\n          END\n", b"""\
+<stdin>:1:19: error: U: no line gives B a value; it counts as 0
+    1 | A         CON     B
+      |                   ^
+<stdin>:1:1: note: nothing reads A
+    1 | A         CON     B
+      | ^
+<stdin>:4:11: error: E: the program has ended in line 2; only comments may follow
+    4 | B         CON     A
+      |           ^^^^^^^^^
+<stdin>:4:11: note: nothing behind END is assembled; another program is a source of its own
+    4 | B         CON     A
+      |           ^^^
+<stdin>:5:11: error: E: the program has ended in line 2; only comments may follow
+    5 |           END
+      |           ^^^
+"""),
+]
+
 # files, and words that ask nothing
 FILES = [
     (["check", FLAGS], b"A\n", 1, FLAGGED.replace(b"NAME", FLAGS.encode()), b""),
@@ -137,4 +172,4 @@ FILES = [
     refused(["check", FLAGS, "more"], b"unexpected argument 'more' found\n\nUsage: compass check [FILE]"),
 ]
 
-CHECKS = LINES + WRONG_LINES + FILES
+CHECKS = LINES + WRONG_LINES + NOTES + FILES
