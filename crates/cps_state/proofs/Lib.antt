@@ -1,4 +1,5 @@
 pub mod AskLemmas
+pub mod ExchangeLemmas
 pub mod FlagLemmas
 pub mod KnownLemmas
 pub mod LineLemmas

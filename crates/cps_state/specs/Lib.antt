@@ -1,5 +1,6 @@
 pub mod ContentsKept
 pub mod Course
+pub mod Exchange
 pub mod Flags
 pub mod Instruction
 pub mod Item

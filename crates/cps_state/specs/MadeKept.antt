@@ -1,5 +1,5 @@
 -- For the code, not part of what a reader believes: what a statement made, as it is kept.
-use Rattle.std.specs.Prelude.{Some, true, false, option_map}
+use Rattle.std.specs.Prelude.{Some, option_map}
 use Rattle.std.specs.Option.{option_to_list}
 use Rattle.cps_code.specs.Image.{piece_of}
 use Rattle.cps_state.specs.declared.flags.Flags.{Flags}

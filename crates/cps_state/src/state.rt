@@ -1,6 +1,7 @@
 //! The state of an assembly.
-ghost use Rattle.std.specs.Prelude.{◌≡◌, ◌<◌, ◌≤◌, ◌+◌, true, OnOk, OnErr, length, reverse};
+ghost use Rattle.std.specs.Prelude.{◌≡◌, ◌<◌, ◌≤◌, ◌+◌, true, OnOk, OnErr, Some as Just, length, reverse};
 ghost use Rattle.std.specs.HashMap as hash;
+ghost use Rattle.cps_state.specs.Exchange.{MayStand, room_of, with_answer};
 ghost use Rattle.cps_state.specs.KeptAnswers.{is_other};
 ghost use Rattle.cps_state.specs.Keys.{first_state, with_put, overwritten};
 ghost use Rattle.cps_state.specs.declared.key.Key.{Key};
@@ -87,6 +88,59 @@ impl State {
         }
     }
 
+    /// Makes room for so many keys more.
+    pub fn reserve(&mut self, keys: usize) -> Result<(), AllocError>
+        ensures answer { ⟦<State as Lookup>⟧.answer self.new ≡ ⟦<State as Lookup>⟧.answer self.old }
+        ensures room { OnOk result (keys ≤ room_of self.new) }
+    {
+        self.others.reserve(keys)
+    }
+
+    /// Puts what stands at a key from now on, None where nothing does, and gives what stood there. It uses room for one key at most.
+    pub fn replace(&mut self, key: Key, answer: Option<Answer>) -> Option<Answer>
+        requires room { 0 < room_of self.old }
+        requires stands { MayStand key answer }
+        ensures old { result ≡ ⟦<State as Lookup>⟧.answer self.old key }
+        ensures answer { ⟦<State as Lookup>⟧.answer self.new ≡ with_answer (⟦<State as Lookup>⟧.answer self.old) key answer }
+        ensures room { room_of self.old ≤ room_of self.new + 1 }
+    {
+        match answer {
+            Some(answer) => self.exchange(key, answer),
+            None => self.others.remove(&key),
+        }
+    }
+
+    /// Puts an answer, and gives what stood there.
+    fn exchange(&mut self, key: Key, answer: Answer) -> Option<Answer>
+        requires room { 0 < room_of self.old }
+        ensures old { result ≡ ⟦<State as Lookup>⟧.answer self.old key }
+        ensures answer { ⟦<State as Lookup>⟧.answer self.new ≡ with_answer (⟦<State as Lookup>⟧.answer self.old) key (Just answer) }
+        ensures room { room_of self.old ≤ room_of self.new + 1 }
+    {
+        match key {
+            Key::Control => Some(mem::replace(&mut self.control, answer)),
+            Key::Counter(None) => Some(mem::replace(&mut self.nominal, answer)),
+            Key::Uses => Some(mem::replace(&mut self.uses, answer)),
+            Key::Blocks => Some(mem::replace(&mut self.blocks, answer)),
+            Key::Ifs => Some(mem::replace(&mut self.ranges, answer)),
+            Key::Locals => Some(mem::replace(&mut self.locals, answer)),
+            key => self.exchange_other(key, answer),
+        }
+    }
+
+    fn exchange_other(&mut self, key: Key, answer: Answer) -> Option<Answer>
+        requires room { 0 < room_of self.old }
+        requires other { is_other key ≡ true }
+        ensures old { result ≡ ⟦<State as Lookup>⟧.answer self.old key }
+        ensures answer { (k : Key) → ⟦<State as Lookup>⟧.answer self.new k ≡ with_answer (⟦<State as Lookup>⟧.answer self.old) key (Just answer) k }
+        ensures room { room_of self.old ≤ room_of self.new + 1 }
+    {
+        let Ok(old) = self.others.insert(key, answer) else {
+            unreachable!();
+        };
+        old
+    }
+
     /// Puts the answers of a line, in their order.
     pub fn apply(&mut self, trace: &Trace) -> Result<(), AllocError>
         ensures ok { OnOk result (⟦<State as Lookup>⟧.answer self.new ≡ overwritten (⟦<State as Lookup>⟧.answer self.old) trace.now.puts) }
@@ -112,30 +166,10 @@ impl State {
 
     /// Puts one answer. What stood there goes by a call: an assignment here goes through all cases of an answer.
     fn put(&mut self, put: Put)
-        requires { 0 < hash.spare self.old.others }
+        requires { 0 < room_of self.old }
         ensures answer { ⟦<State as Lookup>⟧.answer self.new ≡ with_put (⟦<State as Lookup>⟧.answer self.old) put }
-        ensures room { hash.spare self.old.others ≤ hash.spare self.new.others + 1 }
+        ensures room { room_of self.old ≤ room_of self.new + 1 }
     {
-        match put.key {
-            Key::Control => drop(mem::replace(&mut self.control, put.answer)),
-            Key::Counter(None) => drop(mem::replace(&mut self.nominal, put.answer)),
-            Key::Uses => drop(mem::replace(&mut self.uses, put.answer)),
-            Key::Blocks => drop(mem::replace(&mut self.blocks, put.answer)),
-            Key::Ifs => drop(mem::replace(&mut self.ranges, put.answer)),
-            Key::Locals => drop(mem::replace(&mut self.locals, put.answer)),
-            key => self.put_other(key, put.answer),
-        }
-    }
-
-    fn put_other(&mut self, key: Key, answer: Answer)
-        requires room { 0 < hash.spare self.old.others }
-        requires other { is_other key ≡ true }
-        ensures answer { (k : Key) → ⟦<State as Lookup>⟧.answer self.new k ≡ with_put (⟦<State as Lookup>⟧.answer self.old) (record { key = key; answer = answer }) k }
-        ensures room { hash.spare self.old.others ≤ hash.spare self.new.others + 1 }
-    {
-        let Ok(old) = self.others.insert(key, answer) else {
-            unreachable!();
-        };
-        drop(old);
+        drop(self.exchange(put.key, put.answer));
     }
 }

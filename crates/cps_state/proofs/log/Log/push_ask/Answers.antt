@@ -1,4 +1,4 @@
-use Rattle.std.proofs.Common.{rules, ◌≡◌, ◌++◌, ◌∷◌, [], ℕ, List, length, Some, None, Option, cond, ap, subst, ◌∙◌, sym}
+use Rattle.std.proofs.Common.{rules, ◌≡◌, ◌++◌, ◌∷◌, [], List, length, Some, None, cond, ap, subst, ◌∙◌, sym}
 use Rattle.std.specs.HashMap as hash
 use Rattle.cps_state.specs.declared.key.Key.{Key}
 use Rattle.cps_state.specs.declared.key.Asked.{Asked as Ask}

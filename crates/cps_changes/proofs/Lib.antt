@@ -1,0 +1,3 @@
+pub mod ChangedLemmas
+pub mod ExchangeLemmas
+pub mod KeptLemmas

@@ -1,0 +1,24 @@
+-- For the code that keeps changed keys, not part of what a reader believes.
+use Rattle.std.specs.Prelude.{◌≡◌, ℕ, false, List, None, Some}
+use Rattle.indexmap.specs.IndexMap.{keys, get, index_map_len}
+use Rattle.cps_state.specs.declared.key.Key.{Key}
+use Rattle.cps_state.specs.contracts.key.KeyPartialEq.TheImpl.{eq-value}
+use Rattle.cps_state.specs.KeptAnswers.{is_other}
+use Rattle.cps_changes.specs.declared.changes.Changes.{Changes}
+use Rattle.cps_changes.specs.Changes.{Changed}
+
+-- what stands now at each key that is changed
+abbrev pub changes_in : Changes → Changed
+changes_in changes k = get (eq-value.it) changes.answers k
+
+-- how many keys are changed
+abbrev pub count_of : Changes → ℕ
+count_of changes = index_map_len changes.answers
+
+-- the keys that are changed, in an order of their own
+abbrev pub keys_in : Changes → List Key
+keys_in changes = keys changes.answers
+
+-- where always something stands, something stands now
+abbrev pub MayStandIn : Changed → Type 0
+MayStandIn now = (k : Key) → is_other k ≡ false → now k ≡ Some None → ⊥
