@@ -1,10 +1,12 @@
--- A layout with the words that one more put gives.
+-- Layouts: with the words that one more put gives, and of maps with the same entries.
 use Rattle.std.proofs.Common.{◌≡◌, ℕ, ◌+◌, ◌<◌, Bool, true, false, cond, ◌||◌, List, [], ◌∷◌, ◌++◌, length, get_or, drop, take, Option, None, Some, max, refl, sym, ap, ◌∙◌, arith}
-use Rattle.std.specs.Prelude.{option_map, unwrap_or, if◌then◌else◌}
+use Rattle.std.specs.Prelude.{option_map, unwrap_or, if◌then◌else◌, ◌&&◌, ◌==◌}
 use Rattle.std.specs.Cmp.{IsEquivalence}
+use Rattle.std.specs.Cmp.Lexicographic.{pointwise, bytes_decides}
 use Rattle.std.specs.List.{list_any, sum_by, slice_get}
-use Rattle.std.specs.Map.{keys_of}
+use Rattle.std.specs.Map.{keys_of, lookup}
 use Rattle.std.specs.HashMap.Eq.{lookup_congr}
+use Rattle.std.proofs.lemmas.Bool.{and_parts, eqb-true}
 use Rattle.std.proofs.lemmas.Cmp.{nat_list_eq_equiv}
 use Rattle.std.proofs.lemmas.List.{drop_more, take_more}
 use Rattle.std.proofs.lemmas.List.Sums.{sum_by-append}
@@ -21,6 +23,7 @@ use Rattle.cps_state.specs.Keys.{same_block, same_key, place_of}
 use Rattle.cps_gather.specs.Layout.{Layout, words_before, named_by}
 use Rattle.cps_gather.specs.Finals.{words_of_first}
 use Rattle.cps_gather.specs.Gathering.{size_kept, layout_kept, grown, grown_by, grown_to}
+use Rattle.cps_gather.specs.Storage.{AreSameNamed}
 
 pub same_name-laws : IsEquivalence same_name
 same_name-laws = record {
@@ -103,3 +106,34 @@ module _ (layout : Layout) (i : ℕ) (name : Name) (at : slice_get layout.named 
 -- the name of an entry is a key at its place
 pub key-at : {S : Type 0} (m : IndexMap Name ℕ S) (i : ℕ) (name : Name) (size : ℕ) → Some (name, size) ≡ slice_get m.entries i → slice_get (keys m) i ≡ Some name
 key-at m i name size at = slice_get-map (λ (e : Name × ℕ). e.0) m.entries i ∙ ap (option_map (λ (e : Name × ℕ). e.0)) (sym at)
+
+-- ---- maps with the same entries
+
+same_name-is : (a b : Name) → same_name a b ≡ true → a ≡ b
+same_name-is a b same = let bytes = (bytes_decides a.bytes b.bytes).0 same in λ i. record { bytes = bytes i }
+
+same_entry : Name × ℕ → Name × ℕ → Bool
+same_entry p q = same_name p.0 q.0 && p.1 == q.1
+
+same-entries : (es fs : List (Name × ℕ)) → pointwise same_entry es fs ≡ true → es ≡ fs
+unfolding same_entry
+same-entries [] [] h = refl
+same-entries [] (f ∷ fs) h = cc
+same-entries (e ∷ es) [] h = cc
+same-entries (e ∷ es) (f ∷ fs) h =
+    let both = and_parts (same_entry e f) (pointwise same_entry es fs) h in
+    let here = and_parts (same_name e.0 f.0) (e.1 == f.1) both.0 in
+    let name = same_name-is e.0 f.0 here.0 in
+    let size = eqb-true e.1 f.1 here.1 in
+    let rest = same-entries es fs both.1 in
+    λ i. (name i, size i) ∷ rest i
+
+pub are-same_named : {S : Type 0} (m n : IndexMap Name ℕ S) (nominal other : ℕ) (es fs : List (Name × ℕ)) → es ≡ m.entries → fs ≡ n.entries
+    → pointwise (λ p q. same_name p.0 q.0 && p.1 == q.1) es fs ≡ true → AreSameNamed (layout_kept nominal m) (layout_kept other n)
+unfolding same_entry
+are-same_named m n nominal other es fs left right same =
+    let entries : m.entries ≡ n.entries = sym left ∙ same-entries es fs same ∙ right in
+    record {
+      named = ap keys_of entries;
+      size = λ name. ap (λ (l : List (Name × ℕ)). unwrap_or (lookup (same_name name) l) 0) entries;
+    }

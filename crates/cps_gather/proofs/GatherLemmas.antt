@@ -128,6 +128,10 @@ gathered-more old new trace state layout pool program traces was =
 pub same-finals : (a b : Finals) → a.state ≡ b.state → a.layout ≡ b.layout → a.pool ≡ b.pool → a.program ≡ b.program → a ≡ b
 same-finals a b state layout pool program = λ i. record { state = state i; layout = layout i; pool = pool i; program = program i }
 
+-- another state, and the rest the same
+pub same-but-state : (a b : Finals) (s t : State) → a ≡ b → s ≡ t → record a { state = s } ≡ record b { state = t }
+same-but-state a b s t rest state = λ i. record (rest i) { state = state i }
+
 pub on_err : {T E P : Type 0} (r : Result T E) → P → OnErr r P
 on_err (Ok x) p = tt
 on_err (Err e) p = p
@@ -138,3 +142,14 @@ pub gathered-ok : {T E : Type 0} (r : Result T E) (old new : Finals) (trace : Tr
     → OnOk r ((traces : List Trace) → old ≡ finals_of traces → new ≡ finals_of (traces ++ trace ∷ []))
 gathered-ok (Ok x) old new trace state layout pool program = gathered-more old new trace state layout pool program
 gathered-ok (Err e) old new trace state layout pool program = tt
+
+-- the same of blocks, pool and name alone
+pub stored-more : (old new : Finals) (trace : Trace)
+    → new.layout ≡ grown_by old.layout trace.puts → new.pool ≡ insert_all nat_eq old.pool (literals_in trace) → new.program ≡ option_or old.program (first_program trace.items)
+    → (traces : List Trace) → record old { state = first_state } ≡ record (finals_of traces) { state = first_state }
+    → record new { state = first_state } ≡ record (finals_of (traces ++ trace ∷ [])) { state = first_state }
+stored-more old new trace layout pool program traces was =
+    let before : State = overwritten first_state (puts_of traces) in
+    let more = gathered-more (record old { state = before }) (record new { state = overwritten before trace.puts }) trace refl layout pool program traces
+    (ap (λ (f : Finals). record f { state = before }) was) in
+    ap (λ (f : Finals). record f { state = first_state }) more

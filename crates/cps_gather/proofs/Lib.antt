@@ -1,2 +1,4 @@
 pub mod BlockLemmas
 pub mod GatherLemmas
+pub mod MendLemmas
+mod PlaceLemmas

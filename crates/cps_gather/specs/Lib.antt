@@ -1,6 +1,9 @@
 pub mod Addresses
+pub mod Before
 pub mod Distinct
 pub mod Finals
 pub mod Gathering
 pub mod Layout
+pub mod Mend
 pub mod Pool
+pub mod Storage

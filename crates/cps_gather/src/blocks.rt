@@ -1,5 +1,5 @@
 //! How large the blocks of a source are.
-ghost use Rattle.std.specs.Prelude.{◌≡◌, ◌≤◌, ◌<◌, ◌+◌, ◌*◌, ◌^◌, [], OnOk, IfSome, length, position};
+ghost use Rattle.std.specs.Prelude.{◌≡◌, ◌↔◌, IfOk, IsTrue, ◌≤◌, ◌<◌, ◌+◌, ◌*◌, ◌^◌, [], OnOk, IfSome, length, position};
 ghost use Rattle.cps_code.specs.Place.{position as bits_before};
 ghost use Rattle.cps_expr.specs.declared.machine.Machine.TheVariants.{Cp};
 ghost use Rattle.cps_expr.specs.Value.{same_name};
@@ -7,6 +7,7 @@ ghost use Rattle.cps_state.specs.Machines.{limit};
 ghost use Rattle.cps_gather.specs.Layout.{layout_of, words_before};
 ghost use Rattle.cps_gather.specs.Finals.{words_of_first};
 ghost use Rattle.cps_gather.specs.Gathering.{layout_kept, grown, grown_by, grown_to};
+ghost use Rattle.cps_gather.specs.Storage.{AreSameNamed};
 ghost use Rattle.indexmap.specs.IndexMap.{spare, keys};
 
 use cps_code::Place;
@@ -31,6 +32,30 @@ impl Blocks {
             nominal: 0,
             named: IndexMap::with_hasher(alloc, hashing),
         }
+    }
+
+    /// The same once more.
+    pub fn copy(&self) -> Result<Blocks, AllocError>
+        ensures { IfOk result (λ copy. layout_kept copy.nominal copy.named ≡ layout_kept self.now.nominal self.now.named) }
+    {
+        Ok(Blocks {
+            nominal: self.nominal,
+            named: self.named.clone()?,
+        })
+    }
+
+    /// Whether there is no named block.
+    pub fn has_no_named(&self) -> bool
+        ensures { IsTrue result ↔ ((layout_kept self.now.nominal self.now.named).named ≡ []) }
+    {
+        self.named.is_empty()
+    }
+
+    /// Whether there are the same named blocks in both, in the same order, each with as many words.
+    pub fn are_same_named(&self, other: &Blocks) -> bool
+        ensures { IsTrue result → AreSameNamed (layout_kept self.now.nominal self.now.named) (layout_kept other.now.nominal other.now.named) }
+    {
+        self.named.as_slice() == other.named.as_slice()
     }
 
     /// Makes room for so many puts.

@@ -1,20 +1,14 @@
 use Rattle.std.proofs.Common.{refl, ap, ◌∙◌}
-use Rattle.cps_gather.specs.Layout.{Layout}
-use Rattle.cps_gather.specs.Gathering.{grown_by, layout_kept}
-use Rattle.cps_gather.proofs.GatherLemmas.{same-finals, on_err}
+use Rattle.cps_gather.specs.Finals.{Finals}
+use Rattle.cps_gather.specs.Gathering.{grown_by}
+use Rattle.cps_gather.proofs.GatherLemmas.{same-but-state, on_err}
 use Rattle.cps_gather.proofs.finals.Finals.add.Goals as goal
 
-pub returns-in_err-reserve-clause-err : goal.returns-in_err-reserve-clause-err
-returns-in_err-reserve-clause-err c = on_err c.from_residual-in_err-reserve.result (same-finals _ _ refl c.reserve.ensures.same refl refl)
-
-pub returns-in_err-reserve-2-clause-err : goal.returns-in_err-reserve-2-clause-err
-returns-in_err-reserve-2-clause-err c = on_err c.from_residual-in_err-reserve-2.result (same-finals _ _ refl c.reserve.ensures.same c.reserve-2.ensures.keys refl)
+pub returns-in_err-literals-clause-err : goal.returns-in_err-literals-clause-err
+returns-in_err-literals-clause-err c = on_err c.from_residual.result (same-but-state _ _ _ _ c.make_room.ensures.same refl)
 
 pub returns-in_err-apply-clause-err : goal.returns-in_err-apply-clause-err
-returns-in_err-apply-clause-err c =
-    on_err c.from_residual-in_err-apply.result (same-finals _ _ c.in_err-apply.ensures.err c.reserve.ensures.same c.reserve-2.ensures.keys refl)
+returns-in_err-apply-clause-err c = on_err c.from_residual-in_err-apply.result (same-but-state _ _ _ _ c.make_room.ensures.same c.in_err-apply.ensures.err)
 
 pub returns-clause-layout : goal.returns-clause-layout
-returns-clause-layout c =
-    c.put_all.ensures ∙ ap (λ (l : Layout). grown_by l c.puts-puts.result.now) c.reserve.ensures.same
-    ∙ ap (grown_by (layout_kept c.args.self.now.blocks.nominal c.args.self.now.blocks.named)) c.puts-puts.ensures
+returns-clause-layout c = c.take.ensures.layout ∙ ap (λ (f : Finals). grown_by f.layout c.args.trace.now.puts) c.make_room.ensures.same

@@ -1,6 +1,7 @@
-use Rattle.std.proofs.Common.{refl}
-use Rattle.cps_gather.proofs.GatherLemmas.{same-finals}
+use Rattle.std.proofs.Common.{[]}
+use Rattle.cps_gather.specs.Finals.{finals_of}
+use Rattle.cps_gather.proofs.GatherLemmas.{same-but-state}
 use Rattle.cps_gather.proofs.finals.Finals.new.Goals as goal
 
 pub returns : goal.returns
-returns c = same-finals _ _ c.first.ensures c.new.ensures c.with_hasher.ensures.empty refl
+returns c = same-but-state _ (finals_of []) _ _ c.new.ensures c.first.ensures

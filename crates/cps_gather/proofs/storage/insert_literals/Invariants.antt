@@ -1,7 +1,7 @@
 use Rattle.std.proofs.Common.{◌≡◌, ◌≤◌, drop, length}
 use Rattle.std.specs.Prelude.{nat_eq}
 use Rattle.indexmap.specs.IndexSet.{insert_all, spare}
-use Rattle.cps_gather.proofs.finals.insert_literals.Given as goal
+use Rattle.cps_gather.proofs.storage.insert_literals.Given as goal
 
 -- what is left gives the same pool, and there is room for it
 abbrev pub invariant-loop-literal : goal.invariant-loop-literal

@@ -4,9 +4,9 @@ use Rattle.std.proofs.lemmas.Int.{ints}
 use Rattle.cps_text.specs.declared.name.Name.{Name}
 use Rattle.cps_expr.specs.declared.value.Value.{Value}
 use Rattle.cps_expr.specs.Value.{plain, limited}
-use Rattle.cps_gather.specs.contracts.finals.FinalsGathered.TheImpl.{gathered-value}
 use Rattle.cps_gather.specs.Finals.{Finals, address_of, first_word, at_base}
-use Rattle.cps_gather.proofs.finals.Finals.final_of.Goals as goal
+use Rattle.cps_gather.specs.Storage.{stored}
+use Rattle.cps_gather.proofs.storage.Storage.final_of.Goals as goal
 
 plain-same : (value : Value) → value.block ≡ None → plain value.offset ≡ value
 plain-same value nominal = ap (λ (b : Option Name). record { block = b; offset = value.offset }) (sym nominal)
@@ -19,4 +19,4 @@ nominal-final finals value nominal =
     ap limited (sym (plain-same value nominal)) ∙ sym (ap (λ (z : ℤ). limited (plain z)) base)
 
 pub returns-in-None : goal.returns-in-None
-returns-in-None c = c.limited.ensures.value ∙ nominal-final (gathered-value.it c.args.self.now) c.args.value c.in-None.is
+returns-in-None c = c.limited.ensures.value ∙ nominal-final (stored c.args.self.now) c.args.value c.in-None.is
