@@ -35,6 +35,13 @@ impl Run {
         Ok(Run { asks, lasts })
     }
 
+    /// What it asks, each key once.
+    pub fn asks(&self) -> &[Asked]
+        ensures { result.now ≡ self.now.asks }
+    {
+        self.asks.as_slice()
+    }
+
     /// Of each of its puts, in their order, whether it is the last at its key.
     pub fn lasts(&self) -> &[bool]
         ensures { result.now ≡ self.now.lasts }

@@ -1,0 +1,4 @@
+pub mod MarkLemmas
+pub mod AbsentLemmas
+pub mod ChunkLemmas
+pub mod PastLemmas

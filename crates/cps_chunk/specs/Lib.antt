@@ -1,0 +1,3 @@
+pub mod Marks
+pub mod Chunk
+pub mod Past

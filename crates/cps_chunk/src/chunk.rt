@@ -1,0 +1,80 @@
+//! A chunk of a source: how many lines it has, and what is kept of them together.
+ghost use Rattle.std.specs.Prelude.{◌≡◌, ◌+◌, ◌<◌, ◌++◌, ◌∷◌, ℕ, [], List, IfOk, slice_set};
+ghost use Rattle.cps_state.specs.Course.{Trace as Did};
+ghost use Rattle.cps_chunk.specs.Chunk.{IsChunkOf, IsSummary, WasMarked};
+
+use crate::marks::Marks;
+use cps_holding::Run;
+use cps_naming::Names;
+use cps_state::{Hashing, Trace};
+use std::alloc::{AllocError, Global};
+
+/// What the lines of a chunk ask and name, exactly.
+#[derive(Drop)]
+pub struct Summary {
+    pub run: Run,
+    pub names: Names,
+}
+
+impl Summary {
+    /// Of lines that did this.
+    pub fn of(alloc: Global, hashing: Hashing, traces: &[Trace]) -> Result<Summary, AllocError>
+        ensures { IfOk result (λ summary. IsSummary traces.now summary) }
+    {
+        let run = Run::of(alloc, hashing, traces)?;
+        let names = Names::of(alloc, hashing, traces)?;
+        Ok(Summary { run, names })
+    }
+}
+
+/// Some lines one after another.
+#[derive(Drop)]
+pub struct Chunk {
+    pub lines: usize,
+    /// Marks of all keys that they put, and perhaps of others.
+    pub puts: Marks,
+    /// Marks of all keys that they ask, and of all labels that they name, and perhaps of others.
+    pub reads: Marks,
+    /// What they ask and name, if that was gathered.
+    pub summary: Option<Summary>,
+}
+
+impl Chunk {
+    /// Of lines that did this. Nothing is gathered of them, but marks.
+    pub fn of(hashing: Hashing, traces: &[Trace]) -> Chunk
+        ensures { IsChunkOf hashing traces.now result }
+    {
+        let mut chunk = Chunk {
+            lines: 0,
+            puts: Marks::none(),
+            reads: Marks::none(),
+            summary: None,
+        };
+        for trace in traces {
+            chunk.grow(hashing, trace);
+        }
+        chunk
+    }
+
+    /// With one line more, behind the others. What was gathered is forgotten.
+    pub fn grow(&mut self, hashing: Hashing, trace: &Trace)
+        requires { self.old.lines < usize.MAX }
+        ensures chunk { (ts : List Did) → IsChunkOf hashing ts self.old → IsChunkOf hashing (ts ++ trace.now ∷ []) self.new }
+        ensures lines { self.new.lines ≡ self.old.lines + 1 }
+    {
+        self.lines += 1;
+        self.mark(hashing, trace);
+    }
+
+    /// One of its lines does this now. What was gathered is forgotten, and the marks of what the line did before stay.
+    pub fn mark(&mut self, hashing: Hashing, trace: &Trace)
+        ensures lines { self.new.lines ≡ self.old.lines }
+        ensures marked { WasMarked hashing trace.now self.old self.new }
+        ensures chunk { (ts : List Did) (at : ℕ) → IsChunkOf hashing ts self.old → IsChunkOf hashing (slice_set ts at trace.now) self.new }
+    {
+        self.puts.mark_puts(hashing, trace);
+        self.reads.mark_asks(hashing, trace);
+        self.reads.mark_names(hashing, trace);
+        self.summary = None;
+    }
+}
