@@ -1,0 +1,13 @@
+pub mod SparseLemmas
+pub mod ReplayedLemmas
+pub mod ComparedLemmas
+pub mod NotedLemmas
+pub mod ReplayLemmas
+pub mod RedoLemmas
+pub mod LeavingLemmas
+pub mod StoringLemmas
+pub mod RunLemmas
+pub mod KeysLemmas
+pub mod PassedLemmas
+pub mod WalkLemmas
+pub mod GoLemmas

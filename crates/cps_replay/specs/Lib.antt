@@ -1,0 +1,11 @@
+pub mod Sparse
+pub mod Replayed
+pub mod Compared
+pub mod Noted
+pub mod Replay
+pub mod Ends
+pub mod Redo
+pub mod Leaving
+pub mod NoLiteral
+pub mod Storing
+pub mod Walk

@@ -1,0 +1,25 @@
+-- For the code that makes pass two again, not part of what a reader believes.
+use Rattle.std.specs.Prelude.{ℕ, nat_eq, Bool, ◌&&◌, length, List, [], ◌∷◌, Option, None, Some, if◌then◌else◌}
+use Rattle.cps_state.specs.Course.{Trace}
+use Rattle.cps_final.specs.Outcome.{Resolved}
+use Rattle.cps_naming.specs.Names.{Names, all_pass}
+use Rattle.cps_holding.specs.Agreeing.{same_at}
+use Rattle.cps_replay.specs.declared.sparse.At.{At}
+
+-- what a line does now, at its place, if it is disturbed in pass one
+abbrev pub new_at : ℕ → Option Trace → List (At Trace)
+new_at at None = []
+new_at at (Some trace) = record { at = at; item = trace } ∷ []
+
+-- what is new at a place, of items of which none stands at an earlier one, and those behind it
+abbrev pub first_at : ℕ → List (At Trace) → Option Trace
+first_at at [] = None
+first_at at (new ∷ news) = if nat_eq new.at at then Some new.item else None
+
+abbrev pub behind : ℕ → List (At Trace) → List (At Trace)
+behind at [] = []
+behind at (new ∷ news) = if nat_eq new.at at then news else new ∷ news
+
+-- nothing is new of some lines, and all that their statements name has the same final values
+abbrev pub is_passed : Resolved → Resolved → Names → List (At Trace) → Bool
+is_passed was now names news = nat_eq (length news) 0 && all_pass (same_at was now) names

@@ -1,0 +1,12 @@
+-- For the code that goes over lines, not part of what a reader believes: what stands behind them so far.
+use Rattle.cps_state.specs.Keys.{State}
+use Rattle.cps_changes.specs.Changes.{changed}
+use Rattle.cps_changes.specs.Kept.{changes_in}
+use Rattle.cps_replay.specs.declared.change_log.ChangeLog.{ChangeLog}
+
+-- what stands now where that stood before: behind the lines that were gone over, and behind the present ones too
+abbrev pub now_by : ChangeLog → State → State
+now_by log before = changed (changes_in log.changes) before
+
+abbrev pub now_with : ChangeLog → State → State
+now_with log before = changed (changes_in log.present) (now_by log before)

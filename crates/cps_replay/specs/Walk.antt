@@ -1,0 +1,59 @@
+-- For the code that goes over the lines of chunks, not part of what a reader believes.
+use Rattle.std.specs.Prelude.{◌≡◌, ℕ, ◌+◌, ◌≤◌, List, [], ◌∷◌, ◌++◌, length, take, drop, sum, if◌then◌else◌}
+use Rattle.cps_state.specs.Keys.{State, first_state}
+use Rattle.cps_state.specs.Course.{Trace}
+use Rattle.cps_state.specs.contracts.state.StateLookup.TheImpl.{answer-value}
+use Rattle.cps_changes.specs.Changes.{no_change}
+use Rattle.cps_changes.specs.Kept.{changes_in}
+use Rattle.cps_holding.specs.Holds.{holds}
+use Rattle.cps_holding.specs.Run.{run_of}
+use Rattle.cps_edit.specs.Passes.{state_after, traces_of}
+use Rattle.cps_chunk.specs.Chunk.{AreChunksOf, lengths_of}
+use Rattle.cps_chunk.specs.declared.chunk.Chunk.{Chunk}
+use Rattle.cps_replay.specs.Replay.{now_by}
+use Rattle.cps_replay.specs.Replayed.{replayed}
+use Rattle.cps_replay.specs.declared.walk.Baseline.{Baseline}
+use Rattle.cps_replay.specs.declared.walk.Cursor.{Cursor}
+use Rattle.cps_replay.specs.declared.walk.Walk.{Walk}
+
+-- a source as it stood: what stands before its first line, and what each line did
+pub record IsBaseline (base : Baseline) : Type 0 where
+  pub first : answer-value.it base.first.now ≡ first_state
+  pub did : base.traces.now ≡ traces_of base.lines.now
+
+-- and its chunks
+pub record IsWalk (walk : Walk) : Type 0 where
+  pub base : IsBaseline walk.base
+  pub chunks : AreChunksOf walk.base.hashing walk.chunks.items walk.base.traces.now
+
+-- one of its chunks, or the end of all, with as many lines in front of it as the chunks there have
+pub record StandsAt (chunks : List Chunk) (cursor : Cursor) : Type 0 where
+  pub within : cursor.chunk ≤ length chunks
+  pub line : cursor.line ≡ sum (take cursor.chunk (lengths_of chunks))
+
+-- those after the first `from` up to the first `to`
+abbrev pub stretch : {X : Type 0} → ℕ → ℕ → List X → List X
+stretch from to xs = drop from (take to xs)
+
+-- what stood in front of a line, and what stands there now
+abbrev pub stood_at : Baseline → ℕ → State
+stood_at base at = state_after first_state (take at base.lines.now)
+
+abbrev pub state_at : Walk → ℕ → State
+state_at walk at = stood_at walk.base at
+
+abbrev pub now_at : Walk → ℕ → State
+now_at walk at = now_by walk.replay.log (state_at walk at)
+
+-- lines from one on up to another were gone over: what they do now is noted, and what is changed behind them
+pub record GoesOver (old new : Walk) (from to : ℕ) : Type 0 where
+  pub news : new.replay.news.items
+      ≡ old.replay.news.items ++ replayed (now_at old from) from (stretch from to old.base.lines.now) (stretch from to old.base.traces.now)
+  pub state : now_at new to ≡ state_after (now_at old from) (stretch from to old.base.lines.now)
+  pub present : changes_in new.replay.log.present ≡ no_change
+
+-- how many lines of chunks are compared one by one: those of a chunk of whose asks one has another answer now
+abbrev pub looks_over : State → List ℕ → List (List ℕ) → List Trace → ℕ
+looks_over now [] lines traces = 0
+looks_over now (n ∷ lengths) lines traces =
+    (if holds (run_of (take n traces)).asks now then 0 else n) + looks_over (state_after now (take n lines)) lengths (drop n lines) (drop n traces)

@@ -1,0 +1,163 @@
+//! Pass two of an edit over lines that were there before.
+ghost use Rattle.std.specs.Prelude.{◌≡◌, ◌+◌, ◌<◌, ◌^◌, ◌∷◌, ◌++◌, [], OnOk, is_some, length, if◌then◌else◌};
+ghost use Rattle.std.specs.Option.{option_copied};
+ghost use Rattle.cps_state.specs.Work.{counted_on, raised};
+ghost use Rattle.cps_state.specs.declared.work.Tally.TheVariants.{Twos};
+ghost use Rattle.cps_final.specs.Outcome.{outcome_of};
+ghost use Rattle.cps_edit.specs.Compares.{ComparesUpTo, Steps};
+ghost use Rattle.cps_edit.specs.Disturbed.{is_redone};
+ghost use Rattle.cps_replay.specs.Ends.{was_of, now_of};
+ghost use Rattle.cps_replay.specs.Replayed.{redone};
+ghost use Rattle.cps_naming.specs.Names.{names_in};
+ghost use Rattle.cps_replay.specs.Redo.{new_at, first_at, behind, is_passed};
+ghost use Rattle.cps_replay.specs.Sparse.{AreWithin};
+
+use crate::ends::{Ends, same_finals};
+use crate::sparse::At;
+use cps_final::{Outcome, step_two};
+use cps_naming::Names;
+use cps_pass::{Trace, Work};
+use std::alloc::{AllocError, Global};
+
+/// Pass two of an edit, as far as it has come.
+pub struct Redo<'a> {
+    alloc: Global,
+    ends: Ends<'a>,
+    /// What it makes of those lines that are disturbed.
+    news: Vec<At<Outcome>>,
+}
+
+// Written out: what holds one drops it by a call.
+impl Drop for Redo<'_> {
+    fn drop(self) {
+        let Redo {
+            alloc: _,
+            ends: _,
+            news,
+        } = self;
+        drop(news);
+    }
+}
+
+impl<'a> Redo<'a> {
+    /// Under these final values. Takes no memory yet.
+    pub fn new(alloc: Global, ends: Ends<'a>) -> Redo<'a>
+        ensures ends { result.ends ≡ ends.entry }
+        ensures news { result.news.items ≡ [] }
+    {
+        Redo {
+            alloc,
+            ends,
+            news: Vec::new(alloc),
+        }
+    }
+
+    /// Goes over a line that was there before, with so many in front of it. If it does another thing in pass one, or names what has another final value now,
+    /// pass two is made of it.
+    pub fn go_over(
+        &mut self,
+        at: usize,
+        old: &Trace,
+        new: Option<&Trace>,
+        work: &mut Work,
+    ) -> Result<(), AllocError>
+        ensures news { OnOk result (self.new.news.items ≡ self.old.news.items ++ redone (was_of self.old.ends) (now_of self.old.ends) at (new_at at (option_copied new.entry)) (old.now ∷ [])) }
+        ensures ends { self.new.ends ≡ self.old.ends }
+        ensures steps { Steps result work.old work.new 0 (if is_redone (was_of self.old.ends) (now_of self.old.ends) (is_some (option_copied new.entry)) old.now then 1 else 0) }
+        ensures looked { work.new.looked ≡ counted_on work.old.looked (if is_some (option_copied new.entry) then 0 else 1) }
+    {
+        match new {
+            Some(trace) => self.make(at, trace, work),
+            None => {
+                if same_finals(old, self.ends, work) {
+                    return Ok(());
+                }
+                self.make(at, old, work)
+            }
+        }
+    }
+
+    /// Pass two of a line that does this, at its place.
+    fn make(&mut self, at: usize, trace: &Trace, work: &mut Work) -> Result<(), AllocError>
+        ensures news { OnOk result (self.new.news.items ≡ self.old.news.items ++ record { at = at; item = outcome_of (now_of self.old.ends) trace.now } ∷ []) }
+        ensures ends { self.new.ends ≡ self.old.ends }
+        ensures step { work.new ≡ raised Twos work.old }
+    {
+        let outcome = step_two(self.alloc, work, trace, self.ends.finals)?;
+        self.news.push(At { at, item: outcome })?;
+        Ok(())
+    }
+
+    /// Goes over lines that were there before, the first of them with so many in front of it. The news are all that is new of these lines, in the order of
+    /// their places; they are gone through beside the lines, and none is sought.
+    pub fn go_over_all(
+        &mut self,
+        from: usize,
+        olds: &[Trace],
+        news: &[At<Trace>],
+        work: &mut Work,
+    ) -> Result<(), AllocError>
+        requires room { from + length olds.now < 2 ^ 64 }
+        requires within { AreWithin from (from + length olds.now) news.now }
+        ensures news { OnOk result (self.new.news.items ≡ self.old.news.items ++ redone (was_of self.old.ends) (now_of self.old.ends) from news.now olds.now) }
+        ensures ends { self.new.ends ≡ self.old.ends }
+        ensures steps { Steps result work.old work.new 0 (length (redone (was_of self.old.ends) (now_of self.old.ends) from news.now olds.now)) }
+        ensures looked { ComparesUpTo work.old work.new (length olds.now) }
+    {
+        let mut left = news;
+        for i in 0..olds.len() {
+            let at = from + i;
+            let (new, rest) = split_at_place(left, at);
+            self.go_over(at, &olds[i], new, work)?;
+            left = rest;
+        }
+        Ok(())
+    }
+
+    /// The same of lines whose statements name this. Where nothing of them is new, and all of this has the same final values, they are passed at once, and
+    /// none is compared.
+    pub fn go_over_named(
+        &mut self,
+        from: usize,
+        olds: &[Trace],
+        news: &[At<Trace>],
+        names: &Names,
+        work: &mut Work,
+    ) -> Result<(), AllocError>
+        requires room { from + length olds.now < 2 ^ 64 }
+        requires within { AreWithin from (from + length olds.now) news.now }
+        requires names { names.now ≡ names_in olds.now }
+        ensures news { OnOk result (self.new.news.items ≡ self.old.news.items ++ redone (was_of self.old.ends) (now_of self.old.ends) from news.now olds.now) }
+        ensures ends { self.new.ends ≡ self.old.ends }
+        ensures steps { Steps result work.old work.new 0 (length (redone (was_of self.old.ends) (now_of self.old.ends) from news.now olds.now)) }
+        ensures looked { ComparesUpTo work.old work.new (if is_passed (was_of self.old.ends) (now_of self.old.ends) names.now news.now then 0 else length olds.now) }
+    {
+        if news.is_empty() && names.all_pass(&self.ends) {
+            return Ok(());
+        }
+        self.go_over_all(from, olds, news, work)
+    }
+
+    /// What is made anew.
+    pub fn into_news(self) -> Vec<At<Outcome>>
+        ensures { result ≡ self.entry.news }
+    {
+        let Redo {
+            alloc: _,
+            ends: _,
+            news,
+        } = self;
+        news
+    }
+}
+
+/// What is new at a place, of items of which none stands at an earlier one, and those behind it.
+fn split_at_place(news: &[At<Trace>], at: usize) -> (Option<&Trace>, &[At<Trace>])
+    ensures new { option_copied result.0 ≡ first_at at news.now }
+    ensures rest { result.1.now ≡ behind at news.now }
+{
+    match news.split_first() {
+        Some((new, rest)) if new.at == at => (Some(&new.item), rest),
+        _ => (None, news),
+    }
+}

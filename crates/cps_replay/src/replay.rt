@@ -1,0 +1,212 @@
+//! Pass one of an edit: new lines, and lines that were there before.
+ghost use Rattle.std.specs.Prelude.{◌≡◌, ◌∷◌, ◌++◌, [], List, OnOk, IfOk, if◌then◌else◌, Some as Just};
+ghost use Rattle.cps_state.specs.Keys.{overwritten};
+ghost use Rattle.cps_state.specs.Work.{counted_on};
+ghost use Rattle.cps_state.specs.declared.key.Put.{Put as APut};
+ghost use Rattle.cps_changes.specs.Changes.{no_change, settled};
+ghost use Rattle.cps_changes.specs.Kept.{changes_in};
+ghost use Rattle.cps_final.specs.Layout.{puts_of};
+ghost use Rattle.cps_pass.specs.Expansion.{trace_of};
+ghost use Rattle.cps_edit.specs.Compares.{Steps};
+ghost use Rattle.cps_edit.specs.Disturbed.{is_disturbed};
+ghost use Rattle.cps_edit.specs.Passes.{after};
+ghost use Rattle.cps_replay.specs.Noted.{AreHeld, last_puts, noted, stands};
+ghost use Rattle.cps_replay.specs.Replay.{now_by, now_with};
+ghost use Rattle.cps_replay.specs.Replayed.{replayed};
+
+use crate::change_log::ChangeLog;
+use crate::now::{Known, Now};
+use crate::sparse::At;
+use crate::standing::{asks_stand, still_stands};
+use cps_changes::Changes;
+use cps_holding::Run;
+use cps_pass::{Hashing, Sheet, Trace, Work, step_over};
+use cps_state::Lookup;
+use cps_text::Line;
+use std::alloc::{AllocError, Global};
+use std::mem::replace;
+use std::slice::from_ref;
+
+/// A line that was there before, with so many in front of it, and what it did.
+#[derive(Clone, Copy)]
+pub struct OldLine<'a> {
+    pub at: usize,
+    pub line: &'a Line,
+    pub trace: &'a Trace,
+}
+
+/// Pass one of an edit, as far as it has come.
+pub struct Replay {
+    alloc: Global,
+    log: ChangeLog,
+    /// What those lines do now that are disturbed.
+    news: Vec<At<Trace>>,
+    /// The lists that the next line uses.
+    sheet: Sheet,
+}
+
+// Written out: what holds one drops it by a call.
+impl Drop for Replay {
+    fn drop(self) {
+        let Replay {
+            alloc: _,
+            log,
+            news,
+            sheet,
+        } = self;
+        drop(log);
+        drop(news);
+        drop(sheet);
+    }
+}
+
+impl Replay {
+    /// Nothing is changed. Takes no memory yet.
+    pub fn new(alloc: Global, hashing: Hashing) -> Replay
+        ensures changes { changes_in result.log.changes ≡ no_change }
+        ensures present { changes_in result.log.present ≡ no_change }
+        ensures news { result.news.items ≡ [] }
+    {
+        Replay {
+            alloc,
+            log: ChangeLog::new(alloc, hashing),
+            news: Vec::new(alloc),
+            sheet: Sheet::new(alloc),
+        }
+    }
+
+    /// Goes over a line that was there before, where that stood in front of it then. If something that it asked has another answer now, it is stepped.
+    pub fn go_over<L: Lookup>(
+        &mut self,
+        old: OldLine,
+        past: &L,
+        work: &mut Work,
+    ) -> Result<(), AllocError>
+        requires did { old.trace.now ≡ trace_of old.line.now (L.answer past.now) }
+        requires present { changes_in self.old.log.present ≡ no_change }
+        ensures news { OnOk result (self.new.news.items ≡ self.old.news.items
+            ++ replayed (now_by self.old.log (L.answer past.now)) old.entry.at (old.entry.line.now ∷ []) (old.entry.trace.now ∷ [])) }
+        ensures state { OnOk result (now_by self.new.log (after (L.answer past.now) old.entry.line.now)
+            ≡ after (now_by self.old.log (L.answer past.now)) old.entry.line.now) }
+        ensures present { OnOk result (changes_in self.new.log.present ≡ no_change) }
+        ensures steps { Steps result work.old work.new (if is_disturbed (Just old.entry.trace.now) (now_by self.old.log (L.answer past.now)) then 1 else 0) 0 }
+        ensures looked { work.new.looked ≡ counted_on work.old.looked 1 }
+    {
+        if still_stands(old.trace, self.log.changes(), work) {
+            self.log.settle(old.trace.puts());
+            return Ok(());
+        }
+        let known = Known {
+            asks: old.trace.asks(),
+            past,
+        };
+        let trace = self.step(old.line, &known, work)?;
+        self.log.put(trace.puts())?;
+        self.log.close(from_ref(old.trace), &known)?;
+        self.news.push(At {
+            at: old.at,
+            item: trace,
+        })?;
+        Ok(())
+    }
+
+    /// What a new line does behind those so far, where that stood in front of the first new one before.
+    pub fn enter<L: Lookup>(
+        &mut self,
+        line: &Line,
+        past: &L,
+        work: &mut Work,
+    ) -> Result<Trace, AllocError>
+        ensures trace { IfOk result (λ trace. trace ≡ trace_of line.now (now_with self.old.log (L.answer past.now))) }
+        ensures puts { IfOk result (λ trace. (news : List APut) → changes_in self.old.log.present ≡ last_puts news
+            → changes_in self.new.log.present ≡ last_puts (news ++ trace.puts)) }
+        ensures state { OnOk result (now_with self.new.log (L.answer past.now) ≡ after (now_with self.old.log (L.answer past.now)) line.now) }
+        ensures changes { self.new.log.changes ≡ self.old.log.changes }
+        ensures news { self.new.news ≡ self.old.news }
+        ensures steps { Steps result work.old work.new 1 0 }
+        ensures looked { work.new.looked ≡ work.old.looked }
+    {
+        let trace = self.step(line, past, work)?;
+        self.log.put(trace.puts())?;
+        Ok(trace)
+    }
+
+    /// The new lines end. In their place stood these, in front of which that stood.
+    pub fn close<L: Lookup>(&mut self, gone: &[Trace], past: &L) -> Result<(), AllocError>
+        requires held { AreHeld (L.answer past.now) gone.now }
+        ensures changes { OnOk result ((news : List APut) → changes_in self.old.log.present ≡ last_puts news
+            → changes_in self.new.log.changes ≡ noted (changes_in self.old.log.changes) (L.answer past.now) (puts_of gone.now) news) }
+        ensures present { OnOk result (changes_in self.new.log.present ≡ no_change) }
+        ensures news { self.new.news ≡ self.old.news }
+    {
+        self.log.close(gone, past)
+    }
+
+    /// What a line does now, where that stood in front of it before.
+    fn step<L: Lookup>(
+        &mut self,
+        line: &Line,
+        before: &L,
+        work: &mut Work,
+    ) -> Result<Trace, AllocError>
+        ensures trace { IfOk result (λ trace. trace ≡ trace_of line.now (now_with self.old.log (L.answer before.now))) }
+        ensures log { self.new.log ≡ self.old.log }
+        ensures news { self.new.news ≡ self.old.news }
+        ensures steps { Steps result work.old work.new 1 0 }
+        ensures looked { work.new.looked ≡ work.old.looked }
+    {
+        let sheet = replace(&mut self.sheet, Sheet::new(self.alloc));
+        let behind = Now {
+            changes: self.log.changes(),
+            before,
+        };
+        let now = Now {
+            changes: self.log.present(),
+            before: &behind,
+        };
+        let trace = step_over(self.alloc, work, sheet, line, &now)?;
+        let (trace, sheet) = trace.into_exact(self.alloc)?;
+        self.sheet = sheet;
+        Ok(trace)
+    }
+
+    /// Goes over lines that put the same as before.
+    pub fn settle_all(&mut self, traces: &[Trace])
+        ensures changes { changes_in self.new.log.changes ≡ settled (changes_in self.old.log.changes) (puts_of traces.now) }
+        ensures present { self.new.log.present ≡ self.old.log.present }
+        ensures news { self.new.news ≡ self.old.news }
+    {
+        for trace in traces {
+            self.log.settle(trace.puts());
+        }
+    }
+
+    /// Whether all that a run of lines asks has the answers that it had, so that its lines do the same. It is counted nowhere, and takes no memory.
+    pub fn run_stands(&self, run: &Run) -> bool
+        ensures { result ≡ stands (changes_in self.now.log.changes) run.now.asks }
+    {
+        asks_stand(run.asks(), self.log.changes())
+    }
+
+    /// Which keys are changed behind the lines so far.
+    pub fn changes(&self) -> &Changes
+        ensures { result.now ≡ self.now.log.changes }
+    {
+        self.log.changes()
+    }
+
+    /// What is made anew of lines that were there before, and which keys are changed behind the last.
+    pub fn into_parts(self) -> (Vec<At<Trace>>, Changes)
+        ensures news { result.0 ≡ self.news }
+        ensures changes { result.1 ≡ self.log.changes }
+    {
+        let Replay {
+            alloc: _,
+            log,
+            news,
+            sheet,
+        } = self;
+        drop(sheet);
+        (news, log.into_changes())
+    }
+}

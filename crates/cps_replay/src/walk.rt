@@ -1,0 +1,343 @@
+//! Pass one of an edit over a source in chunks.
+ghost use Rattle.std.specs.Prelude.{◌≡◌, ◌+◌, ◌-◌, ◌<◌, ◌≤◌, ◌++◌, [], List, OnOk, IfOk, true, false, is_some, length, take, drop, sum, if◌then◌else◌};
+ghost use Rattle.std.specs.List.{list_any};
+ghost use Rattle.cps_state.specs.declared.key.Key.{Key as AKey};
+ghost use Rattle.cps_state.specs.declared.key.Put.{Put as APut};
+ghost use Rattle.cps_state.specs.Course.{last_put as last_put_by};
+ghost use Rattle.cps_changes.specs.Changes.{no_change, settled};
+ghost use Rattle.cps_changes.specs.Kept.{changes_in, keys_in};
+ghost use Rattle.cps_final.specs.Layout.{puts_of};
+ghost use Rattle.cps_pass.specs.Expansion.{trace_of};
+ghost use Rattle.cps_holding.specs.Holds.{holds};
+ghost use Rattle.cps_holding.specs.Run.{run_of};
+ghost use Rattle.cps_edit.specs.Compares.{ComparesUpTo, Steps};
+ghost use Rattle.cps_edit.specs.Passes.{after};
+ghost use Rattle.cps_chunk.specs.Chunk.{AreChunksOf, IsChunkOf, lengths_of};
+ghost use Rattle.cps_chunk.specs.Marks.{has, mark_of};
+ghost use Rattle.cps_replay.specs.Noted.{last_puts, noted, stands};
+ghost use Rattle.cps_replay.specs.Replay.{now_with};
+ghost use Rattle.cps_replay.specs.Replayed.{replayed};
+ghost use Rattle.cps_replay.specs.Walk.{IsBaseline, IsWalk, GoesOver, StandsAt, looks_over, now_at, state_at, stood_at, stretch};
+
+use crate::replay::{OldLine, Replay};
+use cps_changes::Changes;
+use cps_chunk::{Chunk, Marks, Past, Summary, last_put, mark_of};
+use cps_pass::{Hashing, Trace, Work};
+use cps_state::{Key, Lookup, State};
+use cps_text::Line;
+use std::alloc::{AllocError, Global};
+
+/// The most changed keys that are sought by their marks.
+const FEW: usize = 64;
+
+/// What is kept of a source, as it stood before an edit.
+#[derive(Clone, Copy)]
+pub struct Baseline<'a> {
+    pub alloc: Global,
+    pub hashing: Hashing,
+    /// What stands before the first line.
+    pub first: &'a State,
+    pub lines: &'a [Line],
+    pub traces: &'a [Trace],
+}
+
+/// A chunk, and how many lines stand in front of it.
+#[derive(Clone, Copy)]
+pub struct Cursor {
+    pub chunk: usize,
+    pub line: usize,
+}
+
+/// Pass one of an edit over a source in chunks, as far as it has come.
+pub struct Walk<'a> {
+    base: Baseline<'a>,
+    chunks: Vec<Chunk>,
+    replay: Replay,
+}
+
+// Written out: what holds one drops it by a call.
+impl Drop for Walk<'_> {
+    fn drop(self) {
+        let Walk {
+            base: _,
+            chunks,
+            replay,
+        } = self;
+        drop(chunks);
+        drop(replay);
+    }
+}
+
+impl<'a> Walk<'a> {
+    /// In front of an edit. Takes no memory yet.
+    pub fn new(base: Baseline<'a>, chunks: Vec<Chunk>) -> Walk<'a>
+        ensures base { result.base ≡ base.entry }
+        ensures chunks { result.chunks ≡ chunks }
+        ensures changes { changes_in result.replay.log.changes ≡ no_change }
+        ensures present { changes_in result.replay.log.present ≡ no_change }
+        ensures news { result.replay.news.items ≡ [] }
+    {
+        Walk {
+            base,
+            chunks,
+            replay: Replay::new(base.alloc, base.hashing),
+        }
+    }
+
+    /// The chunk of a line, and the end of all for one too many.
+    fn cursor_at(&self, at: usize) -> Cursor
+        requires { IsWalk self.now }
+        ensures stands { StandsAt self.now.chunks.items result }
+        ensures begins { result.line ≤ at }
+    {
+        let mut line = 0;
+        for chunk in 0..self.chunks.len() {
+            let lines = self.chunks[chunk].lines;
+            if at - line < lines {
+                return Cursor { chunk, line };
+            }
+            line += lines;
+        }
+        Cursor {
+            chunk: self.chunks.len(),
+            line,
+        }
+    }
+
+    /// A line that is new, behind those so far, in the place of those after the first `keep`: what it does.
+    pub fn enter(&mut self, keep: usize, line: &Line, work: &mut Work) -> Result<Trace, AllocError>
+        requires walk { IsWalk self.old }
+        requires within { keep ≤ length self.old.base.lines.now }
+        ensures trace { IfOk result (λ trace. trace ≡ trace_of line.now (now_with self.old.replay.log (state_at self.old keep))) }
+        ensures puts { IfOk result (λ trace. (news : List APut) → changes_in self.old.replay.log.present ≡ last_puts news → changes_in self.new.replay.log.present ≡ last_puts (news ++ trace.puts)) }
+        ensures state { OnOk result (now_with self.new.replay.log (state_at self.old keep) ≡ after (now_with self.old.replay.log (state_at self.old keep)) line.now) }
+        ensures rest { (self.new.base ≡ self.old.base) × (self.new.chunks ≡ self.old.chunks) × (self.new.replay.news ≡ self.old.replay.news) }
+        ensures steps { Steps result work.old work.new 1 0 }
+        ensures looked { work.new.looked ≡ work.old.looked }
+    {
+        let cursor = self.cursor_at(keep);
+        let past = past_of(self.base, &self.chunks, cursor, keep);
+        self.replay.enter(line, &past, work)
+    }
+
+    /// The new lines end, which come in the place of those after the first `keep` up to the first `from`.
+    pub fn close(&mut self, keep: usize, from: usize) -> Result<(), AllocError>
+        requires walk { IsWalk self.old }
+        requires ordered { keep ≤ from }
+        requires within { from ≤ length self.old.base.lines.now }
+        ensures changes { OnOk result ((news : List APut) → changes_in self.old.replay.log.present ≡ last_puts news
+            → changes_in self.new.replay.log.changes ≡ noted (changes_in self.old.replay.log.changes) (state_at self.old keep) (puts_of (stretch keep from self.old.base.traces.now)) news) }
+        ensures present { OnOk result (changes_in self.new.replay.log.present ≡ no_change) }
+        ensures rest { (self.new.base ≡ self.old.base) × (self.new.chunks ≡ self.old.chunks) × (self.new.replay.news ≡ self.old.replay.news) }
+    {
+        let cursor = self.cursor_at(keep);
+        let past = past_of(self.base, &self.chunks, cursor, keep);
+        self.replay.close(part(self.base.traces, keep, from), &past)
+    }
+
+    /// Goes over the lines after the first `from` up to the first `to`, one by one, as long as something is changed.
+    pub fn go_over_lines(
+        &mut self,
+        from: usize,
+        to: usize,
+        work: &mut Work,
+    ) -> Result<(), AllocError>
+        requires walk { IsWalk self.old }
+        requires ordered { from ≤ to }
+        requires within { to ≤ length self.old.base.lines.now }
+        requires present { changes_in self.old.replay.log.present ≡ no_change }
+        ensures over { OnOk result (GoesOver self.old self.new from to) }
+        ensures rest { (self.new.base ≡ self.old.base) × (self.new.chunks ≡ self.old.chunks) }
+        ensures steps { Steps result work.old work.new (length (replayed (now_at self.old from) from (stretch from to self.old.base.lines.now) (stretch from to self.old.base.traces.now))) 0 }
+        ensures looked { ComparesUpTo work.old work.new (to - from) }
+    {
+        let cursor = self.cursor_at(from);
+        self.go_over_from(cursor, from, to, work)
+    }
+
+    /// The same, where the first of them stands in this chunk.
+    fn go_over_from(
+        &mut self,
+        cursor: Cursor,
+        from: usize,
+        to: usize,
+        work: &mut Work,
+    ) -> Result<(), AllocError>
+        requires walk { IsWalk self.old }
+        requires cursor { StandsAt self.old.chunks.items cursor }
+        requires begins { cursor.line ≤ from }
+        requires ordered { from ≤ to }
+        requires within { to ≤ length self.old.base.lines.now }
+        requires present { changes_in self.old.replay.log.present ≡ no_change }
+        ensures over { OnOk result (GoesOver self.old self.new from to) }
+        ensures rest { (self.new.base ≡ self.old.base) × (self.new.chunks ≡ self.old.chunks) }
+        ensures steps { Steps result work.old work.new (length (replayed (now_at self.old from) from (stretch from to self.old.base.lines.now) (stretch from to self.old.base.traces.now))) 0 }
+        ensures looked { ComparesUpTo work.old work.new (to - from) }
+    {
+        for at in from..to {
+            if self.replay.changes().is_empty() {
+                return Ok(());
+            }
+            let old = OldLine {
+                at,
+                line: &self.base.lines[at],
+                trace: &self.base.traces[at],
+            };
+            let past = past_of(self.base, &self.chunks, cursor, at);
+            self.replay.go_over(old, &past, work)?;
+        }
+        Ok(())
+    }
+
+    /// Whether the lines of a chunk, up to this end, do what they did. It is counted nowhere.
+    pub fn does_the_same(&mut self, cursor: Cursor, end: usize) -> Result<bool, AllocError>
+        requires walk { IsWalk self.old }
+        requires cursor { StandsAt self.old.chunks.items cursor }
+        requires within { cursor.chunk < length self.old.chunks.items }
+        requires end { end ≡ sum (take (cursor.chunk + 1) (lengths_of self.old.chunks.items)) }
+        ensures same { IfOk result (λ same. same ≡ stands (changes_in self.old.replay.log.changes) (run_of (stretch cursor.line end self.old.base.traces.now)).asks) }
+        ensures walk { IsWalk self.new }
+        ensures lengths { lengths_of self.new.chunks.items ≡ lengths_of self.old.chunks.items }
+        ensures rest { (self.new.base ≡ self.old.base) × (self.new.replay ≡ self.old.replay) }
+    {
+        let traces = part(self.base.traces, cursor.line, end);
+        let chunk = &mut self.chunks[cursor.chunk];
+        if !may_have(self.base.hashing, &chunk.reads, self.replay.changes()) {
+            return Ok(true);
+        }
+        gather(self.base, chunk, traces)?;
+        match &chunk.summary {
+            Some(summary) => Ok(self.replay.run_stands(&summary.run)),
+            None => Ok(false),
+        }
+    }
+
+    /// Goes over a chunk whose lines do what they did.
+    pub fn settle(&mut self, cursor: Cursor, end: usize)
+        requires walk { IsWalk self.old }
+        requires cursor { StandsAt self.old.chunks.items cursor }
+        requires within { cursor.chunk < length self.old.chunks.items }
+        requires end { end ≡ sum (take (cursor.chunk + 1) (lengths_of self.old.chunks.items)) }
+        ensures changes { changes_in self.new.replay.log.changes ≡ settled (changes_in self.old.replay.log.changes) (puts_of (stretch cursor.line end self.old.base.traces.now)) }
+        ensures present { self.new.replay.log.present ≡ self.old.replay.log.present }
+        ensures news { self.new.replay.news ≡ self.old.replay.news }
+        ensures rest { (self.new.base ≡ self.old.base) × (self.new.chunks ≡ self.old.chunks) }
+    {
+        let traces = part(self.base.traces, cursor.line, end);
+        if !may_put(
+            self.base.hashing,
+            &self.chunks[cursor.chunk],
+            traces,
+            self.replay.changes(),
+        ) {
+            return;
+        }
+        self.replay.settle_all(traces);
+    }
+
+    /// The chunks, and what is made anew of the lines.
+    pub fn into_parts(self) -> (Vec<Chunk>, Replay)
+        ensures chunks { result.0 ≡ self.entry.chunks }
+        ensures replay { result.1 ≡ self.entry.replay }
+    {
+        let Walk {
+            base: _,
+            chunks,
+            replay,
+        } = self;
+        (chunks, replay)
+    }
+}
+
+/// What stood in front of a line, behind the chunks in front of this one and the lines behind these.
+fn past_of<'a, 'b: 'a>(
+    base: Baseline<'b>,
+    chunks: &'a [Chunk],
+    cursor: Cursor,
+    at: usize,
+) -> Past<'a>
+    requires base { IsBaseline base }
+    requires chunks { AreChunksOf base.hashing chunks.now base.traces.now }
+    requires cursor { StandsAt chunks.now cursor }
+    requires behind { cursor.line ≤ at }
+    requires within { at ≤ length base.lines.now }
+    ensures { ⟦<Past<'a> as Lookup>⟧.answer result ≡ stood_at base.entry at }
+{
+    let (before, _) = chunks.split_at(cursor.chunk);
+    let (front, behind) = base.traces.split_at(cursor.line);
+    let (loose, _) = behind.split_at(at - cursor.line);
+    Past::of(base.first, base.hashing, before, front, loose)
+}
+
+/// What the lines after the first `from` up to the first `to` did.
+fn part<'a>(traces: &'a [Trace], from: usize, to: usize) -> &'a [Trace]
+    requires ordered { from ≤ to }
+    requires within { to ≤ length traces.now }
+    ensures { result.now ≡ stretch from to traces.now }
+{
+    &traces[from..to]
+}
+
+/// Gathers what the lines of a chunk ask together, if it was not.
+fn gather(base: Baseline, chunk: &mut Chunk, traces: &[Trace]) -> Result<(), AllocError>
+    requires { IsChunkOf base.hashing traces.now chunk.old }
+    ensures chunk { IsChunkOf base.entry.hashing traces.now chunk.new }
+    ensures lines { chunk.new.lines ≡ chunk.old.lines }
+    ensures gathered { OnOk result (is_some chunk.new.summary ≡ true) }
+{
+    if chunk.summary.is_some() {
+        return Ok(());
+    }
+    let summary = Summary::of(base.alloc, base.hashing, traces)?;
+    chunk.summary = Some(summary);
+    Ok(())
+}
+
+/// Whether a changed key may have its mark, which of many keys isn't sought. It is counted nowhere, and takes no memory.
+fn may_have(hashing: Hashing, marks: &Marks, changes: &Changes) -> bool
+    ensures { result ≡ false → (k : AKey) → is_some (changes_in changes.now k) ≡ true → has marks.now (mark_of hashing k) ≡ false }
+{
+    if changes.count() > FEW {
+        return true;
+    }
+    has_key(hashing, marks, changes)
+}
+
+/// Whether one of these keys has its mark.
+fn has_key(hashing: Hashing, marks: &Marks, keys: &Changes) -> bool
+    ensures { result ≡ list_any (λ k. has marks.now (mark_of hashing k)) (keys_in keys.now) }
+{
+    for i in 0..keys.count() {
+        if marks.has(mark_of(hashing, keys.key(i))) {
+            return true;
+        }
+    }
+    false
+}
+
+/// Whether the lines of a chunk, which did this, may put a changed key. Their puts are gone through only for a key that has its mark.
+fn may_put(hashing: Hashing, chunk: &Chunk, traces: &[Trace], changes: &Changes) -> bool
+    requires { IsChunkOf hashing traces.now chunk.now }
+    ensures { result ≡ false → settled (changes_in changes.now) (puts_of traces.now) ≡ changes_in changes.now }
+{
+    if changes.count() > FEW {
+        return true;
+    }
+    for i in 0..changes.count() {
+        if puts_key(hashing, chunk, traces, changes.key(i)) {
+            return true;
+        }
+    }
+    false
+}
+
+/// Whether they put this key.
+fn puts_key(hashing: Hashing, chunk: &Chunk, traces: &[Trace], key: Key) -> bool
+    requires { IsChunkOf hashing traces.now chunk.now }
+    ensures { result ≡ is_some (last_put_by (puts_of traces.now) key) }
+{
+    if !chunk.puts.has(mark_of(hashing, key)) {
+        return false;
+    }
+    last_put(traces, &key).is_some()
+}
