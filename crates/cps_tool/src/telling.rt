@@ -17,7 +17,7 @@ pub const FAULTY: u8 = 2;
 
 pub const NO_MEMORY: &str = "no memory\n";
 
-pub const NO_FILES: &str = "error: no file is read here\n";
+pub const NO_FILES: &str = "error: no file is read or written here\n";
 
 /// Says why words ask nothing.
 pub fn tell_unread<W: Write, E: Write>(

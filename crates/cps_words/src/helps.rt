@@ -5,7 +5,8 @@ pub const ABOUT: &str = "A cross-assembler for COMPASS Version 3 of the CDC 6000
 pub const MORE: &str = "\
 A source (batch, check, compare) is read from a file or from standard input, a
 script (session) from standard input, and what is asked for is written to
-standard output. 'compass COMMAND --help' says more.
+standard output; batch also writes texts into files. 'compass COMMAND --help'
+says more.
 
 Exit status:
   0  no line is flagged, and no word differs (compare)
@@ -64,7 +65,9 @@ line may have, is written where that is and what is wrong:
   deck.cps:3:19: error: U: no line gives LOOPS a value; it counts as 0
       3 |           SA1     LOOPS
         |                   ^^^^^
-Behind the name of the file stand the number of the line and the column.
+Behind the name of the file stand the number of the line and the column. A note
+is told of what has no flag and is often not meant, as a symbol that no line
+reads; it changes no status.
 
 Exit status:
   0  no line is flagged, or has such a byte
