@@ -3,8 +3,8 @@
 -- From the manual's section on the two passes.
 use Rattle.std.specs.Prelude.{ℕ, Bool, List, map}
 use Rattle.cps_state.specs.Course.{Trace}
-use Rattle.cps_final.specs.Finals.{Finals, finals_of, final_value, is_open_at_end}
-use Rattle.cps_final.specs.Outcome.{Outcome, outcome_of}
+use Rattle.cps_list.specs.Finals.{Finals, finals_of, final_value, is_open_at_end}
+use Rattle.cps_list.specs.Outcome.{Outcome, outcome_of}
 use Rattle.cps_list.specs.Assembly.{Assembly}
 pub use Rattle.cps_edit.specs.Passes.{after, state_after, traces_from, traces_of}
 

@@ -2,7 +2,7 @@
 ghost use Rattle.std.specs.Prelude.{◌≡◌, ◌+◌, ◌≤◌, length};
 ghost use Rattle.cps_list.specs.Flagged.{flagged_in, flagged_with};
 
-use cps_final::Outcome;
+use cps_list::Outcome;
 
 /// How many of these lines have a flag, and one more if a range is open after them. Takes no memory.
 pub fn flagged_lines(outcomes: &[Outcome], is_open: bool) -> usize

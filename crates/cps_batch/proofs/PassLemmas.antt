@@ -17,7 +17,7 @@ use Rattle.cps_batch.specs.declared.passes.PassOne.{PassOne}
 use Rattle.cps_batch.specs.declared.passes.PassTwo.{PassTwo}
 use Rattle.cps_gather.specs.contracts.finals.FinalsGathered.TheImpl.{gathered-value}
 use Rattle.cps_batch.specs.Passes.{statements_of, IsPassed, IsShown}
-use Rattle.cps_edit.proofs.SpliceLemmas.{traces_from-append, length-traces_from, puts-state}
+use Rattle.cps_assembly.proofs.SpliceLemmas.{traces_from-append, length-traces_from, puts-state}
 
 -- the trace of the line after those that were gathered
 pub step-next : (finals : Finals) (before : List (List ℕ)) (line : List ℕ) (trace : Trace) (state : State) → Gathers finals (traces_of before) → state ≡ finals.state

@@ -2,7 +2,7 @@
 ghost use Rattle.std.specs.Prelude.{IfOk};
 ghost use Rattle.cps_chunks.specs.Chunks.{AreSummed};
 
-use cps_chunks::{Chunk, sum_up, unsummed};
+use cps_chunks::{Chunk, sum_up};
 use cps_pass::{Hashing, State, Trace, Work, step_one};
 use cps_text::Line;
 use std::alloc::{AllocError, Global};
@@ -32,7 +32,8 @@ pub fn take_text(alloc: Global, state: &mut State, traces: &mut Vec<Trace>, text
 pub fn gathered_chunk(alloc: Global, traces: &[Trace]) -> Result<Vec<Chunk>, AllocError>
     ensures { IfOk result (λ chunks. AreSummed chunks.items traces.now) }
 {
-    let mut chunks = unsummed(alloc, &[traces.len()])?;
+    let mut chunks = Vec::with_capacity(alloc, 1)?;
+    chunks.push(Chunk::unsummed(traces.len()))?;
     sum_up(alloc, Hashing::by(1), &mut chunks, traces)?;
     Ok(chunks)
 }

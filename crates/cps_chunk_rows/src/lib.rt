@@ -1,13 +1,10 @@
 //! Tests of the summaries of chunks, by rows of worked examples.
 //!
-//! - `entry_rows.rt`: what stands before an edit
 //! - `given.rt`: lines of a source, and the chunk of them
 //! - `names_rows.rt`: how many names a run of lines has
 //! - `run_rows.rt`: at how many keys a run of lines puts, and where it stands
 #![tactic(auto)]
 
-#[cfg(test)]
-mod entry_rows;
 #[cfg(test)]
 mod given;
 #[cfg(test)]

@@ -1,5 +1,5 @@
 -- Pass two of lines that were there before, part by part.
-use Rattle.std.proofs.Common.{arith, ◌≡◌, ℕ, zero, suc, ◌+◌, ◌-◌, ◌<◌, ◌≤◌, get_or, refl, sym, ap, subst, ◌∙◌, add_assoc, zero-add, Bool, true, List, [], ◌∷◌, ◌++◌, length, take, drop, map, Option, None, Some}
+use Rattle.std.proofs.Common.{arith, ◌≡◌, ℕ, suc, ◌+◌, ◌-◌, ◌<◌, ◌≤◌, get_or, refl, sym, ap, subst, ◌∙◌, add_assoc, Bool, true, List, [], ◌∷◌, ◌++◌, length, take, drop, map, Option, None, Some}
 use Rattle.std.specs.Prelude.{◌&&◌, is_some, Result, Ok, Err, IfOk, OnOk, if◌then◌else◌}
 use Rattle.std.proofs.lemmas.List.{length-append, length-drop, map-append, take-append-drop, drop_all}
 use Rattle.std.proofs.lemmas.Grind.{common_steps}
@@ -10,15 +10,15 @@ use Rattle.cps_final.specs.Outcome.{Resolved, Outcome}
 use Rattle.cps_holding.specs.Agreeing.{same_at, same_named}
 use Rattle.cps_edit.specs.Passes.{outcomes_by}
 use Rattle.cps_edit.specs.Disturbed.{is_redone}
-use Rattle.cps_edit.specs.Renewed.{merged, nones, unchanged_in, redone_from, redone_kept}
+use Rattle.cps_edit.specs.Renewed.{merged, nones, unchanged_in, redone_from}
 use Rattle.cps_edit.proofs.FrontLemmas.{none-more}
 use Rattle.cps_edit.proofs.RedoLemmas.{append-outcomes, length-outcomes}
 use Rattle.cps_edit.proofs.TakenLemmas.{drop_at, merged_nones, length_nones}
 use Rattle.cps_naming.specs.Names.{statements_of}
 use Rattle.cps_naming.specs.Names.{all_pass}
-use Rattle.cps_chunks.specs.declared.chunk.Summary.{Summary}
+use Rattle.cps_chunk.specs.declared.chunk.Summary.{Summary}
 use Rattle.cps_chunks.specs.declared.chunk.Chunk.{Chunk}
-use Rattle.cps_chunks.specs.Chunks.{IsSummed, agrees, are_none, looks_again, looks_kept, Redoes}
+use Rattle.cps_chunks.specs.Chunks.{IsSummed, agrees, are_none, looks_again, Redoes}
 use Rattle.cps_chunks.proofs.ChunkLemmas.{merged-append, both}
 use Rattle.cps_chunks.proofs.NamedLemmas.{named-same}
 use Rattle.cps_naming.proofs.NamesLemmas.{names-law}
@@ -94,15 +94,6 @@ all-none [] none = refl
 all-none (None ∷ ns) none = ap (λ ms. None ∷ ms) (all-none ns none)
 all-none (Some t ∷ ns) none = cc
 
-pub nones-both : (os ps : List Trace) → nones {X = Trace} (length os) ++ nones {X = Trace} (length ps) ≡ nones {X = Trace} (length (os ++ ps))
-nones-both os ps = nones-append (length os) (length ps) ∙ ap (nones {X = Trace}) (sym (length-append os ps))
-  where
-    nones-append : (a b : ℕ) → nones {X = Trace} a ++ nones {X = Trace} b ≡ nones {X = Trace} (a + b)
-    nones-append zero b = ap (nones {X = Trace}) (sym (zero-add b))
-    nones-append (suc a) b =
-        let one : suc (a + b) ≡ suc a + b = omega arith in
-        ap (λ ns. None ∷ ns) (nones-append a b) ∙ ap (nones {X = Trace}) one
-
 -- ---- chunk by chunk
 
 module _ (passes : Named → Bool) (chunks : List Chunk) (i : ℕ) (chunk : Chunk) (lt : i < length chunks) (is : chunk ≡ get_or chunks i chunk) where
@@ -112,17 +103,8 @@ module _ (passes : Named → Bool) (chunks : List Chunk) (i : ℕ) (chunk : Chun
       ap (λ (cs : List Chunk). looks_again passes cs ns) (drop_at chunks i chunk lt is)
       ∙ (λ j. (if are_none (sym p j) && agrees chunk.summary passes then 0 else unchanged_in (sym p j)) + looks_again passes (drop (i + 1) chunks) (sym q j))
 
-  pub kept-next : (os o1 o2 : List Trace) → o1 ≡ take chunk.lines os → o2 ≡ drop chunk.lines os
-      → looks_kept passes (drop i chunks) os ≡ (if agrees chunk.summary passes then 0 else length o1) + looks_kept passes (drop (i + 1) chunks) o2
-  kept-next os o1 o2 r s =
-      ap (λ (cs : List Chunk). looks_kept passes cs os) (drop_at chunks i chunk lt is)
-      ∙ (λ j. (if agrees chunk.summary passes then 0 else length (sym r j)) + looks_kept passes (drop (i + 1) chunks) (sym s j))
-
 pub again-end : (passes : Named → Bool) (chunks : List Chunk) (i : ℕ) (ns : List (Option Trace)) (w e : ℕ) → length chunks ≤ i → counted_on w (looks_again passes (drop i chunks) ns) ≡ e → w ≡ e
 again-end passes chunks i ns w e past before = none-more w ∙ ap (λ (cs : List Chunk). counted_on w (looks_again passes cs ns)) (sym (drop_all i chunks past)) ∙ before
-
-pub kept-end : (passes : Named → Bool) (chunks : List Chunk) (i : ℕ) (os : List Trace) (w e : ℕ) → length chunks ≤ i → counted_on w (looks_kept passes (drop i chunks) os) ≡ e → w ≡ e
-kept-end passes chunks i os w e past before = none-more w ∙ ap (λ (cs : List Chunk). counted_on w (looks_kept passes cs os)) (sym (drop_all i chunks past)) ∙ before
 
 -- the front parts of two lists are as long
 pub same-parts : (n : ℕ) (ns : List (Option Trace)) (os : List Trace) → length ns ≡ length os → length (take n ns) ≡ length (take n os)
@@ -137,21 +119,6 @@ module _ (was now : Resolved) where
   redoes-end u [] os e none = subst (λ (ts : List Trace). Redoes was now u u [] ts []) (sym none) (redoes-none was now u)
   redoes-end u (n ∷ ns) os e none = absurd (omega (arith, e, ap length none))
 
-  pub kept-redoes-next : (n : ℕ) (u v w : Counts) (os o1 o2 : List Trace) (ms ks : List (Option Outcome)) → o1 ≡ take n os → o2 ≡ drop n os
-      → Redoes was now u v (nones {X = Trace} (length o1)) o1 ms → Redoes was now v w (nones {X = Trace} (length o2)) o2 ks → Redoes was now u w (nones {X = Trace} (length os)) os (ms ++ ks)
-  kept-redoes-next n u v w os o1 o2 ms ks r s one two =
-      subst (λ (ts : List Trace). Redoes was now u w (nones {X = Trace} (length ts)) ts (ms ++ ks)) ((λ i. r i ++ s i) ∙ take-append-drop n os)
-      (subst (λ (ns : List (Option Trace)). Redoes was now u w ns (o1 ++ o2) (ms ++ ks)) (nones-both o1 o2)
-      (redoes-join was now u v w (nones {X = Trace} (length o1)) (nones {X = Trace} (length o2)) o1 o2 ms ks (length_nones Trace (length o1)) one two))
-
-  pub kept-part : (n : ℕ) (os o1 o2 : List Trace) → o1 ≡ take n os → o2 ≡ drop n os → redone_kept was now os ≡ redone_kept was now o1 + redone_kept was now o2
-  kept-part n os o1 o2 r s =
-      ap (λ (ts : List Trace). redone_kept was now ts) (sym ((λ i. r i ++ s i) ∙ take-append-drop n os))
-      ∙ ap (λ (ns : List (Option Trace)). redone_from was now (map is_some ns) (o1 ++ o2)) (sym (nones-both o1 o2))
-      ∙ ap (λ bs. redone_from was now bs (o1 ++ o2)) (map-append is_some (nones {X = Trace} (length o1)) (nones {X = Trace} (length o2)))
-      ∙ redone-append was now (map is_some (nones {X = Trace} (length o1))) (map is_some (nones {X = Trace} (length o2))) o1 o2
-      (length-map (nones {X = Trace} (length o1)) ∙ length_nones Trace (length o1))
-
 -- ---- results
 
 pub redoes-whole : {X E : Type 0} (r : Result X E) (items : X → List (Option Outcome)) (was now : Resolved) (u v : Counts) (ns : List (Option Trace)) (os : List Trace)
@@ -159,13 +126,3 @@ pub redoes-whole : {X E : Type 0} (r : Result X E) (items : X → List (Option O
     → OnOk r (v.twos ≡ counted_on u.twos (redone_from was now (map is_some ns) os)) → IfOk r (λ x. Redoes was now u v ns os (items x))
 redoes-whole (Ok x) items was now u v ns os p q t = record { outcomes = p; len = q; twos = t }
 redoes-whole (Err e) items was now u v ns os p q t = tt
-
-pub kept-one : (was now : Resolved) (u v : Counts) (os : List Trace) (ms : List (Option Outcome)) → merged ms (outcomes_by was os) ≡ outcomes_by now os → length ms ≡ length os
-    → v.twos ≡ counted_on u.twos (redone_kept was now os) → Redoes was now u v (nones {X = Trace} (length os)) os ms
-kept-one was now u v os ms p q t = record { outcomes = p ∙ ap (outcomes_by now) (sym (merged_nones os (length os) refl)); len = q; twos = t }
-
-pub kept-whole : {X E : Type 0} (r : Result X E) (items : X → List (Option Outcome)) (was now : Resolved) (u v : Counts) (os : List Trace)
-    → IfOk r (λ x. merged (items x) (outcomes_by was os) ≡ outcomes_by now os) → IfOk r (λ x. length (items x) ≡ length os)
-    → OnOk r (v.twos ≡ counted_on u.twos (redone_kept was now os)) → IfOk r (λ x. Redoes was now u v (nones {X = Trace} (length os)) os (items x))
-kept-whole (Ok x) items was now u v os p q t = kept-one was now u v os (items x) p q t
-kept-whole (Err e) items was now u v os p q t = tt

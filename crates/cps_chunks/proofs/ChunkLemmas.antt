@@ -17,10 +17,10 @@ use Rattle.cps_edit.proofs.TakenLemmas.{drop_at, merged_nones, length_nones}
 use Rattle.cps_holding.specs.Holds.{holds}
 use Rattle.cps_holding.specs.Run.{run_of}
 use Rattle.cps_holding.specs.RunGathering.{KeptRun}
-use Rattle.cps_chunks.specs.declared.chunk.Summary.{Summary}
+use Rattle.cps_chunk.specs.declared.chunk.Summary.{Summary}
 use Rattle.cps_chunks.specs.declared.chunk.Chunk.{Chunk}
 use Rattle.cps_chunks.specs.Chunks.{WereDone, IsDone, AreDone, IsSummed, AreSummed, stands, looks_from, Replays}
-use Rattle.cps_chunks.proofs.RunLemmas.{run-law}
+use Rattle.cps_touched.proofs.RunLemmas.{run-law}
 
 -- ---- parts of lines
 
@@ -64,10 +64,6 @@ done-front n ls os done = (done.0, ap (take n) done.1 ∙ take-traces_from n don
 pub done-behind : (n : ℕ) (ls : List (List ℕ)) (os : List Trace) → WereDone ls os → WereDone (drop n ls) (drop n os)
 done-behind n ls os done = (state_after done.0 (take n ls), ap (drop n) done.1 ∙ drop-traces_from n done.0 ls)
 
--- the front parts of lines and of what they did are as long
-pub done-parts : (n : ℕ) (ls : List (List ℕ)) (os : List Trace) → WereDone ls os → length (take n ls) ≡ length (take n os)
-done-parts n ls os done = sym (done-long (take n ls) (take n os) (done-front n ls os done))
-
 -- ---- lines of which each was done in some state
 
 pub meant-long : (ls : List (List ℕ)) (os : List Trace) → AllWereMeant ls os → length ls ≡ length os
@@ -102,17 +98,6 @@ is-meant (Some s) ls os done = done-meant ls os done
 
 pub is-long : (summary : Option Summary) (ls : List (List ℕ)) (os : List Trace) → IsDone summary ls os → length ls ≡ length os
 is-long summary ls os done = meant-long ls os (is-meant summary ls os done)
-
-pub are-done : (chunks : List Chunk) (ls : List (List ℕ)) (os : List Trace) → AreSummed chunks os → WereDone ls os → AreDone chunks ls os
-are-done [] ls os summed done = none ls (sym (done-long ls os done) ∙ ap length summed)
-  where
-    none : (ms : List (List ℕ)) → length ms ≡ 0 → ms ≡ []
-    none [] e = refl
-    none (m ∷ ms) e = absurd (omega (arith, e))
-are-done (chunk ∷ chunks) ls os summed done = (
-  is-done chunk.summary (take chunk.lines ls) (take chunk.lines os) (done-front chunk.lines ls os done),
-  are-done chunks (drop chunk.lines ls) (drop chunk.lines os) summed.2 (done-behind chunk.lines ls os done),
-)
 
 pub done-next : (chunks : List Chunk) (i : ℕ) (chunk : Chunk) (ls : List (List ℕ)) (os : List Trace) → i < length chunks → chunk ≡ get_or chunks i chunk → AreDone (drop i chunks) ls os
     → IsDone chunk.summary (take chunk.lines ls) (take chunk.lines os) × AreDone (drop (i + 1) chunks) (drop chunk.lines ls) (drop chunk.lines os)
@@ -191,9 +176,6 @@ stood (Some s) f ls os done is here =
 
 -- ---- chunk by chunk
 
-pub under : (u v e part rest : ℕ) → v ≤ counted_on u part → counted_on u (part + rest) ≤ e → counted_on v rest ≤ e
-under u v e part rest p q = omega arith
-
 -- the next chunk, and those behind it
 pub summed-next : (chunks : List Chunk) (i : ℕ) (chunk : Chunk) (os : List Trace) → i < length chunks → chunk ≡ get_or chunks i chunk → AreSummed (drop i chunks) os
     → (chunk.lines ≤ length os) × IsSummed chunk.summary (take chunk.lines os) × AreSummed (drop (i + 1) chunks) (drop chunk.lines os)
@@ -235,11 +217,5 @@ replays-whole (Err e) items a b u v ls os p q r s t o = tt
 
 -- ---- one count behind another
 
-pub both-under : (u v w a b all : ℕ) → v ≡ counted_on u a → w ≤ counted_on v b → all ≡ a + b → w ≤ counted_on u all
-both-under u v w a b all p q r = omega arith
-
 pub both-looked : (u v w a b all : ℕ) → v ≤ counted_on u a → w ≤ counted_on v b → a + b ≤ all → w ≤ counted_on u all
 both-looked u v w a b all p q r = omega arith
-
-pub first-under : (u v a b all : ℕ) → v ≤ counted_on u a → all ≡ a + b → v ≤ counted_on u all
-first-under u v a b all p r = omega arith

@@ -20,13 +20,14 @@ use Rattle.cps_edit.specs.Disturbed.{finals_in}
 use Rattle.cps_edit.specs.Renewed.{flags_from, AllWereMeant}
 use Rattle.cps_edit.proofs.SpliceLemmas.{length-traces_from}
 use Rattle.cps_edit.proofs.TakenLemmas.{drop_at}
+use Rattle.cps_touched.proofs.CutLemmas.{sum-cons, AreShort}
 use Rattle.cps_chunks.specs.declared.chunk.Chunk.{Chunk}
 use Rattle.cps_chunks.specs.Chunks.{WereDone, AreDone, IsSummed, AreSummed, AreMade, lengths_of, looks_from, looks_again, unsummed}
 use Rattle.cps_chunks.specs.Handing.{old_or_new, handed_on, left_without, HasLength, IsElsewhere, AreOnce}
-use Rattle.cps_chunks.specs.Touched.{cut, did_as_chunks, touched_from, touched_of_exchange}
+use Rattle.cps_touched.specs.Touched.{cut, did_as_chunks, touched_from, touched_of_exchange}
 use Rattle.cps_chunks.proofs.ChunkLemmas.{done-long, done-front, done-behind, meant-front, meant-behind, is-done}
 use Rattle.cps_chunks.proofs.ListLemmas.{summed-long}
-use Rattle.cps_chunks.proofs.TouchedLemmas.{sum-cons, AreShort, AreTold, IsTold, told-touched}
+use Rattle.cps_chunks.proofs.TouchedLemmas.{AreTold, IsTold, told-touched}
 
 -- ---- old chunks, of which some are gone
 

@@ -1,5 +1,5 @@
 -- Pass two of a run of lines.
-use Rattle.std.proofs.Common.{◌≡◌, ℕ, zero, suc, ◌+◌, ◌<◌, refl, sym, ap, ◌∙◌, Bool, true, false, List, [], ◌∷◌, length, get_or, arith}
+use Rattle.std.proofs.Common.{◌≡◌, ℕ, ◌+◌, refl, sym, ap, ◌∙◌, Bool, true, false, List, [], ◌∷◌, arith}
 use Rattle.std.specs.Prelude.{if◌then◌else◌, not, ◌&&◌, ◌||◌}
 use Rattle.std.specs.List.{list_all}
 use Rattle.std.proofs.lemmas.Bool.{and_parts}
@@ -32,16 +32,6 @@ named-same was now (trace ∷ traces) same =
       (λ i. named-alone was now trace parts.0 i ∷ rest.0 i),
       ap (λ b. (if false || not b then 1 else 0) + redone_kept was now traces) parts.0 ∙ none (redone_kept was now traces) rest.1,
     )
-
--- and so it is of each line
-pub named-each : (was now : Resolved) (traces : List Trace) → same_named was now (statements_of traces) ≡ true → (i : ℕ) (trace : Trace) → i < length traces → trace ≡ get_or traces i trace
-    → same_named was now trace.items ≡ true
-named-each was now [] same i trace lt is = absurd (omega (arith, lt))
-named-each was now (t ∷ traces) same zero trace lt is =
-    ap (λ (x : Trace). same_named was now x.items) is
-    ∙ (and_parts (same_named was now t.items) (same_named was now (statements_of traces)) (sym (named-parts was now t traces) ∙ same)).0
-named-each was now (t ∷ traces) same (suc i) trace lt is =
-    named-each was now traces (and_parts (same_named was now t.items) (same_named was now (statements_of traces)) (sym (named-parts was now t traces) ∙ same)).1 i trace (omega (arith, lt)) is
 
 pub named-no-more : NamedNoMore
 named-no-more was now [] nothing = refl

@@ -1,5 +1,5 @@
 -- For the code that goes through chunks, not part of what a reader believes: what was gathered of their lines, and what was found of them.
-use Rattle.std.specs.Prelude.{◌≡◌, ℕ, ◌+◌, ◌-◌, ◌≤◌, Bool, true, false, not, ◌&&◌, List, [], ◌∷◌, length, take, drop, map, is_some, Option, None, Some, IfSome, if◌then◌else◌}
+use Rattle.std.specs.Prelude.{◌≡◌, ℕ, ◌+◌, ◌≤◌, Bool, true, false, not, ◌&&◌, List, [], ◌∷◌, length, take, drop, map, is_some, Option, None, Some, IfSome, if◌then◌else◌}
 use Rattle.std.specs.List.{list_all}
 use Rattle.cps_state.specs.Course.{Trace}
 use Rattle.cps_state.specs.Keys.{State}
@@ -10,9 +10,9 @@ use Rattle.cps_edit.specs.Passes.{state_after, traces_from, outcomes_by, Gathers
 use Rattle.cps_edit.specs.Disturbed.{kept, disturbed_from}
 use Rattle.cps_holding.specs.Holds.{holds}
 use Rattle.cps_edit.specs.Renewed.{merged, flags_from, unchanged_in, redone_from, AllWereMeant}
-use Rattle.cps_holding.specs.RunGathering.{kept_run}
-use Rattle.cps_naming.specs.Names.{names_in, all_pass}
-use Rattle.cps_chunks.specs.declared.chunk.Summary.{Summary}
+use Rattle.cps_naming.specs.Names.{all_pass}
+use Rattle.cps_chunk.specs.Chunk.{IsSummary}
+use Rattle.cps_chunk.specs.declared.chunk.Summary.{Summary}
 use Rattle.cps_chunks.specs.declared.chunk.Chunk.{Chunk}
 
 -- lines did this one after another, from some state on
@@ -20,10 +20,6 @@ abbrev pub WereDone : List (List ℕ) → List Trace → Type 0
 WereDone lines traces = (state : State) × (traces ≡ traces_from state lines)
 
 -- what was gathered, if anything, is that of lines which did this
-pub record IsSummary (traces : List Trace) (summary : Summary) : Type 0 where
-  pub run : summary.run ≡ kept_run traces
-  pub names : summary.names ≡ names_in traces
-
 abbrev pub IsSummed : Option Summary → List Trace → Type 0
 IsSummed summary traces = IfSome summary (IsSummary traces)
 
@@ -50,10 +46,6 @@ lengths_of chunks = map (λ chunk. chunk.lines) chunks
 -- of each something was gathered
 abbrev pub AreMade : List Chunk → Type 0
 AreMade chunks = list_all (λ chunk. is_some chunk.summary) chunks ≡ true
-
--- of each but the last
-abbrev pub AreReady : List Chunk → Type 0
-AreReady chunks = AreMade (take (length chunks - 1) chunks)
 
 -- all that the lines of a chunk asked is known to have the same answers in a state
 abbrev pub stands : Option Summary → State → Bool
@@ -91,11 +83,6 @@ looks_again passes [] news = 0
 looks_again passes (chunk ∷ chunks) news =
     (if are_none (take chunk.lines news) && agrees chunk.summary passes then 0 else unchanged_in (take chunk.lines news)) + looks_again passes chunks (drop chunk.lines news)
 
--- the same of lines of which none is disturbed in pass one
-abbrev pub looks_kept : (Named → Bool) → List Chunk → List Trace → ℕ
-looks_kept passes [] olds = 0
-looks_kept passes (chunk ∷ chunks) olds = (if agrees chunk.summary passes then 0 else length (take chunk.lines olds)) + looks_kept passes chunks (drop chunk.lines olds)
-
 -- What pass two makes of lines that were there before, by what pass one made of each: None where it is what it made.
 pub record Redoes (was now : Resolved) (old new : Counts) (news : List (Option Trace)) (olds : List Trace) (made : List (Option Outcome)) : Type 0 where
   pub outcomes : merged made (outcomes_by was olds) ≡ outcomes_by now (merged news olds)
@@ -107,10 +94,6 @@ pub record Redoes (was now : Resolved) (old new : Counts) (news : List (Option T
 -- a chunk of so many lines of which nothing is gathered
 abbrev pub unsummed : ℕ → Chunk
 unsummed lines = record { lines = lines; summary = None }
-
--- chunks of these lengths
-abbrev pub all_unsummed : List ℕ → List Chunk
-all_unsummed lengths = map unsummed lengths
 
 -- a chunk of which a line has something new forgets what was gathered
 abbrev pub forgotten : List Chunk → List (Option Trace) → List Chunk

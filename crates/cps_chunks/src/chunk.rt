@@ -1,50 +1,18 @@
 //! A chunk of a source: how many lines it has, and what was gathered of them.
 ghost use Rattle.std.specs.Prelude.{◌≡◌, IfOk};
 ghost use Rattle.cps_edit.specs.Renewed.{nones as nones_of};
-ghost use Rattle.cps_chunks.specs.Chunks.{IsSummary, stands, agrees as agrees_by, unsummed as unsummed_of};
+ghost use Rattle.cps_chunks.specs.Chunks.{stands, agrees as agrees_by, unsummed as unsummed_of};
 
-use cps_holding::Run;
-use cps_naming::{Names, Naming};
-use cps_state::{Hashing, Lookup, State, Trace};
+use cps_chunk::Summary;
+use cps_naming::Naming;
+use cps_state::{Lookup, State};
 use std::alloc::{AllocError, Global};
-
-/// What was gathered of the lines of a chunk.
-#[derive(Drop)]
-pub struct Summary {
-    pub run: Run,
-    pub names: Names,
-}
-
-impl Summary {
-    /// Of lines that did this.
-    pub fn of(alloc: Global, hashing: Hashing, traces: &[Trace]) -> Result<Summary, AllocError>
-        ensures { IfOk result (λ summary. IsSummary traces.now summary) }
-    {
-        let run = Run::of(alloc, hashing, traces)?;
-        let names = Names::of(alloc, hashing, traces)?;
-        Ok(Summary { run, names })
-    }
-}
 
 /// A chunk of a source: so many lines, and what was gathered of them, if that was.
 #[derive(Drop)]
 pub struct Chunk {
     pub lines: usize,
     pub summary: Option<Summary>,
-}
-
-/// Lines in front of an edit: those of chunks, and so many behind these.
-#[derive(Clone, Copy)]
-pub struct InFront<'a> {
-    pub chunks: &'a [Chunk],
-    pub loose: usize,
-}
-
-/// Lines behind an edit: so many, and those of chunks behind these.
-#[derive(Clone, Copy)]
-pub struct Behind<'a> {
-    pub loose: usize,
-    pub chunks: &'a [Chunk],
 }
 
 impl Chunk {

@@ -1,24 +1,11 @@
 //! The list of the chunks of a source, kept up to date.
-ghost use Rattle.std.specs.Prelude.{◌≡◌, ◌-◌, ◌<◌, ◌≤◌, ◌++◌, ◌∷◌, [], IfOk, List, take, drop, sum, vec_len, vec_capacity};
-ghost use Rattle.cps_state.specs.Course.{Trace as Did};
-ghost use Rattle.cps_division.specs.Division.{AreChunks, inserted_at};
-ghost use Rattle.cps_chunks.specs.Chunks.{AreSummed, lengths_of, all_unsummed, forgotten};
+ghost use Rattle.std.specs.Prelude.{◌≡◌, ◌≤◌, ◌++◌, IfOk, take, drop, vec_len, vec_capacity};
+ghost use Rattle.cps_chunks.specs.Chunks.{lengths_of, forgotten};
 
 use crate::chunk::Chunk;
 use crate::redo::are_none;
-use cps_division::FULL;
 use cps_state::Trace;
 use std::alloc::{AllocError, Global};
-
-/// Chunks of these lengths, of which nothing is gathered.
-pub fn unsummed(alloc: Global, lengths: &[usize]) -> Result<Vec<Chunk>, AllocError>
-    ensures { IfOk result (λ chunks. chunks.items ≡ all_unsummed lengths.now) }
-{
-    lengths
-        .iter()
-        .map(|lines| Chunk::unsummed(*lines))
-        .collect(alloc)
-}
 
 /// How many lines each chunk has.
 pub fn lengths_in(alloc: Global, chunks: &[Chunk]) -> Result<Vec<usize>, AllocError>
@@ -48,20 +35,4 @@ pub fn forget_changed(chunks: &mut Vec<Chunk>, start: usize, news: &[Option<Trac
         }
         left = behind;
     }
-}
-
-/// One line more behind the last: in the last chunk, or in a new one where that is full.
-pub fn grow(chunks: &mut Vec<Chunk>)
-    requires room { vec_len chunks.old < vec_capacity chunks.old }
-    requires chunks { AreChunks (lengths_of chunks.old.items) }
-    ensures lengths { lengths_of chunks.new.items ≡ inserted_at (sum (lengths_of chunks.old.items)) (lengths_of chunks.old.items) }
-    ensures summed { (olds : List Did) (trace : Did) → AreSummed chunks.old.items olds → AreSummed chunks.new.items (olds ++ trace ∷ []) }
-    ensures front { take (vec_len chunks.old - 1) chunks.new.items ≡ take (vec_len chunks.old - 1) chunks.old.items }
-{
-    let count = chunks.len();
-    if count > 0 && chunks[count - 1].lines < FULL {
-        chunks[count - 1] = Chunk::unsummed(chunks[count - 1].lines + 1);
-        return;
-    }
-    chunks.push_reserved(Chunk::unsummed(1));
 }

@@ -1,5 +1,5 @@
 //! What holds of runs of lines.
-ghost use Rattle.cps_chunks.specs.RunLaws.{RunLaw, RunAsksNoMore};
+ghost use Rattle.cps_touched.specs.RunLaws.{RunLaw, RunAsksNoMore};
 ghost use Rattle.cps_holding.specs.LastPuts.{LastPutsLaw, LastPutsAreOnce};
 ghost use Rattle.cps_chunks.specs.Named.{NamedLaw, NamedNoMore};
 ghost use Rattle.cps_naming.specs.Names.{NamesLaw};

@@ -2,7 +2,6 @@
 //!
 //! - `chunk.rt`: a chunk: how many lines it has, and its summary
 //! - `chunk_list.rt`: the chunks of a source, kept up to date
-//! - `entry.rt`: what stands at each key before an edit
 //! - `exchange.rt`: the chunks of another division, some of which are old ones
 //! - `laws.rt`: laws of runs of lines
 //! - `redo.rt`: pass two of an edit over old lines, chunk by chunk
@@ -12,17 +11,15 @@
 
 mod chunk;
 mod chunk_list;
-mod entry;
 mod exchange;
 pub mod laws;
 mod redo;
 mod replay;
 mod summing;
 
-pub use chunk::{Behind, Chunk, InFront};
-pub use chunk_list::{forget_changed, grow, lengths_in, unsummed};
-pub use entry::Entry;
+pub use chunk::Chunk;
+pub use chunk_list::{forget_changed, lengths_in};
 pub use exchange::hand_on;
 pub use redo::Again;
-pub use replay::{replay_behind, replay_chunks};
-pub use summing::{sum_up, sum_up_front};
+pub use replay::replay_chunks;
+pub use summing::sum_up;

@@ -1,15 +1,13 @@
 //! Pass one of an edit over lines that were there before, chunk by chunk.
-ghost use Rattle.std.specs.Prelude.{◌≡◌, ◌+◌, ◌≤◌, IfOk, OnErr, length, take, drop, if◌then◌else◌};
+ghost use Rattle.std.specs.Prelude.{◌≡◌, ◌≤◌, IfOk, OnErr, length, if◌then◌else◌};
 ghost use Rattle.cps_state.specs.Work.{counted_on};
-ghost use Rattle.cps_edit.specs.Passes.{state_after};
 ghost use Rattle.cps_edit.specs.Disturbed.{kept, disturbed_from};
 ghost use Rattle.cps_edit.specs.Compares.{Compares};
-ghost use Rattle.cps_chunks.specs.Chunks.{WereDone, IsDone, AreDone, IsSummed, AreSummed, Replays, stands, looks_from};
+ghost use Rattle.cps_chunks.specs.Chunks.{IsDone, AreDone, IsSummed, AreSummed, Replays, stands, looks_from};
 
-use crate::chunk::{Behind, Chunk, nones};
-use cps_edit::Front;
+use crate::chunk::{Chunk, nones};
+use cps_edit::{Front, Trace, Work};
 use cps_final::Gathered;
-use cps_pass::{Trace, Work};
 use cps_text::Line;
 use std::alloc::AllocError;
 
@@ -64,31 +62,5 @@ pub fn replay_chunks(
         lines_left = lines_behind;
         olds_left = olds_behind;
     }
-    Ok(news)
-}
-
-/// The same of all lines behind an edit. Those that are in no chunk are compared one by one.
-pub fn replay_behind(
-    front: &mut Front,
-    lines: &[Line],
-    olds: &[Trace],
-    behind: Behind,
-    work: &mut Work,
-) -> Result<Vec<Option<Trace>>, AllocError>
-    requires done { WereDone lines.now olds.now }
-    requires within { behind.loose ≤ length olds.now }
-    requires summed { AreSummed behind.chunks.now (drop behind.loose olds.now) }
-    ensures replays { IfOk result (λ news. Replays (⟦<Front as Gathered>⟧.gathered front.old) (⟦<Front as Gathered>⟧.gathered front.new) work.old work.new lines.now olds.now news.items) }
-    ensures looked { Compares result work.old work.new
-        (behind.entry.loose + looks_from (state_after (⟦<Front as Gathered>⟧.gathered front.old).state (take behind.entry.loose lines.now)) behind.entry.chunks.now (drop behind.entry.loose lines.now)) }
-    ensures ones_err { OnErr result (work.new.ones ≤ counted_on work.old.ones (disturbed_from (⟦<Front as Gathered>⟧.gathered front.old).state (kept lines.now olds.now))) }
-    ensures ones_least { work.old.ones ≤ work.new.ones }
-    ensures twos { work.new.twos ≡ work.old.twos }
-{
-    let (lines_loose, lines_behind) = lines.split_at(behind.loose);
-    let (olds_loose, olds_behind) = olds.split_at(behind.loose);
-    let mut news = front.replay(lines_loose, olds_loose, work)?;
-    let mut rest = replay_chunks(front, lines_behind, olds_behind, behind.chunks, work)?;
-    news.append(&mut rest)?;
     Ok(news)
 }

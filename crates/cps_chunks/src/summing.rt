@@ -1,8 +1,9 @@
 //! Gathering of the lines of chunks.
 ghost use Rattle.std.specs.Prelude.{◌≡◌, ◌≤◌, true, take, is_some, vec_len, vec_capacity, OnOk};
-ghost use Rattle.cps_chunks.specs.Chunks.{IsSummed, AreSummed, AreMade, AreReady, lengths_of};
+ghost use Rattle.cps_chunks.specs.Chunks.{IsSummed, AreSummed, AreMade, lengths_of};
 
-use crate::chunk::{Chunk, Summary};
+use crate::chunk::Chunk;
+use cps_chunk::Summary;
 use cps_state::{Hashing, Trace};
 use std::alloc::{AllocError, Global};
 
@@ -62,22 +63,5 @@ pub fn sum_up(
     ensures made { OnOk result (AreMade chunks.new.items) }
 {
     let count = chunks.len();
-    sum_up_first(alloc, hashing, chunks, traces, count)
-}
-
-/// The same of each chunk but the last, which forgets what is gathered of it as soon as a line is put behind it.
-pub fn sum_up_front(
-    alloc: Global,
-    hashing: Hashing,
-    chunks: &mut Vec<Chunk>,
-    traces: &[Trace],
-) -> Result<(), AllocError>
-    requires { AreSummed chunks.old.items traces.now }
-    ensures lengths { lengths_of chunks.new.items ≡ lengths_of chunks.old.items }
-    ensures summed { AreSummed chunks.new.items traces.now }
-    ensures ready { OnOk result (AreReady chunks.new.items) }
-    ensures room { vec_capacity chunks.new ≡ vec_capacity chunks.old }
-{
-    let count = chunks.len().saturating_sub(1);
     sum_up_first(alloc, hashing, chunks, traces, count)
 }

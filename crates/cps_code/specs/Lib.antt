@@ -12,3 +12,4 @@ pub mod Operations
 pub mod Outcome
 pub mod RowForms
 pub mod OneRow
+pub use Rattle.cps_table.specs.Table

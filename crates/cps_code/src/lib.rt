@@ -29,7 +29,7 @@ mod summed;
 mod words;
 
 pub use cps_place::{Filling, Force, Place, Placed, place_next};
-pub use cps_table::is_operation;
+pub use cps_table::{first_and_rest, is_operation};
 pub use filled::Filled;
 pub use filling_holes::{bits_of_value, complement, fill_holes, fits_width};
 pub use form::CpForm;

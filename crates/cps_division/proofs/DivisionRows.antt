@@ -1,6 +1,7 @@
 -- Worked divisions. The lengths were worked out by hand.
 use Rattle.std.proofs.Common.{◌≡◌, ℕ, List, refl, [], ◌∷◌}
 use Rattle.cps_division.specs.Division.{inserted_at, deleted_at, chunk_of}
+use Rattle.cps_division.specs.Put.{put_at}
 use Rattle.cps_division.specs.Recut.{recut}
 use Rattle.cps_division.specs.Staying.{IsTight, same_front}
 
@@ -99,3 +100,28 @@ middle-apart = record { whole_is = refl; tight = record { front = refl; back = r
 -- all lines go
 all-gone : IsRow 0 0 0 2 [] (64 ∷ 30 ∷ []) (deleted_at 0 94 (64 ∷ 30 ∷ []))
 all-gone = record { whole_is = refl; tight = record { front = refl; back = refl } }
+
+-- ---- several lines
+
+-- as many as there were, fewer, none, and more: those come behind, one by one
+put-as-many : put_at 3 2 2 (40 ∷ 30 ∷ []) ≡ 40 ∷ 30 ∷ []
+put-as-many = refl
+
+put-fewer : put_at 0 30 1 (40 ∷ 30 ∷ 60 ∷ []) ≡ 41 ∷ 60 ∷ []
+put-fewer = refl
+
+put-none : put_at 0 70 0 (40 ∷ 30 ∷ 60 ∷ []) ≡ 60 ∷ []
+put-none = refl
+
+put-more : put_at 64 1 3 (64 ∷ 30 ∷ []) ≡ 64 ∷ 32 ∷ []
+put-more = refl
+
+-- a full chunk hands lines on until the place is behind it
+put-many : put_at 10 0 70 (64 ∷ []) ≡ 64 ∷ 64 ∷ 6 ∷ []
+put-many = refl
+
+put-in-front : put_at 0 0 2 (64 ∷ 63 ∷ 64 ∷ []) ≡ 64 ∷ 1 ∷ 64 ∷ 64 ∷ []
+put-in-front = refl
+
+put-first : put_at 0 0 66 [] ≡ 64 ∷ 2 ∷ []
+put-first = refl

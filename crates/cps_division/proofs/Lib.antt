@@ -6,7 +6,7 @@ mod PiecesLemmas
 mod NamedLemmas
 mod DeletionLemmas
 mod PlaceLemmas
-mod InsertionLemmas
+mod PutLemmas
 mod CutLemmas
 mod DivisionRows
 pub mod StayingLemmas

@@ -1,16 +1,15 @@
 -- Chunks of a division give way to others: those of them that stay at either end are taken off.
-use Rattle.std.proofs.Common.{◌≡◌, ℕ, ◌+◌, ◌-◌, ◌<◌, ◌≤◌, refl, sym, ap, subst, ◌∙◌, List, [], ◌∷◌, ◌++◌, append_assoc, length, get_or, take, drop, reverse, arith}
+use Rattle.std.proofs.Common.{◌≡◌, ℕ, ◌+◌, ◌-◌, ◌≤◌, refl, sym, ap, subst, ◌∙◌, List, [], ◌∷◌, ◌++◌, append_assoc, length, take, drop, reverse, arith}
 use Rattle.std.specs.List.{between}
 use Rattle.std.specs.Prelude.{sum}
 use Rattle.std.proofs.Math.Seq.{take-add}
-use Rattle.std.proofs.lemmas.List.{reverse-append, reverse-reverse, length-reverse, length-take-le, length-drop, take-take, take_at, drop-drop, drop_more, take_rest, drop-append-le, take-append-drop}
+use Rattle.std.proofs.lemmas.List.{reverse-append, reverse-reverse, length-reverse, length-take-le, length-drop, take-take, take_at, drop-drop, drop-append-le, take-append-drop}
 use Rattle.std.proofs.lemmas.List.Edits.{split_between, length-between}
-use Rattle.std.proofs.lemmas.List.Sums.{sum_by-append, sum_by-take-drop, sum_by_more}
+use Rattle.std.proofs.lemmas.List.Sums.{sum_by-append, sum_by-take-drop}
 use Rattle.std.proofs.lemmas.Slice.{between_is}
-use Rattle.cps_division.specs.Division.{AreChunks}
 use Rattle.cps_division.specs.Recut.{recut}
 use Rattle.cps_division.specs.Staying.{same_front, IsTight}
-use Rattle.cps_division.proofs.StayingLemmas.{AreSome, chunks-some, some-append, some-first, some-second, front-beyond, front-past, front-within, front-same, front-olds, front-news, front-lines}
+use Rattle.cps_division.proofs.StayingLemmas.{AreSome, some-append, some-first, some-second, front-past, front-within, front-same, front-olds, front-news, front-lines}
 
 -- an edit that keeps the first `keep` lines and those after the first `from`, and what comes in the place of the chunks from `start` up to `end`
 pub record IsEdit (keep from start end : ℕ) (news ns : List ℕ) : Type 0 where
@@ -253,91 +252,3 @@ trimmed keep from start end front back news ns e first second =
         back = past ∙ after ∙ ap (λ xs. same_front (sum ns - from) (reverse ns) (reverse xs)) (sym here);
       };
     }
-
--- the lines of the part and those in front of it
-pub sum-part : (start end : ℕ) (ns : List ℕ) → start ≤ end → sum (take start ns) + sum (between start end ns) ≡ sum (take end ns)
-sum-part start end ns ordered = omega (arith, sum-parts start end ns ordered, sum-split end ns)
-
--- those that come in its place
-pub sum-place : (start end : ℕ) (news ns : List ℕ) → start ≤ end → sum (recut start end news ns) + sum (between start end ns) ≡ sum ns + sum news
-sum-place start end news ns ordered = omega (arith, sum-recut start end news ns, sum-parts start end ns ordered)
-
--- those of the first of the part
-pub sum-first : (front start end : ℕ) (ns : List ℕ) → end ≤ length ns → front ≤ length (between start end ns)
-    → sum (take start ns) + sum (take front (between start end ns)) ≡ sum (take (start + front) ns)
-sum-first front start end ns within le =
-    sym (ap sum (take-later front start end ns (omega (arith, le, length-between ns start end within))) ∙ sum-append (take start ns) (take front (between start end ns)))
-
-pub edited : (keep from start end before : ℕ) (news ns : List ℕ) → AreChunks ns → start ≤ end → end ≤ length ns → before ≡ sum (take start ns) → before ≤ keep → keep ≤ from
-    → from ≤ sum (take end ns) → keep + (sum ns - from) ≤ sum (recut start end news ns) → IsEdit keep from start end news ns
-edited keep from start end before news ns d ordered within b begins order ends lines = record {
-  some = chunks-some ns d;
-  ordered = ordered;
-  within = within;
-  begins = omega (arith, b, begins);
-  order = order;
-  ends = ends;
-  lines = lines;
-}
-
--- the same as slices give it
-pub trimmed-by : (keep from start end before past front back : ℕ) (shown items made ns : List ℕ) → IsEdit keep from start end items ns → shown ≡ items
-    → before ≡ sum (take start ns) → past ≡ sum (between start end ns)
-    → front ≡ same_front (keep - before) (between start end ns) shown
-    → back ≡ same_front (before + past - from) (reverse (between front (length (between start end ns)) (between start end ns))) (reverse (between front (length shown) shown))
-    → made ≡ between front (length shown - back) shown
-    → IsTrimmed keep from (start + front) (end - back) made (recut start end items ns) ns
-trimmed-by keep from start end before past front back shown items made ns e are b p first second m =
-    let part = between start end ns in
-    let edit = subst (λ l. IsEdit keep from start end l ns) (sym are) e in
-    let left : before + past - from ≡ sum (take end ns) - from = omega (arith, b, p, sum-part start end ns e.ordered) in
-    let one = first ∙ ap (λ k. same_front (keep - k) part shown) b in
-    let two : back ≡ same_front (sum (take end ns) - from) (reverse (drop front part)) (reverse (drop front shown)) =
-    second ∙ (λ k. same_front (left k) (reverse (take_rest part front k)) (reverse (take_rest shown front k))) in
-    let count : length (drop front shown) - back ≡ length shown - back - front = omega (arith, length-drop front shown) in
-    let made_so : take (length (drop front shown) - back) (drop front shown) ≡ made = ap (λ k. take k (drop front shown)) count ∙ sym m in
-    let all = trimmed keep from start end front back shown ns edit one two in
-    subst (λ l. IsTrimmed keep from (start + front) (end - back) l (recut start end items ns) ns) made_so
-    (subst (λ o. IsTrimmed keep from (start + front) (end - back) (take (length (drop front shown) - back) (drop front shown)) o ns) (ap (λ l. recut start end l ns) are) all)
-
--- ---- a chunk in the place of one of the same length
-
-same-tight : (line i : ℕ) (ns : List ℕ) → i < length ns → sum (take i ns) < line → line ≤ sum (take i ns) + get_or ns i 0
-    → IsTight (line - 1) (sum ns - line) i (i + 1) (get_or ns i 0 ∷ []) ns
-same-tight line i ns within above below =
-    let n = get_or ns i 0 in
-    let first = take i ns in
-    let last = drop (i + 1) ns in
-    let lines = sum ns - line in
-    let parts : ns ≡ first ++ (n ∷ last) = sym (take-append-drop i ns) ∙ ap (λ xs. first ++ xs) (drop_more ns i 0 within) in
-    let all = ap sum parts ∙ sum-append first (n ∷ last) in
-    let rest = sum-append (n ∷ []) last in
-    let behind = sum-reverse last in
-    let len : length first ≡ i = length-take-le i ns (omega (arith, within)) in
-    let one : sum (n ∷ []) ≡ n = omega arith in
-    let front = front-past (line - 1) first (n ∷ last) (n ∷ last) (omega (arith, above)) in
-    let none = front-beyond (line - 1 - sum first) n n last last (omega (arith, above, below)) in
-    let start = ap (λ xs. same_front (line - 1) xs (first ++ (n ∷ last))) parts in
-    let back = front-past lines (reverse last) (n ∷ reverse first) (n ∷ reverse first) (omega (arith, behind, all, rest, one, below)) in
-    let no = front-beyond (lines - sum (reverse last)) n n (reverse first) (reverse first) (omega (arith, behind, all, rest, one, above, below)) in
-    let turned : reverse (first ++ (n ∷ last)) ≡ reverse last ++ (n ∷ reverse first) = reverse-three first (n ∷ []) last in
-    let end : same_front lines (reverse ns) (reverse (first ++ (n ∷ last))) ≡ same_front lines (reverse last ++ (n ∷ reverse first)) (reverse last ++ (n ∷ reverse first)) =
-    λ k. same_front lines ((ap reverse parts ∙ turned) k) (turned k) in
-    record {
-      front = omega (arith, start, front, none, len);
-      back = omega (arith, end, back, no, length-reverse last, length-drop (i + 1) ns);
-    }
-
-pub replaced-tight : (line i start end : ℕ) (news ns : List ℕ) → i < length ns → sum (take i ns) < line → line ≤ sum (take i ns) + get_or ns i 0
-    → start ≡ i → end ≡ i + 1 → news ≡ get_or ns i 0 ∷ [] → IsTight (line - 1) (sum ns - line) start end news ns
-replaced-tight line i start end news ns within above below s e n =
-    let k = line - 1 in
-    let b = sum ns - line in
-    subst (λ x. IsTight k b x end news ns) (sym s)
-    (subst (λ x. IsTight k b i x news ns) (sym e) (subst (λ xs. IsTight k b i (i + 1) xs ns) (sym n) (same-tight line i ns within above below)))
-
-pub replaced-lines : (i start end : ℕ) (news ns : List ℕ) → i < length ns → start ≡ i → end ≡ i + 1 → news ≡ get_or ns i 0 ∷ [] → sum news ≡ sum (between start end ns)
-replaced-lines i start end news ns within s e n =
-    let one : sum (get_or ns i 0 ∷ []) ≡ get_or ns i 0 = omega arith in
-    let same : sum (between start end ns) ≡ sum (between i (i + 1) ns) = λ k. sum (between (s k) (e k) ns) in
-    omega (arith, ap sum n, one, same, sum-part i (i + 1) ns (omega arith), sum_by_more (λ x. x) ns i 0 within)

@@ -5,7 +5,7 @@ ghost use Rattle.cps_exchange.specs.Numbers.{numbers, exchanged_numbers};
 ghost use Rattle.cps_division.specs.Exchange.{part_of, rejoined, exchanged_at};
 ghost use Rattle.cps_division.specs.Pieces.{lines_in, lines_of as lines_of_pieces, cut_to, ArePieces, MayStandBefore, GoesNotOn, part_numbers};
 
-use crate::recut::FULL;
+use crate::put::FULL;
 use crate::staying::lines_of;
 use cps_exchange::Exchange;
 use std::alloc::{AllocError, Global};

@@ -1,6 +1,7 @@
 //! What holds of the chunks into which a source is divided, after an edit.
 ghost use Rattle.cps_division.specs.Division.{Insertions, Deletions, Joins};
 ghost use Rattle.cps_division.specs.Exchange.{Exchanges, PartsAreNew};
+ghost use Rattle.cps_division.specs.Put.{Puts};
 
 /// Behind an insertion the lengths divide one line more, and all chunks stay but that of the line before it and the next one.
 pub fn an_insertion_divides_again()
@@ -26,4 +27,9 @@ pub fn an_exchange_divides_again()
 /// Lines that begin with a part of an old chunk, and aren't its lines, are not those of an old chunk, if no run goes on across a seam.
 pub fn a_part_begins_no_old_chunk()
     ensures { PartsAreNew }
+{}
+
+/// Where lines have come in the place of others, the lengths divide as many lines as there are then.
+pub fn a_put_divides_again()
+    ensures { Puts }
 {}

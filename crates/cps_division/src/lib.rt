@@ -1,20 +1,24 @@
 //! The division of a source into chunks of 1 to 64 lines, and what an edit makes of it, by
 //! lengths alone.
 //!
+//! - `deletion.rt`: what a deletion makes of the chunks
 //! - `exchange.rt`: the chunks where two runs of lines have changed places
+//! - `filling.rt`: what lines make of them that come one behind the other
 //! - `laws.rt`: laws of the lengths after an edit
 //! - `place.rt`: the chunk of a line
-//! - `recut.rt`: the chunks that an edit puts in the place of others
+//! - `put.rt`: the chunks where lines have come in the place of others
 //! - `staying.rt`: how many chunks at either end stay
 #![tactic(auto)]
 
+mod deletion;
 mod exchange;
+mod filling;
 pub mod laws;
 mod place;
-mod recut;
+mod put;
 mod staying;
 
 pub use exchange::{Piece, recut_exchange};
 pub use place::{Place, place_of};
-pub use recut::{FULL, Recut, recut_deletion, recut_insertion, recut_replacement};
+pub use put::{FULL, Recut, recut_put};
 pub use staying::lines_of;

@@ -1,5 +1,5 @@
 //! The lines of a source that were gone through in pass one.
-ghost use Rattle.std.specs.Prelude.{◌≡◌, ◌≤◌, [], ◌∷◌, IfOk, OnOk, OnErr, length, map, is_some, Some, if◌then◌else◌};
+ghost use Rattle.std.specs.Prelude.{◌≡◌, ◌≤◌, [], ◌∷◌, IfOk, IsOk, OnOk, OnErr, length, map, is_some, Some, if◌then◌else◌};
 ghost use Rattle.cps_state.specs.Keys.{overwritten};
 ghost use Rattle.cps_state.specs.Work.{counted_on, raised};
 ghost use Rattle.cps_state.specs.declared.work.Tally.TheVariants.{Ones};
@@ -73,6 +73,20 @@ impl Front {
         ensures { ⟦<State as Lookup>⟧.answer result.now ≡ (⟦<Front as Gathered>⟧.gathered self.now).state }
     {
         self.gather.state()
+    }
+
+    /// What stands after the lines so far, and nothing else. Takes no memory.
+    pub fn finish(self) -> Result<Finals, AllocError>
+        ensures finals { IfOk result (λ finals. ⟦<Finals as Gathered>⟧.gathered finals ≡ ⟦<Front as Gathered>⟧.gathered self) }
+        ensures succeeds { IsOk result }
+    {
+        let Front {
+            alloc: _,
+            gather,
+            sheet,
+        } = self;
+        drop(sheet);
+        gather.finish()
     }
 
     /// Goes over a line that did this. Where there is no memory, nothing changes.

@@ -10,6 +10,6 @@ mod front;
 mod giving_way;
 pub mod redo;
 
-pub use cps_holding::{Ends, asks_hold, same_finals, still_holds};
-pub use cps_naming::{Naming, all_pass};
+pub use cps_holding::{Ends, Naming, all_pass, asks_hold, same_finals, still_holds};
+pub use cps_pass::{Trace, Work};
 pub use front::Front;

@@ -13,3 +13,5 @@ pub mod Symbols
 pub mod Use
 pub mod ValueNow
 pub mod Words
+pub use Rattle.cps_site.specs.Located
+pub use Rattle.cps_reading.specs.Reading

@@ -32,6 +32,8 @@ mod uses;
 mod value_now;
 mod words;
 
+pub use cps_reading::{Location, read_location};
+pub use cps_site::present_flags;
 pub use ends::end;
 pub use head::leave_head;
 pub use instructions::{instruction, peripheral_instruction};

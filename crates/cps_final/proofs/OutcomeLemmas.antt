@@ -23,8 +23,8 @@ use Rattle.cps_final.specs.Places.{with_places}
 use Rattle.cps_final.specs.Rows.{row_at, later_rows, content_rows, with_contents, blank_row, rows_with, rows_made, row_of, rows_of}
 use Rattle.cps_final.specs.Names.{later_names, symbol_put, names_read, names_defined}
 use Rattle.cps_final.specs.Outcome.{Output, output_of, outcome_of, joined_with}
-use Rattle.cps_gather.proofs.BlockLemmas.{same_name-laws}
-use Rattle.cps_gather.proofs.GatherLemmas.{distinct-append}
+use Rattle.cps_standing.proofs.BlockLemmas.{same_name-laws}
+use Rattle.cps_standing.proofs.GatherLemmas.{distinct-append}
 use Rattle.cps_final.proofs.PieceLemmas.{room-given, room-low}
 
 -- ---- the walk over contents

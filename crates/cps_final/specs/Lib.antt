@@ -7,9 +7,9 @@ pub mod Pieces
 pub mod Places
 pub mod Rows
 pub mod Values
-pub use Rattle.cps_gather.specs.Distinct
-pub use Rattle.cps_gather.specs.Finals
-pub use Rattle.cps_gather.specs.Gathering
-pub use Rattle.cps_gather.specs.Layout
-pub use Rattle.cps_gather.specs.Pool
+pub use Rattle.cps_standing.specs.Distinct
+pub use Rattle.cps_standing.specs.Finals
+pub use Rattle.cps_standing.specs.Gathering
+pub use Rattle.cps_standing.specs.Layout
+pub use Rattle.cps_standing.specs.Pool
 pub use Rattle.cps_standing.specs.Resolving

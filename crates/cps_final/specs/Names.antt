@@ -6,7 +6,7 @@ use Rattle.cps_state.specs.declared.key.Key.{Key}
 use Rattle.cps_state.specs.declared.key.Key.TheVariants as key
 use Rattle.cps_state.specs.Course.{Trace}
 use Rattle.cps_state.specs.Made.{content_names}
-use Rattle.cps_gather.specs.Distinct.{distinct}
+use Rattle.cps_standing.specs.Distinct.{distinct}
 
 -- the names that the expressions of a line read later
 abbrev pub later_names : Trace → List Name

@@ -14,7 +14,7 @@ use Rattle.cps_state.specs.Course.{Trace}
 use Rattle.cps_state.specs.Flags.{joined}
 use Rattle.cps_state.specs.Made.{Made, no_flags, content_names, content_literals}
 use Rattle.cps_final.specs.declared.row.Row.{Row}
-use Rattle.cps_gather.specs.Finals.{label, block, literal}
+use Rattle.cps_standing.specs.Finals.{label, block, literal}
 pub use Rattle.cps_final.specs.Values.{Resolved}
 use Rattle.cps_final.specs.Rows.{rows_of}
 use Rattle.cps_final.specs.Pieces.{pieces_of}

@@ -31,7 +31,7 @@ mod rows;
 mod statement;
 mod valued;
 
-pub use cps_gather::{Finals, Gather, Gathered, list_literals};
+pub use cps_standing::{Finals, Gather, Gathered, list_literals};
 pub use digits::Digits;
 pub use line_symbols::LineSymbols;
 pub use outcome::{Outcome, flags_of, step_two};

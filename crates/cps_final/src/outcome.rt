@@ -3,7 +3,7 @@ ghost use Rattle.std.specs.Prelude.{◌≡◌, IfOk, map};
 ghost use Rattle.cps_code.specs.Image.{piece_of};
 ghost use Rattle.cps_state.specs.declared.work.Tally.TheVariants.{Twos};
 ghost use Rattle.cps_state.specs.Work.{raised};
-ghost use Rattle.cps_gather.specs.Finals.{final_value};
+ghost use Rattle.cps_standing.specs.Finals.{final_value};
 ghost use Rattle.cps_final.specs.Outcome as outcome;
 ghost use Rattle.cps_standing.specs.Resolving.{resolved};
 
@@ -13,7 +13,7 @@ use crate::name_lists::{list_defined, list_read};
 use crate::output::Output;
 use crate::row::Row;
 use cps_code::Piece;
-use cps_gather::{Finals, Gathered};
+use cps_standing::{Finals, Gathered};
 use cps_state::{Flags, Tally, Trace, Work};
 use cps_text::Name;
 use std::alloc::{AllocError, Global};

@@ -13,8 +13,7 @@ use crate::row::Row;
 use crate::valued::{Placed, value_content};
 use cps_code::{Hole, Operand, complement};
 use cps_expr::Machine;
-use cps_gather::Finals;
-use cps_standing::Standing;
+use cps_standing::{Finals, Standing};
 use cps_state::{Content, Flags, Item, Shared, Shown, WORD, limit_of};
 use std::alloc::AllocError;
 

@@ -11,8 +11,7 @@ use crate::row::Row;
 use crate::rows::{flags_row, push_row, row_at, statement_row};
 use crate::valued::{Placed, value_content};
 use cps_code::Piece;
-use cps_gather::Finals;
-use cps_standing::Standing;
+use cps_standing::{Finals, Standing};
 use cps_state::{Flags, Item, behind};
 use std::alloc::AllocError;
 

@@ -7,3 +7,5 @@ pub mod Layout
 pub mod Mend
 pub mod Pool
 pub mod Storage
+pub use Rattle.cps_state.specs.Machines
+pub use Rattle.cps_state.specs.Made

@@ -19,6 +19,7 @@ mod mend;
 mod storage;
 
 pub use before::Before;
+pub use cps_state::{Held, Item, WORD};
 pub use finals::{Finals, Gathered};
 pub use gather::Gather;
 pub use literals::list_literals;

@@ -9,9 +9,9 @@ use Rattle.cps_text.specs.declared.name.Name.{Name}
 use Rattle.cps_state.specs.Course.{Trace}
 use Rattle.cps_state.specs.declared.item.Item.{Item}
 use Rattle.cps_state.specs.Made.{content_literals}
-use Rattle.cps_final.specs.Finals.{Named, label, block, literal}
-use Rattle.cps_final.specs.Outcome.{Resolved, outcome_of, blocks_named, labels_read, AgreeOnItem, AgreeOnNamed}
-use Rattle.cps_final.proofs.AloneLemmas.{outcome-alone}
+use Rattle.cps_naming.specs.Finals.{Named, label, block, literal}
+use Rattle.cps_naming.specs.Outcome.{Resolved, outcome_of, blocks_named, labels_read, AgreeOnItem, AgreeOnNamed}
+use Rattle.cps_naming.proofs.AloneLemmas.{outcome-alone}
 use Rattle.cps_naming.specs.Naming.{all_named}
 use Rattle.cps_naming.proofs.DecideLemmas.{option-decides}
 use Rattle.cps_holding.specs.Agreeing.{same_value, same_at, same_named}

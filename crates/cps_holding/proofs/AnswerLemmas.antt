@@ -1,6 +1,6 @@
 -- What `==` says of answers: that they hold the same.
 use Rattle.std.proofs.Math.Bridge.{le_prop}
-use Rattle.cps_code.specs.Bits.{word_bits}
+use Rattle.cps_naming.specs.Bits.{word_bits}
 use Rattle.std.proofs.Common.{◌≡◌, ◌<◌, ℕ, List, [], ◌∷◌, refl, ap, subst, ◌∙◌, Bool, true, Option}
 use Rattle.std.specs.Prelude.{◌==◌}
 use Rattle.std.specs.Bool.{Decides}

@@ -12,7 +12,7 @@ use Rattle.cps_state.specs.contracts.key.KeyPartialEq.TheImpl.{eq-value}
 use Rattle.cps_state.specs.Course.{Trace, last_put, known_in}
 use Rattle.cps_state.specs.Keys.{same_key}
 use Rattle.cps_state.proofs.KnownLemmas.{same_key_is, same_key-true, known_in-put, known_in-ask}
-use Rattle.cps_final.specs.Layout.{puts_of}
+use Rattle.cps_naming.specs.Layout.{puts_of}
 use Rattle.cps_holding.specs.Run.{Run, with_ask, with_asks, joined}
 use Rattle.std.specs.HashSet.{contains}
 use Rattle.cps_holding.specs.declared.outside.Outside.{Outside}

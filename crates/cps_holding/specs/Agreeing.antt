@@ -5,8 +5,8 @@ use Rattle.std.specs.Option.{option_eq}
 use Rattle.cps_expr.specs.declared.value.Value.{Value}
 use Rattle.cps_expr.specs.contracts.value.ValuePartialEq.TheImpl.{eq-value}
 use Rattle.cps_state.specs.declared.item.Item.{Item}
-use Rattle.cps_final.specs.Finals.{Named}
-use Rattle.cps_final.specs.Outcome.{Resolved}
+use Rattle.cps_naming.specs.Finals.{Named}
+use Rattle.cps_naming.specs.Outcome.{Resolved}
 pub use Rattle.cps_naming.specs.Naming.{all_named}
 
 -- what `==` says of two values

@@ -3,3 +3,4 @@ pub mod Agreeing
 pub mod Run
 pub mod LastPuts
 pub mod RunGathering
+pub use Rattle.cps_naming.specs.Names

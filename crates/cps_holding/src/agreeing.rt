@@ -3,13 +3,12 @@ ghost use Rattle.std.specs.Prelude.{◌≡◌, ◌↔◌, IsTrue};
 ghost use Rattle.std.specs.Option.{option_eq};
 ghost use Rattle.cps_state.specs.declared.work.Tally.TheVariants.{Looked};
 ghost use Rattle.cps_state.specs.Work.{raised};
-ghost use Rattle.cps_final.specs.Outcome.{AgreeOnNamed, outcome_of};
-ghost use Rattle.cps_final.specs.Resolving.{resolved};
+ghost use Rattle.cps_naming.specs.Outcome.{AgreeOnNamed, outcome_of};
+ghost use Rattle.cps_naming.specs.Resolving.{resolved};
 ghost use Rattle.cps_holding.specs.Agreeing.{same_value, same_named};
 
 use cps_expr::Value;
-use cps_final::Finals;
-use cps_naming::{Naming, all_pass};
+use cps_naming::{Finals, Naming, all_pass};
 use cps_state::{Tally, Trace, Work};
 use cps_text::Name;
 

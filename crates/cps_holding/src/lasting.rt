@@ -1,7 +1,7 @@
 //! Which puts of a run of lines last: those that are the last at their key.
 ghost use Rattle.std.specs.Prelude.{◌≡◌, ◌++◌, ◌∷◌, [], List, reverse, OnOk, IfOk};
 ghost use Rattle.cps_state.specs.declared.key.Put.{Put as Did};
-ghost use Rattle.cps_final.specs.Layout.{puts_of};
+ghost use Rattle.cps_naming.specs.Layout.{puts_of};
 ghost use Rattle.cps_holding.specs.RunGathering.{lasts, IsLasting};
 
 use cps_state::{Hashing, Key, Put, Trace};

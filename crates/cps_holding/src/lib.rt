@@ -15,5 +15,6 @@ mod outside;
 mod run;
 
 pub use agreeing::{Ends, same_finals};
+pub use cps_naming::{Names, Naming, all_pass};
 pub use holding::{asks_hold, still_holds};
 pub use run::Run;

@@ -1,5 +1,5 @@
 -- Lines in another order, gone through beside what they did at their old places.
-use Rattle.std.proofs.Common.{arith, ◌≡◌, ℕ, zero, suc, ◌+◌, refl, sym, ap, subst, ◌∙◌, true, List, [], ◌∷◌, ◌++◌, length, take, drop, map, Some}
+use Rattle.std.proofs.Common.{arith, ◌≡◌, ℕ, zero, suc, ◌+◌, refl, sym, ap, subst, ◌∙◌, List, [], ◌∷◌, ◌++◌, length, take, drop, map, Some}
 use Rattle.std.specs.Prelude.{is_some, sum, if◌then◌else◌}
 use Rattle.std.proofs.lemmas.List.{length-map, map-append, take-map, drop-map}
 use Rattle.cps_state.specs.Course.{Trace}
@@ -7,25 +7,23 @@ use Rattle.cps_state.specs.Keys.{State, first_state}
 use Rattle.cps_state.specs.Work.{Counts}
 use Rattle.cps_final.specs.Outcome.{Resolved, outcome_of}
 use Rattle.cps_exchange.specs.declared.exchange.Exchange.{Exchange}
-use Rattle.cps_exchange.specs.Exchange.{IsWithin, exchanged, is_idle}
-use Rattle.cps_exchange.proofs.ListLemmas.{idle-same}
+use Rattle.cps_exchange.specs.Exchange.{IsWithin, exchanged}
 use Rattle.cps_exchange.specs.Numbers.{exchanged_numbers}
 use Rattle.cps_division.specs.Division.{AreChunks, IsDivision}
 use Rattle.cps_division.specs.Exchange.{exchanged_at}
 use Rattle.cps_division.specs.Pieces.{ArePieces, lines_of}
 use Rattle.cps_division.specs.declared.exchange.Piece.{Piece}
 use Rattle.cps_edit.specs.Passes.{after, traces_of, outcomes_by}
-use Rattle.cps_pass.specs.Expansion.{trace_of}
-use Rattle.cps_edit.specs.Disturbed.{kept, all_kept, is_disturbed, is_redone, disturbed_from, redone_places, finals_in, ones_of_exchange, twos_of_exchange}
+use Rattle.cps_edit.specs.Expansion.{trace_of}
+use Rattle.cps_edit.specs.Disturbed.{kept, is_disturbed, is_redone, disturbed_from, redone_places, finals_in, ones_of_exchange, twos_of_exchange}
 use Rattle.cps_edit.specs.Renewed.{mended, flags_from, redone_from, AllWereMeant}
-use Rattle.cps_edit.proofs.SpliceLemmas.{length-traces_from, AllWereMeant-traces_from, kept-drop, none-disturbed, still-flags}
-use Rattle.cps_kept.proofs.InPlaceLemmas.{none-again}
+use Rattle.cps_edit.proofs.SpliceLemmas.{length-traces_from, AllWereMeant-traces_from, kept-drop}
 use Rattle.cps_edit.proofs.TakenLemmas.{mended_merged}
 use Rattle.cps_chunks.specs.Chunks.{AreDone, AreSummed, AreMade, lengths_of, forgotten}
 use Rattle.cps_chunks.specs.Handing.{AreOnce, handed_on}
 use Rattle.cps_chunks.specs.Touched.{touched_of_exchange}
 use Rattle.cps_chunks.proofs.HandingLemmas.{move-once, move-summed, move-done, move-touched}
-use Rattle.cps_chunks.proofs.TouchedLemmas.{chunks-short}
+use Rattle.cps_chunks.proofs.CutLemmas.{chunks-short}
 use Rattle.cps_chunks.specs.declared.chunk.Chunk.{Chunk}
 use Rattle.cps_chunks.proofs.ChunkLemmas.{meant-front, meant-behind}
 use Rattle.cps_chunks.proofs.ListLemmas.{summed-long, summed-forgotten, lengths-forgotten}
@@ -107,25 +105,6 @@ module _ (lines : List (List ℕ)) (e : Exchange) where
   twos-moved =
       sym (ap (redone_places (finals_in lines) (finals_in (exchanged e lines)) first_state) (kept-exchanged e lines (traces_of lines) meant)
       ∙ redone-kept (finals_in lines) (finals_in (exchanged e lines)) first_state (exchanged e lines) (exchanged e (traces_of lines)))
-
--- a move that changes no place disturbs nothing
-module _ (lines : List (List ℕ)) (e : Exchange) (idle : is_idle e ≡ true) (within : IsWithin (length lines) e) where
-  stays : exchanged e (all_kept lines) ≡ all_kept lines
-  stays = kept-exchanged e lines (traces_of lines) (meant lines e) ∙ (λ i. kept (idle-same lines e idle within i) (idle-same (traces_of lines) e idle there i))
-    where
-      there : IsWithin (length (traces_of lines)) e
-      there = subst (λ n. IsWithin n e) (sym (length-traces_from first_state lines)) within
-
-  pub idle-ones : ones_of_exchange lines e ≡ 0
-  idle-ones = ap (disturbed_from first_state) stays ∙ none-disturbed first_state lines
-
-  pub idle-twos : twos_of_exchange lines e ≡ 0
-  idle-twos =
-      let was = finals_in lines in
-      (λ i. redone_places was (finals_in (idle-same lines e idle within i)) first_state (stays i))
-      ∙ redone-kept was was first_state lines (traces_of lines)
-      ∙ ap (λ bs. redone_from was was bs (traces_of lines)) (sym (still-flags first_state lines))
-      ∙ none-again was (length (traces_of lines)) (traces_of lines)
 
 -- ---- what is kept
 

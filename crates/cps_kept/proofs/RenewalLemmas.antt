@@ -1,5 +1,5 @@
 -- How many lines are compared of lines in another order.
-use Rattle.std.proofs.Common.{arith, ◌≡◌, ℕ, ◌+◌, ◌≤◌, refl, subst, List, map, Option}
+use Rattle.std.proofs.Common.{arith, ◌≡◌, ℕ, ◌+◌, ◌≤◌, refl, ap, subst, Bool, true, false, List, [], ◌∷◌, map, Option, None, Some}
 use Rattle.std.specs.Prelude.{is_some}
 use Rattle.cps_state.specs.Course.{Trace}
 use Rattle.cps_state.specs.Keys.{first_state}
@@ -13,7 +13,16 @@ use Rattle.cps_chunks.specs.declared.chunk.Chunk.{Chunk}
 use Rattle.cps_chunks.specs.Chunks.{looks_from, looks_again}
 use Rattle.cps_chunks.proofs.ChunkLemmas.{both-looked}
 use Rattle.cps_kept.specs.Renewed.{AreLookedAt}
-use Rattle.cps_kept.proofs.LookLemmas.{flagged}
+
+-- some lists have these flags
+flagged : (bs : List Bool) → (news : List (Option Trace)) × (map is_some news ≡ bs)
+flagged [] = ([], refl)
+flagged (true ∷ bs) =
+    let rest = flagged bs in
+    (Some (record { asks = []; puts = []; items = []; reads = [] }) ∷ rest.0, ap (λ cs. true ∷ cs) rest.1)
+flagged (false ∷ bs) =
+    let rest = flagged bs in
+    (None ∷ rest.0, ap (λ cs. false ∷ cs) rest.1)
 
 module _ (chunks : List Chunk) (lines : List (List ℕ)) (olds : List Trace) (was : Resolved) where
   -- in pass one alone

@@ -1,9 +1,8 @@
 //! What is made anew of lines in another order.
 ghost use Rattle.std.specs.Prelude.{◌≡◌};
 
-use cps_edit::Front;
+use cps_edit::{Front, Trace};
 use cps_final::Outcome;
-use cps_pass::Trace;
 
 /// What the lines of a source do and make in another order, each None where it is what it did and made.
 pub struct Renewal {

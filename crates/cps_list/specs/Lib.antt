@@ -7,3 +7,5 @@ pub mod Flagged
 pub mod Texts
 pub use Rattle.cps_writing.specs.Writing
 pub use Rattle.cps_listing.specs.Columns
+pub use Rattle.cps_final.specs.Finals
+pub use Rattle.cps_final.specs.Outcome

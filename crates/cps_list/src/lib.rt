@@ -18,6 +18,7 @@ mod printout;
 mod symbols;
 mod view;
 
+pub use cps_final::Outcome;
 pub use cps_writing::{ListFault, write_text};
 pub use mention::{Mention, push_mentions};
 pub use part::{

@@ -17,9 +17,9 @@ use Rattle.cps_state.specs.declared.key.Key.TheVariants as key
 use Rattle.cps_state.specs.declared.key.Macro.{Macro}
 use Rattle.cps_state.specs.Course.{Part, ◌before◌, asking, putting, begin, deepest}
 use Rattle.cps_state.specs.Keys.{count_of}
-use Rattle.cps_reading.specs.declared.reading.Location.{Location}
-use Rattle.cps_reading.specs.Reading.{location_in}
-use Rattle.cps_site.specs.Located.{present_flags}
+use Rattle.cps_effect.specs.declared.Location.{Location}
+use Rattle.cps_effect.specs.Reading.{location_in}
+use Rattle.cps_effect.specs.Located.{present_flags}
 use Rattle.cps_effect.specs.Making.{flagged, unread}
 use Rattle.cps_local.specs.Cards.{card_in}
 

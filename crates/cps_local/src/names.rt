@@ -10,10 +10,8 @@ ghost use Rattle.cps_local.specs.Locals as locals;
 ghost use Rattle.cps_local.specs.Naming.{Names};
 
 use crate::columns::card_in;
-use cps_effect::{flag, unread};
+use cps_effect::{Location, flag, present_flags, read_location, unread};
 use cps_expr::{ExprFault, Sequence, read_locals};
-use cps_reading::{Location, read_location};
-use cps_site::present_flags;
 use cps_state::{Answer, Key, Lookup, Recorder, Shared, count_of};
 use cps_text::limits::{DEEPEST, MOST_GENERATED};
 use cps_text::{Fields, Name, StatementFields, Substitute, Substitutes, Substitution};

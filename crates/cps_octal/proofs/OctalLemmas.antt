@@ -4,7 +4,7 @@ use Rattle.std.specs.Prelude.{Option, Some, Result, Ok, Err, IfSome}
 use Rattle.std.specs.declared.vec.Vec.{Vec}
 use Rattle.cps_text.specs.declared.counted.Counted.{Counted}
 use Rattle.cps_input.specs.Sources.{IsSource}
-use Rattle.cps_assembly.specs.Assembly.{assembly_of}
+use Rattle.cps_source.specs.Assembly.{assembly_of}
 use Rattle.cps_compare.specs.declared.limits.Limits.{Limits}
 use Rattle.cps_compare.specs.declared.comparison.Comparison.{Comparison}
 use Rattle.cps_compare.specs.Comparison.{Tells, sides_of}

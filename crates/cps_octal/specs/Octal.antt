@@ -6,7 +6,7 @@ use Rattle.cps_text.specs.Counted.{inner_of, failures_of, FailsOnce}
 use Rattle.cps_input.specs.declared.fault.InputFault.TheVariants as inputs
 use Rattle.cps_input.specs.Reads.{IsAllRead, IsCutShort}
 use Rattle.cps_input.specs.Sources.{IsSource, Refuses, IsReadWhole}
-use Rattle.cps_assembly.specs.Assembly.{assembly_of}
+use Rattle.cps_source.specs.Assembly.{assembly_of}
 use Rattle.cps_compare.specs.declared.limits.Limits.{Limits}
 use Rattle.cps_compare.specs.declared.comparison.Comparison.{Comparison}
 use Rattle.cps_compare.specs.Comparison.{Tells, sides_of}

@@ -6,8 +6,8 @@ use Rattle.cps_text.specs.Counted.{inner_of, failures_of, FailsOnce}
 use Rattle.cps_input.specs.declared.fault.InputFault.TheVariants as inputs
 use Rattle.cps_input.specs.Reads.{IsCutShort}
 use Rattle.cps_input.specs.Sources.{IsSource, Refuses, IsReadWhole}
-use Rattle.cps_assembly.specs.Assembly.{assembly_of}
-use Rattle.cps_assembly.specs.Flagged.{flagged_lines}
+use Rattle.cps_source.specs.Assembly.{assembly_of}
+use Rattle.cps_source.specs.Flagged.{flagged_lines}
 use Rattle.cps_list.specs.declared.part.Part.{Part}
 use Rattle.cps_list.specs.Texts.{text_of}
 use Rattle.cps_output.specs.declared.export.Export.{Export}

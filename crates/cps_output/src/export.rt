@@ -2,7 +2,7 @@
 
 use crate::outputs::Outputs;
 use cps_list::Part;
-use cps_pass::Hashing;
+use cps_source::Hashing;
 
 /// What is made of a source: texts in files, and a part that is written, None where none is.
 #[derive(Clone, Copy)]

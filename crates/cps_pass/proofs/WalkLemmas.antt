@@ -13,8 +13,8 @@ use Rattle.cps_statement.specs.declared.scope.Scope.TheVariants.{Source, Expansi
 use Rattle.cps_pass.specs.Expansion.{ended, walk, body, too_deep, line_part}
 use Rattle.cps_statement.specs.Treating.{repeated}
 use Rattle.cps_statement.specs.Meaning.{statement}
-use Rattle.cps_local.specs.Locals.{naming_all}
-use Rattle.cps_local.specs.Naming.{Names}
+use Rattle.cps_statement.specs.Locals.{naming_all}
+use Rattle.cps_statement.specs.Naming.{Names}
 use Rattle.cps_statement.specs.Opened.{opening_of}
 use Rattle.cps_statement.specs.Opening.{Opening, plain, naming, none_opened}
 use Rattle.cps_statement.specs.Own.{new_expansion}

@@ -9,7 +9,7 @@ use Rattle.cps_state.specs.Keys.{State}
 use Rattle.cps_state.specs.Made.{no_flags}
 use Rattle.cps_statement.specs.declared.scope.Scope.{Scope}
 use Rattle.cps_statement.specs.declared.scope.Scope.TheVariants.{Source, Expansion}
-use Rattle.cps_local.specs.Locals.{naming_all}
+use Rattle.cps_statement.specs.Locals.{naming_all}
 use Rattle.cps_statement.specs.Meaning.{statement}
 use Rattle.cps_statement.specs.Opening.{Opening, plain, naming}
 use Rattle.cps_statement.specs.Own.{new_expansion}

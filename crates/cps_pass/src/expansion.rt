@@ -7,9 +7,8 @@ ghost use Rattle.cps_statement.specs.Taking.{Walks};
 ghost use Rattle.cps_statement.specs.Opened.{opening_of, body_opening, lines_of};
 ghost use Rattle.cps_statement.specs.Opening.{plain};
 
-use cps_local::name_all;
 use cps_state::{Flags, Lookup, Mode, Recorder, Shared, Sheet, Trace};
-use cps_statement::{Body, Opened, Own, Repeated, Scope, insert_all, step_statement};
+use cps_statement::{Body, Opened, Own, Repeated, Scope, insert_all, name_all, step_statement};
 use cps_text::Substitutes;
 use std::alloc::{AllocError, Global};
 

@@ -3,8 +3,8 @@ ghost use Rattle.std.specs.Prelude.{◌≡◌};
 ghost use Rattle.cps_peripheral.specs.Builtin.{is_builtin};
 
 use crate::operation::named_operation;
+use cps_code::is_operation;
 use cps_expr::Operation;
-use cps_table::is_operation;
 
 /// Whether an operation is one of either machine or of the statement table. Lower-case letters stand for capitals.
 pub fn is_builtin(name: &[u8]) -> bool

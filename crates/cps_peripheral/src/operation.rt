@@ -5,7 +5,7 @@ ghost use Rattle.cps_peripheral.specs.Rows.{row_values, layout_and_number};
 
 use super::layout::Layout;
 use super::table::operations_with;
-use cps_table::first_and_rest;
+use cps_code::first_and_rest;
 use cps_text::capital;
 
 /// The layout and the number of the operation that a name stands for.

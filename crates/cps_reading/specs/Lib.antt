@@ -1,2 +1,3 @@
 pub mod Reading
 pub mod Readings
+pub use Rattle.cps_peripheral.specs.Builtin

@@ -5,4 +5,5 @@
 
 mod reading;
 
+pub use cps_peripheral::{PpForm, is_builtin};
 pub use reading::{Location, Stating, read_location, read_stating};

@@ -11,3 +11,7 @@ pub mod KeysLemmas
 pub mod PassedLemmas
 pub mod WalkLemmas
 pub mod GoLemmas
+pub mod EnterLemmas
+pub mod OverLemmas
+pub use Rattle.cps_edit.proofs.SpliceLemmas
+pub use Rattle.cps_edit.proofs.TakenLemmas

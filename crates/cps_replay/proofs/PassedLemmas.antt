@@ -26,7 +26,8 @@ use Rattle.cps_replay.specs.Replayed.{replayed}
 use Rattle.cps_replay.specs.Walk.{stretch}
 use Rattle.cps_replay.proofs.NotedLemmas.{stands-holds}
 use Rattle.cps_replay.proofs.ReplayedLemmas.{replayed-none}
-use Rattle.cps_replay.proofs.RunLemmas.{RunStands, run-law, asks-no-more}
+use Rattle.cps_replay.specs.RunLaws.{RunStands}
+use Rattle.cps_replay.proofs.RunLemmas.{run-law, asks-no-more}
 use Rattle.cps_replay.proofs.WalkLemmas.{stretch-did, stretch-state}
 
 -- ---- no changed key has its mark

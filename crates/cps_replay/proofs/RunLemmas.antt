@@ -11,6 +11,7 @@ use Rattle.cps_holding.proofs.AnswerLemmas.{asks-decide}
 use Rattle.cps_edit.proofs.AskedLemmas.{asked-here, meant-here}
 use Rattle.cps_edit.proofs.SpliceLemmas.{overwritten-append}
 use Rattle.cps_holding.specs.Run.{Run, empty_run, joined, run_of}
+use Rattle.cps_replay.specs.RunLaws.{RunLaw, RunAsksNoMore}
 use Rattle.cps_holding.proofs.AskLemmas.{asks-before, asks-hold, asks-there}
 
 -- what was asked before is among the asks at the end
@@ -43,14 +44,7 @@ module _ (f g : State) where
       let true_there : holds t.asks b ≡ true = (asks-decide t.asks b).1 still in
       (λ i. same i ∷ rest.0 i, λ i. (if not (true_there i) then 1 else 0) + rest.1 i, rest.2)
 
--- What lines did stands in a state: there they do the same, none of them is disturbed, and the puts of the run lead to the state after them.
-pub record RunStands (state : State) (lines : List (List ℕ)) (traces : List Trace) : Type 0 where
-  pub same : traces_from state lines ≡ traces
-  pub undisturbed : disturbed_from state (kept lines traces) ≡ 0
-  pub behind : state_after state lines ≡ overwritten state (run_of traces).puts
-
--- what lines did in one state stands in each that answers what their run asked as that one does
-pub run-law : (f g : State) (ls : List (List ℕ)) → holds (run_of (traces_from f ls)).asks g ≡ true → RunStands g ls (traces_from f ls)
+pub run-law : RunLaw
 run-law f g ls there =
     let ts = traces_from f ls in
     let same = same-lines f g empty_run f g refl refl tt ls ((asks-decide (run_of ts).asks g).0 there) in
@@ -72,8 +66,7 @@ all-held g run a b in_g held (l ∷ ls) none =
     let next : after b l ≡ overwritten g (joined run t).puts = ap (λ (u : Trace). overwritten b u.puts) same ∙ behind-line g b run t in_g in
     all-held g (joined run t) (after a l) (after b l) next (asks-hold run.puts run.asks t.asks g held (subst (λ (s : State). Holds t.asks s) in_g still)) ls parts.1
 
--- and a run asks no more than that: where none of its lines is disturbed, all that it asks has the same answers
-pub asks-no-more : (f g : State) (ls : List (List ℕ)) → disturbed_from g (kept ls (traces_from f ls)) ≡ 0 → holds (run_of (traces_from f ls)).asks g ≡ true
+pub asks-no-more : RunAsksNoMore
 asks-no-more f g ls none =
     let ts = traces_from f ls in
     (asks-decide (run_of ts).asks g).1 (all-held g empty_run f g refl tt ls none)

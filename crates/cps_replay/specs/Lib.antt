@@ -1,5 +1,6 @@
 pub mod Sparse
 pub mod Replayed
+pub mod RunLaws
 pub mod Compared
 pub mod Noted
 pub mod Replay
@@ -9,3 +10,7 @@ pub mod Leaving
 pub mod NoLiteral
 pub mod Storing
 pub mod Walk
+pub use Rattle.cps_edit.specs.Disturbed
+pub use Rattle.cps_edit.specs.Passes
+pub use Rattle.cps_edit.specs.Renewed
+pub use Rattle.cps_edit.specs.Splice

@@ -1,10 +1,15 @@
 -- For the code that makes pass two again, not part of what a reader believes.
-use Rattle.std.specs.Prelude.{ℕ, nat_eq, Bool, ◌&&◌, length, List, [], ◌∷◌, Option, None, Some, if◌then◌else◌}
+use Rattle.std.specs.Prelude.{◌≡◌, ℕ, nat_eq, Bool, ◌&&◌, length, List, [], ◌∷◌, ◌++◌, Option, None, Some, if◌then◌else◌}
 use Rattle.cps_state.specs.Course.{Trace}
-use Rattle.cps_final.specs.Outcome.{Resolved}
+use Rattle.cps_final.specs.Outcome.{Outcome, Resolved}
 use Rattle.cps_naming.specs.Names.{Names, all_pass}
 use Rattle.cps_holding.specs.Agreeing.{same_at}
+use Rattle.cps_edit.specs.Disturbed.{is_redone}
+use Rattle.cps_replay.specs.declared.ends.Ends.{Ends}
+use Rattle.cps_replay.specs.declared.redo.Redo.{Redo}
 use Rattle.cps_replay.specs.declared.sparse.At.{At}
+use Rattle.cps_replay.specs.Ends.{was_of, now_of}
+use Rattle.cps_replay.specs.Replayed.{redone}
 
 -- what a line does now, at its place, if it is disturbed in pass one
 abbrev pub new_at : ℕ → Option Trace → List (At Trace)
@@ -23,3 +28,14 @@ behind at (new ∷ news) = if nat_eq new.at at then news else new ∷ news
 -- nothing is new of some lines, and all that their statements name has the same final values
 abbrev pub is_passed : Resolved → Resolved → Names → List (At Trace) → Bool
 is_passed was now names news = nat_eq (length news) 0 && all_pass (same_at was now) names
+
+-- what pass two makes now of lines from a place on that are disturbed in it, and whether a line is
+abbrev pub redone_under : Ends → ℕ → List (At Trace) → List Trace → List (At Outcome)
+redone_under ends at news olds = redone (was_of ends) (now_of ends) at news olds
+
+abbrev pub is_redone_under : Ends → Bool → Trace → Bool
+is_redone_under ends disturbed trace = is_redone (was_of ends) (now_of ends) disturbed trace
+
+-- these outcomes come behind those so far
+abbrev pub MakesAlso : Redo → Redo → List (At Outcome) → Type 0
+MakesAlso old new made = new.news.items ≡ old.news.items ++ made

@@ -1,7 +1,10 @@
 -- For the code that goes over the lines of chunks, not part of what a reader believes.
-use Rattle.std.specs.Prelude.{◌≡◌, ℕ, ◌+◌, ◌≤◌, List, [], ◌∷◌, ◌++◌, length, take, drop, sum, if◌then◌else◌}
+use Rattle.std.specs.Prelude.{◌≡◌, ℕ, ◌+◌, ◌-◌, ◌≤◌, List, [], ◌∷◌, ◌++◌, length, take, drop, sum, if◌then◌else◌}
 use Rattle.cps_state.specs.Keys.{State, first_state}
 use Rattle.cps_state.specs.Course.{Trace}
+use Rattle.cps_state.specs.declared.key.Asked.{Asked as Ask}
+use Rattle.cps_state.specs.declared.key.Put.{Put}
+use Rattle.cps_final.specs.Layout.{puts_of}
 use Rattle.cps_state.specs.contracts.state.StateLookup.TheImpl.{answer-value}
 use Rattle.cps_changes.specs.Changes.{no_change}
 use Rattle.cps_changes.specs.Kept.{changes_in}
@@ -12,6 +15,7 @@ use Rattle.cps_chunk.specs.Chunk.{AreChunksOf, lengths_of}
 use Rattle.cps_chunk.specs.declared.chunk.Chunk.{Chunk}
 use Rattle.cps_replay.specs.Replay.{now_by}
 use Rattle.cps_replay.specs.Replayed.{replayed}
+use Rattle.cps_replay.specs.declared.sparse.At.{At}
 use Rattle.cps_replay.specs.declared.walk.Baseline.{Baseline}
 use Rattle.cps_replay.specs.declared.walk.Cursor.{Cursor}
 use Rattle.cps_replay.specs.declared.walk.Walk.{Walk}
@@ -30,6 +34,9 @@ pub record IsWalk (walk : Walk) : Type 0 where
 pub record StandsAt (chunks : List Chunk) (cursor : Cursor) : Type 0 where
   pub within : cursor.chunk ≤ length chunks
   pub line : cursor.line ≡ sum (take cursor.chunk (lengths_of chunks))
+
+abbrev pub cursor : ℕ → ℕ → Cursor
+cursor chunk line = record { chunk = chunk; line = line }
 
 -- those after the first `from` up to the first `to`
 abbrev pub stretch : {X : Type 0} → ℕ → ℕ → List X → List X
@@ -57,3 +64,33 @@ abbrev pub looks_over : State → List ℕ → List (List ℕ) → List Trace �
 looks_over now [] lines traces = 0
 looks_over now (n ∷ lengths) lines traces =
     (if holds (run_of (take n traces)).asks now then 0 else n) + looks_over (state_after now (take n lines)) lengths (drop n lines) (drop n traces)
+
+-- what the lines from one on up to another do now that are disturbed in pass one
+abbrev pub replayed_in : Walk → ℕ → ℕ → List (At Trace)
+replayed_in walk from to = replayed (now_at walk from) from (stretch from to walk.base.lines.now) (stretch from to walk.base.traces.now)
+
+-- what those lines asked together, and what they put
+abbrev pub asks_in : Walk → ℕ → ℕ → List Ask
+asks_in walk from to = (run_of (stretch from to walk.base.traces.now)).asks
+
+abbrev pub puts_in : Walk → ℕ → ℕ → List Put
+puts_in walk from to = puts_of (stretch from to walk.base.traces.now)
+
+-- nothing that was there is made anew, and the chunks are as they were
+abbrev pub HasMadeNothing : Walk → Walk → Type 0
+HasMadeNothing old new = (new.base ≡ old.base) × (new.chunks ≡ old.chunks) × (new.replay.news ≡ old.replay.news)
+
+-- how many lines are compared of those of a chunk, and of those of the chunks from one on up to another
+abbrev pub looks_at : Walk → ℕ → ℕ → ℕ
+looks_at walk from to = if holds (run_of (stretch from to walk.base.traces.now)).asks (now_at walk from) then 0 else to - from
+
+abbrev pub looks_in : Walk → Cursor → Cursor → ℕ
+looks_in walk first past =
+    looks_over (now_at walk first.line) (stretch first.chunk past.chunk (lengths_of walk.chunks.items)) (stretch first.line past.line walk.base.lines.now)
+    (stretch first.line past.line walk.base.traces.now)
+
+-- its chunks have as many lines as before, whatever was gathered of them
+pub record IsStillWalk (old new : Walk) : Type 0 where
+  pub walk : IsWalk new
+  pub base : new.base ≡ old.base
+  pub lengths : lengths_of new.chunks.items ≡ lengths_of old.chunks.items

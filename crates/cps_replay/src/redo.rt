@@ -1,21 +1,17 @@
 //! Pass two of an edit over lines that were there before.
-ghost use Rattle.std.specs.Prelude.{◌≡◌, ◌+◌, ◌<◌, ◌^◌, ◌∷◌, ◌++◌, [], OnOk, is_some, length, if◌then◌else◌};
+ghost use Rattle.std.specs.Prelude.{◌≡◌, ◌+◌, ◌<◌, ◌^◌, ◌∷◌, [], OnOk, is_some, length, if◌then◌else◌};
 ghost use Rattle.std.specs.Option.{option_copied};
 ghost use Rattle.cps_state.specs.Work.{counted_on, raised};
 ghost use Rattle.cps_state.specs.declared.work.Tally.TheVariants.{Twos};
 ghost use Rattle.cps_final.specs.Outcome.{outcome_of};
 ghost use Rattle.cps_edit.specs.Compares.{ComparesUpTo, Steps};
-ghost use Rattle.cps_edit.specs.Disturbed.{is_redone};
-ghost use Rattle.cps_replay.specs.Ends.{was_of, now_of};
-ghost use Rattle.cps_replay.specs.Replayed.{redone};
-ghost use Rattle.cps_naming.specs.Names.{names_in};
-ghost use Rattle.cps_replay.specs.Redo.{new_at, first_at, behind, is_passed};
+ghost use Rattle.cps_replay.specs.Ends.{now_of};
+ghost use Rattle.cps_replay.specs.Redo.{new_at, first_at, behind, redone_under, is_redone_under, MakesAlso};
 ghost use Rattle.cps_replay.specs.Sparse.{AreWithin};
 
 use crate::ends::{Ends, same_finals};
 use crate::sparse::At;
 use cps_final::{Outcome, step_two};
-use cps_naming::Names;
 use cps_pass::{Trace, Work};
 use std::alloc::{AllocError, Global};
 
@@ -61,9 +57,9 @@ impl<'a> Redo<'a> {
         new: Option<&Trace>,
         work: &mut Work,
     ) -> Result<(), AllocError>
-        ensures news { OnOk result (self.new.news.items ≡ self.old.news.items ++ redone (was_of self.old.ends) (now_of self.old.ends) at (new_at at (option_copied new.entry)) (old.now ∷ [])) }
+        ensures news { OnOk result (MakesAlso self.old self.new (redone_under self.old.ends at (new_at at (option_copied new.entry)) (old.now ∷ []))) }
         ensures ends { self.new.ends ≡ self.old.ends }
-        ensures steps { Steps result work.old work.new 0 (if is_redone (was_of self.old.ends) (now_of self.old.ends) (is_some (option_copied new.entry)) old.now then 1 else 0) }
+        ensures steps { Steps result work.old work.new 0 (if is_redone_under self.old.ends (is_some (option_copied new.entry)) old.now then 1 else 0) }
         ensures looked { work.new.looked ≡ counted_on work.old.looked (if is_some (option_copied new.entry) then 0 else 1) }
     {
         match new {
@@ -79,7 +75,7 @@ impl<'a> Redo<'a> {
 
     /// Pass two of a line that does this, at its place.
     fn make(&mut self, at: usize, trace: &Trace, work: &mut Work) -> Result<(), AllocError>
-        ensures news { OnOk result (self.new.news.items ≡ self.old.news.items ++ record { at = at; item = outcome_of (now_of self.old.ends) trace.now } ∷ []) }
+        ensures news { OnOk result (MakesAlso self.old self.new (record { at = at; item = outcome_of (now_of self.old.ends) trace.now } ∷ [])) }
         ensures ends { self.new.ends ≡ self.old.ends }
         ensures step { work.new ≡ raised Twos work.old }
     {
@@ -99,9 +95,9 @@ impl<'a> Redo<'a> {
     ) -> Result<(), AllocError>
         requires room { from + length olds.now < 2 ^ 64 }
         requires within { AreWithin from (from + length olds.now) news.now }
-        ensures news { OnOk result (self.new.news.items ≡ self.old.news.items ++ redone (was_of self.old.ends) (now_of self.old.ends) from news.now olds.now) }
+        ensures news { OnOk result (MakesAlso self.old self.new (redone_under self.old.ends from news.now olds.now)) }
         ensures ends { self.new.ends ≡ self.old.ends }
-        ensures steps { Steps result work.old work.new 0 (length (redone (was_of self.old.ends) (now_of self.old.ends) from news.now olds.now)) }
+        ensures steps { Steps result work.old work.new 0 (length (redone_under self.old.ends from news.now olds.now)) }
         ensures looked { ComparesUpTo work.old work.new (length olds.now) }
     {
         let mut left = news;
@@ -112,30 +108,6 @@ impl<'a> Redo<'a> {
             left = rest;
         }
         Ok(())
-    }
-
-    /// The same of lines whose statements name this. Where nothing of them is new, and all of this has the same final values, they are passed at once, and
-    /// none is compared.
-    pub fn go_over_named(
-        &mut self,
-        from: usize,
-        olds: &[Trace],
-        news: &[At<Trace>],
-        names: &Names,
-        work: &mut Work,
-    ) -> Result<(), AllocError>
-        requires room { from + length olds.now < 2 ^ 64 }
-        requires within { AreWithin from (from + length olds.now) news.now }
-        requires names { names.now ≡ names_in olds.now }
-        ensures news { OnOk result (self.new.news.items ≡ self.old.news.items ++ redone (was_of self.old.ends) (now_of self.old.ends) from news.now olds.now) }
-        ensures ends { self.new.ends ≡ self.old.ends }
-        ensures steps { Steps result work.old work.new 0 (length (redone (was_of self.old.ends) (now_of self.old.ends) from news.now olds.now)) }
-        ensures looked { ComparesUpTo work.old work.new (if is_passed (was_of self.old.ends) (now_of self.old.ends) names.now news.now then 0 else length olds.now) }
-    {
-        if news.is_empty() && names.all_pass(&self.ends) {
-            return Ok(());
-        }
-        self.go_over_all(from, olds, news, work)
     }
 
     /// What is made anew.

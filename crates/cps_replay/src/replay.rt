@@ -1,5 +1,5 @@
 //! Pass one of an edit: new lines, and lines that were there before.
-ghost use Rattle.std.specs.Prelude.{◌≡◌, ◌∷◌, ◌++◌, [], List, OnOk, IfOk, if◌then◌else◌, Some as Just};
+ghost use Rattle.std.specs.Prelude.{◌≡◌, ◌∷◌, ◌++◌, [], List, OnOk, IfOk, length, if◌then◌else◌, Some as Just};
 ghost use Rattle.cps_state.specs.Keys.{overwritten};
 ghost use Rattle.cps_state.specs.Work.{counted_on};
 ghost use Rattle.cps_state.specs.declared.key.Put.{Put as APut};
@@ -9,7 +9,7 @@ ghost use Rattle.cps_final.specs.Layout.{puts_of};
 ghost use Rattle.cps_pass.specs.Expansion.{trace_of};
 ghost use Rattle.cps_edit.specs.Compares.{Steps};
 ghost use Rattle.cps_edit.specs.Disturbed.{is_disturbed};
-ghost use Rattle.cps_edit.specs.Passes.{after};
+ghost use Rattle.cps_edit.specs.Passes.{after, traces_from};
 ghost use Rattle.cps_replay.specs.Noted.{AreHeld, last_puts, noted, stands};
 ghost use Rattle.cps_replay.specs.Replay.{now_by, now_with};
 ghost use Rattle.cps_replay.specs.Replayed.{replayed};
@@ -129,6 +129,29 @@ impl Replay {
         let trace = self.step(line, past, work)?;
         self.log.put(trace.puts())?;
         Ok(trace)
+    }
+
+    /// What new lines do, one after another, where that stood in front of the first of them before.
+    pub fn enter_all<L: Lookup>(
+        &mut self,
+        lines: &[Line],
+        past: &L,
+        work: &mut Work,
+    ) -> Result<Vec<Trace>, AllocError>
+        requires present { changes_in self.old.log.present ≡ no_change }
+        ensures traces { IfOk result (λ traces. traces.items ≡ traces_from (now_by self.old.log (L.answer past.now)) lines.now) }
+        ensures puts { IfOk result (λ traces. changes_in self.new.log.present ≡ last_puts (puts_of traces.items)) }
+        ensures changes { self.new.log.changes ≡ self.old.log.changes }
+        ensures news { self.new.news ≡ self.old.news }
+        ensures steps { Steps result work.old work.new (length lines.now) 0 }
+        ensures looked { work.new.looked ≡ work.old.looked }
+    {
+        let mut traces = Vec::with_capacity(self.alloc, lines.len())?;
+        for line in lines {
+            let trace = self.enter(line, past, work)?;
+            traces.push(trace)?;
+        }
+        Ok(traces)
     }
 
     /// The new lines end. In their place stood these, in front of which that stood.

@@ -11,13 +11,13 @@ ghost use Rattle.cps_pass.specs.Expansion.{trace_of};
 ghost use Rattle.cps_holding.specs.Holds.{holds};
 ghost use Rattle.cps_holding.specs.Run.{run_of};
 ghost use Rattle.cps_edit.specs.Compares.{ComparesUpTo, Steps};
-ghost use Rattle.cps_edit.specs.Passes.{after};
+ghost use Rattle.cps_edit.specs.Passes.{traces_from};
 ghost use Rattle.cps_chunk.specs.Chunk.{AreChunksOf, IsChunkOf, lengths_of};
 ghost use Rattle.cps_chunk.specs.Marks.{has, mark_of};
 ghost use Rattle.cps_replay.specs.Noted.{last_puts, noted, stands};
 ghost use Rattle.cps_replay.specs.Replay.{now_with};
 ghost use Rattle.cps_replay.specs.Replayed.{replayed};
-ghost use Rattle.cps_replay.specs.Walk.{IsBaseline, IsWalk, GoesOver, StandsAt, looks_over, now_at, state_at, stood_at, stretch};
+ghost use Rattle.cps_replay.specs.Walk.{IsBaseline, IsWalk, IsStillWalk, GoesOver, HasMadeNothing, StandsAt, asks_in, cursor, looks_at, looks_in, now_at, puts_in, replayed_in, state_at, stood_at, stretch};
 
 use crate::replay::{OldLine, Replay};
 use cps_changes::Changes;
@@ -84,6 +84,19 @@ impl<'a> Walk<'a> {
         }
     }
 
+    /// The end of all chunks.
+    pub fn end(&self) -> Cursor
+        requires { IsWalk self.now }
+        ensures stands { StandsAt self.now.chunks.items result }
+        ensures chunk { result.chunk ≡ length self.now.chunks.items }
+        ensures line { result.line ≡ length self.now.base.lines.now }
+    {
+        Cursor {
+            chunk: self.chunks.len(),
+            line: self.base.lines.len(),
+        }
+    }
+
     /// The chunk of a line, and the end of all for one too many.
     fn cursor_at(&self, at: usize) -> Cursor
         requires { IsWalk self.now }
@@ -104,20 +117,26 @@ impl<'a> Walk<'a> {
         }
     }
 
-    /// A line that is new, behind those so far, in the place of those after the first `keep`: what it does.
-    pub fn enter(&mut self, keep: usize, line: &Line, work: &mut Work) -> Result<Trace, AllocError>
+    /// What new lines do that come in the place of those after the first `keep`.
+    pub fn enter_all(
+        &mut self,
+        keep: usize,
+        lines: &[Line],
+        work: &mut Work,
+    ) -> Result<Vec<Trace>, AllocError>
         requires walk { IsWalk self.old }
         requires within { keep ≤ length self.old.base.lines.now }
-        ensures trace { IfOk result (λ trace. trace ≡ trace_of line.now (now_with self.old.replay.log (state_at self.old keep))) }
-        ensures puts { IfOk result (λ trace. (news : List APut) → changes_in self.old.replay.log.present ≡ last_puts news → changes_in self.new.replay.log.present ≡ last_puts (news ++ trace.puts)) }
-        ensures state { OnOk result (now_with self.new.replay.log (state_at self.old keep) ≡ after (now_with self.old.replay.log (state_at self.old keep)) line.now) }
-        ensures rest { (self.new.base ≡ self.old.base) × (self.new.chunks ≡ self.old.chunks) × (self.new.replay.news ≡ self.old.replay.news) }
-        ensures steps { Steps result work.old work.new 1 0 }
+        requires present { changes_in self.old.replay.log.present ≡ no_change }
+        ensures traces { IfOk result (λ traces. traces.items ≡ traces_from (now_at self.old keep) lines.now) }
+        ensures puts { IfOk result (λ traces. changes_in self.new.replay.log.present ≡ last_puts (puts_of traces.items)) }
+        ensures changes { self.new.replay.log.changes ≡ self.old.replay.log.changes }
+        ensures rest { HasMadeNothing self.old self.new }
+        ensures steps { Steps result work.old work.new (length lines.now) 0 }
         ensures looked { work.new.looked ≡ work.old.looked }
     {
         let cursor = self.cursor_at(keep);
         let past = past_of(self.base, &self.chunks, cursor, keep);
-        self.replay.enter(line, &past, work)
+        self.replay.enter_all(lines, &past, work)
     }
 
     /// The new lines end, which come in the place of those after the first `keep` up to the first `from`.
@@ -126,9 +145,9 @@ impl<'a> Walk<'a> {
         requires ordered { keep ≤ from }
         requires within { from ≤ length self.old.base.lines.now }
         ensures changes { OnOk result ((news : List APut) → changes_in self.old.replay.log.present ≡ last_puts news
-            → changes_in self.new.replay.log.changes ≡ noted (changes_in self.old.replay.log.changes) (state_at self.old keep) (puts_of (stretch keep from self.old.base.traces.now)) news) }
+            → changes_in self.new.replay.log.changes ≡ noted (changes_in self.old.replay.log.changes) (state_at self.old keep) (puts_in self.old keep from) news) }
         ensures present { OnOk result (changes_in self.new.replay.log.present ≡ no_change) }
-        ensures rest { (self.new.base ≡ self.old.base) × (self.new.chunks ≡ self.old.chunks) × (self.new.replay.news ≡ self.old.replay.news) }
+        ensures rest { HasMadeNothing self.old self.new }
     {
         let cursor = self.cursor_at(keep);
         let past = past_of(self.base, &self.chunks, cursor, keep);
@@ -148,7 +167,7 @@ impl<'a> Walk<'a> {
         requires present { changes_in self.old.replay.log.present ≡ no_change }
         ensures over { OnOk result (GoesOver self.old self.new from to) }
         ensures rest { (self.new.base ≡ self.old.base) × (self.new.chunks ≡ self.old.chunks) }
-        ensures steps { Steps result work.old work.new (length (replayed (now_at self.old from) from (stretch from to self.old.base.lines.now) (stretch from to self.old.base.traces.now))) 0 }
+        ensures steps { Steps result work.old work.new (length (replayed_in self.old from to)) 0 }
         ensures looked { ComparesUpTo work.old work.new (to - from) }
     {
         let cursor = self.cursor_at(from);
@@ -171,7 +190,7 @@ impl<'a> Walk<'a> {
         requires present { changes_in self.old.replay.log.present ≡ no_change }
         ensures over { OnOk result (GoesOver self.old self.new from to) }
         ensures rest { (self.new.base ≡ self.old.base) × (self.new.chunks ≡ self.old.chunks) }
-        ensures steps { Steps result work.old work.new (length (replayed (now_at self.old from) from (stretch from to self.old.base.lines.now) (stretch from to self.old.base.traces.now))) 0 }
+        ensures steps { Steps result work.old work.new (length (replayed_in self.old from to)) 0 }
         ensures looked { ComparesUpTo work.old work.new (to - from) }
     {
         for at in from..to {
@@ -189,13 +208,68 @@ impl<'a> Walk<'a> {
         Ok(())
     }
 
-    /// Whether the lines of a chunk, up to this end, do what they did. It is counted nowhere.
-    pub fn does_the_same(&mut self, cursor: Cursor, end: usize) -> Result<bool, AllocError>
+    /// Goes over chunks, from one on up to the one of a number, in front of which so many lines stand, as long as something is changed. Only where something that
+    /// the lines of a chunk ask together has another answer now, they are compared one by one.
+    pub fn go_over_chunks(
+        &mut self,
+        first: Cursor,
+        past: usize,
+        to: usize,
+        work: &mut Work,
+    ) -> Result<(), AllocError>
+        requires walk { IsWalk self.old }
+        requires first { StandsAt self.old.chunks.items first }
+        requires past { StandsAt self.old.chunks.items (cursor past to) }
+        requires ordered { first.chunk ≤ past }
+        requires present { changes_in self.old.replay.log.present ≡ no_change }
+        ensures over { OnOk result (GoesOver self.old self.new first.line to) }
+        ensures walk { IsStillWalk self.old self.new }
+        ensures steps { Steps result work.old work.new (length (replayed_in self.old first.line to)) 0 }
+        ensures looked { ComparesUpTo work.old work.new (looks_in self.old first (cursor past to)) }
+    {
+        let mut line = first.line;
+        for chunk in first.chunk..past {
+            if self.replay.changes().is_empty() {
+                return Ok(());
+            }
+            let end = line + self.chunks[chunk].lines;
+            self.go_over_chunk(Cursor { chunk, line }, end, work)?;
+            line = end;
+        }
+        Ok(())
+    }
+
+    /// Goes over a chunk, up to this end.
+    fn go_over_chunk(
+        &mut self,
+        cursor: Cursor,
+        end: usize,
+        work: &mut Work,
+    ) -> Result<(), AllocError>
         requires walk { IsWalk self.old }
         requires cursor { StandsAt self.old.chunks.items cursor }
         requires within { cursor.chunk < length self.old.chunks.items }
         requires end { end ≡ sum (take (cursor.chunk + 1) (lengths_of self.old.chunks.items)) }
-        ensures same { IfOk result (λ same. same ≡ stands (changes_in self.old.replay.log.changes) (run_of (stretch cursor.line end self.old.base.traces.now)).asks) }
+        requires present { changes_in self.old.replay.log.present ≡ no_change }
+        ensures over { OnOk result (GoesOver self.old self.new cursor.line end) }
+        ensures walk { IsStillWalk self.old self.new }
+        ensures steps { Steps result work.old work.new (length (replayed_in self.old cursor.line end)) 0 }
+        ensures looked { ComparesUpTo work.old work.new (looks_at self.old cursor.line end) }
+    {
+        if self.does_the_same(cursor, end)? {
+            self.settle(cursor, end);
+            return Ok(());
+        }
+        self.go_over_from(cursor, cursor.line, end, work)
+    }
+
+    /// Whether the lines of a chunk, up to this end, do what they did. It is counted nowhere.
+    fn does_the_same(&mut self, cursor: Cursor, end: usize) -> Result<bool, AllocError>
+        requires walk { IsWalk self.old }
+        requires cursor { StandsAt self.old.chunks.items cursor }
+        requires within { cursor.chunk < length self.old.chunks.items }
+        requires end { end ≡ sum (take (cursor.chunk + 1) (lengths_of self.old.chunks.items)) }
+        ensures same { IfOk result (λ same. same ≡ stands (changes_in self.old.replay.log.changes) (asks_in self.old cursor.line end)) }
         ensures walk { IsWalk self.new }
         ensures lengths { lengths_of self.new.chunks.items ≡ lengths_of self.old.chunks.items }
         ensures rest { (self.new.base ≡ self.old.base) × (self.new.replay ≡ self.old.replay) }
@@ -213,12 +287,12 @@ impl<'a> Walk<'a> {
     }
 
     /// Goes over a chunk whose lines do what they did.
-    pub fn settle(&mut self, cursor: Cursor, end: usize)
+    fn settle(&mut self, cursor: Cursor, end: usize)
         requires walk { IsWalk self.old }
         requires cursor { StandsAt self.old.chunks.items cursor }
         requires within { cursor.chunk < length self.old.chunks.items }
         requires end { end ≡ sum (take (cursor.chunk + 1) (lengths_of self.old.chunks.items)) }
-        ensures changes { changes_in self.new.replay.log.changes ≡ settled (changes_in self.old.replay.log.changes) (puts_of (stretch cursor.line end self.old.base.traces.now)) }
+        ensures changes { changes_in self.new.replay.log.changes ≡ settled (changes_in self.old.replay.log.changes) (puts_in self.old cursor.line end) }
         ensures present { self.new.replay.log.present ≡ self.old.replay.log.present }
         ensures news { self.new.replay.news ≡ self.old.replay.news }
         ensures rest { (self.new.base ≡ self.old.base) × (self.new.chunks ≡ self.old.chunks) }
@@ -270,7 +344,7 @@ fn past_of<'a, 'b: 'a>(
 }
 
 /// What the lines after the first `from` up to the first `to` did.
-fn part<'a>(traces: &'a [Trace], from: usize, to: usize) -> &'a [Trace]
+pub fn part<'a>(traces: &'a [Trace], from: usize, to: usize) -> &'a [Trace]
     requires ordered { from ≤ to }
     requires within { to ≤ length traces.now }
     ensures { result.now ≡ stretch from to traces.now }
@@ -278,8 +352,8 @@ fn part<'a>(traces: &'a [Trace], from: usize, to: usize) -> &'a [Trace]
     &traces[from..to]
 }
 
-/// Gathers what the lines of a chunk ask together, if it was not.
-fn gather(base: Baseline, chunk: &mut Chunk, traces: &[Trace]) -> Result<(), AllocError>
+/// Gathers what the lines of a chunk ask, put and name together, if it was not.
+pub fn gather(base: Baseline, chunk: &mut Chunk, traces: &[Trace]) -> Result<(), AllocError>
     requires { IsChunkOf base.hashing traces.now chunk.old }
     ensures chunk { IsChunkOf base.entry.hashing traces.now chunk.new }
     ensures lines { chunk.new.lines ≡ chunk.old.lines }

@@ -1,3 +1,4 @@
-mod EnteringLemmas
-mod EnteringRows
+mod AppendLemmas
+mod CuttingLemmas
+mod IdleLemmas
 pub mod SessionLemmas

@@ -3,10 +3,12 @@ use Rattle.std.specs.Prelude.{◌≡◌, ℕ, ◌*◌, ◌-◌, ◌<◌, ◌≤�
 use Rattle.cps_state.specs.Work.{Counts, counted_on}
 use Rattle.cps_exchange.specs.declared.exchange.Exchange.{Exchange}
 use Rattle.cps_division.specs.Exchange.{exchanged_at, moved_at}
-use Rattle.cps_edit.specs.Splice.{Splice}
+use Rattle.cps_division.specs.Put.{put_at}
+use Rattle.cps_edit.specs.Splice.{Splice, splice_at, spliced}
 use Rattle.cps_edit.specs.Disturbed.{ones_of, twos_of, ones_of_exchange, twos_of_exchange}
 use Rattle.cps_edit.specs.Compares.{ComparesUpTo}
-use Rattle.cps_chunks.specs.Touched.{touched_of, touched_of_exchange}
+use Rattle.cps_editing.specs.Touched.{touched_of, touched_of_exchange}
+use Rattle.cps_assembly.specs.Limits.{most_lines}
 use Rattle.cps_session.specs.declared.session.EditFault.{EditFault}
 use Rattle.cps_session.specs.declared.session.EditFault.TheVariants as faults
 
@@ -44,6 +46,34 @@ HasMove source first last after = HasLines source first last × (after ≤ lengt
 abbrev pub LacksMove : List (List ℕ) → ℕ → ℕ → ℕ → Type 0
 LacksMove source first last after = LacksLines source first last ⊎ ((length source < after) ⊎ ((first ≤ after) × (after < last)))
 
+-- ---- several lines
+
+-- lines in the place of those from one number to another; where the other is the number before, in front of the first
+abbrev pub put_of : ℕ → ℕ → List (List ℕ) → Splice
+put_of first last lines = splice_at (first - 1) last lines
+
+-- a source has the lines from one number to another, or the first is one more than the last: then a line may stand there
+abbrev pub HasPlace : List (List ℕ) → ℕ → ℕ → Type 0
+HasPlace source first last = (1 ≤ first) × (first - 1 ≤ last) × (last ≤ length source)
+
+-- a source lacks one of these lines, or the last stands before the one in front of the first
+abbrev pub LacksPlace : List (List ℕ) → ℕ → ℕ → Type 0
+LacksPlace source first last = (first ≡ 0) ⊎ ((last < first - 1) ⊎ (length source < last))
+
+-- there is a place, and there are not too many lines then
+abbrev pub MayPut : List (List ℕ) → ℕ → ℕ → List (List ℕ) → Type 0
+MayPut source first last lines = HasPlace source first last × (length (spliced source (put_of first last lines)) ≤ most_lines)
+
+-- there is a place, and there are too many lines then
+abbrev pub MayNotPut : List (List ℕ) → ℕ → ℕ → List (List ℕ) → Type 0
+MayNotPut source first last lines = HasPlace source first last × (most_lines < length (spliced source (put_of first last lines)))
+
+-- a source with lines in the place of others, and its chunks
+pub record IsPut (first last : ℕ) (come : List (List ℕ)) (old new : Source) : Type 0 where
+  pub lines : new.lines ≡ spliced old.lines (put_of first last come)
+  pub lengths : new.lengths ≡ put_at (first - 1) (last - (first - 1)) (length come) old.lengths
+  pub allowed : MayPut old.lines first last come
+
 -- ---- work
 
 -- so many steps of each pass were made
@@ -76,6 +106,11 @@ WorkOfMove (Err faults.Memory) lines e old new = HaveSteppedUpTo (ones_of_exchan
 -- there the new lengths are those that it would make.
 abbrev pub LooksOfEdit : Source → Splice → List ℕ → Counts → Counts → Type 0
 LooksOfEdit old splice lengths was now = ComparesUpTo was now (128 * touched_of old.lines splice old.lengths lengths)
+
+-- so does one of several lines
+abbrev pub LooksOfPut : Source → ℕ → ℕ → List (List ℕ) → Counts → Counts → Type 0
+LooksOfPut old first last lines was now =
+    LooksOfEdit old (put_of first last lines) (put_at (first - 1) (last - (first - 1)) (length lines) old.lengths) was now
 
 -- so does a move
 abbrev pub LooksOfMove : Source → Exchange → Counts → Counts → Type 0

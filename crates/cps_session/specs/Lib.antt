@@ -1,3 +1,3 @@
+pub mod Cutting
 pub mod Edits
-pub mod Entering
 pub mod Kept

@@ -1,27 +1,24 @@
 //! A source that is edited line by line.
-ghost use Rattle.std.specs.Prelude.{◌≡◌, ◌-◌, ◌<◌, ◌≤◌, ◌↔◌, [], ◌∷◌, ◌++◌, length, take, sum, insert, slice_get, slice_set, Some, IsTrue, IsSome, IfSome, OnOk, OnErr, IfOk, IsErrOf};
+ghost use Rattle.std.specs.Prelude.{◌≡◌, ◌-◌, ◌<◌, ◌≤◌, ◌↔◌, [], ◌∷◌, ◌++◌, length, insert, slice_get, slice_set, Some, IsTrue, IsSome, IfSome, OnOk, OnErr, IfOk, IsErrOf};
 ghost use Rattle.cps_list.specs.Texts.{text_of};
 ghost use Rattle.cps_division.specs.Division.{IsDivision, inserted_at, deleted_at};
 ghost use Rattle.cps_division.specs.Recut.{recut as recut_by};
 ghost use Rattle.cps_edit.specs.Compares.{Steps};
 ghost use Rattle.cps_edit.specs.Splice.{splice_at, spliced, insertion, replacement, deletion};
-ghost use Rattle.cps_chunks.specs.Recuts.{Recuts};
-ghost use Rattle.cps_kept.specs.Kept.{splice_of};
+ghost use Rattle.cps_editing.specs.Editing.{IsCut, splice_of};
+ghost use Rattle.cps_editing.specs.Entering.{full_chunks};
 ghost use Rattle.cps_assembly.specs.Assembly.{assembly_of};
 ghost use Rattle.cps_assembly.specs.Flagged.{flagged_lines as flagged_in};
 ghost use Rattle.cps_exchange.specs.Exchange.{exchanged, move};
 ghost use Rattle.cps_division.specs.Exchange.{exchanged_at, moved_at};
-ghost use Rattle.cps_session.specs.Edits.{HasLine, LacksLine, HasLines, LacksLines, HasMove, LacksMove, without_lines, WorkOfEdit, WorkOfMove, LooksOfEdit, LooksOfMove, LooksOfExchange};
-ghost use Rattle.cps_session.specs.Entering.{full_chunks};
+ghost use Rattle.cps_session.specs.Cutting.{edit_of, lengths_with};
+ghost use Rattle.cps_session.specs.Edits.{HasLine, LacksLine, HasLines, LacksLines, HasMove, LacksMove, LacksPlace, MayPut, MayNotPut, IsPut, put_of, without_lines, WorkOfEdit, WorkOfMove, LooksOfEdit, LooksOfMove, LooksOfPut, LooksOfExchange};
 
-use crate::entering::kept_of;
+use crate::cutting::{NewLines, cut_for, cut_for_append, list_of};
 use cps_assembly::flagged_lines;
-use cps_division::laws::{a_deletion_divides_again, an_insertion_divides_again};
-use cps_division::{Recut, recut_deletion, recut_insertion, recut_replacement};
-use cps_edit::Front;
+use cps_editing::{Cut, KeptSource, kept_of};
 use cps_exchange::Exchange;
-use cps_final::{Finals, Gathered, Outcome};
-use cps_kept::{Follower, Lists, NewLines};
+use cps_final::{Finals, Outcome};
 use cps_list::{Part, View, make_text};
 use cps_pass::{Hashing, Work};
 use cps_text::Line;
@@ -50,38 +47,27 @@ pub enum EditFault {
 /// kept, and counts these steps in the caller's work; where it is refused, nothing changes.
 pub struct Session {
     alloc: Global,
-    lists: Lists,
-    /// What was gathered of all lines.
-    front: Front,
-    /// What was gathered before the latest append.
-    follower: Follower,
+    kept: KeptSource,
 }
 
 // Written out, as that of what is kept: what holds a session drops it by a call.
 impl Drop for Session {
     fn drop(self) {
-        let Session {
-            alloc: _,
-            lists,
-            front,
-            follower,
-        } = self;
-        drop(lists);
-        drop(front);
-        drop(follower);
+        let Session { alloc: _, kept } = self;
+        drop(kept);
     }
 }
 
 impl Model for Session {
-    ghost use Rattle.cps_chunks.specs.Chunks.{lengths_of};
+    ghost use Rattle.cps_editing.specs.Chunk.{lengths_of};
     ghost use Rattle.cps_session.specs.Edits.{Source};
-    ghost use Rattle.cps_session.specs.Kept.{IsKept};
+    ghost use Rattle.cps_session.specs.Kept.{IsHeld};
 
     ghost Value = { Source };
 
-    ghost view = { λ session. record { lines = session.lists.lines.items; lengths = lengths_of session.lists.chunks.items } };
+    ghost view = { λ session. record { lines = session.kept.lines.items; lengths = lengths_of session.kept.chunks.items } };
 
-    ghost invariant = { λ session. IsKept session.lists (⟦<Front as Gathered>⟧.gathered session.front) session.follower };
+    ghost invariant = { λ session. IsHeld session.kept };
 }
 
 impl View for Session {
@@ -90,29 +76,29 @@ impl View for Session {
     ghost assembly = { λ session. assembly_of session.lines };
 
     fn count(&self) -> u32 {
-        self.lists.lines.len() as u32
+        self.kept.lines.len() as u32
     }
 
     fn line(&self, n: u32) -> Option<&Line> {
         if n == 0 {
             return None;
         }
-        self.lists.lines.get(n as usize - 1)
+        self.kept.lines.get(n as usize - 1)
     }
 
     fn outcome(&self, n: u32) -> Option<&Outcome> {
         if n == 0 {
             return None;
         }
-        self.lists.outcomes.get(n as usize - 1)
+        self.kept.outcomes.get(n as usize - 1)
     }
 
     fn finals(&self) -> &Finals {
-        self.front.finals()
+        &self.kept.finals
     }
 
     fn open_at_end(&self) -> bool {
-        self.front.finals().is_open_at_end()
+        self.kept.finals.is_open_at_end()
     }
 }
 
@@ -124,9 +110,7 @@ impl Session {
     {
         Session {
             alloc,
-            lists: Lists::new(alloc),
-            front: Front::new(alloc, hashing),
-            follower: Follower::new(alloc, hashing),
+            kept: KeptSource::new(alloc, hashing),
         }
     }
 
@@ -145,14 +129,8 @@ impl Session {
         ensures steps { Steps result work.old work.new (length lines.items) (length lines.items) }
         ensures looked { work.new.looked ≡ work.old.looked }
     {
-        let mut front = Front::new(alloc, hashing);
-        let lists = kept_of(alloc, &mut front, lines, work)?;
-        Ok(Session {
-            alloc,
-            lists,
-            front,
-            follower: Follower::new(alloc, hashing),
-        })
+        let kept = kept_of(alloc, hashing, lines, work)?;
+        Ok(Session { alloc, kept })
     }
 
     /// How many lines the source has.
@@ -160,7 +138,7 @@ impl Session {
         ensures count { result ≡ length self.now.lines }
         ensures within { result ≤ MOST_LINES }
     {
-        self.lists.lines.len() as u32
+        self.kept.lines.len() as u32
     }
 
     /// Line `n`, where lines count from 1.
@@ -171,7 +149,7 @@ impl Session {
         if n == 0 {
             return None;
         }
-        self.lists.lines.get(n as usize - 1)
+        self.kept.lines.get(n as usize - 1)
     }
 
     /// Whether the source has as many lines as it may have.
@@ -179,7 +157,7 @@ impl Session {
         ensures full { IsTrue result ↔ (length self.now.lines ≡ MOST_LINES) }
         ensures within { length self.now.lines ≤ MOST_LINES }
     {
-        self.lists.lines.len() == MOST_LINES
+        self.kept.lines.len() == MOST_LINES
     }
 
     /// How many lines each chunk of the source has, in their order. An edit looks only into chunks that it touches.
@@ -187,7 +165,7 @@ impl Session {
         ensures lengths { IfOk result (λ lengths. lengths.items ≡ self.now.lengths) }
         ensures division { IsDivision (length self.now.lines) self.now.lengths }
     {
-        self.lists.lengths()
+        self.kept.lengths()
     }
 
     /// Inserts a line after line `after`, 0 for the front. A line that is refused is dropped.
@@ -203,28 +181,24 @@ impl Session {
         ensures looked { LooksOfEdit self.old (insertion after line) (inserted_at after self.old.lengths) work.old work.new }
     {
         let after = after as usize;
-        if after > self.lists.lines.len() {
+        if after > self.kept.lines.len() {
             return Err(EditFault::NoSuchLine);
         }
-        if self.lists.lines.len() == MOST_LINES {
+        if self.kept.lines.len() == MOST_LINES {
             return Err(EditFault::TooManyLines);
         }
-        if after == self.lists.lines.len() {
+        if after == self.kept.lines.len() {
             return self.append(line, work);
         }
-        let Ok(lengths) = self.chunk_lengths() else {
-            return Err(EditFault::Memory);
-        };
         let Ok(lines) = list_of(self.alloc, line) else {
             return Err(EditFault::Memory);
         };
-        an_insertion_divides_again();
         let new = NewLines {
             keep: after,
             from: after,
             lines,
         };
-        self.splice(new, recut_insertion(&lengths, after), work)
+        self.put_new(new, work)
     }
 
     /// Puts a line in place of line `at`, where lines count from 1. A line that is refused is dropped.
@@ -240,12 +214,9 @@ impl Session {
         ensures looked { LooksOfEdit self.old (replacement at line) self.old.lengths work.old work.new }
     {
         let at = at as usize;
-        if at == 0 || at > self.lists.lines.len() {
+        if at == 0 || at > self.kept.lines.len() {
             return Err(EditFault::NoSuchLine);
         }
-        let Ok(lengths) = self.chunk_lengths() else {
-            return Err(EditFault::Memory);
-        };
         let Ok(lines) = list_of(self.alloc, line) else {
             return Err(EditFault::Memory);
         };
@@ -254,7 +225,7 @@ impl Session {
             from: at,
             lines,
         };
-        self.splice(new, recut_replacement(&lengths, at), work)
+        self.put_new(new, work)
     }
 
     /// Deletes the lines from `first` to `last`, where lines count from 1.
@@ -269,34 +240,65 @@ impl Session {
         ensures work { WorkOfEdit result self.old.lines (deletion first last) work.old work.new }
         ensures looked { LooksOfEdit self.old (deletion first last) (deleted_at (first - 1) (last - (first - 1)) self.old.lengths) work.old work.new }
     {
-        if first == 0 || last < first || last as usize > self.lists.lines.len() {
+        if first == 0 || last < first || last as usize > self.kept.lines.len() {
             return Err(EditFault::NoSuchLine);
         }
-        self.cut(first as usize - 1, last as usize, work)
+        let new = NewLines {
+            keep: first as usize - 1,
+            from: last as usize,
+            lines: Vec::new(self.alloc),
+        };
+        self.put_new(new, work)
     }
 
-    /// Deletes the lines after the first `keep` up to the first `from`.
-    fn cut(&mut self, keep: usize, from: usize, work: &mut Work) -> Result<(), EditFault>
-        requires some { keep < from }
-        requires within { from ≤ length self.old.lines }
-        ensures ok { OnOk result (self.new.lines ≡ spliced self.old.lines (splice_at keep from [])) }
-        ensures lengths { OnOk result (self.new.lengths ≡ deleted_at keep (from - keep) self.old.lengths) }
+    /// Puts lines in the place of those from `first` to `last`, where lines count from 1; in front of line `first`, where `last` is the number before it. Both
+    /// passes go over the source once. Lines that are refused are dropped.
+    pub fn put(
+        &mut self,
+        first: u32,
+        last: u32,
+        lines: Vec<Line>,
+        work: &mut Work,
+    ) -> Result<(), EditFault>
+        ensures ok { OnOk result (IsPut first last lines.items self.old self.new) }
+        ensures err { OnErr result (self.new ≡ self.old) }
+        ensures no_line { IsErrOf result EditFault.NoSuchLine ↔ LacksPlace self.old.lines first last }
+        ensures too_many { IsErrOf result EditFault.TooManyLines ↔ MayNotPut self.old.lines first last lines.items }
+        ensures memory { IsErrOf result EditFault.Memory → MayPut self.old.lines first last lines.items }
+        ensures work { WorkOfEdit result self.old.lines (put_of first last lines.items) work.old work.new }
+        ensures looked { LooksOfPut self.old first last lines.items work.old work.new }
+    {
+        let count = self.kept.lines.len();
+        if first == 0 || last < first - 1 || last as usize > count {
+            return Err(EditFault::NoSuchLine);
+        }
+        let keep = first as usize - 1;
+        let from = last as usize;
+        if lines.len() > MOST_LINES - (count - (from - keep)) {
+            return Err(EditFault::TooManyLines);
+        }
+        self.put_new(NewLines { keep, from, lines }, work)
+    }
+
+    /// Puts new lines in their places.
+    fn put_new(&mut self, new: NewLines, work: &mut Work) -> Result<(), EditFault>
+        requires order { new.keep ≤ new.from }
+        requires within { new.from ≤ length self.old.lines }
+        requires few { length (spliced self.old.lines (edit_of new)) ≤ MOST_LINES }
+        ensures ok { OnOk result (self.new.lines ≡ spliced self.old.lines (edit_of new)) }
+        ensures lengths { OnOk result (self.new.lengths ≡ lengths_with new self.old.lengths) }
         ensures err { OnErr result (self.new ≡ self.old) }
         ensures only { OnErr result (IsErrOf result EditFault.Memory) }
-        ensures work { WorkOfEdit result self.old.lines (splice_at keep from []) work.old work.new }
-        ensures looked { LooksOfEdit self.old (splice_at keep from []) (deleted_at keep (from - keep) self.old.lengths) work.old work.new }
+        ensures work { WorkOfEdit result self.old.lines (edit_of new) work.old work.new }
+        ensures looked { LooksOfEdit self.old (edit_of new) (lengths_with new self.old.lengths) work.old work.new }
     {
         let Ok(lengths) = self.chunk_lengths() else {
             return Err(EditFault::Memory);
         };
-        a_deletion_divides_again();
-        let recut = recut_deletion(&lengths, keep, from);
-        let new = NewLines {
-            keep,
-            from,
-            lines: Vec::new(self.alloc),
+        let Ok(cut) = cut_for(self.alloc, &lengths, new) else {
+            return Err(EditFault::Memory);
         };
-        self.splice(new, recut, work)
+        self.splice(cut, work)
     }
 
     /// Moves the lines from `first` to `last` after line `after`, 0 for the front, where lines count from 1, as they stand before the move. After line
@@ -344,12 +346,10 @@ impl Session {
         ensures work { WorkOfMove result self.old.lines exchange work.old work.new }
         ensures looked { LooksOfExchange self.old exchange work.old work.new }
     {
-        let made = self.lists.exchange(self.front.finals(), exchange, work);
-        let Ok(front) = made else {
+        let made = self.kept.exchange(exchange, work);
+        let Ok(()) = made else {
             return Err(EditFault::Memory);
         };
-        self.front = front;
-        self.follower = Follower::new(self.alloc, self.front.finals().hashing());
         Ok(())
     }
 
@@ -363,33 +363,28 @@ impl Session {
         ensures work { WorkOfEdit result self.old.lines (insertion (length self.old.lines) line) work.old work.new }
         ensures looked { LooksOfEdit self.old (insertion (length self.old.lines) line) (inserted_at (length self.old.lines) self.old.lengths) work.old work.new }
     {
-        let made = self
-            .lists
-            .append(&mut self.front, &mut self.follower, line, work);
+        let count = self.kept.lines.len();
+        let Ok(cut) = cut_for_append(self.alloc, &self.kept.chunks, count, line) else {
+            return Err(EditFault::Memory);
+        };
+        self.splice(cut, work)
+    }
+
+    /// Puts new lines in the place of others.
+    fn splice(&mut self, cut: Cut, work: &mut Work) -> Result<(), EditFault>
+        requires cut { IsCut self.old.lines self.old.lengths cut }
+        requires few { length (spliced self.old.lines (splice_of cut)) ≤ MOST_LINES }
+        ensures ok { OnOk result (self.new.lines ≡ spliced self.old.lines (splice_of cut)) }
+        ensures lengths { OnOk result (self.new.lengths ≡ recut_by cut.start cut.end cut.lengths.items self.old.lengths) }
+        ensures err { OnErr result (self.new ≡ self.old) }
+        ensures only { OnErr result (IsErrOf result EditFault.Memory) }
+        ensures work { WorkOfEdit result self.old.lines (splice_of cut) work.old work.new }
+        ensures looked { LooksOfEdit self.old (splice_of cut) (recut_by cut.start cut.end cut.lengths.items self.old.lengths) work.old work.new }
+    {
+        let made = self.kept.splice(cut, work);
         let Ok(()) = made else {
             return Err(EditFault::Memory);
         };
-        Ok(())
-    }
-
-    /// Puts new lines in the place of others; `recut` tells what that makes of the chunks.
-    fn splice(&mut self, new: NewLines, recut: Recut, work: &mut Work) -> Result<(), EditFault>
-        requires recuts { Recuts self.old.lines (splice_of new) recut.start recut.end recut.lengths.items self.old.lengths }
-        requires before { recut.before ≡ sum (take recut.start self.old.lengths) }
-        requires few { length (spliced self.old.lines (splice_of new)) ≤ MOST_LINES }
-        ensures ok { OnOk result (self.new.lines ≡ spliced self.old.lines (splice_of new)) }
-        ensures lengths { OnOk result (self.new.lengths ≡ recut_by recut.start recut.end recut.lengths.items self.old.lengths) }
-        ensures err { OnErr result (self.new ≡ self.old) }
-        ensures only { OnErr result (IsErrOf result EditFault.Memory) }
-        ensures work { WorkOfEdit result self.old.lines (splice_of new) work.old work.new }
-        ensures looked { LooksOfEdit self.old (splice_of new) (recut_by recut.start recut.end recut.lengths.items self.old.lengths) work.old work.new }
-    {
-        let made = self.lists.splice(self.front.finals(), new, &recut, work);
-        let Ok(front) = made else {
-            return Err(EditFault::Memory);
-        };
-        self.front.give_way(front);
-        self.follower = Follower::new(self.alloc, self.front.finals().hashing());
         Ok(())
     }
 
@@ -404,15 +399,6 @@ impl Session {
     pub fn flagged(&self) -> u32
         ensures { result ≡ flagged_in self.now.lines }
     {
-        flagged_lines(&self.lists.outcomes, self.front.finals().is_open_at_end()) as u32
+        flagged_lines(&self.kept.outcomes, self.kept.finals.is_open_at_end()) as u32
     }
-}
-
-/// A list of one line.
-fn list_of(alloc: Global, line: Line) -> Result<Vec<Line>, AllocError>
-    ensures { IfOk result (λ list. list.items ≡ line ∷ []) }
-{
-    let mut list = Vec::with_capacity(alloc, 1)?;
-    list.push(line)?;
-    Ok(list)
 }

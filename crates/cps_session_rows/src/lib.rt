@@ -8,6 +8,7 @@
 //! - `many_edits.rt`: a thousand edits
 //! - `part_rows.rt`: the texts of a session
 //! - `pass_rows.rt`: pass one, line by line
+//! - `put_rows.rt`: several lines in the place of others
 #![tactic(auto)]
 
 #[cfg(test)]
@@ -26,3 +27,5 @@ mod many_edits;
 mod part_rows;
 #[cfg(test)]
 mod pass_rows;
+#[cfg(test)]
+mod put_rows;

@@ -9,7 +9,7 @@ use Rattle.cps_pass.specs.Expansion.{trace_of}
 use Rattle.cps_final.specs.Finals.{Finals, finals_of, Gathers, final_value}
 use Rattle.cps_final.specs.Outcome.{outcome_of}
 use Rattle.cps_assembly.specs.Assembly.{state_after, traces_of, outcomes_of, outcomes_under}
-use Rattle.cps_edit.proofs.SpliceLemmas.{traces_from-append, length-traces_from, puts-state}
+use Rattle.cps_assembly.proofs.SpliceLemmas.{traces_from-append, length-traces_from, puts-state}
 
 -- the trace of the line after those that were gathered
 pub step-next : (finals : Finals) (before : List (List ℕ)) (line : List ℕ) (trace : Trace) (state : State) → Gathers finals (traces_of before) → state ≡ finals.state

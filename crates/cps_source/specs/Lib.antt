@@ -1,1 +1,3 @@
 pub mod Kept
+pub use Rattle.cps_assembly.specs.Assembly
+pub use Rattle.cps_assembly.specs.Flagged

@@ -3,9 +3,9 @@
 use Rattle.std.specs.Prelude.{ℕ, List, [], ◌∷◌, if◌then◌else◌}
 use Rattle.cps_expr.specs.declared.machine.Machine.{Machine}
 use Rattle.cps_expr.specs.Value.{Values, same_name}
-use Rattle.cps_state.specs.declared.item.Item.{Item}
-use Rattle.cps_state.specs.declared.made.Held.{Held}
-use Rattle.cps_state.specs.Made.{Made}
+use Rattle.cps_gather.specs.declared.Item.{Item}
+use Rattle.cps_gather.specs.declared.Held.{Held}
+use Rattle.cps_gather.specs.Made.{Made}
 use Rattle.cps_gather.specs.Finals.{label, literal, address_of}
 use Rattle.cps_gather.specs.Addresses.{Resolved, final_of, address_in, first_address}
 

@@ -7,4 +7,5 @@
 mod standing;
 mod symbols;
 
+pub use cps_gather::{Finals, Gather, Gathered, list_literals};
 pub use standing::Standing;

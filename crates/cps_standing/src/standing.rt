@@ -3,8 +3,7 @@ ghost use Rattle.std.specs.Prelude.{◌≡◌, ◌<◌, ◌^◌, pos, nat_le, If
 
 use crate::symbols::Symbols;
 use cps_expr::{Expr, Machine, Value, Valued};
-use cps_gather::Finals;
-use cps_state::{Item, WORD};
+use cps_gather::{Finals, Item, WORD};
 
 /// A statement at its final address: `base` is the address of its block, `here` that of the word in which it starts.
 #[derive(Clone, Copy)]
@@ -19,7 +18,7 @@ pub struct Standing<'a> {
 
 impl<'a> Standing<'a> {
     ghost use Rattle.cps_expr.specs.Value.{IsInRange, plain, value_in, has_undefined};
-    ghost use Rattle.cps_state.specs.Machines.{limit};
+    ghost use Rattle.cps_gather.specs.Machines.{limit};
     ghost use Rattle.cps_standing.specs.Resolving.{resolved, view_of};
     ghost use Rattle.cps_standing.specs.Known.{standing_of};
 

@@ -4,8 +4,7 @@ ghost use Rattle.cps_standing.specs.Resolving.{resolved};
 ghost use Rattle.cps_standing.specs.Known.{values_in};
 
 use cps_expr::{Names, Value, is_same_name};
-use cps_gather::Finals;
-use cps_state::Held;
+use cps_gather::{Finals, Held};
 use cps_text::Name;
 
 /// The symbols of a statement: those that SET had given a value there, and all others by their labels.

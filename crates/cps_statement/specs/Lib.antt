@@ -11,3 +11,5 @@ pub mod Seen
 pub mod Skipping
 pub mod Taking
 pub mod Treating
+pub use Rattle.cps_local.specs.Locals
+pub use Rattle.cps_local.specs.Naming

@@ -5,8 +5,8 @@ use Rattle.cps_text.specs.declared.name.Name.{Name}
 use Rattle.cps_text.specs.Arguments.{has_unclosed, arguments_of}
 use Rattle.cps_text.specs.Insertion.{Pairs, inserted}
 use Rattle.cps_text.specs.Name.{name_text}
-use Rattle.cps_code.specs.Place.{position}
-use Rattle.cps_peripheral.specs.Builtin.{is_builtin}
+use Rattle.cps_site.specs.Place.{position}
+use Rattle.cps_reading.specs.Builtin.{is_builtin}
 use Rattle.cps_state.specs.declared.key.Control.{Control}
 use Rattle.cps_state.specs.declared.key.Macro.{Macro}
 use Rattle.cps_state.specs.declared.key.Mode.{Mode}

@@ -26,6 +26,7 @@ mod statement;
 mod treating;
 mod treatment;
 
+pub use cps_local::name_all;
 pub use macros::insert_all;
 pub use opened::{Body, Opened, Repeated};
 pub use scope::{Own, Scope};

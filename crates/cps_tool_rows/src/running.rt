@@ -1,9 +1,8 @@
 //! Runs of scripts on a source without a line, and of batch assembly. Only here a session is held.
 use cps_batch::{BatchFault, batch};
 use cps_list::Part;
-use cps_session::Session;
 use cps_text::Counted;
-use cps_tool::{Hashing, RunFault, run_script};
+use cps_tool::{Hashing, RunFault, Session, run_script};
 use std::alloc::Global;
 use std::io::{Read, Write};
 

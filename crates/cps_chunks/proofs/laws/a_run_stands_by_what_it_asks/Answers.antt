@@ -1,4 +1,4 @@
-use Rattle.cps_chunks.proofs.RunLemmas.{run-law}
+use Rattle.cps_touched.proofs.RunLemmas.{run-law}
 use Rattle.cps_chunks.proofs.laws.a_run_stands_by_what_it_asks.Goals as goal
 
 pub returns : goal.returns

@@ -1,7 +1,7 @@
 use Rattle.std.proofs.Common.{rules, ◌≡◌, ◌∙◌, subst, sym, Bool}
 use Rattle.std.specs.Bool.{Decides}
-use Rattle.cps_final.specs.Outcome.{AgreeOnNamed}
-use Rattle.cps_final.specs.Resolving.{resolved}
+use Rattle.cps_naming.specs.Outcome.{AgreeOnNamed}
+use Rattle.cps_naming.specs.Resolving.{resolved}
 use Rattle.cps_holding.specs.Agreeing.{same_named}
 use Rattle.cps_holding.proofs.AgreeLemmas.{named-alone, named-decides}
 use Rattle.cps_holding.proofs.agreeing.same_finals.Goals as goal

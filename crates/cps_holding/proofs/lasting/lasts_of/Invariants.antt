@@ -1,4 +1,4 @@
-use Rattle.cps_final.specs.Layout.{puts_of}
+use Rattle.cps_naming.specs.Layout.{puts_of}
 use Rattle.cps_holding.proofs.GatherLemmas.{GoesBack}
 use Rattle.cps_holding.proofs.lasting.lasts_of.Given as goal
 

@@ -1,6 +1,6 @@
 use Rattle.std.proofs.Common.{◌≡◌, ℕ, [], refl, subst, ◌∙◌}
 use Rattle.std.specs.Prelude.{Err}
-use Rattle.cps_assembly.specs.Assembly.{assembly_of}
+use Rattle.cps_source.specs.Assembly.{assembly_of}
 use Rattle.cps_compare.specs.Comparison.{Compares, Tells, sides_of}
 use Rattle.cps_compare.specs.Told.{Sides}
 use Rattle.cps_octal.proofs.OctalLemmas.{kept-text, sides-same, reports}

@@ -1,7 +1,7 @@
 use Rattle.std.proofs.Common.{◌∙◌, List, ℕ, Err, ap, refl, subst}
 use Rattle.std.specs.Prelude.{Option}
-use Rattle.cps_assembly.specs.Assembly.{assembly_of}
-use Rattle.cps_assembly.specs.Flagged.{flagged_lines}
+use Rattle.cps_source.specs.Assembly.{assembly_of}
+use Rattle.cps_source.specs.Flagged.{flagged_lines}
 use Rattle.cps_output.specs.Export.{PlacesAll, WritesAll, WritesFront, part_text}
 use Rattle.cps_output.specs.Outputs.{Places, files_of, names_of}
 use Rattle.cps_output.proofs.exporting.export_lines.Goals as goal

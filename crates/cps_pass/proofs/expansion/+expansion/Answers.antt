@@ -2,8 +2,8 @@ use Rattle.std.proofs.Common.{rules, arith, ◌+◌, ◌-◌, sym, ap, ◌∙◌
 use Rattle.cps_text.specs.Insertion.{pairs_value, inserted}
 use Rattle.cps_state.specs.Course.{begin}
 use Rattle.cps_state.specs.Line.{Goes}
-use Rattle.cps_local.specs.Locals.{naming_all}
-use Rattle.cps_local.specs.Naming.{Names}
+use Rattle.cps_statement.specs.Locals.{naming_all}
+use Rattle.cps_statement.specs.Naming.{Names}
 use Rattle.cps_pass.specs.Expansion.{walk, body, ended, too_deep}
 use Rattle.cps_statement.specs.Treating.{repeated}
 use Rattle.cps_statement.specs.Meaning.{statement}

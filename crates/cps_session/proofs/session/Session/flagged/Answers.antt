@@ -8,13 +8,13 @@ use Rattle.cps_session.proofs.session.Session.flagged.Goals as goal
 
 pub overflow_cast-result : goal.overflow_cast-result
 overflow_cast-result c =
-    let kept = c.self.invariant in
-    let each = ap length (c.deref.ensures.value ∙ kept.kept.made) ∙ length-outcomes c.self.inside.lists.lines.items in
-    omega (arith, each, kept.few, c.flagged_lines.ensures.within)
+    let held = c.self.invariant in
+    let each = ap length (c.deref.ensures.value ∙ held.kept.lines.made) ∙ length-outcomes c.self.inside.kept.lines.items in
+    omega (arith, each, held.few, c.flagged_lines.ensures.within)
 
 pub returns : goal.returns
 returns c =
-    let kept = c.self.invariant in
-    let outcomes = c.deref.ensures.value ∙ kept.kept.made in
-    let is_open = c.is_open_at_end.ensures ∙ ap is_open_at_end (c.finals.ensures ∙ kept.gathered) in
+    let kept = c.self.invariant.kept in
+    let outcomes = c.deref.ensures.value ∙ kept.lines.made in
+    let is_open = c.is_open_at_end.ensures ∙ ap is_open_at_end kept.finals in
     c.flagged_lines.ensures.count ∙ (λ i. flagged_with (is_open i) (outcomes i)) ∙ ap (λ (s : Source). flagged_lines s.lines) c.self.view_is

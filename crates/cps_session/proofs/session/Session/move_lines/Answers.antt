@@ -6,9 +6,9 @@ use Rattle.cps_exchange.proofs.ListLemmas.{idle-same}
 use Rattle.cps_division.specs.Exchange.{exchanged_at, moved_at}
 use Rattle.cps_edit.specs.Compares.{ComparesUpTo}
 use Rattle.cps_edit.proofs.FrontLemmas.{none-more}
-use Rattle.cps_chunks.specs.Touched.{touched_of_exchange}
-use Rattle.cps_kept.proofs.MoveLemmas.{idle-ones, idle-twos}
+use Rattle.cps_editing.specs.Touched.{touched_of_exchange}
 use Rattle.cps_session.specs.Edits.{LooksOfExchange}
+use Rattle.cps_session.proofs.IdleLemmas.{idle-ones, idle-twos}
 use Rattle.cps_session.proofs.SessionLemmas.{move-within}
 use Rattle.cps_session.proofs.session.Session.move_lines.Goals as goal
 

@@ -5,5 +5,5 @@ use Rattle.cps_session.proofs.session.SessionView.count.Goals as goal
 
 pub returns-clause-outcomes : goal.returns-clause-outcomes
 returns-clause-outcomes c =
-    let seen : length c.self.inside.lists.lines.items ≡ length c.args.self.now.lines = ap (λ (s : Source). length s.lines) c.self.view_is in
-    omega (arith, c.len.ensures, c.self.inside.lists.lines.ok.0, seen, length-outcomes c.args.self.now.lines)
+    let seen : length c.self.inside.kept.lines.items ≡ length c.args.self.now.lines = ap (λ (s : Source). length s.lines) c.self.view_is in
+    omega (arith, c.len.ensures, c.self.inside.kept.lines.ok.0, seen, length-outcomes c.args.self.now.lines)

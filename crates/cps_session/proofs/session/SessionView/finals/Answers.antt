@@ -5,4 +5,4 @@ use Rattle.cps_session.specs.Edits.{Source}
 use Rattle.cps_session.proofs.session.SessionView.finals.Goals as goal
 
 pub returns : goal.returns
-returns c = c.finals.ensures ∙ c.self.invariant.gathered ∙ ap (λ (s : Source). finals_of (traces_of s.lines)) c.self.view_is
+returns c = c.self.invariant.kept.finals ∙ ap (λ (s : Source). finals_of (traces_of s.lines)) c.self.view_is

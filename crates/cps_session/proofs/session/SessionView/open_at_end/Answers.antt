@@ -5,4 +5,4 @@ use Rattle.cps_session.specs.Edits.{Source}
 use Rattle.cps_session.proofs.session.SessionView.open_at_end.Goals as goal
 
 pub returns : goal.returns
-returns c = c.is_open_at_end.ensures ∙ ap is_open_at_end (c.finals.ensures ∙ c.self.invariant.gathered) ∙ ap (λ (s : Source). ends_open s.lines) c.self.view_is
+returns c = c.is_open_at_end.ensures ∙ ap is_open_at_end c.self.invariant.kept.finals ∙ ap (λ (s : Source). ends_open s.lines) c.self.view_is

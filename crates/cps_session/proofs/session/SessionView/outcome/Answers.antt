@@ -12,4 +12,4 @@ returns-clause-outcome c =
     let outcomes = c.deref.result.now in
     let there = looked_up (λ (outcome : Bor Outcome). outcome.now) outcomes (c.args.n - 1) c.get.result (λ outcome. HoldsAt (λ other. outcome.now ≡ other) outcomes (c.args.n - 1)) c.get.ensures.lookup.1 c.get.ensures.lookup.3 in
     subst (λ all. IfSome c.get.result (λ outcome. slice_get all (c.args.n - 1) ≡ Some outcome.now))
-    (c.deref.ensures.value ∙ c.self.invariant.kept.made ∙ ap (λ (s : Source). outcomes_of s.lines) c.self.view_is) there
+    (c.deref.ensures.value ∙ c.self.invariant.kept.lines.made ∙ ap (λ (s : Source). outcomes_of s.lines) c.self.view_is) there

@@ -1,0 +1,1 @@
+pub use Rattle.cps_edit.proofs.SpliceLemmas

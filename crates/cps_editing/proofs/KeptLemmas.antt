@@ -1,0 +1,207 @@
+-- What is kept of a source behind an edit.
+use Rattle.std.proofs.Common.{◌≡◌, ℕ, ◌+◌, ◌-◌, ◌≤◌, refl, sym, ap, subst, ◌∙◌, Bool, true, false, List, [], ◌++◌, append-nil, length, take, drop, arith}
+use Rattle.std.specs.Prelude.{sum, vec_len, vec_capacity}
+use Rattle.std.specs.declared.vec.Vec.{Vec}
+use Rattle.std.proofs.lemmas.List.{length-append, length-drop, length-map, length-take-le, take-append-le, take-take, take_all, drop-drop, drop_all}
+use Rattle.std.proofs.lemmas.List.Sums.{sum_by-take-le}
+use Rattle.std.proofs.Math.Seq.{drop-append-add}
+use Rattle.cps_state.specs.Keys.{State, first_state}
+use Rattle.cps_state.specs.Course.{Trace}
+use Rattle.cps_state.specs.declared.hashing.Hashing.{Hashing}
+use Rattle.cps_state.specs.contracts.state.StateLookup.TheImpl.{answer-value}
+use Rattle.cps_gather.specs.contracts.finals.FinalsGathered.TheImpl.{gathered-value}
+use Rattle.cps_final.specs.Finals.{finals_of}
+use Rattle.cps_final.specs.Outcome.{Outcome, Resolved}
+use Rattle.cps_division.specs.Division.{AreChunks}
+use Rattle.cps_edit.specs.Disturbed.{finals_in}
+use Rattle.cps_edit.specs.Passes.{traces_from, traces_of, outcomes_by}
+use Rattle.cps_edit.specs.Splice.{spliced}
+use Rattle.cps_edit.proofs.RedoLemmas.{length-outcomes}
+use Rattle.cps_edit.proofs.SpliceLemmas.{length-traces_from}
+use Rattle.cps_chunk.specs.declared.chunk.Chunk.{Chunk}
+use Rattle.cps_chunk.specs.Chunk.{AreChunksOf, lengths_of}
+use Rattle.cps_replay.specs.declared.sparse.At.{At}
+use Rattle.cps_replay.specs.Sparse.{AreWithin, renewed}
+use Rattle.cps_replay.specs.Replayed.{state_front, replayed_behind, redone_front, redone_behind}
+use Rattle.cps_replay.proofs.SparseLemmas.{AreWithin-wider}
+use Rattle.cps_replay.proofs.ReplayedLemmas.{replayed_behind-within, redone-within_all, traces-put, outcomes-put}
+use Rattle.cps_replay.proofs.WalkLemmas.{lengths-all, same-long}
+use Rattle.cps_editing.specs.declared.cut.Cut.{Cut}
+use Rattle.cps_editing.specs.declared.kept_source.KeptSource.{KeptSource}
+use Rattle.cps_editing.specs.declared.news.News.{News}
+use Rattle.cps_editing.specs.ChunkList.{Fits, HasRoom, is_append}
+use Rattle.cps_editing.specs.Editing.{AreKept, AreNewTraces, AreOutcomesOf, HasRoomFor, IsCut, IsKept, splice_of}
+use Rattle.cps_editing.proofs.ChunkListLemmas.{appends}
+
+-- ---- the same is kept
+
+-- whatever was gathered of the chunks
+pub are-same : {old new : KeptSource} → AreKept old → new.first ≡ old.first → new.lines.items ≡ old.lines.items → new.traces.items ≡ old.traces.items → new.outcomes.items ≡ old.outcomes.items
+    → AreChunksOf new.hashing new.chunks.items new.traces.items → lengths_of new.chunks.items ≡ lengths_of old.chunks.items → AreKept new
+are-same are first lines traces outcomes chunks lengths = record {
+  first = ap answer-value.it first ∙ are.first;
+  did = traces ∙ are.did ∙ ap traces_of (sym lines);
+  made = outcomes ∙ are.made ∙ ap (λ ls. outcomes_by (finals_in ls) (traces_of ls)) (sym lines);
+  chunks = chunks;
+  divided = subst AreChunks (sym lengths) are.divided;
+}
+
+chunks-same : (old new : KeptSource) → new.hashing ≡ old.hashing → new.traces.items ≡ old.traces.items → new.chunks.items ≡ old.chunks.items
+    → AreChunksOf old.hashing old.chunks.items old.traces.items → AreChunksOf new.hashing new.chunks.items new.traces.items
+chunks-same old new hashing traces chunks are =
+    subst (λ (h : Hashing). AreChunksOf h new.chunks.items new.traces.items) (sym hashing)
+    (subst (λ (cs : List Chunk). AreChunksOf old.hashing cs new.traces.items) (sym chunks)
+    (subst (λ (ts : List Trace). AreChunksOf old.hashing old.chunks.items ts) (sym traces) are))
+
+pub kept-same : {old new : KeptSource} → IsKept old → new.first ≡ old.first → new.hashing ≡ old.hashing → new.lines.items ≡ old.lines.items → new.traces.items ≡ old.traces.items
+    → new.outcomes.items ≡ old.outcomes.items → new.chunks.items ≡ old.chunks.items → gathered-value.it new.finals ≡ gathered-value.it old.finals → IsKept new
+kept-same {old = old} {new = new} kept first hashing lines traces outcomes chunks finals = record {
+  lines = are-same kept.lines first lines traces outcomes (chunks-same old new hashing traces chunks kept.lines.chunks) (ap lengths_of chunks);
+  finals = finals ∙ kept.finals ∙ ap (λ ls. finals_of (traces_of ls)) (sym lines);
+}
+
+-- ---- items in the place of others
+
+module _ {X : Type 0} (keep from : ℕ) (olds es news : List X) (ordered : keep ≤ from) (within : from ≤ length olds) (is : news ≡ take keep olds ++ (es ++ drop from olds)) where
+  front-long : length (take keep olds) ≡ keep
+  front-long = length-take-le keep olds (omega (arith, ordered, within))
+
+  pub put-long : length news ≡ keep + length es + (length olds - from)
+  put-long =
+      omega (arith, ap length is, length-append (take keep olds) (es ++ drop from olds), length-append es (drop from olds), length-drop from olds, front-long)
+
+  pub put-front : (n : ℕ) → n ≤ keep → take n news ≡ take n olds
+  put-front n le = ap (take n) is ∙ take-append-le n (take keep olds) (es ++ drop from olds) (omega (arith, le, front-long)) ∙ take-take n keep olds le
+
+  pub put-back : (n m : ℕ) → from ≤ m → n ≡ keep + length es + (m - from) → drop n news ≡ drop m olds
+  put-back n m le at =
+      let one : n ≡ length (take keep olds) + (length es + (m - from)) = omega (arith, at, front-long) in
+      let two : from + (m - from) ≡ m = omega (arith, le) in
+      (λ j. drop (one j) (is j)) ∙ drop-append-add (take keep olds) (es ++ drop from olds) (length es + (m - from)) ∙ drop-append-add es (drop from olds) (m - from)
+      ∙ drop-drop (m - from) from olds ∙ ap (λ k. drop k olds) two
+
+  pub put-all : keep ≡ length olds → news ≡ olds ++ es
+  put-all last =
+      let front : take keep olds ≡ olds = take_all keep olds (omega (arith, last)) in
+      let none : drop from olds ≡ [] = drop_all from olds (omega (arith, last, ordered)) in
+      is ∙ (λ j. front j ++ (ap (λ us. es ++ us) none ∙ append-nil es) j)
+
+-- ---- an edit of what is kept
+
+-- what comes is an append for so many lines where it is one for all that are there then
+pub append-none : (cut : Cut) (chunks lines news : ℕ) → cut.keep ≤ cut.from → cut.from ≤ cut.behind → (cut.from ≡ cut.keep → lines ≡ news) → is_append cut chunks news ≡ false
+    → is_append cut chunks lines ≡ false
+append-none cut chunks lines news ordered ends same none = by_test (is_append cut chunks lines) refl
+  where
+    by_test : (test : Bool) → is_append cut chunks lines ≡ test → is_append cut chunks lines ≡ false
+    by_test false is = is
+    by_test true is =
+        let at = appends cut chunks lines is in
+        let equal : lines ≡ news = same (omega (arith, at.last, ordered, ends)) in
+        ap (is_append cut chunks) equal ∙ none
+
+module _ {kept : KeptSource} {cut : Cut} (are : AreKept kept) (cuts : IsCut kept.lines.items (lengths_of kept.chunks.items) cut) where
+  pub traces-long : length kept.traces.items ≡ length kept.lines.items
+  traces-long = ap length are.did ∙ length-traces_from first_state kept.lines.items
+
+  pub outcomes-long : length kept.outcomes.items ≡ length kept.lines.items
+  outcomes-long =
+      ap length are.made ∙ length-outcomes (finals_in kept.lines.items) (traces_of kept.lines.items) ∙ length-traces_from first_state kept.lines.items
+
+  pub entered-traces : {new : News Trace} → AreNewTraces kept.lines.items (splice_of cut) new → length new.entered.items ≡ length cut.lines.items
+  entered-traces made = ap length made.entered ∙ length-traces_from (state_front kept.lines.items (splice_of cut)) cut.lines.items
+
+  pub entered-outcomes : {new : News Outcome} → AreOutcomesOf kept cut new → length new.entered.items ≡ length cut.lines.items
+  entered-outcomes made =
+      let front : State = state_front kept.lines.items (splice_of cut) in
+      ap length made.entered ∙ length-outcomes (finals_in (spliced kept.lines.items (splice_of cut))) (traces_from front cut.lines.items)
+      ∙ length-traces_from front cut.lines.items
+
+  pub trace-places : {news : List (At Trace)} (n : ℕ) {new : News Trace} → AreNewTraces kept.lines.items (splice_of cut) new → news ≡ new.renewed.items → n ≡ length kept.lines.items
+      → AreWithin cut.from n news
+  trace-places {news = news} n made is long =
+      subst (λ (ns : List (At Trace)). AreWithin cut.from n ns) (sym (is ∙ made.renewed))
+      (subst (λ (k : ℕ). AreWithin cut.from k (replayed_behind kept.lines.items (splice_of cut))) (sym long) (replayed_behind-within kept.lines.items (splice_of cut) cuts.recuts.within))
+
+  pub trace-places_all : {news : List (At Trace)} (n : ℕ) {new : News Trace} → AreNewTraces kept.lines.items (splice_of cut) new → news ≡ new.renewed.items
+      → n ≡ length kept.lines.items → AreWithin 0 n news
+  trace-places_all {news = news} n made is long = AreWithin-wider cut.from n 0 n news (omega arith) (omega arith) (trace-places n made is long)
+
+  pub outcome-places : (n : ℕ) {new : News Outcome} → AreOutcomesOf kept cut new → n ≡ length kept.lines.items → AreWithin 0 n new.renewed.items
+  outcome-places n made long =
+      let lines : List (List ℕ) = kept.lines.items in
+      let was : Resolved = finals_in lines in
+      let now : Resolved = finals_in (spliced lines (splice_of cut)) in
+      subst (λ (ns : List (At Outcome)). AreWithin 0 n ns) (sym made.renewed)
+      (subst (λ (k : ℕ). AreWithin 0 k (redone_front was now lines (splice_of cut) ++ redone_behind was now lines (splice_of cut))) (sym long)
+      (redone-within_all lines (splice_of cut) was now cuts.recuts.order cuts.recuts.within))
+
+  -- the traces and outcomes of all lines, with what was made anew in its place
+  pub traces-edited : {new : News Trace} → AreNewTraces kept.lines.items (splice_of cut) new
+      → take cut.keep (renewed 0 new.renewed.items kept.traces.items) ++ (new.entered.items ++ drop cut.from (renewed 0 new.renewed.items kept.traces.items))
+      ≡ traces_of (spliced kept.lines.items (splice_of cut))
+  traces-edited made =
+      (λ j. take cut.keep (renewed 0 (made.renewed j) (are.did j)) ++ (made.entered j ++ drop cut.from (renewed 0 (made.renewed j) (are.did j))))
+      ∙ traces-put kept.lines.items (splice_of cut) cuts.recuts.order cuts.recuts.within
+
+  pub outcomes-edited : {new : News Outcome} → AreOutcomesOf kept cut new
+      → take cut.keep (renewed 0 new.renewed.items kept.outcomes.items) ++ (new.entered.items ++ drop cut.from (renewed 0 new.renewed.items kept.outcomes.items))
+      ≡ outcomes_by (finals_in (spliced kept.lines.items (splice_of cut))) (traces_of (spliced kept.lines.items (splice_of cut)))
+  outcomes-edited made =
+      (λ j. take cut.keep (renewed 0 (made.renewed j) kept.outcomes.items) ++ (made.entered j ++ drop cut.from (renewed 0 (made.renewed j) kept.outcomes.items)))
+      ∙ outcomes-put kept.lines.items (splice_of cut) (finals_in kept.lines.items) (finals_in (spliced kept.lines.items (splice_of cut))) kept.outcomes.items are.made cuts.recuts.order
+      cuts.recuts.within
+
+  -- the lines that stay around the edit did the same in their chunks
+  module _ (later : Cut) (cs : List Chunk) (olds es news : List Trace) (same : lengths_of cs ≡ lengths_of kept.chunks.items) (long : length olds ≡ length kept.lines.items)
+      (entered : length es ≡ length cut.lines.items) (is : news ≡ take cut.keep olds ++ (es ++ drop cut.from olds)) where
+    within : cut.from ≤ length olds
+    within = omega (arith, long, cuts.recuts.within)
+
+    chunks-long : length (lengths_of kept.chunks.items) ≡ length cs
+    chunks-long = ap length (sym same) ∙ length-map cs (λ (c : Chunk). c.lines)
+
+    back-end : cut.before + sum cut.lengths.items ≡ cut.keep + length es + (cut.behind - cut.from)
+    back-end = omega (arith, entered, cuts.before, cuts.behind, cuts.recuts.begins, cuts.recuts.ends, cuts.recuts.order, cuts.recuts.count)
+
+    whole : (hashing : Hashing) → AreChunksOf hashing cs olds → cut.end ≡ length cs → cut.behind ≡ length olds
+    whole hashing chunks last = cuts.behind ∙ ap (λ ns. sum (take cut.end ns)) (sym same) ∙ lengths-all hashing cs olds cut.end (omega (arith, last)) chunks
+
+    behind-most : cut.behind ≤ length olds
+    behind-most = omega (arith, long, cuts.behind, cuts.recuts.total, sum_by-take-le (λ x. x) (lengths_of kept.chunks.items) cut.end)
+
+    pub cut-fits : (hashing : Hashing) → AreChunksOf hashing cs olds → Fits hashing (record cut { lines = later.lines }) cs olds news
+    cut-fits hashing chunks = record {
+      chunks = chunks;
+      ordered = cuts.recuts.ordered;
+      within = omega (arith, cuts.recuts.ends_within, chunks-long);
+      before = cuts.before ∙ ap (λ ns. sum (take cut.start ns)) (sym same);
+      behind = cuts.behind ∙ ap (λ ns. sum (take cut.end ns)) (sym same);
+      front = put-front cut.keep cut.from olds es news cuts.recuts.order within is cut.before (omega (arith, cuts.before, cuts.recuts.begins));
+      back = put-back cut.keep cut.from olds es news cuts.recuts.order within is (cut.before + sum cut.lengths.items) cut.behind (omega (arith, cuts.behind, cuts.recuts.ends)) back-end;
+      count = omega (arith, back-end, behind-most, put-long cut.keep cut.from olds es news cuts.recuts.order within is, cuts.behind, cuts.recuts.ends);
+      append = λ last.
+          let at = appends (record cut { lines = later.lines }) (length cs) (length news) last in
+          let all : cut.behind ≡ length olds = whole hashing chunks at.end in
+          let keep : length news - 1 ≡ length olds = omega (arith, at.keep, at.last, all) in
+          let last_line : cut.keep ≡ length olds = at.last ∙ all in
+          (λ j. take (keep j) (put-all cut.keep cut.from olds es news cuts.recuts.order within is last_line j))
+          ∙ take-append-le (length olds) olds es (omega arith) ∙ take_all (length olds) olds (omega arith);
+    }
+
+    -- and there is room for the chunks
+    pub cut-room : {Z : Type 0} (chunks : Vec Chunk Z) (room : Vec Chunk Z) → chunks.items ≡ cs → vec_capacity chunks ≡ vec_capacity kept.chunks → HasRoomFor kept cut room
+        → HasRoom (record cut { lines = later.lines }) chunks news room
+    cut-room chunks room items capacity has =
+        let n : ℕ = vec_len kept.chunks in
+        let count : vec_len chunks ≡ n = omega (arith, chunks.ok.0, kept.chunks.ok.0, ap length items, same-long kept.chunks.items cs same) in
+        let added : length cut.lengths.items ≡ vec_len cut.lengths = omega (arith, cut.lengths.ok.0) in
+        let lines : cut.from ≡ cut.keep → vec_len kept.lines + vec_len cut.lines ≡ length news = λ none.
+        omega (arith, none, kept.lines.ok.0, cut.lines.ok.0, long, entered, within, put-long cut.keep cut.from olds es news cuts.recuts.order within is) in
+        record {
+          chunks = omega (arith, count, added, capacity, has.chunks);
+          list = λ grows.
+              let still : is_append cut n (length news) ≡ false = ap (λ k. is_append cut k (length news)) (sym count) ∙ grows in
+              let none = append-none cut n (vec_len kept.lines + vec_len cut.lines) (length news) cuts.recuts.order (omega (arith, cuts.behind, cuts.recuts.ends)) lines still in
+              omega (arith, added, has.list none);
+        }

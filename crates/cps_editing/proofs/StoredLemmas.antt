@@ -1,0 +1,80 @@
+-- Where blocks and literals stand behind an edit, by what its lines leave.
+use Rattle.std.proofs.Common.{◌≡◌, ℕ, ◌+◌, ◌-◌, ◌<◌, ◌≤◌, sym, ap, subst, ◌∙◌, List, [], ◌∷◌, ◌++◌, append-nil, append_assoc, zero-add, length, get_or, set, take, drop, arith}
+use Rattle.std.proofs.lemmas.List.{length-take-le, set_at, take_all, drop_all, take-append-drop}
+use Rattle.cps_state.specs.Course.{Trace}
+use Rattle.cps_edit.proofs.TakenLemmas.{drop_at}
+use Rattle.cps_replay.specs.declared.sparse.At.{At}
+use Rattle.cps_replay.specs.Sparse.{renewed, AreWithin}
+use Rattle.cps_replay.specs.Storing.{Left, left_by, stored_by}
+use Rattle.cps_replay.proofs.SparseLemmas.{length-renewed, renewed-split}
+use Rattle.cps_replay.proofs.StoringLemmas.{joined, left-append, left-law}
+use Rattle.cps_replay.proofs.WalkLemmas.{stretch-part, stretch-front}
+use Rattle.cps_editing.specs.declared.cut.Cut.{Cut}
+use Rattle.cps_editing.specs.declared.news.News.{News}
+use Rattle.cps_editing.specs.Storing.{edited}
+use Rattle.cps_editing.proofs.RenewedLemmas.{place-within, renewed-next, renewed-still}
+
+-- ---- each line leaves what it left
+
+left-whole : (front middle behind : List Trace) → left_by (front ++ (middle ++ behind)) ≡ joined (left_by front) (joined (left_by middle) (left_by behind))
+left-whole front middle behind = left-append front (middle ++ behind) ∙ ap (joined (left_by front)) (left-append middle behind)
+
+left-middle : (front olds news behind : List Trace) → left_by olds ≡ left_by news → left_by (front ++ (olds ++ behind)) ≡ left_by (front ++ (news ++ behind))
+left-middle front olds news behind same =
+    left-whole front olds behind ∙ ap (λ (l : Left). joined (left_by front) (joined l (left_by behind))) same ∙ sym (left-whole front news behind)
+
+left-set : (ts : List Trace) (a : ℕ) (t u : Trace) → a < length ts → t ≡ get_or ts a t → left_by (t ∷ []) ≡ left_by (u ∷ []) → left_by (set ts a u) ≡ left_by ts
+left-set ts a t u lt is same =
+    let front : List Trace = take a ts in
+    let behind : List Trace = drop (a + 1) ts in
+    let split : ts ≡ front ++ t ∷ behind = sym (take-append-drop a ts) ∙ ap (λ us. take a ts ++ us) (drop_at ts a t lt is) in
+    let put : set ts a u ≡ front ++ u ∷ behind = ap (λ us. set us a u) split ∙ set_at front t behind u a (length-take-le a ts (omega (arith, lt))) in
+    ap left_by put ∙ left-middle front (u ∷ []) (t ∷ []) behind (sym same) ∙ sym (ap left_by split)
+
+pub each-next : (olds : List Trace) (news : List (At Trace)) (i : ℕ) (new : At Trace) (old : Trace) → i < length news → new ≡ get_or news i new → AreWithin 0 (length olds) news
+    → old ≡ get_or olds new.at old → left_by (old ∷ []) ≡ left_by (new.item ∷ []) → left_by (renewed 0 (take i news) olds) ≡ left_by olds
+    → left_by (renewed 0 (take (i + 1) news) olds) ≡ left_by olds
+each-next olds news i new old lt is within at same before =
+    let b : ℕ = length olds in
+    let so_far : List Trace = renewed 0 (take i news) olds in
+    let here : old ≡ get_or so_far new.at old = at ∙ sym (renewed-still 0 b i news new lt is within olds old) in
+    let long : new.at < length so_far = omega (arith, length-renewed 0 (take i news) olds, place-within 0 b i news new lt is within) in
+    ap left_by (renewed-next 0 b i news new lt is within olds) ∙ left-set so_far new.at old new.item long here same ∙ before
+
+pub each-all : (olds : List Trace) (news : List (At Trace)) (i : ℕ) → length news ≤ i → left_by (renewed 0 (take i news) olds) ≡ left_by olds → left_by (renewed 0 news olds) ≡ left_by olds
+each-all olds news i past so_far = ap (λ ns. left_by (renewed 0 ns olds)) (sym (take_all i news past)) ∙ so_far
+
+-- ---- an edit
+
+stored-same : (olds news : List Trace) → left_by olds ≡ left_by news → stored_by olds ≡ stored_by news
+stored-same olds news same = ap stored_by (sym (append-nil olds)) ∙ left-law [] olds news [] same ∙ ap stored_by (append-nil news)
+
+module _ (cut : Cut) (news : News Trace) (olds : List Trace) where
+  -- the same stands where the same is left
+  pub stored-edited : cut.keep ≤ cut.from → AreWithin cut.from (length olds) news.renewed.items → left_by (take (cut.from - cut.keep) (drop cut.keep olds)) ≡ left_by news.entered.items
+      → left_by (renewed 0 news.renewed.items olds) ≡ left_by olds → stored_by olds ≡ stored_by (edited cut news olds)
+  stored-edited ordered places same each =
+      let front : List Trace = take cut.keep olds in
+      let gone : List Trace = take (cut.from - cut.keep) (drop cut.keep olds) in
+      let behind : List Trace = renewed cut.from news.renewed.items (drop cut.from olds) in
+      let at : 0 + cut.from ≡ cut.from = zero-add cut.from in
+      let split : renewed 0 news.renewed.items olds ≡ take cut.from olds ++ behind =
+      renewed-split cut.from 0 (length olds) news.renewed.items olds (subst (λ (k : ℕ). AreWithin k (length olds) news.renewed.items) (sym at) places)
+      ∙ ap (λ (k : ℕ). take cut.from olds ++ renewed k news.renewed.items (drop cut.from olds)) at in
+      let whole : front ++ gone ≡ take cut.from olds = ap (λ us. front ++ us) (stretch-part cut.keep cut.from ordered olds) ∙ stretch-front cut.keep cut.from ordered olds in
+      let all : front ++ (gone ++ behind) ≡ renewed 0 news.renewed.items olds = sym (append_assoc front gone behind) ∙ ap (λ us. us ++ behind) whole ∙ sym split in
+      stored-same olds (edited cut news olds) (sym each ∙ sym (ap left_by all) ∙ left-middle front gone news.entered.items behind same)
+
+  -- behind the last line
+  pub append-edited : (es : List Trace) → cut.keep ≡ length olds → cut.keep ≤ cut.from → es ≡ news.entered.items → olds ++ es ≡ edited cut news olds
+  append-edited es last ordered is =
+      let front : take cut.keep olds ≡ olds = take_all cut.keep olds (omega (arith, last)) in
+      let none : drop cut.from olds ≡ [] = drop_all cut.from olds (omega (arith, last, ordered)) in
+      let behind : renewed cut.from news.renewed.items (drop cut.from olds) ≡ [] = ap (renewed cut.from news.renewed.items) none in
+      (λ i. sym front i ++ (is ∙ sym (append-nil news.entered.items)) i) ∙ ap (λ us. take cut.keep olds ++ (news.entered.items ++ us)) (sym behind)
+
+  -- one part after another
+  pub parts-edited : (front es behind : List Trace) (rs : List (At Trace)) → front ≡ take cut.keep olds → es ≡ news.entered.items → rs ≡ news.renewed.items → behind ≡ drop cut.from olds
+      → (front ++ es) ++ renewed cut.from rs behind ≡ edited cut news olds
+  parts-edited front es behind rs a b c d =
+      append_assoc front es (renewed cut.from rs behind) ∙ (λ i. a i ++ (b i ++ renewed cut.from (c i) (d i)))

@@ -1,0 +1,12 @@
+pub mod ChunkList
+pub mod Differences
+pub mod Editing
+pub mod Entering
+pub mod Exchanged
+pub mod FirstPass
+pub mod Handing
+pub mod SecondPass
+pub mod Storing
+pub use Rattle.cps_touched.specs.Recuts
+pub use Rattle.cps_touched.specs.Touched
+pub use Rattle.cps_chunk.specs.Chunk

@@ -1,0 +1,35 @@
+//! A source that is edited: what is kept of its lines, and what an edit makes anew beside it.
+//!
+//! - `chunk_list.rt`: the chunks of a source, kept up to date
+//! - `cut.rt`: where new lines come, and what chunks come there
+//! - `differences.rt`: which labels have other final values
+//! - `entering.rt`: the lines that a source begins with
+//! - `exchange.rt`: two runs of lines that change places
+//! - `first_pass.rt`: pass one of an edit
+//! - `handing.rt`: chunks that are handed over without their marks, and taken back
+//! - `kept_source.rt`: what is kept of a source, and its edits
+//! - `laws.rt`: the law of the division of lines that a source begins with
+//! - `lists.rt`: items in the place of others
+//! - `news.rt`: what a pass makes anew
+//! - `second_pass.rt`: pass two of an edit, chunk by chunk
+//! - `storage.rt`: where blocks and literals stand behind an edit
+#![tactic(auto)]
+
+mod chunk_list;
+mod cut;
+mod differences;
+mod entering;
+mod exchange;
+mod first_pass;
+mod handing;
+mod kept_source;
+pub mod laws;
+mod lists;
+mod news;
+mod second_pass;
+mod storage;
+
+pub use cps_chunk::Chunk;
+pub use cut::Cut;
+pub use entering::kept_of;
+pub use kept_source::KeptSource;
