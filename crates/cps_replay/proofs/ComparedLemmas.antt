@@ -54,6 +54,23 @@ last_puts-more now olds puts is = λ i. λ k. (ap (λ (c : Changed). with_puts c
     at None old = refl
     at (Some a) old = refl
 
+pub with_puts-append : (now : Changed) (olds puts : List Put) → with_puts (with_puts now olds) puts ≡ with_puts now (olds ++ puts)
+with_puts-append now olds puts =
+    λ i. λ k. (at (last_put puts k) (last_put olds k) (now k) ∙ sym (ap (λ (o : Option Answer). option_or (option_map Some o) (now k)) (last_put-append olds puts k))) i
+  where
+    at : (new old : Option Answer) (there : Option (Option Answer))
+        → option_or (option_map Some new) (option_or (option_map Some old) there) ≡ option_or (option_map Some (option_or new old)) there
+    at None old there = refl
+    at (Some a) old there = refl
+
+-- no key is kept of no put
+pub all-kept-none : (now : Changed) (state : State) → now ≡ with_all_kept now [] state
+all-kept-none now state = λ i. λ k. at (now k) i
+  where
+    at : (there : Option (Option Answer)) → there ≡ (if is_some there then there else None)
+    at None = refl
+    at (Some a) = refl
+
 -- one put of the list is gone over
 with_puts-put : (now : Changed) (p : Put) (puts : List Put) → with_puts (with_change now p.key (Some p.answer)) puts ≡ with_puts now (p ∷ puts)
 with_puts-put now p puts = λ i. λ k. at k (last_put puts k) (same_key p.key k) i

@@ -22,7 +22,7 @@ use Rattle.cps_replay.proofs.SparseLemmas.{length-one}
 use Rattle.cps_replay.proofs.WalkLemmas.{as-long, state-next, stretch-state, stretch-still}
 
 -- one of a stretch, and those behind it
-stretch-cons : {X : Type 0} (a b : ℕ) (xs : List X) (x : X) → a < b → b ≤ length xs → x ≡ get_or xs a x → stretch a b xs ≡ x ∷ stretch (a + 1) b xs
+pub stretch-cons : {X : Type 0} (a b : ℕ) (xs : List X) (x : X) → a < b → b ≤ length xs → x ≡ get_or xs a x → stretch a b xs ≡ x ∷ stretch (a + 1) b xs
 stretch-cons a b xs x lt within is = drop_at (take b xs) a x (omega (arith, length-take b xs)) (is ∙ sym (get_or-take b xs a x lt))
 
 -- an item that is read

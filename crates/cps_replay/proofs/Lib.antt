@@ -13,5 +13,12 @@ pub mod WalkLemmas
 pub mod GoLemmas
 pub mod EnterLemmas
 pub mod OverLemmas
+pub mod ExchangedLemmas
+pub mod MovedLemmas
+pub mod FrontsLemmas
+pub mod CountingLemmas
+pub mod CarryLemmas
+pub mod SpanLemmas
+pub mod AlongLemmas
 pub use Rattle.cps_edit.proofs.SpliceLemmas
 pub use Rattle.cps_edit.proofs.TakenLemmas

@@ -27,7 +27,7 @@ use Rattle.cps_replay.proofs.PassedLemmas.{part-left, part-none, part-stands}
 use Rattle.cps_replay.proofs.WalkLemmas.{as-long, same-long, lengths-drop, lengths-next, lengths-within, part-replayed, part-state, part-count, part-looks}
 
 -- a stretch that ends no later than another
-stretch-within : {X : Type 0} (a b p : ℕ) (xs : List X) → b ≤ p → stretch a b (take p xs) ≡ stretch a b xs
+pub stretch-within : {X : Type 0} (a b p : ℕ) (xs : List X) → b ≤ p → stretch a b (take p xs) ≡ stretch a b xs
 stretch-within a b p xs le = ap (drop a) (take-take b p xs le)
 
 module _ (lines : List (List ℕ)) (traces : List Trace) (did : traces ≡ traces_of lines) (a b p : ℕ) (le : a ≤ b) (inner : b ≤ p) (within : p ≤ length lines) (now : State) where
@@ -44,7 +44,7 @@ module _ (lines : List (List ℕ)) (traces : List Trace) (did : traces ≡ trace
   next = state_after now (stretch a b lines)
 
   -- a stretch, and those behind it
-  stretch-replayed : replayed now a (stretch a p lines) (stretch a p traces) ≡ here ++ replayed next b (stretch b p lines) (stretch b p traces)
+  pub stretch-replayed : replayed now a (stretch a p lines) (stretch a p traces) ≡ here ++ replayed next b (stretch b p lines) (stretch b p traces)
   stretch-replayed =
       part-replayed (take p lines) (take p traces) done a b le short now
       ∙ (λ i. replayed now a (stretch-within a b p lines inner i) (stretch-within a b p traces inner i)
@@ -141,7 +141,7 @@ pub none-left : (v f left : ℕ) → counted_on v left ≤ f → v ≤ f
 none-left v f left p = omega arith
 
 -- all was gone over
-stretch-none : {X : Type 0} (a : ℕ) (xs : List X) → stretch a a xs ≡ []
+pub stretch-none : {X : Type 0} (a : ℕ) (xs : List X) → stretch a a xs ≡ []
 stretch-none a xs = drop_all a (take a xs) (omega (arith, length-take a xs))
 
 pub all-over : (old new : Walk) (from at to : ℕ) → at ≡ to → new.base ≡ old.base

@@ -10,7 +10,10 @@ pub mod Leaving
 pub mod NoLiteral
 pub mod Storing
 pub mod Walk
+pub mod Moved
+pub mod Along
 pub use Rattle.cps_edit.specs.Disturbed
+pub use Rattle.cps_edit.specs.Expansion
 pub use Rattle.cps_edit.specs.Passes
 pub use Rattle.cps_edit.specs.Renewed
 pub use Rattle.cps_edit.specs.Splice

@@ -14,8 +14,13 @@ use cps_changes::Changes;
 use cps_state::{Answer, Hashing, Key, Lookup, Put, Trace};
 use std::alloc::{AllocError, Global};
 
+/// The most keys for which a table is kept, to be filled again.
+const FEW: usize = 64;
+
 /// Which keys are changed, and what the lines that are gone through now put.
 pub struct ChangeLog {
+    alloc: Global,
+    hashing: Hashing,
     /// Behind the lines so far.
     changes: Changes,
     /// What stands at the keys that the present lines put now or put before.
@@ -28,6 +33,8 @@ pub struct ChangeLog {
 impl Drop for ChangeLog {
     fn drop(self) {
         let ChangeLog {
+            alloc: _,
+            hashing: _,
             changes,
             present,
             former,
@@ -45,6 +52,8 @@ impl ChangeLog {
         ensures present { changes_in result.present ≡ no_change }
     {
         ChangeLog {
+            alloc,
+            hashing,
             changes: Changes::new(alloc, hashing),
             present: Changes::new(alloc, hashing),
             former: Changes::new(alloc, hashing),
@@ -70,6 +79,8 @@ impl ChangeLog {
         ensures { result ≡ self.changes }
     {
         let ChangeLog {
+            alloc: _,
+            hashing: _,
             changes,
             present,
             former,
@@ -110,7 +121,7 @@ impl ChangeLog {
     {
         self.take_all(gone, before)?;
         self.compare_all(before)?;
-        self.present.clear();
+        empty(&mut self.present, self.alloc, self.hashing);
         Ok(())
     }
 
@@ -122,7 +133,7 @@ impl ChangeLog {
         ensures former { OnOk result (changes_in self.new.former ≡ last_puts (puts_of gone.now)) }
         ensures changes { self.new.changes ≡ self.old.changes }
     {
-        self.former.clear();
+        empty(&mut self.former, self.alloc, self.hashing);
         for trace in gone {
             let known = Known {
                 asks: trace.asks(),
@@ -197,6 +208,17 @@ impl ChangeLog {
         let answer = shared(now)?;
         self.changes.set(key, answer)
     }
+}
+
+/// Takes all keys out. A table that has become large is let go: it would be gone over as a whole each time.
+fn empty(changes: &mut Changes, alloc: Global, hashing: Hashing)
+    ensures { changes_in changes.new ≡ no_change }
+{
+    if changes.count() > FEW {
+        *changes = Changes::new(alloc, hashing);
+        return;
+    }
+    changes.clear();
 }
 
 /// The same answer once more, or none.

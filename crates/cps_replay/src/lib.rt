@@ -30,4 +30,4 @@ pub use replay::{OldLine, Replay};
 pub use sparse::{At, put_all};
 pub use standing::{asks_stand, still_stands};
 pub use storing::{leave_same, store_all, store_renewed};
-pub use walk::{Baseline, Cursor, Walk, gather, part};
+pub use walk::{Baseline, Cursor, Position, Span, Walk, gather, part};

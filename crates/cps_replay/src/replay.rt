@@ -1,17 +1,20 @@
 //! Pass one of an edit: new lines, and lines that were there before.
 ghost use Rattle.std.specs.Prelude.{◌≡◌, ◌∷◌, ◌++◌, [], List, OnOk, IfOk, length, if◌then◌else◌, Some as Just};
 ghost use Rattle.cps_state.specs.Keys.{overwritten};
-ghost use Rattle.cps_state.specs.Work.{counted_on};
+ghost use Rattle.cps_state.specs.Work.{counted_on, raised};
+ghost use Rattle.cps_state.specs.declared.work.Tally.TheVariants.{Looked};
 ghost use Rattle.cps_state.specs.declared.key.Put.{Put as APut};
 ghost use Rattle.cps_changes.specs.Changes.{no_change, settled};
 ghost use Rattle.cps_changes.specs.Kept.{changes_in};
 ghost use Rattle.cps_final.specs.Layout.{puts_of};
 ghost use Rattle.cps_pass.specs.Expansion.{trace_of};
+ghost use Rattle.cps_holding.specs.Holds.{holds};
 ghost use Rattle.cps_edit.specs.Compares.{Steps};
 ghost use Rattle.cps_edit.specs.Disturbed.{is_disturbed};
 ghost use Rattle.cps_edit.specs.Passes.{after, traces_from};
+ghost use Rattle.cps_edit.specs.Renewed.{WasMeant};
 ghost use Rattle.cps_replay.specs.Noted.{AreHeld, last_puts, noted, stands};
-ghost use Rattle.cps_replay.specs.Replay.{now_by, now_with};
+ghost use Rattle.cps_replay.specs.Replay.{PutsAlso, now_by, now_with};
 ghost use Rattle.cps_replay.specs.Replayed.{replayed};
 
 use crate::change_log::ChangeLog;
@@ -19,7 +22,7 @@ use crate::now::{Known, Now};
 use crate::sparse::At;
 use crate::standing::{asks_stand, still_stands};
 use cps_changes::Changes;
-use cps_holding::Run;
+use cps_holding::{Run, still_holds};
 use cps_pass::{Hashing, Sheet, Trace, Work, step_over};
 use cps_state::Lookup;
 use cps_text::Line;
@@ -120,6 +123,7 @@ impl Replay {
         ensures trace { IfOk result (λ trace. trace ≡ trace_of line.now (now_with self.old.log (L.answer past.now))) }
         ensures puts { IfOk result (λ trace. (news : List APut) → changes_in self.old.log.present ≡ last_puts news
             → changes_in self.new.log.present ≡ last_puts (news ++ trace.puts)) }
+        ensures also { IfOk result (λ trace. PutsAlso self.old.log self.new.log trace.puts) }
         ensures state { OnOk result (now_with self.new.log (L.answer past.now) ≡ after (now_with self.old.log (L.answer past.now)) line.now) }
         ensures changes { self.new.log.changes ≡ self.old.log.changes }
         ensures news { self.new.news ≡ self.old.news }
@@ -163,6 +167,82 @@ impl Replay {
         ensures news { self.new.news ≡ self.old.news }
     {
         self.log.close(gone, past)
+    }
+
+    /// Goes over a line that was there before and stands behind those so far now, where that stood in front of the first new one before. If something that it
+    /// asked has another answer now, it is stepped.
+    pub fn carry<L: Lookup>(
+        &mut self,
+        old: OldLine,
+        past: &L,
+        work: &mut Work,
+    ) -> Result<(), AllocError>
+        requires meant { WasMeant old.line.now old.trace.now }
+        ensures news { OnOk result (self.new.news.items ≡ self.old.news.items
+            ++ replayed (now_with self.old.log (L.answer past.now)) old.entry.at (old.entry.line.now ∷ []) (old.entry.trace.now ∷ [])) }
+        ensures puts { OnOk result (PutsAlso self.old.log self.new.log (trace_of old.entry.line.now (now_with self.old.log (L.answer past.now))).puts) }
+        ensures steps { Steps result work.old work.new (if is_disturbed (Just old.entry.trace.now) (now_with self.old.log (L.answer past.now)) then 1 else 0) 0 }
+        ensures looked { work.new.looked ≡ counted_on work.old.looked 1 }
+    {
+        if self.still_holds(old.trace, past, work) {
+            return self.log.put(old.trace.puts());
+        }
+        let trace = self.enter(old.line, past, work)?;
+        self.news.push(At {
+            at: old.at,
+            item: trace,
+        })?;
+        Ok(())
+    }
+
+    /// Whether all that a line asked has the same answers behind the lines so far, so that it does the same there. It is one comparison, and takes no memory.
+    fn still_holds<L: Lookup>(&self, trace: &Trace, past: &L, work: &mut Work) -> bool
+        ensures holds { result ≡ holds trace.now.asks (now_with self.now.log (L.answer past.now)) }
+        ensures looked { work.new ≡ raised Looked work.old }
+    {
+        let behind = Now {
+            changes: self.log.changes(),
+            before: past,
+        };
+        let now = Now {
+            changes: self.log.present(),
+            before: &behind,
+        };
+        still_holds(trace, &now, work)
+    }
+
+    /// Whether all that a run of lines asks has the same answers behind the lines so far, so that its lines do the same there. It is counted nowhere, and takes
+    /// no memory.
+    pub fn run_holds<L: Lookup>(&self, run: &Run, past: &L) -> bool
+        ensures { result ≡ holds run.now.asks (now_with self.now.log (L.answer past.now)) }
+    {
+        let behind = Now {
+            changes: self.log.changes(),
+            before: past,
+        };
+        let now = Now {
+            changes: self.log.present(),
+            before: &behind,
+        };
+        run.stands_in(&now)
+    }
+
+    /// Lines that do what they did stand behind those so far now.
+    pub fn carry_all(&mut self, traces: &[Trace]) -> Result<(), AllocError>
+        ensures puts { OnOk result (PutsAlso self.old.log self.new.log (puts_of traces.now)) }
+        ensures news { self.new.news ≡ self.old.news }
+    {
+        for trace in traces {
+            self.log.put(trace.puts())?;
+        }
+        Ok(())
+    }
+
+    /// How many lines that were there before are made anew.
+    pub fn made(&self) -> usize
+        ensures { result ≡ length self.now.news.items }
+    {
+        self.news.len()
     }
 
     /// What a line does now, where that stood in front of it before.

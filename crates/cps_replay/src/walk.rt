@@ -18,6 +18,8 @@ ghost use Rattle.cps_replay.specs.Noted.{last_puts, noted, stands};
 ghost use Rattle.cps_replay.specs.Replay.{now_with};
 ghost use Rattle.cps_replay.specs.Replayed.{replayed};
 ghost use Rattle.cps_replay.specs.Walk.{IsBaseline, IsWalk, IsStillWalk, GoesOver, HasMadeNothing, StandsAt, asks_in, cursor, looks_at, looks_in, now_at, puts_in, replayed_in, state_at, stood_at, stretch};
+ghost use Rattle.cps_replay.specs.Along.{GoesAlong, IsChunkAt, IsGatheredAt, IsInside, IsSpan, MayGo, front_at, looks_in_span, looks_of, looks_whole, reached, replayed_along, span};
+ghost use Rattle.cps_replay.specs.declared.walk.Position.TheVariants.{Behind};
 
 use crate::replay::{OldLine, Replay};
 use cps_changes::Changes;
@@ -46,6 +48,31 @@ pub struct Baseline<'a> {
 pub struct Cursor {
     pub chunk: usize,
     pub line: usize,
+}
+
+/// The lines after the first `from`, up to the first `to`.
+#[derive(Clone, Copy)]
+pub struct Span {
+    pub from: usize,
+    pub to: usize,
+}
+
+impl Span {
+    /// The place that is reached in it where another place is reached: its own begin or end where that lies outside.
+    fn reached(self, place: usize) -> usize
+        ensures { result ≡ reached self place }
+    {
+        self.from.max(self.to.min(place))
+    }
+}
+
+/// Where lines stand now that stood in a source before.
+#[derive(Clone, Copy)]
+pub enum Position {
+    /// Where they stood.
+    Same,
+    /// Behind the first so many lines, and those that were carried there before them.
+    Behind(usize),
 }
 
 /// Pass one of an edit over a source in chunks, as far as it has come.
@@ -307,6 +334,177 @@ impl<'a> Walk<'a> {
             return;
         }
         self.replay.settle_all(traces);
+    }
+
+    /// Goes along a span, chunk by chunk. Lines are compared one by one only where others of their chunk lie outside, or where something that all lines of their
+    /// chunk ask together has another answer now.
+    pub fn go_along(
+        &mut self,
+        position: Position,
+        span: Span,
+        work: &mut Work,
+    ) -> Result<(), AllocError>
+        requires walk { IsWalk self.old }
+        requires span { IsSpan self.old position span }
+        ensures along { OnOk result (GoesAlong self.old self.new position span) }
+        ensures walk { IsStillWalk self.old self.new }
+        ensures steps { Steps result work.old work.new (length (replayed_along self.old position span)) 0 }
+        ensures looked { ComparesUpTo work.old work.new (looks_in_span self.old position span) }
+    {
+        let past = self.end();
+        let mut line = 0;
+        for chunk in 0..past.chunk {
+            let cursor = Cursor { chunk, line };
+            let end = line + self.chunks[chunk].lines;
+            let part = Span {
+                from: span.reached(line),
+                to: span.reached(end),
+            };
+            self.go_along_part(position, cursor, part, work)?;
+            line = end;
+        }
+        Ok(())
+    }
+
+    /// The same of those lines of a span that stand in a chunk.
+    fn go_along_part(
+        &mut self,
+        position: Position,
+        cursor: Cursor,
+        part: Span,
+        work: &mut Work,
+    ) -> Result<(), AllocError>
+        requires walk { IsWalk self.old }
+        requires part { IsSpan self.old position part }
+        requires cursor { IsChunkAt self.old cursor }
+        requires inside { part.from < part.to → IsInside self.old cursor part }
+        ensures along { OnOk result (GoesAlong self.old self.new position part) }
+        ensures walk { IsStillWalk self.old self.new }
+        ensures steps { Steps result work.old work.new (length (replayed_along self.old position part)) 0 }
+        ensures looked { ComparesUpTo work.old work.new (looks_of self.old position cursor part) }
+    {
+        if part.from == part.to {
+            return Ok(());
+        }
+        if part.from == cursor.line && part.to - part.from == self.chunks[cursor.chunk].lines {
+            return self.go_along_chunk(position, cursor, part.to, work);
+        }
+        match position {
+            Position::Same => self.go_over_from(cursor, part.from, part.to, work),
+            Position::Behind(place) => self.carry_lines(place, part, work),
+        }
+    }
+
+    /// The same of all lines of a chunk.
+    fn go_along_chunk(
+        &mut self,
+        position: Position,
+        cursor: Cursor,
+        end: usize,
+        work: &mut Work,
+    ) -> Result<(), AllocError>
+        requires walk { IsWalk self.old }
+        requires may { MayGo self.old position }
+        requires cursor { IsChunkAt self.old cursor }
+        requires end { end ≡ sum (take (cursor.chunk + 1) (lengths_of self.old.chunks.items)) }
+        ensures along { OnOk result (GoesAlong self.old self.new position (span cursor.line end)) }
+        ensures walk { IsStillWalk self.old self.new }
+        ensures steps { Steps result work.old work.new (length (replayed_along self.old position (span cursor.line end))) 0 }
+        ensures looked { ComparesUpTo work.old work.new (looks_whole self.old position cursor.line end) }
+    {
+        match position {
+            Position::Same => self.go_over_chunk(cursor, end, work),
+            Position::Behind(place) => self.carry_chunk(place, cursor, end, work),
+        }
+    }
+
+    /// The same of all lines of a chunk that are carried.
+    fn carry_chunk(
+        &mut self,
+        place: usize,
+        cursor: Cursor,
+        end: usize,
+        work: &mut Work,
+    ) -> Result<(), AllocError>
+        requires walk { IsWalk self.old }
+        requires place { place ≤ length self.old.base.lines.now }
+        requires cursor { IsChunkAt self.old cursor }
+        requires end { end ≡ sum (take (cursor.chunk + 1) (lengths_of self.old.chunks.items)) }
+        ensures along { OnOk result (GoesAlong self.old self.new (Behind place) (span cursor.line end)) }
+        ensures walk { IsStillWalk self.old self.new }
+        ensures steps { Steps result work.old work.new (length (replayed_along self.old (Behind place) (span cursor.line end))) 0 }
+        ensures looked { ComparesUpTo work.old work.new (looks_whole self.old (Behind place) cursor.line end) }
+    {
+        if self.holds_behind(place, cursor, end)? {
+            let traces = part(self.base.traces, cursor.line, end);
+            return self.replay.carry_all(traces);
+        }
+        let lines = Span {
+            from: cursor.line,
+            to: end,
+        };
+        self.carry_lines(place, lines, work)
+    }
+
+    /// Whether the lines of a chunk, up to this end, do what they did where they are carried. It is counted nowhere.
+    fn holds_behind(&mut self, place: usize, cursor: Cursor, end: usize) -> Result<bool, AllocError>
+        requires walk { IsWalk self.old }
+        requires place { place ≤ length self.old.base.lines.now }
+        requires cursor { IsChunkAt self.old cursor }
+        requires end { end ≡ sum (take (cursor.chunk + 1) (lengths_of self.old.chunks.items)) }
+        ensures holds { IfOk result (λ same. same ≡ holds (asks_in self.old cursor.line end) (front_at self.old (Behind place) cursor.line)) }
+        ensures walk { IsStillWalk self.old self.new }
+        ensures replay { self.new.replay ≡ self.old.replay }
+    {
+        self.gather_chunk(cursor, end)?;
+        let there = self.cursor_at(place);
+        let past = past_of(self.base, &self.chunks, there, place);
+        match &self.chunks[cursor.chunk].summary {
+            Some(summary) => Ok(self.replay.run_holds(&summary.run, &past)),
+            None => Ok(false),
+        }
+    }
+
+    /// Gathers what the lines of a chunk, up to this end, ask, put and name together, if it was not.
+    fn gather_chunk(&mut self, cursor: Cursor, end: usize) -> Result<(), AllocError>
+        requires walk { IsWalk self.old }
+        requires cursor { IsChunkAt self.old cursor }
+        requires end { end ≡ sum (take (cursor.chunk + 1) (lengths_of self.old.chunks.items)) }
+        ensures gathered { OnOk result (IsGatheredAt self.new cursor.chunk) }
+        ensures walk { IsStillWalk self.old self.new }
+        ensures replay { self.new.replay ≡ self.old.replay }
+    {
+        let traces = part(self.base.traces, cursor.line, end);
+        gather(self.base, &mut self.chunks[cursor.chunk], traces)
+    }
+
+    /// Carries lines one by one.
+    fn carry_lines(&mut self, place: usize, lines: Span, work: &mut Work) -> Result<(), AllocError>
+        requires walk { IsWalk self.old }
+        requires lines { IsSpan self.old (Behind place) lines }
+        ensures along { OnOk result (GoesAlong self.old self.new (Behind place) lines) }
+        ensures rest { (self.new.base ≡ self.old.base) × (self.new.chunks ≡ self.old.chunks) }
+        ensures steps { Steps result work.old work.new (length (replayed_along self.old (Behind place) lines)) 0 }
+        ensures looked { ComparesUpTo work.old work.new (lines.to - lines.from) }
+    {
+        let cursor = self.cursor_at(place);
+        for at in lines.from..lines.to {
+            let old = OldLine {
+                at,
+                line: &self.base.lines[at],
+                trace: &self.base.traces[at],
+            };
+            let past = past_of(self.base, &self.chunks, cursor, place);
+            self.replay.carry(old, &past, work)?;
+        }
+        Ok(())
+    }
+
+    /// How many lines are made anew so far.
+    pub fn made(&self) -> usize
+        ensures { result ≡ length self.now.replay.news.items }
+    {
+        self.replay.made()
     }
 
     /// The chunks, and what is made anew of the lines.

@@ -1,11 +1,19 @@
-use Rattle.std.proofs.Common.{List, ap, ◌∙◌}
+use Rattle.std.proofs.Common.{List, refl, ap, ◌∙◌}
 use Rattle.cps_state.specs.declared.key.Put.{Put}
 use Rattle.cps_changes.specs.Changes.{changed}
 use Rattle.cps_changes.specs.Kept.{changes_in}
 use Rattle.cps_replay.specs.Compared.{with_all_kept, with_puts}
 use Rattle.cps_replay.specs.Noted.{asked_or}
-use Rattle.cps_replay.proofs.ComparedLemmas.{taken-next, former-next, held-next}
+use Rattle.cps_replay.proofs.ComparedLemmas.{all-kept-none, taken-next, former-next, held-next}
 use Rattle.cps_replay.proofs.change_log.ChangeLog.take_all.Goals as goal
+
+pub loop-trace-init : goal.loop-trace-init
+loop-trace-init g c = record {
+  present = all-kept-none (changes_in c.args.self.now.present) (changed (changes_in c.args.self.now.changes) (g.L.Lookup.answer c.args.before.now));
+  former = c.empty.ensures;
+  changes = refl;
+  held = c.requires;
+}
 
 pub loop-trace-preserved : goal.loop-trace-preserved
 loop-trace-preserved g c =
