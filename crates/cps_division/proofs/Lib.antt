@@ -1,5 +1,5 @@
 mod DivisionLemmas
-mod ExchangeLemmas
+pub mod ExchangeLemmas
 mod PieceLemmas
 mod RunLemmas
 mod PiecesLemmas

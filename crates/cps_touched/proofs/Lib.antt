@@ -3,4 +3,10 @@ pub mod PlanLemmas
 pub mod ItemLemmas
 pub mod PartLemmas
 pub mod TouchedLemmas
+pub mod SpanLemmas
+pub mod SeamLemmas
+pub mod WeightLemmas
+pub mod FrontLemmas
+pub mod MoveLooksLemmas
+pub mod NamedLemmas
 pub use Rattle.cps_replay.proofs.RunLemmas
