@@ -1,0 +1,2 @@
+mod NamedLemmas
+pub mod MovedLemmas
