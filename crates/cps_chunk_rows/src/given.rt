@@ -1,8 +1,5 @@
 //! What lines of a source did, and the chunk of them.
-ghost use Rattle.std.specs.Prelude.{IfOk};
-ghost use Rattle.cps_chunks.specs.Chunks.{AreSummed};
-
-use cps_chunks::{Chunk, sum_up};
+use cps_chunk::{Chunk, Summary};
 use cps_pass::{Hashing, State, Trace, Work, step_one};
 use cps_text::Line;
 use std::alloc::{AllocError, Global};
@@ -28,12 +25,14 @@ pub fn take_text(alloc: Global, state: &mut State, traces: &mut Vec<Trace>, text
     }
 }
 
-/// One chunk of all these lines, and what is gathered of them.
-pub fn gathered_chunk(alloc: Global, traces: &[Trace]) -> Result<Vec<Chunk>, AllocError>
-    ensures { IfOk result (λ chunks. AreSummed chunks.items traces.now) }
-{
-    let mut chunks = Vec::with_capacity(alloc, 1)?;
-    chunks.push(Chunk::unsummed(traces.len()))?;
-    sum_up(alloc, Hashing::by(1), &mut chunks, traces)?;
-    Ok(chunks)
+/// The chunk of all these lines, and what is gathered of them.
+pub fn gathered_chunk(
+    alloc: Global,
+    hashing: Hashing,
+    traces: &[Trace],
+) -> Result<Chunk, AllocError> {
+    let summary = Summary::of(alloc, hashing, traces)?;
+    let mut chunk = Chunk::of(hashing, traces);
+    chunk.summary = Some(summary);
+    Ok(chunk)
 }

@@ -1,43 +1,32 @@
-//! A run of a few lines: how many keys it puts at, and where it stands; and the chunk of these lines.
+//! The chunk of a few lines: how many they are, how many keys their run asks, and where it stands.
 //! What a function holds is dropped by calls, whose proofs stand once.
 use super::given::{gathered_chunk, take_text};
-use cps_chunks::lengths_in;
+use cps_chunk::Chunk;
 use cps_holding::Run;
 use cps_pass::{Hashing, Lookup, State, Trace};
-use std::alloc::{AllocError, Global};
+use std::alloc::Global;
 
-/// How many lines the chunk of a run has, how many keys the run puts at, and whether it stands in the state in front of it and in the one behind it.
-type Seen = (Option<usize>, usize, bool, bool);
+/// How many lines a chunk has, how many keys their run asks, and whether it stands in the state in front of it and in the one behind it.
+type Seen = (usize, usize, bool, bool);
 
-/// How many lines the chunk of all these lines has, once what they did is gathered.
-fn gather_lines(alloc: Global, traces: &[Trace]) -> Result<Option<usize>, AllocError> {
-    let chunks = gathered_chunk(alloc, traces)?;
-    let lengths = lengths_in(alloc, &chunks)?;
-    let lines = lengths.first().copied();
-    drop(lengths);
-    drop(chunks);
-    Ok(lines)
-}
-
-fn lines_gathered(alloc: Global, traces: &[Trace]) -> Option<usize> {
-    match gather_lines(alloc, traces) {
-        Ok(lines) => lines,
-        Err(_) => None,
-    }
-}
-
-fn seen_of(run: &Run, lines: Option<usize>, front: &State, behind: &State) -> Seen {
-    let keys = run.lasts().iter().filter(|is_last| **is_last).count();
+fn seen_of(lines: usize, run: &Run, front: &State, behind: &State) -> Seen {
+    let keys = run.asks().len();
     (lines, keys, run.stands_in(front), run.stands_in(behind))
 }
 
+fn seen_in(chunk: &Chunk, front: &State, behind: &State) -> Option<Seen> {
+    match &chunk.summary {
+        Some(summary) => Some(seen_of(chunk.lines, &summary.run, front, behind)),
+        None => None,
+    }
+}
+
 fn see(alloc: Global, traces: &[Trace], front: &State, behind: &State) -> Option<Seen> {
-    let lines = lines_gathered(alloc, traces);
-    match Run::of(alloc, front.hashing(), traces) {
-        Ok(run) => {
-            let seen = seen_of(&run, lines, front, behind);
-            drop(run);
-            Some(seen)
+    match gathered_chunk(alloc, front.hashing(), traces) {
+        Ok(chunk) => {
+            let seen = seen_in(&chunk, front, behind);
+            drop(chunk);
+            seen
         }
         Err(_) => None,
     }
@@ -59,7 +48,8 @@ fn run_over(alloc: Global, lines: &[&str]) -> Option<Seen> {
     if is_taken { seen } else { None }
 }
 
-/// They put at four keys: the part of the program, the counter, A and B.
+/// They ask six keys: the part of the program, the counter, and of A and of B the label and what SET gave. The second line asks three of these once more, the
+/// third line two.
 const LINES: [&str; 3] = [
     "A        CON     1",
     "B        CON     A",
@@ -67,7 +57,7 @@ const LINES: [&str; 3] = [
 ];
 
 #[test]
-fn puts_at_each_key_once(rt: HostRuntime) {
+fn asks_each_key_once(rt: HostRuntime) {
     let found = run_over(rt.alloc(), &LINES);
-    assert_eq!(&rt; found, Some((Some(3), 4, true, false)));
+    assert_eq!(&rt; found, Some((3, 6, true, false)));
 }

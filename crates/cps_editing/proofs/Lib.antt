@@ -8,9 +8,11 @@ pub mod EditLemmas
 pub mod EnteringLemmas
 pub mod EnteringRows
 pub mod FirstPassLemmas
-pub mod HandingLemmas
 pub mod KeptLemmas
 pub mod MendedLemmas
+pub mod ExchangeLemmas
+pub mod MovedPassLemmas
+pub mod MovedStorageLemmas
 pub mod PlaceLemmas
 pub mod RenewedLemmas
 pub mod SecondPassLemmas

@@ -1,52 +1,58 @@
 -- Where blocks and literals stand behind an edit, by what its lines leave.
-use Rattle.std.proofs.Common.{◌≡◌, ℕ, ◌+◌, ◌-◌, ◌<◌, ◌≤◌, sym, ap, subst, ◌∙◌, List, [], ◌∷◌, ◌++◌, append-nil, append_assoc, zero-add, length, get_or, set, take, drop, arith}
-use Rattle.std.proofs.lemmas.List.{length-take-le, set_at, take_all, drop_all, take-append-drop}
+use Rattle.std.proofs.Common.{◌≡◌, ℕ, ◌+◌, ◌-◌, ◌<◌, ◌≤◌, refl, sym, ap, subst, ◌∙◌, List, [], ◌∷◌, ◌++◌, append-nil, append_assoc, zero-add, length, get_or, take, drop, arith}
+use Rattle.std.proofs.lemmas.List.{take_all, drop_all}
+use lib.Seq.{map-set_same}
 use Rattle.cps_state.specs.Course.{Trace}
-use Rattle.cps_edit.proofs.TakenLemmas.{drop_at}
 use Rattle.cps_replay.specs.declared.sparse.At.{At}
 use Rattle.cps_replay.specs.Sparse.{renewed, AreWithin}
 use Rattle.cps_replay.specs.Storing.{Left, left_by, stored_by}
-use Rattle.cps_replay.proofs.SparseLemmas.{length-renewed, renewed-split}
+use Rattle.cps_replay.proofs.SparseLemmas.{renewed-split}
 use Rattle.cps_replay.proofs.StoringLemmas.{joined, left-append, left-law}
 use Rattle.cps_replay.proofs.WalkLemmas.{stretch-part, stretch-front}
 use Rattle.cps_editing.specs.declared.cut.Cut.{Cut}
 use Rattle.cps_editing.specs.declared.news.News.{News}
-use Rattle.cps_editing.specs.Storing.{edited}
-use Rattle.cps_editing.proofs.RenewedLemmas.{place-within, renewed-next, renewed-still}
+use Rattle.cps_editing.specs.Storing.{edited, left_by_each}
+use Rattle.cps_editing.proofs.RenewedLemmas.{renewed-next, renewed-still}
 
 -- ---- each line leaves what it left
 
 left-whole : (front middle behind : List Trace) → left_by (front ++ (middle ++ behind)) ≡ joined (left_by front) (joined (left_by middle) (left_by behind))
 left-whole front middle behind = left-append front (middle ++ behind) ∙ ap (joined (left_by front)) (left-append middle behind)
 
-left-middle : (front olds news behind : List Trace) → left_by olds ≡ left_by news → left_by (front ++ (olds ++ behind)) ≡ left_by (front ++ (news ++ behind))
+pub left-middle : (front olds news behind : List Trace) → left_by olds ≡ left_by news → left_by (front ++ (olds ++ behind)) ≡ left_by (front ++ (news ++ behind))
 left-middle front olds news behind same =
     left-whole front olds behind ∙ ap (λ (l : Left). joined (left_by front) (joined l (left_by behind))) same ∙ sym (left-whole front news behind)
 
-left-set : (ts : List Trace) (a : ℕ) (t u : Trace) → a < length ts → t ≡ get_or ts a t → left_by (t ∷ []) ≡ left_by (u ∷ []) → left_by (set ts a u) ≡ left_by ts
-left-set ts a t u lt is same =
-    let front : List Trace = take a ts in
-    let behind : List Trace = drop (a + 1) ts in
-    let split : ts ≡ front ++ t ∷ behind = sym (take-append-drop a ts) ∙ ap (λ us. take a ts ++ us) (drop_at ts a t lt is) in
-    let put : set ts a u ≡ front ++ u ∷ behind = ap (λ us. set us a u) split ∙ set_at front t behind u a (length-take-le a ts (omega (arith, lt))) in
-    ap left_by put ∙ left-middle front (u ∷ []) (t ∷ []) behind (sym same) ∙ sym (ap left_by split)
+-- all of that, from what each leaves
+all_left : List Left → Left
+all_left [] = left_by []
+all_left (l ∷ ls) = joined l (all_left ls)
+
+left-all : (ts : List Trace) → left_by ts ≡ all_left (left_by_each ts)
+unfolding all_left
+left-all [] = refl
+left-all (t ∷ ts) = left-append (t ∷ []) ts ∙ ap (joined (left_by (t ∷ []))) (left-all ts)
+
+pub left-same : (ts us : List Trace) → left_by_each ts ≡ left_by_each us → left_by ts ≡ left_by us
+left-same ts us each = left-all ts ∙ ap all_left each ∙ sym (left-all us)
 
 pub each-next : (olds : List Trace) (news : List (At Trace)) (i : ℕ) (new : At Trace) (old : Trace) → i < length news → new ≡ get_or news i new → AreWithin 0 (length olds) news
-    → old ≡ get_or olds new.at old → left_by (old ∷ []) ≡ left_by (new.item ∷ []) → left_by (renewed 0 (take i news) olds) ≡ left_by olds
-    → left_by (renewed 0 (take (i + 1) news) olds) ≡ left_by olds
+    → old ≡ get_or olds new.at old → left_by (old ∷ []) ≡ left_by (new.item ∷ []) → left_by_each (renewed 0 (take i news) olds) ≡ left_by_each olds
+    → left_by_each (renewed 0 (take (i + 1) news) olds) ≡ left_by_each olds
 each-next olds news i new old lt is within at same before =
     let b : ℕ = length olds in
     let so_far : List Trace = renewed 0 (take i news) olds in
+    let one : Trace → Left = λ t. left_by (t ∷ []) in
     let here : old ≡ get_or so_far new.at old = at ∙ sym (renewed-still 0 b i news new lt is within olds old) in
-    let long : new.at < length so_far = omega (arith, length-renewed 0 (take i news) olds, place-within 0 b i news new lt is within) in
-    ap left_by (renewed-next 0 b i news new lt is within olds) ∙ left-set so_far new.at old new.item long here same ∙ before
+    ap left_by_each (renewed-next 0 b i news new lt is within olds) ∙ map-set_same one so_far new.at new.item old (sym same ∙ ap one here) ∙ before
 
-pub each-all : (olds : List Trace) (news : List (At Trace)) (i : ℕ) → length news ≤ i → left_by (renewed 0 (take i news) olds) ≡ left_by olds → left_by (renewed 0 news olds) ≡ left_by olds
-each-all olds news i past so_far = ap (λ ns. left_by (renewed 0 ns olds)) (sym (take_all i news past)) ∙ so_far
+pub each-all : (olds : List Trace) (news : List (At Trace)) (i : ℕ) → length news ≤ i → left_by_each (renewed 0 (take i news) olds) ≡ left_by_each olds
+    → left_by_each (renewed 0 news olds) ≡ left_by_each olds
+each-all olds news i past so_far = ap (λ ns. left_by_each (renewed 0 ns olds)) (sym (take_all i news past)) ∙ so_far
 
 -- ---- an edit
 
-stored-same : (olds news : List Trace) → left_by olds ≡ left_by news → stored_by olds ≡ stored_by news
+pub stored-same : (olds news : List Trace) → left_by olds ≡ left_by news → stored_by olds ≡ stored_by news
 stored-same olds news same = ap stored_by (sym (append-nil olds)) ∙ left-law [] olds news [] same ∙ ap stored_by (append-nil news)
 
 module _ (cut : Cut) (news : News Trace) (olds : List Trace) where

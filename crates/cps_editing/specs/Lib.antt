@@ -3,8 +3,8 @@ pub mod Differences
 pub mod Editing
 pub mod Entering
 pub mod Exchanged
+pub mod MovedPass
 pub mod FirstPass
-pub mod Handing
 pub mod SecondPass
 pub mod Storing
 pub use Rattle.cps_touched.specs.Recuts

@@ -1,24 +1,35 @@
-//! Two runs of lines that change places. The lines are handed over to lists that exchange them, and taken back.
-ghost use Rattle.std.specs.Prelude.{◌≡◌, ◌<◌, ◌≤◌, ◌^◌, IfOk, OnOk, OnErr, length, vec_len, vec_capacity};
-ghost use Rattle.cps_chunk.specs.Chunk.{AreChunksOf, lengths_of};
-ghost use Rattle.cps_kept.specs.Chunks.{lengths_of as lengths_of_summed};
-ghost use Rattle.cps_division.specs.Exchange.{exchanged_at};
-ghost use Rattle.cps_kept.specs.Kept.{AreKept as AreKeptLists};
-ghost use Rattle.cps_editing.specs.Editing.{IsKept, IsStill};
-ghost use Rattle.cps_editing.specs.Exchanged.{IsExchanged, LooksOfExchange, StepsOfExchange};
-ghost use Rattle.cps_editing.specs.Handing.{IsHandedOver, IsTakenBack};
+//! Two runs of lines that change places.
+ghost use Rattle.std.specs.Prelude.{◌≡◌, ◌<◌, ◌^◌, IfOk, OnOk, OnErr, length, vec_len};
+ghost use Rattle.cps_chunk.specs.Chunk.{lengths_of};
+ghost use Rattle.cps_edit.specs.Compares.{ComparesUpTo, Steps};
+ghost use Rattle.cps_replay.specs.Sparse.{AreWithin};
+ghost use Rattle.cps_editing.specs.Editing.{AreKept, HasRoomToMend, IsKept, IsStill, IsStillWith};
+ghost use Rattle.cps_editing.specs.Exchanged.{AreMovedParts, HasPassedMoved, HasRuns, IsExchanged, IsMovedPass, IsRecutMoved, LooksOfExchange, StepsOfExchange, looks_by, redone_by};
 
-use crate::handing::{hand_over, take_back};
+use crate::chunk_list::mark_all;
+use crate::first_pass::FirstPass;
 use crate::kept_source::KeptSource;
+use crate::second_pass::SecondPass;
+use crate::storage::storage_moved;
 use cps_chunk::Chunk;
-use cps_division::recut_exchange;
-use cps_edit::Front;
+use cps_division::{Piece, recut_exchange};
 use cps_exchange::Exchange;
-use cps_final::{Finals, Gathered};
-use cps_kept::Lists;
-use cps_pass::Work;
+use cps_final::Outcome;
+use cps_gather::Mend;
+use cps_moving::chunks_moved;
+use cps_pass::{Trace, Work};
+use cps_replay::{At, Baseline, Ends, put_all};
 use std::alloc::AllocError;
 use std::mem::replace;
+
+/// What the passes make of a move, which chunks come, and a list for them.
+#[derive(Drop)]
+struct MovedParts {
+    traces: Vec<At<Trace>>,
+    outcomes: Vec<At<Outcome>>,
+    pieces: Vec<Piece>,
+    chunks: Vec<Chunk>,
+}
 
 impl KeptSource {
     /// Puts each of two runs of lines in the place of the other, and makes both passes. Where there is no memory, the lines stay as they are, and so does what is
@@ -26,101 +37,139 @@ impl KeptSource {
     pub fn exchange(&mut self, exchange: Exchange, work: &mut Work) -> Result<(), AllocError>
         requires kept { IsKept self.old }
         requires few { vec_len self.old.lines < 2 ^ 63 }
-        requires first { exchange.keep < exchange.mid }
-        requires second { exchange.mid < exchange.from }
-        requires within { exchange.from ≤ vec_len self.old.lines }
+        requires runs { HasRuns (vec_len self.old.lines) exchange }
         ensures kept { IsKept self.new }
         ensures moved { OnOk result (IsExchanged exchange self.old self.new) }
         ensures err { OnErr result (IsStill self.old self.new) }
         ensures steps { StepsOfExchange result exchange self.old work.old work.new }
         ensures looked { LooksOfExchange exchange self.old work.old work.new }
     {
-        let room = self.room_for(exchange)?;
-        let mut lists = self.hand_lines_over()?;
-        match lists.exchange(&self.finals, exchange, work) {
-            Ok(front) => {
-                self.take_lines_moved(lists, front, room);
+        let pieces = self.pieces_of(exchange)?;
+        let chunks = Vec::with_capacity(self.alloc, pieces.len())?;
+        let pass = self.pass_one_moved(exchange, work)?;
+        let FirstPass { traces, changes } = pass;
+        let traces = traces.into_renewed();
+        let storage = storage_moved(self.baseline(), exchange, &traces)?;
+        let mut mend = Mend { changes, storage };
+        self.make_room_to_mend(&mend)?;
+        self.finals.exchange(&mut mend);
+        match self.pass_again(&traces, &mend, work) {
+            Ok(outcomes) => {
+                drop(mend);
+                let parts = MovedParts {
+                    traces,
+                    outcomes,
+                    pieces,
+                    chunks,
+                };
+                self.commit_moved(exchange, parts);
                 Ok(())
             }
             Err(refused) => {
-                self.take_lines_back(lists);
+                self.finals.exchange(&mut mend);
                 Err(refused)
             }
         }
     }
 
-    /// A list for the chunks of an exchange.
-    fn room_for(&self, exchange: Exchange) -> Result<Vec<Chunk>, AllocError>
+    /// The chunks of an exchange, and which of the old ones each is.
+    fn pieces_of(&self, exchange: Exchange) -> Result<Vec<Piece>, AllocError>
         requires kept { IsKept self.now }
         requires few { vec_len self.now.lines < 2 ^ 63 }
-        requires first { exchange.keep < exchange.mid }
-        requires second { exchange.mid < exchange.from }
-        requires within { exchange.from ≤ vec_len self.now.lines }
-        ensures empty { IfOk result (λ room. vec_len room ≡ 0) }
-        ensures room { IfOk result (λ room. length (exchanged_at exchange (lengths_of self.now.chunks.items)) ≤ vec_capacity room) }
+        requires runs { HasRuns (vec_len self.now.lines) exchange }
+        ensures { IfOk result (λ pieces. IsRecutMoved self.now exchange pieces.items) }
     {
         let lengths = self.lengths()?;
-        let pieces = recut_exchange(self.alloc, &lengths, exchange)?;
-        Vec::with_capacity(self.alloc, pieces.len())
+        recut_exchange(self.alloc, &lengths, exchange)
     }
 
-    /// Hands the lines over, with all that is kept of them but the marks of their chunks.
-    fn hand_lines_over(&mut self) -> Result<Lists, AllocError>
-        ensures lists { IfOk result (IsHandedOver self.old self.new) }
-        ensures err { OnErr result (self.new ≡ self.old) }
+    /// Pass one of a move.
+    fn pass_one_moved(
+        &mut self,
+        exchange: Exchange,
+        work: &mut Work,
+    ) -> Result<FirstPass, AllocError>
+        requires kept { IsKept self.old }
+        requires runs { HasRuns (vec_len self.old.lines) exchange }
+        ensures kept { IsKept self.new }
+        ensures still { IsStill self.old self.new }
+        ensures pass { IfOk result (IsMovedPass self.old.lines.items exchange) }
+        ensures passed { HasPassedMoved result self.old.lines.items exchange (lengths_of self.old.chunks.items) work.old work.new }
     {
-        let room = Vec::with_capacity(self.alloc, self.chunks.len())?;
-        Ok(Lists {
+        let base = Baseline {
             alloc: self.alloc,
-            lines: replace(&mut self.lines, Vec::new(self.alloc)),
-            traces: replace(&mut self.traces, Vec::new(self.alloc)),
-            outcomes: replace(&mut self.outcomes, Vec::new(self.alloc)),
-            chunks: hand_over(&mut self.chunks, room),
-        })
+            hashing: self.hashing,
+            first: &self.first,
+            lines: &self.lines,
+            traces: &self.traces,
+        };
+        FirstPass::of_exchange(base, &mut self.chunks, exchange, work)
     }
 
-    /// Takes lines back as they were handed over.
-    fn take_lines_back(&mut self, lists: Lists)
-        ensures lists { IsTakenBack self.old self.new lists }
-        ensures chunks { self.new.chunks.items ≡ self.old.chunks.items }
+    /// Room for what a move changes behind the last line, once and back.
+    fn make_room_to_mend(&mut self, mend: &Mend) -> Result<(), AllocError>
+        requires { IsKept self.old }
+        ensures kept { IsKept self.new }
+        ensures still { IsStill self.old self.new }
+        ensures room { OnOk result (HasRoomToMend self.new mend.now) }
+    {
+        self.finals.make_room(mend)
+    }
+
+    /// Pass two over all lines, of which these do something new, under the final values that are kept.
+    fn pass_again(
+        &mut self,
+        traces: &[At<Trace>],
+        mend: &Mend,
+        work: &mut Work,
+    ) -> Result<Vec<At<Outcome>>, AllocError>
+        requires kept { AreKept self.old }
+        requires few { vec_len self.old.lines < 2 ^ 63 }
+        requires news { AreWithin 0 (vec_len self.old.lines) traces.now }
+        ensures kept { AreKept self.new }
+        ensures still { IsStillWith self.old self.new }
+        ensures made { IfOk result (λ made. made.items ≡ redone_by self.old mend.now traces.now) }
+        ensures steps { Steps result work.old work.new 0 (length (redone_by self.old mend.now traces.now)) }
+        ensures looked { ComparesUpTo work.old work.new (looks_by self.old mend.now traces.now) }
+    {
+        let base = Baseline {
+            alloc: self.alloc,
+            hashing: self.hashing,
+            first: &self.first,
+            lines: &self.lines,
+            traces: &self.traces,
+        };
+        let ends = Ends {
+            finals: &self.finals,
+            mend,
+        };
+        let mut pass = SecondPass::new(base, ends)?;
+        pass.go_over_chunks(0, &mut self.chunks, traces, work)?;
+        Ok(pass.into_news())
+    }
+
+    /// Puts all that comes with a move in its place. Takes no memory.
+    fn commit_moved(&mut self, exchange: Exchange, parts: MovedParts)
+        requires kept { AreKept self.old }
+        requires runs { HasRuns (vec_len self.old.lines) exchange }
+        requires parts { AreMovedParts self.old exchange parts }
+        ensures kept { AreKept self.new }
+        ensures moved { IsExchanged exchange self.old self.new }
         ensures finals { self.new.finals ≡ self.old.finals }
     {
-        let Lists {
-            alloc: _,
-            lines,
+        let MovedParts {
             traces,
             outcomes,
-            chunks: _,
-        } = lists;
-        self.lines = lines;
-        self.traces = traces;
-        self.outcomes = outcomes;
-    }
-
-    /// Takes lines back in another order, and what was gathered of all of them; `room` is a list for their chunks.
-    fn take_lines_moved(&mut self, lists: Lists, front: Front, room: Vec<Chunk>)
-        requires kept { AreKeptLists lists }
-        requires empty { vec_len room ≡ 0 }
-        requires room { vec_len lists.chunks ≤ vec_capacity room }
-        ensures lists { IsTakenBack self.old self.new lists }
-        ensures chunks { AreChunksOf self.new.hashing self.new.chunks.items lists.traces.items }
-        ensures lengths { lengths_of self.new.chunks.items ≡ lengths_of_summed lists.chunks.items }
-        ensures finals { ⟦<Finals as Gathered>⟧.gathered self.new.finals ≡ ⟦<Front as Gathered>⟧.gathered front }
-    {
-        let Ok(finals) = front.finish() else {
-            unreachable!();
-        };
-        let Lists {
-            alloc: _,
-            lines,
-            traces,
-            outcomes,
+            pieces,
             chunks,
-        } = lists;
-        self.chunks = take_back(self.hashing, chunks, &traces, room);
-        self.lines = lines;
-        self.traces = traces;
-        self.outcomes = outcomes;
-        self.finals = finals;
+        } = parts;
+        mark_all(&mut self.chunks, self.hashing, &traces);
+        put_all(&mut self.traces, traces);
+        put_all(&mut self.outcomes, outcomes);
+        exchange.turn(&mut self.lines);
+        exchange.turn(&mut self.traces);
+        exchange.turn(&mut self.outcomes);
+        let olds = replace(&mut self.chunks, Vec::new(self.alloc));
+        self.chunks = chunks_moved(self.hashing, olds, &pieces, &self.traces, chunks);
     }
 }

@@ -6,12 +6,15 @@ ghost use Rattle.cps_chunk.specs.Chunk.{AreChunksOf, lengths_of};
 ghost use Rattle.cps_replay.specs.Replayed.{state_front};
 ghost use Rattle.cps_replay.specs.Walk.{IsBaseline, IsStillWalk, IsWalk};
 ghost use Rattle.cps_editing.specs.Editing.{IsCut, IsFirstPass, LooksOfFirst, StepsOfFirst, splice_of};
+ghost use Rattle.cps_editing.specs.Exchanged.{HasPassedMoved, HasRuns, IsMovedPass};
 ghost use Rattle.cps_editing.specs.FirstPass.{BeginsWalk, IsWalked};
 
 use crate::cut::Cut;
+use crate::moved_pass::go_over_moved;
 use crate::news::News;
 use cps_changes::Changes;
 use cps_chunk::Chunk;
+use cps_exchange::Exchange;
 use cps_pass::{State, Trace, Work};
 use cps_replay::{Baseline, Cursor, Replay, Walk};
 use cps_state::Lookup;
@@ -68,6 +71,32 @@ impl FirstPass {
         let entered = replay.enter_all(&cut.lines, state, work)?;
         replay.close(&[], state)?;
         Ok(FirstPass::of_parts(entered, replay))
+    }
+
+    /// Of two runs of lines that change places.
+    pub fn of_exchange(
+        base: Baseline,
+        chunks: &mut Vec<Chunk>,
+        exchange: Exchange,
+        work: &mut Work,
+    ) -> Result<FirstPass, AllocError>
+        requires base { IsBaseline base }
+        requires chunks { AreChunksOf base.hashing chunks.old.items base.traces.now }
+        requires runs { HasRuns (length base.lines.now) exchange }
+        ensures pass { IfOk result (IsMovedPass base.entry.lines.now exchange) }
+        ensures chunks { AreChunksOf base.entry.hashing chunks.new.items base.entry.traces.now }
+        ensures lengths { lengths_of chunks.new.items ≡ lengths_of chunks.old.items }
+        ensures passed { HasPassedMoved result base.entry.lines.now exchange (lengths_of chunks.old.items) work.old work.new }
+    {
+        let olds = replace(chunks, Vec::new(base.alloc));
+        let mut walk = Walk::new(base, olds);
+        let order = go_over_moved(&mut walk, exchange, work);
+        let (olds, replay) = walk.into_parts();
+        *chunks = olds;
+        let order = order?;
+        let mut pass = FirstPass::of_parts(Vec::new(base.alloc), replay);
+        order.turn(&mut pass.traces.renewed);
+        Ok(pass)
     }
 
     fn of_parts(entered: Vec<Trace>, replay: Replay) -> FirstPass

@@ -111,7 +111,7 @@ impl KeptSource {
     }
 
     /// The source as it stands.
-    fn baseline(&self) -> Baseline<'_>
+    pub fn baseline(&self) -> Baseline<'_>
         ensures first { result.first.now ≡ self.now.first }
         ensures lines { result.lines.now ≡ self.now.lines.items }
         ensures traces { result.traces.now ≡ self.now.traces.items }

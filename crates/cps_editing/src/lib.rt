@@ -6,10 +6,10 @@
 //! - `entering.rt`: the lines that a source begins with
 //! - `exchange.rt`: two runs of lines that change places
 //! - `first_pass.rt`: pass one of an edit
-//! - `handing.rt`: chunks that are handed over without their marks, and taken back
 //! - `kept_source.rt`: what is kept of a source, and its edits
 //! - `laws.rt`: the law of the division of lines that a source begins with
 //! - `lists.rt`: items in the place of others
+//! - `moved_pass.rt`: pass one of a move
 //! - `news.rt`: what a pass makes anew
 //! - `second_pass.rt`: pass two of an edit, chunk by chunk
 //! - `storage.rt`: where blocks and literals stand behind an edit
@@ -21,10 +21,10 @@ mod differences;
 mod entering;
 mod exchange;
 mod first_pass;
-mod handing;
 mod kept_source;
 pub mod laws;
 mod lists;
+mod moved_pass;
 mod news;
 mod second_pass;
 mod storage;

@@ -26,4 +26,13 @@ impl<T: Drop> News<T> {
         put_all(items, renewed);
         put_at(items, keep, from, entered);
     }
+
+    /// What is of the lines that were there before.
+    pub fn into_renewed(self) -> Vec<At<T>>
+        ensures { result ≡ self.renewed }
+    {
+        let News { entered, renewed } = self;
+        drop(entered);
+        renewed
+    }
 }

@@ -98,7 +98,7 @@ impl<'a> SecondPass<'a> {
     }
 
     /// Goes over the lines of chunks, likewise.
-    fn go_over_chunks(
+    pub fn go_over_chunks(
         &mut self,
         at: usize,
         chunks: &mut [Chunk],
@@ -241,7 +241,7 @@ pub fn step_two_all(
 }
 
 /// What is new in front of a place, and what is new from it on.
-fn split_before(news: &[At<Trace>], place: usize) -> (&[At<Trace>], &[At<Trace>])
+pub fn split_before(news: &[At<Trace>], place: usize) -> (&[At<Trace>], &[At<Trace>])
     ensures before { result.0.now ≡ items_before place news.now }
     ensures from { result.1.now ≡ items_from place news.now }
 {

@@ -2,11 +2,14 @@
 ghost use Rattle.std.specs.Prelude.{◌≡◌, ◌≤◌, IfOk, IsTrue, length};
 ghost use Rattle.cps_gather.specs.Storage.{IsStored};
 ghost use Rattle.cps_replay.specs.Sparse.{AreWithin, renewed};
-ghost use Rattle.cps_replay.specs.Storing.{left_by};
-ghost use Rattle.cps_editing.specs.Storing.{IsStoredBehind, edited};
+ghost use Rattle.cps_exchange.specs.Exchange.{exchanged};
+ghost use Rattle.cps_editing.specs.Exchanged.{HasRuns};
+ghost use Rattle.cps_editing.specs.Storing.{IsStoredBehind, edited, left_by_each};
 
 use crate::cut::Cut;
 use crate::news::News;
+use crate::second_pass::split_before;
+use cps_exchange::Exchange;
 use cps_gather::Storage;
 use cps_pass::Trace;
 use cps_replay::{At, Baseline, leave_same, store_all, store_renewed};
@@ -45,10 +48,38 @@ pub fn storage_behind(
     Ok(Some(next))
 }
 
+/// The same where two runs of lines have changed places, and these do something new.
+pub fn storage_moved(
+    base: Baseline,
+    exchange: Exchange,
+    news: &[At<Trace>],
+) -> Result<Option<Storage>, AllocError>
+    requires runs { HasRuns (length base.traces.now) exchange }
+    requires places { AreWithin exchange.keep (length base.traces.now) news.now }
+    ensures { IfOk result (λ next. IsStoredBehind base.entry.traces.now next (exchanged exchange (renewed 0 news.now base.entry.traces.now))) }
+{
+    let Exchange { keep, mid, from } = exchange;
+    let olds = base.traces;
+    let first = &olds[keep..mid];
+    let second = &olds[mid..from];
+    let behind = &olds[from..];
+    if leave_same_each(olds, news) && (leave_same(first, &[]) || leave_same(second, &[])) {
+        return Ok(None);
+    }
+    let (first_news, rest) = split_before(news, mid);
+    let (second_news, behind_news) = split_before(rest, from);
+    let mut next = Storage::new(base.alloc, base.hashing);
+    store_all(&mut next, &olds[..keep])?;
+    store_renewed(&mut next, mid, second, second_news)?;
+    store_renewed(&mut next, keep, first, first_news)?;
+    store_renewed(&mut next, from, behind, behind_news)?;
+    Ok(Some(next))
+}
+
 /// Whether each of these lines leaves what it left.
 fn leave_same_each(olds: &[Trace], news: &[At<Trace>]) -> bool
     requires { AreWithin 0 (length olds.now) news.now }
-    ensures { IsTrue result → left_by (renewed 0 news.now olds.now) ≡ left_by olds.now }
+    ensures { IsTrue result → left_by_each (renewed 0 news.now olds.now) ≡ left_by_each olds.now }
 {
     for new in news {
         if !leave_same(from_ref(&olds[new.at]), from_ref(&new.item)) {

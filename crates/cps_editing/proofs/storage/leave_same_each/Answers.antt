@@ -1,12 +1,13 @@
 use Rattle.std.proofs.Common.{rules, ◌≡◌, ◌<◌, ◌∙◌, ◌∷◌, [], ap, sym, true, length}
 use Rattle.cps_replay.specs.Storing.{left_by}
 use Rattle.cps_replay.proofs.SparseLemmas.{renewed-none}
+use Rattle.cps_editing.specs.Storing.{left_by_each}
 use Rattle.cps_editing.proofs.RenewedLemmas.{place-within}
 use Rattle.cps_editing.proofs.StoredLemmas.{each-next, each-all}
 use Rattle.cps_editing.proofs.storage.leave_same_each.Goals as goal
 
 pub loop-new-init : goal.loop-new-init
-loop-new-init c = ap left_by (renewed-none 0 c.args.olds.now)
+loop-new-init c = ap left_by_each (renewed-none 0 c.args.olds.now)
 
 pub offset_bounds-olds-new : goal.offset_bounds-olds-new
 offset_bounds-olds-new c =

@@ -6,7 +6,7 @@ use Rattle.cps_replay.specs.declared.sparse.At.{At}
 use Rattle.cps_replay.specs.Sparse.{AreWithin, renewed}
 use Rattle.cps_replay.specs.Storing.{left_by}
 use Rattle.cps_replay.proofs.SparseLemmas.{AreWithin-wider}
-use Rattle.cps_editing.proofs.StoredLemmas.{stored-edited, append-edited, parts-edited}
+use Rattle.cps_editing.proofs.StoredLemmas.{append-edited, left-same, parts-edited, stored-edited}
 use Rattle.cps_editing.proofs.storage.storage_behind.Goals as goal
 
 pub leave_same_each-requires : goal.leave_same_each-requires
@@ -22,7 +22,8 @@ returns-then-leave_same_each c =
     let gone : left_by (take (cut.from - cut.keep) (drop cut.keep olds)) ≡ left_by c.args.traces.now.entered.items =
     c.leave_same.ensures c.if-leave_same.true ∙ ap left_by c.deref.ensures.value in
     let each : left_by (renewed 0 c.args.traces.now.renewed.items olds) ≡ left_by olds =
-    ap (λ (news : List (At Trace)). left_by (renewed 0 news olds)) (sym c.deref-then-leave_same.ensures.value) ∙ c.leave_same_each.ensures c.if-leave_same_each.true in
+    ap (λ (news : List (At Trace)). left_by (renewed 0 news olds)) (sym c.deref-then-leave_same.ensures.value)
+    ∙ left-same (renewed 0 c.deref-then-leave_same.result.now olds) olds (c.leave_same_each.ensures c.if-leave_same_each.true) in
     stored-edited cut c.args.traces.now olds c.requires.ordered c.requires.places gone each
 
 pub returns-then-cut-olds : goal.returns-then-cut-olds

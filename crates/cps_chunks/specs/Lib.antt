@@ -1,9 +1,0 @@
-pub mod Named
-pub mod Chunks
-pub mod Handing
-pub use Rattle.cps_holding.specs.Holds
-pub use Rattle.cps_holding.specs.Run
-pub use Rattle.cps_holding.specs.RunGathering
-pub use Rattle.cps_holding.specs.LastPuts
-pub use Rattle.cps_naming.specs.Names
-pub use Rattle.cps_touched.specs.Touched
