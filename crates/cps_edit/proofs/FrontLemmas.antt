@@ -1,44 +1,13 @@
 -- Lines gone through, one after another.
-use Rattle.std.proofs.Common.{◌≡◌, ℕ, ◌+◌, ◌<◌, ◌≤◌, sym, ap, ◌∙◌, List, [], ◌∷◌, ◌++◌, append_assoc, append-nil, length, get_or, take, drop, arith}
-use Rattle.std.proofs.lemmas.List.{take_more, take_all, drop_all}
-use Rattle.std.proofs.lemmas.Grind.{flat_map-append}
-use Rattle.cps_state.specs.Keys.{State, overwritten}
+use Rattle.std.proofs.Common.{◌≡◌, ℕ, ◌+◌, ◌<◌, ◌≤◌, sym, ap, ◌∙◌, List, [], ◌∷◌, ◌++◌, append_assoc, append-nil, length, get_or, drop, arith}
+use Rattle.std.proofs.lemmas.List.{drop_all}
+use Rattle.cps_state.specs.Keys.{State}
 use Rattle.cps_state.specs.Course.{Trace}
 use Rattle.cps_state.specs.Work.{counted_on}
 use Rattle.cps_pass.specs.Expansion.{trace_of}
-use Rattle.cps_final.specs.Layout.{puts_of}
 use Rattle.cps_final.specs.Finals.{Finals, finals_of}
 use Rattle.cps_edit.specs.Passes.{after, traces_from, GathersMore}
-use Rattle.cps_edit.proofs.SpliceLemmas.{overwritten-append}
 use Rattle.cps_edit.proofs.TakenLemmas.{drop_at}
-
--- ---- lines that are passed over
-
-pub more-none : (f : Finals) → GathersMore f f []
-more-none f done gathers = gathers ∙ ap finals_of (sym (append-nil done))
-
-pub more-next : (a b c : Finals) (ts : List Trace) (i : ℕ) (t : Trace) → i < length ts → t ≡ get_or ts i t → GathersMore a b (take i ts) → GathersMore b c (t ∷ [])
-    → GathersMore a c (take (i + 1) ts)
-more-next a b c ts i t lt is first second done gathers =
-    second (done ++ take i ts) (first done gathers)
-    ∙ ap finals_of (append_assoc done (take i ts) (t ∷ []) ∙ ap (λ (u : Trace). done ++ (take i ts ++ u ∷ [])) is ∙ ap (λ us. done ++ us) (sym (take_more ts i t lt)))
-
-pub more-all : (a b : Finals) (ts : List Trace) (i : ℕ) → length ts ≤ i → GathersMore a b (take i ts) → GathersMore a b ts
-more-all a b ts i past gathered done gathers = gathered done gathers ∙ ap (λ us. finals_of (done ++ us)) (take_all i ts past)
-
-pub puts-next : (a b c : State) (ts : List Trace) (i : ℕ) (t : Trace) → i < length ts → t ≡ get_or ts i t → b ≡ overwritten a (puts_of (take i ts)) → c ≡ overwritten b t.puts
-    → c ≡ overwritten a (puts_of (take (i + 1) ts))
-puts-next a b c ts i t lt is before next =
-    next ∙ ap (λ (s : State). overwritten s t.puts) before ∙ sym (overwritten-append a (puts_of (take i ts)) t.puts)
-    ∙ ap (λ ps. overwritten a (puts_of (take i ts) ++ ps)) (sym (append-nil t.puts))
-    ∙ ap (overwritten a) (sym (flat_map-append (λ (u : Trace). u.puts) (take i ts) (t ∷ [])))
-    ∙ ap (λ (u : Trace). overwritten a (puts_of (take i ts ++ u ∷ []))) is
-    ∙ ap (λ us. overwritten a (puts_of us)) (sym (take_more ts i t lt))
-
-pub puts-all : (a b : State) (ts : List Trace) (i : ℕ) → length ts ≤ i → b ≡ overwritten a (puts_of (take i ts)) → b ≡ overwritten a (puts_of ts)
-puts-all a b ts i past before = before ∙ ap (λ us. overwritten a (puts_of us)) (take_all i ts past)
-
--- ---- lines that are stepped or kept
 
 pub gathered-next : (ls : List (List ℕ)) (i : ℕ) (l : List ℕ) (a b end : Finals) → i < length ls → l ≡ get_or ls i l → GathersMore a b (trace_of l a.state ∷ [])
     → b.state ≡ after a.state l → GathersMore b end (traces_from b.state (drop (i + 1) ls)) → GathersMore a end (traces_from a.state (drop i ls))

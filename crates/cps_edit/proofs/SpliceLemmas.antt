@@ -1,17 +1,16 @@
 -- The traces and the count of a spliced source.
-use Rattle.std.proofs.Common.{◌≡◌, ℕ, zero, suc, ◌+◌, ◌≤◌, refl, sym, ap, subst, ◌∙◌, List, [], ◌∷◌, ◌++◌, append_assoc, zero-add, length, take, drop, map, Option, Some, false, not, arith}
-use Rattle.std.specs.Prelude.{if◌then◌else◌, is_some}
+use Rattle.std.proofs.Common.{◌≡◌, ℕ, zero, suc, ◌+◌, refl, sym, ap, subst, ◌∙◌, List, [], ◌∷◌, ◌++◌, zero-add, length, take, drop, map, Some, false, not, arith}
+use Rattle.std.specs.Prelude.{if◌then◌else◌}
 use Rattle.cps_state.specs.declared.key.Put.{Put}
 use Rattle.cps_state.specs.Keys.{State, first_state, with_put, overwritten}
 use Rattle.cps_state.specs.Course.{Trace}
-use Rattle.cps_state.specs.Work.{counted_on}
 use Rattle.cps_pass.specs.Expansion.{trace_of}
 use Rattle.cps_final.specs.Layout.{puts_of}
 use Rattle.cps_final.specs.Finals.{Finals, finals_of}
 use Rattle.cps_edit.specs.Passes.{after, state_after, traces_from, traces_of}
 use Rattle.cps_edit.specs.Splice.{splice_at, spliced}
 use Rattle.cps_edit.specs.Disturbed.{Placed, kept, all_kept, fresh, is_disturbed, disturbed_from, ones_of}
-use Rattle.cps_edit.specs.Renewed.{merged, nones, flags_from, AllWereMeant}
+use Rattle.cps_edit.specs.Renewed.{AllWereMeant}
 use Rattle.cps_holding.proofs.AnswerLemmas.{asks-decide}
 use Rattle.cps_edit.proofs.AskedLemmas.{asked-here}
 
@@ -32,6 +31,10 @@ drop-traces_from (suc n) f (l ∷ ls) = drop-traces_from n (after f l) ls
 pub traces_from-append : (f : State) (xs ys : List (List ℕ)) → traces_from f (xs ++ ys) ≡ traces_from f xs ++ traces_from (state_after f xs) ys
 traces_from-append f [] ys = refl
 traces_from-append f (x ∷ xs) ys = ap (λ ts. trace_of x f ∷ ts) (traces_from-append (after f x) xs ys)
+
+pub state_after-append : (f : State) (xs ys : List (List ℕ)) → state_after f (xs ++ ys) ≡ state_after (state_after f xs) ys
+state_after-append f [] ys = refl
+state_after-append f (x ∷ xs) ys = state_after-append (after f x) xs ys
 
 -- the state after lines is what their puts leave
 pub overwritten-append : (s : State) (puts more : List Put) → overwritten s (puts ++ more) ≡ overwritten (overwritten s puts) more
@@ -76,10 +79,6 @@ pub undisturbed : (l : List ℕ) (f : State) → is_disturbed (Some (trace_of l 
 undisturbed l f = ap not ((asks-decide (trace_of l f).asks f).1 (asked-here l f))
 
 -- nor are lines
-pub still-flags : (f : State) (ls : List (List ℕ)) → map is_some (nones {X = Trace} (length (traces_from f ls))) ≡ flags_from f ls (traces_from f ls)
-still-flags f [] = refl
-still-flags f (l ∷ ls) = λ i. sym (undisturbed l f) i ∷ still-flags (after f l) ls i
-
 pub none-disturbed : (f : State) (ls : List (List ℕ)) → disturbed_from f (kept ls (traces_from f ls)) ≡ 0
 none-disturbed f [] = refl
 none-disturbed f (l ∷ ls) = λ i. (if undisturbed l f i then 1 else 0) + none-disturbed (after f l) ls i
@@ -102,88 +101,6 @@ disturbed-is ls new keep from =
     ∙ disturbed_from-new g new (drop from (all_kept ls))
     ∙ ap (λ ps. length new + disturbed_from (state_after g new) ps) (kept-drop from ls (traces_from first_state ls))
 
--- the lines that are passed over, and the state behind them
-pub passed : (start front : Finals) (ts before : List Trace) (ls : List (List ℕ)) (keep : ℕ) → start ≡ finals_of [] → before ≡ take keep ts → ts ≡ traces_of ls
-    → ((done : List Trace) → start ≡ finals_of done → front ≡ finals_of (done ++ before)) → front ≡ finals_of (traces_of (take keep ls))
-passed start front ts before ls keep begun first is gathers =
-    gathers [] begun ∙ ap finals_of (first ∙ ap (take keep) is ∙ take-traces_from keep first_state ls)
-
+-- the state that was gathered
 pub gathered-state : (front : Finals) (ls : List (List ℕ)) → front ≡ finals_of (traces_of ls) → front.state ≡ state_after first_state ls
 gathered-state front ls is = ap (λ (f : Finals). f.state) is ∙ puts-state first_state ls
-
--- and the new ones
-pub begun_finals : (ls new : List (List ℕ)) (keep : ℕ) (one two : Finals) → one ≡ finals_of (traces_of (take keep ls))
-    → ((done : List Trace) → one ≡ finals_of done → two ≡ finals_of (done ++ traces_from one.state new))
-    → two ≡ finals_of (traces_of (take keep ls) ++ traces_from (state_after first_state (take keep ls)) new)
-begun_finals ls new keep one two at_one gathers =
-    gathers (traces_of (take keep ls)) at_one ∙ ap (λ (s : State). finals_of (traces_of (take keep ls) ++ traces_from s new)) (gathered-state one (take keep ls) at_one)
-
--- what is gathered of all lines
-pub planned_finals : (ls new rest : List (List ℕ)) (keep from : ℕ) (two three : Finals)
-    → rest ≡ drop from ls → two ≡ finals_of (traces_of (take keep ls) ++ traces_from (state_after first_state (take keep ls)) new)
-    → two.state ≡ state_after (state_after first_state (take keep ls)) new
-    → ((done : List Trace) → two ≡ finals_of done → three ≡ finals_of (done ++ traces_from two.state rest))
-    → three ≡ finals_of (traces_of (spliced ls (splice_at keep from new)))
-planned_finals ls new rest keep from two three lines at_two behind gathers =
-    let g = state_after first_state (take keep ls) in
-    gathers (traces_of (take keep ls) ++ traces_from g new) at_two
-    ∙ ap (λ (s : State). finals_of ((traces_of (take keep ls) ++ traces_from g new) ++ traces_from s rest)) behind
-    ∙ ap (λ xs. finals_of ((traces_of (take keep ls) ++ traces_from g new) ++ traces_from (state_after g new) xs)) lines
-    ∙ ap finals_of (append_assoc (traces_of (take keep ls)) (traces_from g new) (traces_from (state_after g new) (drop from ls)))
-    ∙ ap (λ ts. finals_of (traces_of (take keep ls) ++ ts)) (sym (traces_from-append g new (drop from ls)))
-    ∙ ap finals_of (sym (traces_from-append first_state (take keep ls) (new ++ drop from ls)))
-
-pub planned_traces : (ls new rest : List (List ℕ)) (keep from : ℕ) (ts left firsts : List Trace) (news : List (Option Trace)) (h : State)
-    → ts ≡ traces_from first_state ls → rest ≡ drop from ls → left ≡ drop from ts
-    → firsts ≡ traces_from (state_after first_state (take keep ls)) new → h ≡ state_after (state_after first_state (take keep ls)) new → merged news left ≡ traces_from h rest
-    → take keep ts ++ (firsts ++ merged news (drop from ts)) ≡ traces_from first_state (spliced ls (splice_at keep from new))
-planned_traces ls new rest keep from ts left firsts news h were lines traces made h_is merges =
-    let lasts : merged news (drop from ts) ≡ traces_from (state_after (state_after first_state (take keep ls)) new) (drop from ls) =
-    ap (merged news) (sym traces) ∙ merges ∙ ap (λ (f : State). traces_from f rest) h_is ∙ ap (traces_from (state_after (state_after first_state (take keep ls)) new)) lines in
-    ap (λ xs. take keep xs ++ (firsts ++ merged news (drop from ts))) were
-    ∙ traces_from-spliced ls new keep from firsts (merged news (drop from ts)) made lasts
-
--- the count of a spliced source, by what the lines left count
-counted : (ls new rest : List (List ℕ)) (keep from : ℕ) (ts left : List Trace) (h : State)
-    → ts ≡ traces_from first_state ls → rest ≡ drop from ls → left ≡ drop from ts → h ≡ state_after (state_after first_state (take keep ls)) new
-    → ones_of ls (splice_at keep from new) ≡ length new + disturbed_from h (kept rest left)
-counted ls new rest keep from ts left h were lines traces h_is =
-    disturbed-is ls new keep from
-    ∙ ap (λ (f : State). length new + disturbed_from f (kept (drop from ls) (drop from (traces_from first_state ls)))) (sym h_is)
-    ∙ ap (λ xs. length new + disturbed_from h (kept xs (drop from (traces_from first_state ls)))) (sym lines)
-    ∙ ap (λ xs. length new + disturbed_from h (kept rest xs)) (sym (traces ∙ ap (drop from) were))
-
-both_more : (u v w by left all : ℕ) → v ≡ counted_on u by → w ≡ counted_on v left → all ≡ by + left → w ≡ counted_on u all
-both_more u v w by left all p q r = omega arith
-
-first_more : (u v by left all : ℕ) → v ≤ counted_on u by → all ≡ by + left → v ≤ counted_on u all
-first_more u v by left all p r = omega arith
-
-last_more : (u v w by left all : ℕ) → v ≡ counted_on u by → w ≤ counted_on v left → all ≡ by + left → w ≤ counted_on u all
-last_more u v w by left all p q r = omega arith
-
-pub planned_steps : (ls new rest : List (List ℕ)) (keep from : ℕ) (ts left : List Trace) (h : State) (u v w : ℕ)
-    → ts ≡ traces_from first_state ls → rest ≡ drop from ls → left ≡ drop from ts → h ≡ state_after (state_after first_state (take keep ls)) new
-    → v ≡ counted_on u (length new) → w ≡ counted_on v (disturbed_from h (kept rest left)) → w ≡ counted_on u (ones_of ls (splice_at keep from new))
-planned_steps ls new rest keep from ts left h u v w were lines traces h_is first last =
-    both_more u v w _ _ _ first last (counted ls new rest keep from ts left h were lines traces h_is)
-
-pub planned_first : (ls new : List (List ℕ)) (keep from : ℕ) (u v : ℕ) → v ≤ counted_on u (length new) → v ≤ counted_on u (ones_of ls (splice_at keep from new))
-planned_first ls new keep from u v first = first_more u v _ _ _ first (disturbed-is ls new keep from)
-
-pub planned_last : (ls new rest : List (List ℕ)) (keep from : ℕ) (ts left : List Trace) (h : State) (u v w : ℕ)
-    → ts ≡ traces_from first_state ls → rest ≡ drop from ls → left ≡ drop from ts → h ≡ state_after (state_after first_state (take keep ls)) new
-    → v ≡ counted_on u (length new) → w ≤ counted_on v (disturbed_from h (kept rest left)) → w ≤ counted_on u (ones_of ls (splice_at keep from new))
-planned_last ls new rest keep from ts left h u v w were lines traces h_is first last =
-    last_more u v w _ _ _ first last (counted ls new rest keep from ts left h were lines traces h_is)
-
-pub state_after-append : (f : State) (xs ys : List (List ℕ)) → state_after f (xs ++ ys) ≡ state_after (state_after f xs) ys
-state_after-append f [] ys = refl
-state_after-append f (x ∷ xs) ys = state_after-append (after f x) xs ys
-
-pub planned_flags : (ls new rest : List (List ℕ)) (keep from : ℕ) (ts left : List Trace) (news : List (Option Trace)) (h : State)
-    → rest ≡ drop from ls → left ≡ drop from ts → h ≡ state_after (state_after first_state (take keep ls)) new → map is_some news ≡ flags_from h rest left
-    → map is_some news ≡ flags_from (state_after (state_after first_state (take keep ls)) new) (drop from ls) (drop from ts)
-planned_flags ls new rest keep from ts left news h lines traces h_is new_is =
-    new_is ∙ ap (λ (f : State). flags_from f rest left) h_is ∙ ap (λ xs. flags_from (state_after (state_after first_state (take keep ls)) new) xs left) lines
-    ∙ ap (λ xs. flags_from (state_after (state_after first_state (take keep ls)) new) (drop from ls) xs) traces

@@ -7,12 +7,6 @@ pub record ComparesUpTo (old new : Counts) (looks : ℕ) : Type 0 where
   pub least : old.looked ≤ new.looked
   pub most : new.looked ≤ counted_on old.looked looks
 
--- so many more where the call ends well; where it doesn't, at most these, and the count is no less than it was
-pub record Compares {T E : Type 0} (result : Result T E) (old new : Counts) (looks : ℕ) : Type 0 where
-  pub exact : OnOk result (new.looked ≡ counted_on old.looked looks)
-  pub least : old.looked ≤ new.looked
-  pub most : new.looked ≤ counted_on old.looked looks
-
 -- So many steps in each pass where the call ends well; where it doesn't, at most these, and no count is less than it was.
 pub record Steps {T E : Type 0} (result : Result T E) (old new : Counts) (first second : ℕ) : Type 0 where
   pub ones : OnOk result (new.ones ≡ counted_on old.ones first)

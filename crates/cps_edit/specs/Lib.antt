@@ -3,7 +3,4 @@ pub mod Splice
 pub mod Compares
 pub mod Disturbed
 pub mod Renewed
-pub mod GatheredNow
-pub use Rattle.cps_holding.specs.Agreeing
-pub use Rattle.cps_holding.specs.Holds
 pub use Rattle.cps_pass.specs.Expansion

@@ -1,5 +1,5 @@
 -- For the code that makes an edit, not part of what a reader believes: what was made anew beside what is kept.
-use Rattle.std.specs.Prelude.{◌≡◌, ℕ, zero, suc, ◌+◌, Bool, List, [], ◌∷◌, length, take, drop, map, is_some, Option, None, Some, if◌then◌else◌}
+use Rattle.std.specs.Prelude.{◌≡◌, ℕ, zero, suc, ◌+◌, Bool, List, [], ◌∷◌, length, map, is_some, Option, None, Some, if◌then◌else◌}
 use Rattle.cps_state.specs.Keys.{State}
 use Rattle.cps_state.specs.Course.{Trace}
 use Rattle.cps_pass.specs.Expansion.{trace_of}
@@ -7,32 +7,10 @@ use Rattle.cps_final.specs.Outcome.{Resolved}
 use Rattle.cps_edit.specs.Passes.{after}
 use Rattle.cps_edit.specs.Disturbed.{is_disturbed, is_redone}
 
-module _ {X : Type 0} where
-  -- what was made anew, or what was kept
-  abbrev pub picked : Option X → X → X
-  picked (Some new) old = new
-  picked None old = old
-
-  abbrev pub merged : List (Option X) → List X → List X
-  merged [] olds = []
-  merged (new ∷ news) [] = []
-  merged (new ∷ news) (old ∷ olds) = picked new old ∷ merged news olds
-
-  -- nothing new, so many times
-  abbrev pub nones : ℕ → List (Option X)
-  nones zero = []
-  nones (suc n) = None ∷ nones n
-
-  -- the same over a list that may be longer
-  abbrev pub mended : List (Option X) → List X → List X
-  mended [] olds = olds
-  mended (new ∷ news) [] = []
-  mended (new ∷ news) (old ∷ olds) = picked new old ∷ mended news olds
-
--- how many stay what they were
-abbrev pub unchanged_in : List (Option Trace) → ℕ
-unchanged_in [] = 0
-unchanged_in (new ∷ news) = (if is_some new then 0 else 1) + unchanged_in news
+-- nothing new, so many times
+abbrev pub nones : {X : Type 0} → ℕ → List (Option X)
+nones zero = []
+nones (suc n) = None ∷ nones n
 
 -- the trace is that of the line in some state
 abbrev pub WasMeant : List ℕ → Trace → Type 0
@@ -59,8 +37,3 @@ redone_from was now (new ∷ news) (trace ∷ traces) = (if is_redone was now ne
 -- the same of lines of which none is disturbed in pass one
 abbrev pub redone_kept : Resolved → Resolved → List Trace → ℕ
 redone_kept was now traces = redone_from was now (map is_some (nones {X = Trace} (length traces))) traces
-
--- the count in three parts: before the place, at it, and behind it
-abbrev pub redone_parts : Resolved → Resolved → List Trace → ℕ → ℕ → List Trace → List (Option Trace) → ℕ
-redone_parts was now traces keep from firsts news =
-    redone_from was now (map is_some (nones {X = Trace} keep)) (take keep traces) + (length firsts + redone_from was now (map is_some news) (drop from traces))

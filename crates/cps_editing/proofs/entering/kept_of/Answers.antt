@@ -61,12 +61,12 @@ returns-clause-steps c =
     let lines = ap length c.deref.ensures.value in
     let traces = ap length (c.deref-2.ensures.value ∙ first.traces) ∙ length-traces_from _ _ ∙ lines in
     record {
-      ones = omega (arith, first.ones, second.ones, lines);
-      twos = omega (arith, first.twos, second.twos, traces);
-      ones_least = omega (arith, first.ones, second.ones);
-      twos_least = omega (arith, first.twos, second.twos);
-      ones_most = omega (arith, first.ones, second.ones, lines);
-      twos_most = omega (arith, first.twos, second.twos, traces);
+      ones = omega (arith, first.steps.ones, second.ones, lines);
+      twos = omega (arith, first.steps.twos, second.twos, traces);
+      ones_least = omega (arith, first.steps.ones, second.ones);
+      twos_least = omega (arith, first.steps.twos, second.twos);
+      ones_most = omega (arith, first.steps.ones, second.ones, lines);
+      twos_most = omega (arith, first.steps.twos, second.twos, traces);
     }
 
 pub returns-in_err-outcomes-clause-steps : goal.returns-in_err-outcomes-clause-steps
@@ -78,8 +78,8 @@ returns-in_err-outcomes-clause-steps c =
     record {
       ones = search (rules, c.from_residual-in_err-outcomes.ensures);
       twos = search (rules, c.from_residual-in_err-outcomes.ensures);
-      ones_least = omega (arith, first.ones, second.ones_least);
-      twos_least = omega (arith, first.twos, second.twos_least);
-      ones_most = omega (arith, first.ones, second.ones_most, lines);
-      twos_most = omega (arith, first.twos, second.twos_most, traces);
+      ones_least = omega (arith, first.steps.ones, second.ones_least);
+      twos_least = omega (arith, first.steps.twos, second.twos_least);
+      ones_most = omega (arith, first.steps.ones, second.ones_most, lines);
+      twos_most = omega (arith, first.steps.twos, second.twos_most, traces);
     }
