@@ -1,23 +1,19 @@
 -- A run that is gathered line by line.
-use Rattle.std.proofs.Common.{◌≡◌, ℕ, ◌+◌, ◌<◌, refl, sym, ap, subst, ◌∙◌, Bool, true, false, cond, List, [], ◌∷◌, ◌++◌, append_assoc, append-nil, fold, take, get_or, length, reverse, Option, Some, None}
+use Rattle.std.proofs.Common.{◌≡◌, ℕ, ◌+◌, ◌<◌, refl, sym, ap, subst, ◌∙◌, Bool, true, false, cond, List, [], ◌∷◌, ◌++◌, append_assoc, fold, take, get_or, length, Option, Some, None}
 use Rattle.std.specs.Prelude.{not, is_some, if◌then◌else◌}
-use Rattle.std.proofs.lemmas.List.{reverse-append, take_more}
-use Rattle.std.proofs.lemmas.Grind.{flat_map-append}
-use Rattle.std.specs.Option.{option_or}
+use Rattle.std.proofs.lemmas.List.{take_more}
 use Rattle.cps_state.specs.declared.key.Key.{Key}
 use Rattle.cps_state.specs.declared.key.Answer.{Answer}
 use Rattle.cps_state.specs.declared.key.Asked.{Asked}
 use Rattle.cps_state.specs.declared.key.Put.{Put}
 use Rattle.cps_state.specs.contracts.key.KeyPartialEq.TheImpl.{eq-value}
-use Rattle.cps_state.specs.Course.{Trace, last_put, known_in}
+use Rattle.cps_state.specs.Course.{Trace, known_in}
 use Rattle.cps_state.specs.Keys.{same_key}
 use Rattle.cps_state.proofs.KnownLemmas.{same_key_is, same_key-true, known_in-put, known_in-ask}
-use Rattle.cps_naming.specs.Layout.{puts_of}
 use Rattle.cps_holding.specs.Run.{Run, with_ask, with_asks, joined}
 use Rattle.std.specs.HashSet.{contains}
 use Rattle.cps_holding.specs.declared.outside.Outside.{Outside}
-use Rattle.cps_holding.specs.declared.lasting.Lasting.{Lasting}
-use Rattle.cps_holding.specs.RunGathering.{IsOutside, IsLasting}
+use Rattle.cps_holding.specs.RunGathering.{IsOutside}
 
 -- one key more
 abbrev pub HasMore : (Key → Bool) → Key → (Key → Bool) → Type 0
@@ -108,55 +104,3 @@ pub lines-next : (run : Run) (ts : List Trace) (i : ℕ) (t : Trace) (new : Outs
 lines-next run ts i t new lt is made =
     let whole : take (i + 1) ts ≡ take i ts ++ t ∷ [] = take_more ts i t lt ∙ ap (λ u. take i ts ++ u ∷ []) (sym is) in
     subst (IsOutside new) (sym (ap (fold joined run) whole ∙ run-push run (take i ts) t)) made
-
--- ---- puts that last, from the last on
-
-pub last-more : (p : Put) (behind : List Put) (old new : Lasting) (is_last : Bool) → IsLasting old behind → is_last ≡ not (contains (eq-value.it) old.keys p.key) → new.lasts.items ≡ old.lasts.items ++ is_last ∷ []
-    → HasMore (contains (eq-value.it) old.keys) p.key (contains (eq-value.it) new.keys) → IsLasting new (p ∷ behind)
-last-more p behind old new is_last is tells pushed more = record {
-  marks = ap reverse pushed ∙ reverse-append old.lasts.items (is_last ∷ []) ∙ (λ i. (tells ∙ ap not (is.keys p.key)) i ∷ is.marks i);
-  keys = λ k. more k ∙ (λ i. cond (same_key_is p.key k i) true (is.keys k i)) ∙ at (last_put behind k) (same_key p.key k);
-}
-  where
-    at : (o : Option Answer) (same : Bool) → cond same true (is_some o) ≡ is_some (option_or o (if same then Some p.answer else None))
-    at (Some a) true = refl
-    at (Some a) false = refl
-    at None true = refl
-    at None false = refl
-
--- those that were gone through, and those that were not
-pub record GoesBack (lasting : Lasting) (rest all : List Put) : Type 0 where
-  pub behind : List Put
-  pub whole : rest ++ behind ≡ all
-  pub is : IsLasting lasting behind
-
-pub goes-back : (old new : Lasting) (rest next : List Put) (p : Put) (all : List Put) → rest ≡ next ++ p ∷ [] → GoesBack old rest all
-    → ((behind : List Put) → IsLasting old behind → IsLasting new (p ∷ behind)) → GoesBack new next all
-goes-back old new rest next p all steps was more = record {
-  behind = p ∷ was.behind;
-  whole = sym (append_assoc next (p ∷ []) was.behind) ∙ ap (λ ps. ps ++ was.behind) (sym steps) ∙ was.whole;
-  is = more was.behind was.is;
-}
-
-pub gone-back : (lasting : Lasting) (rest all : List Put) → length rest ≡ 0 → GoesBack lasting rest all → IsLasting lasting all
-gone-back lasting [] all none was = subst (IsLasting lasting) was.whole was.is
-gone-back lasting (p ∷ rest) all some was = cc
-
--- the puts of a line at once
-pub line-back : (old new : Lasting) (rest next : List Trace) (t : Trace) (all : List Put) → rest ≡ next ++ t ∷ [] → GoesBack old (puts_of rest) all
-    → ((behind : List Put) → IsLasting old behind → IsLasting new (t.puts ++ behind)) → GoesBack new (puts_of next) all
-line-back old new rest next t all steps was more =
-    let parts : puts_of rest ≡ puts_of next ++ t.puts =
-    ap puts_of steps ∙ flat_map-append (λ (u : Trace). u.puts) next (t ∷ []) ∙ ap (λ ps. puts_of next ++ ps) (append-nil t.puts) in
-    record {
-      behind = t.puts ++ was.behind;
-      whole = sym (append_assoc (puts_of next) t.puts was.behind) ∙ ap (λ ps. ps ++ was.behind) (sym parts) ∙ was.whole;
-      is = more was.behind was.is;
-    }
-
--- ---- puts of a run
-
--- what a run puts is what its lines put
-pub run-puts : (run : Run) (ts : List Trace) → (fold joined run ts).puts ≡ run.puts ++ puts_of ts
-run-puts run [] = sym (append-nil run.puts)
-run-puts run (t ∷ ts) = run-puts (joined run t) ts ∙ append_assoc run.puts t.puts (puts_of ts)

@@ -1,6 +1,5 @@
 pub mod Holds
 pub mod Agreeing
 pub mod Run
-pub mod LastPuts
 pub mod RunGathering
 pub use Rattle.cps_naming.specs.Names

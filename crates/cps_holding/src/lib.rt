@@ -3,14 +3,12 @@
 //!
 //! - `agreeing.rt`: final values before an edit and after it, compared at what a line names
 //! - `holding.rt`: what a line asked, compared with what stands now
-//! - `lasting.rt`: which puts of a run are the last at their key
 //! - `outside.rt`: what a run of lines asks of the state before it
 //! - `run.rt`: what is kept of a run of lines
 #![tactic(auto)]
 
 mod agreeing;
 mod holding;
-mod lasting;
 mod outside;
 mod run;
 

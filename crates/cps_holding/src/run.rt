@@ -4,17 +4,15 @@ ghost use Rattle.cps_holding.specs.Holds.{holds};
 ghost use Rattle.cps_holding.specs.RunGathering.{kept_run};
 
 use crate::holding::asks_hold;
-use crate::lasting::lasts_of;
 use crate::outside::outside_asks;
 use cps_state::{Asked, Hashing, Lookup, Trace};
 use std::alloc::{AllocError, Global};
 use std::marker::Model;
 
-/// What a run of lines asks of the state in front of it, and which of its puts last, in lists without room for more.
+/// What a run of lines asks of the state in front of it, in a list without room for more.
 #[derive(Drop)]
 pub struct Run {
     asks: Vec<Asked>,
-    lasts: Vec<bool>,
 }
 
 impl Model for Run {
@@ -22,7 +20,7 @@ impl Model for Run {
 
     ghost Value = { KeptRun };
 
-    ghost view = { λ run. record { asks = run.asks.items; lasts = run.lasts.items } };
+    ghost view = { λ run. record { asks = run.asks.items } };
 }
 
 impl Run {
@@ -31,8 +29,7 @@ impl Run {
         ensures { IfOk result (λ run. run ≡ kept_run traces.now) }
     {
         let asks = outside_asks(alloc, hashing, traces)?;
-        let lasts = lasts_of(alloc, hashing, traces)?;
-        Ok(Run { asks, lasts })
+        Ok(Run { asks })
     }
 
     /// What it asks, each key once.
@@ -40,13 +37,6 @@ impl Run {
         ensures { result.now ≡ self.now.asks }
     {
         self.asks.as_slice()
-    }
-
-    /// Of each of its puts, in their order, whether it is the last at its key.
-    pub fn lasts(&self) -> &[bool]
-        ensures { result.now ≡ self.now.lasts }
-    {
-        self.lasts.as_slice()
     }
 
     /// Whether all that it asks has the same answers in a state, so that its lines do the same there. It is counted nowhere, and takes no memory.
