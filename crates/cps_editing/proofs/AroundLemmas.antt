@@ -13,7 +13,7 @@ use Rattle.cps_edit.specs.Compares.{ComparesUpTo, Steps}
 use Rattle.cps_chunk.specs.declared.chunk.Chunk.{Chunk}
 use Rattle.cps_chunk.specs.Chunk.{AreChunksOf, lengths_of}
 use Rattle.cps_chunk.proofs.ChunkLemmas.{chunks-long, chunks-append, chunks-behind}
-use Rattle.cps_replay.specs.declared.ends.Ends.{Ends}
+use Rattle.cps_holding.specs.declared.ends.Ends.{Ends}
 use Rattle.cps_replay.specs.declared.sparse.At.{At}
 use Rattle.cps_replay.specs.declared.walk.Baseline.{Baseline}
 use Rattle.cps_replay.specs.Ends.{was_of, now_of}

@@ -5,7 +5,7 @@ use Rattle.cps_state.specs.Course.{Trace}
 use Rattle.cps_chunk.specs.declared.chunk.Chunk.{Chunk}
 use Rattle.cps_chunk.specs.Chunk.{AreChunksOf, IsChunkOf, lengths_of}
 use Rattle.cps_naming.specs.Names.{names_in}
-use Rattle.cps_replay.specs.declared.ends.Ends.{Ends}
+use Rattle.cps_holding.specs.declared.ends.Ends.{Ends}
 use Rattle.cps_replay.specs.declared.sparse.At.{At}
 use Rattle.cps_replay.specs.declared.walk.Baseline.{Baseline}
 use Rattle.cps_replay.specs.Ends.{was_of, now_of}

@@ -34,7 +34,7 @@ use Rattle.cps_chunk.specs.declared.marks.Marks.{Marks}
 use Rattle.cps_chunk.specs.Marks.{AreMarked, has, mark_of, keys_named}
 use Rattle.cps_chunk.proofs.AbsentLemmas.{each-named}
 use Rattle.cps_replay.specs.Ends.{was_of, now_of}
-use Rattle.cps_replay.specs.declared.ends.Ends.{Ends}
+use Rattle.cps_holding.specs.declared.ends.Ends.{Ends}
 use Rattle.cps_replay.proofs.KeysLemmas.{all-keys}
 use Rattle.cps_editing.specs.Differences.{passes_by, PlacesStandIn, IsListed}
 

@@ -19,7 +19,7 @@ use Rattle.cps_holding.specs.Agreeing.{same_at, same_named}
 use Rattle.cps_chunk.specs.declared.chunk.Chunk.{Chunk}
 use Rattle.cps_chunk.specs.Chunk.{AreChunksOf, IsChunkOf, lengths_of}
 use Rattle.cps_chunk.specs.Marks.{AreMarked, keys_named}
-use Rattle.cps_replay.specs.declared.ends.Ends.{Ends}
+use Rattle.cps_holding.specs.declared.ends.Ends.{Ends}
 use Rattle.cps_replay.specs.declared.sparse.At.{At}
 use Rattle.cps_replay.specs.Ends.{was_of, now_of}
 use Rattle.cps_replay.specs.Redo.{is_passed}

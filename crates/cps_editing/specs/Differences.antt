@@ -8,7 +8,7 @@ use Rattle.cps_changes.specs.Kept.{changes_in}
 use Rattle.cps_final.specs.Finals.{Named, label, setting, block, literal}
 use Rattle.cps_holding.specs.Agreeing.{same_at}
 use Rattle.cps_replay.specs.Ends.{was_of, now_of}
-use Rattle.cps_replay.specs.declared.ends.Ends.{Ends}
+use Rattle.cps_holding.specs.declared.ends.Ends.{Ends}
 use Rattle.cps_editing.specs.declared.differences.Differences.{Differences}
 
 -- all but the labels that are known to have other final values; where these aren't known, what has the same

@@ -1,18 +1,18 @@
 //! Whether a line does the same as before: in pass one by what it asked, in pass two by what its
 //! statements name. And what a run of lines asks, so that it is gone through as one line is.
 //!
-//! - `agreeing.rt`: final values before an edit and after it, compared at what a line names
+//! - `ends.rt`: final values before an edit and after it, compared at what a line names
 //! - `holding.rt`: what a line asked, compared with what stands now
 //! - `outside.rt`: what a run of lines asks of the state before it
 //! - `run.rt`: what is kept of a run of lines
 #![tactic(auto)]
 
-mod agreeing;
+mod ends;
 mod holding;
 mod outside;
 mod run;
 
-pub use agreeing::{Ends, same_finals};
 pub use cps_naming::{Names, Naming, all_pass};
+pub use ends::{Ends, same_finals};
 pub use holding::{asks_hold, still_holds};
 pub use run::Run;

@@ -4,7 +4,6 @@ pub mod RunLaws
 pub mod Compared
 pub mod Noted
 pub mod Replay
-pub mod Ends
 pub mod Redo
 pub mod Leaving
 pub mod NoLiteral
@@ -17,3 +16,4 @@ pub use Rattle.cps_edit.specs.Expansion
 pub use Rattle.cps_edit.specs.Passes
 pub use Rattle.cps_edit.specs.Renewed
 pub use Rattle.cps_edit.specs.Splice
+pub use Rattle.cps_holding.specs.Ends

@@ -5,10 +5,10 @@ use Rattle.cps_final.specs.Outcome.{Outcome, Resolved}
 use Rattle.cps_naming.specs.Names.{Names, all_pass}
 use Rattle.cps_holding.specs.Agreeing.{same_at}
 use Rattle.cps_edit.specs.Disturbed.{is_redone}
-use Rattle.cps_replay.specs.declared.ends.Ends.{Ends}
+use Rattle.cps_holding.specs.declared.ends.Ends.{Ends}
 use Rattle.cps_replay.specs.declared.redo.Redo.{Redo}
 use Rattle.cps_replay.specs.declared.sparse.At.{At}
-use Rattle.cps_replay.specs.Ends.{was_of, now_of}
+use Rattle.cps_holding.specs.Ends.{was_of, now_of}
 use Rattle.cps_replay.specs.Replayed.{redone}
 
 -- what a line does now, at its place, if it is disturbed in pass one

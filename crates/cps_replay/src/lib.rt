@@ -2,7 +2,6 @@
 //! made anew.
 //!
 //! - `change_log.rt`: changed keys, as lines are gone through
-//! - `ends.rt`: final values before an edit and after it
 //! - `now.rt`: what stands in front of a line
 //! - `redo.rt`: pass two over lines
 //! - `replay.rt`: pass one over lines
@@ -13,7 +12,6 @@
 #![tactic(auto)]
 
 mod change_log;
-mod ends;
 mod now;
 mod redo;
 mod replay;
@@ -23,7 +21,7 @@ mod storing;
 mod walk;
 
 pub use change_log::ChangeLog;
-pub use ends::{Ends, same_finals};
+pub use cps_holding::{Ends, same_finals};
 pub use now::{Known, Now};
 pub use redo::Redo;
 pub use replay::{OldLine, Replay};

@@ -4,14 +4,14 @@ ghost use Rattle.std.specs.Option.{option_copied};
 ghost use Rattle.cps_state.specs.Work.{counted_on, raised};
 ghost use Rattle.cps_state.specs.declared.work.Tally.TheVariants.{Twos};
 ghost use Rattle.cps_final.specs.Outcome.{outcome_of};
+ghost use Rattle.cps_holding.specs.Ends.{now_of};
 ghost use Rattle.cps_edit.specs.Compares.{ComparesUpTo, Steps};
-ghost use Rattle.cps_replay.specs.Ends.{now_of};
 ghost use Rattle.cps_replay.specs.Redo.{new_at, first_at, behind, redone_under, is_redone_under, MakesAlso};
 ghost use Rattle.cps_replay.specs.Sparse.{AreWithin};
 
-use crate::ends::{Ends, same_finals};
 use crate::sparse::At;
 use cps_final::{Outcome, step_two};
+use cps_holding::{Ends, same_finals};
 use cps_pass::{Trace, Work};
 use std::alloc::{AllocError, Global};
 

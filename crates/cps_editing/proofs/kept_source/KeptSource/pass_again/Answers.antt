@@ -2,7 +2,7 @@ use Rattle.std.proofs.Common.{arith, refl, sym, ap, subst, length, ◌∙◌, �
 use Rattle.std.specs.Prelude.{sum}
 use Rattle.cps_chunk.specs.Chunk.{lengths_of}
 use Rattle.cps_edit.specs.Compares.{ComparesUpTo}
-use Rattle.cps_replay.specs.declared.ends.Ends.{Ends}
+use Rattle.cps_holding.specs.declared.ends.Ends.{Ends}
 use Rattle.cps_replay.specs.declared.walk.Baseline.{Baseline}
 use Rattle.cps_replay.specs.Ends.{was_of, now_of}
 use Rattle.cps_replay.specs.Sparse.{AreWithin}

@@ -1,7 +1,7 @@
 use Rattle.std.proofs.Common.{refl, length, ap, ◌∙◌, ◌++◌}
 use Rattle.cps_edit.specs.Passes.{outcomes_by}
 use Rattle.cps_chunk.specs.Chunk.{lengths_of}
-use Rattle.cps_replay.specs.declared.ends.Ends.{Ends}
+use Rattle.cps_holding.specs.declared.ends.Ends.{Ends}
 use Rattle.cps_replay.specs.declared.walk.Baseline.{Baseline}
 use Rattle.cps_replay.specs.Ends.{was_of, now_of}
 use Rattle.cps_editing.specs.SecondPass.{redone_around}

@@ -2,8 +2,8 @@ use Rattle.std.proofs.Common.{rules, arith, ◌≡◌, ℕ, ◌+◌, ◌<◌, �
 use Rattle.cps_state.specs.Work.{counted_on}
 use Rattle.cps_edit.proofs.ReplayLemmas.{counted-left, counted-before}
 use Rattle.cps_edit.specs.Disturbed.{is_redone}
-use Rattle.cps_replay.specs.declared.ends.Ends.{Ends}
-use Rattle.cps_replay.specs.Ends.{was_of, now_of}
+use Rattle.cps_holding.specs.declared.ends.Ends.{Ends}
+use Rattle.cps_holding.specs.Ends.{was_of, now_of}
 use Rattle.cps_replay.specs.Redo.{new_at}
 use Rattle.cps_replay.specs.Replayed.{redone}
 use Rattle.cps_replay.specs.Sparse.{AreWithin}

@@ -3,14 +3,14 @@ ghost use Rattle.std.specs.Prelude.{◌≡◌, ◌↔◌, IsTrue};
 ghost use Rattle.std.specs.Option.{option_eq};
 ghost use Rattle.cps_state.specs.Work.{raised};
 ghost use Rattle.cps_state.specs.declared.work.Tally.TheVariants.{Looked};
-ghost use Rattle.cps_final.specs.Outcome.{AgreeOnNamed, outcome_of};
+ghost use Rattle.cps_naming.specs.Outcome.{AgreeOnNamed, outcome_of};
 ghost use Rattle.cps_gather.specs.Before.{values_before};
 ghost use Rattle.cps_holding.specs.Agreeing.{same_named, same_value};
-ghost use Rattle.cps_replay.specs.Ends.{was_of, now_of};
+ghost use Rattle.cps_holding.specs.Ends.{was_of, now_of};
 
 use cps_expr::Value;
-use cps_gather::{Before, Finals, Mend};
-use cps_naming::{Naming, all_pass};
+use cps_gather::{Before, Mend};
+use cps_naming::{Finals, Naming, all_pass};
 use cps_state::{Tally, Trace, Work};
 use cps_text::Name;
 
@@ -23,7 +23,7 @@ pub struct Ends<'a> {
 
 impl<'a> Naming for Ends<'a> {
     ghost use Rattle.cps_holding.specs.Agreeing.{same_at};
-    ghost use Rattle.cps_replay.specs.Ends.{was_of, now_of};
+    ghost use Rattle.cps_holding.specs.Ends.{was_of, now_of};
 
     ghost passes = { λ ends. same_at (was_of ends) (now_of ends) };
 

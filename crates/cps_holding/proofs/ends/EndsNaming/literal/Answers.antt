@@ -1,9 +1,9 @@
 use Rattle.std.proofs.Common.{ap, ◌∙◌}
 use Rattle.std.specs.Option.{option_eq}
-use Rattle.cps_final.specs.Outcome.{Resolved}
-use Rattle.cps_gather.specs.Finals.{literal}
+use Rattle.cps_naming.specs.Outcome.{Resolved}
+use Rattle.cps_naming.specs.Finals.{literal}
 use Rattle.cps_holding.specs.Agreeing.{same_value}
-use Rattle.cps_replay.proofs.ends.EndsNaming.literal.Goals as goal
+use Rattle.cps_holding.proofs.ends.EndsNaming.literal.Goals as goal
 
 pub returns : goal.returns
 returns c =

@@ -1,10 +1,10 @@
 use Rattle.std.proofs.Common.{rules, ◌≡◌, ◌∙◌, subst, sym, Bool}
 use Rattle.std.specs.Bool.{Decides}
-use Rattle.cps_final.specs.Outcome.{AgreeOnNamed}
+use Rattle.cps_naming.specs.Outcome.{AgreeOnNamed}
 use Rattle.cps_holding.specs.Agreeing.{same_named}
 use Rattle.cps_holding.proofs.AgreeLemmas.{named-alone, named-decides}
-use Rattle.cps_replay.specs.Ends.{was_of, now_of}
-use Rattle.cps_replay.proofs.ends.same_finals.Goals as goal
+use Rattle.cps_holding.specs.Ends.{was_of, now_of}
+use Rattle.cps_holding.proofs.ends.same_finals.Goals as goal
 
 pub returns-clause-decides : goal.returns-clause-decides
 returns-clause-decides c =

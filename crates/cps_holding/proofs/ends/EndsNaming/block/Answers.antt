@@ -1,9 +1,9 @@
 use Rattle.std.proofs.Common.{ap, ◌∙◌}
 use Rattle.std.specs.Option.{option_eq}
-use Rattle.cps_final.specs.Outcome.{Resolved}
-use Rattle.cps_gather.specs.Finals.{block}
+use Rattle.cps_naming.specs.Outcome.{Resolved}
+use Rattle.cps_naming.specs.Finals.{block}
 use Rattle.cps_holding.specs.Agreeing.{same_value}
-use Rattle.cps_replay.proofs.ends.EndsNaming.block.Goals as goal
+use Rattle.cps_holding.proofs.ends.EndsNaming.block.Goals as goal
 
 pub returns : goal.returns
 returns c =

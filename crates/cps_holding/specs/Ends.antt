@@ -1,8 +1,8 @@
 -- The final values before an edit and after it. Our own.
-use Rattle.cps_final.specs.Outcome.{Resolved}
-use Rattle.cps_final.specs.Resolving.{resolved}
+use Rattle.cps_naming.specs.Outcome.{Resolved}
+use Rattle.cps_naming.specs.Resolving.{resolved}
 use Rattle.cps_gather.specs.Before.{values_before}
-use Rattle.cps_replay.specs.declared.ends.Ends.{Ends}
+use Rattle.cps_holding.specs.declared.ends.Ends.{Ends}
 
 abbrev pub was_of : Ends → Resolved
 was_of ends = values_before (record { finals = ends.finals; mend = ends.mend })
