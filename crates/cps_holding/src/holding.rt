@@ -19,7 +19,7 @@ pub fn still_holds<L: Lookup>(trace: &Trace, state: &L, work: &mut Work) -> bool
 }
 
 /// Whether each of these keys has the same answer in a state. It is counted nowhere, and takes no memory.
-pub fn asks_hold<L: Lookup>(asks: &[Asked], state: &L) -> bool
+pub(crate) fn asks_hold<L: Lookup>(asks: &[Asked], state: &L) -> bool
     ensures { result ≡ holds asks.now (L.answer state.now) }
 {
     for asked in asks {
@@ -31,7 +31,7 @@ pub fn asks_hold<L: Lookup>(asks: &[Asked], state: &L) -> bool
 }
 
 /// Whether two answers hold the same, however they are shared.
-fn is_same_answer(a: Option<&Answer>, b: Option<&Answer>) -> bool
+pub fn is_same_answer(a: Option<&Answer>, b: Option<&Answer>) -> bool
     ensures { result ≡ option_eq same_answer (option_copied a.entry) (option_copied b.entry) }
 {
     match (a, b) {

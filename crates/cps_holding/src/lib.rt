@@ -12,7 +12,7 @@ mod holding;
 mod outside;
 mod run;
 
-pub use cps_naming::{Names, Naming, all_pass};
+pub use cps_naming::Names;
 pub use ends::{Ends, same_finals};
-pub use holding::{asks_hold, still_holds};
+pub use holding::{is_same_answer, still_holds};
 pub use run::Run;

@@ -9,8 +9,8 @@ ghost use Rattle.cps_replay.specs.Compared.{compared, with_all_kept, with_differ
 ghost use Rattle.cps_replay.specs.Noted.{AreHeld, last_puts, noted};
 
 use crate::now::{Known, Now};
-use crate::standing::is_same_answer;
 use cps_changes::Changes;
+use cps_holding::is_same_answer;
 use cps_state::{Answer, Hashing, Key, Lookup, Put, Trace};
 use std::alloc::{AllocError, Global};
 

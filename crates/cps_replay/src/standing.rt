@@ -1,14 +1,13 @@
 //! Whether what lines asked still stands, where some keys are changed.
 ghost use Rattle.std.specs.Prelude.{◌≡◌};
-ghost use Rattle.std.specs.Option.{option_copied, option_eq};
 ghost use Rattle.cps_state.specs.Work.{raised};
 ghost use Rattle.cps_state.specs.declared.work.Tally.TheVariants.{Looked};
 ghost use Rattle.cps_changes.specs.Kept.{changes_in};
-ghost use Rattle.cps_holding.specs.Holds.{same_answer};
 ghost use Rattle.cps_replay.specs.Noted.{stands};
 
 use cps_changes::Changes;
-use cps_state::{Answer, Asked, Tally, Trace, Work};
+use cps_holding::is_same_answer;
+use cps_state::{Asked, Tally, Trace, Work};
 
 /// Whether each answer that a line had stands, so that the line does the same. It is one comparison, and takes no memory.
 pub fn still_stands(trace: &Trace, changes: &Changes, work: &mut Work) -> bool
@@ -31,15 +30,4 @@ pub fn asks_stand(asks: &[Asked], changes: &Changes) -> bool
         }
     }
     true
-}
-
-/// Whether two answers hold the same, however they are shared.
-pub(crate) fn is_same_answer(a: Option<&Answer>, b: Option<&Answer>) -> bool
-    ensures { result ≡ option_eq same_answer (option_copied a.entry) (option_copied b.entry) }
-{
-    match (a, b) {
-        (Some(a), Some(b)) => *a == *b,
-        (None, None) => true,
-        _ => false,
-    }
 }
