@@ -1,5 +1,5 @@
 -- Pass one of a move: two runs of lines, the second in front of the first, and the lines behind both.
-use Rattle.std.proofs.Common.{arith, length-append, ◌≡◌, refl, sym, ap, subst, ◌∙◌, ℕ, ◌+◌, ◌<◌, ◌≤◌, List, [], ◌++◌, append_assoc, append-nil, length, take, drop}
+use Rattle.std.proofs.Common.{arith, length-append, ◌≡◌, refl, sym, ap, subst, ◌∙◌, ℕ, ◌+◌, ◌<◌, ◌≤◌, List, [], ◌++◌, append_assoc, length, take, drop}
 use Rattle.std.specs.Prelude.{sum}
 use Rattle.std.proofs.lemmas.List.{take_all}
 use Rattle.cps_state.specs.declared.key.Put.{Put}
@@ -19,11 +19,10 @@ use Rattle.cps_replay.specs.declared.sparse.At.{At}
 use Rattle.cps_replay.specs.declared.walk.Baseline.{Baseline}
 use Rattle.cps_replay.specs.declared.walk.Position.{Position}
 use Rattle.cps_replay.specs.declared.walk.Position.TheVariants.{Same, Behind}
-use Rattle.cps_replay.specs.declared.walk.Span.{Span}
 use Rattle.cps_replay.specs.declared.walk.Walk.{Walk}
-use Rattle.cps_replay.specs.Along.{GoesAlong, fronts_along, front_at, looks_along, looks_in_span, replayed_along, span}
+use Rattle.cps_replay.specs.Along.{GoesAlong, front_at, looks_along, looks_in_span, replayed_along, span}
 use Rattle.cps_replay.specs.Compared.{with_puts}
-use Rattle.cps_replay.specs.Moved.{replayed_moved, state_before, state_between, state_past}
+use Rattle.cps_replay.specs.Moved.{behind_replayed, first_replayed, replayed_moved, second_replayed, state_before, state_between, state_past}
 use Rattle.cps_replay.specs.Noted.{last_puts, noted}
 use Rattle.cps_replay.specs.Replayed.{replayed}
 use Rattle.cps_replay.specs.Walk.{HasMadeNothing, IsStillWalk, IsWalk, now_at, puts_in, state_at, stood_at, stretch}
@@ -37,7 +36,7 @@ use Rattle.cps_replay.proofs.WalkLemmas.{as-long, stretch-all}
 use Rattle.cps_touched.specs.MoveLooks.{first_looks_moved, looks_moved, stands_moved}
 use Rattle.cps_touched.proofs.SpanLemmas.{spans-moved}
 use Rattle.cps_editing.specs.FirstPass.{BeginsWalk}
-use Rattle.cps_editing.specs.MovedPass.{IsCrossed, IsMovedWalk, behind_replayed, first_replayed, looks_of_runs, looks_of_span, order_of, second_replayed}
+use Rattle.cps_editing.specs.MovedPass.{IsCrossed, IsMovedWalk, looks_of_runs, looks_of_span, order_of}
 use Rattle.cps_editing.proofs.FirstPassLemmas.{left-there}
 
 -- ---- one stretch of lines, gone along

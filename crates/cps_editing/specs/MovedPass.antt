@@ -1,35 +1,26 @@
 -- For the code that makes pass one of a move, not part of what a reader believes: two runs of lines are gone over, the second in front of the first.
-use Rattle.std.specs.Prelude.{◌≡◌, ℕ, ◌+◌, List, ◌++◌, length, drop}
-use Rattle.cps_state.specs.Course.{Trace}
+use Rattle.std.specs.Prelude.{◌≡◌, ℕ, ◌+◌, List, ◌++◌, length}
 use Rattle.cps_state.specs.Keys.{first_state}
 use Rattle.cps_changes.specs.Changes.{no_change}
 use Rattle.cps_changes.specs.Kept.{changes_in}
 use Rattle.cps_exchange.specs.declared.exchange.Exchange.{Exchange}
 use Rattle.cps_exchange.specs.Exchange.{exchange_at, exchanged}
-use Rattle.cps_edit.specs.Passes.{state_after, traces_of}
+use Rattle.cps_edit.specs.Passes.{state_after}
 use Rattle.cps_chunk.specs.Chunk.{lengths_of}
 use Rattle.cps_replay.specs.Along.{looks_along, span}
-use Rattle.cps_replay.specs.Moved.{state_before, state_between, state_past}
-use Rattle.cps_replay.specs.Replayed.{replayed}
-use Rattle.cps_replay.specs.Walk.{now_at, stretch}
-use Rattle.cps_replay.specs.declared.sparse.At.{At}
+use Rattle.cps_replay.specs.Moved.{state_past, first_replayed, second_replayed, behind_replayed}
+use Rattle.cps_replay.specs.Walk.{now_at}
 use Rattle.cps_replay.specs.declared.walk.Span.{Span}
 use Rattle.cps_replay.specs.declared.walk.Walk.{Walk}
 use Rattle.cps_touched.specs.MoveLooks.{stands_moved}
 
--- what the lines of the first run, of the second, and behind both do now that are disturbed
-abbrev pub first_replayed : List (List ℕ) → Exchange → List (At Trace)
-first_replayed lines e = replayed (state_between lines e) e.keep (stretch e.keep e.mid lines) (stretch e.keep e.mid (traces_of lines))
-
-abbrev pub second_replayed : List (List ℕ) → Exchange → List (At Trace)
-second_replayed lines e = replayed (state_before lines e) e.mid (stretch e.mid e.from lines) (stretch e.mid e.from (traces_of lines))
-
-abbrev pub behind_replayed : List (List ℕ) → Exchange → List (At Trace)
-behind_replayed lines e = replayed (state_past lines e) e.from (drop e.from lines) (drop e.from (traces_of lines))
+-- how many lines of both runs are disturbed in pass one
+abbrev pub ones_of_runs : List (List ℕ) → Exchange → ℕ
+ones_of_runs lines e = length (second_replayed lines e) + length (first_replayed lines e)
 
 -- which of them change places, so that they stand in the old order
 abbrev pub order_of : List (List ℕ) → Exchange → Exchange
-order_of lines e = exchange_at 0 (length (second_replayed lines e)) (length (second_replayed lines e) + length (first_replayed lines e))
+order_of lines e = exchange_at 0 (length (second_replayed lines e)) (ones_of_runs lines e)
 
 -- both runs were gone over
 pub record IsCrossed (old new : Walk) (e : Exchange) : Type 0 where

@@ -5,7 +5,7 @@ ghost use Rattle.cps_edit.specs.Compares.{ComparesUpTo, Steps};
 ghost use Rattle.cps_replay.specs.Walk.{IsStillWalk, IsWalk};
 ghost use Rattle.cps_editing.specs.Exchanged.{HasPassedMoved, HasRuns};
 ghost use Rattle.cps_editing.specs.FirstPass.{BeginsWalk};
-ghost use Rattle.cps_editing.specs.MovedPass.{IsCrossed, IsMovedWalk, first_replayed, looks_of_runs, order_of, second_replayed};
+ghost use Rattle.cps_editing.specs.MovedPass.{IsCrossed, IsMovedWalk, looks_of_runs, ones_of_runs, order_of};
 
 use cps_exchange::Exchange;
 use cps_pass::Work;
@@ -44,7 +44,7 @@ fn cross(walk: &mut Walk, exchange: Exchange, work: &mut Work) -> Result<Exchang
     ensures order { IfOk result (λ order. order ≡ order_of walk.old.base.lines.now exchange) }
     ensures crossed { OnOk result (IsCrossed walk.old walk.new exchange) }
     ensures walk { IsStillWalk walk.old walk.new }
-    ensures steps { Steps result work.old work.new (length (second_replayed walk.old.base.lines.now exchange) + length (first_replayed walk.old.base.lines.now exchange)) 0 }
+    ensures steps { Steps result work.old work.new (ones_of_runs walk.old.base.lines.now exchange) 0 }
     ensures looked { ComparesUpTo work.old work.new (looks_of_runs walk.old exchange) }
 {
     if exchange.mid - exchange.keep <= exchange.from - exchange.mid {
@@ -61,7 +61,7 @@ fn carry_first(walk: &mut Walk, exchange: Exchange, work: &mut Work) -> Result<E
     ensures order { IfOk result (λ order. order ≡ order_of walk.old.base.lines.now exchange) }
     ensures crossed { OnOk result (IsCrossed walk.old walk.new exchange) }
     ensures walk { IsStillWalk walk.old walk.new }
-    ensures steps { Steps result work.old work.new (length (second_replayed walk.old.base.lines.now exchange) + length (first_replayed walk.old.base.lines.now exchange)) 0 }
+    ensures steps { Steps result work.old work.new (ones_of_runs walk.old.base.lines.now exchange) 0 }
     ensures looked { ComparesUpTo work.old work.new (looks_of_runs walk.old exchange) }
 {
     let Exchange { keep, mid, from } = exchange;
@@ -97,7 +97,7 @@ fn carry_second(
     ensures order { IfOk result (λ order. order ≡ order_of walk.old.base.lines.now exchange) }
     ensures crossed { OnOk result (IsCrossed walk.old walk.new exchange) }
     ensures walk { IsStillWalk walk.old walk.new }
-    ensures steps { Steps result work.old work.new (length (second_replayed walk.old.base.lines.now exchange) + length (first_replayed walk.old.base.lines.now exchange)) 0 }
+    ensures steps { Steps result work.old work.new (ones_of_runs walk.old.base.lines.now exchange) 0 }
     ensures looked { ComparesUpTo work.old work.new (looks_of_runs walk.old exchange) }
 {
     let Exchange { keep, mid, from } = exchange;

@@ -1,12 +1,12 @@
 -- Lines that are gone along, in two parts; one line of them, and all lines of a chunk.
-use Rattle.std.proofs.Common.{◌≡◌, refl, sym, ap, subst, ◌∙◌, ℕ, zero, suc, ◌+◌, ◌-◌, ◌<◌, ◌≤◌, Bool, true, false, List, [], ◌∷◌, ◌++◌, append_assoc, append-nil, length, get_or, take, drop, arith}
+use Rattle.std.proofs.Common.{◌≡◌, refl, sym, ap, subst, ◌∙◌, ℕ, zero, suc, ◌+◌, ◌<◌, ◌≤◌, true, List, [], ◌∷◌, ◌++◌, append_assoc, append-nil, length, get_or, take, drop, arith}
 use Rattle.std.specs.Prelude.{Some as Just, sum, if◌then◌else◌}
 use Rattle.std.proofs.lemmas.List.{drop-take, length-map}
 use Rattle.std.proofs.lemmas.List.Concat.{flat_map-append}
 use Rattle.cps_state.specs.declared.key.Put.{Put}
 use Rattle.cps_state.specs.Course.{Trace}
-use Rattle.cps_state.specs.Keys.{State, first_state, overwritten}
-use Rattle.cps_changes.specs.Changes.{Changed, changed, no_change}
+use Rattle.cps_state.specs.Keys.{State, overwritten}
+use Rattle.cps_changes.specs.Changes.{Changed, changed}
 use Rattle.cps_changes.specs.Kept.{changes_in}
 use Rattle.cps_final.specs.Layout.{puts_of}
 use Rattle.cps_pass.specs.Expansion.{trace_of}
@@ -14,10 +14,9 @@ use Rattle.cps_holding.specs.Holds.{holds}
 use Rattle.cps_holding.specs.Run.{run_of}
 use Rattle.cps_chunk.specs.Chunk.{lengths_of}
 use Rattle.cps_chunk.specs.declared.chunk.Chunk.{Chunk}
-use Rattle.cps_edit.specs.Passes.{after, state_after, traces_from, traces_of}
+use Rattle.cps_edit.specs.Passes.{state_after, traces_from}
 use Rattle.cps_edit.specs.Disturbed.{kept, disturbed_from, is_disturbed}
-use Rattle.cps_edit.proofs.SpliceLemmas.{traces_from-append, state_after-append, puts-state}
-use Rattle.cps_replay.specs.declared.sparse.At.{At}
+use Rattle.cps_edit.proofs.SpliceLemmas.{traces_from-append, puts-state}
 use Rattle.cps_replay.specs.declared.change_log.ChangeLog.{ChangeLog}
 use Rattle.cps_replay.specs.declared.walk.Baseline.{Baseline}
 use Rattle.cps_replay.specs.declared.walk.Position.{Position}

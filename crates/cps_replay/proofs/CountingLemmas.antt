@@ -1,5 +1,5 @@
 -- Steps and comparisons of several calls, one after another.
-use Rattle.std.proofs.Common.{arith, ◌≡◌, ◌+◌, ◌≤◌, ℕ, ap, subst, sym, ◌∙◌}
+use Rattle.std.proofs.Common.{arith, ◌≡◌, ◌+◌, ◌≤◌, ℕ, ap, subst, ◌∙◌}
 use Rattle.std.specs.Prelude.{Result, Ok, Err, OnOk}
 use Rattle.std.specs.Result.{IsErr}
 use Rattle.cps_state.specs.Work.{Counts, counted_on}

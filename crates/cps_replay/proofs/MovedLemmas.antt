@@ -15,23 +15,13 @@ use Rattle.cps_replay.specs.declared.sparse.At.{At}
 use Rattle.cps_replay.specs.Sparse.{item_at, renewed, AreWithin, AgreeFor}
 use Rattle.cps_replay.specs.Replayed.{replayed, redone}
 use Rattle.cps_replay.specs.Walk.{stretch}
-use Rattle.cps_replay.specs.Moved.{state_before, state_between, state_past, replayed_moved}
+use Rattle.cps_replay.specs.Moved.{state_before, state_between, state_past, first_replayed, second_replayed, behind_replayed, replayed_moved}
 use Rattle.cps_replay.proofs.SparseLemmas.{AreWithin-append, AgreeFor-drop_front, AgreeFor-behind_none}
 use Rattle.cps_replay.proofs.ReplayedLemmas.{replayed-within, renewed-replayed, length-replayed, replayed-still, redone-within, renewed-redone, count-redone, count-redone_among}
 use Rattle.cps_replay.proofs.WalkLemmas.{stretch-long, stretch-did}
 use Rattle.cps_replay.proofs.ExchangedLemmas.{map-exchanged, exchanged-renewed, kept-exchanged, disturbed_from-append, redone_places-append, length-three, turned-three, turned-four, length-redone_parts}
 
 module _ (lines : List (List ℕ)) (e : Exchange) where
-  -- what the lines of the first run do now, those of the second, and those behind both
-  abbrev pub first_news : List (At Trace)
-  first_news = replayed (state_between lines e) e.keep (stretch e.keep e.mid lines) (stretch e.keep e.mid (traces_of lines))
-
-  abbrev pub second_news : List (At Trace)
-  second_news = replayed (state_before lines e) e.mid (stretch e.mid e.from lines) (stretch e.mid e.from (traces_of lines))
-
-  abbrev pub last_news : List (At Trace)
-  last_news = replayed (state_past lines e) e.from (drop e.from lines) (drop e.from (traces_of lines))
-
   pub state-moved : state_after (state_past lines e) (drop e.from lines) ≡ state_after first_state (exchanged e lines)
   state-moved =
       let front = take e.keep lines in
@@ -83,29 +73,29 @@ module _ (lines : List (List ℕ)) (e : Exchange) (within : IsWithin (length lin
   as-many_last = omega (arith, long, length-drop e.from lines, length-drop e.from (traces_of lines))
 
   -- they stand among the lines of their stretch
-  pub first-within : AreWithin e.keep e.mid (first_news lines e)
+  pub first-within : AreWithin e.keep e.mid (first_replayed lines e)
   first-within =
-      let all = first_news lines e in
+      let all = first_replayed lines e in
       let end = part-long e.keep e.mid lines within.first mid-within refl in
       subst (λ (k : ℕ). AreWithin e.keep k all) end (replayed-within (state_between lines e) e.keep (stretch e.keep e.mid lines) (stretch e.keep e.mid (traces_of lines)))
 
-  pub second-within : AreWithin e.mid e.from (second_news lines e)
+  pub second-within : AreWithin e.mid e.from (second_replayed lines e)
   second-within =
-      let all = second_news lines e in
+      let all = second_replayed lines e in
       let end = part-long e.mid e.from lines within.second within.all refl in
       subst (λ (k : ℕ). AreWithin e.mid k all) end (replayed-within (state_before lines e) e.mid (stretch e.mid e.from lines) (stretch e.mid e.from (traces_of lines)))
 
-  pub last-within : AreWithin e.from (length lines) (last_news lines e)
+  pub last-within : AreWithin e.from (length lines) (behind_replayed lines e)
   last-within =
-      let all = last_news lines e in
+      let all = behind_replayed lines e in
       let end : e.from + length (drop e.from lines) ≡ length lines = omega (arith, within.all, length-drop e.from lines) in
       subst (λ (k : ℕ). AreWithin e.from k all) end (replayed-within (state_past lines e) e.from (drop e.from lines) (drop e.from (traces_of lines)))
 
-  pub both-within : AreWithin e.mid (length lines) (second_news lines e ++ last_news lines e)
-  both-within = AreWithin-append e.mid e.from (length lines) (second_news lines e) (last_news lines e) second-within last-within
+  pub both-within : AreWithin e.mid (length lines) (second_replayed lines e ++ behind_replayed lines e)
+  both-within = AreWithin-append e.mid e.from (length lines) (second_replayed lines e) (behind_replayed lines e) second-within last-within
 
   pub replayed_moved-within : AreWithin e.keep (length lines) (replayed_moved lines e)
-  replayed_moved-within = AreWithin-append e.keep e.mid (length lines) (first_news lines e) (second_news lines e ++ last_news lines e) first-within both-within
+  replayed_moved-within = AreWithin-append e.keep e.mid (length lines) (first_replayed lines e) (second_replayed lines e ++ behind_replayed lines e) first-within both-within
 
   -- put at their places first
   pub traces-moved : exchanged e (renewed 0 (replayed_moved lines e) (traces_of lines)) ≡ traces_of (exchanged e lines)
@@ -115,7 +105,7 @@ module _ (lines : List (List ℕ)) (e : Exchange) (within : IsWithin (length lin
       let second = renewed-replayed (state_before lines e) e.mid (stretch e.mid e.from lines) (stretch e.mid e.from ts) (meant-part e.mid e.from within.second) in
       let first = renewed-replayed (state_between lines e) e.keep (stretch e.keep e.mid lines) (stretch e.keep e.mid ts) (meant-part e.keep e.mid within.first) in
       let last = renewed-replayed (state_past lines e) e.from (drop e.from lines) (drop e.from ts) (AllWereMeant-drop e.from first_state lines) in
-      exchanged-renewed e ts (length lines) long within (first_news lines e) (second_news lines e) (last_news lines e) first-within second-within last-within
+      exchanged-renewed e ts (length lines) long within (first_replayed lines e) (second_replayed lines e) (behind_replayed lines e) first-within second-within last-within
       ∙ (λ i. front i ++ (second i ++ (first i ++ last i)))
       ∙ sym (traces-parts lines e)
 
@@ -134,9 +124,9 @@ module _ (lines : List (List ℕ)) (e : Exchange) (within : IsWithin (length lin
       ∙ disturbed_from-append first_state (take e.keep lines) (take e.keep ts) (second ++ (first ++ last)) as-many_front
       ∙ (λ i. still i + disturbed_from-append (state_before lines e) (stretch e.mid e.from lines) (stretch e.mid e.from ts) (first ++ last) (as-many e.mid e.from within.second) i)
       ∙ (λ i. 0 + (sym twos i + disturbed_from-append (state_between lines e) (stretch e.keep e.mid lines) (stretch e.keep e.mid ts) last (as-many e.keep e.mid within.first) i))
-      ∙ (λ i. 0 + (length (second_news lines e) + (sym ones i + sym lasts i)))
-      ∙ turned-three (length (first_news lines e)) (length (second_news lines e)) (length (last_news lines e))
-      ∙ sym (length-three (first_news lines e) (second_news lines e) (last_news lines e))
+      ∙ (λ i. 0 + (length (second_replayed lines e) + (sym ones i + sym lasts i)))
+      ∙ turned-three (length (first_replayed lines e)) (length (second_replayed lines e)) (length (behind_replayed lines e))
+      ∙ sym (length-three (first_replayed lines e) (second_replayed lines e) (behind_replayed lines e))
 
   -- ---- pass two
 
@@ -160,22 +150,22 @@ module _ (lines : List (List ℕ)) (e : Exchange) (within : IsWithin (length lin
         ≡ redone_places was now (state_between lines e) (kept (stretch e.keep e.mid lines) (stretch e.keep e.mid (traces_of lines)))
     count-first =
         let end = part-long e.keep e.mid (traces_of lines) within.first mid-within long in
-        count-redone_among was now 0 0 e.mid (length lines) e.keep (state_between lines e) [] (second_news lines e ++ last_news lines e) (stretch e.keep e.mid lines)
+        count-redone_among was now 0 0 e.mid (length lines) e.keep (state_between lines e) [] (second_replayed lines e ++ behind_replayed lines e) (stretch e.keep e.mid lines)
         (stretch e.keep e.mid (traces_of lines)) (as-many e.keep e.mid within.first) (omega arith) (omega arith) both-within (omega (arith, end))
 
     count-second : made e.mid (stretch e.mid e.from (traces_of lines))
         ≡ redone_places was now (state_before lines e) (kept (stretch e.mid e.from lines) (stretch e.mid e.from (traces_of lines)))
     count-second =
         let end = part-long e.mid e.from (traces_of lines) within.second within.all long in
-        count-redone_among was now e.keep e.mid e.from (length lines) e.mid (state_before lines e) (first_news lines e) (last_news lines e) (stretch e.mid e.from lines)
+        count-redone_among was now e.keep e.mid e.from (length lines) e.mid (state_before lines e) (first_replayed lines e) (behind_replayed lines e) (stretch e.mid e.from lines)
         (stretch e.mid e.from (traces_of lines)) (as-many e.mid e.from within.second) first-within (omega arith) last-within (omega (arith, end))
 
     count-last : made e.from (drop e.from (traces_of lines)) ≡ redone_places was now (state_past lines e) (kept (drop e.from lines) (drop e.from (traces_of lines)))
     count-last =
         let n : ℕ = length (drop e.from (traces_of lines)) in
-        let agree : AgreeFor e.from n (replayed_moved lines e) (last_news lines e) = λ k low high.
-        AgreeFor-drop_front e.keep e.mid e.from n (first_news lines e) (second_news lines e ++ last_news lines e) first-within within.second k low high
-        ∙ AgreeFor-drop_front e.mid e.from e.from n (second_news lines e) (last_news lines e) second-within (omega arith) k low high in
+        let agree : AgreeFor e.from n (replayed_moved lines e) (behind_replayed lines e) = λ k low high.
+        AgreeFor-drop_front e.keep e.mid e.from n (first_replayed lines e) (second_replayed lines e ++ behind_replayed lines e) first-within within.second k low high
+        ∙ AgreeFor-drop_front e.mid e.from e.from n (second_replayed lines e) (behind_replayed lines e) second-within (omega arith) k low high in
         count-redone was now (state_past lines e) e.from (replayed_moved lines e) (drop e.from lines) (drop e.from (traces_of lines)) as-many_last agree
 
     count-moved : redone_places was now first_state (exchanged e (all_kept lines)) ≡ made 0 (traces_of lines)

@@ -30,9 +30,15 @@ fronts_moved lines e =
     ++ (fronts (state_between lines e) (stretch e.keep e.mid lines)
     ++ (fronts (state_before lines e) (stretch e.mid e.from lines) ++ fronts (state_past lines e) (drop e.from lines)))
 
--- what the lines do now that are disturbed in pass one: those of the first run, those of the second, and those behind both
+-- what the lines do now that are disturbed in pass one: those of the first run, those of the second, those behind both, and all
+abbrev pub first_replayed : List (List ℕ) → Exchange → List (At Trace)
+first_replayed lines e = replayed (state_between lines e) e.keep (stretch e.keep e.mid lines) (stretch e.keep e.mid (traces_of lines))
+
+abbrev pub second_replayed : List (List ℕ) → Exchange → List (At Trace)
+second_replayed lines e = replayed (state_before lines e) e.mid (stretch e.mid e.from lines) (stretch e.mid e.from (traces_of lines))
+
+abbrev pub behind_replayed : List (List ℕ) → Exchange → List (At Trace)
+behind_replayed lines e = replayed (state_past lines e) e.from (drop e.from lines) (drop e.from (traces_of lines))
+
 abbrev pub replayed_moved : List (List ℕ) → Exchange → List (At Trace)
-replayed_moved lines e =
-    replayed (state_between lines e) e.keep (stretch e.keep e.mid lines) (stretch e.keep e.mid (traces_of lines))
-    ++ (replayed (state_before lines e) e.mid (stretch e.mid e.from lines) (stretch e.mid e.from (traces_of lines))
-    ++ replayed (state_past lines e) e.from (drop e.from lines) (drop e.from (traces_of lines)))
+replayed_moved lines e = first_replayed lines e ++ (second_replayed lines e ++ behind_replayed lines e)

@@ -1,7 +1,8 @@
 -- What an edit makes anew of lines that were there before, each with its place. Our own.
-use Rattle.std.specs.Prelude.{ℕ, zero, suc, Bool, List, [], ◌∷◌, ◌++◌, take, drop, is_some, Some, unwrap_or}
+use Rattle.std.specs.Prelude.{ℕ, zero, suc, Bool, List, [], ◌∷◌, ◌++◌, take, drop, is_some, Some, unwrap_or, if◌then◌else◌}
 use Rattle.cps_state.specs.Keys.{State, first_state}
 use Rattle.cps_state.specs.Course.{Trace}
+use Rattle.cps_state.specs.declared.key.Put.{Put}
 use Rattle.cps_pass.specs.Expansion.{trace_of}
 use Rattle.cps_final.specs.Outcome.{Resolved, Outcome, outcome_of}
 use Rattle.cps_replay.specs.declared.sparse.At.{At}
@@ -15,6 +16,14 @@ abbrev pub replayed : State → ℕ → List (List ℕ) → List Trace → List 
 replayed state i [] traces = []
 replayed state i (line ∷ lines) [] = []
 replayed state i (line ∷ lines) (trace ∷ traces) = one_if (is_disturbed (Some trace) state) i (trace_of line state) ++ replayed (after state line) (suc i) lines traces
+
+-- in how many steps of pass one a line is gone over that did this: in one, where it is disturbed
+abbrev pub steps_at : State → Trace → ℕ
+steps_at state trace = if is_disturbed (Some trace) state then 1 else 0
+
+-- what a line puts
+abbrev pub puts_at : State → List ℕ → List Put
+puts_at state line = (trace_of line state).puts
 
 -- what pass two makes now of the lines that are disturbed in it: lines from a place on, which did that, and of which some do this now
 abbrev pub redone : Resolved → Resolved → ℕ → List (At Trace) → List Trace → List (At Outcome)

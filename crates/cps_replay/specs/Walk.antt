@@ -6,7 +6,7 @@ use Rattle.cps_state.specs.declared.key.Asked.{Asked as Ask}
 use Rattle.cps_state.specs.declared.key.Put.{Put}
 use Rattle.cps_final.specs.Layout.{puts_of}
 use Rattle.cps_state.specs.contracts.state.StateLookup.TheImpl.{answer-value}
-use Rattle.cps_changes.specs.Changes.{no_change}
+use Rattle.cps_changes.specs.Changes.{Changed, no_change}
 use Rattle.cps_changes.specs.Kept.{changes_in}
 use Rattle.cps_holding.specs.Holds.{holds}
 use Rattle.cps_holding.specs.Run.{run_of}
@@ -51,6 +51,10 @@ state_at walk at = stood_at walk.base at
 
 abbrev pub now_at : Walk → ℕ → State
 now_at walk at = now_by walk.replay.log (state_at walk at)
+
+-- which keys are changed behind the lines that were gone over
+abbrev pub changed_in : Walk → Changed
+changed_in walk = changes_in walk.replay.log.changes
 
 -- lines from one on up to another were gone over: what they do now is noted, and what is changed behind them
 pub record GoesOver (old new : Walk) (from to : ℕ) : Type 0 where

@@ -1,5 +1,5 @@
 //! Pass one of an edit: new lines, and lines that were there before.
-ghost use Rattle.std.specs.Prelude.{◌≡◌, ◌∷◌, ◌++◌, [], List, OnOk, IfOk, length, if◌then◌else◌, Some as Just};
+ghost use Rattle.std.specs.Prelude.{◌≡◌, ◌∷◌, ◌++◌, [], List, OnOk, IfOk, length};
 ghost use Rattle.cps_state.specs.Keys.{overwritten};
 ghost use Rattle.cps_state.specs.Work.{counted_on, raised};
 ghost use Rattle.cps_state.specs.declared.work.Tally.TheVariants.{Looked};
@@ -10,12 +10,11 @@ ghost use Rattle.cps_final.specs.Layout.{puts_of};
 ghost use Rattle.cps_pass.specs.Expansion.{trace_of};
 ghost use Rattle.cps_holding.specs.Holds.{holds};
 ghost use Rattle.cps_edit.specs.Compares.{Steps};
-ghost use Rattle.cps_edit.specs.Disturbed.{is_disturbed};
 ghost use Rattle.cps_edit.specs.Passes.{after, traces_from};
 ghost use Rattle.cps_edit.specs.Renewed.{WasMeant};
 ghost use Rattle.cps_replay.specs.Noted.{AreHeld, last_puts, noted, stands};
 ghost use Rattle.cps_replay.specs.Replay.{PutsAlso, now_by, now_with};
-ghost use Rattle.cps_replay.specs.Replayed.{replayed};
+ghost use Rattle.cps_replay.specs.Replayed.{puts_at, replayed, steps_at};
 
 use crate::change_log::ChangeLog;
 use crate::now::{Known, Now};
@@ -92,7 +91,7 @@ impl Replay {
         ensures state { OnOk result (now_by self.new.log (after (L.answer past.now) old.entry.line.now)
             ≡ after (now_by self.old.log (L.answer past.now)) old.entry.line.now) }
         ensures present { OnOk result (changes_in self.new.log.present ≡ no_change) }
-        ensures steps { Steps result work.old work.new (if is_disturbed (Just old.entry.trace.now) (now_by self.old.log (L.answer past.now)) then 1 else 0) 0 }
+        ensures steps { Steps result work.old work.new (steps_at (now_by self.old.log (L.answer past.now)) old.entry.trace.now) 0 }
         ensures looked { work.new.looked ≡ counted_on work.old.looked 1 }
     {
         if still_stands(old.trace, self.log.changes(), work) {
@@ -180,8 +179,8 @@ impl Replay {
         requires meant { WasMeant old.line.now old.trace.now }
         ensures news { OnOk result (self.new.news.items ≡ self.old.news.items
             ++ replayed (now_with self.old.log (L.answer past.now)) old.entry.at (old.entry.line.now ∷ []) (old.entry.trace.now ∷ [])) }
-        ensures puts { OnOk result (PutsAlso self.old.log self.new.log (trace_of old.entry.line.now (now_with self.old.log (L.answer past.now))).puts) }
-        ensures steps { Steps result work.old work.new (if is_disturbed (Just old.entry.trace.now) (now_with self.old.log (L.answer past.now)) then 1 else 0) 0 }
+        ensures puts { OnOk result (PutsAlso self.old.log self.new.log (puts_at (now_with self.old.log (L.answer past.now)) old.entry.line.now)) }
+        ensures steps { Steps result work.old work.new (steps_at (now_with self.old.log (L.answer past.now)) old.entry.trace.now) 0 }
         ensures looked { work.new.looked ≡ counted_on work.old.looked 1 }
     {
         if self.still_holds(old.trace, past, work) {

@@ -17,7 +17,7 @@ ghost use Rattle.cps_chunk.specs.Marks.{has, mark_of};
 ghost use Rattle.cps_replay.specs.Noted.{last_puts, noted, stands};
 ghost use Rattle.cps_replay.specs.Replay.{now_with};
 ghost use Rattle.cps_replay.specs.Replayed.{replayed};
-ghost use Rattle.cps_replay.specs.Walk.{IsBaseline, IsWalk, IsStillWalk, GoesOver, HasMadeNothing, StandsAt, asks_in, cursor, looks_at, looks_in, now_at, puts_in, replayed_in, state_at, stood_at, stretch};
+ghost use Rattle.cps_replay.specs.Walk.{IsBaseline, IsWalk, IsStillWalk, GoesOver, HasMadeNothing, StandsAt, asks_in, changed_in, cursor, looks_at, looks_in, now_at, puts_in, replayed_in, state_at, stood_at, stretch};
 ghost use Rattle.cps_replay.specs.Along.{GoesAlong, IsChunkAt, IsGatheredAt, IsInside, IsSpan, MayGo, front_at, looks_in_span, looks_of, looks_whole, reached, replayed_along, span};
 ghost use Rattle.cps_replay.specs.declared.walk.Position.TheVariants.{Behind};
 
@@ -172,7 +172,7 @@ impl<'a> Walk<'a> {
         requires ordered { keep ≤ from }
         requires within { from ≤ length self.old.base.lines.now }
         ensures changes { OnOk result ((news : List APut) → changes_in self.old.replay.log.present ≡ last_puts news
-            → changes_in self.new.replay.log.changes ≡ noted (changes_in self.old.replay.log.changes) (state_at self.old keep) (puts_in self.old keep from) news) }
+            → changed_in self.new ≡ noted (changed_in self.old) (state_at self.old keep) (puts_in self.old keep from) news) }
         ensures present { OnOk result (changes_in self.new.replay.log.present ≡ no_change) }
         ensures rest { HasMadeNothing self.old self.new }
     {
@@ -296,7 +296,7 @@ impl<'a> Walk<'a> {
         requires cursor { StandsAt self.old.chunks.items cursor }
         requires within { cursor.chunk < length self.old.chunks.items }
         requires end { end ≡ sum (take (cursor.chunk + 1) (lengths_of self.old.chunks.items)) }
-        ensures same { IfOk result (λ same. same ≡ stands (changes_in self.old.replay.log.changes) (asks_in self.old cursor.line end)) }
+        ensures same { IfOk result (λ same. same ≡ stands (changed_in self.old) (asks_in self.old cursor.line end)) }
         ensures walk { IsWalk self.new }
         ensures lengths { lengths_of self.new.chunks.items ≡ lengths_of self.old.chunks.items }
         ensures rest { (self.new.base ≡ self.old.base) × (self.new.replay ≡ self.old.replay) }
@@ -319,7 +319,7 @@ impl<'a> Walk<'a> {
         requires cursor { StandsAt self.old.chunks.items cursor }
         requires within { cursor.chunk < length self.old.chunks.items }
         requires end { end ≡ sum (take (cursor.chunk + 1) (lengths_of self.old.chunks.items)) }
-        ensures changes { changes_in self.new.replay.log.changes ≡ settled (changes_in self.old.replay.log.changes) (puts_in self.old cursor.line end) }
+        ensures changes { changed_in self.new ≡ settled (changed_in self.old) (puts_in self.old cursor.line end) }
         ensures present { self.new.replay.log.present ≡ self.old.replay.log.present }
         ensures news { self.new.replay.news ≡ self.old.replay.news }
         ensures rest { (self.new.base ≡ self.old.base) × (self.new.chunks ≡ self.old.chunks) }

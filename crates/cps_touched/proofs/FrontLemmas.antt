@@ -5,8 +5,8 @@ use Rattle.cps_state.specs.Course.{Trace}
 use Rattle.cps_state.specs.Keys.{State, first_state}
 use Rattle.cps_replay.specs.Expansion.{trace_of}
 use Rattle.cps_exchange.specs.declared.exchange.Exchange.{Exchange}
-use Rattle.cps_exchange.specs.Exchange.{IsWithin, exchanged}
-use Rattle.cps_exchange.proofs.ListLemmas.{parts, whole, between-long}
+use Rattle.cps_exchange.specs.Exchange.{IsWithin}
+use Rattle.cps_exchange.proofs.ListLemmas.{whole, between-long}
 use Rattle.cps_replay.specs.Passes.{after, state_after, traces_of}
 use Rattle.cps_replay.specs.Disturbed.{is_disturbed}
 use Rattle.cps_replay.specs.declared.sparse.At.{At}
@@ -17,14 +17,11 @@ use Rattle.cps_replay.specs.Moved.{fronts, state_before, state_between, state_pa
 use Rattle.cps_replay.proofs.SparseLemmas.{AreWithin-one, AreWithin-wider}
 use Rattle.cps_replay.proofs.SpliceLemmas.{length-traces_from, take-traces_from}
 use Rattle.cps_replay.proofs.ReplayedLemmas.{replayed-still}
+use Rattle.cps_replay.proofs.FrontsLemmas.{length-fronts}
 use Rattle.cps_touched.specs.Looks.{items_before, items_from}
 use Rattle.cps_touched.proofs.ItemLemmas.{before-first, from-second}
 
 -- ---- in front of lines that follow one another
-
-pub length-fronts : (f : State) (ls : List (List ℕ)) → length (fronts f ls) ≡ length ls
-length-fronts f [] = refl
-length-fronts f (l ∷ ls) = ap suc (length-fronts (after f l) ls)
 
 pub take-fronts : (n : ℕ) (f : State) (ls : List (List ℕ)) → take n (fronts f ls) ≡ fronts f (take n ls)
 take-fronts zero f ls = refl
@@ -35,10 +32,6 @@ pub drop-fronts : (n : ℕ) (f : State) (ls : List (List ℕ)) → drop n (front
 drop-fronts zero f ls = refl
 drop-fronts (suc n) f [] = refl
 drop-fronts (suc n) f (l ∷ ls) = drop-fronts n (after f l) ls
-
-fronts-append : (f : State) (xs ys : List (List ℕ)) → fronts f (xs ++ ys) ≡ fronts f xs ++ fronts (state_after f xs) ys
-fronts-append f [] ys = refl
-fronts-append f (x ∷ xs) ys = ap (λ (ss : List State). f ∷ ss) (fronts-append (after f x) xs ys)
 
 pub first-front : (f : State) (ls : List (List ℕ)) → 1 ≤ length ls → get_or (fronts f ls) 0 first_state ≡ f
 first-front f [] some = absurd (omega (arith, some))
@@ -152,28 +145,6 @@ module _ (lines : List (List ℕ)) (e : Exchange) (within : IsWithin (length lin
 
   long-back : length back ≡ length lines - e.from
   long-back = length-drop e.from lines
-
-  -- in the new order, in front of each line there stands what is behind the line before
-  pub exchanged-fronts : exchanged e (fronts_moved lines e) ≡ fronts first_state (exchanged e lines)
-  exchanged-fronts =
-      parts before at_one at_two at_back e.keep e.mid e.from (omega (arith, length-fronts first_state front, long-front))
-      (omega (arith, length-fronts first_state front, long-front, length-fronts (state_between lines e) one, long-one, within.first))
-      (omega (
-        arith,
-        length-fronts first_state front,
-        long-front,
-        length-fronts (state_between lines e) one,
-        long-one,
-        length-fronts (state_before lines e) two,
-        long-two,
-        within.first,
-        within.second,
-      ))
-      ∙ sym (
-      fronts-append first_state front (two ++ (one ++ back))
-      ∙ ap (λ (ss : List State). before ++ ss) (fronts-append (state_before lines e) two (one ++ back)
-      ∙ ap (λ (ss : List State). at_two ++ ss) (fronts-append (state_between lines e) one back))
-      )
 
   pub length-fronts_moved : length (fronts_moved lines e) ≡ length lines
   length-fronts_moved =

@@ -28,6 +28,7 @@ use Rattle.cps_replay.specs.Passes.{state_after, traces_from, traces_of}
 use Rattle.cps_replay.specs.declared.sparse.At.{At}
 use Rattle.cps_replay.specs.Redo.{is_passed}
 use Rattle.cps_replay.specs.Moved.{fronts, fronts_moved, replayed_moved}
+use Rattle.cps_replay.proofs.FrontsLemmas.{fronts-moved}
 use Rattle.cps_replay.proofs.SpliceLemmas.{length-traces_from, take-traces_from, drop-traces_from}
 use Rattle.cps_replay.proofs.ReplayedLemmas.{replayed-none}
 use Rattle.cps_replay.proofs.RunLemmas.{run-law}
@@ -37,7 +38,7 @@ use Rattle.cps_touched.specs.Touched.{cut, is_touched, touched_from, did_as_chun
 use Rattle.cps_touched.proofs.CutLemmas.{sum-cons, sum-parts, AreShort, chunks-short}
 use Rattle.cps_touched.proofs.SeamLemmas.{AreSeamless, seamless-take, seamless-drop, seamless-uncut, exchanged-seamless}
 use Rattle.cps_touched.proofs.WeightLemmas.{weights, length-weights, small-weights, small-picked, sum-weights, sum-exchanged, are-of-chunk}
-use Rattle.cps_touched.proofs.FrontLemmas.{take-fronts, drop-fronts, first-front, anew, anew-fronts, anew-before, anew-from, exchanged-fronts, length-fronts_moved, anew-moved}
+use Rattle.cps_touched.proofs.FrontLemmas.{take-fronts, drop-fronts, first-front, anew, anew-fronts, anew-before, anew-from, length-fronts_moved, anew-moved}
 
 -- ---- how often the lines of a chunk are compared
 
@@ -253,7 +254,7 @@ module _ (was now : Resolved) (lines : List (List ℕ)) (e : Exchange) (within :
           (exchanged-picks did nothing).0 e (subst (λ (n : ℕ). IsWithin n e) (sym as_many) within)
           ∙ ap (λ n. picked did nothing (exchanged_numbers n e)) as_many;
       stands =
-          sym (exchanged-fronts lines e within) ∙ (exchanged-picks stand first_state).0 e (subst (λ (n : ℕ). IsWithin n e) (sym states) within)
+          sym (fronts-moved lines e within) ∙ (exchanged-picks stand first_state).0 e (subst (λ (n : ℕ). IsWithin n e) (sym states) within)
           ∙ ap (λ n. picked stand first_state (exchanged_numbers n e)) states;
       weigh =
           (exchanged-picks all_weights 0).0 e (subst (λ (n : ℕ). IsWithin n e) (sym weights-long) within)

@@ -1,13 +1,12 @@
 -- How many lines are compared of spans, and that the three spans of a move together compare no more than its chunks.
-use Rattle.std.proofs.Common.{◌≡◌, refl, sym, ap, ◌∙◌, ℕ, ◌+◌, ◌-◌, ◌<◌, ◌≤◌, ◌⊎◌, inl, inr, ⊎_elim, Bool, true, false, List, [], ◌∷◌, take, drop, arith}
-use Rattle.std.specs.Prelude.{sum, nat_eq, nat_lt, not, ◌&&◌, ◌||◌, if◌then◌else◌}
-use Rattle.std.proofs.lemmas.Bool.{cond-true, cases_lt, and_parts, and_from, and_cases, or_parts, not-true, eqb-true, eq-eqb, ltb-false}
+use Rattle.std.proofs.Common.{◌≡◌, refl, ℕ, ◌+◌, ◌-◌, ◌≤◌, ◌⊎◌, inl, inr, ⊎_elim, Bool, true, false, List, [], ◌∷◌, take, drop, arith}
+use Rattle.std.specs.Prelude.{sum, nat_lt, not, ◌&&◌, ◌||◌, if◌then◌else◌}
+use Rattle.std.proofs.lemmas.Bool.{and_parts, and_cases, or_parts, not-true, ltb-false}
 use Rattle.cps_state.specs.Course.{Trace}
 use Rattle.cps_state.specs.Keys.{State}
 use Rattle.cps_exchange.specs.declared.exchange.Exchange.{Exchange}
 use Rattle.cps_holding.specs.Holds.{holds}
 use Rattle.cps_holding.specs.Run.{run_of}
-use Rattle.cps_replay.specs.declared.walk.Span.{Span}
 use Rattle.cps_replay.specs.Along.{span, reached, looks_of_part, looks_along}
 use Rattle.cps_replay.proofs.SpanLemmas.{part-held, part-most}
 use Rattle.cps_touched.specs.MoveLooks.{is_among, is_cut_by, looks_moved}

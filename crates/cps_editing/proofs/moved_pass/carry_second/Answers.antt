@@ -1,16 +1,13 @@
-use Rattle.std.proofs.Common.{arith, length-append, ◌≡◌, ◌+◌, ◌≤◌, ℕ, length, [], refl, sym, ap, subst, ◌∙◌}
+use Rattle.std.proofs.Common.{arith, length-append, ◌≤◌, length, [], ap, ◌∙◌}
 use Rattle.cps_final.specs.Layout.{puts_of}
 use Rattle.cps_edit.specs.Passes.{traces_from}
 use Rattle.cps_exchange.specs.Exchange.{IsWithin, exchange_at}
 use Rattle.cps_replay.specs.declared.walk.Baseline.{Baseline}
-use Rattle.cps_replay.specs.Along.{looks_in_span, replayed_along, span}
-use Rattle.cps_replay.specs.declared.walk.Position.TheVariants.{Same, Behind}
-use Rattle.cps_replay.proofs.CountingLemmas.{looks-none, looks-then, looks-wider, steps-as, steps-none, steps-stop, steps-then}
+use Rattle.cps_replay.proofs.CountingLemmas.{looks-then, looks-wider, steps-as, steps-stop, steps-then}
 use Rattle.cps_replay.proofs.OverLemmas.{still-still, still-walk}
-use Rattle.cps_replay.specs.Moved.{state_before, state_between}
+use Rattle.cps_replay.specs.Moved.{first_replayed, second_replayed, state_before}
 use Rattle.cps_replay.specs.Walk.{stretch}
 use Rattle.cps_editing.proofs.MovedPassLemmas.{all-news, came-count, came-looks, came-news, came-present, gone-count, gone-looks, second-crossed}
-use Rattle.cps_editing.specs.MovedPass.{first_replayed, second_replayed}
 use Rattle.cps_editing.proofs.moved_pass.carry_second.Goals as goal
 
 -- ---- the lines that come

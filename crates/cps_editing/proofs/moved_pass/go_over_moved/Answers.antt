@@ -1,4 +1,4 @@
-use Rattle.std.proofs.Common.{arith, ◌≡◌, ◌+◌, ◌≤◌, ℕ, length, refl, sym, ap, subst, ◌∙◌}
+use Rattle.std.proofs.Common.{arith, ◌≡◌, ℕ, length, ap, subst, ◌∙◌}
 use Rattle.cps_exchange.specs.Exchange.{IsWithin}
 use Rattle.cps_replay.specs.declared.walk.Baseline.{Baseline}
 use Rattle.cps_replay.specs.declared.walk.Position.TheVariants.{Same}

@@ -1,4 +1,4 @@
-use Rattle.std.proofs.Common.{arith, ◌≡◌, ◌≤◌, ℕ, List, length, subst, sym, ap, ◌∙◌}
+use Rattle.std.proofs.Common.{◌≡◌, List, subst, sym, ap, ◌∙◌}
 use Rattle.cps_changes.specs.Changes.{changed}
 use Rattle.cps_changes.specs.Kept.{changes_in}
 use Rattle.cps_exchange.specs.Exchange.{exchanged}

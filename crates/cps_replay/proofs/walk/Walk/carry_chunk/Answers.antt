@@ -1,10 +1,7 @@
-use Rattle.std.proofs.Common.{arith, ◌≡◌, ◌+◌, ◌≤◌, ℕ, length, take, true, List, refl, sym, ap, subst, ◌∙◌}
-use Rattle.std.specs.Prelude.{sum}
-use Rattle.cps_state.specs.Course.{Trace}
+use Rattle.std.proofs.Common.{arith, ◌≡◌, ◌+◌, ◌≤◌, length, true, refl, sym, ap, subst, ◌∙◌}
 use Rattle.cps_final.specs.Layout.{puts_of}
 use Rattle.cps_holding.specs.Holds.{holds}
 use Rattle.cps_holding.specs.Run.{run_of}
-use Rattle.cps_chunk.specs.Chunk.{lengths_of}
 use Rattle.cps_replay.specs.declared.change_log.ChangeLog.{ChangeLog}
 use Rattle.cps_replay.specs.declared.replay.Replay.{Replay}
 use Rattle.cps_replay.specs.declared.walk.Baseline.{Baseline}

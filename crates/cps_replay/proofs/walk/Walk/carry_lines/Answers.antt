@@ -1,4 +1,4 @@
-use Rattle.std.proofs.Common.{arith, rules, ◌≡◌, ◌+◌, ◌<◌, ◌≤◌, ℕ, List, [], ◌∷◌, ◌++◌, length, get_or, take, refl, sym, ap, subst, ◌∙◌}
+use Rattle.std.proofs.Common.{arith, rules, ◌≡◌, ◌+◌, ◌<◌, ℕ, List, [], ◌∷◌, ◌++◌, length, get_or, take, refl, sym, ap, subst, ◌∙◌}
 use Rattle.std.proofs.lemmas.Grind.{common_steps}
 use Rattle.std.specs.Prelude.{Some as Just, if◌then◌else◌}
 use Rattle.cps_state.specs.Keys.{State, first_state}
@@ -10,7 +10,7 @@ use Rattle.cps_replay.specs.declared.walk.Baseline.{Baseline}
 use Rattle.cps_chunk.specs.contracts.past.PastLookup.TheImpl.{answer-value}
 use Rattle.cps_replay.specs.declared.walk.Position.TheVariants.{Behind}
 use Rattle.cps_replay.specs.declared.walk.Walk.{Walk}
-use Rattle.cps_replay.specs.Along.{front_at, replayed_along, span}
+use Rattle.cps_replay.specs.Along.{front_at}
 use Rattle.cps_replay.specs.Replay.{PutsAlso, now_with}
 use Rattle.cps_replay.specs.Replayed.{replayed}
 use Rattle.cps_replay.specs.Walk.{IsBaseline}

@@ -1,4 +1,4 @@
-use Rattle.std.proofs.Common.{arith, ◌≡◌, ◌+◌, List, refl, sym, subst, ◌∙◌}
+use Rattle.std.proofs.Common.{arith, ◌+◌, List, refl, sym, subst}
 use Rattle.cps_state.specs.Course.{Trace}
 use Rattle.cps_chunk.specs.Chunk.{IsChunkOf}
 use Rattle.cps_replay.proofs.WalkLemmas.{chunk-at, chunk-set, lengths-set, lengths-grow, lengths-within}

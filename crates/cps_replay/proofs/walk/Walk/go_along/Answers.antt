@@ -1,12 +1,9 @@
 use Rattle.std.proofs.Common.{arith, rules, ◌≡◌, ◌+◌, ◌<◌, ◌≤◌, ℕ, length, take, refl, sym, ap, subst, ◌∙◌}
 use Rattle.std.specs.Prelude.{sum}
-use Rattle.std.proofs.lemmas.List.{take_all, length-map}
 use Rattle.cps_state.specs.Work.{counted_on}
 use Rattle.cps_chunk.specs.Chunk.{lengths_of}
-use Rattle.cps_chunk.specs.declared.chunk.Chunk.{Chunk}
 use Rattle.cps_replay.specs.declared.walk.Baseline.{Baseline}
-use Rattle.cps_replay.specs.declared.walk.Span.{Span}
-use Rattle.cps_replay.specs.Along.{GoesAlong, fronts_along, looks_along, looks_of, reached, replayed_along, span}
+use Rattle.cps_replay.specs.Along.{GoesAlong, fronts_along, looks_of, reached, replayed_along, span}
 use Rattle.cps_replay.specs.Walk.{cursor}
 use Rattle.cps_replay.proofs.AlongLemmas.{along-count, along-join, along-most, along-none, looks-more, may-still, mid-end, old-end, part-fits, part-inside, part-lt, replayed-empty}
 use Rattle.cps_replay.proofs.CountingLemmas.{counted-most, counted-next, looked-more}

@@ -1,8 +1,8 @@
-use Rattle.std.proofs.Common.{arith, ◌≡◌, ◌+◌, ◌-◌, ◌≤◌, ℕ, length, take, refl, sym, ap, subst, ◌∙◌}
+use Rattle.std.proofs.Common.{arith, ◌≡◌, ◌+◌, ℕ, take, refl, sym, ap, subst}
 use Rattle.std.specs.Prelude.{sum}
 use Rattle.cps_edit.specs.Compares.{ComparesUpTo}
 use Rattle.cps_chunk.specs.Chunk.{lengths_of}
-use Rattle.cps_replay.specs.Along.{front_at, looks_of}
+use Rattle.cps_replay.specs.Along.{front_at}
 use Rattle.cps_replay.specs.Walk.{stretch}
 use Rattle.cps_replay.proofs.SpanLemmas.{part-some}
 use Rattle.cps_replay.proofs.OverLemmas.{still-walk}

@@ -1,12 +1,9 @@
-use Rattle.std.proofs.Common.{◌≡◌, ◌+◌, ◌<◌, List, length, take, sym, ap, subst, ◌∙◌}
+use Rattle.std.proofs.Common.{◌+◌, ◌<◌, length, take, sym, ap, subst, ◌∙◌}
 use Rattle.std.specs.Prelude.{sum}
-use Rattle.cps_state.specs.declared.key.Asked.{Asked}
 use Rattle.cps_holding.specs.Holds.{holds}
 use Rattle.cps_holding.specs.Run.{run_of}
-use Rattle.cps_chunk.specs.Chunk.{lengths_of}
-use Rattle.cps_replay.specs.declared.walk.Baseline.{Baseline}
 use Rattle.cps_replay.specs.Replay.{now_with}
-use Rattle.cps_replay.specs.Walk.{state_at, stood_at, stretch}
+use Rattle.cps_replay.specs.Walk.{stood_at, stretch}
 use Rattle.cps_replay.proofs.CarryLemmas.{summary-is}
 use Rattle.cps_replay.proofs.WalkLemmas.{chunk-at, same-long}
 use Rattle.cps_replay.proofs.walk.Walk.holds_behind.Goals as goal
