@@ -1,6 +1,6 @@
 -- How many lines of a source are flagged. Our own.
 use Rattle.std.specs.Prelude.{ℕ, List}
-use Rattle.cps_list.specs.Flagged.{flagged_with}
+pub use Rattle.cps_list.specs.Flagged.{flagged_with}
 use Rattle.cps_assembly.specs.Assembly.{outcomes_of, ends_open}
 
 -- the end of a source where a range is open counts as one

@@ -1,3 +1,4 @@
 pub mod Limits
 pub mod Assembly
 pub mod Flagged
+pub use Rattle.cps_edit.specs.Expansion

@@ -6,4 +6,6 @@
 
 mod flagged;
 
+pub use cps_edit::{Hashing, Sheet, Trace, Work, step_over};
+pub use cps_list::View;
 pub use flagged::flagged_lines;

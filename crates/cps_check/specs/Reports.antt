@@ -10,7 +10,7 @@ use Rattle.cps_explain.specs.Explaining.{Explains}
 use Rattle.cps_card.specs.declared.fault.CharacterFault.{CharacterFault}
 use Rattle.cps_card.specs.Card.{cards_of}
 use Rattle.cps_card.specs.Faults.{AreFaults}
-use Rattle.cps_assembly.specs.Assembly.{outcomes_of, ends_open}
+use Rattle.cps_source.specs.Assembly.{outcomes_of, ends_open}
 use Rattle.cps_check.specs.declared.kind.Kind.{Kind}
 use Rattle.cps_check.specs.declared.kind.Kind.TheVariants as kinds
 use Rattle.cps_check.specs.declared.notes.Note.{Note}

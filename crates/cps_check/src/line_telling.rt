@@ -3,7 +3,7 @@ ghost use Rattle.std.specs.Prelude.{◌≡◌, map, take, IfOk};
 ghost use Rattle.cps_final.specs.Finals.{final_value, is_open_at_end};
 ghost use Rattle.cps_final.specs.Outcome.{outcome_of};
 ghost use Rattle.cps_card.specs.Card.{card_of, cards_of};
-ghost use Rattle.cps_assembly.specs.Assembly.{outcomes_under, traces_of};
+ghost use Rattle.cps_source.specs.Assembly.{outcomes_under, traces_of};
 ghost use Rattle.cps_check.specs.Adding.{AddsLine, AddsLines, AddsEnd};
 
 use crate::known_places::KnownPlaces;

@@ -1,6 +1,7 @@
 -- For the code that exchanges lines, not part of what a reader believes: the lengths of pieces.
 use Rattle.std.specs.Prelude.{◌≡◌, ℕ, ◌+◌, ◌-◌, ◌<◌, ◌≤◌, nat_lt, List, [], ◌∷◌, ◌++◌, length, get_or, take, drop, map, reverse, sum, Option, None, Some, if◌then◌else◌}
 use Rattle.cps_exchange.specs.Numbers.{numbers}
+use Rattle.cps_division.specs.Division.{AreChunks}
 use Rattle.cps_division.specs.Exchange.{numbers_of}
 use Rattle.cps_division.specs.declared.exchange.Piece.{Piece}
 
@@ -43,3 +44,25 @@ part_numbers lengths chunk from end = numbers (sum (take chunk lengths) + from) 
 -- other lines don't go on where a part of a chunk ends
 abbrev pub GoesNotOn : ℕ → List ℕ → Type 0
 GoesNotOn at more = 0 < length more → get_or more 0 0 ≡ at → ⊥
+
+-- the lines that a part of a chunk has: none, or so many in one piece
+abbrev pub part_lines : ℕ → ℕ → List ℕ
+part_lines from end = if nat_lt from end then (end - from) ∷ [] else []
+
+-- ---- lines set before pieces that stand in the other order, whatever numbers the lines of these have
+
+-- lines of one chunk or of none
+abbrev pub SetsOne : List Piece → List Piece → ℕ → Option ℕ → Type 0
+SetsOne old new lines chunk = (lengths ms more : List ℕ) → ArePieces lengths (reverse old) more
+    → MayStandBefore lengths lines chunk ms more → ArePieces lengths (reverse new) (ms ++ more)
+
+-- the lines of a chunk of so many lines from one on up to another
+abbrev pub SetsPart : List Piece → List Piece → ℕ → ℕ → ℕ → ℕ → Type 0
+SetsPart old new chunk lines from end = (lengths more : List ℕ) → AreChunks lengths → chunk < length lengths → lines ≡ get_or lengths chunk 0
+    → (from < end → end < lines → GoesNotOn (sum (take chunk lengths) + end) more)
+    → ArePieces lengths (reverse old) more → ArePieces lengths (reverse new) (part_numbers lengths chunk from end ++ more)
+
+-- lines of several chunks from one number on up to another
+abbrev pub SetsRun : List ℕ → List Piece → List Piece → ℕ → ℕ → Type 0
+SetsRun lengths old new from to = (more : List ℕ) → GoesNotOn to more
+    → ArePieces lengths (reverse old) more → ArePieces lengths (reverse new) (numbers from (to - from) ++ more)

@@ -1,9 +1,9 @@
 //! What becomes of the division where two runs of lines change places.
-ghost use Rattle.std.specs.Prelude.{◌≡◌, ℕ, List, ◌+◌, ◌-◌, ◌<◌, ◌≤◌, ◌^◌, ◌++◌, length, get_or, take, reverse, nat_lt, sum, IfOk, OnOk, if◌then◌else◌, ◌∷◌, []};
+ghost use Rattle.std.specs.Prelude.{◌≡◌, ◌<◌, ◌≤◌, ◌^◌, sum, IfOk, OnOk};
 ghost use Rattle.cps_division.specs.Division.{AreChunks, joined};
-ghost use Rattle.cps_exchange.specs.Numbers.{numbers, exchanged_numbers};
+ghost use Rattle.cps_exchange.specs.Numbers.{exchanged_numbers};
 ghost use Rattle.cps_division.specs.Exchange.{part_of, rejoined, exchanged_at};
-ghost use Rattle.cps_division.specs.Pieces.{lines_in, lines_of as lines_of_pieces, cut_to, ArePieces, MayStandBefore, GoesNotOn, part_numbers};
+ghost use Rattle.cps_division.specs.Pieces.{lines_in, lines_of as lines_of_pieces, cut_to, part_lines, ArePieces, SetsOne, SetsPart, SetsRun};
 
 use crate::put::FULL;
 use crate::staying::lines_of;
@@ -53,7 +53,7 @@ fn set_run_before(
     requires ordered { from ≤ to }
     requires within { to ≤ sum lengths.now }
     ensures lengths { OnOk result (lines_in pieces.new.items ≡ rejoined (part_of from to lengths.now) (lines_in pieces.old.items)) }
-    ensures pieces { OnOk result ((more : List ℕ) → GoesNotOn to more → ArePieces lengths.now (reverse pieces.old.items) more → ArePieces lengths.now (reverse pieces.new.items) (numbers from (to - from) ++ more)) }
+    ensures pieces { OnOk result (SetsRun lengths.now pieces.old.items pieces.new.items from to) }
 {
     let mut start = lines_of(lengths);
     for chunk in (0..lengths.len()).rev() {
@@ -77,10 +77,8 @@ fn set_part_before(
     from: usize,
     to: usize,
 ) -> Result<(), AllocError>
-    ensures lengths { OnOk result (lines_in pieces.new.items ≡ rejoined (if nat_lt from (cut_to to lines) then (cut_to to lines - from) ∷ [] else []) (lines_in pieces.old.items)) }
-    ensures pieces { OnOk result ((lengths more : List ℕ) → AreChunks lengths → chunk < length lengths → lines ≡ get_or lengths chunk 0
-        → (from < cut_to to lines → cut_to to lines < lines → GoesNotOn (sum (take chunk lengths) + cut_to to lines) more)
-        → ArePieces lengths (reverse pieces.old.items) more → ArePieces lengths (reverse pieces.new.items) (part_numbers lengths chunk from (cut_to to lines) ++ more)) }
+    ensures lengths { OnOk result (lines_in pieces.new.items ≡ rejoined (part_lines from (cut_to to lines)) (lines_in pieces.old.items)) }
+    ensures pieces { OnOk result (SetsPart pieces.old.items pieces.new.items chunk lines from (cut_to to lines)) }
 {
     let end = if to < lines { to } else { lines };
     if end <= from {
@@ -96,7 +94,7 @@ fn set_part_before(
 fn set_before(pieces: &mut Vec<Piece>, lines: usize, old: Option<usize>) -> Result<(), AllocError>
     requires { 1 ≤ lines }
     ensures lengths { OnOk result (lines_in pieces.new.items ≡ joined lines (lines_in pieces.old.items)) }
-    ensures pieces { OnOk result ((lengths ms more : List ℕ) → ArePieces lengths (reverse pieces.old.items) more → MayStandBefore lengths lines old ms more → ArePieces lengths (reverse pieces.new.items) (ms ++ more)) }
+    ensures pieces { OnOk result (SetsOne pieces.old.items pieces.new.items lines old) }
 {
     if let Some(first) = pieces.pop() {
         let both = lines.saturating_add(first.lines);

@@ -1,5 +1,5 @@
 //! The chunk that a line stands in.
-ghost use Rattle.std.specs.Prelude.{◌≡◌, ◌+◌, ◌<◌, ◌≤◌, ◌^◌, length, take, get_or, sum};
+ghost use Rattle.std.specs.Prelude.{◌≡◌, ◌+◌, ◌-◌, ◌<◌, ◌≤◌, ◌^◌, length, take, get_or, sum};
 ghost use Rattle.cps_division.specs.Division.{chunk_of};
 
 /// A chunk, counted from 0, and how many lines stand before it.
@@ -16,10 +16,9 @@ pub fn place_of(lengths: &[usize], line: usize) -> Place
     ensures chunk { result.chunk ≡ chunk_of line lengths.now }
     ensures within { result.chunk < length lengths.now }
     ensures before { result.before ≡ sum (take result.chunk lengths.now) }
-    ensures above { 1 ≤ line → result.before < line }
+    ensures above { result.before ≤ line - 1 }
     ensures below { line ≤ sum lengths.now → line ≤ result.before + get_or lengths.now result.chunk 0 }
     ensures past { line ≤ sum lengths.now → line ≤ sum (take (result.chunk + 1) lengths.now) }
-    ensures first { result.before ≤ line }
 {
     let last = lengths.len() - 1;
     let mut before = 0;

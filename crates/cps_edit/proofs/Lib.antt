@@ -1,6 +1,6 @@
 pub mod AskedLemmas
 pub mod ReplayLemmas
-pub mod FrontLemmas
+pub mod PassOneLemmas
 pub mod RedoLemmas
 pub mod TakenLemmas
 pub mod SpliceLemmas

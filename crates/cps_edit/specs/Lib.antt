@@ -1,4 +1,5 @@
 pub mod Passes
+pub mod PassOne
 pub mod Splice
 pub mod Compares
 pub mod Disturbed

@@ -15,7 +15,7 @@ use Rattle.cps_edit.specs.Splice.{spliced}
 use Rattle.cps_chunk.specs.declared.chunk.Chunk.{Chunk}
 use Rattle.cps_chunk.specs.Chunk.{AreChunksOf, lengths_of}
 use Rattle.cps_chunk.proofs.ChunkLemmas.{chunks-long}
-use Rattle.cps_replay.specs.declared.sparse.At.{At}
+use Rattle.cps_replay.specs.declared.sparse.SparseItem.{SparseItem}
 use Rattle.cps_replay.specs.Ends.{was_of, now_of}
 use Rattle.cps_replay.specs.Replayed.{redone, replayed_behind, redone_front, redone_behind}
 use Rattle.cps_replay.specs.Walk.{stretch}
@@ -86,7 +86,7 @@ fail-entered kept cut result {w0 = w0} {w1 = w1} n err entered none steps =
 
 -- ---- the lines around the edit
 
-module _ (kept : KeptSource) {cut : Cut} (cuts : IsCut kept.lines.items (lengths_of kept.chunks.items) cut) (pass : SecondPass) (news : List (At Trace))
+module _ (kept : KeptSource) {cut : Cut} (cuts : IsCut kept.lines.items (lengths_of kept.chunks.items) cut) (pass : SecondPass) (news : List (SparseItem Trace))
     (was : was_of pass.redo.ends ≡ finals_in kept.lines.items) (now : now_of pass.redo.ends ≡ finals_in (spliced kept.lines.items (splice_of cut)))
     (did : pass.base.traces.now ≡ traces_of kept.lines.items) (new : news ≡ replayed_behind kept.lines.items (splice_of cut)) where
   -- what is made anew around the edit

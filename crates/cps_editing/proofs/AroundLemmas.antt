@@ -14,7 +14,7 @@ use Rattle.cps_chunk.specs.declared.chunk.Chunk.{Chunk}
 use Rattle.cps_chunk.specs.Chunk.{AreChunksOf, lengths_of}
 use Rattle.cps_chunk.proofs.ChunkLemmas.{chunks-long, chunks-append, chunks-behind}
 use Rattle.cps_holding.specs.declared.ends.Ends.{Ends}
-use Rattle.cps_replay.specs.declared.sparse.At.{At}
+use Rattle.cps_replay.specs.declared.sparse.SparseItem.{SparseItem}
 use Rattle.cps_replay.specs.declared.walk.Baseline.{Baseline}
 use Rattle.cps_replay.specs.Ends.{was_of, now_of}
 use Rattle.cps_replay.specs.Sparse.{AreWithin}
@@ -44,7 +44,7 @@ part-passes p ts a b c d one two three all =
 -- ---- the parts
 
 -- chunks in front of an edit, those that it cuts, and those behind it; what is new of the loose lines behind it, and of those behind them
-pub record AreParts (first : SecondPass) (cut : Cut) (cs xs ms ys : List Chunk) (news here left : List (At Trace)) : Type 0 where
+pub record AreParts (first : SecondPass) (cut : Cut) (cs xs ms ys : List Chunk) (news here left : List (SparseItem Trace)) : Type 0 where
   pub exact : IsExactPass first
   pub cuts : CutsAround first cut cs
   pub within : AreWithin cut.from (length first.base.traces.now) news
@@ -56,7 +56,7 @@ pub record AreParts (first : SecondPass) (cut : Cut) (cs xs ms ys : List Chunk) 
   pub behind : left ≡ items_from cut.behind news
 
 -- what two cuts of the chunks give
-pub parts : {first : SecondPass} {cut : Cut} {cs xs rest ms ys : List Chunk} {news here left : List (At Trace)} → IsExactPass first → CutsAround first cut cs
+pub parts : {first : SecondPass} {cut : Cut} {cs xs rest ms ys : List Chunk} {news here left : List (SparseItem Trace)} → IsExactPass first → CutsAround first cut cs
     → AreWithin cut.from (length first.base.traces.now) news → cs ≡ xs ++ rest → xs ≡ take cut.start cs → rest ≡ drop cut.start cs
     → rest ≡ ms ++ ys → ms ≡ take (cut.end - cut.start) rest → ys ≡ drop (cut.end - cut.start) rest
     → here ≡ items_before cut.behind news → left ≡ items_from cut.behind news → AreParts first cut cs xs ms ys news here left
@@ -72,7 +72,7 @@ parts {cut = cut} {xs = xs} exact cuts within whole front behind rest between ba
   behind = left;
 }
 
-module _ {first : SecondPass} {cut : Cut} {cs xs ms ys : List Chunk} {news here left : List (At Trace)} (h : AreParts first cut cs xs ms ys news here left) where
+module _ {first : SecondPass} {cut : Cut} {cs xs ms ys : List Chunk} {news here left : List (SparseItem Trace)} (h : AreParts first cut cs xs ms ys news here left) where
   abbrev ts : List Trace
   ts = first.base.traces.now
 
@@ -143,12 +143,12 @@ module _ {first : SecondPass} {cut : Cut} {cs xs ms ys : List Chunk} {news here 
       (subst (λ (n : ℕ). AreChunksOf first.base.hashing (drop cut.end cs) (drop n ts)) size (chunks-behind first.base.hashing cut.end cs ts h.cuts.chunks))))
 
   pub here-loose : AreWithin cut.from cut.behind here
-  here-loose = subst (λ (ns : List (At Trace)). AreWithin cut.from cut.behind ns) (sym h.loose) (before-within cut.behind cut.from (length ts) news h.cuts.ends h.within)
+  here-loose = subst (λ (ns : List (SparseItem Trace)). AreWithin cut.from cut.behind ns) (sym h.loose) (before-within cut.behind cut.from (length ts) news h.cuts.ends h.within)
 
   pub left-behind : AreWithin cut.behind (cut.behind + sum (lengths_of ys)) left
   left-behind =
       subst (λ (n : ℕ). AreWithin cut.behind n left) (sym back-end)
-      (subst (λ (ns : List (At Trace)). AreWithin cut.behind (length ts) ns) (sym h.behind) (from-within cut.behind cut.from (length ts) news behind-within h.within))
+      (subst (λ (ns : List (SparseItem Trace)). AreWithin cut.behind (length ts) ns) (sym h.behind) (from-within cut.behind cut.from (length ts) news behind-within h.within))
 
   -- ---- the chunks behind an edit of what was gathered
 
@@ -242,8 +242,8 @@ module _ {first : SecondPass} {cut : Cut} {cs xs ms ys : List Chunk} {news here 
         (subst (λ (n : ℕ). GoesOver first s1 0 n []) front-end o1) o2 in
         let two : GoesOver s2 s4 cut.from (length ts) news =
         goes-join s2 s3 s4 cut.from cut.behind (length ts) news h.cuts.ends behind-within (next-end s2 base2 ends2 (length ts) (omega arith)) h.within
-        (subst (λ (ns : List (At Trace)). GoesOver s2 s3 cut.from cut.behind ns) h.loose o3)
-        (subst (λ (ns : List (At Trace)). GoesOver s3 s4 cut.behind (length ts) ns) h.behind (subst (λ (n : ℕ). GoesOver s3 s4 cut.behind n left) back-end o4)) in
+        (subst (λ (ns : List (SparseItem Trace)). GoesOver s2 s3 cut.from cut.behind ns) h.loose o3)
+        (subst (λ (ns : List (SparseItem Trace)). GoesOver s3 s4 cut.behind (length ts) ns) h.behind (subst (λ (n : ℕ). GoesOver s3 s4 cut.behind n left) back-end o4)) in
         record {
           made = two.made ∙ (λ j. one.made j ++ same-redone first s2 cut.from (length ts) news ends2 base2 j)
               ∙ append_assoc first.redo.news.items (redone_in first 0 cut.keep []) (redone_in first cut.from (length ts) news);

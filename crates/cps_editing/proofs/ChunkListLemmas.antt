@@ -11,7 +11,7 @@ use Rattle.cps_edit.proofs.TakenLemmas.{drop_at}
 use Rattle.cps_chunk.specs.declared.chunk.Chunk.{Chunk}
 use Rattle.cps_chunk.specs.Chunk.{IsChunkOf, AreChunksOf, lengths_of}
 use Rattle.cps_chunk.proofs.ChunkLemmas.{chunks-append, chunks-one, chunks-last, chunks-set, chunks-behind}
-use Rattle.cps_replay.specs.declared.sparse.At.{At}
+use Rattle.cps_replay.specs.declared.sparse.SparseItem.{SparseItem}
 use Rattle.cps_replay.specs.Sparse.{renewed, AreWithin}
 use Rattle.cps_replay.proofs.WalkLemmas.{lengths-next, lengths-front, lengths-all, same-long}
 use Rattle.cps_editing.specs.declared.cut.Cut.{Cut}
@@ -37,7 +37,7 @@ module _ (cs ds : List Chunk) (same : lengths_of ds ≡ lengths_of cs) where
   line-first i line at = ap sum (sym (take-map (λ (c : Chunk). c.lines) i ds)) ∙ ap (λ ns. sum (take i ns)) same ∙ sym at
 
 -- the line of the next of some news does this now, and its chunk is marked
-module _ (hashing : Hashing) (cs : List Chunk) (news : List (At Trace)) (b i k line : ℕ) (new : At Trace) (c d : Chunk) where
+module _ (hashing : Hashing) (cs : List Chunk) (news : List (SparseItem Trace)) (b i k line : ℕ) (new : SparseItem Trace) (c d : Chunk) where
   pub marked-next : (ts : List Trace) → i < length news → new ≡ get_or news i new → AreWithin 0 b news → k < length cs → c ≡ get_or cs k c → d.lines ≡ c.lines
       → ((us : List Trace) (at : ℕ) → IsChunkOf hashing us c → IsChunkOf hashing (set us at new.item) d) → sum (lengths_of (take k cs)) ≡ line → line ≤ new.at
       → new.at < line + c.lines → AreChunksOf hashing cs (renewed 0 (take i news) ts) → AreChunksOf hashing (set cs k d) (renewed 0 (take (i + 1) news) ts)

@@ -6,7 +6,7 @@ use Rattle.cps_chunk.specs.declared.chunk.Chunk.{Chunk}
 use Rattle.cps_chunk.specs.Chunk.{AreChunksOf, IsChunkOf, lengths_of}
 use Rattle.cps_naming.specs.Names.{names_in}
 use Rattle.cps_holding.specs.declared.ends.Ends.{Ends}
-use Rattle.cps_replay.specs.declared.sparse.At.{At}
+use Rattle.cps_replay.specs.declared.sparse.SparseItem.{SparseItem}
 use Rattle.cps_replay.specs.declared.walk.Baseline.{Baseline}
 use Rattle.cps_replay.specs.Ends.{was_of, now_of}
 use Rattle.cps_replay.specs.Redo.{is_passed}
@@ -18,7 +18,7 @@ use Rattle.cps_editing.specs.SecondPass.{AreStillChunks, GoesOver, IsExactPass, 
 use Rattle.cps_editing.proofs.SecondPassLemmas.{GoesOn, before-within, exact-still, count-cut, same-redone, goes-next, next-place, next-within, chunk-here, chunks-here, lengths-still, looks-here}
 
 -- of chunks, of which some were gone over, this is the next; so much is new of its lines, and so much of those behind it
-pub record IsNextChunk (first next : SecondPass) (start : ℕ) (cs ds : List Chunk) (i at : ℕ) (c : Chunk) (news left here rest : List (At Trace)) : Type 0 where
+pub record IsNextChunk (first next : SecondPass) (start : ℕ) (cs ds : List Chunk) (i at : ℕ) (c : Chunk) (news left here rest : List (SparseItem Trace)) : Type 0 where
   pub exact : IsExactPass first
   pub end : start + sum (lengths_of cs) ≤ length first.base.traces.now
   pub there : i < length ds
@@ -31,7 +31,7 @@ pub record IsNextChunk (first next : SecondPass) (start : ℕ) (cs ds : List Chu
   pub behind : rest ≡ items_from (at + c.lines) left
 
 -- what an item of the list and a cut of what is new give
-pub next-chunk : {first next : SecondPass} {start : ℕ} {cs ds : List Chunk} {i at : ℕ} {news left here rest : List (At Trace)} (item : Chunk) → IsExactPass first
+pub next-chunk : {first next : SecondPass} {start : ℕ} {cs ds : List Chunk} {i at : ℕ} {news left here rest : List (SparseItem Trace)} (item : Chunk) → IsExactPass first
     → start + sum (lengths_of cs) ≤ length first.base.traces.now → i < length ds → item ≡ get_or ds i item → at ≡ start + sum (take i (lengths_of cs))
     → GoesOn first next start at (start + sum (lengths_of cs)) news left
     → AreChunksOf first.base.hashing ds (stretch start (start + sum (lengths_of cs)) first.base.traces.now) → lengths_of ds ≡ lengths_of cs
@@ -50,7 +50,7 @@ next-chunk {ds = ds} {i = i} item exact end there is place over chunks lengths f
   behind = behind;
 }
 
-module _ {first next : SecondPass} {start : ℕ} {cs ds : List Chunk} {i at : ℕ} {c : Chunk} {news left here rest : List (At Trace)}
+module _ {first next : SecondPass} {start : ℕ} {cs ds : List Chunk} {i at : ℕ} {c : Chunk} {news left here rest : List (SparseItem Trace)}
     (h : IsNextChunk first next start cs ds i at c news left here rest) where
   abbrev end : ℕ
   end = start + sum (lengths_of cs)
@@ -76,7 +76,7 @@ module _ {first next : SecondPass} {start : ℕ} {cs ds : List Chunk} {i at : �
       (chunk-here first start cs ds h.lengths i at c h.there h.is h.place h.chunks)
 
   pub here-within : AreWithin at m here
-  here-within = subst (λ (ns : List (At Trace)). AreWithin at m ns) (sym h.front) (before-within m at end left (omega arith) h.over.within)
+  here-within = subst (λ (ns : List (SparseItem Trace)). AreWithin at m ns) (sym h.front) (before-within m at end left (omega arith) h.over.within)
 
   here-made : redone_in first at m (items_before m left) ≡ redone_in next at m here
   here-made = sym (same-redone first next at m here h.over.ends h.over.base ∙ ap (redone_in first at m) h.front)
@@ -90,7 +90,7 @@ module _ {first next : SecondPass} {start : ℕ} {cs ds : List Chunk} {i at : �
   -- and how many are compared
   pub here-looks : looks_in first (drop i (lengths_of cs)) at left ≡ looks_at next at m here + looks_in first (drop (i + 1) (lengths_of cs)) m rest
   here-looks =
-      let looks = λ (e : Ends) (b : Baseline) (ns : List (At Trace)).
+      let looks = λ (e : Ends) (b : Baseline) (ns : List (SparseItem Trace)).
       if is_passed (was_of e) (now_of e) (names_in (stretch at m b.traces.now)) ns then 0 else m - at in
       looks-here first start cs ds h.lengths i at c h.there h.is h.place left
       ∙ (λ j. looks (sym h.over.ends j) (sym h.over.base j) (sym h.front j) + looks_in first (drop (i + 1) (lengths_of cs)) m (sym h.behind j))
@@ -99,8 +99,8 @@ module _ {first next : SecondPass} {start : ℕ} {cs ds : List Chunk} {i at : �
   module _ {last : SecondPass} (over : GoesOver next last at m here) where
     pub here-over : GoesOn first last start m end news rest
     here-over =
-        subst (λ (ns : List (At Trace)). GoesOn first last start m end news ns) (sym h.behind)
-        (goes-next first next last start at m end news left (omega arith) stops-within h.end h.over (subst (λ (ns : List (At Trace)). GoesOver next last at m ns) h.front over))
+        subst (λ (ns : List (SparseItem Trace)). GoesOn first last start m end news ns) (sym h.behind)
+        (goes-next first next last start at m end news left (omega arith) stops-within h.end h.over (subst (λ (ns : List (SparseItem Trace)). GoesOver next last at m ns) h.front over))
 
   module _ {d : Chunk} (still : IsStillChunk next at c d) where
     here-still : IsStillChunk first at c d

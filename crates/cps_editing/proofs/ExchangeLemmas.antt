@@ -27,7 +27,7 @@ use Rattle.cps_edit.proofs.SpliceLemmas.{length-traces_from}
 use Rattle.cps_chunk.specs.declared.chunk.Chunk.{Chunk}
 use Rattle.cps_chunk.specs.Chunk.{AreChunksOf, lengths_of}
 use Rattle.cps_chunk.proofs.ChunkLemmas.{chunks-long}
-use Rattle.cps_replay.specs.declared.sparse.At.{At}
+use Rattle.cps_replay.specs.declared.sparse.SparseItem.{SparseItem}
 use Rattle.cps_replay.specs.Ends.{was_of, now_of}
 use Rattle.cps_replay.specs.Moved.{replayed_moved}
 use Rattle.cps_replay.specs.Replayed.{redone}
@@ -85,7 +85,7 @@ module _ (kept : KeptSource) (are : AreKept kept) (pass : SecondPass) (olds : Li
         (subst (λ (cs : List Chunk). AreChunksOf kept.hashing cs kept.traces.items) (sym were) are.chunks));
   }
 
-  module _ (a b : Resolved) (was : was_of pass.redo.ends ≡ a) (now : now_of pass.redo.ends ≡ b) (news : List (At Trace)) where
+  module _ (a b : Resolved) (was : was_of pass.redo.ends ≡ a) (now : now_of pass.redo.ends ≡ b) (news : List (SparseItem Trace)) where
     -- what is made anew, and how many lines are compared
     pub all-redone : redone_in pass 0 (0 + sum (lengths_of olds)) news ≡ redone a b 0 news kept.traces.items
     all-redone = λ j. redone (was j) (now j) 0 news (all-traces j)
@@ -105,10 +105,10 @@ turned-list v xs us e turned is within =
 
 -- ---- the places of what is made anew in pass one
 
-module _ (lines : List (List ℕ)) (e : Exchange) (within : IsWithin (length lines) e) (news : List (At Trace)) (is : news ≡ replayed_moved lines e) where
+module _ (lines : List (List ℕ)) (e : Exchange) (within : IsWithin (length lines) e) (news : List (SparseItem Trace)) (is : news ≡ replayed_moved lines e) where
   pub news-behind : (n : ℕ) → n ≡ length lines → AreWithin e.keep n news
   news-behind n long =
-      subst (λ (ns : List (At Trace)). AreWithin e.keep n ns) (sym is)
+      subst (λ (ns : List (SparseItem Trace)). AreWithin e.keep n ns) (sym is)
       (subst (λ (k : ℕ). AreWithin e.keep k (replayed_moved lines e)) (sym long) (replayed_moved-within lines e within))
 
   pub news-places : (n : ℕ) → n ≡ length lines → AreWithin 0 n news
@@ -139,14 +139,14 @@ module _ {kept : KeptSource} {e : Exchange} {parts : MovedParts} (are : AreKept 
   pub moved-outcomes_long : length (renewed 0 parts.outcomes.items kept.outcomes.items) ≡ length kept.lines.items
   moved-outcomes_long = length-renewed 0 parts.outcomes.items kept.outcomes.items ∙ outcomes-long
 
-  pub moved-trace_places : (n : ℕ) (news : List (At Trace)) → news ≡ parts.traces.items → n ≡ length kept.lines.items → AreWithin 0 n news
+  pub moved-trace_places : (n : ℕ) (news : List (SparseItem Trace)) → news ≡ parts.traces.items → n ≡ length kept.lines.items → AreWithin 0 n news
   moved-trace_places n news is long = news-places kept.lines.items e moved-within news (is ∙ made.traces) n long
 
   pub moved-outcome_places : AreWithin 0 (vec_len kept.outcomes) parts.outcomes.items
   moved-outcome_places =
       let lines : List (List ℕ) = kept.lines.items in
       let count : length lines ≡ vec_len kept.outcomes = omega (arith, outcomes-long, kept.outcomes.ok.0) in
-      subst (λ (ns : List (At Outcome)). AreWithin 0 (vec_len kept.outcomes) ns) (sym made.outcomes)
+      subst (λ (ns : List (SparseItem Outcome)). AreWithin 0 (vec_len kept.outcomes) ns) (sym made.outcomes)
       (subst (λ (n : ℕ). AreWithin 0 n (redone_moved lines e)) count (redone_moved-within lines e moved-within (finals_in lines) (finals_in (exchanged e lines))))
 
   pub moved-did : exchanged e (renewed 0 parts.traces.items kept.traces.items) ≡ traces_of (exchanged e kept.lines.items)
@@ -155,7 +155,7 @@ module _ {kept : KeptSource} {e : Exchange} {parts : MovedParts} (are : AreKept 
   pub moved-made : exchanged e (renewed 0 parts.outcomes.items kept.outcomes.items) ≡ outcomes_by (finals_in (exchanged e kept.lines.items)) (traces_of (exchanged e kept.lines.items))
   moved-made =
       let lines : List (List ℕ) = kept.lines.items in
-      ap (λ (ns : List (At Outcome)). exchanged e (renewed 0 ns kept.outcomes.items)) made.outcomes
+      ap (λ (ns : List (SparseItem Outcome)). exchanged e (renewed 0 ns kept.outcomes.items)) made.outcomes
       ∙ outcomes-moved lines e moved-within (finals_in lines) (finals_in (exchanged e lines)) kept.outcomes.items are.made
 
   -- the chunks that were marked, in their new order
@@ -175,14 +175,14 @@ module _ {kept : KeptSource} {e : Exchange} {parts : MovedParts} (are : AreKept 
 -- ---- what stands behind the last line
 
 module _ (lines : List (List ℕ)) (e : Exchange) (within : IsWithin (length lines) e) where
-  pub stored-moved : (storage : Option Storage) (olds : List Trace) (news : List (At Trace)) → olds ≡ traces_of lines → news ≡ replayed_moved lines e
+  pub stored-moved : (storage : Option Storage) (olds : List Trace) (news : List (SparseItem Trace)) → olds ≡ traces_of lines → news ≡ replayed_moved lines e
       → IsStoredBehind olds storage (exchanged e (renewed 0 news olds)) → IsStoredBehind (traces_of lines) storage (traces_of (exchanged e lines))
   stored-moved storage olds news did is stored =
       subst (λ (ts : List Trace). IsStoredBehind ts storage (traces_of (exchanged e lines))) did
       (subst (λ (ts : List Trace). IsStoredBehind olds storage ts) ((λ j. exchanged e (renewed 0 (is j) (did j))) ∙ traces-moved lines e within) stored)
 
   -- the final values before and after, and what is kept of the lines
-  module _ (was now : Finals) (traces : List Trace) (news : List (At Trace)) (before : was ≡ finals_of (traces_of lines)) (behind : now ≡ finals_of (traces_of (exchanged e lines)))
+  module _ (was now : Finals) (traces : List Trace) (news : List (SparseItem Trace)) (before : was ≡ finals_of (traces_of lines)) (behind : now ≡ finals_of (traces_of (exchanged e lines)))
       (did : traces ≡ traces_of lines) (is : news ≡ replayed_moved lines e) where
     pub made-moved : redone (final_value was) (final_value now) 0 news traces ≡ redone_moved lines e
     made-moved = λ j. redone (final_value (before j)) (final_value (behind j)) 0 (is j) (did j)

@@ -20,7 +20,7 @@ use Rattle.cps_edit.proofs.RedoLemmas.{length-outcomes}
 use Rattle.cps_edit.proofs.SpliceLemmas.{length-traces_from}
 use Rattle.cps_chunk.specs.declared.chunk.Chunk.{Chunk}
 use Rattle.cps_chunk.specs.Chunk.{AreChunksOf, lengths_of}
-use Rattle.cps_replay.specs.declared.sparse.At.{At}
+use Rattle.cps_replay.specs.declared.sparse.SparseItem.{SparseItem}
 use Rattle.cps_replay.specs.Sparse.{AreWithin, renewed}
 use Rattle.cps_replay.specs.Replayed.{state_front, replayed_behind, redone_front, redone_behind}
 use Rattle.cps_replay.proofs.SparseLemmas.{AreWithin-wider}
@@ -117,13 +117,13 @@ module _ {kept : KeptSource} {cut : Cut} (are : AreKept kept) (cuts : IsCut kept
       ap length made.entered ∙ length-outcomes (finals_in (spliced kept.lines.items (splice_of cut))) (traces_from front cut.lines.items)
       ∙ length-traces_from front cut.lines.items
 
-  pub trace-places : {news : List (At Trace)} (n : ℕ) {new : News Trace} → AreNewTraces kept.lines.items (splice_of cut) new → news ≡ new.renewed.items → n ≡ length kept.lines.items
+  pub trace-places : {news : List (SparseItem Trace)} (n : ℕ) {new : News Trace} → AreNewTraces kept.lines.items (splice_of cut) new → news ≡ new.renewed.items → n ≡ length kept.lines.items
       → AreWithin cut.from n news
   trace-places {news = news} n made is long =
-      subst (λ (ns : List (At Trace)). AreWithin cut.from n ns) (sym (is ∙ made.renewed))
+      subst (λ (ns : List (SparseItem Trace)). AreWithin cut.from n ns) (sym (is ∙ made.renewed))
       (subst (λ (k : ℕ). AreWithin cut.from k (replayed_behind kept.lines.items (splice_of cut))) (sym long) (replayed_behind-within kept.lines.items (splice_of cut) cuts.recuts.within))
 
-  pub trace-places_all : {news : List (At Trace)} (n : ℕ) {new : News Trace} → AreNewTraces kept.lines.items (splice_of cut) new → news ≡ new.renewed.items
+  pub trace-places_all : {news : List (SparseItem Trace)} (n : ℕ) {new : News Trace} → AreNewTraces kept.lines.items (splice_of cut) new → news ≡ new.renewed.items
       → n ≡ length kept.lines.items → AreWithin 0 n news
   trace-places_all {news = news} n made is long = AreWithin-wider cut.from n 0 n news (omega arith) (omega arith) (trace-places n made is long)
 
@@ -132,7 +132,7 @@ module _ {kept : KeptSource} {cut : Cut} (are : AreKept kept) (cuts : IsCut kept
       let lines : List (List ℕ) = kept.lines.items in
       let was : Resolved = finals_in lines in
       let now : Resolved = finals_in (spliced lines (splice_of cut)) in
-      subst (λ (ns : List (At Outcome)). AreWithin 0 n ns) (sym made.renewed)
+      subst (λ (ns : List (SparseItem Outcome)). AreWithin 0 n ns) (sym made.renewed)
       (subst (λ (k : ℕ). AreWithin 0 k (redone_front was now lines (splice_of cut) ++ redone_behind was now lines (splice_of cut))) (sym long)
       (redone-within_all lines (splice_of cut) was now cuts.recuts.order cuts.recuts.within))
 

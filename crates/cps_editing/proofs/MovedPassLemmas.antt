@@ -15,7 +15,7 @@ use Rattle.cps_edit.specs.Disturbed.{ones_of_exchange}
 use Rattle.cps_edit.proofs.SpliceLemmas.{length-traces_from, puts-state}
 use Rattle.cps_chunk.specs.Chunk.{lengths_of}
 use Rattle.cps_chunk.proofs.ChunkLemmas.{chunks-long}
-use Rattle.cps_replay.specs.declared.sparse.At.{At}
+use Rattle.cps_replay.specs.declared.sparse.SparseItem.{SparseItem}
 use Rattle.cps_replay.specs.declared.walk.Baseline.{Baseline}
 use Rattle.cps_replay.specs.declared.walk.Position.{Position}
 use Rattle.cps_replay.specs.declared.walk.Position.TheVariants.{Same, Behind}
@@ -51,7 +51,7 @@ module _ (old w new : Walk) (walk : IsWalk old) (position : Position) (a b : ℕ
       (λ i. replayed (is i) a (stretch a b (kept i).lines.now) (stretch a b (kept i).traces.now))
       ∙ ap (λ (ts : List Trace). replayed front a (stretch a b ls) (stretch a b ts)) walk.base.did
 
-  pub news-along : (made : List (At Trace)) → w.replay.news.items ≡ made → GoesAlong w new position (span a b)
+  pub news-along : (made : List (SparseItem Trace)) → w.replay.news.items ≡ made → GoesAlong w new position (span a b)
       → new.replay.news.items ≡ made ++ replayed front a (stretch a b ls) (stretch a b (traces_of ls))
   news-along made so_far along = along.news ∙ (λ i. so_far i ++ along-is i)
 
@@ -79,7 +79,7 @@ module _ (old w new : Walk) (walk : IsWalk old) (a b : ℕ) (le : a ≤ b) (kept
       ∙ noted-law was (stood_at base a) olds puts
       ∙ (λ i. overwritten (changed was (stood_at (sym kept i) a)) puts)
 
-  pub closed-news : (made : List (At Trace)) → w.replay.news.items ≡ made → new.replay.news.items ≡ made
+  pub closed-news : (made : List (SparseItem Trace)) → w.replay.news.items ≡ made → new.replay.news.items ≡ made
   closed-news made so_far = ap (λ news. news.items) same.2 ∙ so_far
 
 -- ---- the first run is carried over the second
@@ -274,7 +274,7 @@ news-turned lines e =
     ap (exchanged (order_of lines e)) (append_assoc two one three)
     ∙ exchanged-parts (order_of lines e) (length two + length one) within [] two one three refl (omega arith) (omega arith)
 
-pub order-within : (lines : List (List ℕ)) (e order : Exchange) (news : List (At Trace)) → order ≡ order_of lines e
+pub order-within : (lines : List (List ℕ)) (e order : Exchange) (news : List (SparseItem Trace)) → order ≡ order_of lines e
     → news ≡ (second_replayed lines e ++ first_replayed lines e) ++ behind_replayed lines e → IsWithin (length news) order
 order-within lines e order news same is =
     let one = first_replayed lines e in

@@ -5,7 +5,7 @@ use Rattle.cps_state.specs.Course.{Trace}
 use Rattle.cps_exchange.specs.declared.exchange.Exchange.{Exchange}
 use Rattle.cps_exchange.specs.Exchange.{IsWithin, exchanged}
 use Rattle.cps_exchange.proofs.ListLemmas.{whole}
-use Rattle.cps_replay.specs.declared.sparse.At.{At}
+use Rattle.cps_replay.specs.declared.sparse.SparseItem.{SparseItem}
 use Rattle.cps_replay.specs.Sparse.{renewed, AreWithin}
 use Rattle.cps_replay.specs.Storing.{left_by, stored_by}
 use Rattle.cps_replay.specs.Walk.{stretch}
@@ -23,7 +23,7 @@ left-moved front first second behind none =
     ap left_by (sym (append_assoc front second (first ++ behind))) ∙ left-middle (front ++ second) first [] behind none ∙ ap left_by (append_assoc front second behind)
     ∙ sym (left-middle front first [] (second ++ behind) none)
 
-module _ (e : Exchange) (olds : List Trace) (news : List (At Trace)) (within : IsWithin (length olds) e) where
+module _ (e : Exchange) (olds : List Trace) (news : List (SparseItem Trace)) (within : IsWithin (length olds) e) where
   left-whole : left_by (take e.keep olds ++ (stretch e.keep e.mid olds ++ (stretch e.mid e.from olds ++ drop e.from olds))) ≡ left_by olds
   left-whole = ap left_by (whole olds e.keep e.mid e.from within.first within.second within.all)
 
@@ -53,7 +53,7 @@ module _ (e : Exchange) (olds : List Trace) (news : List (At Trace)) (within : I
 
   -- ---- one part after another
 
-  module _ (first rest second behind : List (At Trace)) (places : AreWithin e.keep (length olds) news) (one : first ≡ items_before e.mid news) (more : rest ≡ items_from e.mid news)
+  module _ (first rest second behind : List (SparseItem Trace)) (places : AreWithin e.keep (length olds) news) (one : first ≡ items_before e.mid news) (more : rest ≡ items_from e.mid news)
       (two : second ≡ items_before e.from rest) (three : behind ≡ items_from e.from rest) where
     pub first-places : AreWithin e.keep e.mid first
     first-places = subst (AreWithin e.keep e.mid) (sym one) (before-within e.mid e.keep (length olds) news within.first places)
@@ -87,7 +87,7 @@ module _ (e : Exchange) (olds : List Trace) (news : List (At Trace)) (within : I
         ∙ ap (λ ns. exchanged e (renewed 0 ns olds)) news-parts
 
 -- places among the lines of a run, by how many it has
-pub run-end : (a b : ℕ) (olds : List Trace) (news : List (At Trace)) → a ≤ b → b ≤ length olds → AreWithin a b news → AreWithin a (a + length (take (b - a) (drop a olds))) news
+pub run-end : (a b : ℕ) (olds : List Trace) (news : List (SparseItem Trace)) → a ≤ b → b ≤ length olds → AreWithin a b news → AreWithin a (a + length (take (b - a) (drop a olds))) news
 run-end a b olds news le most places =
     let end : b ≡ a + length (take (b - a) (drop a olds)) = omega (arith, length-take (b - a) (drop a olds), length-drop a olds, le, most) in
     subst (λ (k : ℕ). AreWithin a k news) end places

@@ -4,13 +4,13 @@ use Rattle.std.specs.Prelude.{unwrap_or}
 use Rattle.std.specs.Option.{option_or}
 use Rattle.std.proofs.lemmas.List.{take_more, take-append-drop}
 use Rattle.cps_edit.proofs.TakenLemmas.{drop_at}
-use Rattle.cps_replay.specs.declared.sparse.At.{At}
+use Rattle.cps_replay.specs.declared.sparse.SparseItem.{SparseItem}
 use Rattle.cps_replay.specs.Sparse.{item_at, renewed, AreWithin}
 use Rattle.cps_replay.proofs.SparseLemmas.{AreWithin-ordered, item_at-append, item_at-here, item_at-push, item_at-behind, renewed-agree}
 
 module _ {X : Type 0} where
   -- those in front of one of them, and it with those behind it
-  AreWithin-parts : (a b : ℕ) (xs : List (At X)) (new : At X) (ys : List (At X)) → AreWithin a b (xs ++ new ∷ ys) → AreWithin a new.at xs × AreWithin new.at b (new ∷ ys)
+  AreWithin-parts : (a b : ℕ) (xs : List (SparseItem X)) (new : SparseItem X) (ys : List (SparseItem X)) → AreWithin a b (xs ++ new ∷ ys) → AreWithin a new.at xs × AreWithin new.at b (new ∷ ys)
   AreWithin-parts a b [] new ys within = (within.0, (omega arith, within.1, within.2))
   AreWithin-parts a b (x ∷ xs) new ys within =
       let rest = AreWithin-parts (suc x.at) b xs new ys within.2 in
@@ -18,7 +18,7 @@ module _ {X : Type 0} where
       ((within.0, lt, rest.0), rest.1)
 
   -- one more, behind those that stand in front of it
-  renewed-last : (i a : ℕ) (news : List (At X)) (new : At X) (zs : List X) → item_at news (i + a) ≡ None → new.at ≡ i + a
+  renewed-last : (i a : ℕ) (news : List (SparseItem X)) (new : SparseItem X) (zs : List X) → item_at news (i + a) ≡ None → new.at ≡ i + a
       → renewed i (news ++ new ∷ []) zs ≡ set (renewed i news zs) a new.item
   renewed-last i a news new [] none at = refl
   renewed-last i zero news new (z ∷ zs) none at =
@@ -34,7 +34,7 @@ module _ {X : Type 0} where
       let later = renewed-last (suc i) a news new zs (ap (item_at news) same ∙ none) (omega (arith, at)) in
       λ j. unwrap_or (here j) z ∷ later j
 
-  get_or-renewed : (i a : ℕ) (news : List (At X)) (zs : List X) (d : X) → item_at news (i + a) ≡ None → get_or (renewed i news zs) a d ≡ get_or zs a d
+  get_or-renewed : (i a : ℕ) (news : List (SparseItem X)) (zs : List X) (d : X) → item_at news (i + a) ≡ None → get_or (renewed i news zs) a d ≡ get_or zs a d
   get_or-renewed i a news [] d none = refl
   get_or-renewed i zero news (z ∷ zs) d none =
       let same : i ≡ i + 0 = omega arith in
@@ -45,7 +45,7 @@ module _ {X : Type 0} where
 
   -- ---- one of a list
 
-  module _ (a b i : ℕ) (news : List (At X)) (new : At X) (lt : i < length news) (is : new ≡ get_or news i new) where
+  module _ (a b i : ℕ) (news : List (SparseItem X)) (new : SparseItem X) (lt : i < length news) (is : new ≡ get_or news i new) where
     pub left-next : AreWithin a b (drop i news) → AreWithin a b (new ∷ drop (i + 1) news)
     left-next within = subst (AreWithin a b) (drop_at news i new lt is) within
 

@@ -20,7 +20,7 @@ use Rattle.cps_chunk.specs.declared.chunk.Chunk.{Chunk}
 use Rattle.cps_chunk.specs.Chunk.{AreChunksOf, IsChunkOf, lengths_of}
 use Rattle.cps_chunk.specs.Marks.{AreMarked, keys_named}
 use Rattle.cps_holding.specs.declared.ends.Ends.{Ends}
-use Rattle.cps_replay.specs.declared.sparse.At.{At}
+use Rattle.cps_replay.specs.declared.sparse.SparseItem.{SparseItem}
 use Rattle.cps_replay.specs.Ends.{was_of, now_of}
 use Rattle.cps_replay.specs.Redo.{is_passed}
 use Rattle.cps_replay.specs.Replayed.{redone}
@@ -36,7 +36,7 @@ use Rattle.cps_editing.specs.SecondPass.{IsExactPass, IsStillChunk, GoesOver, re
 -- ---- items in front of a place, and from it on
 
 module _ {X : Type 0} (p : ℕ) where
-  pub before-within : (a b : ℕ) (news : List (At X)) → a ≤ p → AreWithin a b news → AreWithin a p (items_before p news)
+  pub before-within : (a b : ℕ) (news : List (SparseItem X)) → a ≤ p → AreWithin a b news → AreWithin a p (items_before p news)
   before-within a b [] le within = le
   before-within a b (new ∷ news) le within = by_test (nat_lt new.at p) refl (λ lt. before-within (suc new.at) b news lt within.2)
     where
@@ -45,7 +45,7 @@ module _ {X : Type 0} (p : ℕ) where
       by_test true is rest = let lt : new.at < p = ltb-true new.at p is in (within.0, lt, rest (omega (arith, lt)))
       by_test false is rest = le
 
-  pub from-within : (a b : ℕ) (news : List (At X)) → p ≤ b → AreWithin a b news → AreWithin p b (items_from p news)
+  pub from-within : (a b : ℕ) (news : List (SparseItem X)) → p ≤ b → AreWithin a b news → AreWithin p b (items_from p news)
   from-within a b [] le within = le
   from-within a b (new ∷ news) le within = by_test (nat_lt new.at p) refl (from-within (suc new.at) b news le within.2)
     where
@@ -53,7 +53,7 @@ module _ {X : Type 0} (p : ℕ) where
       by_test true is rest = rest
       by_test false is rest = (ltb-false new.at p is, within.1, within.2)
 
-  pub before-from : (news : List (At X)) → items_before p news ++ items_from p news ≡ news
+  pub before-from : (news : List (SparseItem X)) → items_before p news ++ items_from p news ≡ news
   before-from [] = refl
   before-from (new ∷ news) = by_test (nat_lt new.at p) (before-from news)
     where
@@ -81,7 +81,7 @@ module _ (was now : Resolved) (ts : List Trace) where
   redone-none i same = redone-all_same was now i [] ts (sym (names-law (same_at was now) ts) ∙ same) (λ k low high. refl)
 
   -- of a stretch in two parts
-  pub redone-parts : (a m b : ℕ) (news : List (At Trace)) → a ≤ m → m ≤ b → b ≤ length ts → AreWithin a b news
+  pub redone-parts : (a m b : ℕ) (news : List (SparseItem Trace)) → a ≤ m → m ≤ b → b ≤ length ts → AreWithin a b news
       → redone was now a news (stretch a b ts) ≡ redone was now a (items_before m news) (stretch a m ts) ++ redone was now m (items_from m news) (stretch m b ts)
   redone-parts a m b news one two end within =
       let front = items_before m news in
@@ -106,7 +106,7 @@ module _ (pass : SecondPass) where
   olds = pass.base.traces.now
 
   -- of one chunk, and of those behind it
-  pub looks-step : (n at : ℕ) (lengths : List ℕ) (news : List (At Trace))
+  pub looks-step : (n at : ℕ) (lengths : List ℕ) (news : List (SparseItem Trace))
       → looks_in pass (n ∷ lengths) at news ≡ looks_at pass at (at + n) (items_before (at + n) news) + looks_in pass lengths (at + n) (items_from (at + n) news)
   looks-step n at lengths news =
       let was = was_of pass.redo.ends in
@@ -168,7 +168,7 @@ module _ (first : SecondPass) where
   ts = first.base.traces.now
 
   -- lines from one on up to another are gone over, up to one of them; this is new of those from it on
-  pub record GoesOn (next : SecondPass) (from at to : ℕ) (news left : List (At Trace)) : Type 0 where
+  pub record GoesOn (next : SecondPass) (from at to : ℕ) (news left : List (SparseItem Trace)) : Type 0 where
     pub within : AreWithin at to left
     pub made : next.redo.news.items ++ redone_in first at to left ≡ first.redo.news.items ++ redone_in first from to news
     pub ends : next.redo.ends ≡ first.redo.ends
@@ -176,19 +176,19 @@ module _ (first : SecondPass) where
     pub differences : next.differences ≡ first.differences
 
   -- the same under the same final values
-  pub same-redone : (next : SecondPass) (from to : ℕ) (news : List (At Trace)) → next.redo.ends ≡ first.redo.ends → next.base ≡ first.base → redone_in next from to news ≡ redone_in first from to news
+  pub same-redone : (next : SecondPass) (from to : ℕ) (news : List (SparseItem Trace)) → next.redo.ends ≡ first.redo.ends → next.base ≡ first.base → redone_in next from to news ≡ redone_in first from to news
   same-redone next from to news ends base = λ i. redone (was_of (ends i)) (now_of (ends i)) from news (stretch from to (base i).traces.now)
 
-  pub redone-cut : (from m to : ℕ) (news : List (At Trace)) → from ≤ m → m ≤ to → to ≤ length ts → AreWithin from to news
+  pub redone-cut : (from m to : ℕ) (news : List (SparseItem Trace)) → from ≤ m → m ≤ to → to ≤ length ts → AreWithin from to news
       → redone_in first from to news ≡ redone_in first from m (items_before m news) ++ redone_in first m to (items_from m news)
   redone-cut from m to news one two end within = redone-parts was now ts from m to news one two end within
 
-  pub count-cut : (from m to : ℕ) (news : List (At Trace)) → from ≤ m → m ≤ to → to ≤ length ts → AreWithin from to news
+  pub count-cut : (from m to : ℕ) (news : List (SparseItem Trace)) → from ≤ m → m ≤ to → to ≤ length ts → AreWithin from to news
       → length (redone_in first from to news) ≡ length (redone_in first from m (items_before m news)) + length (redone_in first m to (items_from m news))
   count-cut from m to news one two end within =
       ap length (redone-cut from m to news one two end within) ∙ length-append (redone_in first from m (items_before m news)) (redone_in first m to (items_from m news))
 
-  pub goes-next : (next last : SecondPass) (from at m to : ℕ) (news left : List (At Trace)) → at ≤ m → m ≤ to → to ≤ length ts → GoesOn next from at to news left
+  pub goes-next : (next last : SecondPass) (from at m to : ℕ) (news left : List (SparseItem Trace)) → at ≤ m → m ≤ to → to ≤ length ts → GoesOn next from at to news left
       → GoesOver next last at m (items_before m left) → GoesOn last from m to news (items_from m left)
   goes-next next last from at m to news left one two end on over =
       let here = redone_in first at m (items_before m left) in
@@ -205,13 +205,13 @@ module _ (first : SecondPass) where
       }
 
   -- nothing is made anew of lines that name nothing that differs, and of which none is new
-  pub none-made : (from to : ℕ) (news : List (At Trace)) → news ≡ [] → all_pass (same_at was now) (names_in (stretch from to ts)) ≡ true → redone_in first from to news ≡ []
+  pub none-made : (from to : ℕ) (news : List (SparseItem Trace)) → news ≡ [] → all_pass (same_at was now) (names_in (stretch from to ts)) ≡ true → redone_in first from to news ≡ []
   none-made from to news empty same = ap (λ ns. redone_in first from to ns) empty ∙ redone-none was now (stretch from to ts) from same
 
-  pub each-made : (from to : ℕ) (news : List (At Trace)) → news ≡ [] → list_all (λ (t : Trace). same_named was now t.items) (stretch from to ts) ≡ true → redone_in first from to news ≡ []
+  pub each-made : (from to : ℕ) (news : List (SparseItem Trace)) → news ≡ [] → list_all (λ (t : Trace). same_named was now t.items) (stretch from to ts) ≡ true → redone_in first from to news ≡ []
   each-made from to news empty same = ap (λ ns. redone_in first from to ns) empty ∙ redone-each_same was now from [] (stretch from to ts) same (λ k low high. refl)
 
-  pub goes-none : (from to : ℕ) (news : List (At Trace)) → redone_in first from to news ≡ [] → GoesOver first first from to news
+  pub goes-none : (from to : ℕ) (news : List (SparseItem Trace)) → redone_in first from to news ≡ [] → GoesOver first first from to news
   goes-none from to news none = record {
     made = sym (append-nil first.redo.news.items) ∙ ap (λ ones. first.redo.news.items ++ ones) (sym none);
     ends = refl;
@@ -219,7 +219,7 @@ module _ (first : SecondPass) where
     differences = refl;
   }
 
-  pub goes-join : (next last : SecondPass) (from m to : ℕ) (news : List (At Trace)) → from ≤ m → m ≤ to → to ≤ length ts → AreWithin from to news
+  pub goes-join : (next last : SecondPass) (from m to : ℕ) (news : List (SparseItem Trace)) → from ≤ m → m ≤ to → to ≤ length ts → AreWithin from to news
       → GoesOver first next from m (items_before m news) → GoesOver next last m to (items_from m news) → GoesOver first last from to news
   goes-join next last from m to news one two end within front back =
       let here = redone_in first from m (items_before m news) in
@@ -233,7 +233,7 @@ module _ (first : SecondPass) where
       }
 
   -- all of them, where one is new or something differs that they name
-  pub looks-all : (n at : ℕ) (news : List (At Trace)) → is_passed was now (names_in (stretch at (at + n) ts)) news ≡ false → n ≤ looks_at first at (at + n) news
+  pub looks-all : (n at : ℕ) (news : List (SparseItem Trace)) → is_passed was now (names_in (stretch at (at + n) ts)) news ≡ false → n ≤ looks_at first at (at + n) news
   looks-all n at news out =
       let all : looks_at first at (at + n) news ≡ at + n - at = ap (λ test. if test then 0 else at + n - at) out in
       omega (arith, all)
@@ -284,6 +284,6 @@ module _ (first : SecondPass) where
     lengths-still d still = lengths-set first.base.hashing ds i c d lt is still.lines ∙ same
 
     -- how many lines are compared of this chunk and of those behind it
-    pub looks-here : (news : List (At Trace)) → looks_in first (drop i (lengths_of cs)) at news
+    pub looks-here : (news : List (SparseItem Trace)) → looks_in first (drop i (lengths_of cs)) at news
         ≡ looks_at first at (at + c.lines) (items_before (at + c.lines) news) + looks_in first (drop (i + 1) (lengths_of cs)) (at + c.lines) (items_from (at + c.lines) news)
     looks-here news = ap (λ ns. looks_in first ns at news) lengths-here ∙ looks-step first c.lines at (drop (i + 1) (lengths_of cs)) news

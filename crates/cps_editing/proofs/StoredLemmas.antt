@@ -3,7 +3,7 @@ use Rattle.std.proofs.Common.{◌≡◌, ℕ, ◌+◌, ◌-◌, ◌<◌, ◌≤�
 use Rattle.std.proofs.lemmas.List.{take_all, drop_all}
 use lib.Seq.{map-set_same}
 use Rattle.cps_state.specs.Course.{Trace}
-use Rattle.cps_replay.specs.declared.sparse.At.{At}
+use Rattle.cps_replay.specs.declared.sparse.SparseItem.{SparseItem}
 use Rattle.cps_replay.specs.Sparse.{renewed, AreWithin}
 use Rattle.cps_replay.specs.Storing.{Left, left_by, stored_by}
 use Rattle.cps_replay.proofs.SparseLemmas.{renewed-split}
@@ -36,7 +36,7 @@ left-all (t ∷ ts) = left-append (t ∷ []) ts ∙ ap (joined (left_by (t ∷ [
 pub left-same : (ts us : List Trace) → left_by_each ts ≡ left_by_each us → left_by ts ≡ left_by us
 left-same ts us each = left-all ts ∙ ap all_left each ∙ sym (left-all us)
 
-pub each-next : (olds : List Trace) (news : List (At Trace)) (i : ℕ) (new : At Trace) (old : Trace) → i < length news → new ≡ get_or news i new → AreWithin 0 (length olds) news
+pub each-next : (olds : List Trace) (news : List (SparseItem Trace)) (i : ℕ) (new : SparseItem Trace) (old : Trace) → i < length news → new ≡ get_or news i new → AreWithin 0 (length olds) news
     → old ≡ get_or olds new.at old → left_by (old ∷ []) ≡ left_by (new.item ∷ []) → left_by_each (renewed 0 (take i news) olds) ≡ left_by_each olds
     → left_by_each (renewed 0 (take (i + 1) news) olds) ≡ left_by_each olds
 each-next olds news i new old lt is within at same before =
@@ -46,7 +46,7 @@ each-next olds news i new old lt is within at same before =
     let here : old ≡ get_or so_far new.at old = at ∙ sym (renewed-still 0 b i news new lt is within olds old) in
     ap left_by_each (renewed-next 0 b i news new lt is within olds) ∙ map-set_same one so_far new.at new.item old (sym same ∙ ap one here) ∙ before
 
-pub each-all : (olds : List Trace) (news : List (At Trace)) (i : ℕ) → length news ≤ i → left_by_each (renewed 0 (take i news) olds) ≡ left_by_each olds
+pub each-all : (olds : List Trace) (news : List (SparseItem Trace)) (i : ℕ) → length news ≤ i → left_by_each (renewed 0 (take i news) olds) ≡ left_by_each olds
     → left_by_each (renewed 0 news olds) ≡ left_by_each olds
 each-all olds news i past so_far = ap (λ ns. left_by_each (renewed 0 ns olds)) (sym (take_all i news past)) ∙ so_far
 
@@ -80,7 +80,7 @@ module _ (cut : Cut) (news : News Trace) (olds : List Trace) where
       (λ i. sym front i ++ (is ∙ sym (append-nil news.entered.items)) i) ∙ ap (λ us. take cut.keep olds ++ (news.entered.items ++ us)) (sym behind)
 
   -- one part after another
-  pub parts-edited : (front es behind : List Trace) (rs : List (At Trace)) → front ≡ take cut.keep olds → es ≡ news.entered.items → rs ≡ news.renewed.items → behind ≡ drop cut.from olds
+  pub parts-edited : (front es behind : List Trace) (rs : List (SparseItem Trace)) → front ≡ take cut.keep olds → es ≡ news.entered.items → rs ≡ news.renewed.items → behind ≡ drop cut.from olds
       → (front ++ es) ++ renewed cut.from rs behind ≡ edited cut news olds
   parts-edited front es behind rs a b c d =
       append_assoc front es (renewed cut.from rs behind) ∙ (λ i. a i ++ (b i ++ renewed cut.from (c i) (d i)))

@@ -41,6 +41,14 @@ pub record IsCut (lines : List (List ℕ)) (olds : List ℕ) (cut : Cut) : Type 
   pub before : cut.before ≡ sum (take cut.start olds)
   pub behind : cut.behind ≡ sum (take cut.end olds)
 
+-- what the new lines do
+abbrev pub traces_of_new : List (List ℕ) → Cut → List Trace
+traces_of_new lines cut = traces_from (state_front lines (splice_of cut)) cut.lines.items
+
+-- items in the place of those after the first `keep` up to the first `from`
+abbrev pub put_between : {X : Type 0} → ℕ → ℕ → List X → List X → List X
+put_between keep from news items = take keep items ++ (news ++ drop from items)
+
 -- ---- what is kept
 
 -- what each line did in pass one, what pass two makes of it, and the chunks

@@ -20,7 +20,7 @@ use Rattle.cps_edit.specs.Compares.{ComparesUpTo, Steps}
 use Rattle.cps_edit.specs.Disturbed.{finals_in, ones_of_exchange, twos_of_exchange}
 use Rattle.cps_edit.specs.Passes.{state_after, traces_of}
 use Rattle.cps_chunk.specs.Chunk.{lengths_of}
-use Rattle.cps_replay.specs.declared.sparse.At.{At}
+use Rattle.cps_replay.specs.declared.sparse.SparseItem.{SparseItem}
 use Rattle.cps_replay.specs.Moved.{replayed_moved}
 use Rattle.cps_replay.specs.Replayed.{redone}
 use Rattle.cps_touched.specs.Looks.{looks_again}
@@ -53,15 +53,15 @@ pub record IsRecutMoved (kept : KeptSource) (e : Exchange) (pieces : List Piece)
   pub named : ArePieces (lengths_of kept.chunks.items) pieces (exchanged_numbers (sum (lengths_of kept.chunks.items)) e)
 
 -- what pass two makes of lines of which these do something new, under the final values that are kept, and how many of them it compares
-abbrev pub redone_by : KeptSource → Mend → List (At Trace) → List (At Outcome)
+abbrev pub redone_by : KeptSource → Mend → List (SparseItem Trace) → List (SparseItem Outcome)
 redone_by kept mend news = redone (final_value (mended mend (gathered-value.it kept.finals))) (final_value (gathered-value.it kept.finals)) 0 news kept.traces.items
 
-abbrev pub looks_by : KeptSource → Mend → List (At Trace) → ℕ
+abbrev pub looks_by : KeptSource → Mend → List (SparseItem Trace) → ℕ
 looks_by kept mend news =
     looks_again (final_value (mended mend (gathered-value.it kept.finals))) (final_value (gathered-value.it kept.finals)) (lengths_of kept.chunks.items) 0 news kept.traces.items
 
 -- what pass two makes of a move
-abbrev pub redone_moved : List (List ℕ) → Exchange → List (At Outcome)
+abbrev pub redone_moved : List (List ℕ) → Exchange → List (SparseItem Outcome)
 redone_moved lines e = redone (finals_in lines) (finals_in (exchanged e lines)) 0 (replayed_moved lines e) (traces_of lines)
 
 -- all that comes with a move, and a list for its chunks

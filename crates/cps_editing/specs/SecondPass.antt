@@ -10,7 +10,7 @@ use Rattle.cps_naming.specs.Names.{names_in}
 use Rattle.cps_edit.specs.Compares.{Steps}
 use Rattle.cps_chunk.specs.Chunk.{AreChunksOf, IsChunkOf, lengths_of}
 use Rattle.cps_chunk.specs.declared.chunk.Chunk.{Chunk}
-use Rattle.cps_replay.specs.declared.sparse.At.{At}
+use Rattle.cps_replay.specs.declared.sparse.SparseItem.{SparseItem}
 use Rattle.cps_replay.specs.Ends.{was_of, now_of}
 use Rattle.cps_touched.specs.Looks.{items_from, looks_again}
 use Rattle.cps_replay.specs.Redo.{is_passed}
@@ -27,11 +27,11 @@ pub record IsExactPass (pass : SecondPass) : Type 0 where
   pub exact : AreExact pass.differences
 
 -- what pass two makes now of the lines from one on up to another that are disturbed in it, of which these do something new
-abbrev pub redone_in : SecondPass → ℕ → ℕ → List (At Trace) → List (At Outcome)
+abbrev pub redone_in : SecondPass → ℕ → ℕ → List (SparseItem Trace) → List (SparseItem Outcome)
 redone_in pass from to news = redone (was_of pass.redo.ends) (now_of pass.redo.ends) from news (stretch from to pass.base.traces.now)
 
 -- lines from one on up to another were gone over
-pub record GoesOver (old new : SecondPass) (from to : ℕ) (news : List (At Trace)) : Type 0 where
+pub record GoesOver (old new : SecondPass) (from to : ℕ) (news : List (SparseItem Trace)) : Type 0 where
   pub made : new.redo.news.items ≡ old.redo.news.items ++ redone_in old from to news
   pub ends : new.redo.ends ≡ old.redo.ends
   pub base : new.base ≡ old.base
@@ -53,11 +53,11 @@ pub record AreStillChunks (pass : SecondPass) (at : ℕ) (olds news : List Chunk
   pub lengths : lengths_of news ≡ lengths_of olds
 
 -- how many lines of a chunk are compared, and how many of chunks
-abbrev pub looks_at : SecondPass → ℕ → ℕ → List (At Trace) → ℕ
+abbrev pub looks_at : SecondPass → ℕ → ℕ → List (SparseItem Trace) → ℕ
 looks_at pass from to news =
     if is_passed (was_of pass.redo.ends) (now_of pass.redo.ends) (names_in (stretch from to pass.base.traces.now)) news then 0 else to - from
 
-abbrev pub looks_in : SecondPass → List ℕ → ℕ → List (At Trace) → ℕ
+abbrev pub looks_in : SecondPass → List ℕ → ℕ → List (SparseItem Trace) → ℕ
 looks_in pass lengths at news = looks_again (was_of pass.redo.ends) (now_of pass.redo.ends) lengths at news (drop at pass.base.traces.now)
 
 -- whether something has the same final value, and that so has all that lines name
@@ -85,16 +85,16 @@ pub record CutsAround (pass : SecondPass) (cut : Cut) (olds : List Chunk) : Type
   pub ends : cut.from ≤ cut.behind
   pub few : length pass.base.traces.now < 2 ^ 64
 
-abbrev pub redone_around : SecondPass → Cut → List (At Trace) → List (At Outcome)
+abbrev pub redone_around : SecondPass → Cut → List (SparseItem Trace) → List (SparseItem Outcome)
 redone_around pass cut news = redone_in pass 0 cut.keep [] ++ redone_in pass cut.from (length pass.base.traces.now) news
 
-pub record GoesAround (old new : SecondPass) (cut : Cut) (news : List (At Trace)) : Type 0 where
+pub record GoesAround (old new : SecondPass) (cut : Cut) (news : List (SparseItem Trace)) : Type 0 where
   pub made : new.redo.news.items ≡ old.redo.news.items ++ redone_around old cut news
   pub ends : new.redo.ends ≡ old.redo.ends
 
-abbrev pub StepsAround : {T E : Type 0} → Result T E → SecondPass → Cut → List (At Trace) → Counts → Counts → Type 0
+abbrev pub StepsAround : {T E : Type 0} → Result T E → SecondPass → Cut → List (SparseItem Trace) → Counts → Counts → Type 0
 StepsAround result pass cut news old new = Steps result old new 0 (length (redone_around pass cut news))
 
-abbrev pub looks_around : SecondPass → Cut → List ℕ → List (At Trace) → ℕ
+abbrev pub looks_around : SecondPass → Cut → List ℕ → List (SparseItem Trace) → ℕ
 looks_around pass cut olds news =
     looks_in pass (take cut.start olds) 0 [] + (cut.keep - cut.before) + (cut.behind - cut.from + looks_in pass (drop cut.end olds) cut.behind (items_from cut.behind news))

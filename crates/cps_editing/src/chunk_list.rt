@@ -10,10 +10,10 @@ use crate::cut::Cut;
 use crate::lists::put_at;
 use cps_chunk::Chunk;
 use cps_pass::{Hashing, Trace};
-use cps_replay::At;
+use cps_replay::SparseItem;
 
 /// Marks what lines do now, each at its place, in their chunks.
-pub fn mark_all(chunks: &mut Vec<Chunk>, hashing: Hashing, news: &[At<Trace>])
+pub fn mark_all(chunks: &mut Vec<Chunk>, hashing: Hashing, news: &[SparseItem<Trace>])
     requires { AreWithin 0 (sum (lengths_of chunks.old.items)) news.now }
     ensures chunks { (ts : List Did) → AreChunksOf hashing chunks.old.items ts → AreChunksOf hashing chunks.new.items (renewed 0 news.now ts) }
     ensures lengths { lengths_of chunks.new.items ≡ lengths_of chunks.old.items }

@@ -10,7 +10,7 @@ use crate::chunk_list::chunks_of;
 use crate::kept_source::KeptSource;
 use crate::second_pass::step_two_all;
 use cps_division::FULL;
-use cps_edit::Front;
+use cps_edit::PassOne;
 use cps_pass::{Hashing, State, Work};
 use cps_text::Line;
 use std::alloc::{AllocError, Global};
@@ -30,9 +30,9 @@ pub fn kept_of(
 {
     let lengths = full_lengths(alloc, lines.len())?;
     let room = Vec::with_capacity(alloc, lengths.len())?;
-    let mut front = Front::new(alloc, hashing);
-    let traces = front.step_all(&lines, work)?;
-    let Ok(finals) = front.finish() else {
+    let mut one = PassOne::new(alloc, hashing);
+    let traces = one.step_all(&lines, work)?;
+    let Ok(finals) = one.finish() else {
         unreachable!();
     };
     let outcomes = step_two_all(alloc, &traces, &finals, work)?;

@@ -18,15 +18,15 @@ use cps_final::Outcome;
 use cps_gather::Mend;
 use cps_moving::chunks_moved;
 use cps_pass::{Trace, Work};
-use cps_replay::{At, Baseline, Ends, put_all};
+use cps_replay::{Baseline, Ends, SparseItem, put_all};
 use std::alloc::AllocError;
 use std::mem::replace;
 
 /// What the passes make of a move, which chunks come, and a list for them.
 #[derive(Drop)]
 struct MovedParts {
-    traces: Vec<At<Trace>>,
-    outcomes: Vec<At<Outcome>>,
+    traces: Vec<SparseItem<Trace>>,
+    outcomes: Vec<SparseItem<Outcome>>,
     pieces: Vec<Piece>,
     chunks: Vec<Chunk>,
 }
@@ -119,10 +119,10 @@ impl KeptSource {
     /// Pass two over all lines, of which these do something new, under the final values that are kept.
     fn pass_again(
         &mut self,
-        traces: &[At<Trace>],
+        traces: &[SparseItem<Trace>],
         mend: &Mend,
         work: &mut Work,
-    ) -> Result<Vec<At<Outcome>>, AllocError>
+    ) -> Result<Vec<SparseItem<Outcome>>, AllocError>
         requires kept { AreKept self.old }
         requires few { vec_len self.old.lines < 2 ^ 63 }
         requires news { AreWithin 0 (vec_len self.old.lines) traces.now }

@@ -5,7 +5,7 @@ ghost use Rattle.cps_edit.specs.Passes.{state_after, traces_from};
 ghost use Rattle.cps_chunk.specs.Chunk.{AreChunksOf, lengths_of};
 ghost use Rattle.cps_replay.specs.Replayed.{state_front};
 ghost use Rattle.cps_replay.specs.Walk.{IsBaseline, IsStillWalk, IsWalk};
-ghost use Rattle.cps_editing.specs.Editing.{IsCut, IsFirstPass, LooksOfFirst, StepsOfFirst, splice_of};
+ghost use Rattle.cps_editing.specs.Editing.{IsCut, IsFirstPass, LooksOfFirst, StepsOfFirst, splice_of, traces_of_new};
 ghost use Rattle.cps_editing.specs.Exchanged.{HasPassedMoved, HasRuns, IsMovedPass};
 ghost use Rattle.cps_editing.specs.FirstPass.{BeginsWalk, IsWalked};
 
@@ -117,7 +117,7 @@ fn go_over(walk: &mut Walk, cut: &Cut, work: &mut Work) -> Result<Vec<Trace>, Al
     requires walk { IsWalk walk.old }
     requires begins { BeginsWalk walk.old }
     requires cut { IsCut walk.old.base.lines.now (lengths_of walk.old.chunks.items) cut.now }
-    ensures entered { IfOk result (λ entered. entered.items ≡ traces_from (state_front walk.old.base.lines.now (splice_of cut.now)) cut.now.lines.items) }
+    ensures entered { IfOk result (λ entered. entered.items ≡ traces_of_new walk.old.base.lines.now cut.now) }
     ensures over { OnOk result (IsWalked walk.old walk.new (splice_of cut.now)) }
     ensures walk { IsStillWalk walk.old walk.new }
     ensures steps { StepsOfFirst result walk.old.base.lines.now cut.now work.old work.new }

@@ -1,5 +1,6 @@
 //! Items in the place of others, without memory, and room for more.
 ghost use Rattle.std.specs.Prelude.{◌≡◌, ◌+◌, ◌≤◌, ◌++◌, OnOk, take, drop, vec_len, vec_capacity};
+ghost use Rattle.cps_editing.specs.Editing.{put_between};
 
 use cps_exchange::Exchange;
 use std::alloc::AllocError;
@@ -20,7 +21,7 @@ pub fn put_at<T: Drop>(items: &mut Vec<T>, keep: usize, from: usize, news: Vec<T
     requires ordered { keep ≤ from }
     requires within { from ≤ vec_len items.old }
     requires room { vec_len items.old + vec_len news ≤ vec_capacity items.old }
-    ensures { items.new.items ≡ take keep items.old.items ++ (news.items ++ drop from items.old.items) }
+    ensures { items.new.items ≡ put_between keep from news.items items.old.items }
 {
     if news.len() == from - keep {
         return replace_at(items, keep, news);

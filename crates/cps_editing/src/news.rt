@@ -1,15 +1,16 @@
 //! What a pass makes anew.
-ghost use Rattle.std.specs.Prelude.{◌≡◌, ◌+◌, ◌≤◌, ◌++◌, take, drop, vec_len, vec_capacity};
+ghost use Rattle.std.specs.Prelude.{◌≡◌, ◌+◌, ◌≤◌, vec_len, vec_capacity};
 ghost use Rattle.cps_replay.specs.Sparse.{AreWithin, renewed};
+ghost use Rattle.cps_editing.specs.Editing.{put_between};
 
 use crate::lists::put_at;
-use cps_replay::{At, put_all};
+use cps_replay::{SparseItem, put_all};
 
 /// What a pass makes of an edit: of the new lines, and of others, each at the place that it had.
 #[derive(Drop)]
 pub struct News<T> {
     pub entered: Vec<T>,
-    pub renewed: Vec<At<T>>,
+    pub renewed: Vec<SparseItem<T>>,
 }
 
 impl<T: Drop> News<T> {
@@ -19,8 +20,7 @@ impl<T: Drop> News<T> {
         requires within { from ≤ vec_len items.old }
         requires places { AreWithin 0 (vec_len items.old) self.renewed.items }
         requires room { vec_len items.old + vec_len self.entered ≤ vec_capacity items.old }
-        ensures { items.new.items ≡ take keep (renewed 0 self.renewed.items items.old.items)
-            ++ (self.entered.items ++ drop from (renewed 0 self.renewed.items items.old.items)) }
+        ensures { items.new.items ≡ put_between keep from self.entered.items (renewed 0 self.renewed.items items.old.items) }
     {
         let News { entered, renewed } = self;
         put_all(items, renewed);
@@ -28,7 +28,7 @@ impl<T: Drop> News<T> {
     }
 
     /// What is of the lines that were there before.
-    pub fn into_renewed(self) -> Vec<At<T>>
+    pub fn into_renewed(self) -> Vec<SparseItem<T>>
         ensures { result ≡ self.renewed }
     {
         let News { entered, renewed } = self;

@@ -16,7 +16,7 @@ use crate::differences::Differences;
 use cps_chunk::Chunk;
 use cps_final::{Finals, Outcome, step_two};
 use cps_pass::{Trace, Work};
-use cps_replay::{At, Baseline, Ends, Redo, gather, part};
+use cps_replay::{Baseline, Ends, Redo, SparseItem, gather, part};
 use std::alloc::{AllocError, Global};
 
 /// Pass two of an edit over the lines that were there before, as far as it has come.
@@ -78,7 +78,7 @@ impl<'a> SecondPass<'a> {
         &mut self,
         at: usize,
         chunk: &mut Chunk,
-        news: &[At<Trace>],
+        news: &[SparseItem<Trace>],
         work: &mut Work,
     ) -> Result<(), AllocError>
         requires exact { IsExactPass self.old }
@@ -102,7 +102,7 @@ impl<'a> SecondPass<'a> {
         &mut self,
         at: usize,
         chunks: &mut [Chunk],
-        news: &[At<Trace>],
+        news: &[SparseItem<Trace>],
         work: &mut Work,
     ) -> Result<(), AllocError>
         requires exact { IsExactPass self.old }
@@ -145,7 +145,7 @@ impl<'a> SecondPass<'a> {
     fn go_over_lines(
         &mut self,
         lines: Stretch,
-        news: &[At<Trace>],
+        news: &[SparseItem<Trace>],
         work: &mut Work,
     ) -> Result<(), AllocError>
         requires ordered { lines.from ≤ lines.to }
@@ -168,7 +168,7 @@ impl<'a> SecondPass<'a> {
         &mut self,
         chunks: &mut [Chunk],
         cut: &Cut,
-        news: &[At<Trace>],
+        news: &[SparseItem<Trace>],
         work: &mut Work,
     ) -> Result<(), AllocError>
         requires exact { IsExactPass self.old }
@@ -200,7 +200,7 @@ impl<'a> SecondPass<'a> {
     }
 
     /// What is made anew.
-    pub fn into_news(self) -> Vec<At<Outcome>>
+    pub fn into_news(self) -> Vec<SparseItem<Outcome>>
         ensures { result ≡ self.entry.redo.news }
     {
         let SecondPass {
@@ -241,7 +241,10 @@ pub fn step_two_all(
 }
 
 /// What is new in front of a place, and what is new from it on.
-pub fn split_before(news: &[At<Trace>], place: usize) -> (&[At<Trace>], &[At<Trace>])
+pub fn split_before(
+    news: &[SparseItem<Trace>],
+    place: usize,
+) -> (&[SparseItem<Trace>], &[SparseItem<Trace>])
     ensures before { result.0.now ≡ items_before place news.now }
     ensures from { result.1.now ≡ items_from place news.now }
 {

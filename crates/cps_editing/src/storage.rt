@@ -12,7 +12,7 @@ use crate::second_pass::split_before;
 use cps_exchange::Exchange;
 use cps_gather::Storage;
 use cps_pass::Trace;
-use cps_replay::{At, Baseline, leave_same, store_all, store_renewed};
+use cps_replay::{Baseline, SparseItem, leave_same, store_all, store_renewed};
 use std::alloc::AllocError;
 use std::slice::from_ref;
 
@@ -52,7 +52,7 @@ pub fn storage_behind(
 pub fn storage_moved(
     base: Baseline,
     exchange: Exchange,
-    news: &[At<Trace>],
+    news: &[SparseItem<Trace>],
 ) -> Result<Option<Storage>, AllocError>
     requires runs { HasRuns (length base.traces.now) exchange }
     requires places { AreWithin exchange.keep (length base.traces.now) news.now }
@@ -77,7 +77,7 @@ pub fn storage_moved(
 }
 
 /// Whether each of these lines leaves what it left.
-fn leave_same_each(olds: &[Trace], news: &[At<Trace>]) -> bool
+fn leave_same_each(olds: &[Trace], news: &[SparseItem<Trace>]) -> bool
     requires { AreWithin 0 (length olds.now) news.now }
     ensures { IsTrue result → left_by_each (renewed 0 news.now olds.now) ≡ left_by_each olds.now }
 {

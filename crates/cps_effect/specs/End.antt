@@ -9,7 +9,7 @@ use Rattle.cps_state.specs.declared.key.Mode.{Mode}
 use Rattle.cps_state.specs.declared.key.Phase.TheVariants.{AfterEnd}
 use Rattle.cps_state.specs.Course.{Part, ◌before◌, asking, putting, fill}
 use Rattle.cps_state.specs.Keys.{ranges_of, is_normal, is_no_range}
-use Rattle.cps_reading.specs.declared.reading.Location.{Location}
+use Rattle.cps_site.specs.declared.Location.{Location}
 use Rattle.cps_effect.specs.Head.{putting_control}
 use Rattle.cps_effect.specs.Leaving.{left}
 use Rattle.cps_site.specs.Located.{present_flags}

@@ -12,7 +12,7 @@ use Rattle.cps_state.specs.Course.{Part}
 use Rattle.cps_state.specs.Flags.{joined}
 use Rattle.cps_state.specs.Made.{no_flags, width_of}
 use Rattle.cps_site.specs.declared.placing.Site.{Site}
-use Rattle.cps_reading.specs.declared.reading.Location.{Location}
+use Rattle.cps_site.specs.declared.Location.{Location}
 use Rattle.cps_effect.specs.declared.value_now.ValueNow.{ValueNow}
 use Rattle.cps_effect.specs.declared.value_now.ValueNow.TheVariants.{Undefined, NoValue, Known}
 use Rattle.cps_effect.specs.Numbers.{plain_number, between}

@@ -14,7 +14,7 @@ use Rattle.cps_state.specs.declared.key.Phase.TheVariants.{Head, Body, AfterEnd}
 use Rattle.cps_state.specs.declared.key.Put.{Put}
 use Rattle.cps_state.specs.Course.{Part, nothing, ◌before◌, put, fill}
 use Rattle.cps_state.specs.Made.{nothing_made, no_flags}
-use Rattle.cps_reading.specs.declared.reading.Location.{Location}
+use Rattle.cps_site.specs.declared.Location.{Location}
 use Rattle.cps_site.specs.Located.{is_present, present_flags}
 use Rattle.cps_effect.specs.Making.{flagged}
 

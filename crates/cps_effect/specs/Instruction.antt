@@ -1,11 +1,11 @@
 -- Instructions. From the manual's section on the location field, and from the machines' reference manuals.
 use Rattle.std.specs.Prelude.{false, [], ◌∷◌, Option, None, Some}
-use Rattle.cps_code.specs.Form.{Form}
+use Rattle.cps_site.specs.Form.{Form}
 use Rattle.cps_state.specs.declared.key.Control.{Control}
 use Rattle.cps_state.specs.declared.made.Content.TheVariants as content
 use Rattle.cps_state.specs.Course.{Part}
 use Rattle.cps_site.specs.declared.placing.Site.{Site}
-use Rattle.cps_reading.specs.declared.reading.Location.{Location}
+use Rattle.cps_site.specs.declared.Location.{Location}
 use Rattle.cps_site.specs.Placing.{asking_site, start_for, word_start, unread_from, placed}
 
 -- ---- of the central processor: at a parcel's border with room in its word; None: the operands are unreadable

@@ -3,12 +3,12 @@
 use Rattle.std.specs.Prelude.{Option, if◌then◌else◌}
 use Rattle.cps_text.specs.declared.name.Name.{Name}
 use Rattle.cps_place.specs.declared.place.Place.{Place}
-use Rattle.cps_code.specs.Place.{position}
+use Rattle.cps_site.specs.Place.{position}
 use Rattle.cps_state.specs.declared.key.Control.{Control}
 use Rattle.cps_state.specs.Course.{Part, nothing}
 use Rattle.cps_state.specs.Keys.{same_block}
 use Rattle.cps_state.specs.Made.{Made, nothing_made}
-use Rattle.cps_reading.specs.declared.reading.Location.{Location}
+use Rattle.cps_site.specs.declared.Location.{Location}
 use Rattle.cps_effect.specs.Head.{putting_control}
 use Rattle.cps_site.specs.Located.{present_flags}
 use Rattle.cps_site.specs.Places.{filling_between, place_left}

@@ -14,4 +14,7 @@ pub mod Use
 pub mod ValueNow
 pub mod Words
 pub use Rattle.cps_site.specs.Located
-pub use Rattle.cps_reading.specs.Reading
+pub use Rattle.cps_site.specs.Reading
+pub use Rattle.cps_site.specs.Place
+pub use Rattle.cps_site.specs.Places
+pub use Rattle.cps_site.specs.Placing

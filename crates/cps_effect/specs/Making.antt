@@ -3,7 +3,7 @@ use Rattle.std.specs.Prelude.{true}
 use Rattle.cps_state.specs.declared.flags.Flags.{Flags}
 use Rattle.cps_state.specs.Course.{Part, fill}
 use Rattle.cps_state.specs.Made.{nothing_made, no_flags}
-use Rattle.cps_reading.specs.declared.reading.Location.{Location}
+use Rattle.cps_site.specs.declared.Location.{Location}
 use Rattle.cps_site.specs.Located.{present_flags}
 
 abbrev pub flagged : Flags → Part

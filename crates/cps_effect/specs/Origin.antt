@@ -7,7 +7,7 @@ use Rattle.cps_state.specs.declared.key.Control.{Control}
 use Rattle.cps_state.specs.declared.made.Shown.TheVariants as shown
 use Rattle.cps_state.specs.Course.{Part, ◌before◌, fill}
 use Rattle.cps_state.specs.Machines.{limit}
-use Rattle.cps_reading.specs.declared.reading.Location.{Location}
+use Rattle.cps_site.specs.declared.Location.{Location}
 use Rattle.cps_effect.specs.declared.value_now.ValueNow.{ValueNow}
 use Rattle.cps_effect.specs.declared.value_now.ValueNow.TheVariants.{Undefined, NoValue, Known}
 use Rattle.cps_effect.specs.Leaving.{left, using}

@@ -2,14 +2,14 @@
 -- block is none, are our profile's.
 use Rattle.std.specs.Prelude.{ℕ, ◌+◌, ◌*◌, ◌/◌, Bool, true, false, nat_lt, [], Option, None, Some, if◌then◌else◌}
 use Rattle.cps_expr.specs.Expression.{Expression}
-use Rattle.cps_code.specs.Place.{position}
+use Rattle.cps_site.specs.Place.{position}
 use Rattle.cps_state.specs.declared.key.Control.{Control}
 use Rattle.cps_state.specs.declared.made.Shown.TheVariants as shown
 use Rattle.cps_state.specs.Course.{Part, ◌before◌, fill}
 use Rattle.cps_state.specs.Machines.{limit}
 use Rattle.cps_state.specs.Made.{nothing_made}
 use Rattle.cps_site.specs.declared.placing.Site.{Site}
-use Rattle.cps_reading.specs.declared.reading.Location.{Location}
+use Rattle.cps_site.specs.declared.Location.{Location}
 use Rattle.cps_effect.specs.declared.value_now.ValueNow.{ValueNow}
 use Rattle.cps_effect.specs.Numbers.{plain_number, no_number_flags}
 use Rattle.cps_site.specs.Places.{filling_between, here_at}

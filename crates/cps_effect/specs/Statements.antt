@@ -7,7 +7,7 @@ use Rattle.cps_expr.specs.declared.row.Row.{Row}
 use Rattle.cps_expr.specs.declared.row.Row.TheVariants as row
 use Rattle.cps_state.specs.declared.key.Control.{Control}
 use Rattle.cps_state.specs.Course.{Part}
-use Rattle.cps_reading.specs.declared.reading.Location.{Location}
+use Rattle.cps_site.specs.declared.Location.{Location}
 use Rattle.cps_effect.specs.Fields.{vfd, unread_vfd}
 use Rattle.cps_effect.specs.Head.{ident, declaration, base}
 use Rattle.cps_site.specs.Located.{present_flags}

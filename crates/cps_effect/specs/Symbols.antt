@@ -13,7 +13,7 @@ use Rattle.cps_state.specs.Course.{Part, nothing, ◌before◌, putting, tell, t
 use Rattle.cps_state.specs.Made.{Made, nothing_made, no_flags}
 use Rattle.cps_site.specs.declared.located.Standing.{Standing}
 use Rattle.cps_site.specs.declared.located.Standing.TheVariants.{Free, Labelled, Set}
-use Rattle.cps_reading.specs.declared.reading.Location.{Location}
+use Rattle.cps_site.specs.declared.Location.{Location}
 use Rattle.cps_effect.specs.declared.value_now.ValueNow.{ValueNow}
 use Rattle.cps_effect.specs.declared.value_now.ValueNow.TheVariants.{Undefined, NoValue, Known}
 use Rattle.cps_site.specs.Located.{symbol_in, is_labelled, asking_standing, asking_taken, defining}

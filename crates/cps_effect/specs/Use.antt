@@ -12,7 +12,7 @@ use Rattle.cps_state.specs.declared.key.Answer.TheVariants as answer
 use Rattle.cps_state.specs.declared.key.Control.{Control}
 use Rattle.cps_state.specs.Course.{Part, nothing, ◌before◌, asking, putting, fill}
 use Rattle.cps_state.specs.Keys.{most_uses, same_block, is_place, uses_of, count_of}
-use Rattle.cps_reading.specs.declared.reading.Location.{Location}
+use Rattle.cps_site.specs.declared.Location.{Location}
 use Rattle.cps_effect.specs.Leaving.{left, using}
 use Rattle.cps_effect.specs.Making.{unmatched, unread}
 use Rattle.cps_site.specs.Places.{place_left, going_on, asking_place}

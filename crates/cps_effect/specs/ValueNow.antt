@@ -6,7 +6,7 @@ use Rattle.cps_text.specs.declared.name.Name.{Name}
 use Rattle.cps_expr.specs.declared.value.Value.{Value as AValue}
 use Rattle.cps_expr.specs.Expression.{Expression, names_of, has_counter}
 use Rattle.cps_expr.specs.Value.{Values, plain, same_name, value_in, has_undefined}
-use Rattle.cps_code.specs.Place.{position}
+use Rattle.cps_site.specs.Place.{position}
 use Rattle.cps_state.specs.declared.key.Control.{Control}
 use Rattle.cps_state.specs.declared.key.Answer.{Answer}
 use Rattle.cps_state.specs.declared.key.Key.TheVariants as key

@@ -4,8 +4,7 @@ ghost use Rattle.cps_state.specs.Line.{Does};
 ghost use Rattle.cps_effect.specs.End as meaning;
 
 use crate::head::put_control;
-use cps_reading::Location;
-use cps_site::{Front, go_on, leave_word, present_flags, stand};
+use cps_site::{Front, Location, go_on, leave_word, present_flags, stand};
 use cps_state::{
     Answer, Control, Flags, Key, Lookup, Made, Mode, Phase, Recorder, Shared, Shown, is_no_range,
     is_normal,

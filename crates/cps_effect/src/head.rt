@@ -5,8 +5,7 @@ ghost use Rattle.cps_effect.specs.Head as head;
 
 use crate::making::flag;
 use cps_expr::{Machine, Radix};
-use cps_reading::Location;
-use cps_site::{Front, present_flags};
+use cps_site::{Front, Location, present_flags};
 use cps_state::{Answer, Control, Flags, Head, Key, Lookup, Made, Phase, Recorder, SharedMode};
 use cps_text::Name;
 use std::alloc::AllocError;

@@ -3,9 +3,7 @@ ghost use Rattle.std.specs.Prelude.{OnOk};
 ghost use Rattle.cps_state.specs.Line.{Does};
 ghost use Rattle.cps_effect.specs.Instruction as instructions;
 
-use cps_code::CpForm;
-use cps_reading::PpForm;
-use cps_site::{Front, ask_site, place, place_unread, start_for, word_start};
+use cps_site::{CpForm, Front, PpForm, ask_site, place, place_unread, start_for, word_start};
 use cps_state::{Content, Contents, InstructionForm, Lookup, Recorder};
 use std::alloc::AllocError;
 

@@ -32,8 +32,10 @@ mod uses;
 mod value_now;
 mod words;
 
-pub use cps_reading::{Location, read_location};
-pub use cps_site::present_flags;
+pub use cps_site::{
+    Front, Location, Site, ask_site, ask_standing, has_value, here_at, placing_flags,
+    present_flags, read_location, settle, stand, word_start,
+};
 pub use ends::end;
 pub use head::leave_head;
 pub use instructions::{instruction, peripheral_instruction};

@@ -4,8 +4,7 @@ ghost use Rattle.cps_state.specs.Line.{line_filled};
 ghost use Rattle.cps_state.specs.Made.{nothing_made, no_flags};
 ghost use Rattle.cps_site.specs.Located.{present_flags};
 
-use cps_reading::Location;
-use cps_site::present_flags;
+use cps_site::{Location, present_flags};
 use cps_state::{Flags, Lookup, Made, Recorder};
 
 /// A statement that does nothing but have flags.

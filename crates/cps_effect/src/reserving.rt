@@ -1,8 +1,8 @@
 //! BSS and BSSZ: reserving words, and words of zeros.
 ghost use Rattle.std.specs.Prelude.{◌≡◌, OnOk, option_map};
 ghost use Rattle.std.specs.Option.{option_to_list};
-ghost use Rattle.cps_code.specs.Image.{piece_of};
-ghost use Rattle.cps_code.specs.Place.{position};
+ghost use Rattle.cps_site.specs.Image.{piece_of};
+ghost use Rattle.cps_site.specs.Place.{position};
 ghost use Rattle.cps_state.specs.Line.{Does};
 ghost use Rattle.cps_site.specs.Places.{filling_between};
 ghost use Rattle.cps_effect.specs.Reserving as meaning;

@@ -7,8 +7,9 @@ ghost use Rattle.cps_site.specs.Located.{symbol_in, defining};
 use crate::making::flag;
 use crate::value_now::{ValueNow, value_here};
 use cps_expr::{Expr, Value};
-use cps_reading::Location;
-use cps_site::{Front, Standing, ask_standing, define, is_labelled, is_taken, symbol_in, tell_if};
+use cps_site::{
+    Front, Location, Standing, ask_standing, define, is_labelled, is_taken, symbol_in, tell_if,
+};
 use cps_state::{Answer, Flags, Key, Lookup, Made, Recorder, Shown};
 use std::alloc::AllocError;
 

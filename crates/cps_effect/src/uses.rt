@@ -7,9 +7,8 @@ ghost use Rattle.cps_effect.specs.Use as use_of;
 
 use crate::leaving::select;
 use crate::making::{unmatched, unread};
-use cps_code::Place;
 use cps_expr::Block;
-use cps_site::{Front, go_on, leave_word, present_flags, stand};
+use cps_site::{Front, Place, go_on, leave_word, present_flags, stand};
 use cps_state::{
     Answer, Key, Lookup, Made, Recorder, Shared, Shown, count_of, is_place, is_same_block, uses_of,
     uses_with,

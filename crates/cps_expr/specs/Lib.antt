@@ -18,3 +18,4 @@ pub mod Value
 pub mod ValuedSoFar
 pub mod Word
 pub mod WordsLeft
+pub use Rattle.cps_text.specs.Text

@@ -63,6 +63,7 @@ mod text;
 mod value;
 mod words;
 
+pub use cps_text::capital;
 pub use expr::{Expr, ExprFault, Valued};
 pub use item::read_item;
 pub use machine::Machine;

@@ -13,3 +13,4 @@ pub use Rattle.cps_standing.specs.Gathering
 pub use Rattle.cps_standing.specs.Layout
 pub use Rattle.cps_standing.specs.Pool
 pub use Rattle.cps_standing.specs.Resolving
+pub use Rattle.cps_state.specs.Flags

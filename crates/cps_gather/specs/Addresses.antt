@@ -3,7 +3,7 @@
 use Rattle.std.specs.Prelude.{ℕ, ◌+◌, ◌/◌, Option}
 use Rattle.cps_text.specs.declared.name.Name.{Name}
 use Rattle.cps_expr.specs.declared.value.Value.{Value}
-use Rattle.cps_code.specs.Bits.{word_bits}
+use Rattle.cps_state.specs.Bits.{word_bits}
 use Rattle.cps_state.specs.declared.item.Item.{Item}
 use Rattle.cps_state.specs.declared.item.Stand.{Stand}
 use Rattle.cps_state.specs.declared.item.Stand.TheVariants.{Nowhere, In}

@@ -1,5 +1,5 @@
 pub mod Addresses
-pub mod Before
+pub mod FormerFinals
 pub mod Distinct
 pub mod Finals
 pub mod Gathering

@@ -1,6 +1,6 @@
 //! How large the blocks of a source are.
 ghost use Rattle.std.specs.Prelude.{◌≡◌, ◌↔◌, IfOk, IsTrue, ◌≤◌, ◌<◌, ◌+◌, ◌*◌, ◌^◌, [], OnOk, IfSome, length, position};
-ghost use Rattle.cps_code.specs.Place.{position as bits_before};
+ghost use Rattle.cps_state.specs.Place.{position as bits_before};
 ghost use Rattle.cps_expr.specs.declared.machine.Machine.TheVariants.{Cp};
 ghost use Rattle.cps_expr.specs.Value.{same_name};
 ghost use Rattle.cps_state.specs.Machines.{limit};
@@ -10,9 +10,8 @@ ghost use Rattle.cps_gather.specs.Gathering.{layout_kept, grown, grown_by, grown
 ghost use Rattle.cps_gather.specs.Storage.{AreSameNamed};
 ghost use Rattle.indexmap.specs.IndexMap.{spare, keys};
 
-use cps_code::Place;
 use cps_expr::Machine;
-use cps_state::{Hashing, Key, Put, place_of};
+use cps_state::{Hashing, Key, Place, Put, place_of};
 use cps_text::Name;
 use indexmap::IndexMap;
 use std::alloc::{AllocError, Global};

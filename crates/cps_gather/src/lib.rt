@@ -1,7 +1,7 @@
 //! What stands after the last line of a source, gathered line by line: symbols, blocks, the pool
 //! of literals, and their final values.
 //!
-//! - `before.rt`: final values as they were before a mend
+//! - `former_finals.rt`: final values as they were before a mend
 //! - `blocks.rt`: the sizes of blocks
 //! - `finals.rt`: final values
 //! - `gather.rt`: gathering them, line by line
@@ -10,17 +10,17 @@
 //! - `storage.rt`: where blocks and literals stand
 #![tactic(auto)]
 
-mod before;
 mod blocks;
 mod finals;
+mod former_finals;
 mod gather;
 mod literals;
 mod mend;
 mod storage;
 
-pub use before::Before;
 pub use cps_state::{Held, Item, WORD};
 pub use finals::{Finals, Gathered};
+pub use former_finals::FormerFinals;
 pub use gather::Gather;
 pub use literals::list_literals;
 pub use mend::Mend;

@@ -1,11 +1,10 @@
 //! The literal words of statements.
 ghost use Rattle.std.specs.Prelude.{◌≡◌, ◌++◌, flat_map, OnOk, IfOk};
-ghost use Rattle.cps_code.specs.Operand.{operand_literals};
+ghost use Rattle.cps_state.specs.Operand.{operand_literals};
 ghost use Rattle.cps_state.specs.Made.{content_literals};
 ghost use Rattle.cps_gather.specs.Pool.{literals_of};
 
-use cps_code::{Hole, Operand};
-use cps_state::{Content, Item};
+use cps_state::{Content, Hole, Item, Operand};
 use std::alloc::{AllocError, Global};
 
 /// The literal words of statements, in their order. Takes no memory where there is none.

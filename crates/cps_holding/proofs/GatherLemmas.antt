@@ -12,7 +12,7 @@ use Rattle.cps_state.specs.Keys.{same_key}
 use Rattle.cps_state.proofs.KnownLemmas.{same_key_is, same_key-true, known_in-put, known_in-ask}
 use Rattle.cps_holding.specs.Run.{Run, with_ask, with_asks, joined}
 use Rattle.std.specs.HashSet.{contains}
-use Rattle.cps_holding.specs.declared.outside.Outside.{Outside}
+use Rattle.cps_holding.specs.declared.outside.OutsideAsks.{OutsideAsks}
 use Rattle.cps_holding.specs.RunGathering.{IsOutside}
 
 -- one key more
@@ -43,7 +43,7 @@ module _ (run : Run) (a : Asked) where
       at None known false same = sym (ap is_some (known_in-ask run.asks run.puts a k known ∙ ap (λ b. if b then Some a.answer else known_in run.asks run.puts k) same))
 
   -- a key that is known is not asked again
-  pub asked-again : (old new : Outside) (is_new : Bool) → IsOutside old run → is_new ≡ not (contains (eq-value.it) old.known a.key) → is_new ≡ false → new.asks.items ≡ old.asks.items → HasMore (contains (eq-value.it) old.known) a.key (contains (eq-value.it) new.known)
+  pub asked-again : (old new : OutsideAsks) (is_new : Bool) → IsOutside old run → is_new ≡ not (contains (eq-value.it) old.known a.key) → is_new ≡ false → new.asks.items ≡ old.asks.items → HasMore (contains (eq-value.it) old.known) a.key (contains (eq-value.it) new.known)
       → IsOutside new (record run { asks = with_ask run.puts run.asks a })
   asked-again old new is_new is tells known asks more =
       let there : is_some (known_in run.asks run.puts a.key) ≡ true = sym (is.known a.key) ∙ not-false (contains (eq-value.it) old.known a.key) (sym tells ∙ known) in
@@ -52,7 +52,7 @@ module _ (run : Run) (a : Asked) where
         known = knows-more (contains (eq-value.it) old.known) (contains (eq-value.it) new.known) is.known more;
       }
 
-  pub asked-first : (old new : Outside) (is_new : Bool) (same : Asked) → IsOutside old run → is_new ≡ not (contains (eq-value.it) old.known a.key) → is_new ≡ true → same ≡ a → new.asks.items ≡ old.asks.items ++ same ∷ []
+  pub asked-first : (old new : OutsideAsks) (is_new : Bool) (same : Asked) → IsOutside old run → is_new ≡ not (contains (eq-value.it) old.known a.key) → is_new ≡ true → same ≡ a → new.asks.items ≡ old.asks.items ++ same ∷ []
       → HasMore (contains (eq-value.it) old.known) a.key (contains (eq-value.it) new.known) → IsOutside new (record run { asks = with_ask run.puts run.asks a })
   asked-first old new is_new same is tells known one asks more =
       let absent : is_some (known_in run.asks run.puts a.key) ≡ false = sym (is.known a.key) ∙ not-true (contains (eq-value.it) old.known a.key) (sym tells ∙ known) in
@@ -66,7 +66,7 @@ asks-push puts asks [] a = refl
 asks-push puts asks (b ∷ more) a = asks-push puts (with_ask puts asks b) more a
 
 -- the asks of a line one after another
-pub asks-next : (run : Run) (more : List Asked) (i : ℕ) (a : Asked) (new : Outside) → i < length more → a ≡ get_or more i a
+pub asks-next : (run : Run) (more : List Asked) (i : ℕ) (a : Asked) (new : OutsideAsks) → i < length more → a ≡ get_or more i a
     → IsOutside new (record run { asks = with_ask run.puts (with_asks run.puts run.asks (take i more)) a }) → IsOutside new (record run { asks = with_asks run.puts run.asks (take (i + 1) more) })
 asks-next run more i a new lt is made =
     let whole : take (i + 1) more ≡ take i more ++ a ∷ [] = take_more more i a lt ∙ ap (λ b. take i more ++ b ∷ []) (sym is) in
@@ -74,7 +74,7 @@ asks-next run more i a new lt is made =
 
 -- ---- puts
 
-put-more : (run : Run) (before : List Put) (p : Put) (old new : Outside) → IsOutside old (record run { puts = before }) → new.asks.items ≡ old.asks.items → HasMore (contains (eq-value.it) old.known) p.key (contains (eq-value.it) new.known)
+put-more : (run : Run) (before : List Put) (p : Put) (old new : OutsideAsks) → IsOutside old (record run { puts = before }) → new.asks.items ≡ old.asks.items → HasMore (contains (eq-value.it) old.known) p.key (contains (eq-value.it) new.known)
     → IsOutside new (record run { puts = before ++ p ∷ [] })
 put-more run before p old new is asks more = record {
   asks = asks ∙ is.asks;
@@ -86,7 +86,7 @@ put-more run before p old new is asks more = record {
     at k false = refl
 
 -- the puts of a line one after another
-pub puts-more : (run : Run) (puts : List Put) (i : ℕ) (p : Put) (old new : Outside) → i < length puts → p ≡ get_or puts i p → IsOutside old (record run { puts = run.puts ++ take i puts })
+pub puts-more : (run : Run) (puts : List Put) (i : ℕ) (p : Put) (old new : OutsideAsks) → i < length puts → p ≡ get_or puts i p → IsOutside old (record run { puts = run.puts ++ take i puts })
     → new.asks.items ≡ old.asks.items → HasMore (contains (eq-value.it) old.known) p.key (contains (eq-value.it) new.known) → IsOutside new (record run { puts = run.puts ++ take (i + 1) puts })
 puts-more run puts i p old new lt is was asks more =
     let whole : run.puts ++ take (i + 1) puts ≡ (run.puts ++ take i puts) ++ p ∷ [] =
@@ -99,7 +99,7 @@ run-push : (run : Run) (ts : List Trace) (t : Trace) → fold joined run (ts ++ 
 run-push run [] t = refl
 run-push run (u ∷ ts) t = run-push (joined run u) ts t
 
-pub lines-next : (run : Run) (ts : List Trace) (i : ℕ) (t : Trace) (new : Outside) → i < length ts → t ≡ get_or ts i t
+pub lines-next : (run : Run) (ts : List Trace) (i : ℕ) (t : Trace) (new : OutsideAsks) → i < length ts → t ≡ get_or ts i t
     → IsOutside new (joined (fold joined run (take i ts)) t) → IsOutside new (fold joined run (take (i + 1) ts))
 lines-next run ts i t new lt is made =
     let whole : take (i + 1) ts ≡ take i ts ++ t ∷ [] = take_more ts i t lt ∙ ap (λ u. take i ts ++ u ∷ []) (sym is) in

@@ -1,7 +1,7 @@
 -- The final values before an edit and after it. Our own.
 use Rattle.cps_naming.specs.Outcome.{Resolved}
 use Rattle.cps_naming.specs.Resolving.{resolved}
-use Rattle.cps_gather.specs.Before.{values_before}
+use Rattle.cps_gather.specs.FormerFinals.{values_before}
 use Rattle.cps_holding.specs.declared.ends.Ends.{Ends}
 
 abbrev pub was_of : Ends → Resolved

@@ -6,7 +6,7 @@ use Rattle.cps_state.specs.declared.key.Asked.{Asked}
 use Rattle.cps_state.specs.contracts.key.KeyPartialEq.TheImpl.{eq-value}
 use Rattle.cps_state.specs.Course.{Trace, known_in}
 use Rattle.cps_holding.specs.Run.{Run, run_of}
-use Rattle.cps_holding.specs.declared.outside.Outside.{Outside}
+use Rattle.cps_holding.specs.declared.outside.OutsideAsks.{OutsideAsks}
 
 -- what is kept of a run: what it asks
 pub record KeptRun : Type 0 where
@@ -17,6 +17,6 @@ abbrev pub kept_run : List Trace → KeptRun
 kept_run traces = record { asks = (run_of traces).asks }
 
 -- what was gathered of lines is what their run asks, and each key that it asked or put
-pub record IsOutside (outside : Outside) (run : Run) : Type 0 where
+pub record IsOutside (outside : OutsideAsks) (run : Run) : Type 0 where
   pub asks : outside.asks.items ≡ run.asks
   pub known : (k : Key) → contains (eq-value.it) outside.known k ≡ is_some (known_in run.asks run.puts k)

@@ -4,12 +4,12 @@ ghost use Rattle.std.specs.Option.{option_eq};
 ghost use Rattle.cps_state.specs.Work.{raised};
 ghost use Rattle.cps_state.specs.declared.work.Tally.TheVariants.{Looked};
 ghost use Rattle.cps_naming.specs.Outcome.{AgreeOnNamed, outcome_of};
-ghost use Rattle.cps_gather.specs.Before.{values_before};
+ghost use Rattle.cps_gather.specs.FormerFinals.{values_before};
 ghost use Rattle.cps_holding.specs.Agreeing.{same_named, same_value};
 ghost use Rattle.cps_holding.specs.Ends.{was_of, now_of};
 
 use cps_expr::Value;
-use cps_gather::{Before, Mend};
+use cps_gather::{FormerFinals, Mend};
 use cps_naming::{Finals, Naming, all_pass};
 use cps_state::{Tally, Trace, Work};
 use cps_text::Name;
@@ -42,10 +42,10 @@ impl<'a> Naming for Ends<'a> {
 
 impl<'a> Ends<'a> {
     /// The final values before the edit.
-    fn before(self) -> Before<'a>
+    fn before(self) -> FormerFinals<'a>
         ensures { values_before result ≡ was_of self.entry }
     {
-        Before {
+        FormerFinals {
             finals: self.finals,
             mend: self.mend,
         }

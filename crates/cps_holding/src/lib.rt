@@ -12,7 +12,7 @@ mod holding;
 mod outside;
 mod run;
 
-pub use cps_naming::Names;
+pub use cps_naming::{Finals, Gather, Gathered, Names};
 pub use ends::{Ends, same_finals};
 pub use holding::{is_same_answer, still_holds};
 pub use run::Run;

@@ -9,7 +9,7 @@ use std::collections::HashSet;
 
 /// What lines asked so far of the state in front of them, and each key that they asked or put.
 #[derive(Drop)]
-pub struct Outside {
+pub struct OutsideAsks {
     known: HashSet<Key, Hashing>,
     asks: Vec<Asked>,
 }
@@ -22,7 +22,7 @@ pub fn outside_asks(
 ) -> Result<Vec<Asked>, AllocError>
     ensures { IfOk result (λ asks. asks.items ≡ (run_of traces.now).asks) }
 {
-    let mut outside = Outside::new(alloc, hashing, told_count(traces))?;
+    let mut outside = OutsideAsks::new(alloc, hashing, told_count(traces))?;
     for trace in traces {
         outside.add_line(trace)?;
     }
@@ -39,21 +39,21 @@ fn told_count(traces: &[Trace]) -> usize {
     count
 }
 
-impl Outside {
+impl OutsideAsks {
     /// Of no line, with room for so many keys.
-    fn new(alloc: Global, hashing: Hashing, count: usize) -> Result<Outside, AllocError>
+    fn new(alloc: Global, hashing: Hashing, count: usize) -> Result<OutsideAsks, AllocError>
         ensures { IfOk result (λ outside. IsOutside outside empty_run) }
     {
         let known = HashSet::with_capacity_and_hasher(alloc, count, hashing)?;
         let asks = Vec::new(alloc);
-        Ok(Outside { known, asks })
+        Ok(OutsideAsks { known, asks })
     }
 
     /// All that was asked, in a list without room for more.
     fn into_asks(self) -> Vec<Asked>
         ensures { result.items ≡ self.asks.items }
     {
-        let Outside { known: _, mut asks } = self;
+        let OutsideAsks { known: _, mut asks } = self;
         asks.shrink_to_fit();
         asks
     }

@@ -4,7 +4,7 @@ use Rattle.std.specs.Prelude.{ℕ, ◌==◌, Bool, List, [], ◌∷◌, ◌++◌
 use Rattle.std.specs.List.{list_all}
 use Rattle.cps_text.specs.Text.{is_blank}
 use Rattle.cps_text.specs.Octal.{octal}
-use Rattle.cps_state.specs.Flags.{letters}
+use Rattle.cps_final.specs.Flags.{letters}
 use Rattle.cps_text.specs.Line.{longest_line}
 use Rattle.cps_final.specs.declared.row.Row.{Row}
 use Rattle.cps_final.specs.declared.digits.Digits.{Digits}

@@ -7,6 +7,6 @@
 mod names;
 mod naming;
 
-pub use cps_final::Finals;
+pub use cps_final::{Finals, Gather, Gathered};
 pub use names::Names;
 pub use naming::{Naming, all_pass};

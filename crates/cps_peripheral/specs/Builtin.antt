@@ -1,7 +1,7 @@
 -- The operations that a macro may not have: those of either machine, and those of the statement table. Our profile's.
 use Rattle.std.specs.Prelude.{ℕ, Bool, ◌||◌, List, is_some}
 use Rattle.cps_expr.specs.Operation.{operation_named}
-use Rattle.cps_code.specs.Table.{is_operation}
+pub use Rattle.cps_code.specs.Table.{is_operation}
 use Rattle.cps_peripheral.specs.Table.{is_operation as is_peripheral_operation}
 
 abbrev pub is_builtin : List ℕ → Bool

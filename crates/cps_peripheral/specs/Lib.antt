@@ -3,3 +3,9 @@ pub mod Forms
 pub mod Table
 pub mod Rows
 pub mod OneRow
+pub use Rattle.cps_code.specs.Bits
+pub use Rattle.cps_code.specs.Form
+pub use Rattle.cps_code.specs.Image
+pub use Rattle.cps_code.specs.Operand
+pub use Rattle.cps_code.specs.Place
+pub use Rattle.cps_code.specs.RowForms

@@ -18,5 +18,6 @@ mod reads;
 mod table;
 
 pub use builtin::is_builtin;
+pub use cps_code::{CpForm, Filled, FormFault, Hole, Operand, Piece, Place, cp_form};
 pub use form::PpForm;
 pub use forms::pp_form;

@@ -9,8 +9,8 @@ use Rattle.cps_expr.specs.declared.row.Row.{Row}
 use Rattle.cps_expr.specs.Operation.{operation_named}
 use Rattle.cps_expr.specs.Statement.{row_with}
 use Rattle.cps_text.specs.Name.{name_of}
-use Rattle.cps_code.specs.Table.{is_operation}
-use Rattle.cps_code.specs.RowForms.{form_of}
+use Rattle.cps_peripheral.specs.Builtin.{is_operation}
+use Rattle.cps_peripheral.specs.RowForms.{form_of}
 use Rattle.cps_peripheral.specs.Table.{is_operation as is_peripheral_operation, form_of as peripheral_form_of}
 use Rattle.cps_reading.specs.declared.reading.Location.{Location}
 use Rattle.cps_reading.specs.declared.reading.Location.TheVariants.{Absent, Plus, Minus, Symbol, NoSymbol}

@@ -5,9 +5,8 @@ ghost use Rattle.cps_text.specs.Name.{name_of};
 ghost use Rattle.cps_reading.specs.Readings.{IsStating};
 ghost use Rattle.cps_reading.specs.Reading.{symbol_or_none, location_in, row_or_none, instruction_in, stating_in};
 
-use cps_code::{CpForm, FormFault, cp_form};
 use cps_expr::{ExprFault, Machine, Operation, Radix, Stated};
-use cps_peripheral::{PpForm, pp_form};
+use cps_peripheral::{CpForm, FormFault, PpForm, cp_form, pp_form};
 use cps_text::Name;
 use std::alloc::{AllocError, Global};
 

@@ -9,7 +9,7 @@ use Rattle.cps_state.specs.Keys.{State, overwritten}
 use Rattle.cps_changes.specs.Changes.{Changed, changed}
 use Rattle.cps_changes.specs.Kept.{changes_in}
 use Rattle.cps_final.specs.Layout.{puts_of}
-use Rattle.cps_pass.specs.Expansion.{trace_of}
+use Rattle.cps_edit.specs.Expansion.{trace_of}
 use Rattle.cps_holding.specs.Holds.{holds}
 use Rattle.cps_holding.specs.Run.{run_of}
 use Rattle.cps_chunk.specs.Chunk.{lengths_of}

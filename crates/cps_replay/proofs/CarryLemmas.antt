@@ -10,7 +10,7 @@ use Rattle.cps_changes.specs.Kept.{changes_in}
 use Rattle.cps_final.specs.Layout.{puts_of}
 use Rattle.cps_holding.specs.Holds.{holds}
 use Rattle.cps_holding.proofs.AnswerLemmas.{asks-decide}
-use Rattle.cps_pass.specs.Expansion.{trace_of}
+use Rattle.cps_edit.specs.Expansion.{trace_of}
 use Rattle.cps_edit.specs.Renewed.{WasMeant}
 use Rattle.cps_edit.proofs.AskedLemmas.{meant-here}
 use Rattle.cps_edit.proofs.TakenLemmas.{drop_at}

@@ -5,7 +5,7 @@ use Rattle.std.proofs.lemmas.List.Concat.{flat_map-append}
 use Rattle.cps_state.specs.Course.{Trace}
 use Rattle.cps_state.specs.Keys.{State}
 use Rattle.cps_final.specs.Layout.{puts_of}
-use Rattle.cps_pass.specs.Expansion.{trace_of}
+use Rattle.cps_edit.specs.Expansion.{trace_of}
 use Rattle.cps_edit.specs.Passes.{after, traces_from}
 use Rattle.cps_edit.proofs.TakenLemmas.{drop_at}
 

@@ -11,7 +11,7 @@ use Rattle.cps_exchange.proofs.ListLemmas.{parts}
 use Rattle.cps_edit.specs.Passes.{after, state_after}
 use Rattle.cps_edit.specs.Disturbed.{Placed, kept, is_disturbed, is_redone_at, disturbed_from, redone_places}
 use Rattle.cps_edit.proofs.SpliceLemmas.{kept-drop}
-use Rattle.cps_replay.specs.declared.sparse.At.{At}
+use Rattle.cps_replay.specs.declared.sparse.SparseItem.{SparseItem}
 use Rattle.cps_replay.specs.Sparse.{renewed, AreWithin}
 use Rattle.cps_replay.specs.Replayed.{redone}
 use Rattle.cps_replay.specs.Walk.{stretch}
@@ -36,9 +36,9 @@ map-exchanged f e xs =
     ∙ (λ i. sym (take-map f e.keep xs) i ++ (part e.mid e.from i ++ (part e.keep e.mid i ++ sym (drop-map f e.from xs) i)))
 
 -- what is made anew in the first run, in the second, and behind both
-module _ {X : Type 0} (e : Exchange) (xs : List X) (n : ℕ) (long : length xs ≡ n) (within : IsWithin n e) (one two three : List (At X))
+module _ {X : Type 0} (e : Exchange) (xs : List X) (n : ℕ) (long : length xs ≡ n) (within : IsWithin n e) (one two three : List (SparseItem X))
     (in_first : AreWithin e.keep e.mid one) (in_second : AreWithin e.mid e.from two) (behind : AreWithin e.from n three) where
-  abbrev all : List (At X)
+  abbrev all : List (SparseItem X)
   all = one ++ (two ++ three)
 
   last-two : AreWithin e.mid n (two ++ three)
@@ -124,10 +124,10 @@ pub turned-four : (a b c d : ℕ) → a + (c + (b + d)) ≡ a + (b + (c + d))
 turned-four a b c d = omega arith
 
 module _ (was now : Resolved) where
-  redone-then : (news : List (At Trace)) (os ps : List Trace) (i j : ℕ) → i + length os ≡ j → redone was now i news (os ++ ps) ≡ redone was now i news os ++ redone was now j news ps
+  redone-then : (news : List (SparseItem Trace)) (os ps : List Trace) (i j : ℕ) → i + length os ≡ j → redone was now i news (os ++ ps) ≡ redone was now i news os ++ redone was now j news ps
   redone-then news os ps i j at = redone-append was now i news os ps ∙ ap (λ k. redone was now i news os ++ redone was now k news ps) at
 
-  pub length-redone_parts : (news : List (At Trace)) (az bs cs ds : List Trace) (i j k : ℕ) → length az ≡ i → i + length bs ≡ j → j + length cs ≡ k
+  pub length-redone_parts : (news : List (SparseItem Trace)) (az bs cs ds : List Trace) (i j k : ℕ) → length az ≡ i → i + length bs ≡ j → j + length cs ≡ k
       → length (redone was now 0 news (az ++ (bs ++ (cs ++ ds))))
       ≡ length (redone was now 0 news az) + (length (redone was now i news bs) + (length (redone was now j news cs) + length (redone was now k news ds)))
   length-redone_parts news az bs cs ds i j k a b c =

@@ -6,12 +6,12 @@ use Rattle.cps_state.specs.Course.{Trace}
 use Rattle.cps_state.specs.Keys.{State, first_state}
 use Rattle.cps_changes.specs.Changes.{Changed, changed, no_change}
 use Rattle.cps_changes.specs.Kept.{changes_in}
-use Rattle.cps_pass.specs.Expansion.{trace_of}
+use Rattle.cps_edit.specs.Expansion.{trace_of}
 use Rattle.cps_edit.specs.Disturbed.{is_disturbed}
 use Rattle.cps_edit.specs.Passes.{after, state_after, traces_of}
 use Rattle.cps_edit.proofs.TakenLemmas.{drop_at}
 use Rattle.cps_replay.specs.declared.change_log.ChangeLog.{ChangeLog}
-use Rattle.cps_replay.specs.declared.sparse.At.{At}
+use Rattle.cps_replay.specs.declared.sparse.SparseItem.{SparseItem}
 use Rattle.cps_replay.specs.declared.walk.Baseline.{Baseline}
 use Rattle.cps_replay.specs.declared.walk.Walk.{Walk}
 use Rattle.cps_replay.specs.Replay.{now_by}
@@ -69,7 +69,7 @@ module _ (lines : List (List ℕ)) (traces : List Trace) (did : traces ≡ trace
           (λ i. replayed was at (lines-cons i) (traces-cons i))
           ∙ (λ i. one ++ replayed (sym now-next i) (place i) (stretch (at + 1) to lines) (stretch (at + 1) to traces))
 
-      pub next-news : (made more e : List (At Trace)) → more ≡ made ++ replayed (now_by log past) at (line ∷ []) (t ∷ [])
+      pub next-news : (made more e : List (SparseItem Trace)) → more ≡ made ++ replayed (now_by log past) at (line ∷ []) (t ∷ [])
           → made ++ replayed was at (stretch at to lines) (stretch at to traces) ≡ e → more ++ replayed now (at + 1) (stretch (at + 1) to lines) (stretch (at + 1) to traces) ≡ e
       next-news made more e is so_far =
           let one = one_if (is_disturbed (Some t) was) at (trace_of line was) in

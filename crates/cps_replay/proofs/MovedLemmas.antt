@@ -11,7 +11,7 @@ use Rattle.cps_edit.specs.Passes.{state_after, traces_from, traces_of, outcomes_
 use Rattle.cps_edit.specs.Disturbed.{kept, all_kept, disturbed_from, redone_places, finals_in, ones_of_exchange, twos_of_exchange}
 use Rattle.cps_edit.specs.Renewed.{AllWereMeant}
 use Rattle.cps_edit.proofs.SpliceLemmas.{length-traces_from, take-traces_from, traces_from-append, state_after-append, none-disturbed, AllWereMeant-traces_from, AllWereMeant-drop}
-use Rattle.cps_replay.specs.declared.sparse.At.{At}
+use Rattle.cps_replay.specs.declared.sparse.SparseItem.{SparseItem}
 use Rattle.cps_replay.specs.Sparse.{item_at, renewed, AreWithin, AgreeFor}
 use Rattle.cps_replay.specs.Replayed.{replayed, redone}
 use Rattle.cps_replay.specs.Walk.{stretch}
@@ -143,7 +143,7 @@ module _ (lines : List (List ℕ)) (e : Exchange) (within : IsWithin (length lin
         ap (replayed first_state 0 (take e.keep lines)) (take-traces_from e.keep first_state lines) ∙ replayed-still first_state 0 (take e.keep lines) in
         let agree : AgreeFor 0 (length olds) (replayed_moved lines e) (replayed first_state 0 (take e.keep lines) olds) = λ k low high.
         AgreeFor-behind_none e.keep (length lines) 0 (length olds) (replayed_moved lines e) replayed_moved-within few k low high
-        ∙ ap (λ (us : List (At Trace)). item_at us k) (sym still) in
+        ∙ ap (λ (us : List (SparseItem Trace)). item_at us k) (sym still) in
         count-redone was now first_state 0 (replayed_moved lines e) (take e.keep lines) olds as-many_front agree
 
     count-first : made e.keep (stretch e.keep e.mid (traces_of lines))

@@ -14,7 +14,7 @@ use Rattle.cps_changes.specs.Changes.{Changed, changed, settled}
 use Rattle.cps_changes.proofs.ChangedLemmas.{overwritten-last, settled-law}
 use Rattle.cps_holding.specs.Holds.{same_answer, holds}
 use Rattle.cps_holding.proofs.AnswerLemmas.{answers-decide, asks-decide}
-use Rattle.cps_pass.specs.Expansion.{trace_of}
+use Rattle.cps_edit.specs.Expansion.{trace_of}
 use Rattle.cps_edit.specs.Passes.{after}
 use Rattle.cps_edit.specs.Disturbed.{is_disturbed}
 use Rattle.cps_edit.proofs.AskedLemmas.{asked-here, meant-here}

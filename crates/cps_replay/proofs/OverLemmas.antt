@@ -16,7 +16,7 @@ use Rattle.cps_chunk.specs.Chunk.{AreChunksOf, lengths_of}
 use Rattle.cps_chunk.specs.declared.chunk.Chunk.{Chunk}
 use Rattle.cps_holding.specs.Holds.{holds}
 use Rattle.cps_holding.specs.Run.{run_of}
-use Rattle.cps_replay.specs.declared.sparse.At.{At}
+use Rattle.cps_replay.specs.declared.sparse.SparseItem.{SparseItem}
 use Rattle.cps_replay.specs.declared.walk.Baseline.{Baseline}
 use Rattle.cps_replay.specs.declared.walk.Walk.{Walk}
 use Rattle.cps_replay.specs.Noted.{stands}
@@ -37,7 +37,7 @@ module _ (lines : List (List ℕ)) (traces : List Trace) (did : traces ≡ trace
   short : b ≤ length (take p lines)
   short = omega (arith, inner, within, length-take p lines)
 
-  abbrev here : List (At Trace)
+  abbrev here : List (SparseItem Trace)
   here = replayed now a (stretch a b lines) (stretch a b traces)
 
   abbrev next : State
@@ -50,7 +50,7 @@ module _ (lines : List (List ℕ)) (traces : List Trace) (did : traces ≡ trace
       ∙ (λ i. replayed now a (stretch-within a b p lines inner i) (stretch-within a b p traces inner i)
       ++ replayed (state_after now (stretch-within a b p lines inner i)) b (stretch b p lines) (stretch b p traces))
 
-  pub over-news : (made more e : List (At Trace)) → more ≡ made ++ here → made ++ replayed now a (stretch a p lines) (stretch a p traces) ≡ e
+  pub over-news : (made more e : List (SparseItem Trace)) → more ≡ made ++ here → made ++ replayed now a (stretch a p lines) (stretch a p traces) ≡ e
       → more ++ replayed next b (stretch b p lines) (stretch b p traces) ≡ e
   over-news made more e is so_far =
       let rest = replayed next b (stretch b p lines) (stretch b p traces) in
@@ -237,7 +237,7 @@ module _ (old mid new : Walk) (walk : IsWalk old) (still : IsStillWalk old mid) 
         (λ k. now_by new.replay.log (stood_at (sym (kept ∙ still.base) k) end)) ∙ over.state
         ∙ (λ k. state_after (now_by mid.replay.log (stood_at (still.base k) line)) (stretch line end (still.base k).lines.now))
 
-    pub next-news : (e : List (At Trace)) → mid.replay.news.items ++ replayed now line (stretch line to lines) (stretch line to traces) ≡ e
+    pub next-news : (e : List (SparseItem Trace)) → mid.replay.news.items ++ replayed now line (stretch line to lines) (stretch line to traces) ≡ e
         → new.replay.news.items ++ replayed behind end (stretch end to lines) (stretch end to traces) ≡ e
     next-news e so_far =
         ap (λ s. new.replay.news.items ++ replayed s end (stretch end to lines) (stretch end to traces)) behind-is

@@ -8,7 +8,7 @@ use Rattle.cps_final.specs.Outcome.{Resolved, Outcome, outcome_of}
 use Rattle.cps_edit.specs.Compares.{Steps}
 use Rattle.cps_edit.specs.Disturbed.{is_redone}
 use Rattle.cps_edit.proofs.TakenLemmas.{drop_at}
-use Rattle.cps_replay.specs.declared.sparse.At.{At}
+use Rattle.cps_replay.specs.declared.sparse.SparseItem.{SparseItem}
 use Rattle.cps_replay.specs.Sparse.{item_at, one_if, AreWithin, AgreeFor}
 use Rattle.cps_replay.specs.Replayed.{redone}
 use Rattle.cps_replay.specs.Redo.{new_at, first_at, behind}
@@ -17,12 +17,12 @@ use Rattle.cps_replay.proofs.ReplayedLemmas.{redone-agree}
 
 -- ---- what is new at a place, and behind it
 
-pub item_at-first : (i b : ℕ) (news : List (At Trace)) → AreWithin i b news → item_at news i ≡ first_at i news
+pub item_at-first : (i b : ℕ) (news : List (SparseItem Trace)) → AreWithin i b news → item_at news i ≡ first_at i news
 item_at-first i b [] within = refl
 item_at-first i b (new ∷ news) within =
     ap (λ (held : Option Trace). if nat_eq new.at i then Some new.item else held) (item_at-before (suc new.at) b news i within.2 (omega (arith, within.0)))
 
-pub behind-within : (i b : ℕ) (news : List (At Trace)) → i < b → AreWithin i b news → AreWithin (suc i) b (behind i news)
+pub behind-within : (i b : ℕ) (news : List (SparseItem Trace)) → i < b → AreWithin i b news → AreWithin (suc i) b (behind i news)
 behind-within i b [] lt within = omega arith
 behind-within i b (new ∷ news) lt within = by_test (nat_eq new.at i) refl
   where
@@ -32,7 +32,7 @@ behind-within i b (new ∷ news) lt within = by_test (nat_eq new.at i) refl
         AreWithin-wider (suc new.at) b (suc i) b news (omega (arith, at)) (omega arith) within.2
     by_test false is = (omega (arith, within.0, eqb-false new.at i is), within.1, within.2)
 
-behind-agree : (i n : ℕ) (news : List (At Trace)) → AgreeFor (suc i) n news (behind i news)
+behind-agree : (i n : ℕ) (news : List (SparseItem Trace)) → AgreeFor (suc i) n news (behind i news)
 behind-agree i n [] k low high = refl
 behind-agree i n (new ∷ news) k low high = by_test (nat_eq new.at i) refl
   where
@@ -51,7 +51,7 @@ module _ (was now : Resolved) where
 
   -- ---- one line more
 
-  module _ (olds : List Trace) (from b i at : ℕ) (left rest : List (At Trace)) (new : Option Trace) (old : Trace) (lt : i < length olds) (here : old ≡ get_or olds i old)
+  module _ (olds : List Trace) (from b i at : ℕ) (left rest : List (SparseItem Trace)) (new : Option Trace) (old : Trace) (lt : i < length olds) (here : old ≡ get_or olds i old)
       (place : at ≡ from + i) (within : AreWithin (from + i) b left) (first : new ≡ first_at at left) (others : rest ≡ behind at left) where
     held : item_at left (from + i) ≡ new
     held = item_at-first (from + i) b left within ∙ ap (λ k. first_at k left) (sym place) ∙ sym first
@@ -75,9 +75,9 @@ module _ (was now : Resolved) where
     within-step end =
         let k : suc (from + i) ≡ from + (i + 1) = omega arith in
         let same : behind (from + i) left ≡ rest = sym (others ∙ ap (λ n. behind n left) place) in
-        subst (λ (n : ℕ). AreWithin n b rest) k (subst (λ (xs : List (At Trace)). AreWithin (suc (from + i)) b xs) same (behind-within (from + i) b left end within))
+        subst (λ (n : ℕ). AreWithin n b rest) k (subst (λ (xs : List (SparseItem Trace)). AreWithin (suc (from + i)) b xs) same (behind-within (from + i) b left end within))
 
-    pub news-step : (front more e : List (At Outcome)) → more ≡ front ++ redone was now at (new_at at new) (old ∷ []) → front ++ redone was now (from + i) left (drop i olds) ≡ e
+    pub news-step : (front more e : List (SparseItem Outcome)) → more ≡ front ++ redone was now at (new_at at new) (old ∷ []) → front ++ redone was now (from + i) left (drop i olds) ≡ e
         → more ++ redone was now (from + (i + 1)) rest (drop (i + 1) olds) ≡ e
     news-step front more e is before =
         let one = redone was now at (new_at at new) (old ∷ []) in
@@ -88,7 +88,7 @@ module _ (was now : Resolved) where
     length-step =
         let outcome = outcome_of now (unwrap_or new old) in
         let others_redone = redone was now (from + (i + 1)) rest (drop (i + 1) olds) in
-        ap length (redone-step ∙ ap (λ (ones : List (At Outcome)). ones ++ others_redone) (one-redone at new old))
+        ap length (redone-step ∙ ap (λ (ones : List (SparseItem Outcome)). ones ++ others_redone) (one-redone at new old))
         ∙ length-one (is_redone was now (is_some new) old) at outcome others_redone
 
 -- ---- what is counted

@@ -9,24 +9,24 @@ use Rattle.cps_state.specs.Keys.{State, overwritten}
 use Rattle.cps_state.specs.Work.{Counts, counted_on}
 use Rattle.cps_changes.specs.Changes.{Changed, changed, no_change}
 use Rattle.cps_final.specs.Layout.{puts_of}
-use Rattle.cps_pass.specs.Expansion.{trace_of}
+use Rattle.cps_edit.specs.Expansion.{trace_of}
 use Rattle.cps_edit.specs.Compares.{Steps}
 use Rattle.cps_edit.specs.Passes.{after}
 use Rattle.cps_edit.specs.Disturbed.{is_disturbed}
-use Rattle.cps_edit.proofs.FrontLemmas.{none-more}
-use Rattle.cps_replay.specs.declared.sparse.At.{At}
+use Rattle.cps_edit.proofs.PassOneLemmas.{none-more}
+use Rattle.cps_replay.specs.declared.sparse.SparseItem.{SparseItem}
 use Rattle.cps_replay.specs.Compared.{with_puts}
 use Rattle.cps_replay.specs.Noted.{AreHeld, asked_or, noted, stands}
 use Rattle.cps_replay.specs.Replayed.{replayed}
 use Rattle.cps_replay.proofs.ComparedLemmas.{changed-with_puts}
 use Rattle.cps_replay.proofs.NotedLemmas.{did-hold, asked_or-did, disturbed-stands, after-redone}
 
-module _ (state : State) (i : ℕ) (line : List ℕ) (t : Trace) (old : List (At Trace)) where
+module _ (state : State) (i : ℕ) (line : List ℕ) (t : Trace) (old : List (SparseItem Trace)) where
   pub replayed-same : is_disturbed (Some t) state ≡ false → old ≡ old ++ replayed state i (line ∷ []) (t ∷ [])
   replayed-same same =
       sym (append-nil old) ∙ ap (λ (b : Bool). old ++ ((if b then record { at = i; item = trace_of line state } ∷ [] else []) ++ [])) (sym same)
 
-  pub replayed-anew : (new : Trace) (next : List (At Trace)) → new ≡ trace_of line state → is_disturbed (Some t) state ≡ true
+  pub replayed-anew : (new : Trace) (next : List (SparseItem Trace)) → new ≡ trace_of line state → is_disturbed (Some t) state ≡ true
       → next ≡ old ++ record { at = i; item = new } ∷ [] → next ≡ old ++ replayed state i (line ∷ []) (t ∷ [])
   replayed-anew new next is disturbed pushed =
       pushed ∙ ap (λ (u : Trace). old ++ record { at = i; item = u } ∷ []) is

@@ -9,7 +9,7 @@ use Rattle.std.proofs.lemmas.List.Folds.{list_all-append}
 use Rattle.std.proofs.lemmas.Grind.{common_steps}
 use Rattle.cps_state.specs.Keys.{State, first_state}
 use Rattle.cps_state.specs.Course.{Trace}
-use Rattle.cps_pass.specs.Expansion.{trace_of}
+use Rattle.cps_edit.specs.Expansion.{trace_of}
 use Rattle.cps_final.specs.Outcome.{Resolved, Outcome, outcome_of}
 use Rattle.cps_naming.specs.Naming.{all_named}
 use Rattle.cps_naming.specs.Names.{statements_of}
@@ -17,7 +17,7 @@ use Rattle.cps_holding.specs.Agreeing.{same_at, same_named}
 use Rattle.cps_holding.specs.Holds.{holds}
 use Rattle.cps_holding.proofs.AgreeLemmas.{named-alone}
 use Rattle.cps_holding.proofs.AnswerLemmas.{asks-decide}
-use Rattle.cps_replay.specs.declared.sparse.At.{At}
+use Rattle.cps_replay.specs.declared.sparse.SparseItem.{SparseItem}
 use Rattle.cps_edit.specs.Passes.{after, state_after, traces_from, traces_of, outcomes_by}
 use Rattle.cps_edit.specs.Splice.{Splice, spliced}
 use Rattle.cps_edit.specs.Disturbed.{Placed, kept, all_kept, fresh, placed, is_disturbed, disturbed_from, is_redone, redone_places, finals_in, ones_of, twos_of}
@@ -99,7 +99,7 @@ replayed-skip state i ls ms os ps len none =
     replayed-append state i ls ms os ps len ∙ ap (λ us. us ++ replayed (state_after state ls) (i + length ls) ms ps) (replayed-none state i ls os none)
 
 -- one line more
-pub replayed-next : (lines : List (List ℕ)) (olds : List Trace) (i j k : ℕ) (line : List ℕ) (old : Trace) (state next : State) (made e : List (At Trace))
+pub replayed-next : (lines : List (List ℕ)) (olds : List Trace) (i j k : ℕ) (line : List ℕ) (old : Trace) (state next : State) (made e : List (SparseItem Trace))
     → i < length lines → i < length olds → line ≡ get_or lines i line → old ≡ get_or olds i old → next ≡ after state line → k ≡ suc j
     → made ++ replayed state j (drop i lines) (drop i olds) ≡ e
     → (made ++ one_if (is_disturbed (Some old) state) j (trace_of line state)) ++ replayed next k (drop (i + 1) lines) (drop (i + 1) olds) ≡ e
@@ -112,13 +112,13 @@ replayed-next lines olds i j k line old state next made e a b p q there at befor
     ∙ sym (ap (λ xs. made ++ replayed state j xs (drop i olds)) (drop_at lines i line a p))
     ∙ before
 
-pub replayed-done : (lines : List (List ℕ)) (olds : List Trace) (i j : ℕ) (state : State) (made e : List (At Trace)) → length lines ≤ i
+pub replayed-done : (lines : List (List ℕ)) (olds : List Trace) (i j : ℕ) (state : State) (made e : List (SparseItem Trace)) → length lines ≤ i
     → made ++ replayed state j (drop i lines) (drop i olds) ≡ e → made ≡ e
 replayed-done lines olds i j state made e past before =
     sym (append-nil made) ∙ sym (ap (λ xs. made ++ replayed state j xs (drop i olds)) (drop_all i lines past)) ∙ before
 
 -- which of them are there
-flags_at-agree : (i n : ℕ) (ns ms : List (At Trace)) → AgreeFor i n ns ms → flags_at i n ns ≡ flags_at i n ms
+flags_at-agree : (i n : ℕ) (ns ms : List (SparseItem Trace)) → AgreeFor i n ns ms → flags_at i n ns ≡ flags_at i n ms
 flags_at-agree i zero ns ms agree = refl
 flags_at-agree i (suc n) ns ms agree =
     let here : item_at ns i ≡ item_at ms i = agree i (omega arith) (omega arith) in
@@ -145,7 +145,7 @@ flags-replayed state i (line ∷ lines) (old ∷ olds) len =
 -- ---- pass two
 
 module _ (was now : Resolved) where
-  pub redone-within : (i : ℕ) (news : List (At Trace)) (olds : List Trace) → AreWithin i (i + length olds) (redone was now i news olds)
+  pub redone-within : (i : ℕ) (news : List (SparseItem Trace)) (olds : List Trace) → AreWithin i (i + length olds) (redone was now i news olds)
   redone-within i news [] = omega arith
   redone-within i news (old ∷ olds) =
       let rest = redone was now (suc i) news olds in
@@ -162,7 +162,7 @@ module _ (was now : Resolved) where
       by_test false is = refl
 
   -- with these in their places, the outcomes are those of the traces now
-  pub renewed-redone : (i : ℕ) (news : List (At Trace)) (olds : List Trace) → renewed i (redone was now i news olds) (outcomes_by was olds) ≡ outcomes_by now (renewed i news olds)
+  pub renewed-redone : (i : ℕ) (news : List (SparseItem Trace)) (olds : List Trace) → renewed i (redone was now i news olds) (outcomes_by was olds) ≡ outcomes_by now (renewed i news olds)
   renewed-redone i news [] = refl
   renewed-redone i news (old ∷ olds) =
       let rest = redone was now (suc i) news olds in
@@ -171,20 +171,20 @@ module _ (was now : Resolved) where
       ∙ (λ j. made-here old (item_at news i) j ∷ renewed-redone (suc i) news olds j)
 
   -- only what is new at their places matters
-  pub redone-agree : (i : ℕ) (ns ms : List (At Trace)) (olds : List Trace) → AgreeFor i (length olds) ns ms → redone was now i ns olds ≡ redone was now i ms olds
+  pub redone-agree : (i : ℕ) (ns ms : List (SparseItem Trace)) (olds : List Trace) → AgreeFor i (length olds) ns ms → redone was now i ns olds ≡ redone was now i ms olds
   redone-agree i ns ms [] agree = refl
   redone-agree i ns ms (old ∷ olds) agree =
       let here : item_at ns i ≡ item_at ms i = agree i (omega arith) (omega arith) in
       λ j. one_if (is_redone was now (is_some (here j)) old) i (outcome_of now (unwrap_or (here j) old))
       ++ redone-agree (suc i) ns ms olds (AgreeFor-later i (length olds) ns ms agree) j
 
-  pub redone-drop_front : (a b i : ℕ) (ns ms : List (At Trace)) (olds : List Trace) → AreWithin a b ns → b ≤ i → redone was now i (ns ++ ms) olds ≡ redone was now i ms olds
+  pub redone-drop_front : (a b i : ℕ) (ns ms : List (SparseItem Trace)) (olds : List Trace) → AreWithin a b ns → b ≤ i → redone was now i (ns ++ ms) olds ≡ redone was now i ms olds
   redone-drop_front a b i ns ms olds within le = redone-agree i (ns ++ ms) ms olds (AgreeFor-drop_front a b i (length olds) ns ms within le)
 
-  pub redone-drop_behind : (a b i : ℕ) (ns ms : List (At Trace)) (olds : List Trace) → AreWithin a b ms → i + length olds ≤ a → redone was now i (ns ++ ms) olds ≡ redone was now i ns olds
+  pub redone-drop_behind : (a b i : ℕ) (ns ms : List (SparseItem Trace)) (olds : List Trace) → AreWithin a b ms → i + length olds ≤ a → redone was now i (ns ++ ms) olds ≡ redone was now i ns olds
   redone-drop_behind a b i ns ms olds within le = redone-agree i (ns ++ ms) ns olds (AgreeFor-drop_behind a b i (length olds) ns ms within le)
 
-  pub redone-append : (i : ℕ) (news : List (At Trace)) (os ps : List Trace) → redone was now i news (os ++ ps) ≡ redone was now i news os ++ redone was now (i + length os) news ps
+  pub redone-append : (i : ℕ) (news : List (SparseItem Trace)) (os ps : List Trace) → redone was now i news (os ++ ps) ≡ redone was now i news os ++ redone was now (i + length os) news ps
   redone-append i news [] ps = let at : i ≡ i + 0 = omega arith in ap (λ k. redone was now k news ps) at
   redone-append i news (o ∷ os) ps =
       let one = one_if (is_redone was now (is_some (item_at news i)) o) i (outcome_of now (unwrap_or (item_at news i) o)) in
@@ -194,7 +194,7 @@ module _ (was now : Resolved) where
       ∙ sym (append_assoc one rest (redone was now (i + suc (length os)) news ps))
 
   -- one line more
-  pub redone-next : (news : List (At Trace)) (olds : List Trace) (i j k : ℕ) (old : Trace) (made e : List (At Outcome)) → i < length olds → old ≡ get_or olds i old → k ≡ suc j
+  pub redone-next : (news : List (SparseItem Trace)) (olds : List Trace) (i j k : ℕ) (old : Trace) (made e : List (SparseItem Outcome)) → i < length olds → old ≡ get_or olds i old → k ≡ suc j
       → made ++ redone was now j news (drop i olds) ≡ e
       → (made ++ one_if (is_redone was now (is_some (item_at news j)) old) j (outcome_of now (unwrap_or (item_at news j) old))) ++ redone was now k news (drop (i + 1) olds) ≡ e
   redone-next news olds i j k old made e lt is at before =
@@ -204,7 +204,7 @@ module _ (was now : Resolved) where
       ∙ sym (ap (λ xs. made ++ redone was now j news xs) (drop_at olds i old lt is))
       ∙ before
 
-  pub redone-done : (news : List (At Trace)) (olds : List Trace) (i j : ℕ) (made e : List (At Outcome)) → length olds ≤ i → made ++ redone was now j news (drop i olds) ≡ e → made ≡ e
+  pub redone-done : (news : List (SparseItem Trace)) (olds : List Trace) (i j : ℕ) (made e : List (SparseItem Outcome)) → length olds ≤ i → made ++ redone was now j news (drop i olds) ≡ e → made ≡ e
   redone-done news olds i j made e past before =
       sym (append-nil made) ∙ sym (ap (λ xs. made ++ redone was now j news xs) (drop_all i olds past)) ∙ before
 
@@ -216,7 +216,7 @@ module _ (was now : Resolved) where
       let parts = and_parts (same_named was now old.items) (list_all (λ (t : Trace). same_named was now t.items) olds) same in
       ap (λ test. one_if (not test) i (outcome_of now old) ++ redone was now (suc i) [] olds) parts.0 ∙ redone-same (suc i) olds parts.1
 
-  pub redone-each_same : (i : ℕ) (news : List (At Trace)) (olds : List Trace) → list_all (λ (old : Trace). same_named was now old.items) olds ≡ true
+  pub redone-each_same : (i : ℕ) (news : List (SparseItem Trace)) (olds : List Trace) → list_all (λ (old : Trace). same_named was now old.items) olds ≡ true
       → AgreeFor i (length olds) news [] → redone was now i news olds ≡ []
   redone-each_same i news olds same none = redone-agree i news [] olds none ∙ redone-same i olds same
 
@@ -227,13 +227,13 @@ module _ (was now : Resolved) where
       ap (list_all test) (flat_map-cons (λ (t : Trace). t.items) old olds) ∙ list_all-append test old.items (statements_of olds)
       ∙ ap (λ rest. same_named was now old.items && rest) (same-each olds)
 
-  pub redone-all_same : (i : ℕ) (news : List (At Trace)) (olds : List Trace) → same_named was now (statements_of olds) ≡ true
+  pub redone-all_same : (i : ℕ) (news : List (SparseItem Trace)) (olds : List Trace) → same_named was now (statements_of olds) ≡ true
       → AgreeFor i (length olds) news [] → redone was now i news olds ≡ []
   redone-all_same i news olds same none = redone-each_same i news olds (sym (same-each olds) ∙ same) none
 
   -- ---- how many are redone
 
-  pub length-redone : (i : ℕ) (news : List (At Trace)) (olds : List Trace) → length (redone was now i news olds) ≡ redone_from was now (flags_at i (length olds) news) olds
+  pub length-redone : (i : ℕ) (news : List (SparseItem Trace)) (olds : List Trace) → length (redone was now i news olds) ≡ redone_from was now (flags_at i (length olds) news) olds
   length-redone i news [] = refl
   length-redone i news (old ∷ olds) =
       let test = is_redone was now (is_some (item_at news i)) old in
@@ -241,7 +241,7 @@ module _ (was now : Resolved) where
       ∙ ap (λ n. (if test then 1 else 0) + n) (length-redone (suc i) news olds)
 
   -- where pass one made these of them
-  pub count-redone : (state : State) (i : ℕ) (news : List (At Trace)) (lines : List (List ℕ)) (olds : List Trace) → length lines ≡ length olds
+  pub count-redone : (state : State) (i : ℕ) (news : List (SparseItem Trace)) (lines : List (List ℕ)) (olds : List Trace) → length lines ≡ length olds
       → AgreeFor i (length olds) news (replayed state i lines olds) → length (redone was now i news olds) ≡ redone_places was now state (kept lines olds)
   count-redone state i news [] [] len agree = refl
   count-redone state i news [] (old ∷ olds) len agree = absurd (omega (arith, len))
@@ -262,7 +262,7 @@ module _ (was now : Resolved) where
       → length (redone was now i (replayed state i lines olds) olds) ≡ redone_places was now state (kept lines olds)
   count-redone_alone state i lines olds len = count-redone state i (replayed state i lines olds) lines olds len (λ k low high. refl)
 
-  pub count-redone_among : (a b c d i : ℕ) (state : State) (front behind : List (At Trace)) (lines : List (List ℕ)) (olds : List Trace) → length lines ≡ length olds
+  pub count-redone_among : (a b c d i : ℕ) (state : State) (front behind : List (SparseItem Trace)) (lines : List (List ℕ)) (olds : List Trace) → length lines ≡ length olds
       → AreWithin a b front → b ≤ i → AreWithin c d behind → i + length olds ≤ c
       → length (redone was now i (front ++ (replayed state i lines olds ++ behind)) olds) ≡ redone_places was now state (kept lines olds)
   count-redone_among a b c d i state front behind lines olds len before low after_them high =

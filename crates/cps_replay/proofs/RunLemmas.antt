@@ -3,7 +3,7 @@ use Rattle.std.proofs.Common.{◌≡◌, ℕ, ◌+◌, refl, sym, ap, subst, ◌
 use Rattle.std.specs.Prelude.{not, fold, if◌then◌else◌}
 use Rattle.cps_state.specs.Course.{Trace, Holds}
 use Rattle.cps_state.specs.Keys.{State, overwritten}
-use Rattle.cps_pass.specs.Expansion.{trace_of}
+use Rattle.cps_edit.specs.Expansion.{trace_of}
 use Rattle.cps_edit.specs.Passes.{after, state_after, traces_from}
 use Rattle.cps_holding.specs.Holds.{holds}
 use Rattle.cps_edit.specs.Disturbed.{kept, disturbed_from}

@@ -19,7 +19,7 @@ use Rattle.cps_gather.specs.Pool.{literals_in}
 use Rattle.cps_gather.specs.Finals.{Finals, first_program, program_of}
 use Rattle.cps_gather.specs.Storage.{IsStored, StoresMore}
 use Rattle.cps_gather.specs.declared.storage.Storage.{Storage}
-use Rattle.cps_replay.specs.declared.sparse.At.{At}
+use Rattle.cps_replay.specs.declared.sparse.SparseItem.{SparseItem}
 use Rattle.cps_replay.specs.Sparse.{AreWithin, renewed}
 use Rattle.cps_replay.specs.Storing.{is_counter, counters_in, Left, left_by, stored_by, LeftLaw, StoresAlso, StoresSome}
 use Rattle.cps_replay.proofs.SparseLemmas.{item_at-here, item_at-other, renewed-agree, renewed-none, renewed-split}
@@ -131,7 +131,7 @@ also-all old new traces i le also = subst (StoresAlso old new) (take_all i trace
 -- ---- lines from a place on, with what is new among them
 
 -- what is new of the first of them
-renewed-first : {X : Type 0} (i : ℕ) (new : At X) (news : List (At X)) (y : X) (ys : List X) → new.at ≡ i
+renewed-first : {X : Type 0} (i : ℕ) (new : SparseItem X) (news : List (SparseItem X)) (y : X) (ys : List X) → new.at ≡ i
     → renewed i (new ∷ news) (y ∷ ys) ≡ new.item ∷ renewed (suc i) news ys
 renewed-first i new news y ys is =
     let here = item_at-here new news i is in
@@ -139,7 +139,7 @@ renewed-first i new news y ys is =
     λ j. unwrap_or (here j) y ∷ later j
 
 module _ (old new : Storage) (from : ℕ) (olds : List Trace) where
-  pub some-none : (news : List (At Trace)) → AreWithin from (from + length olds) news → old ≡ new → StoresSome old new from olds (renewed from news olds) 0 news
+  pub some-none : (news : List (SparseItem Trace)) → AreWithin from (from + length olds) news → old ≡ new → StoresSome old new from olds (renewed from news olds) 0 news
   some-none news within same =
       let at : from + 0 ≡ from = omega arith in
       record {
@@ -150,7 +150,7 @@ module _ (old new : Storage) (from : ℕ) (olds : List Trace) where
       }
 
   -- those in front of what is new, and what is new in the place of the next
-  pub some-more : (between front_of : Storage) (whole : List Trace) (done at : ℕ) (n : At Trace) (left : List (At Trace)) (was : StoresSome old between from olds whole done (n ∷ left))
+  pub some-more : (between front_of : Storage) (whole : List Trace) (done at : ℕ) (n : SparseItem Trace) (left : List (SparseItem Trace)) (was : StoresSome old between from olds whole done (n ∷ left))
       → at + from ≡ n.at → StoresAlso between front_of (slice_range olds done at) → StoresMore front_of new n.item → StoresSome old new from olds whole (at + 1) left
   some-more between front_of whole done at n left was is front more =
       let low : done ≤ at = omega (arith, is, was.within.0) in
@@ -179,16 +179,16 @@ module _ (old new : Storage) (from : ℕ) (olds : List Trace) where
       }
 
   -- the same where it is the next of a list
-  pub some-next : (between front_of : Storage) (whole : List Trace) (done i : ℕ) (n : At Trace) (news : List (At Trace)) → i < length news → n ≡ get_or news i n
+  pub some-next : (between front_of : Storage) (whole : List Trace) (done i : ℕ) (n : SparseItem Trace) (news : List (SparseItem Trace)) → i < length news → n ≡ get_or news i n
       → StoresSome old between from olds whole done (drop i news) → StoresAlso between front_of (slice_range olds done (n.at - from)) → StoresMore front_of new n.item
       → StoresSome old new from olds whole (n.at - from + 1) (drop (i + 1) news)
   some-next between front_of whole done i n news lt is was front more =
-      let next : drop i news ≡ n ∷ drop (i + 1) news = drop_more news i n lt ∙ ap (λ (m : At Trace). m ∷ drop (i + 1) news) (sym is) in
+      let next : drop i news ≡ n ∷ drop (i + 1) news = drop_more news i n lt ∙ ap (λ (m : SparseItem Trace). m ∷ drop (i + 1) news) (sym is) in
       let at_next = subst (StoresSome old between from olds whole done) next was in
       let at : n.at - from + from ≡ n.at = omega (arith, at_next.within.0) in
       some-more between front_of whole done (n.at - from) n (drop (i + 1) news) at_next at front more
 
-  pub some-all : (between : Storage) (whole : List Trace) (done i : ℕ) (news : List (At Trace)) → length news ≤ i → StoresSome old between from olds whole done (drop i news)
+  pub some-all : (between : Storage) (whole : List Trace) (done i : ℕ) (news : List (SparseItem Trace)) → length news ≤ i → StoresSome old between from olds whole done (drop i news)
       → StoresAlso between new (slice_range olds done (length olds)) → StoresAlso old new whole
   some-all between whole done i news le was behind =
       let none = drop_all i news le in

@@ -6,7 +6,7 @@ use Rattle.std.proofs.lemmas.List.Sums.{sum_by-cons, sum_by_push, sum_by-take-le
 use Rattle.cps_state.specs.declared.hashing.Hashing.{Hashing}
 use Rattle.cps_state.specs.Course.{Trace}
 use Rattle.cps_state.specs.Keys.{State, first_state, overwritten}
-use Rattle.cps_pass.specs.Expansion.{trace_of}
+use Rattle.cps_edit.specs.Expansion.{trace_of}
 use Rattle.cps_final.specs.Layout.{puts_of}
 use Rattle.cps_holding.specs.Holds.{holds}
 use Rattle.cps_holding.specs.Run.{run_of}
@@ -17,7 +17,7 @@ use Rattle.cps_edit.proofs.AskedLemmas.{asked-here}
 use Rattle.cps_chunk.specs.Chunk.{IsChunkOf, AreChunksOf, lengths_of}
 use Rattle.cps_chunk.specs.declared.chunk.Chunk.{Chunk}
 use Rattle.cps_chunk.proofs.ChunkLemmas.{chunks-long, chunks-front, chunks-behind, chunks-within}
-use Rattle.cps_replay.specs.declared.sparse.At.{At}
+use Rattle.cps_replay.specs.declared.sparse.SparseItem.{SparseItem}
 use Rattle.cps_replay.specs.Noted.{AreHeld}
 use Rattle.cps_replay.specs.Replayed.{replayed}
 use Rattle.cps_replay.specs.declared.walk.Cursor.{Cursor}
@@ -100,7 +100,7 @@ module _ (lines : List (List ℕ)) (traces : List Trace) (did : traces ≡ trace
         (λ i. replayed (is i) a (stretch a b lines) (stretch-did i)) ∙ replayed-still (state-to a) a (stretch a b lines)
 
     module _ (within : b ≤ length lines) (now : State) where
-      abbrev here : List (At Trace)
+      abbrev here : List (SparseItem Trace)
       here = replayed now a (stretch a b lines) (stretch a b traces)
 
       abbrev next : State

@@ -13,7 +13,7 @@ use Rattle.cps_chunk.specs.declared.chunk.Chunk.{Chunk}
 use Rattle.cps_replay.specs.Replay.{PutsAlso, now_with}
 use Rattle.cps_replay.specs.Replayed.{replayed}
 use Rattle.cps_replay.specs.Walk.{StandsAt, now_at, state_at, stretch}
-use Rattle.cps_replay.specs.declared.sparse.At.{At}
+use Rattle.cps_replay.specs.declared.sparse.SparseItem.{SparseItem}
 use Rattle.cps_replay.specs.declared.walk.Cursor.{Cursor}
 use Rattle.cps_replay.specs.declared.walk.Position.{Position}
 use Rattle.cps_replay.specs.declared.walk.Position.TheVariants.{Same, Behind}
@@ -39,7 +39,7 @@ pub record IsSpan (walk : Walk) (position : Position) (lines : Span) : Type 0 wh
   pub may : MayGo walk position
 
 -- what the lines of a span do now that are disturbed in pass one
-abbrev pub replayed_along : Walk → Position → Span → List (At Trace)
+abbrev pub replayed_along : Walk → Position → Span → List (SparseItem Trace)
 replayed_along walk position lines =
     replayed (front_at walk position lines.from) lines.from (stretch lines.from lines.to walk.base.lines.now) (stretch lines.from lines.to walk.base.traces.now)
 

@@ -4,7 +4,7 @@ use Rattle.cps_state.specs.Keys.{State, first_state}
 use Rattle.cps_state.specs.Course.{Trace}
 use Rattle.cps_exchange.specs.declared.exchange.Exchange.{Exchange}
 use Rattle.cps_edit.specs.Passes.{after, state_after, traces_of}
-use Rattle.cps_replay.specs.declared.sparse.At.{At}
+use Rattle.cps_replay.specs.declared.sparse.SparseItem.{SparseItem}
 use Rattle.cps_replay.specs.Replayed.{replayed}
 use Rattle.cps_replay.specs.Walk.{stretch}
 
@@ -31,14 +31,14 @@ fronts_moved lines e =
     ++ (fronts (state_before lines e) (stretch e.mid e.from lines) ++ fronts (state_past lines e) (drop e.from lines)))
 
 -- what the lines do now that are disturbed in pass one: those of the first run, those of the second, those behind both, and all
-abbrev pub first_replayed : List (List ℕ) → Exchange → List (At Trace)
+abbrev pub first_replayed : List (List ℕ) → Exchange → List (SparseItem Trace)
 first_replayed lines e = replayed (state_between lines e) e.keep (stretch e.keep e.mid lines) (stretch e.keep e.mid (traces_of lines))
 
-abbrev pub second_replayed : List (List ℕ) → Exchange → List (At Trace)
+abbrev pub second_replayed : List (List ℕ) → Exchange → List (SparseItem Trace)
 second_replayed lines e = replayed (state_before lines e) e.mid (stretch e.mid e.from lines) (stretch e.mid e.from (traces_of lines))
 
-abbrev pub behind_replayed : List (List ℕ) → Exchange → List (At Trace)
+abbrev pub behind_replayed : List (List ℕ) → Exchange → List (SparseItem Trace)
 behind_replayed lines e = replayed (state_past lines e) e.from (drop e.from lines) (drop e.from (traces_of lines))
 
-abbrev pub replayed_moved : List (List ℕ) → Exchange → List (At Trace)
+abbrev pub replayed_moved : List (List ℕ) → Exchange → List (SparseItem Trace)
 replayed_moved lines e = first_replayed lines e ++ (second_replayed lines e ++ behind_replayed lines e)

@@ -3,16 +3,16 @@ use Rattle.std.specs.Prelude.{ℕ, zero, suc, Bool, List, [], ◌∷◌, ◌++�
 use Rattle.cps_state.specs.Keys.{State, first_state}
 use Rattle.cps_state.specs.Course.{Trace}
 use Rattle.cps_state.specs.declared.key.Put.{Put}
-use Rattle.cps_pass.specs.Expansion.{trace_of}
+use Rattle.cps_edit.specs.Expansion.{trace_of}
 use Rattle.cps_final.specs.Outcome.{Resolved, Outcome, outcome_of}
-use Rattle.cps_replay.specs.declared.sparse.At.{At}
+use Rattle.cps_replay.specs.declared.sparse.SparseItem.{SparseItem}
 use Rattle.cps_replay.specs.Sparse.{item_at, one_if}
 use Rattle.cps_edit.specs.Passes.{after, state_after, traces_of}
 use Rattle.cps_edit.specs.Disturbed.{is_disturbed, is_redone}
 use Rattle.cps_edit.specs.Splice.{Splice}
 
 -- what the lines do now that are disturbed in pass one: lines from a place on, the first of them in this state, which did that
-abbrev pub replayed : State → ℕ → List (List ℕ) → List Trace → List (At Trace)
+abbrev pub replayed : State → ℕ → List (List ℕ) → List Trace → List (SparseItem Trace)
 replayed state i [] traces = []
 replayed state i (line ∷ lines) [] = []
 replayed state i (line ∷ lines) (trace ∷ traces) = one_if (is_disturbed (Some trace) state) i (trace_of line state) ++ replayed (after state line) (suc i) lines traces
@@ -26,13 +26,13 @@ abbrev pub puts_at : State → List ℕ → List Put
 puts_at state line = (trace_of line state).puts
 
 -- what pass two makes now of the lines that are disturbed in it: lines from a place on, which did that, and of which some do this now
-abbrev pub redone : Resolved → Resolved → ℕ → List (At Trace) → List Trace → List (At Outcome)
+abbrev pub redone : Resolved → Resolved → ℕ → List (SparseItem Trace) → List Trace → List (SparseItem Outcome)
 redone was now i news [] = []
 redone was now i news (trace ∷ traces) =
     one_if (is_redone was now (is_some (item_at news i)) trace) i (outcome_of now (unwrap_or (item_at news i) trace)) ++ redone was now (suc i) news traces
 
 -- at which of so many places from one on there is an item
-abbrev pub flags_at : ℕ → ℕ → List (At Trace) → List Bool
+abbrev pub flags_at : ℕ → ℕ → List (SparseItem Trace) → List Bool
 flags_at i zero news = []
 flags_at i (suc n) news = is_some (item_at news i) ∷ flags_at (suc i) n news
 
@@ -46,12 +46,12 @@ abbrev pub state_behind : List (List ℕ) → Splice → State
 state_behind lines splice = state_after (state_front lines splice) splice.new
 
 -- what the lines behind them do now that are disturbed in pass one, each at the place that it had
-abbrev pub replayed_behind : List (List ℕ) → Splice → List (At Trace)
+abbrev pub replayed_behind : List (List ℕ) → Splice → List (SparseItem Trace)
 replayed_behind lines splice = replayed (state_behind lines splice) splice.from (drop splice.from lines) (drop splice.from (traces_of lines))
 
 -- and what pass two makes now of the lines that are disturbed in it, in front of the new lines and behind them
-abbrev pub redone_front : Resolved → Resolved → List (List ℕ) → Splice → List (At Outcome)
+abbrev pub redone_front : Resolved → Resolved → List (List ℕ) → Splice → List (SparseItem Outcome)
 redone_front was now lines splice = redone was now 0 [] (take splice.keep (traces_of lines))
 
-abbrev pub redone_behind : Resolved → Resolved → List (List ℕ) → Splice → List (At Outcome)
+abbrev pub redone_behind : Resolved → Resolved → List (List ℕ) → Splice → List (SparseItem Outcome)
 redone_behind was now lines splice = redone was now splice.from (replayed_behind lines splice) (drop splice.from (traces_of lines))

@@ -11,7 +11,7 @@ use Rattle.cps_final.specs.Finals.{Finals, finals_of, program_of}
 use Rattle.cps_final.specs.Pool.{literals_in}
 use Rattle.cps_gather.specs.Storage.{IsStored}
 use Rattle.cps_gather.specs.declared.storage.Storage.{Storage}
-use Rattle.cps_replay.specs.declared.sparse.At.{At}
+use Rattle.cps_replay.specs.declared.sparse.SparseItem.{SparseItem}
 use Rattle.cps_replay.specs.Sparse.{AreWithin, renewed}
 
 abbrev pub is_counter : Key → Bool
@@ -50,7 +50,7 @@ abbrev pub StoresAlso : Storage → Storage → List Trace → Type 0
 StoresAlso old new traces = (before : List Trace) → IsStored old before → IsStored new (before ++ traces)
 
 -- The first so many lines, from a place on, are stored with what is new among them, and the rest stands behind them with these that are left.
-pub record StoresSome (old new : Storage) (from : ℕ) (olds whole : List Trace) (done : ℕ) (left : List (At Trace)) : Type 0 where
+pub record StoresSome (old new : Storage) (from : ℕ) (olds whole : List Trace) (done : ℕ) (left : List (SparseItem Trace)) : Type 0 where
   pub first : List Trace
   pub stores : StoresAlso old new first
   pub rest : first ++ renewed (from + done) left (drop done olds) ≡ whole

@@ -15,7 +15,7 @@ use Rattle.cps_chunk.specs.Chunk.{AreChunksOf, lengths_of}
 use Rattle.cps_chunk.specs.declared.chunk.Chunk.{Chunk}
 use Rattle.cps_replay.specs.Replay.{now_by}
 use Rattle.cps_replay.specs.Replayed.{replayed}
-use Rattle.cps_replay.specs.declared.sparse.At.{At}
+use Rattle.cps_replay.specs.declared.sparse.SparseItem.{SparseItem}
 use Rattle.cps_replay.specs.declared.walk.Baseline.{Baseline}
 use Rattle.cps_replay.specs.declared.walk.Cursor.{Cursor}
 use Rattle.cps_replay.specs.declared.walk.Walk.{Walk}
@@ -38,6 +38,12 @@ pub record StandsAt (chunks : List Chunk) (cursor : Cursor) : Type 0 where
 abbrev pub cursor : ℕ → ℕ → Cursor
 cursor chunk line = record { chunk = chunk; line = line }
 
+-- chunks from one of them on, up to another or the end of all
+pub record AreChunksFrom (chunks : List Chunk) (begin end : Cursor) : Type 0 where
+  pub first : StandsAt chunks begin
+  pub past : StandsAt chunks end
+  pub ordered : begin.chunk ≤ end.chunk
+
 -- those after the first `from` up to the first `to`
 abbrev pub stretch : {X : Type 0} → ℕ → ℕ → List X → List X
 stretch from to xs = drop from (take to xs)
@@ -56,6 +62,13 @@ now_at walk at = now_by walk.replay.log (state_at walk at)
 abbrev pub changed_in : Walk → Changed
 changed_in walk = changes_in walk.replay.log.changes
 
+-- lines from one on up to another may be gone over, or entered behind the first `from`: no lines are open
+pub record MayGoOver (now : Walk) (from to : ℕ) : Type 0 where
+  pub walk : IsWalk now
+  pub ordered : from ≤ to
+  pub within : to ≤ length now.base.lines.now
+  pub present : changes_in now.replay.log.present ≡ no_change
+
 -- lines from one on up to another were gone over: what they do now is noted, and what is changed behind them
 pub record GoesOver (old new : Walk) (from to : ℕ) : Type 0 where
   pub news : new.replay.news.items
@@ -70,7 +83,7 @@ looks_over now (n ∷ lengths) lines traces =
     (if holds (run_of (take n traces)).asks now then 0 else n) + looks_over (state_after now (take n lines)) lengths (drop n lines) (drop n traces)
 
 -- what the lines from one on up to another do now that are disturbed in pass one
-abbrev pub replayed_in : Walk → ℕ → ℕ → List (At Trace)
+abbrev pub replayed_in : Walk → ℕ → ℕ → List (SparseItem Trace)
 replayed_in walk from to = replayed (now_at walk from) from (stretch from to walk.base.lines.now) (stretch from to walk.base.traces.now)
 
 -- what those lines asked together, and what they put

@@ -1,14 +1,14 @@
 //! Changed keys, as lines are gone through.
-ghost use Rattle.std.specs.Prelude.{◌≡◌, ◌++◌, List, OnOk, IfOk, unwrap_or};
+ghost use Rattle.std.specs.Prelude.{◌≡◌, OnOk, IfOk, unwrap_or};
 ghost use Rattle.std.specs.Option.{option_copied};
-ghost use Rattle.cps_state.specs.declared.key.Put.{Put as APut};
-ghost use Rattle.cps_changes.specs.Changes.{no_change, changed, settled};
+ghost use Rattle.cps_changes.specs.Changes.{no_change, settled};
 ghost use Rattle.cps_changes.specs.Kept.{changes_in};
 ghost use Rattle.cps_final.specs.Layout.{puts_of};
-ghost use Rattle.cps_replay.specs.Compared.{compared, with_all_kept, with_difference, with_kept, with_puts};
-ghost use Rattle.cps_replay.specs.Noted.{AreHeld, last_puts, noted};
+ghost use Rattle.cps_replay.specs.Compared.{with_puts};
+ghost use Rattle.cps_replay.specs.Noted.{AreHeld, last_puts};
+ghost use Rattle.cps_replay.specs.Replay.{Closes, Puts, all_compared, compared_at, former_in, present_at, present_in, present_with};
 
-use crate::now::{Known, Now};
+use crate::states::{ChangedState, FormerState};
 use cps_changes::Changes;
 use cps_holding::is_same_answer;
 use cps_state::{Answer, Hashing, Key, Lookup, Put, Trace};
@@ -100,9 +100,8 @@ impl ChangeLog {
 
     /// One of the present lines puts these.
     pub fn put(&mut self, puts: &[Put]) -> Result<(), AllocError>
-        ensures present { OnOk result (changes_in self.new.present ≡ with_puts (changes_in self.old.present) puts.now) }
-        ensures puts { OnOk result ((news : List APut) → changes_in self.old.present ≡ last_puts news
-            → changes_in self.new.present ≡ last_puts (news ++ puts.now)) }
+        ensures present { OnOk result (present_in self.new ≡ with_puts (present_in self.old) puts.now) }
+        ensures puts { OnOk result (Puts self.old self.new puts.now) }
         ensures changes { self.new.changes ≡ self.old.changes }
     {
         for put in puts {
@@ -115,9 +114,8 @@ impl ChangeLog {
     /// The present lines end. In their place stood these, in front of which that stood.
     pub fn close<L: Lookup>(&mut self, gone: &[Trace], before: &L) -> Result<(), AllocError>
         requires { AreHeld (L.answer before.now) gone.now }
-        ensures changes { OnOk result ((news : List APut) → changes_in self.old.present ≡ last_puts news
-            → changes_in self.new.changes ≡ noted (changes_in self.old.changes) (L.answer before.now) (puts_of gone.now) news) }
-        ensures present { OnOk result (changes_in self.new.present ≡ no_change) }
+        ensures changes { OnOk result (Closes self.old self.new (L.answer before.now) (puts_of gone.now)) }
+        ensures present { OnOk result (present_in self.new ≡ no_change) }
     {
         self.take_all(gone, before)?;
         self.compare_all(before)?;
@@ -128,14 +126,13 @@ impl ChangeLog {
     /// What these lines put before; at keys that no present line puts stands what stood in front of them.
     fn take_all<L: Lookup>(&mut self, gone: &[Trace], before: &L) -> Result<(), AllocError>
         requires { AreHeld (L.answer before.now) gone.now }
-        ensures present { OnOk result (changes_in self.new.present
-            ≡ with_all_kept (changes_in self.old.present) (puts_of gone.now) (changed (changes_in self.old.changes) (L.answer before.now))) }
-        ensures former { OnOk result (changes_in self.new.former ≡ last_puts (puts_of gone.now)) }
+        ensures present { OnOk result (present_in self.new ≡ present_with self.old (puts_of gone.now) (L.answer before.now)) }
+        ensures former { OnOk result (former_in self.new ≡ last_puts (puts_of gone.now)) }
         ensures changes { self.new.changes ≡ self.old.changes }
     {
         empty(&mut self.former, self.alloc, self.hashing);
         for trace in gone {
-            let known = Known {
+            let known = FormerState {
                 asks: trace.asks(),
                 past: before,
             };
@@ -146,9 +143,8 @@ impl ChangeLog {
 
     /// The same of what one line put, where that stood in front of it.
     fn take<L: Lookup>(&mut self, puts: &[Put], before: &L) -> Result<(), AllocError>
-        ensures present { OnOk result (changes_in self.new.present
-            ≡ with_all_kept (changes_in self.old.present) puts.now (changed (changes_in self.old.changes) (L.answer before.now))) }
-        ensures former { OnOk result (changes_in self.new.former ≡ with_puts (changes_in self.old.former) puts.now) }
+        ensures present { OnOk result (present_in self.new ≡ present_with self.old puts.now (L.answer before.now)) }
+        ensures former { OnOk result (former_in self.new ≡ with_puts (former_in self.old) puts.now) }
         ensures changes { self.new.changes ≡ self.old.changes }
     {
         for put in puts {
@@ -161,15 +157,14 @@ impl ChangeLog {
 
     /// At a key that no present line puts stands what stood in front of them.
     fn keep<L: Lookup>(&mut self, key: &Key, before: &L) -> Result<(), AllocError>
-        ensures present { OnOk result (changes_in self.new.present
-            ≡ with_kept (changes_in self.old.present) key.now (changed (changes_in self.old.changes) (L.answer before.now) key.now)) }
+        ensures present { OnOk result (present_in self.new ≡ present_at self.old key.now (L.answer before.now)) }
         ensures former { self.new.former ≡ self.old.former }
         ensures changes { self.new.changes ≡ self.old.changes }
     {
         if self.present.find(key).is_some() {
             return Ok(());
         }
-        let now = Now {
+        let now = ChangedState {
             changes: &self.changes,
             before,
         };
@@ -179,8 +174,7 @@ impl ChangeLog {
 
     /// Compares what stands now with what stood there, at the keys that the present lines put now or put before.
     fn compare_all<L: Lookup>(&mut self, before: &L) -> Result<(), AllocError>
-        ensures { OnOk result (changes_in self.new.changes
-            ≡ compared (changes_in self.old.changes) (changes_in self.old.present) (changed (changes_in self.old.former) (L.answer before.now))) }
+        ensures { OnOk result (changes_in self.new.changes ≡ all_compared self.old (L.answer before.now)) }
     {
         for i in 0..self.present.count() {
             let key = self.present.key(i);
@@ -191,12 +185,11 @@ impl ChangeLog {
 
     /// The same at one of the keys.
     fn compare<L: Lookup>(&mut self, key: Key, before: &L) -> Result<(), AllocError>
-        ensures changes { OnOk result (changes_in self.new.changes ≡ with_difference (changes_in self.old.changes) key
-            (unwrap_or (changes_in self.old.present key) None) (changed (changes_in self.old.former) (L.answer before.now) key)) }
+        ensures changes { OnOk result (changes_in self.new.changes ≡ compared_at self.old (L.answer before.now) key) }
         ensures present { self.new.present ≡ self.old.present }
         ensures former { self.new.former ≡ self.old.former }
     {
-        let then = Now {
+        let then = ChangedState {
             changes: &self.former,
             before,
         };

@@ -2,7 +2,7 @@
 //! made anew.
 //!
 //! - `change_log.rt`: changed keys, as lines are gone through
-//! - `now.rt`: what stands in front of a line
+//! - `states.rt`: what stands in front of a line
 //! - `redo.rt`: pass two over lines
 //! - `replay.rt`: pass one over lines
 //! - `sparse.rt`: items at some places of a list
@@ -12,20 +12,20 @@
 #![tactic(auto)]
 
 mod change_log;
-mod now;
 mod redo;
 mod replay;
 mod sparse;
 mod standing;
+mod states;
 mod storing;
 mod walk;
 
 pub use change_log::ChangeLog;
 pub use cps_holding::{Ends, same_finals};
-pub use now::{Known, Now};
 pub use redo::Redo;
 pub use replay::{OldLine, Replay};
-pub use sparse::{At, put_all};
+pub use sparse::{SparseItem, put_all};
 pub use standing::{asks_stand, still_stands};
+pub use states::{ChangedState, FormerState};
 pub use storing::{leave_same, store_all, store_renewed};
 pub use walk::{Baseline, Cursor, Position, Span, Walk, gather, part};

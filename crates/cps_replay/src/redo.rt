@@ -6,13 +6,13 @@ ghost use Rattle.cps_state.specs.declared.work.Tally.TheVariants.{Twos};
 ghost use Rattle.cps_final.specs.Outcome.{outcome_of};
 ghost use Rattle.cps_holding.specs.Ends.{now_of};
 ghost use Rattle.cps_edit.specs.Compares.{ComparesUpTo, Steps};
-ghost use Rattle.cps_replay.specs.Redo.{new_at, first_at, behind, redone_under, is_redone_under, MakesAlso};
+ghost use Rattle.cps_replay.specs.Redo.{MakesAlso, behind, first_at, is_redone_under, new_at, redone_at, redone_under, steps_under};
 ghost use Rattle.cps_replay.specs.Sparse.{AreWithin};
 
-use crate::sparse::At;
+use crate::sparse::SparseItem;
+use cps_edit::{Trace, Work};
 use cps_final::{Outcome, step_two};
 use cps_holding::{Ends, same_finals};
-use cps_pass::{Trace, Work};
 use std::alloc::{AllocError, Global};
 
 /// Pass two of an edit, as far as it has come.
@@ -20,7 +20,7 @@ pub struct Redo<'a> {
     alloc: Global,
     ends: Ends<'a>,
     /// What it makes of those lines that are disturbed.
-    news: Vec<At<Outcome>>,
+    news: Vec<SparseItem<Outcome>>,
 }
 
 // Written out: what holds one drops it by a call.
@@ -57,9 +57,9 @@ impl<'a> Redo<'a> {
         new: Option<&Trace>,
         work: &mut Work,
     ) -> Result<(), AllocError>
-        ensures news { OnOk result (MakesAlso self.old self.new (redone_under self.old.ends at (new_at at (option_copied new.entry)) (old.now ∷ []))) }
+        ensures news { OnOk result (MakesAlso self.old self.new (redone_at self.old.ends at (option_copied new.entry) old.now)) }
         ensures ends { self.new.ends ≡ self.old.ends }
-        ensures steps { Steps result work.old work.new 0 (if is_redone_under self.old.ends (is_some (option_copied new.entry)) old.now then 1 else 0) }
+        ensures steps { Steps result work.old work.new 0 (steps_under self.old.ends (option_copied new.entry) old.now) }
         ensures looked { work.new.looked ≡ counted_on work.old.looked (if is_some (option_copied new.entry) then 0 else 1) }
     {
         match new {
@@ -80,7 +80,7 @@ impl<'a> Redo<'a> {
         ensures step { work.new ≡ raised Twos work.old }
     {
         let outcome = step_two(self.alloc, work, trace, self.ends.finals)?;
-        self.news.push(At { at, item: outcome })?;
+        self.news.push(SparseItem { at, item: outcome })?;
         Ok(())
     }
 
@@ -90,7 +90,7 @@ impl<'a> Redo<'a> {
         &mut self,
         from: usize,
         olds: &[Trace],
-        news: &[At<Trace>],
+        news: &[SparseItem<Trace>],
         work: &mut Work,
     ) -> Result<(), AllocError>
         requires room { from + length olds.now < 2 ^ 64 }
@@ -111,7 +111,7 @@ impl<'a> Redo<'a> {
     }
 
     /// What is made anew.
-    pub fn into_news(self) -> Vec<At<Outcome>>
+    pub fn into_news(self) -> Vec<SparseItem<Outcome>>
         ensures { result ≡ self.entry.news }
     {
         let Redo {
@@ -124,7 +124,7 @@ impl<'a> Redo<'a> {
 }
 
 /// What is new at a place, of items of which none stands at an earlier one, and those behind it.
-fn split_at_place(news: &[At<Trace>], at: usize) -> (Option<&Trace>, &[At<Trace>])
+fn split_at_place(news: &[SparseItem<Trace>], at: usize) -> (Option<&Trace>, &[SparseItem<Trace>])
     ensures new { option_copied result.0 ≡ first_at at news.now }
     ensures rest { result.1.now ≡ behind at news.now }
 {

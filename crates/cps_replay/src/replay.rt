@@ -1,28 +1,27 @@
 //! Pass one of an edit: new lines, and lines that were there before.
-ghost use Rattle.std.specs.Prelude.{◌≡◌, ◌∷◌, ◌++◌, [], List, OnOk, IfOk, length};
+ghost use Rattle.std.specs.Prelude.{◌≡◌, [], OnOk, IfOk, length};
 ghost use Rattle.cps_state.specs.Keys.{overwritten};
 ghost use Rattle.cps_state.specs.Work.{counted_on, raised};
 ghost use Rattle.cps_state.specs.declared.work.Tally.TheVariants.{Looked};
-ghost use Rattle.cps_state.specs.declared.key.Put.{Put as APut};
 ghost use Rattle.cps_changes.specs.Changes.{no_change, settled};
 ghost use Rattle.cps_changes.specs.Kept.{changes_in};
 ghost use Rattle.cps_final.specs.Layout.{puts_of};
-ghost use Rattle.cps_pass.specs.Expansion.{trace_of};
+ghost use Rattle.cps_edit.specs.Expansion.{trace_of};
 ghost use Rattle.cps_holding.specs.Holds.{holds};
 ghost use Rattle.cps_edit.specs.Compares.{Steps};
 ghost use Rattle.cps_edit.specs.Passes.{after, traces_from};
 ghost use Rattle.cps_edit.specs.Renewed.{WasMeant};
-ghost use Rattle.cps_replay.specs.Noted.{AreHeld, last_puts, noted, stands};
-ghost use Rattle.cps_replay.specs.Replay.{PutsAlso, now_by, now_with};
-ghost use Rattle.cps_replay.specs.Replayed.{puts_at, replayed, steps_at};
+ghost use Rattle.cps_replay.specs.Noted.{AreHeld, last_puts, stands};
+ghost use Rattle.cps_replay.specs.Replay.{Closes, GoesBehind, Puts, PutsAlso, RenewsAlso, now_by, now_with, replayed_at};
+ghost use Rattle.cps_replay.specs.Replayed.{puts_at, steps_at};
 
 use crate::change_log::ChangeLog;
-use crate::now::{Known, Now};
-use crate::sparse::At;
+use crate::sparse::SparseItem;
 use crate::standing::{asks_stand, still_stands};
+use crate::states::{ChangedState, FormerState};
 use cps_changes::Changes;
+use cps_edit::{Hashing, Sheet, Trace, Work, step_over};
 use cps_holding::{Run, still_holds};
-use cps_pass::{Hashing, Sheet, Trace, Work, step_over};
 use cps_state::Lookup;
 use cps_text::Line;
 use std::alloc::{AllocError, Global};
@@ -42,7 +41,7 @@ pub struct Replay {
     alloc: Global,
     log: ChangeLog,
     /// What those lines do now that are disturbed.
-    news: Vec<At<Trace>>,
+    news: Vec<SparseItem<Trace>>,
     /// The lists that the next line uses.
     sheet: Sheet,
 }
@@ -86,10 +85,8 @@ impl Replay {
     ) -> Result<(), AllocError>
         requires did { old.trace.now ≡ trace_of old.line.now (L.answer past.now) }
         requires present { changes_in self.old.log.present ≡ no_change }
-        ensures news { OnOk result (self.new.news.items ≡ self.old.news.items
-            ++ replayed (now_by self.old.log (L.answer past.now)) old.entry.at (old.entry.line.now ∷ []) (old.entry.trace.now ∷ [])) }
-        ensures state { OnOk result (now_by self.new.log (after (L.answer past.now) old.entry.line.now)
-            ≡ after (now_by self.old.log (L.answer past.now)) old.entry.line.now) }
+        ensures news { OnOk result (RenewsAlso self.old self.new (replayed_at (now_by self.old.log (L.answer past.now)) old.entry)) }
+        ensures state { OnOk result (GoesBehind self.old.log self.new.log (L.answer past.now) old.entry.line.now) }
         ensures present { OnOk result (changes_in self.new.log.present ≡ no_change) }
         ensures steps { Steps result work.old work.new (steps_at (now_by self.old.log (L.answer past.now)) old.entry.trace.now) 0 }
         ensures looked { work.new.looked ≡ counted_on work.old.looked 1 }
@@ -98,14 +95,14 @@ impl Replay {
             self.log.settle(old.trace.puts());
             return Ok(());
         }
-        let known = Known {
+        let known = FormerState {
             asks: old.trace.asks(),
             past,
         };
         let trace = self.step(old.line, &known, work)?;
         self.log.put(trace.puts())?;
         self.log.close(from_ref(old.trace), &known)?;
-        self.news.push(At {
+        self.news.push(SparseItem {
             at: old.at,
             item: trace,
         })?;
@@ -120,8 +117,7 @@ impl Replay {
         work: &mut Work,
     ) -> Result<Trace, AllocError>
         ensures trace { IfOk result (λ trace. trace ≡ trace_of line.now (now_with self.old.log (L.answer past.now))) }
-        ensures puts { IfOk result (λ trace. (news : List APut) → changes_in self.old.log.present ≡ last_puts news
-            → changes_in self.new.log.present ≡ last_puts (news ++ trace.puts)) }
+        ensures puts { IfOk result (λ trace. Puts self.old.log self.new.log trace.puts) }
         ensures also { IfOk result (λ trace. PutsAlso self.old.log self.new.log trace.puts) }
         ensures state { OnOk result (now_with self.new.log (L.answer past.now) ≡ after (now_with self.old.log (L.answer past.now)) line.now) }
         ensures changes { self.new.log.changes ≡ self.old.log.changes }
@@ -160,8 +156,7 @@ impl Replay {
     /// The new lines end. In their place stood these, in front of which that stood.
     pub fn close<L: Lookup>(&mut self, gone: &[Trace], past: &L) -> Result<(), AllocError>
         requires held { AreHeld (L.answer past.now) gone.now }
-        ensures changes { OnOk result ((news : List APut) → changes_in self.old.log.present ≡ last_puts news
-            → changes_in self.new.log.changes ≡ noted (changes_in self.old.log.changes) (L.answer past.now) (puts_of gone.now) news) }
+        ensures changes { OnOk result (Closes self.old.log self.new.log (L.answer past.now) (puts_of gone.now)) }
         ensures present { OnOk result (changes_in self.new.log.present ≡ no_change) }
         ensures news { self.new.news ≡ self.old.news }
     {
@@ -177,8 +172,7 @@ impl Replay {
         work: &mut Work,
     ) -> Result<(), AllocError>
         requires meant { WasMeant old.line.now old.trace.now }
-        ensures news { OnOk result (self.new.news.items ≡ self.old.news.items
-            ++ replayed (now_with self.old.log (L.answer past.now)) old.entry.at (old.entry.line.now ∷ []) (old.entry.trace.now ∷ [])) }
+        ensures news { OnOk result (RenewsAlso self.old self.new (replayed_at (now_with self.old.log (L.answer past.now)) old.entry)) }
         ensures puts { OnOk result (PutsAlso self.old.log self.new.log (puts_at (now_with self.old.log (L.answer past.now)) old.entry.line.now)) }
         ensures steps { Steps result work.old work.new (steps_at (now_with self.old.log (L.answer past.now)) old.entry.trace.now) 0 }
         ensures looked { work.new.looked ≡ counted_on work.old.looked 1 }
@@ -187,7 +181,7 @@ impl Replay {
             return self.log.put(old.trace.puts());
         }
         let trace = self.enter(old.line, past, work)?;
-        self.news.push(At {
+        self.news.push(SparseItem {
             at: old.at,
             item: trace,
         })?;
@@ -199,11 +193,11 @@ impl Replay {
         ensures holds { result ≡ holds trace.now.asks (now_with self.now.log (L.answer past.now)) }
         ensures looked { work.new ≡ raised Looked work.old }
     {
-        let behind = Now {
+        let behind = ChangedState {
             changes: self.log.changes(),
             before: past,
         };
-        let now = Now {
+        let now = ChangedState {
             changes: self.log.present(),
             before: &behind,
         };
@@ -215,11 +209,11 @@ impl Replay {
     pub fn run_holds<L: Lookup>(&self, run: &Run, past: &L) -> bool
         ensures { result ≡ holds run.now.asks (now_with self.now.log (L.answer past.now)) }
     {
-        let behind = Now {
+        let behind = ChangedState {
             changes: self.log.changes(),
             before: past,
         };
-        let now = Now {
+        let now = ChangedState {
             changes: self.log.present(),
             before: &behind,
         };
@@ -258,11 +252,11 @@ impl Replay {
         ensures looked { work.new.looked ≡ work.old.looked }
     {
         let sheet = replace(&mut self.sheet, Sheet::new(self.alloc));
-        let behind = Now {
+        let behind = ChangedState {
             changes: self.log.changes(),
             before,
         };
-        let now = Now {
+        let now = ChangedState {
             changes: self.log.present(),
             before: &behind,
         };
@@ -298,7 +292,7 @@ impl Replay {
     }
 
     /// What is made anew of lines that were there before, and which keys are changed behind the last.
-    pub fn into_parts(self) -> (Vec<At<Trace>>, Changes)
+    pub fn into_parts(self) -> (Vec<SparseItem<Trace>>, Changes)
         ensures news { result.0 ≡ self.news }
         ensures changes { result.1 ≡ self.log.changes }
     {

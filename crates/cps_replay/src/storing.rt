@@ -7,7 +7,7 @@ ghost use Rattle.cps_replay.specs.Leaving.{leaves_counters_alone, leaves_nothing
 ghost use Rattle.cps_replay.specs.Sparse.{AreWithin, renewed};
 ghost use Rattle.cps_replay.specs.Storing.{counters_in, is_counter, left_by};
 
-use crate::sparse::At;
+use crate::sparse::SparseItem;
 use cps_gather::Storage;
 use cps_naming::{Naming, all_pass};
 use cps_state::{Item, Key, Put, Trace};
@@ -133,7 +133,7 @@ pub fn store_renewed(
     storage: &mut Storage,
     from: usize,
     olds: &[Trace],
-    news: &[At<Trace>],
+    news: &[SparseItem<Trace>],
 ) -> Result<(), AllocError>
     requires { AreWithin from (from + length olds.now) news.now }
     ensures { OnOk result ((ts : List Did) → IsStored storage.old ts → IsStored storage.new (ts ++ renewed from news.now olds.now)) }

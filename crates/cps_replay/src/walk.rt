@@ -2,29 +2,28 @@
 ghost use Rattle.std.specs.Prelude.{◌≡◌, ◌+◌, ◌-◌, ◌<◌, ◌≤◌, ◌++◌, [], List, OnOk, IfOk, true, false, is_some, length, take, drop, sum, if◌then◌else◌};
 ghost use Rattle.std.specs.List.{list_any};
 ghost use Rattle.cps_state.specs.declared.key.Key.{Key as AKey};
-ghost use Rattle.cps_state.specs.declared.key.Put.{Put as APut};
 ghost use Rattle.cps_state.specs.Course.{last_put as last_put_by};
 ghost use Rattle.cps_changes.specs.Changes.{no_change, settled};
 ghost use Rattle.cps_changes.specs.Kept.{changes_in, keys_in};
 ghost use Rattle.cps_final.specs.Layout.{puts_of};
-ghost use Rattle.cps_pass.specs.Expansion.{trace_of};
+ghost use Rattle.cps_edit.specs.Expansion.{trace_of};
 ghost use Rattle.cps_holding.specs.Holds.{holds};
 ghost use Rattle.cps_holding.specs.Run.{run_of};
 ghost use Rattle.cps_edit.specs.Compares.{ComparesUpTo, Steps};
 ghost use Rattle.cps_edit.specs.Passes.{traces_from};
 ghost use Rattle.cps_chunk.specs.Chunk.{AreChunksOf, IsChunkOf, lengths_of};
 ghost use Rattle.cps_chunk.specs.Marks.{has, mark_of};
-ghost use Rattle.cps_replay.specs.Noted.{last_puts, noted, stands};
-ghost use Rattle.cps_replay.specs.Replay.{now_with};
+ghost use Rattle.cps_replay.specs.Noted.{last_puts, stands};
+ghost use Rattle.cps_replay.specs.Replay.{Closes, now_with};
 ghost use Rattle.cps_replay.specs.Replayed.{replayed};
-ghost use Rattle.cps_replay.specs.Walk.{IsBaseline, IsWalk, IsStillWalk, GoesOver, HasMadeNothing, StandsAt, asks_in, changed_in, cursor, looks_at, looks_in, now_at, puts_in, replayed_in, state_at, stood_at, stretch};
+ghost use Rattle.cps_replay.specs.Walk.{AreChunksFrom, IsBaseline, MayGoOver, IsWalk, IsStillWalk, GoesOver, HasMadeNothing, StandsAt, asks_in, changed_in, cursor, looks_at, looks_in, now_at, puts_in, replayed_in, state_at, stood_at, stretch};
 ghost use Rattle.cps_replay.specs.Along.{GoesAlong, IsChunkAt, IsGatheredAt, IsInside, IsSpan, MayGo, front_at, looks_in_span, looks_of, looks_whole, reached, replayed_along, span};
 ghost use Rattle.cps_replay.specs.declared.walk.Position.TheVariants.{Behind};
 
 use crate::replay::{OldLine, Replay};
 use cps_changes::Changes;
 use cps_chunk::{Chunk, Marks, Past, Summary, last_put, mark_of};
-use cps_pass::{Hashing, Trace, Work};
+use cps_edit::{Hashing, Trace, Work};
 use cps_state::{Key, Lookup, State};
 use cps_text::Line;
 use std::alloc::{AllocError, Global};
@@ -151,9 +150,7 @@ impl<'a> Walk<'a> {
         lines: &[Line],
         work: &mut Work,
     ) -> Result<Vec<Trace>, AllocError>
-        requires walk { IsWalk self.old }
-        requires within { keep ≤ length self.old.base.lines.now }
-        requires present { changes_in self.old.replay.log.present ≡ no_change }
+        requires { MayGoOver self.old keep keep }
         ensures traces { IfOk result (λ traces. traces.items ≡ traces_from (now_at self.old keep) lines.now) }
         ensures puts { IfOk result (λ traces. changes_in self.new.replay.log.present ≡ last_puts (puts_of traces.items)) }
         ensures changes { self.new.replay.log.changes ≡ self.old.replay.log.changes }
@@ -171,8 +168,7 @@ impl<'a> Walk<'a> {
         requires walk { IsWalk self.old }
         requires ordered { keep ≤ from }
         requires within { from ≤ length self.old.base.lines.now }
-        ensures changes { OnOk result ((news : List APut) → changes_in self.old.replay.log.present ≡ last_puts news
-            → changed_in self.new ≡ noted (changed_in self.old) (state_at self.old keep) (puts_in self.old keep from) news) }
+        ensures changes { OnOk result (Closes self.old.replay.log self.new.replay.log (state_at self.old keep) (puts_in self.old keep from)) }
         ensures present { OnOk result (changes_in self.new.replay.log.present ≡ no_change) }
         ensures rest { HasMadeNothing self.old self.new }
     {
@@ -188,10 +184,7 @@ impl<'a> Walk<'a> {
         to: usize,
         work: &mut Work,
     ) -> Result<(), AllocError>
-        requires walk { IsWalk self.old }
-        requires ordered { from ≤ to }
-        requires within { to ≤ length self.old.base.lines.now }
-        requires present { changes_in self.old.replay.log.present ≡ no_change }
+        requires { MayGoOver self.old from to }
         ensures over { OnOk result (GoesOver self.old self.new from to) }
         ensures rest { (self.new.base ≡ self.old.base) × (self.new.chunks ≡ self.old.chunks) }
         ensures steps { Steps result work.old work.new (length (replayed_in self.old from to)) 0 }
@@ -209,12 +202,9 @@ impl<'a> Walk<'a> {
         to: usize,
         work: &mut Work,
     ) -> Result<(), AllocError>
-        requires walk { IsWalk self.old }
+        requires may { MayGoOver self.old from to }
         requires cursor { StandsAt self.old.chunks.items cursor }
         requires begins { cursor.line ≤ from }
-        requires ordered { from ≤ to }
-        requires within { to ≤ length self.old.base.lines.now }
-        requires present { changes_in self.old.replay.log.present ≡ no_change }
         ensures over { OnOk result (GoesOver self.old self.new from to) }
         ensures rest { (self.new.base ≡ self.old.base) × (self.new.chunks ≡ self.old.chunks) }
         ensures steps { Steps result work.old work.new (length (replayed_in self.old from to)) 0 }
@@ -245,9 +235,7 @@ impl<'a> Walk<'a> {
         work: &mut Work,
     ) -> Result<(), AllocError>
         requires walk { IsWalk self.old }
-        requires first { StandsAt self.old.chunks.items first }
-        requires past { StandsAt self.old.chunks.items (cursor past to) }
-        requires ordered { first.chunk ≤ past }
+        requires chunks { AreChunksFrom self.old.chunks.items first (cursor past to) }
         requires present { changes_in self.old.replay.log.present ≡ no_change }
         ensures over { OnOk result (GoesOver self.old self.new first.line to) }
         ensures walk { IsStillWalk self.old self.new }
@@ -274,8 +262,7 @@ impl<'a> Walk<'a> {
         work: &mut Work,
     ) -> Result<(), AllocError>
         requires walk { IsWalk self.old }
-        requires cursor { StandsAt self.old.chunks.items cursor }
-        requires within { cursor.chunk < length self.old.chunks.items }
+        requires chunk { IsChunkAt self.old cursor }
         requires end { end ≡ sum (take (cursor.chunk + 1) (lengths_of self.old.chunks.items)) }
         requires present { changes_in self.old.replay.log.present ≡ no_change }
         ensures over { OnOk result (GoesOver self.old self.new cursor.line end) }

@@ -2,9 +2,10 @@
 use Rattle.std.specs.Prelude.{◌≡◌, ℕ, ◌*◌, ◌-◌, ◌<◌, ◌≤◌, ◌⊎◌, List, ◌++◌, length, take, drop, Result, Ok, Err}
 use Rattle.cps_state.specs.Work.{Counts, counted_on}
 use Rattle.cps_exchange.specs.declared.exchange.Exchange.{Exchange}
+use Rattle.cps_division.specs.Division.{inserted_at}
 use Rattle.cps_division.specs.Exchange.{exchanged_at, moved_at}
 use Rattle.cps_division.specs.Put.{put_at}
-use Rattle.cps_edit.specs.Splice.{Splice, splice_at, spliced}
+use Rattle.cps_edit.specs.Splice.{Splice, insertion, splice_at, spliced}
 use Rattle.cps_edit.specs.Disturbed.{ones_of, twos_of, ones_of_exchange, twos_of_exchange}
 use Rattle.cps_edit.specs.Compares.{ComparesUpTo}
 use Rattle.cps_editing.specs.Touched.{touched_of, touched_of_exchange}
@@ -106,6 +107,11 @@ WorkOfMove (Err faults.Memory) lines e old new = HaveSteppedUpTo (ones_of_exchan
 -- there the new lengths are those that it would make.
 abbrev pub LooksOfEdit : Source → Splice → List ℕ → Counts → Counts → Type 0
 LooksOfEdit old splice lengths was now = ComparesUpTo was now (128 * touched_of old.lines splice old.lengths lengths)
+
+-- so does a line behind the last
+abbrev pub LooksOfAppend : Source → List ℕ → Counts → Counts → Type 0
+LooksOfAppend old line was now =
+    LooksOfEdit old (insertion (length old.lines) line) (inserted_at (length old.lines) old.lengths) was now
 
 -- so does one of several lines
 abbrev pub LooksOfPut : Source → ℕ → ℕ → List (List ℕ) → Counts → Counts → Type 0

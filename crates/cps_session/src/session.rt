@@ -12,7 +12,7 @@ ghost use Rattle.cps_assembly.specs.Flagged.{flagged_lines as flagged_in};
 ghost use Rattle.cps_exchange.specs.Exchange.{exchanged, move};
 ghost use Rattle.cps_division.specs.Exchange.{exchanged_at, moved_at};
 ghost use Rattle.cps_session.specs.Cutting.{edit_of, lengths_with};
-ghost use Rattle.cps_session.specs.Edits.{HasLine, LacksLine, HasLines, LacksLines, HasMove, LacksMove, LacksPlace, MayPut, MayNotPut, IsPut, put_of, without_lines, WorkOfEdit, WorkOfMove, LooksOfEdit, LooksOfMove, LooksOfPut, LooksOfExchange};
+ghost use Rattle.cps_session.specs.Edits.{HasLine, LacksLine, HasLines, LacksLines, HasMove, LacksMove, LacksPlace, MayPut, MayNotPut, IsPut, put_of, without_lines, WorkOfEdit, WorkOfMove, LooksOfAppend, LooksOfEdit, LooksOfMove, LooksOfPut, LooksOfExchange};
 
 use crate::cutting::{NewLines, cut_for, cut_for_append, list_of};
 use cps_assembly::flagged_lines;
@@ -282,8 +282,7 @@ impl Session {
 
     /// Puts new lines in their places.
     fn put_new(&mut self, new: NewLines, work: &mut Work) -> Result<(), EditFault>
-        requires order { new.keep ≤ new.from }
-        requires within { new.from ≤ length self.old.lines }
+        requires places { (new.keep ≤ new.from) × (new.from ≤ length self.old.lines) }
         requires few { length (spliced self.old.lines (edit_of new)) ≤ MOST_LINES }
         ensures ok { OnOk result (self.new.lines ≡ spliced self.old.lines (edit_of new)) }
         ensures lengths { OnOk result (self.new.lengths ≡ lengths_with new self.old.lengths) }
@@ -336,8 +335,7 @@ impl Session {
 
     /// Exchanges two runs of lines, each of which has some.
     fn exchange(&mut self, exchange: Exchange, work: &mut Work) -> Result<(), EditFault>
-        requires first { exchange.keep < exchange.mid }
-        requires second { exchange.mid < exchange.from }
+        requires runs { (exchange.keep < exchange.mid) × (exchange.mid < exchange.from) }
         requires within { exchange.from ≤ length self.old.lines }
         ensures ok { OnOk result (self.new.lines ≡ exchanged exchange self.old.lines) }
         ensures lengths { OnOk result (self.new.lengths ≡ exchanged_at exchange self.old.lengths) }
@@ -361,7 +359,7 @@ impl Session {
         ensures err { OnErr result (self.new ≡ self.old) }
         ensures only { OnErr result (IsErrOf result EditFault.Memory) }
         ensures work { WorkOfEdit result self.old.lines (insertion (length self.old.lines) line) work.old work.new }
-        ensures looked { LooksOfEdit self.old (insertion (length self.old.lines) line) (inserted_at (length self.old.lines) self.old.lengths) work.old work.new }
+        ensures looked { LooksOfAppend self.old line work.old work.new }
     {
         let count = self.kept.lines.len();
         let Ok(cut) = cut_for_append(self.alloc, &self.kept.chunks, count, line) else {

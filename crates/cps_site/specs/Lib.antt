@@ -4,3 +4,6 @@ pub mod Places
 pub mod Placing
 pub mod Sites
 pub use Rattle.cps_code.specs.Place
+pub use Rattle.cps_reading.specs.Reading
+pub use Rattle.cps_code.specs.Form
+pub use Rattle.cps_code.specs.Image

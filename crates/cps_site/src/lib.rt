@@ -18,6 +18,8 @@ mod places;
 mod placing;
 
 pub use asking::ask_value;
+pub use cps_code::{CpForm, Place};
+pub use cps_reading::{Location, PpForm, read_location};
 pub use front::Front;
 pub use located::{
     Standing, ask_standing, define, has_value, is_labelled, is_taken, present_flags, symbol_in,

@@ -1,1 +1,2 @@
 pub mod SourceLemmas
+pub use Rattle.cps_assembly.proofs.SpliceLemmas

@@ -5,7 +5,7 @@ use Rattle.std.proofs.lemmas.List.{length-map, take_more}
 use Rattle.std.proofs.lemmas.Option.{slice_get-get_or}
 use Rattle.cps_state.specs.Keys.{State, first_state}
 use Rattle.cps_state.specs.Course.{Trace}
-use Rattle.cps_pass.specs.Expansion.{trace_of}
+use Rattle.cps_assembly.specs.Expansion.{trace_of}
 use Rattle.cps_final.specs.Finals.{Finals, finals_of, Gathers, final_value}
 use Rattle.cps_final.specs.Outcome.{outcome_of}
 use Rattle.cps_assembly.specs.Assembly.{state_after, traces_of, outcomes_of, outcomes_under}

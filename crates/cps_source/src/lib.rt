@@ -8,6 +8,6 @@
 mod pass_one;
 mod source;
 
-pub use cps_pass::Hashing;
+pub use cps_assembly::Hashing;
 pub use pass_one::PassOne;
 pub use source::Source;

@@ -3,8 +3,8 @@ ghost use Rattle.std.specs.Prelude.{◌≡◌, ℕ, List, [], ◌∷◌, ◌++�
 ghost use Rattle.cps_final.specs.Finals.{Gathers, finals_of};
 ghost use Rattle.cps_assembly.specs.Assembly.{outcomes_under, traces_of};
 
+use cps_assembly::{Hashing, Sheet, Trace, Work, step_over};
 use cps_final::{Finals, Gather, Gathered, Outcome, step_two};
-use cps_pass::{Hashing, Sheet, Trace, Work, step_over};
 use cps_text::Line;
 use std::alloc::{AllocError, Global};
 use std::marker::Model;

@@ -3,10 +3,8 @@ ghost use Rattle.std.specs.Prelude.{◌≡◌, ◌≤◌, length, IfOk};
 ghost use Rattle.cps_assembly.specs.Flagged.{flagged_lines as flagged_in};
 
 use crate::pass_one::PassOne;
-use cps_assembly::flagged_lines;
+use cps_assembly::{Hashing, View, flagged_lines};
 use cps_final::{Finals, Gather, Gathered, Outcome};
-use cps_list::View;
-use cps_pass::Hashing;
 use cps_text::Line;
 use cps_text::limits::MOST_LINES;
 use std::alloc::{AllocError, Global};

@@ -12,3 +12,6 @@ pub mod Machines
 pub mod Made
 pub mod MadeKept
 pub mod Work
+pub use Rattle.cps_peripheral.specs.Bits
+pub use Rattle.cps_peripheral.specs.Operand
+pub use Rattle.cps_peripheral.specs.Place

@@ -13,7 +13,7 @@ use Rattle.cps_state.specs.declared.key.Mode.{Mode}
 use Rattle.cps_state.specs.declared.key.Mode.TheVariants.{Normal, KeepMacro, KeepDup}
 use Rattle.cps_state.specs.Made.{no_flags}
 use Rattle.cps_reading.specs.declared.reading.Location.{Location}
-use Rattle.cps_site.specs.Located.{present_flags}
+use Rattle.cps_effect.specs.Located.{present_flags}
 use Rattle.cps_statement.specs.declared.seen.Seen.{Seen}
 use Rattle.cps_statement.specs.declared.seen.Seen.TheVariants.{Repeats, Endd, Defines, Endm}
 use Rattle.cps_statement.specs.declared.treatment.Treatment.{Treatment}

@@ -5,7 +5,7 @@ use Rattle.cps_text.specs.declared.name.Name.{Name}
 use Rattle.cps_text.specs.Arguments.{has_unclosed, arguments_of}
 use Rattle.cps_text.specs.Insertion.{Pairs, inserted}
 use Rattle.cps_text.specs.Name.{name_text}
-use Rattle.cps_site.specs.Place.{position}
+use Rattle.cps_effect.specs.Place.{position}
 use Rattle.cps_reading.specs.Builtin.{is_builtin}
 use Rattle.cps_state.specs.declared.key.Control.{Control}
 use Rattle.cps_state.specs.declared.key.Macro.{Macro}
@@ -17,9 +17,9 @@ use Rattle.cps_state.specs.Flags.{joined}
 use Rattle.cps_state.specs.Made.{Made, nothing_made, no_flags}
 use Rattle.cps_reading.specs.declared.reading.Location.{Location}
 use Rattle.cps_reading.specs.declared.reading.Location.TheVariants.{Absent, Plus, Minus, Symbol, NoSymbol}
-use Rattle.cps_site.specs.declared.placing.Site.{Site}
-use Rattle.cps_site.specs.Places.{filling_between, here_at}
-use Rattle.cps_site.specs.Placing.{asking_site, placing_flags, settling, word_start}
+use Rattle.cps_effect.specs.declared.Site.{Site}
+use Rattle.cps_effect.specs.Places.{filling_between, here_at}
+use Rattle.cps_effect.specs.Placing.{asking_site, placing_flags, settling, word_start}
 use Rattle.cps_statement.specs.declared.scope.Scope.{Scope}
 use Rattle.cps_statement.specs.Keeping.{no_lines}
 use Rattle.cps_statement.specs.Opening.{Opening, plain, naming, none_opened}

@@ -26,7 +26,7 @@ use Rattle.cps_effect.specs.End.{end}
 use Rattle.cps_effect.specs.Head.{leaving_head}
 use Rattle.cps_effect.specs.Instruction.{instruction, peripheral_instruction}
 use Rattle.cps_effect.specs.Making.{flagged, unknown, misplaced, unmatched}
-use Rattle.cps_site.specs.Places.{asking_place}
+use Rattle.cps_effect.specs.Places.{asking_place}
 use Rattle.cps_effect.specs.Statements.{obeyed_plainly, unreadable_plainly}
 use Rattle.cps_statement.specs.declared.scope.Scope.{Scope}
 use Rattle.cps_statement.specs.declared.scope.Scope.TheVariants.{Source, Expansion}

@@ -22,7 +22,7 @@ use Rattle.cps_statement.specs.declared.ranges.Tested.{Tested}
 use Rattle.cps_reading.specs.declared.reading.Location.{Location}
 use Rattle.cps_effect.specs.declared.value_now.ValueNow.{ValueNow}
 use Rattle.cps_effect.specs.declared.value_now.ValueNow.TheVariants.{Undefined, NoValue, Known}
-use Rattle.cps_site.specs.Located.{present_flags, has_value, asking_standing}
+use Rattle.cps_effect.specs.Located.{present_flags, has_value, asking_standing}
 use Rattle.cps_effect.specs.Numbers.{between, plain_number}
 use Rattle.cps_effect.specs.ValueNow.{now_here}
 use Rattle.cps_statement.specs.declared.scope.Scope.{Scope}

@@ -14,7 +14,7 @@ use Rattle.cps_state.specs.Flags.{joined}
 use Rattle.cps_state.specs.Made.{no_flags}
 use Rattle.cps_reading.specs.declared.reading.Location.{Location}
 use Rattle.cps_effect.specs.declared.value_now.ValueNow.{ValueNow}
-use Rattle.cps_site.specs.Located.{present_flags}
+use Rattle.cps_effect.specs.Located.{present_flags}
 use Rattle.cps_effect.specs.Numbers.{between, plain_number}
 use Rattle.cps_effect.specs.ValueNow.{now_here}
 use Rattle.cps_statement.specs.declared.scope.Scope.{Scope}

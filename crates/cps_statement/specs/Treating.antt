@@ -10,7 +10,7 @@ use Rattle.cps_state.specs.declared.key.Mode.TheVariants.{Normal}
 use Rattle.cps_state.specs.declared.key.Range.TheVariants.{BehindElse}
 use Rattle.cps_state.specs.contracts.key.ModePartialEq.TheImpl.{eq-value}
 use Rattle.cps_state.specs.Course.{Part, ◌before◌, putting}
-use Rattle.cps_site.specs.Located.{present_flags}
+use Rattle.cps_effect.specs.Located.{present_flags}
 use Rattle.cps_effect.specs.Making.{flagged}
 use Rattle.cps_statement.specs.declared.scope.Scope.{Scope}
 use Rattle.cps_statement.specs.declared.treatment.Treatment.{Treatment}

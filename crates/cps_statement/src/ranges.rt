@@ -4,10 +4,12 @@ ghost use Rattle.cps_state.specs.Line.{Hands};
 ghost use Rattle.cps_statement.specs.Ranges as meaning;
 
 use crate::scope::{Scope, ask_ranges, go_by, put_ranges};
-use cps_effect::{ValueNow, flag, plain_number, unmatched, value_here};
+use cps_effect::{
+    Front, ValueNow, ask_standing, flag, has_value, plain_number, present_flags, unmatched,
+    value_here,
+};
 use cps_expr::{Comparison, Expr, Relation, SymbolTest};
 use cps_reading::Location;
-use cps_site::{Front, ask_standing, has_value, present_flags};
 use cps_state::{Control, Flags, Lookup, Mode, Range, Recorder, Shared, Skip, is_same_block};
 use cps_text::limits::{MOST_COUNTED_LINES, MOST_RANGES};
 use std::alloc::AllocError;

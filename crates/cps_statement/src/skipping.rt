@@ -4,8 +4,8 @@ ghost use Rattle.cps_statement.specs.Skipping as skipping;
 
 use crate::seen::Seen;
 use crate::treatment::Treatment;
+use cps_effect::present_flags;
 use cps_reading::Location;
-use cps_site::present_flags;
 use cps_state::{Flags, Mode, Skip};
 
 /// A line where lines of a number are skipped: one fewer is left. After the last one lines are assembled.

@@ -21,13 +21,12 @@ use crate::seen::seen_in;
 use crate::skipping::{skipped_in_range, skipped_line};
 use crate::treating::{Passing, treat};
 use cps_effect::{
-    end, flag, instruction, leave_head, misplaced, obey_plainly, obey_unread_plainly,
-    peripheral_instruction, unknown, unmatched,
+    Front, end, flag, instruction, leave_head, misplaced, obey_plainly, obey_unread_plainly,
+    peripheral_instruction, stand, unknown, unmatched,
 };
 use cps_expr::{Operation, Row};
 use cps_local::card_in;
 use cps_reading::{Location, Stating, read_location, read_stating};
-use cps_site::{Front, stand};
 use cps_state::{
     Control, Flags, Key, Lookup, Mode, Phase, Recorder, control_of, macro_of, mode_of,
 };

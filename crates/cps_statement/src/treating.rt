@@ -9,9 +9,8 @@ ghost use Rattle.cps_statement.specs.Treating as treating;
 use crate::opened::{Opened, Repeated};
 use crate::scope::{Scope, ask_ranges, go_by, keep, put_ranges, take_body};
 use crate::treatment::Treatment;
-use cps_effect::flag;
+use cps_effect::{flag, present_flags};
 use cps_local::macro_of_lines;
-use cps_site::present_flags;
 use cps_state::{
     Answer, Control, Key, Lookup, MacroBody, Mode, Range, Recorder, Shared, SharedMacro,
 };

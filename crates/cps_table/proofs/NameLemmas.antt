@@ -3,7 +3,7 @@ use Rattle.std.proofs.Common.{◌≡◌, ℕ, Bool, true, false, cond, eqb, List
 use Rattle.std.specs.Option.{option_or}
 use Rattle.std.specs.Prelude.{option_map, option_and_then, not, slice_index, codes}
 use Rattle.std.specs.List.{list_all}
-use Rattle.cps_text.specs.Text.{among, capital, is_digit}
+use Rattle.cps_expr.specs.Text.{among, capital, is_digit}
 use Rattle.cps_table.specs.declared.digits.Digits.{Digits}
 use Rattle.cps_table.specs.Digits.{first_digit, with_digit, with_character, digits_in}
 use Rattle.cps_table.specs.Register.{digit_value}

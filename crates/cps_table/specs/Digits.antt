@@ -3,7 +3,7 @@ use Prim.Native.Char.{code}
 use Rattle.std.specs.Prelude.{◌<◌, ℕ, ◌+◌, ◌*◌, ◌==◌, List, [], ◌∷◌, codes, fold, Option, None, Some, option_and_then, if◌then◌else◌}
 use Rattle.cps_table.specs.declared.digits.Digits.{Digits}
 use Rattle.cps_table.specs.Register.{digit_value}
-use Rattle.cps_text.specs.Text.{among, capital, is_digit}
+use Rattle.cps_expr.specs.Text.{among, capital, is_digit}
 
 -- an f, and 0 for the others
 abbrev pub first_digit : ℕ → Digits

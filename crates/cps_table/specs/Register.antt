@@ -3,7 +3,7 @@ use Rattle.std.specs.Prelude.{ℕ, ◌-◌, Bool, List, [], ◌∷◌, codes, sl
 use Rattle.cps_table.specs.declared.register.Letter.{Letter}
 use Rattle.cps_table.specs.declared.register.Letter.TheVariants.{A, B, X}
 use Rattle.cps_table.specs.declared.register.RegisterTerm.{RegisterTerm}
-use Rattle.cps_text.specs.Text.{among, capital, is_digit}
+use Rattle.cps_expr.specs.Text.{among, capital, is_digit}
 
 -- the character of a text that has one
 abbrev pub character : List ℕ → ℕ

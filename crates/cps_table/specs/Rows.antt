@@ -3,7 +3,7 @@ use Prim.Native.Char.{code}
 use Rattle.std.specs.Prelude.{ℕ, Bool, true, false, ◌==◌, List, [], ◌∷◌, flat_map, slice_index, bytes_eq, codes, Option, None, Some, option_map, if◌then◌else◌}
 use Rattle.std.specs.Option.{option_or}
 use Rattle.cps_expr.specs.Expression.{is_minus, onto_first, signed_texts}
-use Rattle.cps_text.specs.Text.{among}
+use Rattle.cps_expr.specs.Text.{among}
 use Rattle.cps_table.specs.declared.digits.Digits.{Digits}
 use Rattle.cps_table.specs.declared.register.Letter.{Letter}
 use Rattle.cps_table.specs.declared.register.Letter.TheVariants.{A, B, X}

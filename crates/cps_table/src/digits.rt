@@ -1,10 +1,10 @@
 ghost use Rattle.std.specs.Prelude.{◌≡◌, ◌<◌, ◌≤◌, ◌^◌, [], ◌∷◌, length, IfSome, MatchOption, Some, None, if◌then◌else◌};
 ghost use Rattle.cps_table.specs.Digits.{with_character, digits_in, digit_of, octal};
 ghost use Rattle.cps_table.specs.Register.{digit_value};
-ghost use Rattle.cps_text.specs.Text.{is_digit};
+ghost use Rattle.cps_expr.specs.Text.{is_digit};
 ghost use Rattle.cps_table.specs.Digits.{AreDigits};
 
-use cps_text::capital;
+use cps_expr::capital;
 
 /// The octal digits that the letters f, i, j and k stand for in the texts of a table.
 #[derive(Clone, Copy)]

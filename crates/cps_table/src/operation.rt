@@ -7,7 +7,7 @@ ghost use Rattle.cps_table.specs.Digits.{AreDigits};
 
 use super::digits::{Digits, first_and_rest, read_digits};
 use super::operation_table::operations_with;
-use cps_text::capital;
+use cps_expr::capital;
 
 /// A form whose operands are registers and, after them, an expression or none; i, j and k in its texts stand for the
 /// digits of registers.

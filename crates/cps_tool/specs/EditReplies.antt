@@ -5,7 +5,7 @@ use Rattle.cps_state.specs.Work.{Counts, no_work}
 use Rattle.cps_exchange.specs.Exchange.{exchanged, move}
 use Rattle.cps_edit.specs.Splice.{Splice, insertion, replacement, deletion}
 use Rattle.cps_edit.specs.Disturbed.{ones_of, twos_of, ones_of_exchange, twos_of_exchange}
-use Rattle.cps_assembly.specs.Limits.{most_lines}
+use Rattle.cps_session.specs.Limits.{most_lines}
 use Rattle.cps_session.specs.Edits.{HasLine, LacksLine, HasLines, LacksLines, HasMove, LacksMove, without_lines, HaveStepped, HaveSteppedUpTo}
 use Rattle.cps_tool.specs.declared.reply.Refusal.{Refusal}
 use Rattle.cps_tool.specs.declared.reply.Refusal.TheVariants as refusals

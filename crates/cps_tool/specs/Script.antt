@@ -10,8 +10,8 @@ use Rattle.cps_list.specs.Listing.{listing_text}
 use Rattle.cps_list.specs.Binary.{binary_text}
 use Rattle.cps_list.specs.Symbols.{symbols_text}
 use Rattle.cps_list.specs.Flagged.{flags_text}
-use Rattle.cps_assembly.specs.Assembly.{assembly_of}
-use Rattle.cps_assembly.specs.Flagged.{flagged_lines}
+use Rattle.cps_session.specs.Assembly.{assembly_of}
+use Rattle.cps_session.specs.Flagged.{flagged_lines}
 use Rattle.cps_input.specs.Reads.{EndsEarly}
 use Rattle.cps_input.specs.Lines.{Splits, without_return, last_line, lines_of}
 use Rattle.cps_tool.specs.Command.{Order, append, insert, replace, delete, move, list, binary, symbols, flags, work, quit, Spells, is_quit}

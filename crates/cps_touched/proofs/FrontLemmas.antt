@@ -9,7 +9,7 @@ use Rattle.cps_exchange.specs.Exchange.{IsWithin}
 use Rattle.cps_exchange.proofs.ListLemmas.{whole, between-long}
 use Rattle.cps_replay.specs.Passes.{after, state_after, traces_of}
 use Rattle.cps_replay.specs.Disturbed.{is_disturbed}
-use Rattle.cps_replay.specs.declared.sparse.At.{At}
+use Rattle.cps_replay.specs.declared.sparse.SparseItem.{SparseItem}
 use Rattle.cps_replay.specs.Sparse.{one_if, AreWithin}
 use Rattle.cps_replay.specs.Replayed.{replayed}
 use Rattle.cps_replay.specs.Walk.{stretch}
@@ -39,7 +39,7 @@ first-front f (l ∷ ls) some = refl
 
 -- ---- what lines do anew, each in its own state
 
-abbrev pub anew : List State → ℕ → List (List ℕ) → List Trace → List (At Trace)
+abbrev pub anew : List State → ℕ → List (List ℕ) → List Trace → List (SparseItem Trace)
 anew [] i lines traces = []
 anew (state ∷ states) i [] traces = []
 anew (state ∷ states) i (line ∷ lines) [] = []
@@ -49,7 +49,7 @@ anew (state ∷ states) i (line ∷ lines) (trace ∷ traces) = one_if (is_distu
 pub anew-fronts : (f : State) (i : ℕ) (ls : List (List ℕ)) (os : List Trace) → anew (fronts f ls) i ls os ≡ replayed f i ls os
 anew-fronts f i [] os = refl
 anew-fronts f i (l ∷ ls) [] = refl
-anew-fronts f i (l ∷ ls) (o ∷ os) = ap (λ (news : List (At Trace)). one_if (is_disturbed (Some o) f) i (trace_of l f) ++ news) (anew-fronts (after f l) (suc i) ls os)
+anew-fronts f i (l ∷ ls) (o ∷ os) = ap (λ (news : List (SparseItem Trace)). one_if (is_disturbed (Some o) f) i (trace_of l f) ++ news) (anew-fronts (after f l) (suc i) ls os)
 
 anew-append : (ss us : List State) (i : ℕ) (ls ms : List (List ℕ)) (os ps : List Trace) → length ss ≡ length ls → length os ≡ length ls
     → anew (ss ++ us) i (ls ++ ms) (os ++ ps) ≡ anew ss i ls os ++ anew us (i + length ls) ms ps
@@ -59,9 +59,9 @@ anew-append [] us i (l ∷ ls) ms os ps p q = absurd (omega (arith, p))
 anew-append (s ∷ ss) us i [] ms os ps p q = absurd (omega (arith, p))
 anew-append (s ∷ ss) us i (l ∷ ls) ms [] ps p q = absurd (omega (arith, q))
 anew-append (s ∷ ss) us i (l ∷ ls) ms (o ∷ os) ps p q =
-    let one : List (At Trace) = one_if (is_disturbed (Some o) s) i (trace_of l s) in
+    let one : List (SparseItem Trace) = one_if (is_disturbed (Some o) s) i (trace_of l s) in
     let on : suc i + length ls ≡ i + suc (length ls) = omega arith in
-    ap (λ (news : List (At Trace)). one ++ news)
+    ap (λ (news : List (SparseItem Trace)). one ++ news)
     (anew-append ss us (suc i) ls ms os ps (omega (arith, p)) (omega (arith, q)) ∙ ap (λ k. anew ss (suc i) ls os ++ anew us k ms ps) on)
     ∙ sym (append_assoc one (anew ss (suc i) ls os) (anew us (i + suc (length ls)) ms ps))
 
@@ -76,10 +76,10 @@ anew-within (s ∷ ss) i (l ∷ ls) (o ∷ os) =
 
 -- of the first of them, and of the others
 module _ (ss : List State) (at n : ℕ) (ls : List (List ℕ)) (os : List Trace) (states : length ss ≡ length ls) (did : length os ≡ length ls) (le : n ≤ length ls) where
-  abbrev first : List (At Trace)
+  abbrev first : List (SparseItem Trace)
   first = anew (take n ss) at (take n ls) (take n os)
 
-  abbrev others : List (At Trace)
+  abbrev others : List (SparseItem Trace)
   others = anew (drop n ss) (at + n) (drop n ls) (drop n os)
 
   count : length (take n ls) ≡ n
@@ -176,10 +176,10 @@ module _ (lines : List (List ℕ)) (e : Exchange) (within : IsWithin (length lin
       ∙ anew-append at_one (at_two ++ at_back) e.keep one (two ++ back) did-one (did-two ++ did-back)
       (length-fronts (state_between lines e) one) (did-one-long ∙ sym long-one)
       ∙ (λ i. anew-fronts (state_between lines e) e.keep one did-one i ++ anew (at_two ++ at_back) (at-two i) (two ++ back) (did-two ++ did-back))
-      ∙ ap (λ (news : List (At Trace)). replayed (state_between lines e) e.keep one did-one ++ news)
+      ∙ ap (λ (news : List (SparseItem Trace)). replayed (state_between lines e) e.keep one did-one ++ news)
       (anew-append at_two at_back e.mid two back did-two did-back (length-fronts (state_before lines e) two) (did-two-long ∙ sym long-two)
       ∙ (λ i. anew-fronts (state_before lines e) e.mid two did-two i ++ anew at_back (at-back i) back did-back)
-      ∙ ap (λ (news : List (At Trace)). replayed (state_before lines e) e.mid two did-two ++ news) (anew-fronts (state_past lines e) e.from back did-back))
+      ∙ ap (λ (news : List (SparseItem Trace)). replayed (state_before lines e) e.mid two did-two ++ news) (anew-fronts (state_past lines e) e.from back did-back))
     where
       did-front : List Trace
       did-front = take e.keep (traces_of lines)

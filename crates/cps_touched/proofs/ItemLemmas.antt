@@ -6,29 +6,29 @@ use Rattle.std.proofs.lemmas.List.{length-take-le, take-append-drop}
 use Rattle.cps_state.specs.Course.{Trace}
 use Rattle.cps_state.specs.Keys.{State}
 use Rattle.cps_replay.specs.Passes.{state_after}
-use Rattle.cps_replay.specs.declared.sparse.At.{At}
+use Rattle.cps_replay.specs.declared.sparse.SparseItem.{SparseItem}
 use Rattle.cps_replay.specs.Sparse.{AreWithin}
 use Rattle.cps_replay.specs.Replayed.{replayed}
 use Rattle.cps_replay.proofs.ReplayedLemmas.{replayed-within, replayed-append}
 use Rattle.cps_touched.specs.Looks.{items_before, items_from}
 
 module _ {X : Type 0} (place : ℕ) where
-  before-none : (b : ℕ) (news : List (At X)) → AreWithin place b news → items_before place news ≡ []
+  before-none : (b : ℕ) (news : List (SparseItem X)) → AreWithin place b news → items_before place news ≡ []
   before-none b [] within = refl
   before-none b (new ∷ news) within = ap (λ test. if test then new ∷ items_before place news else []) (le-ltb new.at place within.0)
 
-  from-all : (b : ℕ) (news : List (At X)) → AreWithin place b news → items_from place news ≡ news
+  from-all : (b : ℕ) (news : List (SparseItem X)) → AreWithin place b news → items_from place news ≡ news
   from-all b [] within = refl
   from-all b (new ∷ news) within = ap (λ test. if test then items_from place news else new ∷ news) (le-ltb new.at place within.0)
 
   -- of two lists, one in front of the place and one from it on
-  pub before-first : (a b : ℕ) (xs ys : List (At X)) → AreWithin a place xs → AreWithin place b ys → items_before place (xs ++ ys) ≡ xs
+  pub before-first : (a b : ℕ) (xs ys : List (SparseItem X)) → AreWithin a place xs → AreWithin place b ys → items_before place (xs ++ ys) ≡ xs
   before-first a b [] ys front behind = before-none b ys behind
   before-first a b (x ∷ xs) ys front behind =
       ap (λ test. if test then x ∷ items_before place (xs ++ ys) else []) (lt-ltb x.at place front.1)
       ∙ ap (λ us. x ∷ us) (before-first (suc x.at) b xs ys front.2 behind)
 
-  pub from-second : (a b : ℕ) (xs ys : List (At X)) → AreWithin a place xs → AreWithin place b ys → items_from place (xs ++ ys) ≡ ys
+  pub from-second : (a b : ℕ) (xs ys : List (SparseItem X)) → AreWithin a place xs → AreWithin place b ys → items_from place (xs ++ ys) ≡ ys
   from-second a b [] ys front behind = from-all b ys behind
   from-second a b (x ∷ xs) ys front behind =
       ap (λ test. if test then items_from place (xs ++ ys) else x ∷ (xs ++ ys)) (lt-ltb x.at place front.1)
@@ -36,10 +36,10 @@ module _ {X : Type 0} (place : ℕ) where
 
 module _ (state : State) (at n : ℕ) (lines : List (List ℕ)) (olds : List Trace) (as_many : length olds ≡ length lines) (le : n ≤ length lines) where
   -- what the first lines do now, and what those behind them do
-  abbrev first : List (At Trace)
+  abbrev first : List (SparseItem Trace)
   first = replayed state at (take n lines) (take n olds)
 
-  abbrev others : List (At Trace)
+  abbrev others : List (SparseItem Trace)
   others = replayed (state_after state (take n lines)) (at + n) (drop n lines) (drop n olds)
 
   count : length (take n lines) ≡ n

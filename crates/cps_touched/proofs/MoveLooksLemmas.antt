@@ -25,7 +25,7 @@ use Rattle.cps_holding.specs.Holds.{holds}
 use Rattle.cps_holding.specs.Run.{run_of}
 use Rattle.cps_replay.specs.Disturbed.{kept, disturbed_from, finals_in}
 use Rattle.cps_replay.specs.Passes.{state_after, traces_from, traces_of}
-use Rattle.cps_replay.specs.declared.sparse.At.{At}
+use Rattle.cps_replay.specs.declared.sparse.SparseItem.{SparseItem}
 use Rattle.cps_replay.specs.Redo.{is_passed}
 use Rattle.cps_replay.specs.Moved.{fronts, fronts_moved, replayed_moved}
 use Rattle.cps_replay.proofs.FrontsLemmas.{fronts-moved}
@@ -108,7 +108,7 @@ module _ (was now : Resolved) (lines : List (List ℕ)) (e : Exchange) (within :
       let behind = drop-drop n at did in
       first-and-rest _ _ _ _ _ _ _ _ _ _
       (ap (λ (ts : List Trace). looks_moved e ns (at + n) (stands_moved lines e) ts) behind)
-      (ap (λ (news : List (At Trace)). if is_passed was now (names_in (take n (drop at did))) news then 0 else n) before)
+      (ap (λ (news : List (SparseItem Trace)). if is_passed was now (names_in (take n (drop at did))) news then 0 else n) before)
       ((λ i. looks_again was now ns (at + n) (from i) (drop n (drop at did)))
       ∙ (λ i. looks_again was now ns (at + n) (anew (drop-drop n at stand i) (at + n) (drop-drop n at lines i) (behind i)) (behind i)))
       (both-weigh (holds_at at n) (passes_at at n) n)
@@ -273,7 +273,7 @@ module _ (was now : Resolved) (lines : List (List ℕ)) (e : Exchange) (within :
 
     all-weigh : looks_moved e olds 0 (stands_moved lines e) did + looks_again was now olds 0 (replayed_moved lines e) did ≡ sum all_weights
     all-weigh =
-        ap (λ (news : List (At Trace)). looks_moved e olds 0 (stands_moved lines e) did + looks_again was now olds 0 news did) (sym (anew-moved lines e within))
+        ap (λ (news : List (SparseItem Trace)). looks_moved e olds 0 (stands_moved lines e) did + looks_again was now olds 0 news did) (sym (anew-moved lines e within))
         ∙ looks-weigh olds 0 (omega (arith, division.total))
 
     same-sum : sum (exchanged e all_weights) ≡ sum all_weights

@@ -15,7 +15,7 @@ use Rattle.cps_replay.specs.Disturbed.{kept, disturbed_from, finals_in}
 use Rattle.cps_replay.specs.Passes.{state_after, traces_from, traces_of}
 use Rattle.cps_replay.specs.Splice.{Splice, spliced}
 use Rattle.cps_replay.proofs.SpliceLemmas.{length-traces_from, take-traces_from, drop-traces_from, none-disturbed}
-use Rattle.cps_replay.specs.declared.sparse.At.{At}
+use Rattle.cps_replay.specs.declared.sparse.SparseItem.{SparseItem}
 use Rattle.cps_replay.specs.Redo.{is_passed}
 use Rattle.cps_replay.specs.Walk.{looks_over}
 use Rattle.cps_replay.specs.Replayed.{replayed, state_behind, replayed_behind}
@@ -159,7 +159,7 @@ module _ (was now : Resolved) (lines : List (List ℕ)) (splice : Splice) (start
   abbrev stands : State
   stands = state_after (state_behind lines splice) (take loose rest)
 
-  abbrev again : ℕ → List (At Trace) → List Trace → ℕ
+  abbrev again : ℕ → List (SparseItem Trace) → List Trace → ℕ
   again at news traces = looks_again was now behind at news traces
 
   last-touched : looks_over stands behind (drop loose rest) (drop loose did)

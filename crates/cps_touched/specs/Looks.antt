@@ -7,7 +7,7 @@ use Rattle.cps_naming.specs.Names.{names_in}
 use Rattle.cps_replay.specs.Passes.{state_after, traces_of}
 use Rattle.cps_replay.specs.Splice.{Splice, spliced}
 use Rattle.cps_replay.specs.Disturbed.{finals_in}
-use Rattle.cps_replay.specs.declared.sparse.At.{At}
+use Rattle.cps_replay.specs.declared.sparse.SparseItem.{SparseItem}
 use Rattle.cps_replay.specs.Redo.{is_passed}
 use Rattle.cps_replay.specs.Walk.{looks_over}
 use Rattle.cps_replay.specs.Replayed.{state_behind, replayed_behind}
@@ -18,17 +18,17 @@ use Rattle.cps_touched.specs.Touched.{touched_of}
 
 module _ {X : Type 0} where
   -- of items whose places grow: those in front of a place, and those from it on
-  abbrev pub items_before : ℕ → List (At X) → List (At X)
+  abbrev pub items_before : ℕ → List (SparseItem X) → List (SparseItem X)
   items_before place [] = []
   items_before place (new ∷ news) = if nat_lt new.at place then new ∷ items_before place news else []
 
-  abbrev pub items_from : ℕ → List (At X) → List (At X)
+  abbrev pub items_from : ℕ → List (SparseItem X) → List (SparseItem X)
   items_from place [] = []
   items_from place (new ∷ news) = if nat_lt new.at place then items_from place news else new ∷ news
 
 -- How many lines of chunks are compared one by one: those of a chunk of which a line does something new, or of whose named final values one differs now.
 -- The first line has this place; the lines did that, and some do this now, each at its place.
-abbrev pub looks_again : Resolved → Resolved → List ℕ → ℕ → List (At Trace) → List Trace → ℕ
+abbrev pub looks_again : Resolved → Resolved → List ℕ → ℕ → List (SparseItem Trace) → List Trace → ℕ
 looks_again was now [] at news traces = 0
 looks_again was now (n ∷ lengths) at news traces =
     (if is_passed was now (names_in (take n traces)) (items_before (at + n) news) then 0 else n)

@@ -2,7 +2,7 @@ use Rattle.std.proofs.Common.{sym, ap, ◌∙◌, List, ℕ, length}
 use Rattle.std.proofs.lemmas.List.{length-map}
 use Rattle.std.specs.Borrow.{Bor}
 use Rattle.cps_final.specs.Finals.{finals_of}
-use Rattle.cps_assembly.specs.Assembly.{traces_of}
+use Rattle.cps_source.specs.Assembly.{traces_of}
 use Rattle.cps_gather.specs.contracts.finals.FinalsGathered.TheImpl.{gathered-value}
 use Rattle.cps_check.proofs.SourceLemmas.{texts_of}
 use Rattle.cps_check.proofs.WholeLemmas.{whole}

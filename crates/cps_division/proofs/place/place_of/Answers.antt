@@ -32,7 +32,7 @@ loop-chunk-preserved c =
     record {
       chunk = omega (arith, c.loop-chunk.invariant.chunk, next, there);
       before = ap (λ k. k + n) c.loop-chunk.invariant.before ∙ sym (sum_by_more (λ x. x) ns i 0 at);
-      above = λ some. grind (arith, nat_tests, c.if-line-next.false);
+      above = grind (arith, nat_tests, c.if-line-next.false);
     }
 
 pub returns-clause-chunk : goal.returns-clause-chunk

@@ -4,7 +4,7 @@ use Rattle.std.proofs.lemmas.List.{take_all}
 use Rattle.cps_state.specs.Course.{Trace}
 use Rattle.cps_chunk.specs.declared.chunk.Chunk.{Chunk}
 use Rattle.cps_chunk.specs.Chunk.{AreChunksOf, lengths_of}
-use Rattle.cps_replay.specs.declared.sparse.At.{At}
+use Rattle.cps_replay.specs.declared.sparse.SparseItem.{SparseItem}
 use Rattle.cps_replay.specs.Sparse.{renewed}
 use Rattle.cps_replay.proofs.SparseLemmas.{AreWithin-wider, renewed-none}
 use Rattle.cps_replay.proofs.WalkLemmas.{lengths-set}
@@ -100,7 +100,7 @@ loop-new-preserved c =
 pub returns-clause-chunks : goal.returns-clause-chunks
 returns-clause-chunks c ts s =
     let all = take_all c.loop-new.new-index c.args.news.now c.loop-new-test.false in
-    subst (λ (news : List (At Trace)). AreChunksOf c.args.hashing c.loop-new.chunks.items (renewed 0 news ts)) all (c.loop-new.invariant.chunks ts s)
+    subst (λ (news : List (SparseItem Trace)). AreChunksOf c.args.hashing c.loop-new.chunks.items (renewed 0 news ts)) all (c.loop-new.invariant.chunks ts s)
 
 pub returns-clause-lengths : goal.returns-clause-lengths
 returns-clause-lengths c = c.loop-new.invariant.lengths

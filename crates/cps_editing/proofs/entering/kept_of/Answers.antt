@@ -9,7 +9,7 @@ use Rattle.cps_final.specs.Resolving.{resolved}
 use Rattle.cps_division.specs.Division.{AreChunks}
 use Rattle.cps_edit.specs.Passes.{traces_from, traces_of, outcomes_by}
 use Rattle.cps_edit.specs.Disturbed.{finals_in}
-use Rattle.cps_edit.specs.contracts.front.FrontGathered.TheImpl.{gathered-value}
+use Rattle.cps_edit.specs.PassOne.{gathered_in}
 use Rattle.cps_edit.proofs.SpliceLemmas.{gathered-state, length-traces_from}
 use Rattle.cps_chunk.specs.Chunk.{AreChunksOf}
 use Rattle.cps_editing.specs.Entering.{full_chunks}
@@ -21,18 +21,18 @@ chunks_of-chunks-requires-clause-within c =
     let lines = c.args.lines.items in
     let count : c.len.result ≡ length lines = omega (arith, c.len.ensures, c.args.lines.ok.0) in
     let sizes = c.deref-3.ensures.value ∙ c.in_ok-lengths.ensures ∙ ap full_chunks count in
-    let all = ap length (c.deref-4.ensures.value ∙ c.in_ok-traces.ensures.traces) ∙ length-traces_from _ _ ∙ ap length c.deref.ensures.value in
+    let all = ap length (c.deref-4.ensures.value ∙ c.in_ok-traces.ensures.ok.did) ∙ length-traces_from _ _ ∙ ap length c.deref.ensures.value in
     omega (arith, ap sum sizes, (divides (length lines)).total, all)
 
 pub returns-clause-kept : goal.returns-clause-kept
 returns-clause-kept c =
     let lines = c.args.lines.items in
-    let start = gathered-value.it c.new-front.result in
-    let begun : start.state ≡ first_state = gathered-state start [] c.new-front.ensures in
+    let start = gathered_in c.new-one.result in
+    let begun : start.state ≡ first_state = gathered-state start [] c.new-one.ensures in
     let l = c.deref.ensures.value in
-    let did : c.in_ok-traces.traces.items ≡ traces_of lines = c.in_ok-traces.ensures.traces ∙ (λ i. traces_from (begun i) (l i)) in
+    let did : c.in_ok-traces.traces.items ≡ traces_of lines = c.in_ok-traces.ensures.ok.did ∙ (λ i. traces_from (begun i) (l i)) in
     let finals : gathered-finals.it c.in-Ok.finals ≡ finals_of (traces_of lines) =
-    c.in-Ok.ensures.finals ∙ c.in_ok-traces.ensures.ok [] c.new-front.ensures ∙ (λ i. finals_of (traces_from (begun i) (l i))) in
+    c.in-Ok.ensures.finals ∙ c.in_ok-traces.ensures.ok.gathers [] c.new-one.ensures ∙ ap finals_of did in
     let now : resolved c.in-Ok.finals ≡ finals_in lines = ap final_value finals in
     let all = c.deref-2.ensures.value ∙ did in
     let count : c.len.result ≡ length lines = omega (arith, c.len.ensures, c.args.lines.ok.0) in
@@ -59,7 +59,7 @@ returns-clause-steps c =
     let first = c.in_ok-traces.ensures in
     let second = c.in_ok-outcomes.ensures.steps in
     let lines = ap length c.deref.ensures.value in
-    let traces = ap length (c.deref-2.ensures.value ∙ first.traces) ∙ length-traces_from _ _ ∙ lines in
+    let traces = ap length (c.deref-2.ensures.value ∙ first.ok.did) ∙ length-traces_from _ _ ∙ lines in
     record {
       ones = omega (arith, first.steps.ones, second.ones, lines);
       twos = omega (arith, first.steps.twos, second.twos, traces);
@@ -74,7 +74,7 @@ returns-in_err-outcomes-clause-steps c =
     let first = c.in_ok-traces.ensures in
     let second = c.in_err-outcomes.ensures.steps in
     let lines = ap length c.deref.ensures.value in
-    let traces = ap length (c.deref-2.ensures.value ∙ first.traces) ∙ length-traces_from _ _ ∙ lines in
+    let traces = ap length (c.deref-2.ensures.value ∙ first.ok.did) ∙ length-traces_from _ _ ∙ lines in
     record {
       ones = search (rules, c.from_residual-in_err-outcomes.ensures);
       twos = search (rules, c.from_residual-in_err-outcomes.ensures);

@@ -70,8 +70,8 @@ returns-in_err-close-clause-steps c =
 
 -- ---- the lines of cut chunks
 
-pub go_over_lines-requires-clause-walk : goal.go_over_lines-requires-clause-walk
-go_over_lines-requires-clause-walk c =
+pub go_over_lines-requires : goal.go_over_lines-requires
+go_over_lines-requires c =
     let w0 = c.args.walk.now in
     let w1 = c.enter_all.new.self in
     let r1 = c.enter_all.ensures.rest in
@@ -79,7 +79,13 @@ go_over_lines-requires-clause-walk c =
     let w2 = c.close.new.self in
     let r2 = c.close.ensures.rest in
     let still2 = still-walk w0 w1 w2 still1.walk r2.0 (ap (λ cs. cs.items) r2.1) still1.base still1.lengths in
-    still2.walk
+    let cut = c.args.cut.now in
+    record {
+      walk = still2.walk;
+      ordered = omega (arith, c.requires.cut.behind, c.requires.cut.recuts.ends);
+      within = omega (arith, ends-within w0 c.requires.walk cut.behind cut.end c.requires.cut.behind, ap (λ base. length base.lines.now) still2.base);
+      present = c.in_ok-close.ensures.present;
+    }
 
 pub returns-in_err-go_over_lines-clause-walk : goal.returns-in_err-go_over_lines-clause-walk
 returns-in_err-go_over_lines-clause-walk c =

@@ -2,7 +2,7 @@ use Rattle.std.proofs.Common.{arith, refl, ◌≡◌, ◌-◌, ◌∙◌, ◌++�
 use Rattle.std.proofs.lemmas.List.{take_rest}
 use Rattle.cps_state.specs.Course.{Trace}
 use Rattle.cps_gather.specs.Storage.{IsStored}
-use Rattle.cps_replay.specs.declared.sparse.At.{At}
+use Rattle.cps_replay.specs.declared.sparse.SparseItem.{SparseItem}
 use Rattle.cps_replay.specs.Sparse.{AreWithin, renewed}
 use Rattle.cps_replay.specs.Storing.{left_by}
 use Rattle.cps_replay.proofs.SparseLemmas.{AreWithin-wider}
@@ -12,7 +12,7 @@ use Rattle.cps_editing.proofs.storage.storage_behind.Goals as goal
 pub leave_same_each-requires : goal.leave_same_each-requires
 leave_same_each-requires c =
     let b = length c.args.base.traces.now in
-    subst (λ (news : List (At Trace)). AreWithin 0 b news) (sym c.deref-then-leave_same.ensures.value)
+    subst (λ (news : List (SparseItem Trace)). AreWithin 0 b news) (sym c.deref-then-leave_same.ensures.value)
     (AreWithin-wider c.args.cut.now.from b 0 b c.args.traces.now.renewed.items (omega arith) (omega arith) c.requires.places)
 
 pub returns-then-leave_same_each : goal.returns-then-leave_same_each
@@ -22,7 +22,7 @@ returns-then-leave_same_each c =
     let gone : left_by (take (cut.from - cut.keep) (drop cut.keep olds)) ≡ left_by c.args.traces.now.entered.items =
     c.leave_same.ensures c.if-leave_same.true ∙ ap left_by c.deref.ensures.value in
     let each : left_by (renewed 0 c.args.traces.now.renewed.items olds) ≡ left_by olds =
-    ap (λ (news : List (At Trace)). left_by (renewed 0 news olds)) (sym c.deref-then-leave_same.ensures.value)
+    ap (λ (news : List (SparseItem Trace)). left_by (renewed 0 news olds)) (sym c.deref-then-leave_same.ensures.value)
     ∙ left-same (renewed 0 c.deref-then-leave_same.result.now olds) olds (c.leave_same_each.ensures c.if-leave_same_each.true) in
     stored-edited cut c.args.traces.now olds c.requires.ordered c.requires.places gone each
 

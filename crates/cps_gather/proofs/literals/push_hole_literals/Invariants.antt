@@ -1,5 +1,5 @@
 use Rattle.std.proofs.Common.{◌≡◌, ◌++◌, take, flat_map}
-use Rattle.cps_code.specs.Operand.{operand_literals}
+use Rattle.cps_state.specs.Operand.{operand_literals}
 use Rattle.cps_gather.proofs.literals.push_hole_literals.Given as goal
 
 abbrev pub invariant-loop-hole : goal.invariant-loop-hole

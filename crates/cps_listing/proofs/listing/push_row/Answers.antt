@@ -1,5 +1,5 @@
 use Rattle.std.proofs.Common.{rules, ◌++◌, codes, ap, ◌∙◌, append_assoc}
-use Rattle.cps_state.specs.Flags.{letters as letters_of}
+use Rattle.cps_final.specs.Flags.{letters as letters_of}
 use Rattle.cps_listing.specs.Columns.{laid_out, with_column}
 use Rattle.cps_listing.specs.Listing.{row_columns, address_text, code_text, second_text, trimmed}
 use Rattle.cps_listing.proofs.listing.push_row.Goals as goal

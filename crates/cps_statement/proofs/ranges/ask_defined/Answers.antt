@@ -2,7 +2,7 @@ use Rattle.std.proofs.Common.{sym, ap, ◌∙◌}
 use Rattle.cps_state.specs.Course.{◌before◌, tell}
 use Rattle.cps_state.specs.Line.{runs}
 use Rattle.cps_statement.specs.declared.ranges.Tested.{Tested}
-use Rattle.cps_site.specs.Located.{has_value}
+use Rattle.cps_effect.specs.Located.{has_value}
 use Rattle.cps_statement.specs.Ranges.{defined}
 use Rattle.cps_statement.proofs.ranges.ask_defined.Goals as goal
 

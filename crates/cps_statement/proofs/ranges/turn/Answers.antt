@@ -9,7 +9,7 @@ use Rattle.cps_state.specs.Course.{Part, ◌before◌, fill}
 use Rattle.cps_state.specs.Line.{Hands}
 use Rattle.cps_state.specs.Made.{nothing_made}
 use Rattle.cps_reading.specs.declared.reading.Location.{Location}
-use Rattle.cps_site.specs.Located.{present_flags}
+use Rattle.cps_effect.specs.Located.{present_flags}
 use Rattle.cps_statement.specs.declared.scope.Scope.{Scope}
 use Rattle.cps_statement.specs.Ranges.{turned_round}
 use Rattle.cps_statement.specs.Scope.{going_by, putting_ranges}

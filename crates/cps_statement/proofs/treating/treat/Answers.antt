@@ -2,7 +2,7 @@ use Rattle.std.proofs.Common.{◌++◌, List, ℕ, sym, ap, ◌∙◌}
 use Rattle.cps_state.specs.declared.flags.Flags.{Flags}
 use Rattle.cps_state.specs.Line.{line_filled, runs}
 use Rattle.cps_state.specs.Made.{nothing_made}
-use Rattle.cps_site.specs.Located.{present_flags}
+use Rattle.cps_effect.specs.Located.{present_flags}
 use Rattle.cps_statement.specs.Opened.{opening_of}
 use Rattle.cps_statement.specs.Opening.{plain, none_opened}
 use Rattle.cps_statement.specs.Scope.{flagging, opens_nothing, taking_body}

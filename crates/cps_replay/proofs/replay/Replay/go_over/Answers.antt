@@ -6,7 +6,7 @@ use Rattle.cps_changes.specs.declared.changes.Changes.{Changes}
 use Rattle.cps_changes.specs.Changes.{Changed, changed, settled}
 use Rattle.cps_changes.specs.Kept.{changes_in}
 use Rattle.cps_final.specs.Layout.{puts_of}
-use Rattle.cps_pass.specs.Expansion.{trace_of}
+use Rattle.cps_edit.specs.Expansion.{trace_of}
 use Rattle.cps_edit.specs.Passes.{after}
 use Rattle.cps_replay.specs.declared.change_log.ChangeLog.{ChangeLog}
 use Rattle.cps_replay.specs.Noted.{AreHeld, asked_or, last_puts, noted, stands}

@@ -3,7 +3,7 @@ use Rattle.std.proofs.lemmas.Grind.{common_steps}
 use Rattle.std.specs.Prelude.{Some as Just, if◌then◌else◌}
 use Rattle.cps_state.specs.Keys.{State, first_state}
 use Rattle.cps_state.specs.Course.{Trace}
-use Rattle.cps_pass.specs.Expansion.{trace_of}
+use Rattle.cps_edit.specs.Expansion.{trace_of}
 use Rattle.cps_edit.specs.Disturbed.{is_disturbed}
 use Rattle.cps_edit.specs.Passes.{state_after}
 use Rattle.cps_replay.specs.declared.walk.Baseline.{Baseline}

@@ -2,8 +2,9 @@ use Rattle.std.proofs.Common.{arith, ◌≡◌, ◌+◌, ℕ, take, refl, sym, a
 use Rattle.std.specs.Prelude.{sum}
 use Rattle.cps_edit.specs.Compares.{ComparesUpTo}
 use Rattle.cps_chunk.specs.Chunk.{lengths_of}
-use Rattle.cps_replay.specs.Along.{front_at}
+use Rattle.cps_replay.specs.Along.{MayGo, front_at}
 use Rattle.cps_replay.specs.Walk.{stretch}
+use Rattle.cps_replay.specs.declared.walk.Position.{Position}
 use Rattle.cps_replay.proofs.SpanLemmas.{part-some}
 use Rattle.cps_replay.proofs.OverLemmas.{still-walk}
 use Rattle.cps_replay.proofs.WalkLemmas.{lengths-next}
@@ -20,6 +21,14 @@ go_along_chunk-requires-clause-end c =
     omega (arith, next, c.requires.cursor.stands.line, c.if-part-cursor.true, c.if-part-index.true, c.requires.part.ordered)
 
 -- ---- some of them
+
+pub go_over_from-requires-clause-may : goal.go_over_from-requires-clause-may
+go_over_from-requires-clause-may c = record {
+  walk = c.requires.walk;
+  ordered = c.requires.part.ordered;
+  within = c.requires.part.within;
+  present = subst (λ (p : Position). MayGo c.args.self.now p) c.in-Same.is c.requires.part.may;
+}
 
 pub returns-in-Same-clause-walk : goal.returns-in-Same-clause-walk
 returns-in-Same-clause-walk c =

@@ -16,7 +16,7 @@ returns-then-branch-clause-over c =
     let old = c.args.self.now in
     let a = c.args.cursor.line in
     let b = c.args.end in
-    let le : a ≤ b = omega (arith, c.requires.cursor.line, c.requires.end, lengths-grow old.chunks.items c.args.cursor.chunk) in
+    let le : a ≤ b = omega (arith, c.requires.chunk.stands.line, c.requires.end, lengths-grow old.chunks.items c.args.cursor.chunk) in
     let rest = c.does_the_same.ensures.rest in
     same-over old c.requires.walk a b le c.settle.new.self (sym c.in_ok-does_the_same.ensures.same ∙ c.if-branch.true)
     (c.settle.ensures.changes ∙ (λ i. settled (changes_in (rest.1 i).log.changes) (puts_of (stretch a b (rest.0 i).traces.now))))
@@ -34,7 +34,7 @@ returns-then-branch-clause-steps c =
     let old = c.args.self.now in
     let a = c.args.cursor.line in
     let b = c.args.end in
-    let le : a ≤ b = omega (arith, c.requires.cursor.line, c.requires.end, lengths-grow old.chunks.items c.args.cursor.chunk) in
+    let le : a ≤ b = omega (arith, c.requires.chunk.stands.line, c.requires.end, lengths-grow old.chunks.items c.args.cursor.chunk) in
     let none = ap length (none-here old c.requires.walk a b le (sym c.in_ok-does_the_same.ensures.same ∙ c.if-branch.true)) in
     record {
       ones = omega (arith, none);
@@ -47,17 +47,23 @@ returns-then-branch-clause-steps c =
 
 -- ---- they are gone over one by one
 
-pub go_over_from-requires-clause-within : goal.go_over_from-requires-clause-within
-go_over_from-requires-clause-within c =
+pub go_over_from-requires-clause-may : goal.go_over_from-requires-clause-may
+go_over_from-requires-clause-may c =
     let old = c.args.self.now in
+    let rest = c.does_the_same.ensures.rest in
     let size = lengths-within old.base.hashing old.chunks.items old.base.traces.now (c.args.cursor.chunk + 1) c.requires.walk.chunks in
-    omega (
-      arith,
-      c.requires.end,
-      size,
-      as-long old.base.lines.now old.base.traces.now c.requires.walk.base.did,
-      ap (λ base. length base.lines.now) c.does_the_same.ensures.rest.0,
-    )
+    record {
+      walk = c.does_the_same.ensures.walk;
+      ordered = omega (arith, c.requires.chunk.stands.line, c.requires.end, lengths-grow old.chunks.items c.args.cursor.chunk);
+      within = omega (
+        arith,
+        c.requires.end,
+        size,
+        as-long old.base.lines.now old.base.traces.now c.requires.walk.base.did,
+        ap (λ base. length base.lines.now) rest.0,
+      );
+      present = ap (λ replay. changes_in replay.log.present) rest.1 ∙ c.requires.present;
+    }
 
 pub returns-clause-walk : goal.returns-clause-walk
 returns-clause-walk c =
@@ -69,7 +75,7 @@ returns-clause-looked c =
     let old = c.args.self.now in
     let a = c.args.cursor.line in
     let b = c.args.end in
-    let le : a ≤ b = omega (arith, c.requires.cursor.line, c.requires.end, lengths-grow old.chunks.items c.args.cursor.chunk) in
+    let le : a ≤ b = omega (arith, c.requires.chunk.stands.line, c.requires.end, lengths-grow old.chunks.items c.args.cursor.chunk) in
     let out = stands-here old c.requires.walk a b le false (sym c.in_ok-does_the_same.ensures.same ∙ c.if-branch.false) in
     let all : looks_at old a b ≡ b - a = ap (λ held. if held then 0 else b - a) out in
     subst (λ (n : ℕ). ComparesUpTo c.args.work.now c.go_over_from.new.work n) (sym all) c.go_over_from.ensures.looked

@@ -5,7 +5,7 @@ use Rattle.cps_changes.specs.Changes.{no_change}
 use Rattle.cps_changes.specs.Kept.{changes_in}
 use Rattle.cps_chunk.specs.Chunk.{lengths_of}
 use Rattle.cps_edit.proofs.ReplayLemmas.{counted-left, counted-before}
-use Rattle.cps_edit.proofs.FrontLemmas.{none-more}
+use Rattle.cps_edit.proofs.PassOneLemmas.{none-more}
 use Rattle.cps_replay.specs.Replay.{now_by}
 use Rattle.cps_replay.specs.Walk.{stood_at}
 use Rattle.cps_replay.proofs.GoLemmas.{ended, no-more}
@@ -16,7 +16,7 @@ use Rattle.cps_replay.proofs.walk.Walk.go_over_chunks.Goals as goal
 pub loop-chunk-init : goal.loop-chunk-init
 loop-chunk-init c = record {
   walk = record { walk = c.requires.walk; base = refl; lengths = refl };
-  line = c.requires.first.line;
+  line = c.requires.chunks.first.line;
   news = refl;
   state = refl;
   present = c.requires.present;
@@ -33,7 +33,7 @@ pub returns-then-is_empty-clause-over : goal.returns-then-is_empty-clause-over
 returns-then-is_empty-clause-over c =
     let inv = c.loop-chunk.invariant in
     let le : c.loop-chunk.line ≤ c.args.to =
-    omega (arith, inv.line, c.requires.past.line, lengths-upto c.args.self.now.chunks.items c.loop-chunk.chunk c.args.past (omega (arith, c.loop-chunk-test.true))) in
+    omega (arith, inv.line, c.requires.chunks.past.line, lengths-upto c.args.self.now.chunks.items c.loop-chunk.chunk c.args.past (omega (arith, c.loop-chunk-test.true))) in
     let none : changes_in c.loop-chunk.self.replay.log.changes ≡ no_change =
     ap changes_in (sym c.changes.ensures) ∙ c.is_empty.ensures.changes (search rules) in
     ended c.args.self.now c.loop-chunk.self c.args.first.line c.loop-chunk.line c.args.to c.requires.walk.base le none inv.walk.base inv.news inv.state inv.present
@@ -42,7 +42,7 @@ pub returns-then-is_empty-clause-steps : goal.returns-then-is_empty-clause-steps
 returns-then-is_empty-clause-steps c =
     let inv = c.loop-chunk.invariant in
     let le : c.loop-chunk.line ≤ c.args.to =
-    omega (arith, inv.line, c.requires.past.line, lengths-upto c.args.self.now.chunks.items c.loop-chunk.chunk c.args.past (omega (arith, c.loop-chunk-test.true))) in
+    omega (arith, inv.line, c.requires.chunks.past.line, lengths-upto c.args.self.now.chunks.items c.loop-chunk.chunk c.args.past (omega (arith, c.loop-chunk-test.true))) in
     let none : changes_in c.loop-chunk.self.replay.log.changes ≡ no_change =
     ap changes_in (sym c.changes.ensures) ∙ c.is_empty.ensures.changes (search rules) in
     let rest = ap length (no-more c.args.self.now c.loop-chunk.self c.args.first.line c.loop-chunk.line c.args.to c.requires.walk.base le none) in
@@ -66,7 +66,7 @@ returns-then-is_empty-clause-looked c =
 pub index-requires : goal.index-requires
 index-requires c =
     let inv = c.loop-chunk.invariant in
-    omega (arith, c.loop-chunk-test.true, c.requires.past.within, same-long c.args.self.now.chunks.items c.loop-chunk.self.chunks.items inv.walk.lengths)
+    omega (arith, c.loop-chunk-test.true, c.requires.chunks.past.within, same-long c.args.self.now.chunks.items c.loop-chunk.self.chunks.items inv.walk.lengths)
 
 pub overflow_add-end : goal.overflow_add-end
 overflow_add-end c =
@@ -74,7 +74,7 @@ overflow_add-end c =
     let mid = c.loop-chunk.self in
     let inv = c.loop-chunk.invariant in
     let i = c.loop-chunk.chunk in
-    let within : i < length mid.chunks.items = omega (arith, c.loop-chunk-test.true, c.requires.past.within, same-long old.chunks.items mid.chunks.items inv.walk.lengths) in
+    let within : i < length mid.chunks.items = omega (arith, c.loop-chunk-test.true, c.requires.chunks.past.within, same-long old.chunks.items mid.chunks.items inv.walk.lengths) in
     let next : sum (take (i + 1) (lengths_of mid.chunks.items)) ≡ sum (take i (lengths_of mid.chunks.items)) + c.index.result.now.lines =
     lengths-next mid.chunks.items i c.index.result.now within c.index.ensures in
     omega (
@@ -83,22 +83,21 @@ overflow_add-end c =
       inv.line,
       ap (λ ns. sum (take i ns)) inv.walk.lengths,
       ap (λ ns. sum (take (i + 1) ns)) inv.walk.lengths,
-      c.requires.past.line,
+      c.requires.chunks.past.line,
       lengths-upto old.chunks.items (i + 1) c.args.past (omega (arith, c.loop-chunk-test.true)),
     )
 
 pub go_over_chunk-requires-clause-walk : goal.go_over_chunk-requires-clause-walk
 go_over_chunk-requires-clause-walk c = c.loop-chunk.invariant.walk.walk
 
-pub go_over_chunk-requires-clause-cursor : goal.go_over_chunk-requires-clause-cursor
-go_over_chunk-requires-clause-cursor c =
+pub go_over_chunk-requires-clause-chunk : goal.go_over_chunk-requires-clause-chunk
+go_over_chunk-requires-clause-chunk c =
     let inv = c.loop-chunk.invariant in
-    stands-there c.args.self.now.chunks.items c.loop-chunk.self.chunks.items c.loop-chunk.chunk c.loop-chunk.line c.args.past inv.walk.lengths inv.line c.loop-chunk-test.true c.requires.past.within
-
-pub go_over_chunk-requires-clause-within : goal.go_over_chunk-requires-clause-within
-go_over_chunk-requires-clause-within c =
-    let inv = c.loop-chunk.invariant in
-    omega (arith, c.loop-chunk-test.true, c.requires.past.within, same-long c.args.self.now.chunks.items c.loop-chunk.self.chunks.items inv.walk.lengths)
+    let past = c.requires.chunks.past.within in
+    record {
+      stands = stands-there c.args.self.now.chunks.items c.loop-chunk.self.chunks.items c.loop-chunk.chunk c.loop-chunk.line c.args.past inv.walk.lengths inv.line c.loop-chunk-test.true past;
+      within = omega (arith, c.loop-chunk-test.true, past, same-long c.args.self.now.chunks.items c.loop-chunk.self.chunks.items inv.walk.lengths);
+    }
 
 pub go_over_chunk-requires-clause-end : goal.go_over_chunk-requires-clause-end
 go_over_chunk-requires-clause-end c =
@@ -106,7 +105,7 @@ go_over_chunk-requires-clause-end c =
     let mid = c.loop-chunk.self in
     let inv = c.loop-chunk.invariant in
     let i = c.loop-chunk.chunk in
-    let within : i < length mid.chunks.items = omega (arith, c.loop-chunk-test.true, c.requires.past.within, same-long old.chunks.items mid.chunks.items inv.walk.lengths) in
+    let within : i < length mid.chunks.items = omega (arith, c.loop-chunk-test.true, c.requires.chunks.past.within, same-long old.chunks.items mid.chunks.items inv.walk.lengths) in
     let next : sum (take (i + 1) (lengths_of mid.chunks.items)) ≡ sum (take i (lengths_of mid.chunks.items)) + c.index.result.now.lines =
     lengths-next mid.chunks.items i c.index.result.now within c.index.ensures in
     omega (arith, next, inv.line, ap (λ ns. sum (take i ns)) inv.walk.lengths)
@@ -121,7 +120,7 @@ pub returns-in_err-go_over_chunk-clause-steps : goal.returns-in_err-go_over_chun
 returns-in_err-go_over_chunk-clause-steps c =
     let inv = c.loop-chunk.invariant in
     let new = c.in_err-go_over_chunk.ensures.steps in
-    let count = count-all c.args.self.now c.loop-chunk.self c.go_over_chunk.new.self c.requires.walk inv.walk c.loop-chunk.chunk c.args.past c.loop-chunk.line _ c.args.to c.index.result.now c.loop-chunk-test.true c.requires.past.within c.index.ensures inv.line refl c.requires.past.line in
+    let count = count-all c.args.self.now c.loop-chunk.self c.go_over_chunk.new.self c.requires.walk inv.walk c.loop-chunk.chunk c.args.past c.loop-chunk.line _ c.args.to c.index.result.now c.loop-chunk-test.true c.requires.chunks.past.within c.index.ensures inv.line refl c.requires.chunks.past.line in
     record {
       ones = search rules;
       twos = search rules;
@@ -135,7 +134,7 @@ pub returns-in_err-go_over_chunk-clause-looked : goal.returns-in_err-go_over_chu
 returns-in_err-go_over_chunk-clause-looked c =
     let inv = c.loop-chunk.invariant in
     let new = c.go_over_chunk.ensures.looked in
-    let looks = looks-all c.args.self.now c.loop-chunk.self c.go_over_chunk.new.self c.requires.walk inv.walk c.loop-chunk.chunk c.args.past c.loop-chunk.line _ c.args.to c.index.result.now c.loop-chunk-test.true c.requires.past.within c.index.ensures inv.line refl c.requires.past.line in
+    let looks = looks-all c.args.self.now c.loop-chunk.self c.go_over_chunk.new.self c.requires.walk inv.walk c.loop-chunk.chunk c.args.past c.loop-chunk.line _ c.args.to c.index.result.now c.loop-chunk-test.true c.requires.chunks.past.within c.index.ensures inv.line refl c.requires.chunks.past.line in
     record { least = omega (arith, inv.looked_least, new.least); most = looked-within _ _ _ _ _ _ new.most looks inv.looked }
 
 pub loop-chunk-preserved : goal.loop-chunk-preserved
@@ -143,17 +142,17 @@ loop-chunk-preserved c =
     let inv = c.loop-chunk.invariant in
     let new = c.in_ok-go_over_chunk.ensures in
     let still = c.go_over_chunk.ensures.walk in
-    let next : sum (take (c.loop-chunk.chunk + 1) (lengths_of c.args.self.now.chunks.items)) ≡ c.loop-chunk.line + c.index.result.now.lines = chunk-ends c.args.self.now c.loop-chunk.self c.go_over_chunk.new.self c.requires.walk inv.walk c.loop-chunk.chunk c.args.past c.loop-chunk.line _ c.args.to c.index.result.now c.loop-chunk-test.true c.requires.past.within c.index.ensures inv.line refl c.requires.past.line in
+    let next : sum (take (c.loop-chunk.chunk + 1) (lengths_of c.args.self.now.chunks.items)) ≡ c.loop-chunk.line + c.index.result.now.lines = chunk-ends c.args.self.now c.loop-chunk.self c.go_over_chunk.new.self c.requires.walk inv.walk c.loop-chunk.chunk c.args.past c.loop-chunk.line _ c.args.to c.index.result.now c.loop-chunk-test.true c.requires.chunks.past.within c.index.ensures inv.line refl c.requires.chunks.past.line in
     record {
       walk = still-still _ _ _ inv.walk still;
       line = sym next;
-      news = next-news c.args.self.now c.loop-chunk.self c.go_over_chunk.new.self c.requires.walk inv.walk c.loop-chunk.chunk c.args.past c.loop-chunk.line _ c.args.to c.index.result.now c.loop-chunk-test.true c.requires.past.within c.index.ensures inv.line refl c.requires.past.line new.over still.base _ inv.news;
-      state = next-state c.args.self.now c.loop-chunk.self c.go_over_chunk.new.self c.requires.walk inv.walk c.loop-chunk.chunk c.args.past c.loop-chunk.line _ c.args.to c.index.result.now c.loop-chunk-test.true c.requires.past.within c.index.ensures inv.line refl c.requires.past.line new.over still.base _ inv.state;
+      news = next-news c.args.self.now c.loop-chunk.self c.go_over_chunk.new.self c.requires.walk inv.walk c.loop-chunk.chunk c.args.past c.loop-chunk.line _ c.args.to c.index.result.now c.loop-chunk-test.true c.requires.chunks.past.within c.index.ensures inv.line refl c.requires.chunks.past.line new.over still.base _ inv.news;
+      state = next-state c.args.self.now c.loop-chunk.self c.go_over_chunk.new.self c.requires.walk inv.walk c.loop-chunk.chunk c.args.past c.loop-chunk.line _ c.args.to c.index.result.now c.loop-chunk-test.true c.requires.chunks.past.within c.index.ensures inv.line refl c.requires.chunks.past.line new.over still.base _ inv.state;
       present = new.over.present;
-      ones = counted-left _ _ _ _ _ _ new.steps.ones (next-count c.args.self.now c.loop-chunk.self c.go_over_chunk.new.self c.requires.walk inv.walk c.loop-chunk.chunk c.args.past c.loop-chunk.line _ c.args.to c.index.result.now c.loop-chunk-test.true c.requires.past.within c.index.ensures inv.line refl c.requires.past.line new.over still.base) inv.ones;
+      ones = counted-left _ _ _ _ _ _ new.steps.ones (next-count c.args.self.now c.loop-chunk.self c.go_over_chunk.new.self c.requires.walk inv.walk c.loop-chunk.chunk c.args.past c.loop-chunk.line _ c.args.to c.index.result.now c.loop-chunk-test.true c.requires.chunks.past.within c.index.ensures inv.line refl c.requires.chunks.past.line new.over still.base) inv.ones;
       ones_least = omega (arith, inv.ones_least, new.steps.ones_least);
       twos = omega (arith, inv.twos, new.steps.twos_least, new.steps.twos_most);
-      looked = looked-over _ _ _ _ _ _ new.looked.most (next-looks c.args.self.now c.loop-chunk.self c.go_over_chunk.new.self c.requires.walk inv.walk c.loop-chunk.chunk c.args.past c.loop-chunk.line _ c.args.to c.index.result.now c.loop-chunk-test.true c.requires.past.within c.index.ensures inv.line refl c.requires.past.line new.over still.base) inv.looked;
+      looked = looked-over _ _ _ _ _ _ new.looked.most (next-looks c.args.self.now c.loop-chunk.self c.go_over_chunk.new.self c.requires.walk inv.walk c.loop-chunk.chunk c.args.past c.loop-chunk.line _ c.args.to c.index.result.now c.loop-chunk-test.true c.requires.chunks.past.within c.index.ensures inv.line refl c.requires.chunks.past.line new.over still.base) inv.looked;
       looked_least = omega (arith, inv.looked_least, new.looked.least);
     }
 
@@ -162,15 +161,15 @@ loop-chunk-preserved c =
 pub returns-clause-over : goal.returns-clause-over
 returns-clause-over c =
     let inv = c.loop-chunk.invariant in
-    let last : c.loop-chunk.chunk ≡ c.args.past = omega (arith, c.loop-chunk-test.false, c.requires.ordered, c.loop-chunk.auto.chunk-end) in
-    let same : c.loop-chunk.line ≡ c.args.to = inv.line ∙ ap (λ k. sum (take k (lengths_of c.args.self.now.chunks.items))) last ∙ sym c.requires.past.line in
+    let last : c.loop-chunk.chunk ≡ c.args.past = omega (arith, c.loop-chunk-test.false, c.requires.chunks.ordered, c.loop-chunk.auto.chunk-end) in
+    let same : c.loop-chunk.line ≡ c.args.to = inv.line ∙ ap (λ k. sum (take k (lengths_of c.args.self.now.chunks.items))) last ∙ sym c.requires.chunks.past.line in
     all-over c.args.self.now c.loop-chunk.self c.args.first.line c.loop-chunk.line c.args.to same inv.walk.base inv.news inv.state inv.present
 
 pub returns-clause-steps : goal.returns-clause-steps
 returns-clause-steps c =
     let inv = c.loop-chunk.invariant in
-    let last : c.loop-chunk.chunk ≡ c.args.past = omega (arith, c.loop-chunk-test.false, c.requires.ordered, c.loop-chunk.auto.chunk-end) in
-    let same : c.loop-chunk.line ≡ c.args.to = inv.line ∙ ap (λ k. sum (take k (lengths_of c.args.self.now.chunks.items))) last ∙ sym c.requires.past.line in
+    let last : c.loop-chunk.chunk ≡ c.args.past = omega (arith, c.loop-chunk-test.false, c.requires.chunks.ordered, c.loop-chunk.auto.chunk-end) in
+    let same : c.loop-chunk.line ≡ c.args.to = inv.line ∙ ap (λ k. sum (take k (lengths_of c.args.self.now.chunks.items))) last ∙ sym c.requires.chunks.past.line in
     let rest = none-over (now_by c.loop-chunk.self.replay.log (stood_at c.args.self.now.base c.loop-chunk.line)) c.loop-chunk.line c.args.to c.args.self.now.base.lines.now c.args.self.now.base.traces.now same in
     let ones = none-more c.loop-chunk.work.ones ∙ ap (counted_on c.loop-chunk.work.ones) (sym rest) ∙ inv.ones in
     record {

@@ -26,7 +26,7 @@ invariant_of-self-2 c =
     let e = c.args.exchange in
     let within : IsWithin (length lines) e =
     subst (λ (s : Source). IsWithin (length s.lines) e) (sym c.self.view_is)
-    (record { first = omega (arith, c.requires.first); second = omega (arith, c.requires.second); all = c.requires.within }) in
+    (record { first = omega (arith, c.requires.runs.0); second = omega (arith, c.requires.runs.1); all = c.requires.within }) in
     held c.exchange-made.new.self (exchanged e lines) c.exchange-made.ensures.kept c.in-Ok.ensures.moved.lines (omega (arith, exchanged-long lines e within, c.self.invariant.few))
 
 pub returns-clause-work : goal.returns-clause-work

@@ -5,7 +5,7 @@ use Rattle.cps_exchange.specs.Exchange.{IsWithin, is_idle, move}
 use Rattle.cps_exchange.proofs.ListLemmas.{idle-same}
 use Rattle.cps_division.specs.Exchange.{exchanged_at, moved_at}
 use Rattle.cps_edit.specs.Compares.{ComparesUpTo}
-use Rattle.cps_edit.proofs.FrontLemmas.{none-more}
+use Rattle.cps_edit.proofs.PassOneLemmas.{none-more}
 use Rattle.cps_editing.specs.Touched.{touched_of_exchange}
 use Rattle.cps_session.specs.Edits.{LooksOfExchange}
 use Rattle.cps_session.proofs.IdleLemmas.{idle-ones, idle-twos}

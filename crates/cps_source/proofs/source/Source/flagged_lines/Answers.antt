@@ -1,5 +1,5 @@
 use Rattle.std.proofs.Common.{arith, length, ap, ap₂, ◌∙◌, List, ℕ}
-use Rattle.cps_list.specs.Flagged.{flagged_with}
+use Rattle.cps_assembly.specs.Flagged.{flagged_with}
 use Rattle.cps_assembly.specs.Assembly.{outcomes_of}
 use Rattle.cps_source.proofs.SourceLemmas.{length-outcomes}
 use Rattle.cps_source.proofs.source.Source.flagged_lines.Goals as goal

@@ -1,0 +1,94 @@
+//! Pass one of the lines of a source, one after another.
+ghost use Rattle.std.specs.Prelude.{◌≡◌, [], ◌∷◌, IfOk, IsOk, OnErr, OnOk, length};
+ghost use Rattle.cps_state.specs.Work.{raised};
+ghost use Rattle.cps_state.specs.declared.work.Tally.TheVariants.{Ones};
+ghost use Rattle.cps_holding.specs.Finals.{Gathers};
+ghost use Rattle.cps_edit.specs.PassOne.{GoesOver, gathered_in};
+ghost use Rattle.cps_edit.specs.Compares.{Steps};
+
+use cps_holding::{Finals, Gather, Gathered};
+use cps_pass::{Hashing, Sheet, Trace, Work, step_over};
+use cps_text::Line;
+use std::alloc::{AllocError, Global};
+use std::mem::replace;
+
+/// What pass one has gathered of the lines so far.
+pub struct PassOne {
+    alloc: Global,
+    gather: Gather,
+    /// The lists that the next line uses.
+    sheet: Sheet,
+}
+
+// Written out: a derived drop is proved anew, with all that it goes through, at each place where a value is dropped.
+impl Drop for PassOne {
+    fn drop(self) {
+        let PassOne {
+            alloc: _,
+            gather,
+            sheet,
+        } = self;
+        drop(gather);
+        drop(sheet);
+    }
+}
+
+impl PassOne {
+    /// In front of the first line. Takes no memory yet.
+    pub fn new(alloc: Global, hashing: Hashing) -> PassOne
+        ensures { Gathers (gathered_in result) [] }
+    {
+        PassOne {
+            alloc,
+            gather: Gather::new(alloc, hashing),
+            sheet: Sheet::new(alloc),
+        }
+    }
+
+    /// What stands after the lines so far, and nothing else. Takes no memory.
+    pub fn finish(self) -> Result<Finals, AllocError>
+        ensures finals { IfOk result (λ finals. ⟦<Finals as Gathered>⟧.gathered finals ≡ gathered_in self) }
+        ensures succeeds { IsOk result }
+    {
+        let PassOne {
+            alloc: _,
+            gather,
+            sheet,
+        } = self;
+        drop(sheet);
+        gather.finish()
+    }
+
+    /// What the next line does. It is one step of pass one. Where there is no memory, nothing changes.
+    fn step(&mut self, line: &Line, work: &mut Work) -> Result<Trace, AllocError>
+        ensures ok { IfOk result (λ trace. GoesOver self.old self.new (line.now ∷ []) (trace ∷ [])) }
+        ensures err { OnErr result (gathered_in self.new ≡ gathered_in self.old) }
+        ensures step { work.new ≡ raised Ones work.old }
+    {
+        let sheet = replace(&mut self.sheet, Sheet::new(self.alloc));
+        let trace = step_over(self.alloc, work, sheet, line, self.gather.state())?;
+        let (trace, sheet) = trace.into_exact(self.alloc)?;
+        self.sheet = sheet;
+        match self.gather.add(&trace) {
+            Ok(()) => Ok(trace),
+            Err(refused) => {
+                drop(trace);
+                Err(refused)
+            }
+        }
+    }
+
+    /// What the next lines do.
+    pub fn step_all(&mut self, lines: &[Line], work: &mut Work) -> Result<Vec<Trace>, AllocError>
+        ensures ok { IfOk result (λ traces. GoesOver self.old self.new lines.now traces.items) }
+        ensures steps { Steps result work.old work.new (length lines.now) 0 }
+        ensures looked { work.new.looked ≡ work.old.looked }
+    {
+        let mut traces = Vec::with_capacity(self.alloc, lines.len())?;
+        for line in lines {
+            let trace = self.step(line, work)?;
+            traces.push(trace)?;
+        }
+        Ok(traces)
+    }
+}
