@@ -1,0 +1,5 @@
+pub mod Positions
+pub mod Lines
+pub mod Changes
+pub mod Spots
+pub mod Laws

@@ -1,0 +1,10 @@
+//! Tests of a document that an editor has open, by rows of worked examples.
+//!
+//! - `assertions.rt`: assertions
+//! - `change_rows.rt`: changes of a document
+#![tactic(auto)]
+
+#[cfg(test)]
+mod assertions;
+#[cfg(test)]
+mod change_rows;

@@ -1,0 +1,4 @@
+pub mod FrontLemmas
+pub mod LengthLemmas
+pub mod MessageLemmas
+pub mod SplittingLemmas

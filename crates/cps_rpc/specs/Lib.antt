@@ -1,0 +1,4 @@
+pub mod Json
+pub mod Message
+pub mod ErrorCode
+pub mod Outgoing

@@ -1,0 +1,27 @@
+-- Messages that a server sends. From JSON-RPC 2.0. Members stand in the order of their names.
+use Rattle.std.specs.Prelude.{ℕ, List, codes}
+use Rattle.serde_json.specs.Data.{Data, number, string, object, no_members, member}
+use Rattle.serde_json.specs.Find.{of_integer}
+use Rattle.cps_rpc.specs.declared.error_code.ErrorCode.{ErrorCode}
+use Rattle.cps_rpc.specs.ErrorCode.{number_of, text_of}
+
+-- the version of JSON-RPC
+abbrev pub version : Data
+version = string (codes "2.0")
+
+-- the response to the request of an identifier: what it asked for
+abbrev pub response : Data → Data → Data
+response id found = object (member (codes "id") id (member (codes "jsonrpc") version (member (codes "result") found no_members)))
+
+-- why a request is refused
+abbrev pub error_of : ErrorCode → Data
+error_of code = object (member (codes "code") (number (of_integer (number_of code))) (member (codes "message") (string (text_of code)) no_members))
+
+-- the response that refuses the request of an identifier
+abbrev pub refusal : Data → ErrorCode → Data
+refusal id code = object (member (codes "error") (error_of code) (member (codes "id") id (member (codes "jsonrpc") version no_members)))
+
+-- the notification of a method: what is told
+abbrev pub notification : List ℕ → Data → Data
+notification method params =
+    object (member (codes "jsonrpc") version (member (codes "method") (string method) (member (codes "params") params no_members)))

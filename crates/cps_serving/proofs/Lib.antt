@@ -1,0 +1,3 @@
+pub mod ConversationLemmas
+pub mod AnsweringLemmas
+pub mod ServingLemmas
