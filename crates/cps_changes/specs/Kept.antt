@@ -4,8 +4,10 @@ use Rattle.indexmap.specs.IndexMap.{keys, get, index_map_len}
 use Rattle.cps_state.specs.declared.key.Key.{Key}
 use Rattle.cps_state.specs.contracts.key.KeyPartialEq.TheImpl.{eq-value}
 use Rattle.cps_state.specs.KeptAnswers.{is_other}
+use Rattle.cps_state.specs.Exchange.{with_answer}
+use Rattle.cps_state.specs.Keys.{State}
 use Rattle.cps_changes.specs.declared.changes.Changes.{Changes}
-use Rattle.cps_changes.specs.Changes.{Changed}
+use Rattle.cps_changes.specs.Changes.{Changed, changed}
 
 -- what stands now at each key that is changed
 abbrev pub changes_in : Changes → Changed
@@ -18,6 +20,15 @@ count_of changes = index_map_len changes.answers
 -- the keys that are changed, in an order of their own
 abbrev pub keys_in : Changes → List Key
 keys_in changes = keys changes.answers
+
+-- the same keys are changed, in the same order
+pub record HasSameKeys (old new : Changes) : Type 0 where
+  pub keys : keys_in new ≡ keys_in old
+  pub count : count_of new ≡ count_of old
+
+-- a state that takes over what stands at one key now
+abbrev pub taken_over : Changed → Key → State → State
+taken_over now key state = with_answer state key (changed now state key)
 
 -- where always something stands, something stands now
 abbrev pub MayStandIn : Changed → Type 0

@@ -2,9 +2,9 @@
 ghost use Rattle.std.specs.Prelude.{◌≡◌, ◌↔◌, ◌^◌, ◌+◌, ◌<◌, ◌≤◌, IsTrue, OnOk, OnErr, Some as Just, is_some, true, slice_get};
 ghost use Rattle.std.specs.Option.{option_copied};
 ghost use Rattle.cps_state.specs.declared.key.Key.{Key as AKey};
-ghost use Rattle.cps_state.specs.Exchange.{room_of, with_answer};
+ghost use Rattle.cps_state.specs.Exchange.{room_of};
 ghost use Rattle.cps_changes.specs.Changes.{no_change, changed, with_change, without, settled};
-ghost use Rattle.cps_changes.specs.Kept.{changes_in, count_of, keys_in, MayStandIn};
+ghost use Rattle.cps_changes.specs.Kept.{changes_in, count_of, keys_in, HasSameKeys, MayStandIn, taken_over};
 
 use cps_state::{Answer, Hashing, Key, Lookup, Put, State};
 use indexmap::IndexMap;
@@ -131,9 +131,8 @@ impl Changes {
         requires room { 0 < room_of state.old }
         requires stands { MayStandIn (changes_in self.old) }
         ensures changes { changes_in self.new ≡ with_change (changes_in self.old) key (⟦<State as Lookup>⟧.answer state.old key) }
-        ensures state { let old = ⟦<State as Lookup>⟧.answer state.old in ⟦<State as Lookup>⟧.answer state.new ≡ with_answer old key (changed (changes_in self.old) old key) }
-        ensures keys { keys_in self.new ≡ keys_in self.old }
-        ensures count { count_of self.new ≡ count_of self.old }
+        ensures state { ⟦<State as Lookup>⟧.answer state.new ≡ taken_over (changes_in self.old) key (⟦<State as Lookup>⟧.answer state.old) }
+        ensures keys { HasSameKeys self.old self.new }
         ensures stands { MayStandIn (changes_in self.new) }
         ensures room { room_of state.old ≤ room_of state.new + 1 }
     {

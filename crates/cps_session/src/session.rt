@@ -7,7 +7,7 @@ ghost use Rattle.cps_edit.specs.Compares.{Steps};
 ghost use Rattle.cps_edit.specs.Splice.{splice_at, spliced, insertion, replacement, deletion};
 ghost use Rattle.cps_editing.specs.Editing.{IsCut, splice_of};
 ghost use Rattle.cps_editing.specs.Entering.{full_chunks};
-ghost use Rattle.cps_assembly.specs.Assembly.{assembly_of};
+ghost use Rattle.cps_assembly.specs.Assembly.{assembly_of, traces_of};
 ghost use Rattle.cps_assembly.specs.Flagged.{flagged_lines as flagged_in};
 ghost use Rattle.cps_exchange.specs.Exchange.{exchanged, move};
 ghost use Rattle.cps_division.specs.Exchange.{exchanged_at, moved_at};
@@ -20,7 +20,7 @@ use cps_editing::{Cut, KeptSource, kept_of};
 use cps_exchange::Exchange;
 use cps_final::{Finals, Outcome};
 use cps_list::{Part, View, make_text};
-use cps_pass::{Hashing, Work};
+use cps_pass::{Hashing, Trace, Work};
 use cps_text::Line;
 use cps_text::limits::MOST_LINES;
 use std::alloc::{AllocError, Global};
@@ -150,6 +150,13 @@ impl Session {
             return None;
         }
         self.kept.lines.get(n as usize - 1)
+    }
+
+    /// What each line did in pass one, in their order. Causes of flags are found in it.
+    pub fn traces(&self) -> &[Trace]
+        ensures { result.now ≡ traces_of self.now.lines }
+    {
+        &self.kept.traces
     }
 
     /// Whether the source has as many lines as it may have.

@@ -9,8 +9,8 @@ loop-i-preserved c =
     let before = c.loop-i.invariant.room in
     let more = c.exchange_at.ensures.room in
     record {
-      keys = c.exchange_at.ensures.keys ∙ c.loop-i.invariant.keys;
-      count = c.exchange_at.ensures.count ∙ c.loop-i.invariant.count;
+      keys = c.exchange_at.ensures.keys.keys ∙ c.loop-i.invariant.keys;
+      count = c.exchange_at.ensures.keys.count ∙ c.loop-i.invariant.count;
       stands = c.exchange_at.ensures.stands;
       room = omega (arith, before, more);
       done = exchanged-next (keys_in c.args.self.now) c.loop-i.i c.key-key.result c.len-i-end.ensures.unique

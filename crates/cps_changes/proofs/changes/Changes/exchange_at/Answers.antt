@@ -1,5 +1,6 @@
-use Rattle.std.proofs.Common.{None, ap, ◌∙◌}
-use Rattle.std.specs.Prelude.{is_some}
+use Rattle.std.proofs.Common.{None, ap, sym, ◌∙◌}
+use Rattle.std.proofs.lemmas.Map.Entries.{length-keys_of}
+use Rattle.std.specs.Prelude.{is_some, length}
 use Rattle.cps_changes.specs.Changes.{with_change}
 use Rattle.cps_changes.specs.Kept.{changes_in}
 use Rattle.cps_changes.proofs.KeptLemmas.{changed-twice, keys-kept, answer-changed}
@@ -17,5 +18,7 @@ returns-clause-state c =
 
 pub returns-clause-keys : goal.returns-clause-keys
 returns-clause-keys c =
+    let keys =
     keys-kept c.insert.new.self c.insert-2.new.self c.args.key c.replace-old.result (ap is_some c.in-Ok-Some.ensures.updates.1) c.in-Ok.ensures.entries
-    ∙ keys-kept c.args.self.now.answers c.insert.new.self c.args.key None c.requires.there c.in-Ok-Some.ensures.entries
+    ∙ keys-kept c.args.self.now.answers c.insert.new.self c.args.key None c.requires.there c.in-Ok-Some.ensures.entries in
+    record { keys = keys; count = sym (length-keys_of _) ∙ ap length keys ∙ length-keys_of _ }
