@@ -1,0 +1,3 @@
+pub mod Marks
+pub mod Adding
+pub mod Laws

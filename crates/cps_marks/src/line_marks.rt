@@ -1,0 +1,156 @@
+//! The marks of a line.
+ghost use Rattle.std.specs.Prelude.{◌≡◌, ◌<◌, [], ◌∷◌, length, map, OnOk};
+ghost use Rattle.cps_document.specs.Document.{source_of_text};
+ghost use Rattle.cps_marks.specs.Adding.{Adds, AddsFlags, AddsLine};
+ghost use Rattle.cps_marks.specs.Marks.{flag_mark, fault_mark};
+
+use crate::kind::Kind;
+use crate::mark::Mark;
+use cps_assembly::View;
+use cps_card::{CharacterFault, faults_of};
+use cps_document::Document;
+use cps_explain::{Columns, Diagnostic, NoPlaces, explain};
+use std::alloc::{AllocError, Global};
+
+/// Appends the marks of a line of a document, whose number counts from 0. One that a source may have takes no memory where it has no flag.
+pub fn push_marks(
+    alloc: Global,
+    document: &Document,
+    number: u32,
+    marks: &mut Vec<Mark>,
+) -> Result<(), AllocError>
+    requires { number < length (source_of_text document.now) }
+    ensures { OnOk result (AddsLine document.now number marks.old.items marks.new.items) }
+{
+    let line = document.source_line(number as usize);
+    let faults = faults_of(alloc, line, number + 1)?;
+    let found = faults.as_slice();
+    if found.is_empty() {
+        push_flags(alloc, document, number, marks)?;
+        return Ok(());
+    }
+    push_faults(alloc, number, line, found, marks)?;
+    Ok(())
+}
+
+/// Appends the marks of what is wrong in a line that no source may have.
+fn push_faults(
+    alloc: Global,
+    number: u32,
+    line: &[u8],
+    faults: &[CharacterFault],
+    marks: &mut Vec<Mark>,
+) -> Result<(), AllocError>
+    ensures { OnOk result (Adds (map (fault_mark number) faults.now) marks.old.items marks.new.items) }
+{
+    for fault in faults {
+        push_fault(alloc, number, line, fault, marks)?;
+    }
+    Ok(())
+}
+
+fn push_fault(
+    alloc: Global,
+    number: u32,
+    line: &[u8],
+    fault: &CharacterFault,
+    marks: &mut Vec<Mark>,
+) -> Result<(), AllocError>
+    ensures { OnOk result (Adds (fault_mark number fault.now ∷ []) marks.old.items marks.new.items) }
+{
+    let mut message = Vec::new(alloc);
+    fault.push_words(line, &mut message)?;
+    marks.push(Mark {
+        line: number,
+        columns: Columns {
+            first: fault.first,
+            last: fault.last,
+        },
+        kind: Kind::Wrong,
+        message,
+    })?;
+    Ok(())
+}
+
+/// Appends the marks of the flags of a line of a document. Where it has none, no memory is taken, and no cause is looked for.
+fn push_flags(
+    alloc: Global,
+    document: &Document,
+    number: u32,
+    marks: &mut Vec<Mark>,
+) -> Result<(), AllocError>
+    requires { number < length (source_of_text document.now) }
+    ensures { OnOk result (AddsFlags document.now number marks.old.items marks.new.items) }
+{
+    let session = document.session();
+    let Some(card) = session.line(number + 1) else {
+        unreachable!();
+    };
+    let Some(outcome) = session.outcome(number + 1) else {
+        unreachable!();
+    };
+    if !outcome.flags().has_flag() {
+        return Ok(());
+    }
+    let traces = session.traces();
+    let trace = &traces[number as usize];
+    let told = explain(alloc, card, trace, session.finals())?;
+    push_causes(alloc, number, card.bytes(), &told, marks)?;
+    Ok(())
+}
+
+/// Appends the marks of causes of flags.
+fn push_causes(
+    alloc: Global,
+    number: u32,
+    line: &[u8],
+    told: &[Diagnostic],
+    marks: &mut Vec<Mark>,
+) -> Result<(), AllocError>
+    ensures { OnOk result (Adds (map (flag_mark number) told.now) marks.old.items marks.new.items) }
+{
+    for diagnostic in told {
+        push_cause(alloc, number, line, diagnostic, marks)?;
+    }
+    Ok(())
+}
+
+fn push_cause(
+    alloc: Global,
+    number: u32,
+    line: &[u8],
+    told: &Diagnostic,
+    marks: &mut Vec<Mark>,
+) -> Result<(), AllocError>
+    ensures { OnOk result (Adds (flag_mark number told.now ∷ []) marks.old.items marks.new.items) }
+{
+    let message = message_of(alloc, line, told)?;
+    let letter = told.cause.letter();
+    marks.push(Mark {
+        line: number,
+        columns: told.columns,
+        kind: Kind::Flag(letter),
+        message,
+    })?;
+    Ok(())
+}
+
+/// Why a line has a flag; and in a second row the statement of its expansion that has it, where it isn't the line's own.
+fn message_of(alloc: Global, line: &[u8], told: &Diagnostic) -> Result<Vec<u8>, AllocError> {
+    let mut message = Vec::new(alloc);
+    told.push_words(line, &NoPlaces, &mut message)?;
+    let statement = told.statement.as_slice();
+    if !statement.is_empty() {
+        message.extend_from_slice(b"\nin its expansion: ")?;
+        message.extend_from_slice(unindented(statement))?;
+    }
+    Ok(message)
+}
+
+/// A text from its first character on that is no blank.
+fn unindented(text: &[u8]) -> &[u8] {
+    match text {
+        [b' ', rest @ ..] => unindented(rest),
+        _ => text,
+    }
+}
