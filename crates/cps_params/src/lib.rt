@@ -1,0 +1,22 @@
+//! What the parameters of messages say, that an editor sends.
+//!
+//! - `change.rt`: a change of a text
+//! - `changes.rt`: the changes of a message
+//! - `encodings.rt`: the encodings that an editor offers
+//! - `member.rt`: members of parameters
+//! - `opened_text.rt`: a text that is opened
+//! - `positions.rt`: positions and ranges
+#![tactic(auto)]
+
+mod change;
+mod changes;
+mod encodings;
+mod member;
+mod opened_text;
+mod positions;
+
+pub use change::Change;
+pub use changes::changes_in;
+pub use encodings::encoding_in;
+pub use member::{uri_in, version_in};
+pub use opened_text::OpenedText;

@@ -1,0 +1,4 @@
+pub mod FloatLemmas
+pub mod SaidLemmas
+pub mod ServerLemmas
+pub mod TextLemmas

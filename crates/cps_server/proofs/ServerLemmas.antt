@@ -1,0 +1,74 @@
+-- What a server says, and where it stands then.
+use Rattle.std.proofs.Common.{◌≡◌, refl, sym, ap, subst, ◌∙◌, inr, ℕ, ℤ, List, [], ◌∷◌, ◌++◌, Option, Some, None}
+use Rattle.std.proofs.lemmas.List.{append-nil}
+use Rattle.serde_json.specs.Data.{Data, null}
+use Rattle.cps_params.specs.Params.{Change}
+use Rattle.cps_rpc.specs.declared.error_code.ErrorCode.TheVariants.{InvalidRequest, ParseError}
+use Rattle.cps_rpc.specs.Json.{IsNoJson}
+use Rattle.cps_rpc.specs.Message.{request, invalid}
+use Rattle.cps_rpc.specs.Outgoing.{refusal}
+use Rattle.cps_server.specs.Answers.{Hears, IsAnswered}
+use Rattle.cps_server.specs.Diagnostics.{TellsText, published}
+use Rattle.cps_server.specs.Frames.{frame_of_json}
+use Rattle.cps_server.specs.Notices.{TakesText, ChangesText, ClosesText, changed_by}
+use Rattle.cps_server.specs.Requests.{after_request, answer_with, owed_to, request_named}
+use Rattle.cps_server.specs.Said.{Adds, AddsOne}
+use Rattle.cps_server.specs.Standing.{Standing, text_under, with_text, without}
+use Rattle.cps_server.proofs.SaidLemmas.{adds-one, adds-as}
+use Rattle.cps_server.proofs.TextLemmas.{without-twice}
+
+-- ---- texts
+
+pub takes : (old new : Standing) (uri : List ℕ) (version : Option ℤ) (text said now : List ℕ) → AddsOne (TellsText old.encoding uri version text) said now
+    → new ≡ record old { texts = with_text uri text old.texts } → Adds (λ news. TakesText old uri version text news new) said now
+takes old new uri version text said now one moves =
+    adds-one (λ news. TakesText old uri version text news new) one.json said now
+    (record { diagnostics = one.json; tells = one.right; says = refl; moves = moves }) one.added
+
+pub changes : (old mid new : Standing) (uri : List ℕ) (version : Option ℤ) (all : List Change) (text made said now : List ℕ) → text_under uri old.texts ≡ Some text
+    → mid ≡ record old { texts = without uri old.texts } → made ≡ changed_by mid.encoding all text
+    → Adds (λ news. TakesText mid uri version made news new) said now → Adds (λ news. ChangesText old uri version all (text_under uri old.texts) news new) said now
+changes old mid new uri version all text made said now there moved is adds =
+    subst (λ found. Adds (λ news. ChangesText old uri version all found news new) said now) (sym there)
+    (adds-as (λ news. TakesText (record old { texts = without uri old.texts }) uri version (changed_by old.encoding all text) news new)
+    (λ news. TakesText old uri version (changed_by old.encoding all text) news new) said now
+    (λ news takes. record {
+      diagnostics = takes.diagnostics;
+      tells = takes.tells;
+      says = takes.says;
+      moves = takes.moves
+          ∙ ap (λ texts. record old { texts = texts ++ record { uri = uri; text = changed_by old.encoding all text } ∷ [] }) (without-twice uri old.texts);
+    })
+    (subst (λ standing. Adds (λ news. TakesText standing uri version (changed_by standing.encoding all text) news new) said now) moved
+    (subst (λ t. Adds (λ news. TakesText mid uri version t news new) said now) is adds)))
+
+pub closes : (old new : Standing) (uri text said now : List ℕ) → text_under uri old.texts ≡ Some text → new ≡ record old { texts = without uri old.texts }
+    → now ≡ said ++ frame_of_json (published uri None []) → Adds (λ news. ClosesText old uri (text_under uri old.texts) news new) said now
+closes old new uri text said now there moved added =
+    subst (λ found. Adds (λ news. ClosesText old uri found news new) said now) (sym there)
+    (adds-one (λ news. ClosesText old uri (Some text) news new) (published uri None []) said now (refl, moved) added)
+
+-- ---- messages
+
+pub hears-request : (old new : Standing) (id params : Data) (method said now : List ℕ)
+    → now ≡ said ++ frame_of_json (answer_with id (owed_to old.phase (request_named method) params))
+    → new ≡ after_request (request_named method) params old → Adds (λ news. Hears (request id method) params old news new) said now
+hears-request old new id params method said now added moved =
+    adds-one (λ news. Hears (request id method) params old news new) _ said now (refl, moved) added
+
+pub hears-invalid : (old new : Standing) (params : Data) (said now : List ℕ) → now ≡ said ++ frame_of_json (refusal null InvalidRequest)
+    → new ≡ old → Adds (λ news. Hears invalid params old news new) said now
+hears-invalid old new params said now added stays =
+    adds-one (λ news. Hears invalid params old news new) _ said now (refl, stays) added
+
+pub answers-no-json : (old new : Standing) (message said now : List ℕ) → IsNoJson message → now ≡ said ++ frame_of_json (refusal null ParseError) → new ≡ old
+    → (text : List ℕ) × (now ≡ said ++ text) × IsAnswered old message text new
+answers-no-json old new message said now none added stays = (
+  frame_of_json (refusal null ParseError),
+  added,
+  record {
+    said = refusal null ParseError ∷ [];
+    heard = inr (record { none = none; refuses = refl; stays = stays });
+    written = sym (append-nil (frame_of_json (refusal null ParseError)));
+  },
+)

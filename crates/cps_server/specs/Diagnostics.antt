@@ -1,0 +1,76 @@
+-- What an editor is told of a text: a diagnostic for each mark. From the Language Server Protocol 3.17.
+use Rattle.std.specs.Prelude.{◌≡◌, ℕ, ℤ, ◌-◌, ◌^◌, min, List, [], Option, Some, None, codes, slice_index_or}
+use Rattle.std.specs.List.{AllZip}
+use Rattle.serde_json.specs.Data.{Data, unsigned, number, string, array, object, Members, no_members, member}
+use Rattle.serde_json.specs.Find.{of_integer}
+use Rattle.serde_json.specs.View.{items_of}
+use Rattle.cps_buffer.specs.declared.encoding.Encoding.{Encoding}
+use Rattle.cps_buffer.specs.Lines.{text_lines}
+use Rattle.cps_buffer.specs.Positions.{units_before}
+use Rattle.cps_cause.specs.declared.letter.Letter.{Letter}
+use Rattle.cps_cause.specs.declared.letter.Letter.TheVariants.{A, D, E, L, O, T, U, V}
+use Rattle.cps_rpc.specs.Outgoing.{notification}
+use Rattle.cps_marks.specs.declared.kind.Kind.{Kind}
+use Rattle.cps_marks.specs.declared.kind.Kind.TheVariants.{Flag, Wrong}
+use Rattle.cps_marks.specs.Marks.{Mark, Marks}
+
+-- ---- a diagnostic
+
+-- the units before a place in a line, as far as a position can tell them
+abbrev pub told_units : Encoding → List ℕ → ℕ → ℕ
+told_units encoding line place = min (units_before encoding line place) (2 ^ 32 - 1)
+
+abbrev pub position : ℕ → ℕ → Data
+position line character = object (member (codes "character") (number (unsigned character)) (member (codes "line") (number (unsigned line)) no_members))
+
+-- the range of a mark in this line: from its first column through its last
+abbrev pub range_of : Encoding → List ℕ → Mark → Data
+range_of encoding line mark =
+    object (member (codes "end") (position mark.line (told_units encoding line mark.last))
+    (member (codes "start") (position mark.line (told_units encoding line (mark.first - 1))) no_members))
+
+-- the name of a flag's letter
+abbrev pub letter_name : Letter → List ℕ
+letter_name A = codes "A"
+letter_name D = codes "D"
+letter_name E = codes "E"
+letter_name L = codes "L"
+letter_name O = codes "O"
+letter_name T = codes "T"
+letter_name U = codes "U"
+letter_name V = codes "V"
+
+-- an error of compass, with a range and a message
+abbrev pub error : Data → List ℕ → Members
+error range message =
+    member (codes "message") (string message) (member (codes "range") range
+    (member (codes "severity") (number (unsigned 1)) (member (codes "source") (string (codes "compass")) no_members)))
+
+-- a flag is told with its letter
+abbrev pub diagnostic : Kind → Data → List ℕ → Data
+diagnostic (Flag letter) range message = object (member (codes "code") (string (letter_name letter)) (error range message))
+diagnostic Wrong range message = object (error range message)
+
+-- the diagnostic of a mark in a text of these lines; its message is free
+abbrev pub TellsMark : Encoding → List (List ℕ) → Mark → Data → Type 0
+TellsMark encoding lines mark json =
+    (message : List ℕ) × (json ≡ diagnostic mark.kind (range_of encoding (slice_index_or lines mark.line []) mark) message)
+
+-- ---- a text
+
+-- a list of diagnostics, told of the document of a URI, and of this version if it is known
+abbrev pub told_of : List ℕ → Option ℤ → Data → Data
+told_of uri None list = object (member (codes "diagnostics") list (member (codes "uri") (string uri) no_members))
+told_of uri (Some version) list =
+    object (member (codes "diagnostics") list (member (codes "uri") (string uri) (member (codes "version") (number (of_integer version)) no_members)))
+
+abbrev pub published : List ℕ → Option ℤ → List Data → Data
+published uri version told = notification (codes "textDocument/publishDiagnostics") (told_of uri version (array (items_of told)))
+
+-- the marks of a text are told, each by a diagnostic, and nothing else
+pub record TellsText (encoding : Encoding) (uri : List ℕ) (version : Option ℤ) (text : List ℕ) (said : Data) : Type 0 where
+  pub marks : List Mark
+  pub told : List Data
+  pub of_text : Marks text marks
+  pub each : AllZip (TellsMark encoding (text_lines text)) marks told
+  pub whole : said ≡ published uri version told

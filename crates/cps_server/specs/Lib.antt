@@ -1,0 +1,10 @@
+pub mod Frames
+pub mod Standing
+pub mod Requests
+pub mod Diagnostics
+pub mod Notices
+pub mod Answers
+pub mod Running
+pub mod Opened
+pub mod Said
+pub mod Owing

@@ -1,0 +1,95 @@
+-- What a server does at notifications. From the Language Server Protocol 3.17.
+use Rattle.std.specs.Prelude.{◌≡◌, ℕ, ℤ, true, List, [], ◌∷◌, Option, Some, None, codes, bytes_eq, if◌then◌else◌}
+use Rattle.serde_json.specs.Data.{Data}
+use Rattle.cps_buffer.specs.declared.encoding.Encoding.{Encoding}
+use Rattle.cps_buffer.specs.Changes.{changed}
+use Rattle.cps_params.specs.Params.{Change, OpenedText, changes_in, opened_in, uri_in, version_in}
+use Rattle.cps_server.specs.declared.notice.Notice.{Notice}
+use Rattle.cps_server.specs.declared.notice.Notice.TheVariants.{Exit, Open, Change as ChangeNotice, Close, Unknown}
+use Rattle.cps_server.specs.declared.phase.Phase.{Phase}
+use Rattle.cps_server.specs.declared.phase.Phase.TheVariants.{Uninitialized, Running, ShutDown}
+use Rattle.cps_server.specs.Diagnostics.{TellsText, published}
+use Rattle.cps_server.specs.Standing.{Standing, text_under, with_text, without}
+
+-- the notification of a method
+abbrev pub notice_named : List ℕ → Notice
+notice_named method =
+    if bytes_eq method (codes "exit") then Exit
+    else (if bytes_eq method (codes "textDocument/didOpen") then Open
+    else (if bytes_eq method (codes "textDocument/didChange") then ChangeNotice
+    else (if bytes_eq method (codes "textDocument/didClose") then Close else Unknown)))
+
+-- nothing is said, and nothing changes
+abbrev pub IsSilent : Standing → List Data → Standing → Type 0
+IsSilent old said new = (said ≡ []) × (new ≡ old)
+
+-- a text is open under a URI, and its marks are told
+pub record TakesText (old : Standing) (uri : List ℕ) (version : Option ℤ) (text : List ℕ) (said : List Data) (new : Standing) : Type 0 where
+  pub diagnostics : Data
+  pub tells : TellsText old.encoding uri version text diagnostics
+  pub says : said ≡ diagnostics ∷ []
+  pub moves : new ≡ record old { texts = with_text uri text old.texts }
+
+-- a text is opened; wrong parameters do nothing
+abbrev pub Opens : Standing → Option ℤ → Option OpenedText → List Data → Standing → Type 0
+Opens old version None said new = IsSilent old said new
+Opens old version (Some opened) said new = TakesText old opened.uri version opened.text said new
+
+abbrev pub OpensBy : Data → Standing → List Data → Standing → Type 0
+OpensBy params old said new = Opens old (version_in params) (opened_in params) said new
+
+-- ---- changes
+
+-- a text with changes, one after another
+abbrev pub changed_by : Encoding → List Change → List ℕ → List ℕ
+changed_by encoding [] text = text
+changed_by encoding (change ∷ changes) text = changed_by encoding changes (changed encoding text change.range change.text)
+
+-- the text under a URI is changed, if one is open there
+abbrev pub ChangesText : Standing → List ℕ → Option ℤ → List Change → Option (List ℕ) → List Data → Standing → Type 0
+ChangesText old uri version changes None said new = IsSilent old said new
+ChangesText old uri version changes (Some text) said new = TakesText old uri version (changed_by old.encoding changes text) said new
+
+-- the changes of a message are made; where one is wrong, none is
+abbrev pub Changes : Standing → Option (List ℕ) → Option ℤ → Option (List Change) → List Data → Standing → Type 0
+Changes old None version changes said new = IsSilent old said new
+Changes old (Some uri) version None said new = IsSilent old said new
+Changes old (Some uri) version (Some changes) said new = ChangesText old uri version changes (text_under uri old.texts) said new
+
+abbrev pub ChangesBy : Data → Standing → List Data → Standing → Type 0
+ChangesBy params old said new = Changes old (uri_in params) (version_in params) (changes_in params) said new
+
+-- ---- closing
+
+-- a text is closed, if it was open: the editor is told that it has no diagnostics
+abbrev pub ClosesText : Standing → List ℕ → Option (List ℕ) → List Data → Standing → Type 0
+ClosesText old uri None said new = IsSilent old said new
+ClosesText old uri (Some text) said new = (said ≡ published uri None [] ∷ []) × (new ≡ record old { texts = without uri old.texts })
+
+abbrev pub Closes : Standing → Option (List ℕ) → List Data → Standing → Type 0
+Closes old None said new = IsSilent old said new
+Closes old (Some uri) said new = ClosesText old uri (text_under uri old.texts) said new
+
+-- ---- all
+
+-- what is done while a server runs
+abbrev pub Notes : Notice → Data → Standing → List Data → Standing → Type 0
+Notes Exit params old said new = (said ≡ []) × (new ≡ record old { has_exited = true })
+Notes Open params old said new = OpensBy params old said new
+Notes ChangeNotice params old said new = ChangesBy params old said new
+Notes Close params old said new = Closes old (uri_in params) said new
+Notes Unknown params old said new = IsSilent old said new
+
+-- what is done before that, and after: `exit` alone is heard
+abbrev pub NotesIdly : Notice → Standing → List Data → Standing → Type 0
+NotesIdly Exit old said new = (said ≡ []) × (new ≡ record old { has_exited = true })
+NotesIdly Open old said new = IsSilent old said new
+NotesIdly ChangeNotice old said new = IsSilent old said new
+NotesIdly Close old said new = IsSilent old said new
+NotesIdly Unknown old said new = IsSilent old said new
+
+-- what is done at a notification, by the phase
+abbrev pub NotesIn : Phase → Notice → Data → Standing → List Data → Standing → Type 0
+NotesIn Uninitialized notice params old said new = NotesIdly notice old said new
+NotesIn Running notice params old said new = Notes notice params old said new
+NotesIn ShutDown notice params old said new = NotesIdly notice old said new

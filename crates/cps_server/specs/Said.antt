@@ -1,0 +1,25 @@
+-- For the code, not part of what a reader believes: what is added to what is said, and floats in that.
+use Rattle.std.specs.Prelude.{◌≡◌, ℕ, Bool, false, List, ◌++◌}
+use Rattle.serde_json.specs.Data.{Data}
+use Rattle.serde_json.specs.Written.{has_float}
+use Rattle.cps_rpc.specs.Message.{Message, request, notification, response, invalid}
+use Rattle.cps_server.specs.Frames.{frame_of_json, text_of}
+
+-- values are added of which this holds
+pub record Adds (says : List Data → Type 0) (old new : List ℕ) : Type 0 where
+  pub said : List Data
+  pub right : says said
+  pub added : new ≡ old ++ text_of said
+
+-- one is
+pub record AddsOne (says : Data → Type 0) (old new : List ℕ) : Type 0 where
+  pub json : Data
+  pub right : says json
+  pub added : new ≡ old ++ frame_of_json json
+
+-- whether the identifier of a message has a float
+abbrev pub has_float_id : Message → Bool
+has_float_id (request id method) = has_float id
+has_float_id (notification method) = false
+has_float_id response = false
+has_float_id invalid = false

@@ -1,0 +1,48 @@
+-- Where a server stands. From the Language Server Protocol 3.17; the encoding before `initialize` is our own.
+use Rattle.std.specs.Prelude.{ℕ, Bool, true, false, not, List, [], ◌∷◌, ◌++◌, Option, Some, None, bytes_eq, filter, if◌then◌else◌}
+use Rattle.cps_buffer.specs.declared.encoding.Encoding.{Encoding}
+use Rattle.cps_buffer.specs.declared.encoding.Encoding.TheVariants.{Utf16}
+use Rattle.cps_server.specs.declared.phase.Phase.{Phase}
+use Rattle.cps_server.specs.declared.phase.Phase.TheVariants.{Uninitialized, Running, ShutDown}
+
+-- ---- texts
+
+-- a text that is open, under the URI of its document
+pub record OpenText : Type 0 where
+  pub uri : List ℕ
+  pub text : List ℕ
+
+abbrev pub is_under : List ℕ → OpenText → Bool
+is_under uri one = bytes_eq one.uri uri
+
+-- the text under a URI
+abbrev pub text_under : List ℕ → List OpenText → Option (List ℕ)
+text_under uri [] = None
+text_under uri (one ∷ texts) = if is_under uri one then Some one.text else text_under uri texts
+
+-- all texts but that under a URI
+abbrev pub without : List ℕ → List OpenText → List OpenText
+without uri texts = filter (λ one. not (is_under uri one)) texts
+
+-- all texts, and this one under a URI in the place of another
+abbrev pub with_text : List ℕ → List ℕ → List OpenText → List OpenText
+with_text uri text texts = without uri texts ++ record { uri = uri; text = text } ∷ []
+
+-- ---- the server
+
+-- Where a server stands: its phase, whether `exit` has come, how positions are counted, and the open texts, those last that were opened or changed last.
+pub record Standing : Type 0 where
+  pub phase : Phase
+  pub has_exited : Bool
+  pub encoding : Encoding
+  pub texts : List OpenText
+
+-- before the first message
+abbrev pub beginning : Standing
+beginning = record { phase = Uninitialized; has_exited = false; encoding = Utf16; texts = [] }
+
+-- whether `shutdown` has come
+abbrev pub is_shut_down : Phase → Bool
+is_shut_down Uninitialized = false
+is_shut_down Running = false
+is_shut_down ShutDown = true

@@ -1,0 +1,27 @@
+//! A server for editors, by the Language Server Protocol: it tells which flags the texts have that an editor has open.
+//!
+//! - `diagnostics.rt`: what an editor is told of a text
+//! - `introducing.rt`: what a server tells of itself
+//! - `notice.rt`: the notifications that a server hears
+//! - `open_texts.rt`: the texts that are open
+//! - `owed.rt`: what is owed to a request
+//! - `phase.rt`: the phases of a server
+//! - `request.rt`: the requests that a server answers
+//! - `running.rt`: a run of a server
+//! - `saying.rt`: what is said
+//! - `server.rt`: the server, and what it answers
+#![tactic(auto)]
+
+mod diagnostics;
+mod introducing;
+mod notice;
+mod open_texts;
+mod owed;
+mod phase;
+mod request;
+mod running;
+mod saying;
+mod server;
+
+pub use cps_serving::ServerFault;
+pub use running::run_server;

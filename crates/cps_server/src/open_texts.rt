@@ -1,0 +1,113 @@
+//! The texts that are open.
+ghost use Rattle.std.specs.Prelude.{◌≡◌, [], ◌∷◌, ◌++◌, map, None, IfSome, OnOk};
+ghost use Rattle.cps_server.specs.Opened.{IsFirst, value_of};
+ghost use Rattle.cps_server.specs.Standing.{text_under, without};
+
+use cps_document::Document;
+use std::alloc::{AllocError, Global};
+use std::marker::Model;
+
+/// A text that is open.
+struct OpenText {
+    /// The URI of its document.
+    uri: String,
+    document: Document,
+}
+
+// Written out, as that of the document.
+impl Drop for OpenText {
+    fn drop(self) {
+        let OpenText { uri, document } = self;
+        drop(uri);
+        drop(document);
+    }
+}
+
+impl OpenText {
+    /// Its document.
+    fn into_document(self) -> Document
+        ensures { result ≡ self.document }
+    {
+        let OpenText { uri, document } = self;
+        drop(uri);
+        document
+    }
+}
+
+/// The texts that are open, those last that were opened or changed last.
+pub struct OpenTexts {
+    alloc: Global,
+    list: Vec<OpenText>,
+}
+
+// Written out, as that of a text.
+impl Drop for OpenTexts {
+    fn drop(self) {
+        let OpenTexts { alloc: _, list } = self;
+        drop(list);
+    }
+}
+
+impl Model for OpenTexts {
+    ghost use Rattle.std.specs.Prelude.{List, map};
+    ghost use Rattle.cps_server.specs.Opened.{value_of};
+    ghost use Rattle.cps_server.specs.Standing.{OpenText};
+
+    ghost Value = { List OpenText };
+
+    ghost view = { λ texts. map value_of texts.list.items };
+}
+
+impl OpenTexts {
+    /// None is open.
+    pub fn new(alloc: Global) -> OpenTexts
+        ensures { result ≡ [] }
+    {
+        OpenTexts {
+            alloc,
+            list: Vec::new(alloc),
+        }
+    }
+
+    /// Takes out the text under a URI, if one is open there.
+    pub fn take(&mut self, uri: &str) -> Option<Document>
+        ensures text { result ≡ text_under uri.now self.old }
+        ensures left { self.new ≡ without uri.now self.old }
+        ensures none { result ≡ None → self.new ≡ self.old }
+    {
+        let found = self.take_first(uri);
+        self.list.retain(|one| one.uri.as_str() != uri);
+        found
+    }
+
+    /// Opens a text behind all others.
+    pub fn push(&mut self, uri: &str, document: Document) -> Result<(), AllocError>
+        ensures { OnOk result (self.new ≡ self.old ++ record { uri = uri.now; text = document } ∷ []) }
+    {
+        let uri = uri.to_string(self.alloc)?;
+        self.list.push(OpenText { uri, document })?;
+        Ok(())
+    }
+
+    /// Takes out the first text under a URI.
+    fn take_first(&mut self, uri: &str) -> Option<Document>
+        ensures text { result ≡ text_under uri.now self.old }
+        ensures left { without uri.now self.new ≡ without uri.now self.old }
+    {
+        let at = place_of(&self.list, uri)?;
+        Some(self.list.remove(at).into_document())
+    }
+}
+
+/// Where the first text under a URI stands.
+fn place_of(list: &[OpenText], uri: &str) -> Option<usize>
+    ensures found { IfSome result (IsFirst uri.now list.now) }
+    ensures none { result ≡ None → text_under uri.now (map value_of list.now) ≡ None }
+{
+    for (at, one) in list.iter().enumerate() {
+        if one.uri.as_str() == uri {
+            return Some(at);
+        }
+    }
+    None
+}

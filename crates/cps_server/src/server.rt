@@ -1,0 +1,293 @@
+//! The server, and what it answers.
+ghost use Rattle.std.specs.Prelude.{◌≡◌, false, map, OnOk, IfOk};
+ghost use Rattle.serde_json.specs.Data.{null};
+ghost use Rattle.serde_json.specs.View.{view};
+ghost use Rattle.serde_json.specs.Written.{has_float};
+ghost use Rattle.cps_params.specs.Params as told_params;
+ghost use Rattle.cps_rpc.specs.Message.{message_in, request, value_of};
+ghost use Rattle.cps_server.specs.Answers.{Hears, params_of};
+ghost use Rattle.cps_server.specs.Notices as notices;
+ghost use Rattle.cps_server.specs.Requests as requests;
+ghost use Rattle.cps_server.specs.Said.{Adds, has_float_id};
+ghost use Rattle.cps_server.specs.Standing.{beginning, is_shut_down, text_under};
+
+use crate::diagnostics::{ToldText, say_closed, say_text};
+use crate::notice::Notice;
+use crate::open_texts::OpenTexts;
+use crate::owed::owed_to;
+use crate::phase::Phase;
+use crate::request::Request;
+use crate::saying::{push_answer, push_rejection};
+use cps_buffer::Encoding;
+use cps_document::Document;
+use cps_params::{Change, OpenedText, changes_in, encoding_in, uri_in, version_in};
+use cps_pass::Hashing;
+use cps_rpc::{ErrorCode, JsonFault, Message, json_of};
+use cps_serving::Service;
+use serde_json::Value;
+use std::alloc::{AllocError, Global};
+use std::marker::Model;
+
+/// A server: where it stands, with a document for each open text.
+pub struct Server {
+    alloc: Global,
+    hashing: Hashing,
+    phase: Phase,
+    has_exited: bool,
+    encoding: Encoding,
+    texts: OpenTexts,
+}
+
+// Written out, as that of the texts.
+impl Drop for Server {
+    fn drop(self) {
+        let Server {
+            alloc: _,
+            hashing: _,
+            phase: _,
+            has_exited: _,
+            encoding: _,
+            texts,
+        } = self;
+        drop(texts);
+    }
+}
+
+impl Model for Server {
+    ghost use Rattle.cps_server.specs.Standing.{Standing};
+
+    ghost Value = { Standing };
+
+    ghost view = { λ server. record { phase = server.phase; has_exited = server.has_exited; encoding = server.encoding; texts = server.texts } };
+}
+
+impl Service for Server {
+    ghost use Rattle.cps_server.specs.Answers.{IsAnswered};
+
+    ghost answers = { IsAnswered };
+
+    ghost has_ended = { λ server. server.has_exited };
+
+    fn answer(&mut self, message: &[u8], said: &mut Vec<u8>) -> Result<(), AllocError> {
+        match json_of(self.alloc, message) {
+            Ok(json) => self.hear(&json, said),
+            Err(JsonFault::NoJson) => push_rejection(self.alloc, said, ErrorCode::ParseError),
+            Err(JsonFault::Memory) => Err(AllocError),
+        }
+    }
+
+    fn has_ended(&self) -> bool {
+        self.has_exited
+    }
+}
+
+impl Server {
+    /// A server that no message has reached.
+    pub fn new(alloc: Global, hashing: Hashing) -> Server
+        ensures { result ≡ beginning }
+    {
+        Server {
+            alloc,
+            hashing,
+            phase: Phase::Uninitialized,
+            has_exited: false,
+            encoding: Encoding::Utf16,
+            texts: OpenTexts::new(alloc),
+        }
+    }
+
+    /// Whether `shutdown` has come.
+    pub fn is_shut_down(&self) -> bool
+        ensures { result ≡ is_shut_down self.now.phase }
+    {
+        self.phase.is_shut_down()
+    }
+
+    /// Hears a message, by its JSON.
+    fn hear(&mut self, json: &Value, said: &mut Vec<u8>) -> Result<(), AllocError>
+        ensures { OnOk result (Adds (λ news. Hears (message_in (view json.now)) (params_of (view json.now)) self.old news self.new) said.old.items said.new.items) }
+    {
+        let none = Value::Null;
+        self.hear_message(Message::of(json), params_in(json, &none), said)
+    }
+
+    /// Hears what a message asks, with its parameters.
+    fn hear_message(
+        &mut self,
+        message: Message<'_>,
+        params: &Value,
+        said: &mut Vec<u8>,
+    ) -> Result<(), AllocError>
+        requires { has_float_id (value_of message) ≡ false }
+        ensures { OnOk result (Adds (λ news. Hears (value_of message.entry) (view params.now) self.old news self.new) said.old.items said.new.items) }
+    {
+        match message {
+            Message::Request { id, method } => self.answer_request(id, method, params, said),
+            Message::Notification { method } => self.note(Notice::named(method), params, said),
+            Message::Response => Ok(()),
+            Message::Invalid => push_rejection(self.alloc, said, ErrorCode::InvalidRequest),
+        }
+    }
+
+    // ---- requests
+
+    /// Answers the request of a method under its identifier.
+    fn answer_request(
+        &mut self,
+        id: &Value,
+        method: &str,
+        params: &Value,
+        said: &mut Vec<u8>,
+    ) -> Result<(), AllocError>
+        requires { has_float (view id.now) ≡ false }
+        ensures { OnOk result (Adds (λ news. Hears (request (view id.now) method.now) (view params.now) self.old news self.new) said.old.items said.new.items) }
+    {
+        let request = Request::named(method);
+        let phase = self.phase;
+        self.move_by(request, params);
+        let owed = owed_to(self.alloc, phase, request, params)?;
+        push_answer(self.alloc, said, id, owed)
+    }
+
+    /// Goes where a request leads.
+    fn move_by(&mut self, request: Request, params: &Value)
+        ensures { self.new ≡ requests.after_request request (view params.now) self.old }
+    {
+        match (self.phase, request) {
+            (Phase::Uninitialized, Request::Initialize) => {
+                self.phase = Phase::Running;
+                self.encoding = encoding_in(params);
+            }
+            (Phase::Running, Request::Shutdown) => self.phase = Phase::ShutDown,
+            _ => {}
+        }
+    }
+
+    // ---- notifications
+
+    /// Does what a notification brings about.
+    fn note(&mut self, notice: Notice, params: &Value, said: &mut Vec<u8>) -> Result<(), AllocError>
+        ensures { OnOk result (Adds (λ news. notices.NotesIn self.old.phase notice (view params.now) self.old news self.new) said.old.items said.new.items) }
+    {
+        match (self.phase, notice) {
+            (_, Notice::Exit) => {
+                self.has_exited = true;
+                Ok(())
+            }
+            (Phase::Running, Notice::Open) => self.open(params, said),
+            (Phase::Running, Notice::Change) => self.change(params, said),
+            (Phase::Running, Notice::Close) => self.close(params, said),
+            _ => Ok(()),
+        }
+    }
+
+    /// Opens a text, and tells its marks. Wrong parameters do nothing.
+    fn open(&mut self, params: &Value, said: &mut Vec<u8>) -> Result<(), AllocError>
+        ensures { OnOk result (Adds (λ news. notices.OpensBy (view params.now) self.old news self.new) said.old.items said.new.items) }
+    {
+        let Some(opened) = OpenedText::of(params) else {
+            return Ok(());
+        };
+        let told = ToldText {
+            uri: opened.uri,
+            version: version_in(params),
+        };
+        let document = Document::open(self.alloc, self.hashing, opened.text.as_bytes())?;
+        self.keep(told, document, said)
+    }
+
+    /// Changes a text, and tells its marks. Wrong parameters do nothing.
+    fn change(&mut self, params: &Value, said: &mut Vec<u8>) -> Result<(), AllocError>
+        ensures { OnOk result (Adds (λ news. notices.ChangesBy (view params.now) self.old news self.new) said.old.items said.new.items) }
+    {
+        let Some(uri) = uri_in(params) else {
+            return Ok(());
+        };
+        let Some(changes) = changes_in(self.alloc, params)? else {
+            return Ok(());
+        };
+        let told = ToldText {
+            uri,
+            version: version_in(params),
+        };
+        self.change_text(told, &changes, said)
+    }
+
+    /// Changes the text under a URI, if one is open there, and tells its marks.
+    fn change_text(
+        &mut self,
+        told: ToldText<'_>,
+        changes: &[Change<'_>],
+        said: &mut Vec<u8>,
+    ) -> Result<(), AllocError>
+        ensures { OnOk result (Adds (λ news. notices.ChangesText self.old told.entry.uri.now told.entry.version (map told_params.value_of changes.now)
+            (text_under told.entry.uri.now self.old.texts) news self.new) said.old.items said.new.items) }
+    {
+        let Some(document) = self.texts.take(told.uri) else {
+            return Ok(());
+        };
+        let document = changed_by(document, self.encoding, changes)?;
+        self.keep(told, document, said)
+    }
+
+    /// Closes a text. Wrong parameters do nothing.
+    fn close(&mut self, params: &Value, said: &mut Vec<u8>) -> Result<(), AllocError>
+        ensures { OnOk result (Adds (λ news. notices.Closes self.old (told_params.uri_in (view params.now)) news self.new) said.old.items said.new.items) }
+    {
+        match uri_in(params) {
+            Some(uri) => self.close_text(uri, said),
+            None => Ok(()),
+        }
+    }
+
+    /// Closes the text under a URI, if one is open there, and tells that it has no diagnostics.
+    fn close_text(&mut self, uri: &str, said: &mut Vec<u8>) -> Result<(), AllocError>
+        ensures { OnOk result (Adds (λ news. notices.ClosesText self.old uri.now (text_under uri.now self.old.texts) news self.new) said.old.items said.new.items) }
+    {
+        let Some(document) = self.texts.take(uri) else {
+            return Ok(());
+        };
+        drop(document);
+        say_closed(self.alloc, uri, said)
+    }
+
+    /// Keeps a text open, in the place of another under its URI, and tells its marks.
+    fn keep(
+        &mut self,
+        told: ToldText<'_>,
+        document: Document,
+        said: &mut Vec<u8>,
+    ) -> Result<(), AllocError>
+        ensures { OnOk result (Adds (λ news. notices.TakesText self.old told.entry.uri.now told.entry.version document news self.new) said.old.items said.new.items) }
+    {
+        say_text(self.alloc, self.encoding, told, &document, said)?;
+        drop(self.texts.take(told.uri));
+        self.texts.push(told.uri, document)
+    }
+}
+
+/// A document with changes, one after another.
+fn changed_by(
+    document: Document,
+    encoding: Encoding,
+    changes: &[Change<'_>],
+) -> Result<Document, AllocError>
+    ensures { IfOk result (λ new. new ≡ notices.changed_by encoding (map told_params.value_of changes.now) document) }
+{
+    let mut document = document;
+    for change in changes {
+        document = document.change(encoding, change.range, change.text.as_bytes())?;
+    }
+    Ok(document)
+}
+
+/// The parameters of a message; `none`, which is null, where it has none.
+fn params_in<'a>(json: &'a Value, none: &'a Value) -> &'a Value
+    requires { view none.now ≡ null }
+    ensures { view result.now ≡ params_of (view json.now) }
+{
+    match json.get("params") {
+        Some(params) => params,
+        None => none,
+    }
+}
