@@ -148,7 +148,7 @@ fn message_of(alloc: Global, line: &[u8], told: &Diagnostic) -> Result<Vec<u8>, 
 }
 
 /// A text from its first character on that is no blank.
-fn unindented(text: &[u8]) -> &[u8] {
+pub fn unindented(text: &[u8]) -> &[u8] {
     match text {
         [b' ', rest @ ..] => unindented(rest),
         _ => text,

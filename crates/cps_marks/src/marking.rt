@@ -5,7 +5,7 @@ ghost use Rattle.cps_marks.specs.Adding.{Adds, AddsEnd, AddsLines, excess_of};
 ghost use Rattle.cps_marks.specs.Marks.{Marks, place_of};
 
 use crate::kind::Kind;
-use crate::line_marks::push_marks;
+use crate::line_marks::{push_marks, unindented};
 use crate::mark::Mark;
 use cps_assembly::View;
 use cps_document::Document;
@@ -69,12 +69,14 @@ fn push_end(alloc: Global, document: &Document, marks: &mut Vec<Mark>) -> Result
     };
     let count = session.count();
     let line = card_at(document, count);
-    let columns = Columns::behind(0, line.len()).within(line.len());
+    let width = unindented(line).len();
+    let columns = Columns::behind(line.len().saturating_sub(width), width).within(line.len());
     let mut message = Vec::new(alloc);
     cause.push_words(&mut message, Quotation::of(line, columns), &NoPlaces)?;
     let letter = cause.letter();
+    let last = count.saturating_sub(1);
     marks.push(Mark {
-        line: count.saturating_sub(1),
+        line: last,
         columns,
         kind: Kind::Flag(letter),
         message,
