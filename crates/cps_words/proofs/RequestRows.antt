@@ -7,7 +7,7 @@ use Rattle.cps_compare.specs.declared.limits.Limits.{Limits}
 use Rattle.cps_list.specs.declared.part.Part.TheVariants.{Listing, Binary, Symbols, Flags, All}
 use Rattle.cps_output.specs.Outputs.{Names}
 use Rattle.cps_words.specs.Request.{answer_of, asks, refuses, request_of, tells}
-use Rattle.cps_words.specs.Task.{batch, export, session, check, compare, explain}
+use Rattle.cps_words.specs.Task.{batch, export, session, check, compare, explain, server}
 
 -- a call's words, after the program's name
 abbrev call : List Text → List Text
@@ -288,3 +288,37 @@ explain_two = refl
 explain_help : answer_of (call (codes "explain" ∷ codes "--help" ∷ [])) ≡ tells
 unfolding clap_on_literals
 explain_help = refl
+
+-- ---- `server`
+
+server_row : answer_of (call (codes "server" ∷ [])) ≡ asks server None
+unfolding clap_on_literals
+server_row = refl
+
+server_over_standard_input : answer_of (call (codes "server" ∷ codes "--stdio" ∷ [])) ≡ asks server None
+unfolding clap_on_literals
+server_over_standard_input = refl
+
+value_of_a_flag : answer_of (call (codes "server" ∷ codes "--stdio=true" ∷ [])) ≡ refuses
+unfolding clap_on_literals
+value_of_a_flag = refl
+
+flag_given_twice : answer_of (call (codes "server" ∷ codes "--stdio" ∷ codes "--stdio" ∷ [])) ≡ refuses
+unfolding clap_on_literals
+flag_given_twice = refl
+
+file_of_a_server : answer_of (call (codes "server" ∷ codes "deck.cps" ∷ [])) ≡ refuses
+unfolding clap_on_literals
+file_of_a_server = refl
+
+flag_of_a_session : answer_of (call (codes "session" ∷ codes "--stdio" ∷ [])) ≡ refuses
+unfolding clap_on_literals
+flag_of_a_session = refl
+
+server_help : answer_of (call (codes "server" ∷ codes "--help" ∷ [])) ≡ tells
+unfolding clap_on_literals
+server_help = refl
+
+help_of_the_server : answer_of (call (codes "help" ∷ codes "server" ∷ [])) ≡ tells
+unfolding clap_on_literals
+help_of_the_server = refl

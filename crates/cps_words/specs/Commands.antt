@@ -2,12 +2,17 @@
 use Rattle.std.specs.Prelude.{true, false, [], ◌∷◌, Some, codes}
 use Rattle.clap.specs.Words.{App, Rule, Shape, Text, new_rule}
 use Rattle.clap.specs.Simple.{new_shape}
+use Rattle.clap.specs.declared.builder.action.ArgAction.TheVariants.{SetTrue}
 
 -- ---- options and operands
 
 -- `--NAME VALUE`, which may be left out
 abbrev pub option_rule : Text → Rule
 option_rule name = record (new_rule name) { long = Some name; value_names = 1 }
+
+-- `--NAME`, which has no value and may be left out
+abbrev pub flag_rule : Text → Rule
+flag_rule name = record (new_rule name) { long = Some name; action = Some SetTrue }
 
 -- an operand, which may be left out
 abbrev pub operand_rule : Text → Rule
@@ -54,6 +59,10 @@ compare_shape = record (new_shape (codes "compare")) {
 abbrev pub explain_shape : Shape
 explain_shape = record (new_shape (codes "explain")) { rules = wanted_rule (codes "word") ∷ [] }
 
+-- `server [--stdio]`
+abbrev pub server_shape : Shape
+server_shape = record (new_shape (codes "server")) { rules = flag_rule (codes "stdio") ∷ [] }
+
 -- `help [COMMAND]`
 abbrev pub help_shape : Shape
 help_shape = record (new_shape (codes "help")) { rules = operand_rule (codes "command") ∷ [] }
@@ -74,5 +83,5 @@ bare_compass = record { top = compass_shape; subs = [] }
 abbrev pub compass : App
 compass = record {
   top = record compass_shape { is_leaf = false };
-  subs = batch_shape ∷ session_shape ∷ check_shape ∷ compare_shape ∷ explain_shape ∷ help_shape ∷ [];
+  subs = batch_shape ∷ session_shape ∷ check_shape ∷ compare_shape ∷ explain_shape ∷ server_shape ∷ help_shape ∷ [];
 }

@@ -10,13 +10,13 @@ use Rattle.cps_list.specs.declared.part.Part.TheVariants.{All}
 use Rattle.cps_output.specs.Outputs.{Names}
 use Rattle.cps_words.specs.Commands.{compass}
 use Rattle.cps_words.specs.Values.{are_apart, file_in, is_command, limits_in, names_in, octal_in, part_in, wants_no_file, word_explained}
-use Rattle.cps_words.specs.Task.{Task, batch, export, session, check, compare, explain, task_of}
+use Rattle.cps_words.specs.Task.{Task, batch, export, session, check, compare, explain, server, task_of}
 use Rattle.cps_words.specs.declared.request.Call.{Call}
 use Rattle.cps_words.specs.declared.unread.Unread.{Unread}
 use Rattle.cps_words.specs.declared.unread.Unread.TheVariants.{Told, Wrong, Memory}
 
--- What the words ask, with the name of a file; None is standard input, for a session no line, and for a word that is explained nothing. Or that the
--- help or the version is told; or that the words are wrong.
+-- What the words ask, with the name of a file; None is standard input, for a session no line, and for a word that is explained nothing. A server has
+-- none. Or that the help or the version is told; or that the words are wrong.
 pub data Answer : Type 0 where
   asks : Task → Option Text → Answer
   tells : Answer
@@ -62,6 +62,7 @@ answer_named name rows = if bytes_eq name (codes "batch") then answer_of_batch r
     else if bytes_eq name (codes "check") then asks check (file_in rows)
     else if bytes_eq name (codes "compare") then answer_of_compare rows
     else if bytes_eq name (codes "explain") then asks (explain (word_explained rows)) None
+    else if bytes_eq name (codes "server") then asks server None
     else if bytes_eq name (codes "help") then answer_of_help (first_of (codes "command") rows)
     else refuses
 

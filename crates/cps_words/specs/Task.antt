@@ -6,10 +6,10 @@ use Rattle.cps_list.specs.declared.part.Part.{Part}
 use Rattle.cps_compare.specs.declared.limits.Limits.{Limits}
 use Rattle.cps_output.specs.Outputs.{Names, names_of}
 use Rattle.cps_words.specs.declared.request.Request.{Request}
-use Rattle.cps_words.specs.declared.request.Request.TheVariants.{Batch, Export, Session, Check, Compare, Explain}
+use Rattle.cps_words.specs.declared.request.Request.TheVariants.{Batch, Export, Session, Check, Compare, Explain, Server}
 
 -- to assemble a source and write a part of that; the same, with texts that go into files, where no part may be wanted; to run a script; to tell what is wrong in a source; to compare one with an octal text,
--- which is standard input where it has no name; to explain a flag or an operation
+-- which is standard input where it has no name; to explain a flag or an operation; to answer an editor
 pub data Task : Type 0 where
   batch : Part → Task
   export : Names → Option Part → Task
@@ -17,6 +17,7 @@ pub data Task : Type 0 where
   check : Task
   compare : Option Text → Limits → Task
   explain : Text → Task
+  server : Task
 
 -- what a request of the code asks
 abbrev pub task_of : Request → Task
@@ -26,3 +27,4 @@ task_of Session = session
 task_of Check = check
 task_of (Compare comparand) = compare (option_map (λ (name : Bor Text). name.now) comparand.octal) comparand.limits
 task_of (Explain word) = explain word.now
+task_of Server = server

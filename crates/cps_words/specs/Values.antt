@@ -64,7 +64,7 @@ are_apart source names =
 -- a word is the name of a command
 abbrev pub is_command : Text → Bool
 is_command word = list_any (bytes_eq word)
-    (codes "batch" ∷ codes "session" ∷ codes "check" ∷ codes "compare" ∷ codes "explain" ∷ codes "help" ∷ [])
+    (codes "batch" ∷ codes "session" ∷ codes "check" ∷ codes "compare" ∷ codes "explain" ∷ codes "server" ∷ codes "help" ∷ [])
 
 -- the word that is to be explained
 abbrev pub word_explained : List Row → Text

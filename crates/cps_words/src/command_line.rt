@@ -3,13 +3,14 @@ ghost use Rattle.std.specs.Prelude.{◌≡◌, IfOk, false};
 ghost use Rattle.clap.specs.Words.{app_of, new_app, rule_of, with_rule, with_subcommand};
 ghost use Rattle.clap.specs.Simple.{shape_of};
 ghost use Rattle.clap.specs.declared.builder.command.Command.TheViews.{out-Command};
-ghost use Rattle.cps_words.specs.Commands.{bare_compass, batch_shape, check_shape, compare_shape, compass, explain_shape, help_shape, operand_rule, option_rule, session_shape, wanted_rule};
+ghost use Rattle.cps_words.specs.Commands.{bare_compass, batch_shape, check_shape, compare_shape, compass, explain_shape, flag_rule, help_shape, operand_rule, option_rule, server_shape, session_shape, wanted_rule};
 
 use super::helps::{
     ABOUT, BATCH_ABOUT, BATCH_MORE, CHECK_ABOUT, CHECK_MORE, COMPARE_ABOUT, COMPARE_MORE,
-    EXPLAIN_ABOUT, EXPLAIN_MORE, HELP_ABOUT, HELP_MORE, MORE, SESSION_ABOUT, SESSION_MORE,
+    EXPLAIN_ABOUT, EXPLAIN_MORE, HELP_ABOUT, HELP_MORE, MORE, SERVER_ABOUT, SERVER_MORE,
+    SESSION_ABOUT, SESSION_MORE,
 };
-use clap::{Arg, Command};
+use clap::{Arg, ArgAction, Command};
 use std::alloc::{AllocError, Global};
 
 const VERSION: &str = "0.9.0";
@@ -23,6 +24,7 @@ pub fn compass_command<'a>(alloc: Global) -> Result<Command<'a>, AllocError>
     let command = with_command(command, check_command(alloc)?)?;
     let command = with_command(command, compare_command(alloc)?)?;
     let command = with_command(command, explain_command(alloc)?)?;
+    let command = with_command(command, server_command(alloc)?)?;
     with_command(command, help_command(alloc)?)
 }
 
@@ -168,6 +170,21 @@ fn explain_command<'a>(alloc: Global) -> Result<Command<'a>, AllocError>
     )
 }
 
+fn server_command<'a>(alloc: Global) -> Result<Command<'a>, AllocError>
+    ensures shape { IfOk result (λ command. shape_of command ≡ server_shape) }
+    ensures local { IfOk result (λ command. (out-Command command).has_globals ≡ false) }
+{
+    let command = bare_command(alloc, "server", SERVER_ABOUT, SERVER_MORE);
+    with_argument(
+        command,
+        flag(
+            alloc,
+            "stdio",
+            "Means nothing: some editors add it by themselves",
+        ),
+    )
+}
+
 fn help_command<'a>(alloc: Global) -> Result<Command<'a>, AllocError>
     ensures shape { IfOk result (λ command. shape_of command ≡ help_shape) }
     ensures local { IfOk result (λ command. (out-Command command).has_globals ≡ false) }
@@ -194,6 +211,17 @@ fn option<'a>(alloc: Global, name: &'a str, value: &'a str, help: &'a str) -> Ar
     Arg::new(alloc, name)
         .long(name)
         .value_name(value)
+        .help(help)
+}
+
+/// `--NAME`, which has no value and may be left out.
+fn flag<'a>(alloc: Global, name: &'a str, help: &'a str) -> Arg<'a>
+    ensures rule { rule_of result ≡ flag_rule name.entry.now }
+    ensures local { result.global ≡ false }
+{
+    Arg::new(alloc, name)
+        .long(name)
+        .action(ArgAction::SetTrue)
         .help(help)
 }
 

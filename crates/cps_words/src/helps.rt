@@ -4,13 +4,14 @@ pub const ABOUT: &str = "A cross-assembler for COMPASS Version 3 of the CDC 6000
 
 pub const MORE: &str = "\
 A source (batch, check, compare) is read from a file or from standard input, a
-script (session) from standard input, and what is asked for is written to
-standard output; batch also writes texts into files. 'compass COMMAND --help'
-says more.
+script (session) or what an editor sends (server) from standard input, and what
+is asked for is written to standard output; batch also writes texts into files.
+'compass COMMAND --help' says more.
 
 Exit status:
   0  no line is flagged, and no word differs (compare)
-  1  a line is flagged, a range is open at the end, or a word differs (compare)
+  1  a line is flagged, a range is open at the end, a word differs (compare), or
+     an editor ends without a shutdown (server)
   2  a fault, which is said on standard error";
 
 pub const BATCH_ABOUT: &str = "Assemble a source";
@@ -107,6 +108,17 @@ Exit status:
   0  WORD is explained
   2  there is no such flag or operation, or a fault, which is said on standard
      error";
+
+pub const SERVER_ABOUT: &str = "Answer an editor by the Language Server Protocol";
+
+pub const SERVER_MORE: &str = "\
+It answers an editor by the Language Server Protocol, over standard input and
+output. It ends when the editor sends 'exit', or sends no more.
+
+Exit status:
+  0  'shutdown' came before the end
+  1  it didn't
+  2  a fault, which is said on standard error";
 
 pub const HELP_ABOUT: &str = "Write the help of the program or of a command";
 

@@ -33,13 +33,15 @@ pub enum Request<'a> {
     Compare(Comparand<'a>),
     /// To explain a flag, by its letter, or an operation, by its name.
     Explain(&'a str),
+    /// To answer an editor.
+    Server,
 }
 
 /// What a call asks, and of which file.
 #[derive(Clone, Copy)]
 pub struct Call<'a> {
     pub request: Request<'a>,
-    /// The file's name, None for standard input. Of a session None where it begins with no line; where a word is explained there is none.
+    /// The file's name, None for standard input. Of a session None where it begins with no line; an explanation and a server have none.
     pub file: Option<&'a str>,
 }
 
@@ -86,6 +88,10 @@ fn read_command<'a>(alloc: Global, name: &str, values: &ArgMatches<'a>) -> Resul
         "compare" => read_compare(alloc, values),
         "explain" => Ok(Call {
             request: Request::Explain(word_in(values, "word").unwrap_or("")),
+            file: None,
+        }),
+        "server" => Ok(Call {
+            request: Request::Server,
             file: None,
         }),
         "help" => read_help(alloc, word_in(values, "command")),
