@@ -18,7 +18,7 @@ use Rattle.cps_output.specs.Outputs.{name_of, names_of}
 use Rattle.cps_output.specs.Placing.{Placed}
 use Rattle.std.specs.Borrow.{Bor}
 use Rattle.std.specs.Prelude.{option_map, unwrap_or}
-use Rattle.cps_words.specs.Task.{task_of, Task, batch, export, check, compare, explain, session}
+use Rattle.cps_words.specs.Task.{task_of, Task, batch, export, check, compare, explain, server, session}
 use Rattle.cps_tool.specs.CommandLine.{Calls, ChecksAs, Compares, EditsFile, Exported, IsOpened, IsUndone, RunsFrom, Serves, ServesCall, ServesOne, ServesWith, TellsUnread, WithFile, status_of, told_name}
 use Rattle.cps_tool.specs.Files.{AreFiles, ComparesFiles}
 use Rattle.cps_tool.specs.declared.comparing.Files.{Files}
@@ -50,6 +50,7 @@ module _ {R W : Type 0} (remaining : R → Option (List ℕ)) (contents : W → 
       go (asks session None) s = s
       go (asks check None) s = s
       go (asks (explain word) None) s = s
+      go (asks server None) s = s
       go (asks (compare octal limits) None) (inl idle) = inl idle
       go (asks (compare octal limits) None) (inr calls) = elim calls [ ]
       go (asks (batch part) (Some name)) s = inl s
@@ -57,6 +58,7 @@ module _ {R W : Type 0} (remaining : R → Option (List ℕ)) (contents : W → 
       go (asks session (Some name)) s = inl s
       go (asks check (Some name)) s = inl s
       go (asks (explain word) (Some name)) s = inl s
+      go (asks server (Some name)) s = inl s
       go (asks (compare octal limits) (Some name)) s = inl s
       go tells s = s
       go refuses s = s
@@ -76,6 +78,7 @@ module _ {T F R W : Type 0} (holds : T → List ℕ → Option (List ℕ)) (plac
   serves_call (asks check file) s = (s, refl)
   serves_call (asks (compare octal limits) file) s = (s, refl)
   serves_call (asks (explain word) file) s = (s, refl)
+  serves_call (asks server file) s = (s, refl)
   serves_call tells s = (s, refl)
   serves_call refuses s = (s, refl)
 

@@ -15,7 +15,9 @@ use Rattle.cps_manual.specs.Manual as manual
 use Rattle.cps_output.specs.declared.export_fault.ExportFault.{ExportFault}
 use Rattle.cps_output.specs.Export.{Exports, Wanted}
 use Rattle.cps_output.specs.Placing.{Placed}
-use Rattle.cps_words.specs.Task.{Task, batch, export, session, check, compare, explain}
+use Rattle.cps_server.specs.Running.{RunsServer}
+use Rattle.cps_serving.specs.declared.fault.ServerFault.{ServerFault}
+use Rattle.cps_words.specs.Task.{Task, batch, export, session, check, compare, explain, server}
 use Rattle.cps_words.specs.Shown.{shown}
 use Rattle.cps_words.specs.declared.unread.Unread.{Unread}
 use Rattle.cps_words.specs.declared.unread.Unread.TheVariants.{Told, Wrong, Memory}
@@ -32,6 +34,10 @@ status_with count = if count == 0 then 0 else 1
 abbrev pub status_if : Bool → ℕ
 status_if is_wrong = if is_wrong then 1 else 0
 
+-- the status where `shutdown` came before the end, or didn't
+abbrev pub status_at_end : Bool → ℕ
+status_at_end was_shut_down = if was_shut_down then 0 else 1
+
 -- 2 after a fault, else 1 where a line is flagged or a word differs, else 0
 abbrev pub status_of : {F : Type 0} → Result ℕ F → ℕ
 status_of (Ok count) = status_with count
@@ -41,6 +47,11 @@ status_of (Err fault) = 2
 abbrev pub status_of_check : {F : Type 0} → Result Bool F → ℕ
 status_of_check (Ok is_wrong) = status_if is_wrong
 status_of_check (Err fault) = 2
+
+-- 2 after a fault, else 0 where `shutdown` came before the end, else 1
+abbrev pub status_of_server : {F : Type 0} → Result Bool F → ℕ
+status_of_server (Ok was_shut_down) = status_at_end was_shut_down
+status_of_server (Err fault) = 2
 
 -- nothing was done: the words are wrong, a file can't be opened, or there was no memory for either
 abbrev pub IsUndone : {R W : Type 0} → ℕ → Counted R → Counted R → Counted W → Counted W → Type 0
@@ -76,7 +87,8 @@ ChecksAs remaining contents name status reader reader' writer writer' =
     (result : Result Bool CheckFault) × (status ≡ status_of_check result) × RunsCheck remaining contents name result reader reader' writer writer'
 
 -- What is done that the words ask with one input, which is the file of that name, or standard input: batch assembly; or the script of a session that
--- begins with no line; or a check; or a word is explained, and nothing is read. A comparison has two inputs, and an export writes files.
+-- begins with no line; or a check; or a word is explained, and nothing is read; or an editor is answered. A comparison has two inputs, and an export
+-- writes files.
 abbrev pub Calls : {R W : Type 0} → (R → Option (List ℕ)) → (W → Option (List ℕ)) → Task → Option Text → ℕ
     → Counted R → Counted R → Counted W → Counted W → Type 0
 Calls remaining contents (batch part) named status reader reader' writer writer' =
@@ -85,6 +97,8 @@ Calls remaining contents session named status reader reader' writer writer' = Ru
 Calls remaining contents check named status reader reader' writer writer' = ChecksAs remaining contents (told_name named) status reader reader' writer writer'
 Calls remaining contents (explain word) named status reader reader' writer writer' =
     (reader' ≡ reader) × ((text : List ℕ) × Explains word text × TellsText contents status text writer writer')
+Calls remaining contents server named status reader reader' writer writer' =
+    (result : Result Bool ServerFault) × (status ≡ status_of_server result) × RunsServer remaining contents result reader reader' writer writer'
 Calls remaining contents (export names part) named status reader reader' writer writer' = ⊥
 Calls remaining contents (compare octal limits) named status reader reader' writer writer' = ⊥
 

@@ -8,12 +8,14 @@ ghost use Rattle.cps_words.specs.Task.{task_of};
 use super::host::Host;
 use super::sessions::run_script_over;
 use super::telling::{
-    NO_FILES, NO_MEMORY, complain, complain_of, status_of_check, status_of_count, tell,
+    NO_FILES, NO_MEMORY, complain, complain_of, status_of_check, status_of_count, status_of_end,
+    tell,
 };
 use cps_batch::batch;
 use cps_check::check;
 use cps_list::Part;
 use cps_manual::manual_text;
+use cps_server::run_server;
 use cps_session::Session;
 use cps_text::Counted;
 use cps_words::{Call, Request, shown};
@@ -43,6 +45,7 @@ pub fn run_request<'a, S, R: Read, W: Write, E: Write>(
         },
         Request::Export(_, _) | Request::Compare(_) => complain(errors, NO_FILES),
         Request::Explain(word) => run_explanation(host, word, writer, errors),
+        Request::Server => run_service(host, reader, writer, errors),
     }
 }
 
@@ -92,6 +95,22 @@ fn run_check<S, R: Read, W: Write, E: Write>(
 {
     match check(host.alloc, host.hashing, name, reader, writer) {
         Ok(is_wrong) => status_of_check(is_wrong),
+        Err(fault) => complain_of(errors, fault),
+    }
+}
+
+/// Answers an editor.
+fn run_service<S, R: Read, W: Write, E: Write>(
+    host: &Host<S>,
+    reader: &mut Counted<R>,
+    writer: &mut Counted<W>,
+    errors: &mut Counted<E>,
+) -> u8
+    ensures calls { Calls R.remaining W.contents tasks.server None result reader.old reader.new writer.old writer.new }
+    ensures quiet { IsQuiet result errors.old errors.new }
+{
+    match run_server(host.alloc, host.hashing, reader, writer) {
+        Ok(was_shut_down) => status_of_end(was_shut_down),
         Err(fault) => complain_of(errors, fault),
     }
 }

@@ -1,6 +1,6 @@
 //! What a call tells: what was asked for, or what is wrong.
 ghost use Rattle.std.specs.Prelude.{◌≡◌};
-ghost use Rattle.cps_tool.specs.CommandLine.{status_if, status_with, TellsText, TellsUnread, IsQuiet};
+ghost use Rattle.cps_tool.specs.CommandLine.{status_at_end, status_if, status_with, TellsText, TellsUnread, IsQuiet};
 
 use super::writing::write_bytes;
 use arrayvec::ArrayString;
@@ -47,6 +47,13 @@ pub fn status_of_check(is_wrong: bool) -> u8
     ensures { result ≡ status_if is_wrong }
 {
     if is_wrong { FLAGGED } else { CLEAN }
+}
+
+/// The status after an editor was answered, by whether `shutdown` came before the end.
+pub fn status_of_end(was_shut_down: bool) -> u8
+    ensures { result ≡ status_at_end was_shut_down }
+{
+    if was_shut_down { CLEAN } else { FLAGGED }
 }
 
 /// Writes what was asked for.

@@ -19,8 +19,9 @@ use std::alloc::Global;
 use std::io::{Read, Write};
 
 /// Does what the words of a call ask, the first of which is the program's name: batch assembly of a source, its check, the script
-/// of a session, or the explanation of a word. The status is 0, or 1 where a line of the source is flagged or wrong, or 2 after a fault,
-/// which is told to `errors`. With another status nothing is written to `errors`.
+/// of a session, the explanation of a word, or the answers to an editor. The status is 0, or 1 where a line of the source is flagged or
+/// wrong, or an editor ends without a shutdown, or 2 after a fault, which is told to `errors`. With another status nothing is written to
+/// `errors`.
 ///
 /// Help and version, where they are asked for, go to `writer`, with status 0 where it takes them whole. Wrong words are
 /// told to `errors`. A file that is named is refused: `run_call` reads and writes files.
