@@ -4,12 +4,13 @@
 # The words that begin with - or name a command, by the command that stands before them.
 _compass_words() {
   case $1 in
-    '') echo 'batch session check compare explain help -h --help -V --version' ;;
+    '') echo 'batch session check compare explain server help -h --help -V --version' ;;
     batch) echo '--part --listing --binary --symbols --flags -h --help' ;;
     session) echo '--source -h --help' ;;
     check) echo '-h --help' ;;
     compare) echo '--from --to --columns -h --help' ;;
     explain) echo '-h --help' ;;
+    server) echo '--stdio -h --help' ;;
     help) echo '-h --help' ;;
   esac
 }
@@ -39,7 +40,7 @@ _compass() {
         *,-*) _compass_offer -W "$(_compass_words "$command")" ;;
         ,*) _compass_offer -X '-*' -W "$(_compass_words '')" ;;
         explain,*) _compass_offer -W 'A D E L O T U V' ;;
-        help,*) _compass_offer -W 'batch session check compare explain help' ;;
+        help,*) _compass_offer -W 'batch session check compare explain server help' ;;
         batch,* | check,* | compare,*) _compass_offer_files ;;
       esac
       ;;

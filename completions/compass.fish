@@ -27,5 +27,8 @@ complete -c compass -n '__fish_seen_subcommand_from compare' -l columns -x -d 'C
 complete -c compass -n __fish_use_subcommand -a explain -d 'Explain a flag or an operation'
 complete -c compass -n '__fish_seen_subcommand_from explain' -a 'A D E L O T U V' -d 'Flag'
 
+complete -c compass -n __fish_use_subcommand -a server -d 'Answer an editor by the Language Server Protocol'
+complete -c compass -n '__fish_seen_subcommand_from server' -l stdio -d 'Means nothing'
+
 complete -c compass -n __fish_use_subcommand -a help -d 'Write the help of the program or of a command'
-complete -c compass -n '__fish_seen_subcommand_from help' -a 'batch session check compare explain help' -d 'Command'
+complete -c compass -n '__fish_seen_subcommand_from help' -a 'batch session check compare explain server help' -d 'Command'

@@ -197,9 +197,17 @@ EXPLAINED = [
     (["explain", "LJM"], b"A\n", 0, PERIPHERAL + b"LJM   m or m,d  24 bits  01dd mmmm\n", b""),
 ]
 
+# an editor that sends nothing, or no message: its header tells no length, or is none
+EDITORS = [
+    (["server"], b"", 1, b"", b""),
+    (["server", "--stdio"], b"", 1, b"", b""),
+    (["server"], b"x: \n\n", 2, b"", b"bad header\n"),
+    (["server"], b"{}\n\n", 2, b"", b"bad header\n"),
+]
+
 # words that ask nothing
 WORDS = [
-    refused([], b"'compass' requires a subcommand but one was not provided\n  [subcommands: batch, session, check, compare, explain, help]\n\nUsage: compass <COMMAND>"),
+    refused([], b"'compass' requires a subcommand but one was not provided\n  [subcommands: batch, session, check, compare, explain, server, help]\n\nUsage: compass <COMMAND>"),
     refused(["other"], b"unrecognized subcommand 'other'\n\nUsage: compass <COMMAND>"),
     refused(["oth\x1b\x9ber"], b"unrecognized subcommand 'oth??er'\n\nUsage: compass <COMMAND>"),
     refused(["batch", "--part", "other"], b"invalid value 'other' for '--part <PART>'\n  [possible values: " + PARTS + b"]"),
@@ -212,10 +220,11 @@ WORDS = [
     refused(["session", "--source", "-"], b"invalid value '-' for '--source <FILE>': standard input has the script"),
     refused(["help", "other"], b"unrecognized subcommand 'other'"),
     refused(["help", "batch", "more"], b"unexpected argument 'more' found\n\nUsage: compass help [COMMAND]"),
+    refused(["server", DECK], b"unexpected argument '" + DECK.encode() + b"' found\n\nUsage: compass server [OPTIONS]"),
     refused(["session", "name"], b"unexpected argument 'name' found\n\nUsage: compass session [OPTIONS]"),
 ]
 
-CALLS = TEXTS + LONG + LINES + WRONG_LINES + SCRIPTS + LIMITS + FILES + SOURCES + EXPLAINED + WORDS
+CALLS = TEXTS + LONG + LINES + WRONG_LINES + SCRIPTS + LIMITS + FILES + SOURCES + EXPLAINED + EDITORS + WORDS
 
 # words that ask for help or the version, and what is written among other lines, none of which has more than 80 columns
 HELPS = [
@@ -225,12 +234,14 @@ HELPS = [
     (["check", "--help"], b"Usage: compass check [FILE]"),
     (["compare", "--help"], b"Usage: compass compare [OPTIONS] <OCTAL> [FILE]"),
     (["explain", "--help"], b"Usage: compass explain <WORD>"),
+    (["server", "--help"], b"Usage: compass server [OPTIONS]"),
     (["help"], b"Usage: compass <COMMAND>"),
     (["help", "batch"], b"Usage: compass batch [OPTIONS] [FILE]"),
     (["help", "session"], b"Usage: compass session"),
     (["help", "check"], b"Usage: compass check [FILE]"),
     (["help", "compare"], b"Usage: compass compare [OPTIONS] <OCTAL> [FILE]"),
     (["help", "explain"], b"Usage: compass explain <WORD>"),
+    (["help", "server"], b"Usage: compass server [OPTIONS]"),
     (["help", "help"], b"Usage: compass help [COMMAND]"),
     (["--version"], b"compass "),
 ]

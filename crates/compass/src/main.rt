@@ -6,8 +6,9 @@
 //! `compass check [FILE]` tells of each flag, and of each byte that no line may have.
 //! `compass compare OCTAL [FILE]` tells which words of a source differ from an octal text.
 //! `compass explain WORD` tells of a flag or an operation.
-//! The status is 0, or 1 where a line of the source is flagged or a word differs, or 2 after a fault, which is told to standard
-//! error.
+//! `compass server` answers an editor.
+//! The status is 0, or 1 where a line of the source is flagged, a word differs or an editor ends without a shutdown, or 2 after a
+//! fault, which is told to standard error.
 #![tactic(auto)]
 
 mod disk;
