@@ -1,4 +1,4 @@
-//! Calls of the program whose devices fail.
+//! Calls of the program whose devices fail, and of its server.
 use super::assertions::{assert_bytes, assert_same};
 use cps_devices::{SlowReader, SlowWriter};
 use cps_text::Counted;
@@ -92,4 +92,31 @@ fn tells_failed_writes(rt: HostRuntime) {
     for (words, room, told) in ROWS.iter() {
         assert_told(&rt, rt.alloc(), words, *room, told);
     }
+}
+
+/// An editor that sends nothing is told nothing. Where it sends no message, that is told: its header tells no length, or a name
+/// of a field begins with a brace.
+#[test]
+fn answers_an_editor(rt: HostRuntime) {
+    const ROWS: [(&[u8], u8, &str); 3] = [
+        (b"", 1, ""),
+        (b"x: \n\n", 2, "bad header\n"),
+        (b"{}\n\n", 2, "bad header\n"),
+    ];
+    for (input, status, told) in ROWS.iter() {
+        let mut reader = Counted::new(*input);
+        let got = call_with(rt.alloc(), &["compass", "server"], &mut reader);
+        assert_call(&rt, &got, *status, "", told);
+    }
+}
+
+/// An editor that can't be read.
+#[test]
+fn tells_an_editor_that_fails(rt: HostRuntime) {
+    let mut reader = Counted::new(SlowReader {
+        rest: b"",
+        fails: true,
+    });
+    let got = call_with(rt.alloc(), &["compass", "server", "--stdio"], &mut reader);
+    assert_call(&rt, &got, 2, "", "read fault\n");
 }

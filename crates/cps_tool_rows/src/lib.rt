@@ -2,7 +2,7 @@
 //!
 //! - `assertions.rt`: assertions
 //! - `batch_rows.rt`: sources that are read whole
-//! - `call_rows.rt`: calls of the program whose devices fail
+//! - `call_rows.rt`: calls of the program whose devices fail, and of its server
 //! - `run_rows.rt`: what is done with devices, and what is counted of them
 //! - `running.rt`: runs of scripts and of batch assembly
 #![tactic(auto)]
