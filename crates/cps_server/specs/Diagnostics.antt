@@ -56,6 +56,10 @@ abbrev pub TellsMark : Encoding → List (List ℕ) → Mark → Data → Type 0
 TellsMark encoding lines mark json =
     (message : List ℕ) × (json ≡ diagnostic mark.kind (range_of encoding (slice_index_or lines mark.line []) mark) message)
 
+-- marks are told, each by a diagnostic, and nothing else
+abbrev pub TellsMarks : Encoding → List (List ℕ) → List Mark → List Data → Type 0
+TellsMarks encoding lines marks told = AllZip (TellsMark encoding lines) marks told
+
 -- ---- a text
 
 -- a list of diagnostics, told of the document of a URI, and of this version if it is known
@@ -67,10 +71,10 @@ told_of uri (Some version) list =
 abbrev pub published : List ℕ → Option ℤ → List Data → Data
 published uri version told = notification (codes "textDocument/publishDiagnostics") (told_of uri version (array (items_of told)))
 
--- the marks of a text are told, each by a diagnostic, and nothing else
+-- the marks of a text are told, and nothing else
 pub record TellsText (encoding : Encoding) (uri : List ℕ) (version : Option ℤ) (text : List ℕ) (said : Data) : Type 0 where
   pub marks : List Mark
   pub told : List Data
   pub of_text : Marks text marks
-  pub each : AllZip (TellsMark encoding (text_lines text)) marks told
+  pub each : TellsMarks encoding (text_lines text) marks told
   pub whole : said ≡ published uri version told

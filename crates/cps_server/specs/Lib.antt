@@ -8,3 +8,4 @@ pub mod Running
 pub mod Opened
 pub mod Said
 pub mod Owing
+pub mod Taking

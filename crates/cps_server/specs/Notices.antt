@@ -50,11 +50,14 @@ abbrev pub ChangesText : Standing → List ℕ → Option ℤ → List Change �
 ChangesText old uri version changes None said new = IsSilent old said new
 ChangesText old uri version changes (Some text) said new = TakesText old uri version (changed_by old.encoding changes text) said new
 
+abbrev pub ChangesUnder : List ℕ → Option ℤ → List Change → Standing → List Data → Standing → Type 0
+ChangesUnder uri version changes old said new = ChangesText old uri version changes (text_under uri old.texts) said new
+
 -- the changes of a message are made; where one is wrong, none is
 abbrev pub Changes : Standing → Option (List ℕ) → Option ℤ → Option (List Change) → List Data → Standing → Type 0
 Changes old None version changes said new = IsSilent old said new
 Changes old (Some uri) version None said new = IsSilent old said new
-Changes old (Some uri) version (Some changes) said new = ChangesText old uri version changes (text_under uri old.texts) said new
+Changes old (Some uri) version (Some changes) said new = ChangesUnder uri version changes old said new
 
 abbrev pub ChangesBy : Data → Standing → List Data → Standing → Type 0
 ChangesBy params old said new = Changes old (uri_in params) (version_in params) (changes_in params) said new
@@ -66,9 +69,15 @@ abbrev pub ClosesText : Standing → List ℕ → Option (List ℕ) → List Dat
 ClosesText old uri None said new = IsSilent old said new
 ClosesText old uri (Some text) said new = (said ≡ published uri None [] ∷ []) × (new ≡ record old { texts = without uri old.texts })
 
+abbrev pub ClosesUnder : List ℕ → Standing → List Data → Standing → Type 0
+ClosesUnder uri old said new = ClosesText old uri (text_under uri old.texts) said new
+
 abbrev pub Closes : Standing → Option (List ℕ) → List Data → Standing → Type 0
 Closes old None said new = IsSilent old said new
-Closes old (Some uri) said new = ClosesText old uri (text_under uri old.texts) said new
+Closes old (Some uri) said new = ClosesUnder uri old said new
+
+abbrev pub ClosesBy : Data → Standing → List Data → Standing → Type 0
+ClosesBy params old said new = Closes old (uri_in params) said new
 
 -- ---- all
 
@@ -77,7 +86,7 @@ abbrev pub Notes : Notice → Data → Standing → List Data → Standing → T
 Notes Exit params old said new = (said ≡ []) × (new ≡ record old { has_exited = true })
 Notes Open params old said new = OpensBy params old said new
 Notes ChangeNotice params old said new = ChangesBy params old said new
-Notes Close params old said new = Closes old (uri_in params) said new
+Notes Close params old said new = ClosesBy params old said new
 Notes Unknown params old said new = IsSilent old said new
 
 -- what is done before that, and after: `exit` alone is heard
@@ -93,3 +102,6 @@ abbrev pub NotesIn : Phase → Notice → Data → Standing → List Data → St
 NotesIn Uninitialized notice params old said new = NotesIdly notice old said new
 NotesIn Running notice params old said new = Notes notice params old said new
 NotesIn ShutDown notice params old said new = NotesIdly notice old said new
+
+abbrev pub NotesAt : Notice → Data → Standing → List Data → Standing → Type 0
+NotesAt notice params old said new = NotesIn old.phase notice params old said new

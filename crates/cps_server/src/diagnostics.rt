@@ -1,6 +1,5 @@
 //! What an editor is told of a text.
 ghost use Rattle.std.specs.Prelude.{◌≡◌, ◌++◌, map, IfOk, OnOk, Some, None, slice_index_or, []};
-ghost use Rattle.std.specs.List.{AllZip};
 ghost use Rattle.serde_json.specs.View.{view};
 ghost use Rattle.cps_marks.specs.Marks.{place_of};
 ghost use Rattle.cps_marks.specs.declared.kind.Kind.TheVariants.{Flag, Wrong};
@@ -103,7 +102,7 @@ fn tell_marks(
     lines: &[Vec<u8>],
     marks: &[Mark],
 ) -> Result<Vec<Value>, AllocError>
-    ensures { IfOk result (λ told. AllZip (diagnostics.TellsMark encoding (map (λ line. line.items) lines.now)) (map place_of marks.now) (map view told.items)) }
+    ensures { IfOk result (λ told. diagnostics.TellsMarks encoding (map (λ line. line.items) lines.now) (map place_of marks.now) (map view told.items)) }
 {
     let mut told = Vec::new(alloc);
     for mark in marks {

@@ -3,7 +3,7 @@ ghost use Rattle.std.specs.Prelude.{◌≡◌};
 ghost use Rattle.cps_server.specs.Standing.{is_shut_down};
 
 /// How far an editor and its server have come.
-#[derive(Clone, Copy, Debug, PartialEq, Eq)]
+#[derive(Clone, Copy)]
 pub enum Phase {
     /// `initialize` hasn't come.
     Uninitialized,

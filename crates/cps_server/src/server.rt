@@ -8,8 +8,9 @@ ghost use Rattle.cps_rpc.specs.Message.{message_in, request, value_of};
 ghost use Rattle.cps_server.specs.Answers.{Hears, params_of};
 ghost use Rattle.cps_server.specs.Notices as notices;
 ghost use Rattle.cps_server.specs.Requests as requests;
-ghost use Rattle.cps_server.specs.Said.{Adds, has_float_id};
-ghost use Rattle.cps_server.specs.Standing.{beginning, is_shut_down, text_under};
+ghost use Rattle.cps_server.specs.Said.{Into, has_float_id};
+ghost use Rattle.cps_server.specs.Taking.{Changes, Takes};
+ghost use Rattle.cps_server.specs.Standing.{beginning, is_shut_down};
 
 use crate::diagnostics::{ToldText, say_closed, say_text};
 use crate::notice::Notice;
@@ -105,7 +106,7 @@ impl Server {
 
     /// Hears a message, by its JSON.
     fn hear(&mut self, json: &Value, said: &mut Vec<u8>) -> Result<(), AllocError>
-        ensures { OnOk result (Adds (λ news. Hears (message_in (view json.now)) (params_of (view json.now)) self.old news self.new) said.old.items said.new.items) }
+        ensures { OnOk result (Into (Hears (message_in (view json.now)) (params_of (view json.now))) self.old self.new said.old.items said.new.items) }
     {
         let none = Value::Null;
         self.hear_message(Message::of(json), params_in(json, &none), said)
@@ -119,7 +120,7 @@ impl Server {
         said: &mut Vec<u8>,
     ) -> Result<(), AllocError>
         requires { has_float_id (value_of message) ≡ false }
-        ensures { OnOk result (Adds (λ news. Hears (value_of message.entry) (view params.now) self.old news self.new) said.old.items said.new.items) }
+        ensures { OnOk result (Into (Hears (value_of message.entry) (view params.now)) self.old self.new said.old.items said.new.items) }
     {
         match message {
             Message::Request { id, method } => self.answer_request(id, method, params, said),
@@ -140,7 +141,7 @@ impl Server {
         said: &mut Vec<u8>,
     ) -> Result<(), AllocError>
         requires { has_float (view id.now) ≡ false }
-        ensures { OnOk result (Adds (λ news. Hears (request (view id.now) method.now) (view params.now) self.old news self.new) said.old.items said.new.items) }
+        ensures { OnOk result (Into (Hears (request (view id.now) method.now) (view params.now)) self.old self.new said.old.items said.new.items) }
     {
         let request = Request::named(method);
         let phase = self.phase;
@@ -167,7 +168,7 @@ impl Server {
 
     /// Does what a notification brings about.
     fn note(&mut self, notice: Notice, params: &Value, said: &mut Vec<u8>) -> Result<(), AllocError>
-        ensures { OnOk result (Adds (λ news. notices.NotesIn self.old.phase notice (view params.now) self.old news self.new) said.old.items said.new.items) }
+        ensures { OnOk result (Into (notices.NotesAt notice (view params.now)) self.old self.new said.old.items said.new.items) }
     {
         match (self.phase, notice) {
             (_, Notice::Exit) => {
@@ -183,7 +184,7 @@ impl Server {
 
     /// Opens a text, and tells its marks. Wrong parameters do nothing.
     fn open(&mut self, params: &Value, said: &mut Vec<u8>) -> Result<(), AllocError>
-        ensures { OnOk result (Adds (λ news. notices.OpensBy (view params.now) self.old news self.new) said.old.items said.new.items) }
+        ensures { OnOk result (Into (notices.OpensBy (view params.now)) self.old self.new said.old.items said.new.items) }
     {
         let Some(opened) = OpenedText::of(params) else {
             return Ok(());
@@ -198,7 +199,7 @@ impl Server {
 
     /// Changes a text, and tells its marks. Wrong parameters do nothing.
     fn change(&mut self, params: &Value, said: &mut Vec<u8>) -> Result<(), AllocError>
-        ensures { OnOk result (Adds (λ news. notices.ChangesBy (view params.now) self.old news self.new) said.old.items said.new.items) }
+        ensures { OnOk result (Into (notices.ChangesBy (view params.now)) self.old self.new said.old.items said.new.items) }
     {
         let Some(uri) = uri_in(params) else {
             return Ok(());
@@ -220,8 +221,7 @@ impl Server {
         changes: &[Change<'_>],
         said: &mut Vec<u8>,
     ) -> Result<(), AllocError>
-        ensures { OnOk result (Adds (λ news. notices.ChangesText self.old told.entry.uri.now told.entry.version (map told_params.value_of changes.now)
-            (text_under told.entry.uri.now self.old.texts) news self.new) said.old.items said.new.items) }
+        ensures { OnOk result (Into (Changes told.entry (map told_params.value_of changes.now)) self.old self.new said.old.items said.new.items) }
     {
         let Some(document) = self.texts.take(told.uri) else {
             return Ok(());
@@ -232,7 +232,7 @@ impl Server {
 
     /// Closes a text. Wrong parameters do nothing.
     fn close(&mut self, params: &Value, said: &mut Vec<u8>) -> Result<(), AllocError>
-        ensures { OnOk result (Adds (λ news. notices.Closes self.old (told_params.uri_in (view params.now)) news self.new) said.old.items said.new.items) }
+        ensures { OnOk result (Into (notices.ClosesBy (view params.now)) self.old self.new said.old.items said.new.items) }
     {
         match uri_in(params) {
             Some(uri) => self.close_text(uri, said),
@@ -242,7 +242,7 @@ impl Server {
 
     /// Closes the text under a URI, if one is open there, and tells that it has no diagnostics.
     fn close_text(&mut self, uri: &str, said: &mut Vec<u8>) -> Result<(), AllocError>
-        ensures { OnOk result (Adds (λ news. notices.ClosesText self.old uri.now (text_under uri.now self.old.texts) news self.new) said.old.items said.new.items) }
+        ensures { OnOk result (Into (notices.ClosesUnder uri.now) self.old self.new said.old.items said.new.items) }
     {
         let Some(document) = self.texts.take(uri) else {
             return Ok(());
@@ -258,7 +258,7 @@ impl Server {
         document: Document,
         said: &mut Vec<u8>,
     ) -> Result<(), AllocError>
-        ensures { OnOk result (Adds (λ news. notices.TakesText self.old told.entry.uri.now told.entry.version document news self.new) said.old.items said.new.items) }
+        ensures { OnOk result (Into (Takes told.entry document) self.old self.new said.old.items said.new.items) }
     {
         say_text(self.alloc, self.encoding, told, &document, said)?;
         drop(self.texts.take(told.uri));
