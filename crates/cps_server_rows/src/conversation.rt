@@ -1,0 +1,96 @@
+//! Conversations with a server. Only here one is run, and what it says is compared.
+use cps_frame::push_frame;
+use cps_pass::Hashing;
+use cps_server::{ServerFault, run_server};
+use cps_text::Counted;
+use std::alloc::Global;
+use std::fmt::Debug;
+use std::io::{Read, Write};
+use std::process::Abort;
+
+/// How a server ends: whether `shutdown` came before.
+pub type End = Result<bool, ServerFault>;
+
+/// The messages of an editor, how the server ends, and its messages.
+pub type Row = (&'static [&'static str], End, &'static [&'static str]);
+
+/// From an editor that names no encodings.
+pub const INITIALIZE: &str =
+    "{\"jsonrpc\":\"2.0\",\"id\":1,\"method\":\"initialize\",\"params\":{\"capabilities\":{}}}";
+
+/// From an editor that can count by UTF-8 too.
+pub const INITIALIZE_UTF8: &str =
+    "{\"jsonrpc\":\"2.0\",\"id\":1,\"method\":\"initialize\",\"params\":{\"capabilities\":{\"general\":{\"positionEncodings\":[\"utf-16\",\"utf-8\"]}}}}";
+
+/// The answer to the former.
+pub const UTF16: &str =
+    "{\"id\":1,\"jsonrpc\":\"2.0\",\"result\":{\"capabilities\":{\"positionEncoding\":\"utf-16\",\"textDocumentSync\":{\"change\":2,\"openClose\":true}},\"serverInfo\":{\"name\":\"compass\"}}}";
+
+/// The answer to the latter.
+pub const UTF8: &str =
+    "{\"id\":1,\"jsonrpc\":\"2.0\",\"result\":{\"capabilities\":{\"positionEncoding\":\"utf-8\",\"textDocumentSync\":{\"change\":2,\"openClose\":true}},\"serverInfo\":{\"name\":\"compass\"}}}";
+
+pub const SHUTDOWN: &str = "{\"jsonrpc\":\"2.0\",\"id\":9,\"method\":\"shutdown\"}";
+
+pub const SHUTDOWN_SAID: &str = "{\"id\":9,\"jsonrpc\":\"2.0\",\"result\":null}";
+
+pub const EXIT: &str = "{\"jsonrpc\":\"2.0\",\"method\":\"exit\"}";
+
+/// Runs a server.
+pub fn run<R: Read, W: Write>(
+    alloc: Global,
+    reader: &mut Counted<R>,
+    writer: &mut Counted<W>,
+) -> End {
+    run_server(alloc, Hashing::by(1), reader, writer)
+}
+
+/// Asserts that two values of a row are the same.
+pub fn assert_same<T: PartialEq + Debug>(rt: &impl Abort, at: usize, got: &T, want: &T) {
+    assert_eq!(rt; got, want, "row {at}");
+}
+
+/// Asserts that two texts of a row are the same. The one that is wanted is UTF-8.
+pub fn assert_text(rt: &impl Abort, at: usize, got: &[u8], want: &[u8]) {
+    assert_eq!(rt;
+        str::from_utf8(got).ok(),
+        str::from_utf8(want).ok(),
+        "row {at}"
+    );
+}
+
+/// Messages one behind another, each in its frame.
+pub fn framed(rt: &impl Abort, alloc: Global, messages: &[&str]) -> Vec<u8> {
+    let mut text = Vec::new(alloc);
+    for message in messages {
+        push_frame(&mut text, message.as_bytes()).expect(rt, "memory");
+    }
+    text
+}
+
+/// Serves what a reader gives, and asserts how the server ends and what it says.
+pub fn assert_outcome<R: Read>(
+    rt: &impl Abort,
+    alloc: Global,
+    at: usize,
+    reader: &mut Counted<R>,
+    end: &End,
+    said: &[u8],
+) {
+    let mut writer = Counted::new(Vec::new(alloc));
+    assert_same(rt, at, &run(alloc, reader, &mut writer), end);
+    let text = writer.into_inner();
+    assert_text(rt, at, &text, said);
+    drop(text);
+}
+
+/// Has the conversation of a row, all bytes of which come at once.
+pub fn assert_row(rt: &impl Abort, alloc: Global, at: usize, row: &Row) {
+    let (messages, end, said) = row;
+    let input = framed(rt, alloc, messages);
+    let want = framed(rt, alloc, said);
+    let mut reader = Counted::new(input.as_slice());
+    assert_outcome(rt, alloc, at, &mut reader, end, &want);
+    drop(want);
+    drop(input);
+}
