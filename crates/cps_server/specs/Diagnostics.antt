@@ -5,7 +5,7 @@ use Rattle.serde_json.specs.Data.{Data, unsigned, number, string, array, object,
 use Rattle.serde_json.specs.Find.{of_integer}
 use Rattle.serde_json.specs.View.{items_of}
 use Rattle.cps_buffer.specs.declared.encoding.Encoding.{Encoding}
-use Rattle.cps_buffer.specs.Lines.{text_lines}
+use Rattle.cps_buffer.specs.Lines.{source_lines}
 use Rattle.cps_buffer.specs.Positions.{units_before}
 use Rattle.cps_cause.specs.declared.letter.Letter.{Letter}
 use Rattle.cps_cause.specs.declared.letter.Letter.TheVariants.{A, D, E, L, O, T, U, V}
@@ -51,7 +51,7 @@ abbrev pub diagnostic : Kind → Data → List ℕ → Data
 diagnostic (Flag letter) range message = object (member (codes "code") (string (letter_name letter)) (error range message))
 diagnostic Wrong range message = object (error range message)
 
--- the diagnostic of a mark in a text of these lines; its message is free
+-- the diagnostic of a mark in a source of these lines; its message is free
 abbrev pub TellsMark : Encoding → List (List ℕ) → Mark → Data → Type 0
 TellsMark encoding lines mark json =
     (message : List ℕ) × (json ≡ diagnostic mark.kind (range_of encoding (slice_index_or lines mark.line []) mark) message)
@@ -76,5 +76,5 @@ pub record TellsText (encoding : Encoding) (uri : List ℕ) (version : Option �
   pub marks : List Mark
   pub told : List Data
   pub of_text : Marks text marks
-  pub each : TellsMarks encoding (text_lines text) marks told
+  pub each : TellsMarks encoding (source_lines text) marks told
   pub whole : said ≡ published uri version told

@@ -1,6 +1,7 @@
 //! What an editor is told of a text.
 ghost use Rattle.std.specs.Prelude.{◌≡◌, ◌++◌, map, IfOk, OnOk, Some, None, slice_index_or, []};
 ghost use Rattle.serde_json.specs.View.{view};
+ghost use Rattle.cps_buffer.specs.Lines.{source_lines};
 ghost use Rattle.cps_marks.specs.Marks.{place_of};
 ghost use Rattle.cps_marks.specs.declared.kind.Kind.TheVariants.{Flag, Wrong};
 ghost use Rattle.cps_server.specs.Diagnostics as diagnostics;
@@ -59,7 +60,7 @@ fn tell_text(
     ensures { IfOk result (λ json. diagnostics.TellsText encoding text.entry.uri.now text.entry.version document.now (view json)) }
 {
     let marks = marks_of(alloc, document)?;
-    let told = tell_marks(alloc, encoding, document.lines(), &marks)?;
+    let told = tell_marks(alloc, encoding, document, &marks)?;
     publish(alloc, text, told)
 }
 
@@ -95,32 +96,32 @@ fn told_alone(alloc: Global, uri: &str, list: Value) -> Result<Value, AllocError
     json!(in alloc; {"diagnostics": list, "uri": uri})
 }
 
-/// The diagnostics of marks in a text of these lines.
+/// The diagnostics of marks in a document's text.
 fn tell_marks(
     alloc: Global,
     encoding: Encoding,
-    lines: &[Vec<u8>],
+    document: &Document,
     marks: &[Mark],
 ) -> Result<Vec<Value>, AllocError>
-    ensures { IfOk result (λ told. diagnostics.TellsMarks encoding (map (λ line. line.items) lines.now) (map place_of marks.now) (map view told.items)) }
+    ensures { IfOk result (λ told. diagnostics.TellsMarks encoding (source_lines document.now) (map place_of marks.now) (map view told.items)) }
 {
     let mut told = Vec::new(alloc);
     for mark in marks {
-        told.push(tell_mark(alloc, encoding, lines, mark)?)?;
+        told.push(tell_mark(alloc, encoding, document, mark)?)?;
     }
     Ok(told)
 }
 
-/// The diagnostic of a mark.
+/// The diagnostic of a mark in a document's text.
 fn tell_mark(
     alloc: Global,
     encoding: Encoding,
-    lines: &[Vec<u8>],
+    document: &Document,
     mark: &Mark,
 ) -> Result<Value, AllocError>
-    ensures { IfOk result (λ json. diagnostics.TellsMark encoding (map (λ line. line.items) lines.now) (place_of mark.now) (view json)) }
+    ensures { IfOk result (λ json. diagnostics.TellsMark encoding (source_lines document.now) (place_of mark.now) (view json)) }
 {
-    let line = line_at(lines, mark.line);
+    let line = line_at(document, mark.line);
     let range = range_of(alloc, encoding, line, mark)?;
     diagnostic(alloc, mark.kind, range, text_of(&mark.message))
 }
@@ -155,13 +156,15 @@ fn fault_diagnostic(alloc: Global, range: Value, message: &str) -> Result<Value,
     json!(in alloc; {"message": message, "range": range, "severity": 1, "source": "compass"})
 }
 
-/// A line, from 0; no bytes where there is none.
-fn line_at(lines: &[Vec<u8>], at: u32) -> &[u8]
-    ensures { result.now ≡ slice_index_or (map (λ line. line.items) lines.now) at [] }
+/// A line that batch assembly reads of a document's text, from 0; no bytes where there is none.
+fn line_at(document: &Document, at: u32) -> &[u8]
+    ensures { result.now ≡ slice_index_or (source_lines document.now) at [] }
 {
-    match lines.get(at as usize) {
-        Some(line) => line,
-        None => &[],
+    let at = at as usize;
+    if at < document.source_len() {
+        document.source_line(at)
+    } else {
+        &[]
     }
 }
 
