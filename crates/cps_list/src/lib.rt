@@ -20,10 +20,11 @@ mod view;
 
 pub use cps_final::Outcome;
 pub use cps_writing::{ListFault, write_text};
-pub use mention::{Mention, push_mentions};
+pub use mention::{Mention, list_mentions, push_mentions};
 pub use part::{
     Part, make_text, write_all_parts, write_binary, write_flags, write_listing, write_part,
     write_symbols,
 };
 pub use printout::Printout;
+pub use symbols::{push_symbol, push_value, symbol_value};
 pub use view::View;

@@ -43,7 +43,7 @@ fn push_rows(text: &mut Vec<u8>, mentions: &[Mention], finals: &Finals) -> Resul
     let mut rest = mentions;
     while let Some(first) = rest.first() {
         let (group, behind) = rest.split_at(group_length(first.name, rest));
-        push_row(text, finals, first.name, group)?;
+        push_symbol(text, finals, first.name, group)?;
         rest = behind;
     }
     Ok(())
@@ -61,8 +61,8 @@ fn group_length(name: Name, mentions: &[Mention]) -> usize
     mentions.len()
 }
 
-/// The row of a symbol, from its mentions.
-fn push_row(
+/// The row of a symbol in the cross-reference, from its mentions.
+pub fn push_symbol(
     text: &mut Vec<u8>,
     finals: &Finals,
     name: Name,
@@ -73,7 +73,7 @@ fn push_row(
     let before = text.len();
     text.extend_from_slice(name.text())?;
     fill_columns(text, before, BEFORE_VALUE)?;
-    push_value(text, value_of(finals, name))?;
+    push_value(text, symbol_value(finals, name))?;
     fill_columns(text, before, BEFORE_LINES)?;
     push_lines(text, mentions)?;
     text.push(b'\n')?;
@@ -81,7 +81,7 @@ fn push_row(
 }
 
 /// The final value of a symbol: the last that SET gave, or that of the label.
-fn value_of(finals: &Finals, name: Name) -> Option<Value>
+pub fn symbol_value(finals: &Finals, name: Name) -> Option<Value>
     ensures { result ≡ texts.value_of (⟦<Finals as Gathered>⟧.gathered finals.now) name }
 {
     match finals.setting(name) {
@@ -90,7 +90,8 @@ fn value_of(finals: &Finals, name: Name) -> Option<Value>
     }
 }
 
-fn push_value(text: &mut Vec<u8>, value: Option<Value>) -> Result<(), AllocError>
+/// A value as the cross-reference has it: 20 octal digits, or `undefined` where there is none.
+pub fn push_value(text: &mut Vec<u8>, value: Option<Value>) -> Result<(), AllocError>
     ensures { OnOk result (text.new.items ≡ text.old.items ++ texts.value_text value) }
 {
     match value {

@@ -32,7 +32,7 @@ loop-first-preserved c =
     record {
       rising = subst Rising (sym back) (rising-drop rest first.name c.loop-first.invariant.rising);
       text =
-          (λ i. (c.in_ok-push_row.ensures ∙ ap (λ group. c.loop-first.text.items ++ row_of finals first.name group) front) i ++ symbol_rows finals (back i))
+          (λ i. (c.in_ok-push_symbol.ensures ∙ ap (λ group. c.loop-first.text.items ++ row_of finals first.name group) front) i ++ symbol_rows finals (back i))
           ∙ append_assoc c.loop-first.text.items _ _
           ∙ ap (λ rows. c.loop-first.text.items ++ rows) (sym (group-first finals rest first c.in-Some.ensures.value c.loop-first.invariant.rising))
           ∙ c.loop-first.invariant.text;
