@@ -1,8 +1,8 @@
 -- What the parameters of messages say. From the Language Server Protocol 3.17. Members that are not named here are not looked at.
-use Rattle.std.specs.Prelude.{ℕ, ℤ, ◌^◌, Bool, false, List, [], ◌∷◌, Option, Some, None, codes, nat_lt, bytes_eq, option_and_then, option_map, if◌then◌else◌}
+use Rattle.std.specs.Prelude.{ℕ, ℤ, ◌^◌, Bool, false, List, [], ◌∷◌, Option, Some, None, codes, nat_lt, bytes_eq, option_and_then, option_map, unwrap_or, if◌then◌else◌}
 use Rattle.std.specs.List.{list_any}
 use Rattle.serde_json.specs.Data.{Data, null, boolean, number, string, array, object, Items, no_items, item}
-use Rattle.serde_json.specs.Find.{get, as_number, as_i64, as_u64, as_str, as_array}
+use Rattle.serde_json.specs.Find.{get, as_bool, as_number, as_i64, as_u64, as_str, as_array}
 use Rattle.cps_buffer.specs.declared.encoding.Encoding.{Encoding}
 use Rattle.cps_buffer.specs.declared.encoding.Encoding.TheVariants.{Utf8, Utf16}
 use Rattle.cps_buffer.specs.declared.position.Position.{Position}
@@ -75,6 +75,20 @@ abbrev pub range_in : Data → Option Range
 range_in json =
     option_and_then (λ start. option_map (λ end. record { start = start; end = end })
     (option_and_then position_in (get (codes "end") json))) (option_and_then position_in (get (codes "start") json))
+
+-- the position of which a request asks
+abbrev pub position_at : Data → Option Position
+position_at json = option_and_then position_in (get (codes "position") json)
+
+-- the range of which a request asks
+abbrev pub range_at : Data → Option Range
+range_at json = option_and_then range_in (get (codes "range") json)
+
+-- ---- references
+
+-- whether a request for references wants definitions too
+abbrev pub wants_definitions : Data → Bool
+wants_definitions json = unwrap_or (option_and_then as_bool (option_and_then (get (codes "includeDeclaration")) (get (codes "context") json))) false
 
 -- ---- changes
 

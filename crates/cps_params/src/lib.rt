@@ -18,5 +18,6 @@ mod positions;
 pub use change::Change;
 pub use changes::changes_in;
 pub use encodings::encoding_in;
-pub use member::{uri_in, version_in};
+pub use member::{uri_in, version_in, wants_definitions};
 pub use opened_text::OpenedText;
+pub use positions::{position_at, range_at};

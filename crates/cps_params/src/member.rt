@@ -1,5 +1,5 @@
 //! Members of parameters.
-ghost use Rattle.std.specs.Prelude.{◌≡◌, map, option_map};
+ghost use Rattle.std.specs.Prelude.{◌≡◌, false, map, option_map, unwrap_or};
 ghost use Rattle.serde_json.specs.View.{view};
 ghost use Rattle.cps_params.specs.Params as params;
 
@@ -24,6 +24,19 @@ pub fn uri_of(document: &Value) -> Option<&str>
     ensures { option_map (λ uri. uri.now) result ≡ params.text_at params.uri_name (view document.now) }
 {
     document.get("uri").and_then(Value::as_str)
+}
+
+/// Whether a request for references wants definitions too.
+pub fn wants_definitions(json: &Value) -> bool
+    ensures { result ≡ params.wants_definitions (view json.now) }
+{
+    wanted_in(json).unwrap_or(false)
+}
+
+fn wanted_in(json: &Value) -> Option<bool>
+    ensures { unwrap_or result false ≡ params.wants_definitions (view json.now) }
+{
+    json.get("context")?.get("includeDeclaration")?.as_bool()
 }
 
 /// A text that is a member.

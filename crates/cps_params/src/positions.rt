@@ -6,6 +6,20 @@ ghost use Rattle.cps_params.specs.Params as params;
 use cps_buffer::{Position, Range};
 use serde_json::Value;
 
+/// The position of which a request asks.
+pub fn position_at(json: &Value) -> Option<Position>
+    ensures { result ≡ params.position_at (view json.now) }
+{
+    json.get("position").and_then(position_in)
+}
+
+/// The range of which a request asks.
+pub fn range_at(json: &Value) -> Option<Range>
+    ensures { result ≡ params.range_at (view json.now) }
+{
+    json.get("range").and_then(range_in)
+}
+
 /// The range that a value tells.
 pub fn range_in(json: &Value) -> Option<Range>
     ensures { result ≡ params.range_in (view json.now) }

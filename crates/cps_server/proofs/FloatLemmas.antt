@@ -8,19 +8,15 @@ use Rattle.serde_json.specs.View.{items_of}
 use Rattle.serde_json.specs.Written.{has_float, items_have_float}
 use Rattle.cps_buffer.specs.declared.encoding.Encoding.{Encoding}
 use Rattle.cps_buffer.specs.declared.encoding.Encoding.TheVariants.{Utf8, Utf16}
-use Rattle.cps_params.specs.Params.{encoding_in}
 use Rattle.cps_rpc.specs.Message.{request, response, invalid, message_in, message_by, method_of, is_identifier, is_answer}
 use Rattle.cps_marks.specs.declared.kind.Kind.{Kind}
 use Rattle.cps_marks.specs.declared.kind.Kind.TheVariants.{Flag, Wrong}
 use Rattle.cps_marks.specs.Marks.{Mark}
-use Rattle.cps_server.specs.declared.phase.Phase.{Phase}
-use Rattle.cps_server.specs.declared.phase.Phase.TheVariants.{Uninitialized, Running, ShutDown}
-use Rattle.cps_server.specs.declared.request.Request.{Request}
-use Rattle.cps_server.specs.declared.request.Request.TheVariants.{Initialize, Shutdown, Unknown}
+use Rattle.cps_queries.specs.Telling.{has_float_told}
 use Rattle.cps_server.specs.Owing.{has_float_owed}
-use Rattle.cps_server.specs.Requests.{introduction, owed_to}
+use Rattle.cps_server.specs.Requests.{introduction, owed_by}
 use Rattle.cps_server.specs.Said.{has_float_id}
-use Rattle.cps_server.specs.Diagnostics.{TellsMark, TellsText, diagnostic, range_of, published}
+use Rattle.cps_server.specs.Diagnostics.{TellsMark, TellsText, diagnostic, mark_range, published}
 
 -- ---- identifiers
 
@@ -52,22 +48,17 @@ id-no-float json = floats-by (method_of json) (get (codes "id") json) (is_answer
 
 -- ---- what is owed
 
-pub owed-no-float : (phase : Phase) (request : Request) (params : Data) → has_float_owed (owed_to phase request params) ≡ false
-owed-no-float Uninitialized Initialize params = introduction-no-float (encoding_in params)
-  where
-    introduction-no-float : (encoding : Encoding) → has_float (introduction encoding) ≡ false
-    introduction-no-float Utf8 = refl
-    introduction-no-float Utf16 = refl
-owed-no-float Uninitialized Shutdown params = refl
-owed-no-float Uninitialized Unknown params = refl
-owed-no-float Running Initialize params = refl
-owed-no-float Running Shutdown params = refl
-owed-no-float Running Unknown params = refl
-owed-no-float ShutDown asked params = refl
+pub introduction-no-float : (encoding : Encoding) → has_float (introduction encoding) ≡ false
+introduction-no-float Utf8 = refl
+introduction-no-float Utf16 = refl
+
+pub owed-no-float : (told : Option Data) → has_float_told told ≡ false → has_float_owed (owed_by told) ≡ false
+owed-no-float None none = refl
+owed-no-float (Some told) none = none
 
 -- ---- diagnostics
 
-kind-no-float : (kind : Kind) (encoding : Encoding) (line : List ℕ) (mark : Mark) (message : List ℕ) → has_float (diagnostic kind (range_of encoding line mark) message) ≡ false
+kind-no-float : (kind : Kind) (encoding : Encoding) (line : List ℕ) (mark : Mark) (message : List ℕ) → has_float (diagnostic kind (mark_range encoding line mark) message) ≡ false
 kind-no-float (Flag letter) encoding line mark message = refl
 kind-no-float Wrong encoding line mark message = refl
 

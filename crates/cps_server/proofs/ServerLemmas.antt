@@ -11,7 +11,7 @@ use Rattle.cps_server.specs.Answers.{Hears, IsAnswered}
 use Rattle.cps_server.specs.Diagnostics.{TellsText, published}
 use Rattle.cps_server.specs.Frames.{frame_of_json}
 use Rattle.cps_server.specs.Notices.{TakesText, ChangesText, ClosesText, changed_by}
-use Rattle.cps_server.specs.Requests.{after_request, answer_with, owed_to, request_named}
+use Rattle.cps_server.specs.Requests.{Owed, Owes, after_request, answer_with, request_named}
 use Rattle.cps_server.specs.Said.{Adds, AddsOne}
 use Rattle.cps_server.specs.Standing.{Standing, text_under, with_text, without}
 use Rattle.cps_server.proofs.SaidLemmas.{adds-one, adds-as}
@@ -50,11 +50,11 @@ closes old new uri text said now there moved added =
 
 -- ---- messages
 
-pub hears-request : (old new : Standing) (id params : Data) (method said now : List ℕ)
-    → now ≡ said ++ frame_of_json (answer_with id (owed_to old.phase (request_named method) params))
+pub hears-request : (old new : Standing) (id params : Data) (method said now : List ℕ) (owed : Owed) → Owes (request_named method) params old owed
+    → now ≡ said ++ frame_of_json (answer_with id owed)
     → new ≡ after_request (request_named method) params old → Adds (λ news. Hears (request id method) params old news new) said now
-hears-request old new id params method said now added moved =
-    adds-one (λ news. Hears (request id method) params old news new) _ said now (refl, moved) added
+hears-request old new id params method said now owed owes added moved =
+    adds-one (λ news. Hears (request id method) params old news new) _ said now (owed, owes, refl, moved) added
 
 pub hears-invalid : (old new : Standing) (params : Data) (said now : List ℕ) → now ≡ said ++ frame_of_json (refusal null InvalidRequest)
     → new ≡ old → Adds (λ news. Hears invalid params old news new) said now

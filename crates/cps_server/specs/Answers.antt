@@ -8,7 +8,7 @@ use Rattle.cps_rpc.specs.Message.{Message, request, notification, response, inva
 use Rattle.cps_rpc.specs.Outgoing.{refusal}
 use Rattle.cps_server.specs.Frames.{text_of}
 use Rattle.cps_server.specs.Notices.{IsSilent, NotesAt, notice_named}
-use Rattle.cps_server.specs.Requests.{after_request, answer_with, owed_to, request_named}
+use Rattle.cps_server.specs.Requests.{Owed, Owes, after_request, answer_with, request_named}
 use Rattle.cps_server.specs.Standing.{Standing}
 
 -- the parameters of a message
@@ -18,7 +18,7 @@ params_of json = unwrap_or (get (codes "params") json) null
 -- what is said to a message that asks this: to a request one answer under its identifier, and to a notification what it brings about
 abbrev pub Hears : Message → Data → Standing → List Data → Standing → Type 0
 Hears (request id method) params old said new =
-    (said ≡ answer_with id (owed_to old.phase (request_named method) params) ∷ []) × (new ≡ after_request (request_named method) params old)
+    (owed : Owed) × Owes (request_named method) params old owed × (said ≡ answer_with id owed ∷ []) × (new ≡ after_request (request_named method) params old)
 Hears (notification method) params old said new = NotesAt (notice_named method) params old said new
 Hears response params old said new = IsSilent old said new
 Hears invalid params old said new = (said ≡ refusal null InvalidRequest ∷ []) × (new ≡ old)

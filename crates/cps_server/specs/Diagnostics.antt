@@ -1,33 +1,24 @@
 -- What an editor is told of a text: a diagnostic for each mark. From the Language Server Protocol 3.17.
-use Rattle.std.specs.Prelude.{◌≡◌, ℕ, ℤ, ◌-◌, ◌^◌, min, List, [], Option, Some, None, codes, slice_index_or}
+use Rattle.std.specs.Prelude.{◌≡◌, ℕ, ℤ, ◌-◌, List, [], Option, Some, None, codes, slice_index_or}
 use Rattle.std.specs.List.{AllZip}
 use Rattle.serde_json.specs.Data.{Data, unsigned, number, string, array, object, Members, no_members, member}
 use Rattle.serde_json.specs.Find.{of_integer}
 use Rattle.serde_json.specs.View.{items_of}
 use Rattle.cps_buffer.specs.declared.encoding.Encoding.{Encoding}
 use Rattle.cps_buffer.specs.Lines.{source_lines}
-use Rattle.cps_buffer.specs.Positions.{units_before}
 use Rattle.cps_cause.specs.declared.letter.Letter.{Letter}
 use Rattle.cps_cause.specs.declared.letter.Letter.TheVariants.{A, D, E, L, O, T, U, V}
 use Rattle.cps_rpc.specs.Outgoing.{notification}
+use Rattle.cps_queries.specs.Ranges.{range_of, told_units}
 use Rattle.cps_marks.specs.declared.kind.Kind.{Kind}
 use Rattle.cps_marks.specs.declared.kind.Kind.TheVariants.{Flag, Wrong}
 use Rattle.cps_marks.specs.Marks.{Mark, Marks}
 
 -- ---- a diagnostic
 
--- the units before a place in a line, as far as a position can tell them
-abbrev pub told_units : Encoding → List ℕ → ℕ → ℕ
-told_units encoding line place = min (units_before encoding line place) (2 ^ 32 - 1)
-
-abbrev pub position : ℕ → ℕ → Data
-position line character = object (member (codes "character") (number (unsigned character)) (member (codes "line") (number (unsigned line)) no_members))
-
 -- the range of a mark in this line: from its first column through its last
-abbrev pub range_of : Encoding → List ℕ → Mark → Data
-range_of encoding line mark =
-    object (member (codes "end") (position mark.line (told_units encoding line mark.last))
-    (member (codes "start") (position mark.line (told_units encoding line (mark.first - 1))) no_members))
+abbrev pub mark_range : Encoding → List ℕ → Mark → Data
+mark_range encoding line mark = range_of mark.line (told_units encoding line (mark.first - 1)) (told_units encoding line mark.last)
 
 -- the name of a flag's letter
 abbrev pub letter_name : Letter → List ℕ
@@ -54,7 +45,7 @@ diagnostic Wrong range message = object (error range message)
 -- the diagnostic of a mark in a source of these lines; its message is free
 abbrev pub TellsMark : Encoding → List (List ℕ) → Mark → Data → Type 0
 TellsMark encoding lines mark json =
-    (message : List ℕ) × (json ≡ diagnostic mark.kind (range_of encoding (slice_index_or lines mark.line []) mark) message)
+    (message : List ℕ) × (json ≡ diagnostic mark.kind (mark_range encoding (slice_index_or lines mark.line []) mark) message)
 
 -- marks are told, each by a diagnostic, and nothing else
 abbrev pub TellsMarks : Encoding → List (List ℕ) → List Mark → List Data → Type 0

@@ -1,22 +1,30 @@
 -- What a server answers to requests. From the Language Server Protocol 3.17.
-use Rattle.std.specs.Prelude.{ℕ, true, List, codes, bytes_eq, if◌then◌else◌}
+use Rattle.std.specs.Prelude.{◌≡◌, ℕ, true, List, codes, bytes_eq, Option, Some, None, if◌then◌else◌}
 use Rattle.serde_json.specs.Data.{Data, unsigned, null, boolean, number, string, object, no_members, member}
 use Rattle.cps_buffer.specs.declared.encoding.Encoding.{Encoding}
 use Rattle.cps_buffer.specs.declared.encoding.Encoding.TheVariants.{Utf8, Utf16}
-use Rattle.cps_params.specs.Params.{encoding_in}
+use Rattle.cps_params.specs.Params.{encoding_in, uri_in}
 use Rattle.cps_rpc.specs.declared.error_code.ErrorCode.{ErrorCode}
-use Rattle.cps_rpc.specs.declared.error_code.ErrorCode.TheVariants.{InvalidRequest, MethodNotFound, ServerNotInitialized}
+use Rattle.cps_rpc.specs.declared.error_code.ErrorCode.TheVariants.{InvalidRequest, MethodNotFound, InvalidParams, ServerNotInitialized}
 use Rattle.cps_rpc.specs.Outgoing.{response, refusal}
+use Rattle.cps_queries.specs.declared.query.Query.{Query}
+use Rattle.cps_queries.specs.Queries.{Tells, query_named}
 use Rattle.cps_server.specs.declared.phase.Phase.{Phase}
 use Rattle.cps_server.specs.declared.phase.Phase.TheVariants.{Uninitialized, Running, ShutDown}
 use Rattle.cps_server.specs.declared.request.Request.{Request}
-use Rattle.cps_server.specs.declared.request.Request.TheVariants.{Initialize, Shutdown, Unknown}
-use Rattle.cps_server.specs.Standing.{Standing}
+use Rattle.cps_server.specs.declared.request.Request.TheVariants.{Initialize, Shutdown, Query as Asks, Unknown}
+use Rattle.cps_server.specs.Standing.{Standing, text_under}
+
+-- the request that is this query; an unknown one where it is none
+abbrev pub request_of : Option Query → Request
+request_of None = Unknown
+request_of (Some query) = Asks query
 
 -- the request of a method
 abbrev pub request_named : List ℕ → Request
 request_named method =
-    if bytes_eq method (codes "initialize") then Initialize else (if bytes_eq method (codes "shutdown") then Shutdown else Unknown)
+    if bytes_eq method (codes "initialize") then Initialize
+    else (if bytes_eq method (codes "shutdown") then Shutdown else request_of (query_named method))
 
 -- ---- what a server tells of itself
 
@@ -29,8 +37,12 @@ encoding_name Utf16 = codes "utf-16"
 abbrev pub synchronization : Data
 synchronization = object (member (codes "change") (number (unsigned 2)) (member (codes "openClose") (boolean true) no_members))
 
+-- and it asks what queries there are
 abbrev pub capabilities : Encoding → Data
-capabilities encoding = object (member (codes "positionEncoding") (string (encoding_name encoding)) (member (codes "textDocumentSync") synchronization no_members))
+capabilities encoding = object (member (codes "completionProvider") (object no_members) (member (codes "definitionProvider") (boolean true)
+    (member (codes "documentSymbolProvider") (boolean true) (member (codes "hoverProvider") (boolean true) (member (codes "inlayHintProvider") (boolean true)
+    (member (codes "positionEncoding") (string (encoding_name encoding)) (member (codes "referencesProvider") (boolean true)
+    (member (codes "textDocumentSync") synchronization no_members))))))))
 
 -- the result of `initialize`
 abbrev pub introduction : Encoding → Data
@@ -44,23 +56,47 @@ pub data Owed : Type 0 where
   refused : ErrorCode → Owed
   found : Data → Owed
 
+-- what is told to a query; nothing is told where its parameters are wrong
+abbrev pub owed_by : Option Data → Owed
+owed_by None = refused InvalidParams
+owed_by (Some told) = found told
+
+-- what is owed to a query of the text under a URI, if it is open
+abbrev pub OwesOf : Query → Data → Encoding → List ℕ → Option (List ℕ) → Owed → Type 0
+OwesOf query params encoding uri None owed = owed ≡ refused InvalidParams
+OwesOf query params encoding uri (Some text) owed = (told : Option Data) × Tells query params encoding uri text told × (owed ≡ owed_by told)
+
+abbrev pub OwesUnder : Query → Data → Standing → Option (List ℕ) → Owed → Type 0
+OwesUnder query params old None owed = owed ≡ refused InvalidParams
+OwesUnder query params old (Some uri) owed = OwesOf query params old.encoding uri (text_under uri old.texts) owed
+
+abbrev pub OwesQuery : Query → Data → Standing → Owed → Type 0
+OwesQuery query params old owed = OwesUnder query params old (uri_in params) owed
+
 -- what is owed to a request in a phase, by its parameters
-abbrev pub owed_to : Phase → Request → Data → Owed
-owed_to Uninitialized Initialize params = found (introduction (encoding_in params))
-owed_to Uninitialized Shutdown params = refused ServerNotInitialized
-owed_to Uninitialized Unknown params = refused ServerNotInitialized
-owed_to Running Initialize params = refused InvalidRequest
-owed_to Running Shutdown params = found null
-owed_to Running Unknown params = refused MethodNotFound
-owed_to ShutDown request params = refused InvalidRequest
+abbrev pub OwesIn : Phase → Request → Data → Standing → Owed → Type 0
+OwesIn Uninitialized Initialize params old owed = owed ≡ found (introduction (encoding_in params))
+OwesIn Uninitialized Shutdown params old owed = owed ≡ refused ServerNotInitialized
+OwesIn Uninitialized (Asks query) params old owed = owed ≡ refused ServerNotInitialized
+OwesIn Uninitialized Unknown params old owed = owed ≡ refused ServerNotInitialized
+OwesIn Running Initialize params old owed = owed ≡ refused InvalidRequest
+OwesIn Running Shutdown params old owed = owed ≡ found null
+OwesIn Running (Asks query) params old owed = OwesQuery query params old owed
+OwesIn Running Unknown params old owed = owed ≡ refused MethodNotFound
+OwesIn ShutDown request params old owed = owed ≡ refused InvalidRequest
+
+abbrev pub Owes : Request → Data → Standing → Owed → Type 0
+Owes request params old owed = OwesIn old.phase request params old owed
 
 -- where a server stands behind a request
 abbrev pub moved_by : Phase → Request → Data → Standing → Standing
 moved_by Uninitialized Initialize params old = record old { phase = Running; encoding = encoding_in params }
 moved_by Uninitialized Shutdown params old = old
+moved_by Uninitialized (Asks query) params old = old
 moved_by Uninitialized Unknown params old = old
 moved_by Running Initialize params old = old
 moved_by Running Shutdown params old = record old { phase = ShutDown }
+moved_by Running (Asks query) params old = old
 moved_by Running Unknown params old = old
 moved_by ShutDown request params old = old
 

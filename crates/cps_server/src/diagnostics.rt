@@ -1,5 +1,5 @@
 //! What an editor is told of a text.
-ghost use Rattle.std.specs.Prelude.{◌≡◌, ◌++◌, map, IfOk, OnOk, Some, None, slice_index_or, []};
+ghost use Rattle.std.specs.Prelude.{◌≡◌, ◌++◌, map, IfOk, OnOk, Some, None, []};
 ghost use Rattle.serde_json.specs.View.{view};
 ghost use Rattle.cps_buffer.specs.Lines.{source_lines};
 ghost use Rattle.cps_marks.specs.Marks.{place_of};
@@ -9,10 +9,12 @@ ghost use Rattle.cps_server.specs.Frames.{frame_of_json};
 ghost use Rattle.cps_server.specs.Said.{AddsOne};
 
 use crate::saying::push_json;
-use cps_buffer::{Encoding, units_before};
+use cps_buffer::Encoding;
 use cps_cause::Letter;
 use cps_document::Document;
+use cps_lookup::line_of;
 use cps_marks::{Kind, Mark, marks_of};
+use cps_queries::columns_range;
 use cps_rpc::notification;
 use serde_json::{Value, json};
 use std::alloc::{AllocError, Global};
@@ -121,8 +123,8 @@ fn tell_mark(
 ) -> Result<Value, AllocError>
     ensures { IfOk result (λ json. diagnostics.TellsMark encoding (source_lines document.now) (place_of mark.now) (view json)) }
 {
-    let line = line_at(document, mark.line);
-    let range = range_of(alloc, encoding, line, mark)?;
+    let line = line_of(document, mark.line);
+    let range = columns_range(alloc, encoding, line, mark.line, mark.columns)?;
     diagnostic(alloc, mark.kind, range, text_of(&mark.message))
 }
 
@@ -154,33 +156,6 @@ fn fault_diagnostic(alloc: Global, range: Value, message: &str) -> Result<Value,
     ensures { IfOk result (λ json. view json ≡ diagnostics.diagnostic Wrong (view range) message.now) }
 {
     json!(in alloc; {"message": message, "range": range, "severity": 1, "source": "compass"})
-}
-
-/// A line that batch assembly reads of a document's text, from 0; no bytes where there is none.
-fn line_at(document: &Document, at: u32) -> &[u8]
-    ensures { result.now ≡ slice_index_or (source_lines document.now) at [] }
-{
-    let at = at as usize;
-    if at < document.source_len() {
-        document.source_line(at)
-    } else {
-        &[]
-    }
-}
-
-/// The range of a mark in its line.
-fn range_of(
-    alloc: Global,
-    encoding: Encoding,
-    line: &[u8],
-    mark: &Mark,
-) -> Result<Value, AllocError>
-    ensures { IfOk result (λ json. view json ≡ diagnostics.range_of encoding line.now (place_of mark.now)) }
-{
-    let start = units_before(encoding, line, mark.columns.first.saturating_sub(1));
-    let end = units_before(encoding, line, mark.columns.last);
-    let number = mark.line;
-    json!(in alloc; {"end": {"character": end, "line": number}, "start": {"character": start, "line": number}})
 }
 
 /// The name of a flag's letter.

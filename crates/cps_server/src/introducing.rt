@@ -19,7 +19,16 @@ fn capabilities(alloc: Global, encoding: Encoding) -> Result<Value, AllocError>
     ensures { IfOk result (λ json. view json ≡ requests.capabilities encoding) }
 {
     let name = encoding_name(encoding);
-    json!(in alloc; {"positionEncoding": name, "textDocumentSync": {"change": 2, "openClose": true}})
+    json!(in alloc; {
+        "completionProvider": {},
+        "definitionProvider": true,
+        "documentSymbolProvider": true,
+        "hoverProvider": true,
+        "inlayHintProvider": true,
+        "positionEncoding": name,
+        "referencesProvider": true,
+        "textDocumentSync": {"change": 2, "openClose": true}
+    })
 }
 
 fn encoding_name(encoding: Encoding) -> &'static str

@@ -1,5 +1,5 @@
 //! The texts that are open.
-ghost use Rattle.std.specs.Prelude.{◌≡◌, [], ◌∷◌, ◌++◌, map, None, IfSome, OnOk};
+ghost use Rattle.std.specs.Prelude.{◌≡◌, [], ◌∷◌, ◌++◌, map, option_map, None, IfSome, OnOk};
 ghost use Rattle.cps_server.specs.Opened.{IsFirst, value_of};
 ghost use Rattle.cps_server.specs.Standing.{text_under, without};
 
@@ -67,6 +67,14 @@ impl OpenTexts {
             alloc,
             list: Vec::new(alloc),
         }
+    }
+
+    /// The text under a URI, if one is open there.
+    pub fn find(&self, uri: &str) -> Option<&Document>
+        ensures { option_map (λ document. document.now) result ≡ text_under uri.now self.now }
+    {
+        let at = place_of(&self.list, uri)?;
+        Some(&self.list[at].document)
     }
 
     /// Takes out the text under a URI, if one is open there.

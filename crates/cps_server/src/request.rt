@@ -1,6 +1,8 @@
 //! The requests that a server answers.
 ghost use Rattle.std.specs.Prelude.{◌≡◌};
-ghost use Rattle.cps_server.specs.Requests.{request_named};
+ghost use Rattle.cps_server.specs.Requests.{request_named, request_of};
+
+use cps_queries::Query;
 
 /// A request, by its method.
 #[derive(Clone, Copy)]
@@ -9,6 +11,8 @@ pub enum Request {
     Initialize,
     /// The last one.
     Shutdown,
+    /// What an editor asks of a text.
+    Query(Query),
     /// Any other.
     Unknown,
 }
@@ -21,7 +25,17 @@ impl Request {
         match method {
             "initialize" => Request::Initialize,
             "shutdown" => Request::Shutdown,
-            _ => Request::Unknown,
+            _ => Request::of(Query::named(method)),
+        }
+    }
+
+    /// The request that is this query; an unknown one where it is none.
+    fn of(query: Option<Query>) -> Request
+        ensures { result ≡ request_of query }
+    {
+        match query {
+            Some(query) => Request::Query(query),
+            None => Request::Unknown,
         }
     }
 }

@@ -4,18 +4,20 @@ ghost use Rattle.serde_json.specs.Data.{null};
 ghost use Rattle.serde_json.specs.View.{view};
 ghost use Rattle.serde_json.specs.Written.{has_float};
 ghost use Rattle.cps_params.specs.Params as told_params;
-ghost use Rattle.cps_rpc.specs.Message.{message_in, request, value_of};
+ghost use Rattle.cps_rpc.specs.Message as messages;
 ghost use Rattle.cps_server.specs.Answers.{Hears, params_of};
 ghost use Rattle.cps_server.specs.Notices as notices;
+ghost use Rattle.cps_server.specs.Owing.{has_float_owed, value_of};
 ghost use Rattle.cps_server.specs.Requests as requests;
 ghost use Rattle.cps_server.specs.Said.{Into, has_float_id};
 ghost use Rattle.cps_server.specs.Taking.{Changes, Takes};
 ghost use Rattle.cps_server.specs.Standing.{beginning, is_shut_down};
 
 use crate::diagnostics::{ToldText, say_closed, say_text};
+use crate::introducing::introduction;
 use crate::notice::Notice;
 use crate::open_texts::OpenTexts;
-use crate::owed::owed_to;
+use crate::owed::Owed;
 use crate::phase::Phase;
 use crate::request::Request;
 use crate::saying::{push_answer, push_rejection};
@@ -23,6 +25,7 @@ use cps_buffer::Encoding;
 use cps_document::Document;
 use cps_params::{Change, OpenedText, changes_in, encoding_in, uri_in, version_in};
 use cps_pass::Hashing;
+use cps_queries::{Deck, Query, answer};
 use cps_rpc::{ErrorCode, JsonFault, Message, json_of};
 use cps_serving::Service;
 use serde_json::Value;
@@ -106,7 +109,7 @@ impl Server {
 
     /// Hears a message, by its JSON.
     fn hear(&mut self, json: &Value, said: &mut Vec<u8>) -> Result<(), AllocError>
-        ensures { OnOk result (Into (Hears (message_in (view json.now)) (params_of (view json.now))) self.old self.new said.old.items said.new.items) }
+        ensures { OnOk result (Into (Hears (messages.message_in (view json.now)) (params_of (view json.now))) self.old self.new said.old.items said.new.items) }
     {
         let none = Value::Null;
         self.hear_message(Message::of(json), params_in(json, &none), said)
@@ -119,8 +122,8 @@ impl Server {
         params: &Value,
         said: &mut Vec<u8>,
     ) -> Result<(), AllocError>
-        requires { has_float_id (value_of message) ≡ false }
-        ensures { OnOk result (Into (Hears (value_of message.entry) (view params.now)) self.old self.new said.old.items said.new.items) }
+        requires { has_float_id (messages.value_of message) ≡ false }
+        ensures { OnOk result (Into (Hears (messages.value_of message.entry) (view params.now)) self.old self.new said.old.items said.new.items) }
     {
         match message {
             Message::Request { id, method } => self.answer_request(id, method, params, said),
@@ -141,13 +144,50 @@ impl Server {
         said: &mut Vec<u8>,
     ) -> Result<(), AllocError>
         requires { has_float (view id.now) ≡ false }
-        ensures { OnOk result (Into (Hears (request (view id.now) method.now) (view params.now)) self.old self.new said.old.items said.new.items) }
+        ensures { OnOk result (Into (Hears (messages.request (view id.now) method.now) (view params.now)) self.old self.new said.old.items said.new.items) }
     {
         let request = Request::named(method);
-        let phase = self.phase;
+        let owed = self.owed_to(request, params)?;
         self.move_by(request, params);
-        let owed = owed_to(self.alloc, phase, request, params)?;
         push_answer(self.alloc, said, id, owed)
+    }
+
+    /// What is owed to a request, by its parameters.
+    fn owed_to(&self, request: Request, params: &Value) -> Result<Owed, AllocError>
+        ensures owed { IfOk result (λ owed. requests.Owes request (view params.now) self.now (value_of owed)) }
+        ensures floats { IfOk result (λ owed. has_float_owed (value_of owed) ≡ false) }
+    {
+        match (self.phase, request) {
+            (Phase::Uninitialized, Request::Initialize) => {
+                let found = introduction(self.alloc, encoding_in(params))?;
+                Ok(Owed::Found(found))
+            }
+            (Phase::Uninitialized, _) => Ok(Owed::Refused(ErrorCode::ServerNotInitialized)),
+            (Phase::Running, Request::Shutdown) => Ok(Owed::Found(Value::Null)),
+            (Phase::Running, Request::Query(query)) => self.owed_to_query(query, params),
+            (Phase::Running, Request::Unknown) => Ok(Owed::Refused(ErrorCode::MethodNotFound)),
+            _ => Ok(Owed::Refused(ErrorCode::InvalidRequest)),
+        }
+    }
+
+    /// What is owed to a query of a text. It is refused where the parameters are wrong, or name no text that is open.
+    fn owed_to_query(&self, query: Query, params: &Value) -> Result<Owed, AllocError>
+        ensures owed { IfOk result (λ owed. requests.OwesQuery query (view params.now) self.now (value_of owed)) }
+        ensures floats { IfOk result (λ owed. has_float_owed (value_of owed) ≡ false) }
+    {
+        let Some(uri) = uri_in(params) else {
+            return Ok(Owed::Refused(ErrorCode::InvalidParams));
+        };
+        let Some(document) = self.texts.find(uri) else {
+            return Ok(Owed::Refused(ErrorCode::InvalidParams));
+        };
+        let deck = Deck {
+            uri,
+            document,
+            encoding: self.encoding,
+        };
+        let told = answer(self.alloc, query, params, deck)?;
+        Ok(Owed::by(told))
     }
 
     /// Goes where a request leads.

@@ -1,0 +1,3 @@
+pub mod Words
+pub mod Symbols
+pub mod Rows

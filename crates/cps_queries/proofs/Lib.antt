@@ -1,0 +1,3 @@
+mod CompletionLemmas
+mod FloatLemmas
+mod HintLemmas

@@ -1,0 +1,4 @@
+pub mod Ranges
+pub mod Results
+pub mod Queries
+pub mod Telling

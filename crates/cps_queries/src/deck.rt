@@ -1,0 +1,14 @@
+//! The text of which an editor asks.
+
+use cps_buffer::Encoding;
+use cps_document::Document;
+
+/// A text that an editor has open and asks of.
+#[derive(Clone, Copy)]
+pub struct Deck<'a> {
+    /// The URI of its document.
+    pub uri: &'a str,
+    pub document: &'a Document,
+    /// How its positions are counted.
+    pub encoding: Encoding,
+}

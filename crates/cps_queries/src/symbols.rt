@@ -1,0 +1,76 @@
+//! The symbols of a text.
+ghost use Rattle.std.specs.Prelude.{◌≡◌, IfOk};
+ghost use Rattle.serde_json.specs.View.{view};
+ghost use Rattle.cps_assembly.specs.Assembly.{assembly_of};
+ghost use Rattle.cps_document.specs.Document.{source_of_text};
+ghost use Rattle.cps_list.specs.Symbols as texts;
+ghost use Rattle.cps_queries.specs.Results.{TellsEach, TellsSymbol, TellsSymbols, symbol};
+
+use crate::deck::Deck;
+use crate::ranges::columns_range;
+use cps_assembly::View;
+use cps_document::Document;
+use cps_list::{Mention, push_value, symbol_value};
+use cps_lookup::{columns_of, definitions_in, filled_columns, line_of};
+use cps_text::Name;
+use serde_json::{Value, json};
+use std::alloc::{AllocError, Global};
+
+/// All symbols that lines of a deck define, with their values, in the order of the lines.
+pub fn tell_symbols(alloc: Global, deck: Deck<'_>) -> Result<Value, AllocError>
+    ensures { IfOk result (λ json. TellsSymbols deck.entry.document.now (view json)) }
+{
+    let definitions = definitions_in(alloc, deck.document)?;
+    tell_definitions(alloc, deck, &definitions)
+}
+
+fn tell_definitions(
+    alloc: Global,
+    deck: Deck<'_>,
+    definitions: &[Mention],
+) -> Result<Value, AllocError>
+    ensures { IfOk result (λ json. TellsEach (TellsSymbol (assembly_of (source_of_text deck.entry.document.now)).finals) definitions.now (view json)) }
+{
+    let mut told = Vec::new(alloc);
+    for definition in definitions {
+        told.push(tell_symbol(alloc, deck, definition)?)?;
+    }
+    Ok(Value::from(told))
+}
+
+/// The definition of a symbol.
+fn tell_symbol(alloc: Global, deck: Deck<'_>, definition: &Mention) -> Result<Value, AllocError>
+    ensures { IfOk result (λ json. TellsSymbol (assembly_of (source_of_text deck.entry.document.now)).finals definition.now (view json)) }
+{
+    let name = definition.name;
+    let number = definition.line.saturating_sub(1);
+    let line = line_of(deck.document, number);
+    let range = columns_range(alloc, deck.encoding, line, number, filled_columns(line))?;
+    let selection = columns_range(alloc, deck.encoding, line, number, columns_of(line, name))?;
+    let value = value_text(alloc, deck.document, name)?;
+    symbol(alloc, &value, name.text(), range, selection)
+}
+
+/// The final value of a symbol, as the cross-reference has it.
+fn value_text(alloc: Global, document: &Document, name: Name) -> Result<Vec<u8>, AllocError>
+    ensures { IfOk result (λ value. value.items ≡ texts.value_text (texts.value_of (assembly_of (source_of_text document.now)).finals name)) }
+{
+    let mut text = Vec::new(alloc);
+    push_value(&mut text, symbol_value(document.session().finals(), name))?;
+    Ok(text)
+}
+
+/// A symbol with its value, the range of its line, and that of its name there.
+fn symbol(
+    alloc: Global,
+    value: &[u8],
+    name: &[u8],
+    range: Value,
+    selection: Value,
+) -> Result<Value, AllocError>
+    ensures { IfOk result (λ json. view json ≡ symbol value.now name.now (view range) (view selection)) }
+{
+    let value = String::from_utf8_lossy(alloc, value)?;
+    let name = String::from_utf8_lossy(alloc, name)?;
+    json!(in alloc; {"detail": (&value), "kind": 14, "name": (&name), "range": range, "selectionRange": selection})
+}
