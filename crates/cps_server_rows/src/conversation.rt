@@ -11,6 +11,13 @@ use std::process::Abort;
 /// How a server ends: whether `shutdown` came before.
 pub type End = Result<bool, ServerFault>;
 
+/// How a server ends, and the bytes that it says.
+#[derive(Clone, Copy)]
+pub struct Outcome<'a> {
+    pub end: &'a End,
+    pub said: &'a [u8],
+}
+
 /// The messages of an editor, how the server ends, and its messages.
 pub type Row = (&'static [&'static str], End, &'static [&'static str]);
 
@@ -24,11 +31,11 @@ pub const INITIALIZE_UTF8: &str =
 
 /// The answer to the former.
 pub const UTF16: &str =
-    "{\"id\":1,\"jsonrpc\":\"2.0\",\"result\":{\"capabilities\":{\"positionEncoding\":\"utf-16\",\"textDocumentSync\":{\"change\":2,\"openClose\":true}},\"serverInfo\":{\"name\":\"compass\"}}}";
+    "{\"id\":1,\"jsonrpc\":\"2.0\",\"result\":{\"capabilities\":{\"completionProvider\":{},\"definitionProvider\":true,\"documentSymbolProvider\":true,\"hoverProvider\":true,\"inlayHintProvider\":true,\"positionEncoding\":\"utf-16\",\"referencesProvider\":true,\"textDocumentSync\":{\"change\":2,\"openClose\":true}},\"serverInfo\":{\"name\":\"compass\"}}}";
 
 /// The answer to the latter.
 pub const UTF8: &str =
-    "{\"id\":1,\"jsonrpc\":\"2.0\",\"result\":{\"capabilities\":{\"positionEncoding\":\"utf-8\",\"textDocumentSync\":{\"change\":2,\"openClose\":true}},\"serverInfo\":{\"name\":\"compass\"}}}";
+    "{\"id\":1,\"jsonrpc\":\"2.0\",\"result\":{\"capabilities\":{\"completionProvider\":{},\"definitionProvider\":true,\"documentSymbolProvider\":true,\"hoverProvider\":true,\"inlayHintProvider\":true,\"positionEncoding\":\"utf-8\",\"referencesProvider\":true,\"textDocumentSync\":{\"change\":2,\"openClose\":true}},\"serverInfo\":{\"name\":\"compass\"}}}";
 
 pub const SHUTDOWN: &str = "{\"jsonrpc\":\"2.0\",\"id\":9,\"method\":\"shutdown\"}";
 
@@ -74,13 +81,12 @@ pub fn assert_outcome<R: Read>(
     alloc: Global,
     at: usize,
     reader: &mut Counted<R>,
-    end: &End,
-    said: &[u8],
+    want: Outcome<'_>,
 ) {
     let mut writer = Counted::new(Vec::new(alloc));
-    assert_same(rt, at, &run(alloc, reader, &mut writer), end);
+    assert_same(rt, at, &run(alloc, reader, &mut writer), want.end);
     let text = writer.into_inner();
-    assert_text(rt, at, &text, said);
+    assert_text(rt, at, &text, want.said);
     drop(text);
 }
 
@@ -90,7 +96,7 @@ pub fn assert_row(rt: &impl Abort, alloc: Global, at: usize, row: &Row) {
     let input = framed(rt, alloc, messages);
     let want = framed(rt, alloc, said);
     let mut reader = Counted::new(input.as_slice());
-    assert_outcome(rt, alloc, at, &mut reader, end, &want);
+    assert_outcome(rt, alloc, at, &mut reader, Outcome { end, said: &want });
     drop(want);
     drop(input);
 }

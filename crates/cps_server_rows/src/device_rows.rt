@@ -1,5 +1,5 @@
 //! Where the bytes of a conversation come in pieces, and where a read or a write fails.
-use super::conversation::{assert_outcome, assert_same, run};
+use super::conversation::{Outcome, assert_outcome, assert_same, run};
 use cps_devices::{FailsAt, SlowReader, SlowWriter};
 use cps_server::ServerFault;
 use cps_text::Counted;
@@ -16,11 +16,11 @@ Content-Length: 33\r\n\r\n{\"jsonrpc\":\"2.0\",\"method\":\"exit\"}";
 
 /// What is said to the first.
 const INTRODUCED: &str =
-    "Content-Length: 161\r\n\r\n{\"id\":1,\"jsonrpc\":\"2.0\",\"result\":{\"capabilities\":{\"positionEncoding\":\"utf-16\",\"textDocumentSync\":{\"change\":2,\"openClose\":true}},\"serverInfo\":{\"name\":\"compass\"}}}";
+    "Content-Length: 313\r\n\r\n{\"id\":1,\"jsonrpc\":\"2.0\",\"result\":{\"capabilities\":{\"completionProvider\":{},\"definitionProvider\":true,\"documentSymbolProvider\":true,\"hoverProvider\":true,\"inlayHintProvider\":true,\"positionEncoding\":\"utf-16\",\"referencesProvider\":true,\"textDocumentSync\":{\"change\":2,\"openClose\":true}},\"serverInfo\":{\"name\":\"compass\"}}}";
 
 /// What is said to all.
 const SAID: &str =
-    "Content-Length: 161\r\n\r\n{\"id\":1,\"jsonrpc\":\"2.0\",\"result\":{\"capabilities\":{\"positionEncoding\":\"utf-16\",\"textDocumentSync\":{\"change\":2,\"openClose\":true}},\"serverInfo\":{\"name\":\"compass\"}}}\
+    "Content-Length: 313\r\n\r\n{\"id\":1,\"jsonrpc\":\"2.0\",\"result\":{\"capabilities\":{\"completionProvider\":{},\"definitionProvider\":true,\"documentSymbolProvider\":true,\"hoverProvider\":true,\"inlayHintProvider\":true,\"positionEncoding\":\"utf-16\",\"referencesProvider\":true,\"textDocumentSync\":{\"change\":2,\"openClose\":true}},\"serverInfo\":{\"name\":\"compass\"}}}\
 Content-Length: 270\r\n\r\n{\"jsonrpc\":\"2.0\",\"method\":\"textDocument/publishDiagnostics\",\"params\":{\"diagnostics\":[{\"code\":\"U\",\"message\":\"no line gives Q a value; it counts as 0\",\"range\":{\"end\":{\"character\":19,\"line\":0},\"start\":{\"character\":18,\"line\":0}},\"severity\":1,\"source\":\"compass\"}],\"uri\":\"a\"}}";
 
 /// A reader that gives two pieces, one a call, and then ends.
@@ -47,14 +47,12 @@ fn answers_what_comes_in_two_pieces(rt: HostRuntime) {
             first: &INPUT[..cut],
             second: &INPUT[cut..],
         });
-        assert_outcome(
-            &rt,
-            rt.alloc(),
-            cut,
-            &mut reader,
-            &Ok(false),
-            SAID.as_bytes(),
-        );
+        let end = Ok(false);
+        let want = Outcome {
+            end: &end,
+            said: SAID.as_bytes(),
+        };
+        assert_outcome(&rt, rt.alloc(), cut, &mut reader, want);
     }
 }
 
@@ -65,7 +63,12 @@ fn answers_bytes_that_come_alone(rt: HostRuntime) {
         rest: INPUT,
         fails: true,
     });
-    assert_outcome(&rt, rt.alloc(), 0, &mut reader, &Ok(false), SAID.as_bytes());
+    let end = Ok(false);
+    let want = Outcome {
+        end: &end,
+        said: SAID.as_bytes(),
+    };
+    assert_outcome(&rt, rt.alloc(), 0, &mut reader, want);
     assert_same(&rt, 0, &reader.calls(), &262);
 }
 
@@ -84,14 +87,11 @@ fn tells_a_failed_read(rt: HostRuntime) {
     for (came, failing) in (1..=262).enumerate() {
         let mut reader = Counted::new(FailsAt::new(INPUT, failing));
         let end = Err(ServerFault::ReadFault);
-        assert_outcome(
-            &rt,
-            rt.alloc(),
-            came,
-            &mut reader,
-            &end,
-            said_to(came).as_bytes(),
-        );
+        let want = Outcome {
+            end: &end,
+            said: said_to(came).as_bytes(),
+        };
+        assert_outcome(&rt, rt.alloc(), came, &mut reader, want);
         assert_same(&rt, came, &reader.calls(), &failing);
     }
 }

@@ -1,39 +1,39 @@
 //! How conversations begin and end: by JSON-RPC 2.0 and the Language Server Protocol.
 use super::conversation::{
-    EXIT, End, INITIALIZE, INITIALIZE_UTF8, Row, SHUTDOWN, SHUTDOWN_SAID, UTF8, UTF16,
+    EXIT, End, INITIALIZE, INITIALIZE_UTF8, Outcome, Row, SHUTDOWN, SHUTDOWN_SAID, UTF8, UTF16,
     assert_outcome, assert_row,
 };
 use cps_server::ServerFault;
 use cps_text::Counted;
 
 /// A request that no part of the introduction promises.
-const HOVER: &str =
-    "{\"jsonrpc\":\"2.0\",\"id\":\"h\",\"method\":\"textDocument/hover\",\"params\":{}}";
+const RENAME: &str =
+    "{\"jsonrpc\":\"2.0\",\"id\":\"r\",\"method\":\"textDocument/rename\",\"params\":{}}";
 
 /// Conversations that open no text.
 const CONVERSATIONS: [Row; 9] = [
     // all requests in each phase; nothing behind `exit` is answered
     (
         &[
-            HOVER,
+            RENAME,
             INITIALIZE_UTF8,
             INITIALIZE,
-            HOVER,
+            RENAME,
             SHUTDOWN,
-            HOVER,
+            RENAME,
             SHUTDOWN,
             INITIALIZE,
             EXIT,
-            HOVER,
+            RENAME,
         ],
         Ok(true),
         &[
-            "{\"error\":{\"code\":-32002,\"message\":\"Server not initialized\"},\"id\":\"h\",\"jsonrpc\":\"2.0\"}",
+            "{\"error\":{\"code\":-32002,\"message\":\"Server not initialized\"},\"id\":\"r\",\"jsonrpc\":\"2.0\"}",
             UTF8,
             "{\"error\":{\"code\":-32600,\"message\":\"Invalid Request\"},\"id\":1,\"jsonrpc\":\"2.0\"}",
-            "{\"error\":{\"code\":-32601,\"message\":\"Method not found\"},\"id\":\"h\",\"jsonrpc\":\"2.0\"}",
+            "{\"error\":{\"code\":-32601,\"message\":\"Method not found\"},\"id\":\"r\",\"jsonrpc\":\"2.0\"}",
             SHUTDOWN_SAID,
-            "{\"error\":{\"code\":-32600,\"message\":\"Invalid Request\"},\"id\":\"h\",\"jsonrpc\":\"2.0\"}",
+            "{\"error\":{\"code\":-32600,\"message\":\"Invalid Request\"},\"id\":\"r\",\"jsonrpc\":\"2.0\"}",
             "{\"error\":{\"code\":-32600,\"message\":\"Invalid Request\"},\"id\":9,\"jsonrpc\":\"2.0\"}",
             "{\"error\":{\"code\":-32600,\"message\":\"Invalid Request\"},\"id\":1,\"jsonrpc\":\"2.0\"}",
         ],
@@ -117,6 +117,10 @@ const BYTES: [(&[u8], End, &str); 3] = [
 fn reads_frames(rt: HostRuntime) {
     for (at, (input, end, said)) in BYTES.iter().enumerate() {
         let mut reader = Counted::new(*input);
-        assert_outcome(&rt, rt.alloc(), at, &mut reader, end, said.as_bytes());
+        let want = Outcome {
+            end,
+            said: said.as_bytes(),
+        };
+        assert_outcome(&rt, rt.alloc(), at, &mut reader, want);
     }
 }

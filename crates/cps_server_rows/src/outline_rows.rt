@@ -1,0 +1,152 @@
+//! The symbols of a text: as an outline, and as words that may be typed.
+use super::asking::{BY_UTF8, BY_UTF16, Inquiry, assert_answers, assert_parts};
+use super::decks::{
+    LETTERS, NAMES, PAIR, SETTINGS, UNDEFINED, UNDEFINED_TOLD, WIDE, WIDE_UTF8, WIDE_UTF16,
+};
+
+/// A label, a value and a word, by the lines that define them.
+const PROGRAM: Inquiry = Inquiry {
+    begins: BY_UTF16,
+    lines: NAMES,
+    told: "[]",
+    questions: &[(
+        "documentSymbol",
+        "",
+        r#"[{"detail":"00000000000000000100","kind":14,"name":"START","range":{"end":{"character":22,"line":3},"start":{"character":0,"line":3}},"selectionRange":{"end":{"character":5,"line":3},"start":{"character":0,"line":3}}},{"detail":"00000000000000000005","kind":14,"name":"COUNT","range":{"end":{"character":18,"line":7},"start":{"character":0,"line":7}},"selectionRange":{"end":{"character":5,"line":7},"start":{"character":0,"line":7}}},{"detail":"00000000000000000102","kind":14,"name":"ANSWER","range":{"end":{"character":18,"line":8},"start":{"character":0,"line":8}},"selectionRange":{"end":{"character":6,"line":8},"start":{"character":0,"line":8}}}]"#,
+    )],
+};
+
+/// Symbols that are read in small letters.
+const SMALL: Inquiry = Inquiry {
+    begins: BY_UTF16,
+    lines: LETTERS,
+    told: "[]",
+    questions: &[(
+        "documentSymbol",
+        "",
+        r#"[{"detail":"00000000000000000001","kind":14,"name":"ONE","range":{"end":{"character":18,"line":1},"start":{"character":0,"line":1}},"selectionRange":{"end":{"character":3,"line":1},"start":{"character":0,"line":1}}},{"detail":"00000000000000000001","kind":14,"name":"ONE1","range":{"end":{"character":20,"line":3},"start":{"character":0,"line":3}},"selectionRange":{"end":{"character":4,"line":3},"start":{"character":0,"line":3}}}]"#,
+    )],
+};
+
+/// Symbols of an expansion. One doesn't stand in the line of the call.
+const EXPANSION: Inquiry = Inquiry {
+    begins: BY_UTF16,
+    lines: PAIR,
+    told: "[]",
+    questions: &[(
+        "documentSymbol",
+        "",
+        r#"[{"detail":"00000000000000000000","kind":14,"name":"FIRST","range":{"end":{"character":22,"line":4},"start":{"character":10,"line":4}},"selectionRange":{"end":{"character":22,"line":4},"start":{"character":17,"line":4}}},{"detail":"00000000000000000001","kind":14,"name":"SECOND","range":{"end":{"character":22,"line":4},"start":{"character":10,"line":4}},"selectionRange":{"end":{"character":22,"line":4},"start":{"character":10,"line":4}}}]"#,
+    )],
+};
+
+/// Each call defines a generated name, which isn't shown.
+const GENERATED: Inquiry = Inquiry {
+    begins: BY_UTF16,
+    lines: &[
+        "W         MACRO  N",
+        "          LOCAL  LP",
+        "LP        SB1    B1+N",
+        "          EQ     LP",
+        "          ENDM",
+        "          W      1",
+        "AT        W      2",
+    ],
+    told: "[]",
+    questions: &[(
+        "documentSymbol",
+        "",
+        r#"[{"detail":"00000000000000000001","kind":14,"name":"AT","range":{"end":{"character":18,"line":6},"start":{"character":0,"line":6}},"selectionRange":{"end":{"character":2,"line":6},"start":{"character":0,"line":6}}}]"#,
+    )],
+};
+
+/// A symbol that two lines define has its last value.
+const SET: Inquiry = Inquiry {
+    begins: BY_UTF16,
+    lines: SETTINGS,
+    told: "[]",
+    questions: &[(
+        "documentSymbol",
+        "",
+        r#"[{"detail":"00000000000000000002","kind":14,"name":"N","range":{"end":{"character":18,"line":0},"start":{"character":0,"line":0}},"selectionRange":{"end":{"character":1,"line":0},"start":{"character":0,"line":0}}},{"detail":"00000000000000000002","kind":14,"name":"N","range":{"end":{"character":20,"line":2},"start":{"character":0,"line":2}},"selectionRange":{"end":{"character":1,"line":2},"start":{"character":0,"line":2}}}]"#,
+    )],
+};
+
+/// A symbol that no line defines.
+const NOWHERE: Inquiry = Inquiry {
+    begins: BY_UTF16,
+    lines: UNDEFINED,
+    told: UNDEFINED_TOLD,
+    questions: &[("documentSymbol", "", "[]")],
+};
+
+/// Ends of lines by units of UTF-16, and by bytes.
+const UNITS: Inquiry = Inquiry {
+    begins: BY_UTF16,
+    lines: WIDE,
+    told: WIDE_UTF16,
+    questions: &[(
+        "documentSymbol",
+        "",
+        r#"[{"detail":"00000000000000000000","kind":14,"name":"LP","range":{"end":{"character":20,"line":0},"start":{"character":0,"line":0}},"selectionRange":{"end":{"character":2,"line":0},"start":{"character":0,"line":0}}}]"#,
+    )],
+};
+
+const BYTES: Inquiry = Inquiry {
+    begins: BY_UTF8,
+    lines: WIDE,
+    told: WIDE_UTF8,
+    questions: &[(
+        "documentSymbol",
+        "",
+        r#"[{"detail":"00000000000000000000","kind":14,"name":"LP","range":{"end":{"character":21,"line":0},"start":{"character":0,"line":0}},"selectionRange":{"end":{"character":2,"line":0},"start":{"character":0,"line":0}}}]"#,
+    )],
+};
+
+const ROWS: [Inquiry; 8] = [
+    PROGRAM, SMALL, EXPANSION, GENERATED, SET, NOWHERE, UNITS, BYTES,
+];
+
+#[test]
+fn outlines_texts(rt: HostRuntime) {
+    for (at, row) in ROWS.iter().enumerate() {
+        assert_answers(&rt, rt.alloc(), at, row);
+    }
+}
+
+/// A position is sent too, as editors do.
+const TYPED: Inquiry = Inquiry {
+    begins: BY_UTF16,
+    lines: NAMES,
+    told: "[]",
+    questions: &[("completion", r#","position":{"line":3,"character":18}"#, "")],
+};
+
+/// And none.
+const SET_TYPED: Inquiry = Inquiry {
+    begins: BY_UTF16,
+    lines: SETTINGS,
+    told: "[]",
+    questions: &[("completion", "", "")],
+};
+
+/// The symbols come first; behind them, among others, an operation.
+#[test]
+fn completes_words(rt: HostRuntime) {
+    let has = [
+        r#"{"id":5,"jsonrpc":"2.0","result":[{"detail":"00000000000000000100","kind":21,"label":"START"},{"detail":"00000000000000000005","kind":21,"label":"COUNT"},{"detail":"00000000000000000102","kind":21,"label":"ANSWER"},{"#,
+        r#""kind":14,"label":"BSS"}"#,
+    ];
+    let lacks = [r#""kind":21,"label":"ANSWER"},{"detail":"00000000000000000"#];
+    assert_parts(&rt, rt.alloc(), &TYPED, &has, &lacks);
+}
+
+/// A symbol that two lines define is offered once.
+#[test]
+fn completes_once(rt: HostRuntime) {
+    let has = [
+        r#"{"id":5,"jsonrpc":"2.0","result":[{"detail":"00000000000000000002","kind":21,"label":"N"},{"#,
+    ];
+    let lacks = [r#""kind":21,"label":"N"},{"detail":"00000000000000000002""#];
+    assert_parts(&rt, rt.alloc(), &SET_TYPED, &has, &lacks);
+}

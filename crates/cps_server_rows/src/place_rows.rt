@@ -1,0 +1,255 @@
+//! Where a symbol is defined, and where it is read.
+use super::asking::{BY_UTF8, BY_UTF16, Inquiry, assert_answers};
+use super::decks::{
+    LETTERS, NAMES, PAIR, SETTINGS, UNDEFINED, UNDEFINED_TOLD, WIDE, WIDE_UTF8, WIDE_UTF16,
+};
+
+/// Labels.
+const LABELS: Inquiry = Inquiry {
+    begins: BY_UTF16,
+    lines: NAMES,
+    told: "[]",
+    questions: &[
+        // from an operand, and from the label itself
+        (
+            "definition",
+            r#","position":{"line":5,"character":22}"#,
+            r#"{"range":{"end":{"character":5,"line":3},"start":{"character":0,"line":3}},"uri":"a"}"#,
+        ),
+        (
+            "definition",
+            r#","position":{"line":3,"character":0}"#,
+            r#"{"range":{"end":{"character":5,"line":3},"start":{"character":0,"line":3}},"uri":"a"}"#,
+        ),
+        // an operation, a register, a place between blanks, and no line
+        (
+            "definition",
+            r#","position":{"line":4,"character":11}"#,
+            "null",
+        ),
+        (
+            "definition",
+            r#","position":{"line":5,"character":18}"#,
+            "null",
+        ),
+        (
+            "definition",
+            r#","position":{"line":5,"character":14}"#,
+            "null",
+        ),
+        (
+            "definition",
+            r#","position":{"line":10,"character":0}"#,
+            "null",
+        ),
+        // the line that reads a label, and the one that defines it too
+        (
+            "references",
+            r#","position":{"line":7,"character":3},"context":{"includeDeclaration":false}"#,
+            r#"[{"range":{"end":{"character":22,"line":3},"start":{"character":17,"line":3}},"uri":"a"}]"#,
+        ),
+        (
+            "references",
+            r#","position":{"line":7,"character":3},"context":{"includeDeclaration":true}"#,
+            r#"[{"range":{"end":{"character":22,"line":3},"start":{"character":17,"line":3}},"uri":"a"},{"range":{"end":{"character":5,"line":7},"start":{"character":0,"line":7}},"uri":"a"}]"#,
+        ),
+        // without a context
+        (
+            "references",
+            r#","position":{"line":8,"character":6}"#,
+            r#"[{"range":{"end":{"character":23,"line":4},"start":{"character":17,"line":4}},"uri":"a"}]"#,
+        ),
+        (
+            "references",
+            r#","position":{"line":8,"character":6},"context":{}"#,
+            r#"[{"range":{"end":{"character":23,"line":4},"start":{"character":17,"line":4}},"uri":"a"}]"#,
+        ),
+        // an operation, and no line
+        (
+            "references",
+            r#","position":{"line":4,"character":11},"context":{"includeDeclaration":true}"#,
+            "[]",
+        ),
+        (
+            "references",
+            r#","position":{"line":11,"character":3},"context":{"includeDeclaration":true}"#,
+            "[]",
+        ),
+    ],
+};
+
+/// From a comment, in small letters, and beside a longer word: comments read nothing.
+const WHOLE: Inquiry = Inquiry {
+    begins: BY_UTF16,
+    lines: LETTERS,
+    told: "[]",
+    questions: &[
+        (
+            "definition",
+            r#","position":{"line":0,"character":17}"#,
+            r#"{"range":{"end":{"character":3,"line":1},"start":{"character":0,"line":1}},"uri":"a"}"#,
+        ),
+        (
+            "references",
+            r#","position":{"line":0,"character":17},"context":{"includeDeclaration":true}"#,
+            r#"[{"range":{"end":{"character":3,"line":1},"start":{"character":0,"line":1}},"uri":"a"},{"range":{"end":{"character":23,"line":2},"start":{"character":20,"line":2}},"uri":"a"},{"range":{"end":{"character":20,"line":3},"start":{"character":17,"line":3}},"uri":"a"}]"#,
+        ),
+        (
+            "references",
+            r#","position":{"line":3,"character":4},"context":{"includeDeclaration":false}"#,
+            "[]",
+        ),
+    ],
+};
+
+/// Symbols that lines of an expansion define: the argument of its call, and one that doesn't stand in the line of the call, between its blanks.
+const EXPANSION: Inquiry = Inquiry {
+    begins: BY_UTF16,
+    lines: PAIR,
+    told: "[]",
+    questions: &[
+        (
+            "definition",
+            r#","position":{"line":5,"character":17}"#,
+            r#"{"range":{"end":{"character":22,"line":4},"start":{"character":17,"line":4}},"uri":"a"}"#,
+        ),
+        (
+            "definition",
+            r#","position":{"line":6,"character":17}"#,
+            r#"{"range":{"end":{"character":22,"line":4},"start":{"character":10,"line":4}},"uri":"a"}"#,
+        ),
+        // from the body of the macro
+        (
+            "references",
+            r#","position":{"line":2,"character":0},"context":{"includeDeclaration":true}"#,
+            r#"[{"range":{"end":{"character":22,"line":4},"start":{"character":10,"line":4}},"uri":"a"},{"range":{"end":{"character":23,"line":6},"start":{"character":17,"line":6}},"uri":"a"}]"#,
+        ),
+    ],
+};
+
+/// Blank lines that end a DUP, and so define symbols: of a line of blanks the first column is told.
+const BLANK: Inquiry = Inquiry {
+    begins: BY_UTF16,
+    lines: &[
+        "          DUP    1,2",
+        "ONE       BSS    1",
+        "",
+        "          DUP    1,2",
+        "TWO       BSS    1",
+        "   ",
+        "          CON    ONE,TWO",
+    ],
+    told: "[]",
+    questions: &[
+        (
+            "definition",
+            r#","position":{"line":6,"character":17}"#,
+            r#"{"range":{"end":{"character":0,"line":2},"start":{"character":0,"line":2}},"uri":"a"}"#,
+        ),
+        (
+            "definition",
+            r#","position":{"line":6,"character":21}"#,
+            r#"{"range":{"end":{"character":1,"line":5},"start":{"character":0,"line":5}},"uri":"a"}"#,
+        ),
+    ],
+};
+
+/// A symbol that two lines define. The second one reads it too.
+const SET: Inquiry = Inquiry {
+    begins: BY_UTF16,
+    lines: SETTINGS,
+    told: "[]",
+    questions: &[
+        (
+            "definition",
+            r#","position":{"line":3,"character":17}"#,
+            r#"{"range":{"end":{"character":1,"line":0},"start":{"character":0,"line":0}},"uri":"a"}"#,
+        ),
+        (
+            "references",
+            r#","position":{"line":3,"character":17},"context":{"includeDeclaration":false}"#,
+            r#"[{"range":{"end":{"character":18,"line":1},"start":{"character":17,"line":1}},"uri":"a"},{"range":{"end":{"character":1,"line":2},"start":{"character":0,"line":2}},"uri":"a"},{"range":{"end":{"character":18,"line":3},"start":{"character":17,"line":3}},"uri":"a"}]"#,
+        ),
+        (
+            "references",
+            r#","position":{"line":2,"character":17},"context":{"includeDeclaration":true}"#,
+            r#"[{"range":{"end":{"character":1,"line":0},"start":{"character":0,"line":0}},"uri":"a"},{"range":{"end":{"character":18,"line":1},"start":{"character":17,"line":1}},"uri":"a"},{"range":{"end":{"character":1,"line":2},"start":{"character":0,"line":2}},"uri":"a"},{"range":{"end":{"character":1,"line":2},"start":{"character":0,"line":2}},"uri":"a"},{"range":{"end":{"character":18,"line":3},"start":{"character":17,"line":3}},"uri":"a"}]"#,
+        ),
+    ],
+};
+
+/// A symbol that no line defines.
+const NOWHERE: Inquiry = Inquiry {
+    begins: BY_UTF16,
+    lines: UNDEFINED,
+    told: UNDEFINED_TOLD,
+    questions: &[
+        (
+            "definition",
+            r#","position":{"line":0,"character":17}"#,
+            "null",
+        ),
+        (
+            "references",
+            r#","position":{"line":0,"character":18},"context":{"includeDeclaration":true}"#,
+            r#"[{"range":{"end":{"character":18,"line":0},"start":{"character":17,"line":0}},"uri":"a"}]"#,
+        ),
+    ],
+};
+
+/// Places by units of UTF-16.
+const UNITS: Inquiry = Inquiry {
+    begins: BY_UTF16,
+    lines: WIDE,
+    told: WIDE_UTF16,
+    questions: &[
+        (
+            "definition",
+            r#","position":{"line":1,"character":19}"#,
+            r#"{"range":{"end":{"character":2,"line":0},"start":{"character":0,"line":0}},"uri":"a"}"#,
+        ),
+        (
+            "definition",
+            r#","position":{"line":1,"character":18}"#,
+            "null",
+        ),
+        (
+            "references",
+            r#","position":{"line":0,"character":0},"context":{"includeDeclaration":false}"#,
+            r#"[{"range":{"end":{"character":21,"line":1},"start":{"character":19,"line":1}},"uri":"a"}]"#,
+        ),
+    ],
+};
+
+/// Places by bytes.
+const BYTES: Inquiry = Inquiry {
+    begins: BY_UTF8,
+    lines: WIDE,
+    told: WIDE_UTF8,
+    questions: &[
+        (
+            "definition",
+            r#","position":{"line":1,"character":22}"#,
+            r#"{"range":{"end":{"character":2,"line":0},"start":{"character":0,"line":0}},"uri":"a"}"#,
+        ),
+        (
+            "definition",
+            r#","position":{"line":1,"character":19}"#,
+            "null",
+        ),
+        (
+            "references",
+            r#","position":{"line":0,"character":0},"context":{"includeDeclaration":false}"#,
+            r#"[{"range":{"end":{"character":24,"line":1},"start":{"character":22,"line":1}},"uri":"a"}]"#,
+        ),
+    ],
+};
+
+const ROWS: [Inquiry; 8] = [LABELS, WHOLE, EXPANSION, BLANK, SET, NOWHERE, UNITS, BYTES];
+
+#[test]
+fn finds_symbols(rt: HostRuntime) {
+    for (at, row) in ROWS.iter().enumerate() {
+        assert_answers(&rt, rt.alloc(), at, row);
+    }
+}
