@@ -3,11 +3,13 @@
 Positions and changes are those of the Language Server Protocol, by bytes of UTF-8 or units of UTF-16. What lines are shown by is
 what a batch writes of them; where a symbol stands in a line is searched for.
 """
+import itertools
 import re
 
 from random_lines import MOST_BYTES, MOST_LINES, WRONG
 
 MOST_ROWS = 40
+MOST_CAUSES = 10
 END, OPEN_END = "the source ends ", "open range at end of source"
 WORD, SYMBOL, REGISTER = re.compile(rb"[A-Za-z0-9.=]+"), re.compile(r"[A-Z.][A-Z0-9.=]{0,7}"), re.compile(r"[ABX][0-7]")
 
@@ -126,13 +128,14 @@ class Shown:
         return word if SYMBOL.fullmatch(word) and not REGISTER.fullmatch(word) and word in self.symbols else None
 
     def causes(self, number):
-        """The causes of a line's flags, a row for each, without the statements of its expansion."""
+        """The causes of a line's flags, without the statements of its expansion: the first 10, and once one that follows itself."""
         if not any(row[:8].strip() for row in self.rows[number]):
             return []
         if self.reports is None:
             self.reports = self.texts.reports(self.source)
         told = [(letter, message.split("\n")[0]) for line, _, letter, message, _ in self.reports if line == number]
-        return [f"{letter}: {cause}" for letter, cause in told if not cause.startswith(END)]
+        rows = [row for row, _ in itertools.groupby(f"{letter}: {cause}" for letter, cause in told if not cause.startswith(END))]
+        return rows[:MOST_CAUSES] + ([".."] if len(rows) > MOST_CAUSES else [])
 
     # ---- ranges
 
