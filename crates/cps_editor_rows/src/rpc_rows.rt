@@ -1,6 +1,6 @@
 //! What messages ask, and messages that are sent: by JSON-RPC 2.0 and the Language Server Protocol.
 use super::assertions::{assert_row, push_ended};
-use cps_rpc::{ErrorCode, JsonFault, Message, json_of, notification, refusal, response};
+use cps_rpc::{ErrorCode, JsonFault, Message, json_of, refusal, response};
 use serde_json::Value;
 use std::alloc::Global;
 use std::process::Abort;
@@ -123,16 +123,6 @@ fn writes_a_response(rt: HostRuntime) {
     assert_json(&rt, rt.alloc(), 0, &json, want);
     drop(json);
     drop(id);
-}
-
-#[test]
-fn writes_a_notification(rt: HostRuntime) {
-    let params = json_of(rt.alloc(), b"{\"type\":3,\"message\":\"a\"}").expect(&rt, "JSON");
-    let json = notification(rt.alloc(), "window/logMessage", params).expect(&rt, "memory");
-    let want =
-        "{\"jsonrpc\":\"2.0\",\"method\":\"window/logMessage\",\"params\":{\"message\":\"a\",\"type\":3}}";
-    assert_json(&rt, rt.alloc(), 0, &json, want);
-    drop(json);
 }
 
 /// Errors, and the refusals of request 7. The numbers and texts are those of the specifications, but for the last text, which is our own.

@@ -30,8 +30,11 @@ const SYMBOLS: &str = "START    00000000000000000100 4 7\n";
 
 const FLAGS: &str = "0 flagged lines\n";
 
+/// A file: its name and its text.
+type File = (&'static str, &'static str);
+
 /// The files in the order in which they are placed.
-const FILES: [(&str, &str); 4] = [
+const FILES: [File; 4] = [
     ("t1.list", LISTING),
     ("t1.oct", BINARY),
     ("t1.refs", SYMBOLS),
@@ -49,13 +52,7 @@ const ALL: Outputs<'static> = Outputs {
 type Row = (u64, Option<&'static str>);
 
 /// Asserts what is told where one call fails, and that these files are placed and no other, and no draft is left.
-fn assert_row(
-    rt: &impl Abort,
-    alloc: Global,
-    outputs: Outputs<'_>,
-    row: &Row,
-    files: &[(&str, &str)],
-) {
+fn assert_row(rt: &impl Abort, alloc: Global, outputs: Outputs<'_>, row: &Row, files: &[File]) {
     let (failing, told) = *row;
     let ran = run(rt, alloc, PROGRAM, outputs, failing);
     assert_text(rt, failing, ran.told.as_deref(), told);

@@ -99,8 +99,9 @@ fn refuses_statements(rt: HostRuntime) {
     }
 }
 
-/// Puts bits of a number over a word's.
-fn deposit(rt: &impl Abort, words: &mut Words, address: u32, first: u8, width: u8, number: u64) {
+/// Puts bits of a number over a word's, from a place on.
+fn deposit(rt: &impl Abort, words: &mut Words, start: Place, width: u8, number: u64) {
+    let (address, first) = (start.word, start.used);
     assert!(rt; address < 1000 && first < 60 && 0 < width && width <= 60 - first);
     assert!(rt; number < 1 << width);
     let piece = Piece {
@@ -118,14 +119,8 @@ fn advance(rt: &impl Abort, words: &mut Words, place: Place, bits: u8, force: Fo
     assert!(rt; place.word < 100 && (bits == 0 || bits == 15 || bits == 30));
     let placed = place_next(place, bits, force);
     if let Some(filling) = placed.filling {
-        deposit(
-            rt,
-            words,
-            place.word,
-            filling.first,
-            filling.width,
-            filling.number,
-        );
+        assert!(rt; filling.first == place.used);
+        deposit(rt, words, place, filling.width, filling.number);
     }
     placed
 }
@@ -143,7 +138,7 @@ fn put(rt: &impl Abort, words: &mut Words, place: Place, form: &CpForm) -> (Plac
     let code = filled(rt, form);
     let placed = advance(rt, words, place, form.bits(), Force::Free);
     let start = placed.start;
-    deposit(rt, words, start.word, start.used, form.bits(), code.digits);
+    deposit(rt, words, start, form.bits(), code.digits);
     let after = Place {
         word: placed.after.word,
         used: placed.after.used,

@@ -86,9 +86,12 @@ impl Numbers {
     }
 }
 
-/// The edits of a session. Its first line stays.
+/// The edits of a session that has one line: this one, which stays. After so many edits so many lines are left.
 #[derive(Clone, Copy)]
 struct Course {
+    first: &'static [u8],
+    edits: usize,
+    left: u32,
     numbers: Numbers,
     instructions: [&'static [u8]; 7],
 }
@@ -149,58 +152,50 @@ pub fn assert_as_batch(rt: &impl Abort, alloc: Global, at: usize, session: &Sess
     assert_row(rt, at, "of a session", &got, want);
 }
 
-/// Makes so many edits of a session that has one line, and asserts its texts after each, and how many lines the last one leaves.
-fn assert_edits(
-    rt: &impl Abort,
-    alloc: Global,
-    session: &mut Session,
-    course: Course,
-    edits: usize,
-    left: u32,
-) {
+/// Makes the edits in a session, and asserts its texts after each, and how many lines the last one leaves.
+fn assert_edits(rt: &impl Abort, alloc: Global, session: &mut Session, course: Course) {
     let mut course = course;
-    for at in 0..edits {
+    for at in 0..course.edits {
         let edit = course.edit(session.count());
         let _ = carry_out(alloc, session, &mut Work::new(), &edit);
         assert_as_batch(rt, alloc, at, session);
     }
-    assert_same(rt, "lines", &session.count(), &left);
+    assert_same(rt, "lines", &session.count(), &course.left);
 }
 
-/// Asserts that in a session with this first line the texts are those of batch assembly after each edit.
-fn assert_course(
-    rt: &impl Abort,
-    alloc: Global,
-    first: &'static [u8],
-    course: Course,
-    edits: usize,
-    left: u32,
-) {
+/// Asserts that in a session with the first line the texts are those of batch assembly after each edit.
+fn assert_course(rt: &impl Abort, alloc: Global, course: Course) {
     let mut session = Session::new(alloc, Hashing::by(1));
     let _ = carry_out(
         alloc,
         &mut session,
         &mut Work::new(),
-        &Edit::Insert(0, first),
+        &Edit::Insert(0, course.first),
     );
-    assert_edits(rt, alloc, &mut session, course, edits, left);
+    assert_edits(rt, alloc, &mut session, course);
     drop(session);
 }
 
 #[test]
 fn edits_of_a_central_program_go_as_batch(rt: HostRuntime) {
     let course = Course {
+        first: b"         ABS",
+        edits: 100,
+        left: 11,
         numbers: Numbers { last: 2 },
         instructions: CENTRAL,
     };
-    assert_course(&rt, rt.alloc(), b"         ABS", course, 100, 11);
+    assert_course(&rt, rt.alloc(), course);
 }
 
 #[test]
 fn edits_of_a_peripheral_program_go_as_batch(rt: HostRuntime) {
     let course = Course {
+        first: b"         PERIPH",
+        edits: 900,
+        left: 14,
         numbers: Numbers { last: 1 },
         instructions: PERIPHERAL,
     };
-    assert_course(&rt, rt.alloc(), b"         PERIPH", course, 900, 14);
+    assert_course(&rt, rt.alloc(), course);
 }

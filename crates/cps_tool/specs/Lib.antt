@@ -5,4 +5,5 @@ pub mod Written
 pub mod Script
 pub mod Progress
 pub mod CommandLine
+pub mod Calling
 pub mod Files

@@ -1,7 +1,8 @@
 //! A call of the program, by its words.
 ghost use Rattle.std.specs.Prelude.{◌≡◌};
 ghost use Rattle.clap.specs.Walk.{texts};
-ghost use Rattle.cps_tool.specs.CommandLine.{IsQuiet, Serves, ServesCall, ServesOne, ServesWith};
+ghost use Rattle.cps_tool.specs.Calling.{DoesOne, DoesWith};
+ghost use Rattle.cps_tool.specs.CommandLine.{IsQuiet, Serves, ServesCall};
 ghost use Rattle.cps_words.specs.Request.{answer_of, asked_by};
 
 use super::comparing::{compare_files, open_files};
@@ -12,10 +13,8 @@ use super::sessions::run_session_from;
 use super::sources::{Sources, open_input};
 use super::telling::{FAULTY, NO_FILES, complain, complain_of, status_of_count, tell_unread};
 use cps_output::{Export, Targets};
-use cps_pass::Hashing;
 use cps_text::Counted;
 use cps_words::{Call, Request, read_words};
-use std::alloc::Global;
 use std::io::{Read, Write};
 
 /// Does what the words of a call ask, the first of which is the program's name: batch assembly of a source, its check, the script
@@ -26,8 +25,7 @@ use std::io::{Read, Write};
 /// Help and version, where they are asked for, go to `writer`, with status 0 where it takes them whole. Wrong words are
 /// told to `errors`. A file that is named is refused: `run_call` reads and writes files.
 pub fn run_words<'a, R: Read, W: Write, E: Write>(
-    alloc: Global,
-    hashing: Hashing,
+    host: &Host<()>,
     words: &'a [&'a str],
     reader: &mut Counted<R>,
     writer: &mut Counted<W>,
@@ -36,22 +34,17 @@ pub fn run_words<'a, R: Read, W: Write, E: Write>(
     ensures serves { Serves R.remaining W.contents (answer_of (texts words.now)) result reader.old reader.new writer.old writer.new }
     ensures quiet { IsQuiet result errors.old errors.new }
 {
-    let host = Host {
-        alloc,
-        hashing,
-        files: (),
-    };
-    match read_words(alloc, words) {
+    match read_words(host.alloc, words) {
         Ok(call) => match call.file {
-            None => run_request(&host, call, reader, writer, errors),
+            None => run_request(host, call, reader, writer, errors),
             Some(_) => complain(errors, NO_FILES),
         },
         Err(unread) => tell_unread(unread, writer, errors),
     }
 }
 
-/// Does what the words of a call ask, as `run_words` does, but reads the file that they name in the place of `reader`, and writes those that they name
-/// for texts. A file that can't be opened or written is told to `errors`, with status 2.
+/// Does what the words of a call ask, as `run_words` does, but reads the file that they name in the place of `reader`, and writes those
+/// that they name for texts. A file that can't be opened or written is told to `errors`, with status 2.
 pub fn run_call<'a, S: Sources + Targets, R: Read, W: Write, E: Write>(
     host: &mut Host<S>,
     words: &'a [&'a str],
@@ -111,7 +104,7 @@ fn serve<'a, S: Sources, R: Read, W: Write, E: Write>(
     writer: &mut Counted<W>,
     errors: &mut Counted<E>,
 ) -> u8
-    ensures serves { ServesWith (S.holds host.now.files) S.Opened.remaining R.remaining W.contents (asked_by call.entry) result reader.old reader.new writer.old writer.new }
+    ensures serves { DoesWith (S.holds host.now.files) S.Opened.remaining R.remaining W.contents call.entry result reader.old reader.new writer.old writer.new }
     ensures quiet { IsQuiet result errors.old errors.new }
 {
     match (call.request, call.file) {
@@ -137,7 +130,7 @@ fn serve_one<'a, S: Sources, R: Read, W: Write, E: Write>(
     writer: &mut Counted<W>,
     errors: &mut Counted<E>,
 ) -> u8
-    ensures serves { ServesOne (S.holds host.now.files) S.Opened.remaining R.remaining W.contents (asked_by call.entry) result reader.old reader.new writer.old writer.new }
+    ensures serves { DoesOne (S.holds host.now.files) S.Opened.remaining R.remaining W.contents call.entry result reader.old reader.new writer.old writer.new }
     ensures quiet { IsQuiet result errors.old errors.new }
 {
     let Some(name) = call.file else {

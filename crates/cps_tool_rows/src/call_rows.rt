@@ -2,7 +2,7 @@
 use super::assertions::{assert_bytes, assert_same};
 use cps_devices::{SlowReader, SlowWriter};
 use cps_text::Counted;
-use cps_tool::{Hashing, run_words};
+use cps_tool::{Hashing, Host, run_words};
 use std::alloc::Global;
 use std::io::{Read, Write};
 use std::process::Abort;
@@ -34,7 +34,12 @@ fn call_into<R: Read, W: Write, E: Write>(
     writer: &mut Counted<W>,
     errors: &mut Counted<E>,
 ) -> u8 {
-    run_words(alloc, Hashing::by(1), words, reader, writer, errors)
+    let host = Host {
+        alloc,
+        hashing: Hashing::by(1),
+        files: (),
+    };
+    run_words(&host, words, reader, writer, errors)
 }
 
 /// Asserts the status of a call, and what is written and told.
