@@ -1,23 +1,25 @@
 -- What is shown at a position, from the rows of its line.
-use Rattle.std.proofs.Common.{◌≡◌, refl, sym, ap, ◌∙◌, ℕ, ◌+◌, ◌≤◌, List, [], ◌++◌, length, Some, None, rules, true, false, Bool, subst, ◌∷◌, ◌<◌, arith}
+use Rattle.std.proofs.Common.{◌≡◌, refl, sym, ap, ◌∙◌, ℕ, ◌+◌, ◌-◌, ◌≤◌, List, [], ◌++◌, length, Some, None, rules, true, false, Bool, subst, ◌∷◌, ◌<◌, arith, inl, inr}
 use Rattle.std.proofs.lemmas.List.{length-map}
-use Rattle.std.proofs.lemmas.Option.{slice_get_past}
+use Rattle.std.proofs.lemmas.Option.{slice_get_cases, slice_get_past}
 use Rattle.cps_list.specs.Finals.{finals_of, final_value}
 use Rattle.cps_list.specs.Outcome.{outcome_of}
+use Rattle.cps_final.specs.declared.row.Row.{Row}
 use Rattle.cps_assembly.specs.Assembly.{outcomes_of, traces_of}
 use Rattle.cps_assembly.proofs.SpliceLemmas.{length-traces_from}
 use Rattle.cps_state.specs.Keys.{first_state}
 use Rattle.std.specs.Option.{option_map_or}
 use Rattle.cps_state.specs.Flags.{has_flag}
 use Rattle.cps_final.specs.Outcome.{flags_of}
-use Rattle.std.specs.Prelude.{option_and_then, option_map, slice_get, Result, Ok, Err, IfOk}
+use Rattle.std.specs.Prelude.{◌⊎◌, get_or, option_and_then, option_map, slice_get, Result, Ok, Err, IfOk}
 use Rattle.cps_list.specs.Assembly.{Assembly}
 use Rattle.cps_list.specs.Outcome.{Outcome}
 use Rattle.cps_assembly.specs.Assembly.{assembly_of}
 use Rattle.cps_buffer.specs.declared.encoding.Encoding.{Encoding}
 use Rattle.cps_buffer.specs.declared.position.Position.{Position}
 use Rattle.cps_document.specs.Document.{source_of_text}
-use Rattle.cps_lookup.specs.Rows.{IsWhy, Shows, first_rows, rows_in}
+use Rattle.cps_listing.specs.Listing.{line_rows}
+use Rattle.cps_lookup.specs.Rows.{IsWhy, Shows, first_rows, line_listing, rows_in, rows_of}
 use Rattle.cps_text.specs.declared.name.Name.{Name}
 use Rattle.cps_list.specs.declared.mention.Mention.{Mention}
 use Rattle.cps_list.specs.Finals.{Finals}
@@ -67,6 +69,27 @@ pub shows-none : (encoding : Encoding) (text : List ℕ) (position : Position) �
     → Shows encoding text position None
 shows-none encoding text position none =
     ([], (λ unflagged. refl), sym (ap (λ found. option_map (λ rows. rows ++ []) (option_map (λ rows. row_at encoding text position ++ rows) found)) none))
+
+-- ---- the listing of a line
+
+-- no line has a number past the last
+pub listing-past : (text : List ℕ) (number : ℕ) → (number < length (source_of_text text) → ⊥) → line_listing text number ≡ []
+listing-past text number past = at (slice_get_cases (source_of_text text) number).1
+  where
+    at : ((line : List ℕ) × (number < length (source_of_text text)) × (slice_get (source_of_text text) number ≡ Some line)
+        × (get_or (source_of_text text) number line ≡ line))
+        ⊎ ((length (source_of_text text) ≤ number) × (slice_get (source_of_text text) number ≡ None))
+        → line_listing text number ≡ []
+    at (inl found) = absurd (past found.1)
+    at (inr none) = ap (λ found. rows_of number found (slice_get (outcomes_of (source_of_text text)) number)) none.1
+
+pub listing-pushed : (text : List ℕ) (number : ℕ) (line bytes : List ℕ) (outcome : Outcome) (rows : List Row) (old new : List ℕ) → 1 ≤ number
+    → bytes ≡ line → rows ≡ outcome.rows → slice_get (source_of_text text) (number - 1) ≡ Some line
+    → slice_get (outcomes_of (source_of_text text)) (number - 1) ≡ Some outcome → new ≡ old ++ line_rows number bytes rows
+    → new ≡ old ++ line_listing text (number - 1)
+listing-pushed text number line bytes outcome rows old new counts same_line same_rows line_is outcome_is pushed =
+    let back : number ≡ number - 1 + 1 = omega (arith, counts) in
+    pushed ∙ (λ i. old ++ line_rows (back i) (same_line i) (same_rows i)) ∙ ap (λ listing. old ++ listing) (sym (λ i. rows_of (number - 1) (line_is i) (outcome_is i)))
 
 -- ---- the row of a symbol
 

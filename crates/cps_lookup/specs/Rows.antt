@@ -8,7 +8,7 @@ use Rattle.cps_final.specs.declared.row.Row.{Row}
 use Rattle.cps_list.specs.Assembly.{Assembly}
 use Rattle.cps_list.specs.Outcome.{Outcome}
 use Rattle.cps_listing.specs.Listing.{address_text, code_text, line_rows, second_text}
-use Rattle.cps_assembly.specs.Assembly.{assembly_of}
+use Rattle.cps_assembly.specs.Assembly.{assembly_of, outcomes_of}
 use Rattle.cps_buffer.specs.declared.encoding.Encoding.{Encoding}
 use Rattle.cps_buffer.specs.declared.position.Position.{Position}
 use Rattle.cps_document.specs.Document.{source_of_text}
@@ -51,6 +51,17 @@ IsWhy text number why = is_flagged text number ≡ false → why ≡ []
 abbrev pub Shows : Encoding → List ℕ → Position → Option (List ℕ) → Type 0
 Shows encoding text position shown =
     (why : List ℕ) × IsWhy text position.line why × (shown ≡ option_map (λ rows. rows ++ why) (shown_at encoding text position))
+
+-- ---- the listing of a line
+
+-- all rows of a line of a text, from 0, as the listing has them; none where no such line is assembled
+abbrev pub rows_of : ℕ → Option (List ℕ) → Option Outcome → List ℕ
+rows_of number None outcome = []
+rows_of number (Some line) None = []
+rows_of number (Some line) (Some outcome) = line_rows (number + 1) line outcome.rows
+
+abbrev pub line_listing : List ℕ → ℕ → List ℕ
+line_listing text number = rows_of number (slice_get (source_of_text text) number) (slice_get (outcomes_of (source_of_text text)) number)
 
 -- ---- beside a line
 

@@ -39,11 +39,15 @@ mentions_at encoding text position = mentions_under (pointed encoding text posit
 abbrev pub definitions : List Mention → List Mention
 definitions mentions = filter (λ mention. mention.is_definition) mentions
 
--- the row of the cross-reference of the symbol that is pointed at, with these mentions; none where no line mentions it
+-- the row of the cross-reference of a symbol with these mentions; none where no line mentions it
+abbrev pub mentioned_row : Finals → Name → List Mention → List ℕ
+mentioned_row finals name [] = []
+mentioned_row finals name (mention ∷ mentions) = row_of finals name (mention ∷ mentions)
+
+-- that of the symbol that is pointed at, if one is
 abbrev pub row_under : Finals → Option Name → List Mention → List ℕ
 row_under finals None mentions = []
-row_under finals (Some name) [] = []
-row_under finals (Some name) (mention ∷ mentions) = row_of finals name (mention ∷ mentions)
+row_under finals (Some name) mentions = mentioned_row finals name mentions
 
 abbrev pub row_at : Encoding → List ℕ → Position → List ℕ
 row_at encoding text position =

@@ -19,6 +19,6 @@ mod words;
 pub use columns::columns_of;
 pub use cps_finding::filled_columns;
 pub use hint::hint_of;
-pub use rows::shown_at;
+pub use rows::{push_line_listing, shown_at};
 pub use symbols::{definitions_in, line_of, mentions_at};
 pub use words::symbol_at;

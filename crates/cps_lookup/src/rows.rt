@@ -1,7 +1,7 @@
 //! The rows of a line, and the row of the symbol at a position of it.
-ghost use Rattle.std.specs.Prelude.{◌≡◌, ◌++◌, option_map, IfOk, OnOk, Some};
+ghost use Rattle.std.specs.Prelude.{◌≡◌, ◌≤◌, ◌-◌, ◌++◌, option_map, IfOk, OnOk};
 ghost use Rattle.cps_lookup.specs.Rows as texts;
-ghost use Rattle.cps_lookup.specs.Symbols as symbols;
+ghost use Rattle.cps_lookup.specs.Symbols.{mentioned_row, row_at};
 
 use crate::symbols::{mentions_of, pointed};
 use crate::why::why_of;
@@ -45,6 +45,25 @@ pub fn shown_at(
     Ok(Some(text))
 }
 
+/// Appends the rows that the listing has of the line of a number, from 1; nothing where no such line is assembled.
+pub fn push_line_listing(
+    text: &mut Vec<u8>,
+    document: &Document,
+    number: u32,
+) -> Result<(), AllocError>
+    requires { 1 ≤ number }
+    ensures { OnOk result (text.new.items ≡ text.old.items ++ texts.line_listing document.now (number - 1)) }
+{
+    let session = document.session();
+    let Some(line) = session.line(number) else {
+        return Ok(());
+    };
+    let Some(outcome) = session.outcome(number) else {
+        return Ok(());
+    };
+    push_rows(text, number, line.bytes(), outcome.rows())
+}
+
 /// Appends the row of the symbol around a position, where a line mentions it.
 fn push_row_at(
     alloc: Global,
@@ -53,7 +72,7 @@ fn push_row_at(
     encoding: Encoding,
     position: Position,
 ) -> Result<(), AllocError>
-    ensures { OnOk result (text.new.items ≡ text.old.items ++ symbols.row_at encoding document.now position) }
+    ensures { OnOk result (text.new.items ≡ text.old.items ++ row_at encoding document.now position) }
 {
     let Some(name) = pointed(document, encoding, position) else {
         return Ok(());
@@ -69,7 +88,7 @@ fn push_mentioned(
     name: Name,
     mentions: &[Mention],
 ) -> Result<(), AllocError>
-    ensures { OnOk result (text.new.items ≡ text.old.items ++ symbols.row_under (⟦<Finals as Gathered>⟧.gathered finals.now) (Some name) mentions.now) }
+    ensures { OnOk result (text.new.items ≡ text.old.items ++ mentioned_row (⟦<Finals as Gathered>⟧.gathered finals.now) name mentions.now) }
 {
     if mentions.is_empty() {
         return Ok(());

@@ -1,6 +1,6 @@
 //! The words of a line, in which symbols stand.
-ghost use Rattle.std.specs.Prelude.{◌≡◌, ◌≤◌, ◌<◌, length, not, IfSome};
-ghost use Rattle.std.specs.List.{position};
+ghost use Rattle.std.specs.Prelude.{◌≡◌, ◌≤◌, ◌+◌, ◌-◌, length, take, drop};
+ghost use Rattle.std.specs.List.{prefix_len, suffix_len};
 ghost use Rattle.cps_lookup.specs.Words as words;
 
 use cps_text::{Name, capital};
@@ -25,46 +25,34 @@ fn word_around(line: &[u8], at: usize) -> &[u8]
     requires { at ≤ length line.now }
     ensures { result.now ≡ words.word_around line.now at }
 {
-    let start = word_start(line, at);
-    let end = word_end(line, at);
-    &line[start..end]
+    &line[word_start(line, at)..word_end(line, at)]
 }
 
 /// Where a word begins that reaches to a place.
 fn word_start(line: &[u8], at: usize) -> usize
     requires { at ≤ length line.now }
-    ensures start { result ≡ words.word_start line.now at }
+    ensures start { result ≡ at - suffix_len words.in_word (take at line.now) }
     ensures within { result ≤ at }
 {
     let mut start = at;
-    while start > 0 {
-        if !is_in_word(line[start - 1]) {
-            return start;
-        }
+    while start > 0 && is_in_word(line[start - 1]) {
         start -= 1;
     }
-    0
+    start
 }
 
 /// Where a word ends that begins at a place or reaches over it.
 fn word_end(line: &[u8], at: usize) -> usize
     requires { at ≤ length line.now }
-    ensures end { result ≡ words.word_end line.now at }
+    ensures end { result ≡ at + prefix_len words.in_word (drop at line.now) }
     ensures behind { at ≤ result }
     ensures within { result ≤ length line.now }
 {
-    match front_of(&line[at..]) {
-        Some(count) => at + count,
-        None => line.len(),
+    let mut end = at;
+    while end < line.len() && is_in_word(line[end]) {
+        end += 1;
     }
-}
-
-/// How many bytes of words a text begins with; None where it has no other.
-fn front_of(text: &[u8]) -> Option<usize>
-    ensures count { result ≡ position (λ byte. not (words.in_word byte)) text.now }
-    ensures within { IfSome result (λ count. count < length text.now) }
-{
-    text.iter().position(|byte| !is_in_word(*byte))
+    end
 }
 
 /// Whether a symbol may have a byte, as a small or a capital letter.

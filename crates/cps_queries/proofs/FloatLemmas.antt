@@ -1,7 +1,7 @@
 -- No float is in what is told.
 use Rattle.std.proofs.Common.{◌≡◌, refl, subst, ap, ◌∙◌, arith, ℕ, suc, Bool, true, false, ◌||◌, List, [], ◌∷◌, ◌++◌, Option, None, Some}
-use Rattle.std.specs.Prelude.{flat_map, length}
-use Rattle.std.specs.List.{All, AllZip}
+use Rattle.std.specs.Prelude.{flat_map, length, map}
+use Rattle.std.specs.List.{All, AllZip, range_with_len}
 use Rattle.serde_json.specs.Data.{Data}
 use Rattle.serde_json.specs.View.{items_of}
 use Rattle.serde_json.specs.Written.{has_float, items_have_float}
@@ -9,11 +9,11 @@ use Rattle.cps_list.specs.declared.mention.Mention.{Mention}
 use Rattle.cps_list.specs.Finals.{Finals}
 use Rattle.cps_buffer.specs.declared.encoding.Encoding.{Encoding}
 use Rattle.cps_queries.specs.declared.query.Query.{Query}
-use Rattle.cps_queries.specs.declared.query.Query.TheVariants.{Hover, Definition, References, Symbols, Hints, Completions}
+use Rattle.cps_queries.specs.declared.query.Query.TheVariants.{Hover, Definition, References, Symbols, Hints, Completions, Listing}
 use Rattle.cps_params.specs.Params.{position_at, range_at}
 use Rattle.cps_queries.specs.Queries.{Tells, TellsOf}
 use Rattle.cps_queries.specs.Ranges.{IsInLine}
-use Rattle.cps_queries.specs.Results.{IsCompletion, TellsEach, TellsFirst, TellsMention, TellsSymbol, hint_at, hint_in, hover, text_beside}
+use Rattle.cps_queries.specs.Results.{IsCompletion, TellsEach, TellsFirst, TellsMention, TellsSymbol, hint_at, hint_in, hover, lines_within, listing_json, text_beside}
 use Rattle.cps_queries.specs.Telling.{has_float_told}
 use Rattle.cps_assembly.specs.Assembly.{assembly_of}
 use Rattle.cps_document.specs.Document.{source_of_text}
@@ -85,6 +85,10 @@ hints-no-float encoding text (line ∷ numbers) =
     (hint-no-float line (told_units encoding (line_of text line) (length (line_of text line))) (text_beside text line))
     (hints-no-float encoding text numbers)
 
+listings-no-float : (text : List ℕ) (numbers : List ℕ) → items_have_float (items_of (map (listing_json text) numbers)) ≡ false
+listings-no-float text [] = refl
+listings-no-float text (number ∷ numbers) = listings-no-float text numbers
+
 completion-no-float : (json : Data) → IsCompletion json → has_float json ≡ false
 completion-no-float json is = ap has_float is.3
 
@@ -115,3 +119,5 @@ tells-no-float Hints params encoding uri text told tells =
     of-no-float (range_at params) _ (λ range json is. ap has_float is ∙ hints-no-float encoding text _) told tells
 tells-no-float Completions params encoding uri text told tells =
     ap has_float_told tells.1 ∙ ap has_float tells.2.2 ∙ completions-no-float tells.2.0 tells.2.1
+tells-no-float Listing params encoding uri text told tells =
+    of-no-float (range_at params) _ (λ range json is. ap has_float is ∙ listings-no-float text (range_with_len range.start.line (lines_within (length (source_of_text text)) range))) told tells

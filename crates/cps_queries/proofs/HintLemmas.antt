@@ -1,5 +1,5 @@
 -- What is told beside lines, and what follows of a result.
-use Rattle.std.proofs.Common.{◌≡◌, sym, ap, ◌∙◌, ℕ, suc, ◌+◌, ◌-◌, ◌<◌, ◌≤◌, List, ◌++◌, length, append_assoc, inl, inr, arith, Option, Some, None}
+use Rattle.std.proofs.Common.{◌≡◌, sym, ap, ◌∙◌, ℕ, suc, ◌+◌, ◌-◌, ◌<◌, ◌≤◌, List, [], ◌∷◌, ◌++◌, length, map, append_assoc, inl, inr, arith, Option, Some, None}
 use Rattle.std.specs.Prelude.{◌⊎◌, flat_map, slice_get, get_or, option_and_then, Result, Ok, Err, IfOk}
 use Rattle.std.specs.List.{range_with_len}
 use Rattle.std.proofs.lemmas.Option.{slice_get_cases}
@@ -45,6 +45,16 @@ next-hint hint told next all number end within added rest =
     let behind = flat_map hint (range_with_len (number + 1) (end - (number + 1))) in
     (λ i. added i ++ behind) ∙ append_assoc told (hint (number + 1 - 1)) behind ∙ (λ i. told ++ (hint (back i) ++ behind))
     ∙ ap (λ count. told ++ flat_map hint (range_with_len number count)) (sym one_less) ∙ rest
+
+-- one line more, of which one value is told
+pub next-listing : (listing : ℕ → Data) (told next all : List Data) (number end : ℕ) → number < end → next ≡ told ++ listing (number + 1 - 1) ∷ []
+    → told ++ map listing (range_with_len number (end - number)) ≡ all → next ++ map listing (range_with_len (number + 1) (end - (number + 1))) ≡ all
+next-listing listing told next all number end within added rest =
+    let back : number + 1 - 1 ≡ number = omega arith in
+    let one_less : end - number ≡ suc (end - (number + 1)) = omega (arith, within) in
+    let behind = map listing (range_with_len (number + 1) (end - (number + 1))) in
+    (λ i. added i ++ behind) ∙ append_assoc told (listing (number + 1 - 1) ∷ []) behind ∙ (λ i. told ++ (listing (back i) ∷ behind))
+    ∙ ap (λ count. told ++ map listing (range_with_len number count)) (sym one_less) ∙ rest
 
 -- a range in a line, by numbers of it that are the same
 pub in-line : (json : Data) (given number start end : ℕ) → json ≡ range_of given start end → given ≡ number → IsInLine number json

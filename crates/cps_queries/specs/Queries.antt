@@ -1,4 +1,4 @@
--- What is told an editor that asks of a text which it has open. From the Language Server Protocol 3.17.
+-- What is told an editor that asks of a text which it has open. From the Language Server Protocol 3.17; `compass/rows` is our own.
 use Rattle.std.specs.Prelude.{◌≡◌, ℕ, Bool, not, ◌||◌, List, filter, bytes_eq, codes, Option, Some, None, if◌then◌else◌}
 use Rattle.serde_json.specs.Data.{Data, array}
 use Rattle.serde_json.specs.View.{items_of}
@@ -6,9 +6,10 @@ use Rattle.cps_list.specs.declared.mention.Mention.{Mention}
 use Rattle.cps_buffer.specs.declared.encoding.Encoding.{Encoding}
 use Rattle.cps_params.specs.Params.{position_at, range_at, wants_definitions}
 use Rattle.cps_lookup.specs.Symbols.{definitions, mentions_at}
+use Rattle.cps_queries.specs.declared.deck.Deck.{Deck}
 use Rattle.cps_queries.specs.declared.query.Query.{Query}
-use Rattle.cps_queries.specs.declared.query.Query.TheVariants.{Hover, Definition, References, Symbols, Hints, Completions}
-use Rattle.cps_queries.specs.Results.{TellsCompletions, TellsEach, TellsFirst, TellsMention, TellsShown, TellsSymbols, hints_in}
+use Rattle.cps_queries.specs.declared.query.Query.TheVariants.{Hover, Definition, References, Symbols, Hints, Completions, Listing}
+use Rattle.cps_queries.specs.Results.{TellsCompletions, TellsEach, TellsFirst, TellsMention, TellsShown, TellsSymbols, hints_in, listings_in}
 
 -- the query of a method
 abbrev pub query_named : List ℕ → Option Query
@@ -18,7 +19,8 @@ query_named method =
     else (if bytes_eq method (codes "textDocument/references") then Some References
     else (if bytes_eq method (codes "textDocument/documentSymbol") then Some Symbols
     else (if bytes_eq method (codes "textDocument/inlayHint") then Some Hints
-    else (if bytes_eq method (codes "textDocument/completion") then Some Completions else None)))))
+    else (if bytes_eq method (codes "textDocument/completion") then Some Completions
+    else (if bytes_eq method (codes "compass/rows") then Some Listing else None))))))
 
 -- the mentions that are wanted: those that read a symbol, or all
 abbrev pub wanted : Bool → List Mention → List Mention
@@ -39,3 +41,8 @@ Tells References params encoding uri text told =
 Tells Symbols params encoding uri text told = (json : Data) × (told ≡ Some json) × TellsSymbols text json
 Tells Hints params encoding uri text told = TellsOf (range_at params) (λ range json. json ≡ array (items_of (hints_in encoding text range))) told
 Tells Completions params encoding uri text told = (json : Data) × (told ≡ Some json) × TellsCompletions json
+Tells Listing params encoding uri text told = TellsOf (range_at params) (λ range json. json ≡ array (items_of (listings_in text range))) told
+
+-- what is told of a deck
+abbrev pub TellsOfDeck : Query → Data → Deck → Option Data → Type 0
+TellsOfDeck query params deck told = Tells query params deck.encoding deck.uri.now deck.document.now told

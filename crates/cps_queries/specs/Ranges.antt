@@ -15,6 +15,10 @@ position line character = object (member (codes "character") (number (unsigned c
 abbrev pub range_of : ℕ → ℕ → ℕ → Data
 range_of line start end = object (member (codes "end") (position line end) (member (codes "start") (position line start) no_members))
 
+-- that of columns of a line, from its first through its last
+abbrev pub columns_range : Encoding → List ℕ → ℕ → ℕ → ℕ → Data
+columns_range encoding text line first last = range_of line (told_units encoding text (first - 1)) (told_units encoding text last)
+
 -- a range in a line; where it begins and ends there is free
 abbrev pub IsInLine : ℕ → Data → Type 0
 IsInLine line json = (start end : ℕ) × (json ≡ range_of line start end)

@@ -1,5 +1,5 @@
 -- What a server tells of a text that an editor has open, in JSON. From the Language Server Protocol 3.17; what is shown of a line is our own.
-use Rattle.std.specs.Prelude.{◌≡◌, ℕ, ◌+◌, ◌-◌, min, true, List, [], ◌∷◌, length, codes, flat_map, Option, Some, None, option_and_then, slice_get}
+use Rattle.std.specs.Prelude.{◌≡◌, ℕ, ◌+◌, ◌-◌, min, true, List, [], ◌∷◌, length, map, codes, flat_map, Option, Some, None, option_and_then, slice_get}
 use Rattle.std.specs.List.{All, AllZip, range_with_len}
 use Rattle.std.specs.Str.Lossy.{utf8_lossy}
 use Rattle.serde_json.specs.Data.{Data, unsigned, null, boolean, number, string, array, object, no_members, member}
@@ -14,7 +14,7 @@ use Rattle.cps_buffer.specs.declared.encoding.Encoding.{Encoding}
 use Rattle.cps_buffer.specs.declared.position.Position.{Position}
 use Rattle.cps_buffer.specs.declared.position.Range.{Range}
 use Rattle.cps_document.specs.Document.{source_of_text}
-use Rattle.cps_lookup.specs.Rows.{Shows, hint_of}
+use Rattle.cps_lookup.specs.Rows.{Shows, hint_of, line_listing}
 use Rattle.cps_lookup.specs.Symbols.{definitions, line_of, mentions_in}
 use Rattle.cps_queries.specs.Ranges.{IsInLine, location, position, told_units}
 
@@ -62,9 +62,13 @@ TellsSymbol finals mention json =
     (range selection : Data) × IsInLine (mention.line - 1) range × IsInLine (mention.line - 1) selection
     × (json ≡ symbol (value_text (value_of finals mention.name)) (name_text mention.name) range selection)
 
+-- what holds at the end of a text's assembly
+abbrev pub finals_in : List ℕ → Finals
+finals_in text = (assembly_of (source_of_text text)).finals
+
 -- the definitions of a text
 abbrev pub TellsSymbols : List ℕ → Data → Type 0
-TellsSymbols text json = TellsEach (TellsSymbol (assembly_of (source_of_text text)).finals) (definitions (mentions_in text)) json
+TellsSymbols text json = TellsEach (TellsSymbol (finals_in text)) (definitions (mentions_in text)) json
 
 -- ---- beside lines
 
@@ -94,6 +98,16 @@ lines_within count range = min count (range.end.line + 1) - range.start.line
 abbrev pub hints_in : Encoding → List ℕ → Range → List Data
 hints_in encoding text range =
     flat_map (hint_at encoding text) (range_with_len range.start.line (lines_within (length (source_of_text text)) range))
+
+-- ---- the listing
+
+-- the rows of a line, from 0, as the listing has them
+abbrev pub listing_json : List ℕ → ℕ → Data
+listing_json text line = text_json (line_listing text line)
+
+-- those of each line of a range
+abbrev pub listings_in : List ℕ → Range → List Data
+listings_in text range = map (listing_json text) (range_with_len range.start.line (lines_within (length (source_of_text text)) range))
 
 -- ---- what may be written next
 

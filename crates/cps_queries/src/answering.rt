@@ -1,8 +1,7 @@
 //! What is told to a query.
 ghost use Rattle.std.specs.Prelude.{◌≡◌, false, option_map, IfOk};
 ghost use Rattle.serde_json.specs.View.{view};
-ghost use Rattle.cps_params.specs.Params as params;
-ghost use Rattle.cps_queries.specs.Queries.{Tells};
+ghost use Rattle.cps_queries.specs.Queries.{TellsOfDeck};
 ghost use Rattle.cps_queries.specs.Telling.{has_float_told};
 ghost use Rattle.cps_queries.specs.declared.query.Query.TheVariants as queries;
 
@@ -10,6 +9,7 @@ use crate::completions::tell_completions;
 use crate::deck::Deck;
 use crate::hints::hints_in;
 use crate::hovering::hover_at;
+use crate::listing::listings_in;
 use crate::locations::{definition_at, references_at};
 use crate::query::Query;
 use crate::symbols::tell_symbols;
@@ -24,7 +24,7 @@ pub fn answer(
     params: &Value,
     deck: Deck<'_>,
 ) -> Result<Option<Value>, AllocError>
-    ensures told { IfOk result (λ told. Tells query (view params.now) deck.entry.encoding deck.entry.uri.now deck.entry.document.now (option_map view told)) }
+    ensures told { IfOk result (λ told. TellsOfDeck query (view params.now) deck.entry (option_map view told)) }
     ensures floats { IfOk result (λ told. has_float_told (option_map view told) ≡ false) }
 {
     match query {
@@ -34,11 +34,12 @@ pub fn answer(
         Query::Symbols => answer_symbols(alloc, params, deck),
         Query::Hints => answer_hints(alloc, params, deck),
         Query::Completions => answer_completions(alloc, params, deck),
+        Query::Listing => answer_listing(alloc, params, deck),
     }
 }
 
 fn answer_hover(alloc: Global, params: &Value, deck: Deck<'_>) -> Result<Option<Value>, AllocError>
-    ensures { IfOk result (λ told. Tells queries.Hover (view params.now) deck.entry.encoding deck.entry.uri.now deck.entry.document.now (option_map view told)) }
+    ensures { IfOk result (λ told. TellsOfDeck queries.Hover (view params.now) deck.entry (option_map view told)) }
 {
     let Some(position) = position_at(params) else {
         return Ok(None);
@@ -52,7 +53,7 @@ fn answer_definition(
     params: &Value,
     deck: Deck<'_>,
 ) -> Result<Option<Value>, AllocError>
-    ensures { IfOk result (λ told. Tells queries.Definition (view params.now) deck.entry.encoding deck.entry.uri.now deck.entry.document.now (option_map view told)) }
+    ensures { IfOk result (λ told. TellsOfDeck queries.Definition (view params.now) deck.entry (option_map view told)) }
 {
     let Some(position) = position_at(params) else {
         return Ok(None);
@@ -66,7 +67,7 @@ fn answer_references(
     params: &Value,
     deck: Deck<'_>,
 ) -> Result<Option<Value>, AllocError>
-    ensures { IfOk result (λ told. Tells queries.References (view params.now) deck.entry.encoding deck.entry.uri.now deck.entry.document.now (option_map view told)) }
+    ensures { IfOk result (λ told. TellsOfDeck queries.References (view params.now) deck.entry (option_map view told)) }
 {
     let Some(position) = position_at(params) else {
         return Ok(None);
@@ -80,14 +81,14 @@ fn answer_symbols(
     params: &Value,
     deck: Deck<'_>,
 ) -> Result<Option<Value>, AllocError>
-    ensures { IfOk result (λ told. Tells queries.Symbols (view params.now) deck.entry.encoding deck.entry.uri.now deck.entry.document.now (option_map view told)) }
+    ensures { IfOk result (λ told. TellsOfDeck queries.Symbols (view params.now) deck.entry (option_map view told)) }
 {
     let told = tell_symbols(alloc, deck)?;
     Ok(Some(told))
 }
 
 fn answer_hints(alloc: Global, params: &Value, deck: Deck<'_>) -> Result<Option<Value>, AllocError>
-    ensures { IfOk result (λ told. Tells queries.Hints (view params.now) deck.entry.encoding deck.entry.uri.now deck.entry.document.now (option_map view told)) }
+    ensures { IfOk result (λ told. TellsOfDeck queries.Hints (view params.now) deck.entry (option_map view told)) }
 {
     let Some(range) = range_at(params) else {
         return Ok(None);
@@ -101,8 +102,22 @@ fn answer_completions(
     params: &Value,
     deck: Deck<'_>,
 ) -> Result<Option<Value>, AllocError>
-    ensures { IfOk result (λ told. Tells queries.Completions (view params.now) deck.entry.encoding deck.entry.uri.now deck.entry.document.now (option_map view told)) }
+    ensures { IfOk result (λ told. TellsOfDeck queries.Completions (view params.now) deck.entry (option_map view told)) }
 {
     let told = tell_completions(alloc, deck)?;
+    Ok(Some(told))
+}
+
+fn answer_listing(
+    alloc: Global,
+    params: &Value,
+    deck: Deck<'_>,
+) -> Result<Option<Value>, AllocError>
+    ensures { IfOk result (λ told. TellsOfDeck queries.Listing (view params.now) deck.entry (option_map view told)) }
+{
+    let Some(range) = range_at(params) else {
+        return Ok(None);
+    };
+    let told = listings_in(alloc, deck, range)?;
     Ok(Some(told))
 }

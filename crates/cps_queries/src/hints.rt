@@ -1,10 +1,11 @@
 //! What is shown beside lines.
-ghost use Rattle.std.specs.Prelude.{◌≡◌, ◌≤◌, ◌-◌, ◌++◌, length, map, option_map, flat_map, IfOk, OnOk};
+ghost use Rattle.std.specs.Prelude.{◌≡◌, ◌≤◌, ◌-◌, length, map, option_map, flat_map, IfOk, OnOk};
 ghost use Rattle.std.specs.List.{range_with_len};
 ghost use Rattle.serde_json.specs.Data.{array};
 ghost use Rattle.serde_json.specs.View.{items_of, view};
 ghost use Rattle.cps_document.specs.Document.{source_of_text};
 ghost use Rattle.cps_queries.specs.Results as results;
+ghost use Rattle.cps_queries.specs.Telling.{AddsTold, hint_of_deck};
 
 use crate::deck::Deck;
 use cps_assembly::View;
@@ -32,8 +33,7 @@ fn hints_between(
     end: u32,
 ) -> Result<Vec<Value>, AllocError>
     requires { end ≤ length (source_of_text deck.document.now) }
-    ensures { IfOk result (λ told. map view told.items
-        ≡ flat_map (results.hint_at deck.entry.encoding deck.entry.document.now) (range_with_len first (end - first))) }
+    ensures { IfOk result (λ told. map view told.items ≡ flat_map (hint_of_deck deck.entry) (range_with_len first (end - first))) }
 {
     let mut told = Vec::new(alloc);
     for number in first..end {
@@ -50,7 +50,7 @@ fn push_hint(
     told: &mut Vec<Value>,
 ) -> Result<(), AllocError>
     requires { 1 ≤ number }
-    ensures { OnOk result (map view told.new.items ≡ map view told.old.items ++ results.hint_at deck.entry.encoding deck.entry.document.now (number - 1)) }
+    ensures { OnOk result (AddsTold (hint_of_deck deck.entry (number - 1)) told.old.items told.new.items) }
 {
     let text = text_beside(alloc, deck.document, number)?;
     let line = number - 1;
@@ -82,7 +82,7 @@ fn push_text(
     character: u32,
     text: Option<Vec<u8>>,
 ) -> Result<(), AllocError>
-    ensures { OnOk result (map view told.new.items ≡ map view told.old.items ++ results.hint_in line character (option_map (λ text. text.items) text)) }
+    ensures { OnOk result (AddsTold (results.hint_in line character (option_map (λ text. text.items) text)) told.old.items told.new.items) }
 {
     if let Some(text) = text {
         told.push(hint(alloc, line, character, &text)?)?;

@@ -6,6 +6,7 @@
 //! - `deck.rt`: the text of which an editor asks
 //! - `hints.rt`: what is shown beside lines
 //! - `hovering.rt`: what is shown at a position
+//! - `listing.rt`: the listing of lines
 //! - `locations.rt`: the lines on which a symbol stands
 //! - `operations.rt`: the names of operations
 //! - `query.rt`: what an editor may ask
@@ -18,6 +19,7 @@ mod completions;
 mod deck;
 mod hints;
 mod hovering;
+mod listing;
 mod locations;
 mod operations;
 mod query;
@@ -27,4 +29,3 @@ mod symbols;
 pub use answering::answer;
 pub use deck::Deck;
 pub use query::Query;
-pub use ranges::columns_range;

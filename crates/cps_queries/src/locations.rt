@@ -1,10 +1,11 @@
 //! The lines on which a symbol stands.
 ghost use Rattle.std.specs.Prelude.{◌≡◌, IfOk};
 ghost use Rattle.serde_json.specs.View.{view};
-ghost use Rattle.cps_lookup.specs.Symbols as symbols;
+ghost use Rattle.cps_lookup.specs.Symbols.{definitions};
 ghost use Rattle.cps_queries.specs.Queries.{wanted};
 ghost use Rattle.cps_queries.specs.Ranges as ranges;
 ghost use Rattle.cps_queries.specs.Results.{TellsEach, TellsFirst, TellsMention};
+ghost use Rattle.cps_queries.specs.Telling.{mentions_of_deck};
 
 use crate::deck::Deck;
 use crate::ranges::columns_range;
@@ -16,7 +17,7 @@ use std::alloc::{AllocError, Global};
 
 /// Where the symbol around a position is defined: the first line that does. It is null where no symbol stands there, or no line defines it.
 pub fn definition_at(alloc: Global, deck: Deck<'_>, position: Position) -> Result<Value, AllocError>
-    ensures { IfOk result (λ json. TellsFirst deck.entry.uri.now (symbols.definitions (symbols.mentions_at deck.entry.encoding deck.entry.document.now position)) (view json)) }
+    ensures { IfOk result (λ json. TellsFirst deck.entry.uri.now (definitions (mentions_of_deck deck.entry position)) (view json)) }
 {
     let mut mentions = mentions_at(alloc, deck.document, deck.encoding, position)?;
     mentions.retain(|mention| mention.is_definition);
@@ -31,7 +32,7 @@ pub fn references_at(
     definitions_too: bool,
 ) -> Result<Value, AllocError>
     ensures { IfOk result (λ json. TellsEach (TellsMention deck.entry.uri.now)
-        (wanted definitions_too (symbols.mentions_at deck.entry.encoding deck.entry.document.now position)) (view json)) }
+        (wanted definitions_too (mentions_of_deck deck.entry position)) (view json)) }
 {
     let mut mentions = mentions_at(alloc, deck.document, deck.encoding, position)?;
     mentions.retain(|mention| definitions_too || !mention.is_definition);

@@ -17,6 +17,8 @@ pub enum Query {
     Hints,
     /// What may be written next.
     Completions,
+    /// The listing of the lines of a range.
+    Listing,
 }
 
 impl Query {
@@ -31,6 +33,7 @@ impl Query {
             "textDocument/documentSymbol" => Some(Query::Symbols),
             "textDocument/inlayHint" => Some(Query::Hints),
             "textDocument/completion" => Some(Query::Completions),
+            "compass/rows" => Some(Query::Listing),
             _ => None,
         }
     }

@@ -1,5 +1,5 @@
 //! Positions and ranges.
-ghost use Rattle.std.specs.Prelude.{◌≡◌, ◌-◌, IfOk};
+ghost use Rattle.std.specs.Prelude.{◌≡◌, IfOk};
 ghost use Rattle.serde_json.specs.View.{view};
 ghost use Rattle.cps_queries.specs.Ranges as ranges;
 
@@ -16,8 +16,7 @@ pub fn columns_range(
     number: u32,
     columns: Columns,
 ) -> Result<Value, AllocError>
-    ensures { IfOk result (λ json. view json
-        ≡ ranges.range_of number (ranges.told_units encoding line.now (columns.first - 1)) (ranges.told_units encoding line.now columns.last)) }
+    ensures { IfOk result (λ json. view json ≡ ranges.columns_range encoding line.now number columns.first columns.last) }
 {
     let start = units_before(encoding, line, columns.first.saturating_sub(1));
     let end = units_before(encoding, line, columns.last);

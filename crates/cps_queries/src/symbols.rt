@@ -1,10 +1,8 @@
 //! The symbols of a text.
 ghost use Rattle.std.specs.Prelude.{◌≡◌, IfOk};
 ghost use Rattle.serde_json.specs.View.{view};
-ghost use Rattle.cps_assembly.specs.Assembly.{assembly_of};
-ghost use Rattle.cps_document.specs.Document.{source_of_text};
 ghost use Rattle.cps_list.specs.Symbols as texts;
-ghost use Rattle.cps_queries.specs.Results.{TellsEach, TellsSymbol, TellsSymbols, symbol};
+ghost use Rattle.cps_queries.specs.Results.{TellsEach, TellsSymbol, TellsSymbols, finals_in, symbol};
 
 use crate::deck::Deck;
 use crate::ranges::columns_range;
@@ -29,7 +27,7 @@ fn tell_definitions(
     deck: Deck<'_>,
     definitions: &[Mention],
 ) -> Result<Value, AllocError>
-    ensures { IfOk result (λ json. TellsEach (TellsSymbol (assembly_of (source_of_text deck.entry.document.now)).finals) definitions.now (view json)) }
+    ensures { IfOk result (λ json. TellsEach (TellsSymbol (finals_in deck.entry.document.now)) definitions.now (view json)) }
 {
     let mut told = Vec::new(alloc);
     for definition in definitions {
@@ -40,7 +38,7 @@ fn tell_definitions(
 
 /// The definition of a symbol.
 fn tell_symbol(alloc: Global, deck: Deck<'_>, definition: &Mention) -> Result<Value, AllocError>
-    ensures { IfOk result (λ json. TellsSymbol (assembly_of (source_of_text deck.entry.document.now)).finals definition.now (view json)) }
+    ensures { IfOk result (λ json. TellsSymbol (finals_in deck.entry.document.now) definition.now (view json)) }
 {
     let name = definition.name;
     let number = definition.line.saturating_sub(1);
@@ -53,7 +51,7 @@ fn tell_symbol(alloc: Global, deck: Deck<'_>, definition: &Mention) -> Result<Va
 
 /// The final value of a symbol, as the cross-reference has it.
 fn value_text(alloc: Global, document: &Document, name: Name) -> Result<Vec<u8>, AllocError>
-    ensures { IfOk result (λ value. value.items ≡ texts.value_text (texts.value_of (assembly_of (source_of_text document.now)).finals name)) }
+    ensures { IfOk result (λ value. value.items ≡ texts.value_text (texts.value_of (finals_in document.now) name)) }
 {
     let mut text = Vec::new(alloc);
     push_value(&mut text, symbol_value(document.session().finals(), name))?;

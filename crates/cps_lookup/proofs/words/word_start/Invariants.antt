@@ -1,11 +1,12 @@
-use Rattle.std.proofs.Common.{◌≡◌, ◌≤◌}
-use Rattle.cps_lookup.specs.Words.{word_start}
+use Rattle.std.proofs.Common.{◌≡◌, ◌+◌, ◌-◌, ◌≤◌, take}
+use Rattle.std.specs.List.{suffix_len}
+use Rattle.cps_lookup.specs.Words.{in_word}
 use Rattle.cps_lookup.proofs.words.word_start.Given as goal
 
--- a word that reaches to the place reaches to this one
+-- the bytes from here to the place are of words
 pub record IsSoFar (l : goal.Live-loop-start) : Type 0 where
-  pub same : word_start l.line l.start ≡ word_start l.line l.at
   pub within : l.start ≤ l.at
+  pub same : suffix_len in_word (take l.at l.line) ≡ l.at - l.start + suffix_len in_word (take l.start l.line)
 
 abbrev pub invariant-loop-start : goal.invariant-loop-start
 invariant-loop-start l = IsSoFar l

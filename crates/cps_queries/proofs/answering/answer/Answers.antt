@@ -29,3 +29,8 @@ pub returns-in-Completions-clause-floats : goal.returns-in-Completions-clause-fl
 returns-in-Completions-clause-floats c =
     if-ok-as c.answer_completions.result
     (λ told. tells-no-float queries.Completions (view c.args.params.now) c.args.deck.encoding c.args.deck.uri.now c.args.deck.document.now (option_map view told)) c.answer_completions.ensures
+
+pub returns-in-Listing-clause-floats : goal.returns-in-Listing-clause-floats
+returns-in-Listing-clause-floats c =
+    if-ok-as c.answer_listing.result
+    (λ told. tells-no-float queries.Listing (view c.args.params.now) c.args.deck.encoding c.args.deck.uri.now c.args.deck.document.now (option_map view told)) c.answer_listing.ensures
