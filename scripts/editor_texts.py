@@ -191,6 +191,9 @@ class Shown:
                 found.append({"label": label + " .." * (len(rows) > 1), "paddingLeft": True, "position": self.position(number, len(self.lines[number]))})
         return found
 
+    def listings(self, first, last):
+        return ["".join(row + "\n" for row in self.rows[number]) for number in range(first, min(last + 1, len(self.rows)))]
+
     def completions(self):
         """The symbols alone."""
         names = dict.fromkeys(name for names in self.defined.values() for name in sorted(names))
@@ -208,6 +211,8 @@ class Shown:
             return self.outline()
         if method == "inlayHint":
             return self.hints(more["range"]["start"]["line"], more["range"]["end"]["line"])
+        if method == "compass/rows":
+            return self.listings(more["range"]["start"]["line"], more["range"]["end"]["line"])
         return self.completions()
 
     def in_order(self, method, answer):
@@ -228,7 +233,7 @@ class Shown:
         """What to ask about all places of a text: about each word, and about each line."""
         if method in ("documentSymbol", "completion"):
             yield {}
-        elif method == "inlayHint":
+        elif method in ("inlayHint", "compass/rows"):
             yield {"range": {"start": {"line": 0, "character": 0}, "end": {"line": len(self.lines), "character": 0}}}
         else:
             for number, line in enumerate(self.lines):

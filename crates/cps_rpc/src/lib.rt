@@ -3,7 +3,7 @@
 //! - `error_code.rt`: the errors that requests are refused with
 //! - `json.rt`: the JSON that a message is
 //! - `message.rt`: what a message asks
-//! - `outgoing.rt`: messages that a server sends
+//! - `outgoing.rt`: the answers to requests
 #![tactic(auto)]
 
 mod error_code;
@@ -14,4 +14,4 @@ mod outgoing;
 pub use error_code::ErrorCode;
 pub use json::{JsonFault, json_of};
 pub use message::Message;
-pub use outgoing::{notification, refusal, response};
+pub use outgoing::{refusal, response};

@@ -1,4 +1,4 @@
-//! Messages that a server sends.
+//! The answers to requests.
 ghost use Rattle.std.specs.Prelude.{◌≡◌, IfOk};
 ghost use Rattle.serde_json.specs.View.{view};
 ghost use Rattle.cps_rpc.specs.Outgoing as outgoing;
@@ -19,11 +19,4 @@ pub fn refusal(alloc: Global, id: &Value, code: ErrorCode) -> Result<Value, Allo
     ensures { IfOk result (λ json. view json ≡ outgoing.refusal (view id.now) code) }
 {
     json!(in alloc; {"error": {"code": code.number(), "message": code.text()}, "id": id, "jsonrpc": "2.0"})
-}
-
-/// A notification: a method, and what is told.
-pub fn notification(alloc: Global, method: &str, params: Value) -> Result<Value, AllocError>
-    ensures { IfOk result (λ json. view json ≡ outgoing.notification method.now (view params)) }
-{
-    json!(in alloc; {"jsonrpc": "2.0", "method": method, "params": params})
 }

@@ -2,3 +2,4 @@ pub mod FloatLemmas
 pub mod SaidLemmas
 pub mod ServerLemmas
 pub mod TextLemmas
+pub mod WritingLemmas

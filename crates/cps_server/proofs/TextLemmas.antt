@@ -4,7 +4,7 @@ use Rattle.std.specs.Prelude.{filter, not, slice_get, unwrap_or, if◌then◌els
 use Rattle.std.specs.List.{remove}
 use Rattle.cps_server.specs.declared.open_texts.OpenText as code
 use Rattle.cps_server.specs.Opened.{value_of}
-use Rattle.cps_server.specs.Standing.{OpenText, is_under, text_under, without}
+use Rattle.cps_server.specs.Standing.{OpenText, is_under, open_under, without}
 
 -- the first of some texts stands under a URI: it goes
 without-first : (uri : List ℕ) (one : OpenText) (texts : List OpenText) → is_under uri one ≡ true → without uri (one ∷ texts) ≡ without uri texts
@@ -40,16 +40,16 @@ drop-there [] at one there = absurd (search rules)
 drop-there (x ∷ list) zero one there = ap (λ o. unwrap_or o x ∷ list) there
 drop-there (x ∷ list) (suc at) one there = drop-there list at one there
 
--- the text of the first that stands under a URI
-pub text-first : (uri : List ℕ) (one : OpenText) (texts : List OpenText) → is_under uri one ≡ true → text_under uri (one ∷ texts) ≡ Some one.text
-text-first uri one texts under = ap (λ (b : Bool). if b then Some one.text else text_under uri texts) under
+-- the first that stands under a URI
+pub open-first : (uri : List ℕ) (one : OpenText) (texts : List OpenText) → is_under uri one ≡ true → open_under uri (one ∷ texts) ≡ Some one
+open-first uri one texts under = ap (λ (b : Bool). if b then Some one else open_under uri texts) under
 
 -- where no text stands under a URI, none goes
-pub without-none : (uri : List ℕ) (texts : List OpenText) → text_under uri texts ≡ None → without uri texts ≡ texts
+pub without-none : (uri : List ℕ) (texts : List OpenText) → open_under uri texts ≡ None → without uri texts ≡ texts
 without-none uri [] none = refl
 without-none uri (one ∷ texts) none = at (without-none uri texts) (is_under uri one) none
   where
-    at : (text_under uri texts ≡ None → without uri texts ≡ texts) → (b : Bool) → (if b then Some one.text else text_under uri texts) ≡ None
+    at : (open_under uri texts ≡ None → without uri texts ≡ texts) → (b : Bool) → (if b then Some one else open_under uri texts) ≡ None
         → cond (not b) (one ∷ without uri texts) (without uri texts) ≡ one ∷ texts
     at rest true none = absurd (search rules)
     at rest false none = ap (λ ts. one ∷ ts) (rest none)

@@ -23,11 +23,14 @@ Hears (notification method) params old said new = NotesAt (notice_named method) 
 Hears response params old said new = IsSilent old said new
 Hears invalid params old said new = (said ≡ refusal null InvalidRequest ∷ []) × (new ≡ old)
 
+abbrev pub HearsJson : Data → Standing → List Data → Standing → Type 0
+HearsJson json old said new = Hears (message_in json) (params_of json) old said new
+
 -- what is said to bytes that are the JSON of a message
 pub record AnswersJson (old : Standing) (message : List ℕ) (said : List Data) (new : Standing) : Type 0 where
   pub json : Data
   pub reads : IsJson message json
-  pub hears : Hears (message_in json) (params_of json) old said new
+  pub hears : HearsJson json old said new
 
 -- what is said to bytes that are none
 pub record AnswersNoJson (old : Standing) (message : List ℕ) (said : List Data) (new : Standing) : Type 0 where

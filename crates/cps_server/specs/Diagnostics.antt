@@ -1,15 +1,16 @@
--- What an editor is told of a text: a diagnostic for each mark. From the Language Server Protocol 3.17.
-use Rattle.std.specs.Prelude.{◌≡◌, ℕ, ℤ, ◌-◌, List, [], Option, Some, None, codes, slice_index_or}
+-- What an editor is told of a text: a diagnostic for each mark. From the Language Server Protocol 3.17; when it is told is our own.
+use Rattle.std.specs.Prelude.{◌≡◌, ℕ, ℤ, Bool, false, List, [], ◌∷◌, Option, Some, None, bytes_eq, codes, slice_index_or, if◌then◌else◌}
 use Rattle.std.specs.List.{AllZip}
 use Rattle.serde_json.specs.Data.{Data, unsigned, number, string, array, object, Members, no_members, member}
 use Rattle.serde_json.specs.Find.{of_integer}
 use Rattle.serde_json.specs.View.{items_of}
+use Rattle.serde_json.specs.Written.{compact_text}
 use Rattle.cps_buffer.specs.declared.encoding.Encoding.{Encoding}
 use Rattle.cps_buffer.specs.Lines.{source_lines}
 use Rattle.cps_cause.specs.declared.letter.Letter.{Letter}
 use Rattle.cps_cause.specs.declared.letter.Letter.TheVariants.{A, D, E, L, O, T, U, V}
 use Rattle.cps_rpc.specs.Outgoing.{notification}
-use Rattle.cps_queries.specs.Ranges.{range_of, told_units}
+use Rattle.cps_queries.specs.Ranges.{columns_range}
 use Rattle.cps_marks.specs.declared.kind.Kind.{Kind}
 use Rattle.cps_marks.specs.declared.kind.Kind.TheVariants.{Flag, Wrong}
 use Rattle.cps_marks.specs.Marks.{Mark, Marks}
@@ -18,7 +19,7 @@ use Rattle.cps_marks.specs.Marks.{Mark, Marks}
 
 -- the range of a mark in this line: from its first column through its last
 abbrev pub mark_range : Encoding → List ℕ → Mark → Data
-mark_range encoding line mark = range_of mark.line (told_units encoding line (mark.first - 1)) (told_units encoding line mark.last)
+mark_range encoding line mark = columns_range encoding line mark.line mark.first mark.last
 
 -- the name of a flag's letter
 abbrev pub letter_name : Letter → List ℕ
@@ -63,9 +64,20 @@ abbrev pub published : List ℕ → Option ℤ → List Data → Data
 published uri version told = notification (codes "textDocument/publishDiagnostics") (told_of uri version (array (items_of told)))
 
 -- the marks of a text are told, and nothing else
-pub record TellsText (encoding : Encoding) (uri : List ℕ) (version : Option ℤ) (text : List ℕ) (said : Data) : Type 0 where
+pub record TellsText (encoding : Encoding) (text : List ℕ) (told : List Data) : Type 0 where
   pub marks : List Mark
-  pub told : List Data
   pub of_text : Marks text marks
   pub each : TellsMarks encoding (source_lines text) marks told
-  pub whole : said ≡ published uri version told
+
+-- a list of diagnostics as JSON, with no blank in it
+abbrev pub list_text : List Data → List ℕ
+list_text told = compact_text (array (items_of told))
+
+-- whether a list is that which was told last
+abbrev pub was_last : Option (List ℕ) → List ℕ → Bool
+was_last None list = false
+was_last (Some last) list = bytes_eq last list
+
+-- what is said of a text, by its diagnostics: nothing, if these were told last
+abbrev pub news_of : Option (List ℕ) → List ℕ → Option ℤ → List Data → List Data
+news_of last uri version told = if was_last last (list_text told) then [] else published uri version told ∷ []

@@ -9,3 +9,4 @@ pub mod Opened
 pub mod Said
 pub mod Owing
 pub mod Taking
+pub mod Writing

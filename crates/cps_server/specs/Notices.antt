@@ -8,8 +8,8 @@ use Rattle.cps_server.specs.declared.notice.Notice.{Notice}
 use Rattle.cps_server.specs.declared.notice.Notice.TheVariants.{Exit, Open, Change as ChangeNotice, Close, Unknown}
 use Rattle.cps_server.specs.declared.phase.Phase.{Phase}
 use Rattle.cps_server.specs.declared.phase.Phase.TheVariants.{Uninitialized, Running, ShutDown}
-use Rattle.cps_server.specs.Diagnostics.{TellsText, published}
-use Rattle.cps_server.specs.Standing.{Standing, text_under, with_text, without}
+use Rattle.cps_server.specs.Diagnostics.{TellsText, list_text, news_of, published}
+use Rattle.cps_server.specs.Standing.{OpenText, Standing, open_under, with_text, without}
 
 -- the notification of a method
 abbrev pub notice_named : List ℕ → Notice
@@ -23,17 +23,17 @@ notice_named method =
 abbrev pub IsSilent : Standing → List Data → Standing → Type 0
 IsSilent old said new = (said ≡ []) × (new ≡ old)
 
--- a text is open under a URI, and its marks are told
-pub record TakesText (old : Standing) (uri : List ℕ) (version : Option ℤ) (text : List ℕ) (said : List Data) (new : Standing) : Type 0 where
-  pub diagnostics : Data
-  pub tells : TellsText old.encoding uri version text diagnostics
-  pub says : said ≡ diagnostics ∷ []
-  pub moves : new ≡ record old { texts = with_text uri text old.texts }
+-- a text is open under a URI; its marks are told, unless its last diagnostics were the same
+pub record TakesText (old : Standing) (uri : List ℕ) (version : Option ℤ) (text : List ℕ) (last : Option (List ℕ)) (said : List Data) (new : Standing) : Type 0 where
+  pub told : List Data
+  pub tells : TellsText old.encoding text told
+  pub says : said ≡ news_of last uri version told
+  pub moves : new ≡ record old { texts = with_text (record { uri = uri; text = text; told = list_text told }) old.texts }
 
 -- a text is opened; wrong parameters do nothing
 abbrev pub Opens : Standing → Option ℤ → Option OpenedText → List Data → Standing → Type 0
 Opens old version None said new = IsSilent old said new
-Opens old version (Some opened) said new = TakesText old opened.uri version opened.text said new
+Opens old version (Some opened) said new = TakesText old opened.uri version opened.text None said new
 
 abbrev pub OpensBy : Data → Standing → List Data → Standing → Type 0
 OpensBy params old said new = Opens old (version_in params) (opened_in params) said new
@@ -46,12 +46,12 @@ changed_by encoding [] text = text
 changed_by encoding (change ∷ changes) text = changed_by encoding changes (changed encoding text change.range change.text)
 
 -- the text under a URI is changed, if one is open there
-abbrev pub ChangesText : Standing → List ℕ → Option ℤ → List Change → Option (List ℕ) → List Data → Standing → Type 0
+abbrev pub ChangesText : Standing → List ℕ → Option ℤ → List Change → Option OpenText → List Data → Standing → Type 0
 ChangesText old uri version changes None said new = IsSilent old said new
-ChangesText old uri version changes (Some text) said new = TakesText old uri version (changed_by old.encoding changes text) said new
+ChangesText old uri version changes (Some one) said new = TakesText old uri version (changed_by old.encoding changes one.text) (Some one.told) said new
 
 abbrev pub ChangesUnder : List ℕ → Option ℤ → List Change → Standing → List Data → Standing → Type 0
-ChangesUnder uri version changes old said new = ChangesText old uri version changes (text_under uri old.texts) said new
+ChangesUnder uri version changes old said new = ChangesText old uri version changes (open_under uri old.texts) said new
 
 -- the changes of a message are made; where one is wrong, none is
 abbrev pub Changes : Standing → Option (List ℕ) → Option ℤ → Option (List Change) → List Data → Standing → Type 0
@@ -65,12 +65,12 @@ ChangesBy params old said new = Changes old (uri_in params) (version_in params) 
 -- ---- closing
 
 -- a text is closed, if it was open: the editor is told that it has no diagnostics
-abbrev pub ClosesText : Standing → List ℕ → Option (List ℕ) → List Data → Standing → Type 0
+abbrev pub ClosesText : Standing → List ℕ → Option OpenText → List Data → Standing → Type 0
 ClosesText old uri None said new = IsSilent old said new
-ClosesText old uri (Some text) said new = (said ≡ published uri None [] ∷ []) × (new ≡ record old { texts = without uri old.texts })
+ClosesText old uri (Some one) said new = (said ≡ published uri None [] ∷ []) × (new ≡ record old { texts = without uri old.texts })
 
 abbrev pub ClosesUnder : List ℕ → Standing → List Data → Standing → Type 0
-ClosesUnder uri old said new = ClosesText old uri (text_under uri old.texts) said new
+ClosesUnder uri old said new = ClosesText old uri (open_under uri old.texts) said new
 
 abbrev pub Closes : Standing → Option (List ℕ) → List Data → Standing → Type 0
 Closes old None said new = IsSilent old said new

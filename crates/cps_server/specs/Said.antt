@@ -3,7 +3,7 @@ use Rattle.std.specs.Prelude.{◌≡◌, ℕ, Bool, false, List, ◌++◌}
 use Rattle.serde_json.specs.Data.{Data}
 use Rattle.serde_json.specs.Written.{has_float}
 use Rattle.cps_rpc.specs.Message.{Message, request, notification, response, invalid}
-use Rattle.cps_server.specs.Frames.{frame_of_json, text_of}
+use Rattle.cps_server.specs.Frames.{text_of}
 use Rattle.cps_server.specs.Standing.{Standing}
 
 -- values are added of which this holds
@@ -15,12 +15,6 @@ pub record Adds (says : List Data → Type 0) (old new : List ℕ) : Type 0 wher
 -- from one standing to another, values are added that were said on the way
 abbrev pub Into : (Standing → List Data → Standing → Type 0) → Standing → Standing → List ℕ → List ℕ → Type 0
 Into does old new said now = Adds (λ news. does old news new) said now
-
--- one is
-pub record AddsOne (says : Data → Type 0) (old new : List ℕ) : Type 0 where
-  pub json : Data
-  pub right : says json
-  pub added : new ≡ old ++ frame_of_json json
 
 -- whether the identifier of a message has a float
 abbrev pub has_float_id : Message → Bool

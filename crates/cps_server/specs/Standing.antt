@@ -1,5 +1,5 @@
 -- Where a server stands. From the Language Server Protocol 3.17; the encoding before `initialize` is our own.
-use Rattle.std.specs.Prelude.{ℕ, Bool, true, false, not, List, [], ◌∷◌, ◌++◌, Option, Some, None, bytes_eq, filter, if◌then◌else◌}
+use Rattle.std.specs.Prelude.{ℕ, Bool, true, false, not, List, [], ◌∷◌, ◌++◌, Option, Some, None, bytes_eq, filter, option_map, if◌then◌else◌}
 use Rattle.cps_buffer.specs.declared.encoding.Encoding.{Encoding}
 use Rattle.cps_buffer.specs.declared.encoding.Encoding.TheVariants.{Utf16}
 use Rattle.cps_server.specs.declared.phase.Phase.{Phase}
@@ -7,26 +7,31 @@ use Rattle.cps_server.specs.declared.phase.Phase.TheVariants.{Uninitialized, Run
 
 -- ---- texts
 
--- a text that is open, under the URI of its document
+-- A text that is open, under the URI of its document, with the list of its diagnostics that was told last, as JSON.
 pub record OpenText : Type 0 where
   pub uri : List ℕ
   pub text : List ℕ
+  pub told : List ℕ
 
 abbrev pub is_under : List ℕ → OpenText → Bool
 is_under uri one = bytes_eq one.uri uri
 
+-- what is open under a URI
+abbrev pub open_under : List ℕ → List OpenText → Option OpenText
+open_under uri [] = None
+open_under uri (one ∷ texts) = if is_under uri one then Some one else open_under uri texts
+
 -- the text under a URI
 abbrev pub text_under : List ℕ → List OpenText → Option (List ℕ)
-text_under uri [] = None
-text_under uri (one ∷ texts) = if is_under uri one then Some one.text else text_under uri texts
+text_under uri texts = option_map (λ one. one.text) (open_under uri texts)
 
 -- all texts but that under a URI
 abbrev pub without : List ℕ → List OpenText → List OpenText
 without uri texts = filter (λ one. not (is_under uri one)) texts
 
--- all texts, and this one under a URI in the place of another
-abbrev pub with_text : List ℕ → List ℕ → List OpenText → List OpenText
-with_text uri text texts = without uri texts ++ record { uri = uri; text = text } ∷ []
+-- all texts, and this one in the place of another under its URI
+abbrev pub with_text : OpenText → List OpenText → List OpenText
+with_text one texts = without one.uri texts ++ one ∷ []
 
 -- ---- the server
 

@@ -1,22 +1,19 @@
-//! What an editor is told of a text.
-ghost use Rattle.std.specs.Prelude.{◌≡◌, ◌++◌, map, IfOk, OnOk, Some, None, []};
-ghost use Rattle.serde_json.specs.View.{view};
+//! The diagnostics of a text, and when an editor is told them.
+ghost use Rattle.std.specs.Prelude.{◌≡◌, [], ◌++◌, map, option_map, IfOk, OnOk, None};
 ghost use Rattle.cps_buffer.specs.Lines.{source_lines};
+ghost use Rattle.cps_frame.specs.Frame.{frame_of};
 ghost use Rattle.cps_marks.specs.Marks.{place_of};
-ghost use Rattle.cps_marks.specs.declared.kind.Kind.TheVariants.{Flag, Wrong};
-ghost use Rattle.cps_server.specs.Diagnostics as diagnostics;
+ghost use Rattle.cps_server.specs.Diagnostics.{published, was_last};
 ghost use Rattle.cps_server.specs.Frames.{frame_of_json};
-ghost use Rattle.cps_server.specs.Said.{AddsOne};
+ghost use Rattle.cps_server.specs.Writing.{AddsMark, AddsMarks, ListsText, document_text, news_text, published_text};
 
-use crate::saying::push_json;
+use crate::diagnostic::{Stretch, push_diagnostic};
+use crate::writing::{push_comma, push_string, push_version};
 use cps_buffer::Encoding;
-use cps_cause::Letter;
 use cps_document::Document;
+use cps_frame::push_frame;
 use cps_lookup::line_of;
-use cps_marks::{Kind, Mark, marks_of};
-use cps_queries::columns_range;
-use cps_rpc::notification;
-use serde_json::{Value, json};
+use cps_marks::{Mark, marks_of};
 use std::alloc::{AllocError, Global};
 use std::str;
 
@@ -29,149 +26,54 @@ pub struct ToldText<'a> {
     pub version: Option<i64>,
 }
 
-/// Says what an editor is told of a document's text: its marks.
-pub fn say_text(
+// ---- the list
+
+/// The diagnostics of a document's text, as JSON with no blank in it.
+pub fn list_of(
     alloc: Global,
     encoding: Encoding,
-    text: ToldText<'_>,
     document: &Document,
-    said: &mut Vec<u8>,
-) -> Result<(), AllocError>
-    ensures { OnOk result (AddsOne (diagnostics.TellsText encoding text.entry.uri.now text.entry.version document.now) said.old.items said.new.items) }
-{
-    let json = tell_text(alloc, encoding, text, document)?;
-    push_json(alloc, said, &json)
-}
-
-/// Says that an editor has no diagnostics of a text that was closed.
-pub fn say_closed(alloc: Global, uri: &str, said: &mut Vec<u8>) -> Result<(), AllocError>
-    ensures { OnOk result (said.new.items ≡ said.old.items ++ frame_of_json (diagnostics.published uri.now None [])) }
-{
-    let text = ToldText { uri, version: None };
-    let json = publish(alloc, text, Vec::new(alloc))?;
-    push_json(alloc, said, &json)
-}
-
-/// What an editor is told of a document's text.
-fn tell_text(
-    alloc: Global,
-    encoding: Encoding,
-    text: ToldText<'_>,
-    document: &Document,
-) -> Result<Value, AllocError>
-    ensures { IfOk result (λ json. diagnostics.TellsText encoding text.entry.uri.now text.entry.version document.now (view json)) }
+) -> Result<Vec<u8>, AllocError>
+    ensures { IfOk result (λ list. ListsText encoding document.now list.items) }
 {
     let marks = marks_of(alloc, document)?;
-    let told = tell_marks(alloc, encoding, document, &marks)?;
-    publish(alloc, text, told)
+    let mut list = Vec::new(alloc);
+    list.push(b'[')?;
+    push_marks(alloc, encoding, document, &marks, &mut list)?;
+    Ok(list)
 }
 
-/// What an editor is told where these are the diagnostics of a text.
-fn publish(alloc: Global, text: ToldText<'_>, told: Vec<Value>) -> Result<Value, AllocError>
-    ensures { IfOk result (λ json. view json ≡ diagnostics.published text.entry.uri.now text.entry.version (map view told.items)) }
-{
-    let params = told_of(alloc, text, Value::from(told))?;
-    notification(alloc, "textDocument/publishDiagnostics", params)
-}
-
-/// What is told with a list of diagnostics.
-fn told_of(alloc: Global, text: ToldText<'_>, list: Value) -> Result<Value, AllocError>
-    ensures { IfOk result (λ json. view json ≡ diagnostics.told_of text.entry.uri.now text.entry.version (view list)) }
-{
-    match text.version {
-        Some(version) => told_of_version(alloc, text.uri, version, list),
-        None => told_alone(alloc, text.uri, list),
-    }
-}
-
-/// The same of a version.
-fn told_of_version(alloc: Global, uri: &str, version: i64, list: Value) -> Result<Value, AllocError>
-    ensures { IfOk result (λ json. view json ≡ diagnostics.told_of uri.now (Some version) (view list)) }
-{
-    json!(in alloc; {"diagnostics": list, "uri": uri, "version": version})
-}
-
-/// The same where the version isn't known.
-fn told_alone(alloc: Global, uri: &str, list: Value) -> Result<Value, AllocError>
-    ensures { IfOk result (λ json. view json ≡ diagnostics.told_of uri.now None (view list)) }
-{
-    json!(in alloc; {"diagnostics": list, "uri": uri})
-}
-
-/// The diagnostics of marks in a document's text.
-fn tell_marks(
+/// Appends the diagnostics of marks in a document's text, and the end of their list.
+fn push_marks(
     alloc: Global,
     encoding: Encoding,
     document: &Document,
     marks: &[Mark],
-) -> Result<Vec<Value>, AllocError>
-    ensures { IfOk result (λ told. diagnostics.TellsMarks encoding (source_lines document.now) (map place_of marks.now) (map view told.items)) }
+    list: &mut Vec<u8>,
+) -> Result<(), AllocError>
+    ensures { OnOk result (AddsMarks encoding (source_lines document.now) (map place_of marks.now) list.old.items list.new.items) }
 {
-    let mut told = Vec::new(alloc);
-    for mark in marks {
-        told.push(tell_mark(alloc, encoding, document, mark)?)?;
+    for (at, mark) in marks.iter().enumerate() {
+        push_comma(list, at > 0)?;
+        push_mark(alloc, encoding, document, mark, list)?;
     }
-    Ok(told)
+    list.push(b']')?;
+    Ok(())
 }
 
-/// The diagnostic of a mark in a document's text.
-fn tell_mark(
+/// Appends the diagnostic of a mark in a document's text.
+fn push_mark(
     alloc: Global,
     encoding: Encoding,
     document: &Document,
     mark: &Mark,
-) -> Result<Value, AllocError>
-    ensures { IfOk result (λ json. diagnostics.TellsMark encoding (source_lines document.now) (place_of mark.now) (view json)) }
+    list: &mut Vec<u8>,
+) -> Result<(), AllocError>
+    ensures { OnOk result (AddsMark encoding (source_lines document.now) (place_of mark.now) list.old.items list.new.items) }
 {
     let line = line_of(document, mark.line);
-    let range = columns_range(alloc, encoding, line, mark.line, mark.columns)?;
-    diagnostic(alloc, mark.kind, range, text_of(&mark.message))
-}
-
-/// The diagnostic of a mark with this range and message.
-fn diagnostic(alloc: Global, kind: Kind, range: Value, message: &str) -> Result<Value, AllocError>
-    ensures { IfOk result (λ json. view json ≡ diagnostics.diagnostic kind (view range) message.now) }
-{
-    match kind {
-        Kind::Flag(letter) => flag_diagnostic(alloc, letter, range, message),
-        Kind::Wrong => fault_diagnostic(alloc, range, message),
-    }
-}
-
-/// The diagnostic of a flag.
-fn flag_diagnostic(
-    alloc: Global,
-    letter: Letter,
-    range: Value,
-    message: &str,
-) -> Result<Value, AllocError>
-    ensures { IfOk result (λ json. view json ≡ diagnostics.diagnostic (Flag letter) (view range) message.now) }
-{
-    let code = letter_name(letter);
-    json!(in alloc; {"code": code, "message": message, "range": range, "severity": 1, "source": "compass"})
-}
-
-/// The diagnostic of bytes that no line may have.
-fn fault_diagnostic(alloc: Global, range: Value, message: &str) -> Result<Value, AllocError>
-    ensures { IfOk result (λ json. view json ≡ diagnostics.diagnostic Wrong (view range) message.now) }
-{
-    json!(in alloc; {"message": message, "range": range, "severity": 1, "source": "compass"})
-}
-
-/// The name of a flag's letter.
-fn letter_name(letter: Letter) -> &'static str
-    ensures { result.now ≡ diagnostics.letter_name letter }
-{
-    match letter {
-        Letter::A => "A",
-        Letter::D => "D",
-        Letter::E => "E",
-        Letter::L => "L",
-        Letter::O => "O",
-        Letter::T => "T",
-        Letter::U => "U",
-        Letter::V => "V",
-    }
+    let stretch = Stretch::of(encoding, line, mark);
+    push_diagnostic(alloc, list, mark.kind, stretch, text_of(&mark.message))
 }
 
 /// A message as a text.
@@ -180,4 +82,81 @@ fn text_of(message: &[u8]) -> &str {
         Ok(text) => text,
         Err(_) => "no line may have this",
     }
+}
+
+// ---- what is said
+
+/// Says the diagnostics of a text, by their list, unless this one was told last.
+pub fn say_news(
+    alloc: Global,
+    text: ToldText<'_>,
+    last: Option<&[u8]>,
+    list: &[u8],
+    said: &mut Vec<u8>,
+) -> Result<(), AllocError>
+    ensures { OnOk result (said.new.items
+        ≡ said.old.items ++ news_text (option_map (λ last. last.now) last.entry) text.entry.uri.now text.entry.version list.now) }
+{
+    if is_last(last, list) {
+        return Ok(());
+    }
+    say_list(alloc, text, list, said)
+}
+
+/// Whether a list is that which was told last.
+fn is_last(last: Option<&[u8]>, list: &[u8]) -> bool
+    ensures { result ≡ was_last (option_map (λ last. last.now) last.entry) list.now }
+{
+    match last {
+        Some(last) => last == list,
+        None => false,
+    }
+}
+
+/// Says that an editor has no diagnostics of a text that was closed.
+pub fn say_closed(alloc: Global, uri: &str, said: &mut Vec<u8>) -> Result<(), AllocError>
+    ensures { OnOk result (said.new.items ≡ said.old.items ++ frame_of_json (published uri.now None [])) }
+{
+    say_list(alloc, ToldText { uri, version: None }, b"[]", said)
+}
+
+/// Says a list of diagnostics.
+fn say_list(
+    alloc: Global,
+    text: ToldText<'_>,
+    list: &[u8],
+    said: &mut Vec<u8>,
+) -> Result<(), AllocError>
+    ensures { OnOk result (said.new.items ≡ said.old.items ++ frame_of (published_text text.entry.uri.now text.entry.version list.now)) }
+{
+    let mut message = Vec::new(alloc);
+    push_published(alloc, &mut message, text, list)?;
+    push_frame(said, &message)
+}
+
+/// Appends the notification that tells a list of diagnostics.
+fn push_published(
+    alloc: Global,
+    message: &mut Vec<u8>,
+    text: ToldText<'_>,
+    list: &[u8],
+) -> Result<(), AllocError>
+    ensures { OnOk result (message.new.items ≡ message.old.items ++ published_text text.entry.uri.now text.entry.version list.now) }
+{
+    message.extend_from_slice(
+        b"{\"jsonrpc\":\"2.0\",\"method\":\"textDocument/publishDiagnostics\",\"params\":{\"diagnostics\":",
+    )?;
+    message.extend_from_slice(list)?;
+    push_document(alloc, message, text)?;
+    message.extend_from_slice(b"}}")?;
+    Ok(())
+}
+
+/// Appends of which document a list is, and of which version, if that is known.
+fn push_document(alloc: Global, message: &mut Vec<u8>, text: ToldText<'_>) -> Result<(), AllocError>
+    ensures { OnOk result (message.new.items ≡ message.old.items ++ document_text text.entry.uri.now text.entry.version) }
+{
+    message.extend_from_slice(b",\"uri\":")?;
+    push_string(alloc, message, text.uri)?;
+    push_version(alloc, message, text.version)
 }

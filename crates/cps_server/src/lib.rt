@@ -1,6 +1,7 @@
 //! A server for editors, by the Language Server Protocol: it tells which flags the texts have that an editor has open.
 //!
-//! - `diagnostics.rt`: what an editor is told of a text
+//! - `diagnostic.rt`: a diagnostic, as it is written
+//! - `diagnostics.rt`: the diagnostics of a text, and when an editor is told them
 //! - `introducing.rt`: what a server tells of itself
 //! - `notice.rt`: the notifications that a server hears
 //! - `open_texts.rt`: the texts that are open
@@ -10,8 +11,10 @@
 //! - `running.rt`: a run of a server
 //! - `saying.rt`: what is said
 //! - `server.rt`: the server, and what it answers
+//! - `writing.rt`: JSON, written with no blank in it
 #![tactic(auto)]
 
+mod diagnostic;
 mod diagnostics;
 mod introducing;
 mod notice;
@@ -22,6 +25,7 @@ mod request;
 mod running;
 mod saying;
 mod server;
+mod writing;
 
 pub use cps_serving::ServerFault;
 pub use running::run_server;

@@ -1,36 +1,47 @@
 //! The texts that are open.
 ghost use Rattle.std.specs.Prelude.{◌≡◌, [], ◌∷◌, ◌++◌, map, option_map, None, IfSome, OnOk};
 ghost use Rattle.cps_server.specs.Opened.{IsFirst, value_of};
-ghost use Rattle.cps_server.specs.Standing.{text_under, without};
+ghost use Rattle.cps_server.specs.Standing.{open_under, text_under, without};
 
 use cps_document::Document;
 use std::alloc::{AllocError, Global};
 use std::marker::Model;
 
 /// A text that is open.
-struct OpenText {
+pub struct OpenText {
     /// The URI of its document.
     uri: String,
     document: Document,
+    /// The list of its diagnostics that was told last, as JSON.
+    told: Vec<u8>,
 }
 
 // Written out, as that of the document.
 impl Drop for OpenText {
     fn drop(self) {
-        let OpenText { uri, document } = self;
+        let OpenText {
+            uri,
+            document,
+            told,
+        } = self;
         drop(uri);
         drop(document);
+        drop(told);
     }
 }
 
 impl OpenText {
-    /// Its document.
-    fn into_document(self) -> Document
-        ensures { result ≡ self.document }
+    /// Its document, and the list of its diagnostics that was told last.
+    pub fn into_parts(self) -> (Document, Vec<u8>)
+        ensures { result ≡ (self.document, self.told) }
     {
-        let OpenText { uri, document } = self;
+        let OpenText {
+            uri,
+            document,
+            told,
+        } = self;
         drop(uri);
-        document
+        (document, told)
     }
 }
 
@@ -78,8 +89,8 @@ impl OpenTexts {
     }
 
     /// Takes out the text under a URI, if one is open there.
-    pub fn take(&mut self, uri: &str) -> Option<Document>
-        ensures text { result ≡ text_under uri.now self.old }
+    pub fn take(&mut self, uri: &str) -> Option<OpenText>
+        ensures open { option_map value_of result ≡ open_under uri.now self.old }
         ensures left { self.new ≡ without uri.now self.old }
         ensures none { result ≡ None → self.new ≡ self.old }
     {
@@ -88,29 +99,33 @@ impl OpenTexts {
         found
     }
 
-    /// Opens a text behind all others.
-    pub fn push(&mut self, uri: &str, document: Document) -> Result<(), AllocError>
-        ensures { OnOk result (self.new ≡ self.old ++ record { uri = uri.now; text = document } ∷ []) }
+    /// Opens a text behind all others, with the list of its diagnostics that is told.
+    pub fn push(&mut self, uri: &str, document: Document, told: Vec<u8>) -> Result<(), AllocError>
+        ensures { OnOk result (self.new ≡ self.old ++ record { uri = uri.now; text = document; told = told.items } ∷ []) }
     {
         let uri = uri.to_string(self.alloc)?;
-        self.list.push(OpenText { uri, document })?;
+        self.list.push(OpenText {
+            uri,
+            document,
+            told,
+        })?;
         Ok(())
     }
 
     /// Takes out the first text under a URI.
-    fn take_first(&mut self, uri: &str) -> Option<Document>
-        ensures text { result ≡ text_under uri.now self.old }
+    fn take_first(&mut self, uri: &str) -> Option<OpenText>
+        ensures open { option_map value_of result ≡ open_under uri.now self.old }
         ensures left { without uri.now self.new ≡ without uri.now self.old }
     {
         let at = place_of(&self.list, uri)?;
-        Some(self.list.remove(at).into_document())
+        Some(self.list.remove(at))
     }
 }
 
 /// Where the first text under a URI stands.
 fn place_of(list: &[OpenText], uri: &str) -> Option<usize>
     ensures found { IfSome result (IsFirst uri.now list.now) }
-    ensures none { result ≡ None → text_under uri.now (map value_of list.now) ≡ None }
+    ensures none { result ≡ None → open_under uri.now (map value_of list.now) ≡ None }
 {
     for (at, one) in list.iter().enumerate() {
         if one.uri.as_str() == uri {

@@ -1,11 +1,11 @@
 //! The server, and what it answers.
-ghost use Rattle.std.specs.Prelude.{◌≡◌, false, map, OnOk, IfOk};
+ghost use Rattle.std.specs.Prelude.{◌≡◌, false, map, option_map, OnOk, IfOk};
 ghost use Rattle.serde_json.specs.Data.{null};
 ghost use Rattle.serde_json.specs.View.{view};
 ghost use Rattle.serde_json.specs.Written.{has_float};
-ghost use Rattle.cps_params.specs.Params as told_params;
-ghost use Rattle.cps_rpc.specs.Message as messages;
-ghost use Rattle.cps_server.specs.Answers.{Hears, params_of};
+ghost use Rattle.cps_params.specs.Params.{value_of as change_of};
+ghost use Rattle.cps_rpc.specs.Message.{request, value_of as asked_by};
+ghost use Rattle.cps_server.specs.Answers.{Hears, HearsJson, params_of};
 ghost use Rattle.cps_server.specs.Notices as notices;
 ghost use Rattle.cps_server.specs.Owing.{has_float_owed, value_of};
 ghost use Rattle.cps_server.specs.Requests as requests;
@@ -13,7 +13,7 @@ ghost use Rattle.cps_server.specs.Said.{Into, has_float_id};
 ghost use Rattle.cps_server.specs.Taking.{Changes, Takes};
 ghost use Rattle.cps_server.specs.Standing.{beginning, is_shut_down};
 
-use crate::diagnostics::{ToldText, say_closed, say_text};
+use crate::diagnostics::{ToldText, list_of, say_closed, say_news};
 use crate::introducing::introduction;
 use crate::notice::Notice;
 use crate::open_texts::OpenTexts;
@@ -109,7 +109,7 @@ impl Server {
 
     /// Hears a message, by its JSON.
     fn hear(&mut self, json: &Value, said: &mut Vec<u8>) -> Result<(), AllocError>
-        ensures { OnOk result (Into (Hears (messages.message_in (view json.now)) (params_of (view json.now))) self.old self.new said.old.items said.new.items) }
+        ensures { OnOk result (Into (HearsJson (view json.now)) self.old self.new said.old.items said.new.items) }
     {
         let none = Value::Null;
         self.hear_message(Message::of(json), params_in(json, &none), said)
@@ -122,8 +122,8 @@ impl Server {
         params: &Value,
         said: &mut Vec<u8>,
     ) -> Result<(), AllocError>
-        requires { has_float_id (messages.value_of message) ≡ false }
-        ensures { OnOk result (Into (Hears (messages.value_of message.entry) (view params.now)) self.old self.new said.old.items said.new.items) }
+        requires { has_float_id (asked_by message) ≡ false }
+        ensures { OnOk result (Into (Hears (asked_by message.entry) (view params.now)) self.old self.new said.old.items said.new.items) }
     {
         match message {
             Message::Request { id, method } => self.answer_request(id, method, params, said),
@@ -144,7 +144,7 @@ impl Server {
         said: &mut Vec<u8>,
     ) -> Result<(), AllocError>
         requires { has_float (view id.now) ≡ false }
-        ensures { OnOk result (Into (Hears (messages.request (view id.now) method.now) (view params.now)) self.old self.new said.old.items said.new.items) }
+        ensures { OnOk result (Into (Hears (request (view id.now) method.now) (view params.now)) self.old self.new said.old.items said.new.items) }
     {
         let request = Request::named(method);
         let owed = self.owed_to(request, params)?;
@@ -234,10 +234,10 @@ impl Server {
             version: version_in(params),
         };
         let document = Document::open(self.alloc, self.hashing, opened.text.as_bytes())?;
-        self.keep(told, document, said)
+        self.keep(told, document, None, said)
     }
 
-    /// Changes a text, and tells its marks. Wrong parameters do nothing.
+    /// Changes a text, and tells its marks if they differ. Wrong parameters do nothing.
     fn change(&mut self, params: &Value, said: &mut Vec<u8>) -> Result<(), AllocError>
         ensures { OnOk result (Into (notices.ChangesBy (view params.now)) self.old self.new said.old.items said.new.items) }
     {
@@ -254,20 +254,21 @@ impl Server {
         self.change_text(told, &changes, said)
     }
 
-    /// Changes the text under a URI, if one is open there, and tells its marks.
+    /// Changes the text under a URI, if one is open there, and tells its marks if they differ.
     fn change_text(
         &mut self,
         told: ToldText<'_>,
         changes: &[Change<'_>],
         said: &mut Vec<u8>,
     ) -> Result<(), AllocError>
-        ensures { OnOk result (Into (Changes told.entry (map told_params.value_of changes.now)) self.old self.new said.old.items said.new.items) }
+        ensures { OnOk result (Into (Changes told.entry (map change_of changes.now)) self.old self.new said.old.items said.new.items) }
     {
-        let Some(document) = self.texts.take(told.uri) else {
+        let Some(open) = self.texts.take(told.uri) else {
             return Ok(());
         };
+        let (document, last) = open.into_parts();
         let document = changed_by(document, self.encoding, changes)?;
-        self.keep(told, document, said)
+        self.keep(told, document, Some(&last), said)
     }
 
     /// Closes a text. Wrong parameters do nothing.
@@ -284,25 +285,28 @@ impl Server {
     fn close_text(&mut self, uri: &str, said: &mut Vec<u8>) -> Result<(), AllocError>
         ensures { OnOk result (Into (notices.ClosesUnder uri.now) self.old self.new said.old.items said.new.items) }
     {
-        let Some(document) = self.texts.take(uri) else {
+        let Some(open) = self.texts.take(uri) else {
             return Ok(());
         };
-        drop(document);
+        drop(open);
         say_closed(self.alloc, uri, said)
     }
 
-    /// Keeps a text open, in the place of another under its URI, and tells its marks.
+    /// Keeps a text open, in the place of another under its URI. Tells its marks, unless its last list of diagnostics was the same.
     fn keep(
         &mut self,
         told: ToldText<'_>,
         document: Document,
+        last: Option<&[u8]>,
         said: &mut Vec<u8>,
     ) -> Result<(), AllocError>
-        ensures { OnOk result (Into (Takes told.entry document) self.old self.new said.old.items said.new.items) }
+        ensures { OnOk result (Into (Takes told.entry document (option_map (λ last. last.now) last.entry))
+            self.old self.new said.old.items said.new.items) }
     {
-        say_text(self.alloc, self.encoding, told, &document, said)?;
+        let list = list_of(self.alloc, self.encoding, &document)?;
+        say_news(self.alloc, told, last, &list, said)?;
         drop(self.texts.take(told.uri));
-        self.texts.push(told.uri, document)
+        self.texts.push(told.uri, document, list)
     }
 }
 
@@ -312,7 +316,7 @@ fn changed_by(
     encoding: Encoding,
     changes: &[Change<'_>],
 ) -> Result<Document, AllocError>
-    ensures { IfOk result (λ new. new ≡ notices.changed_by encoding (map told_params.value_of changes.now) document) }
+    ensures { IfOk result (λ new. new ≡ notices.changed_by encoding (map change_of changes.now) document) }
 {
     let mut document = document;
     for change in changes {

@@ -62,8 +62,14 @@ fn asked(rt: &impl Abort, alloc: Global, inquiry: &Inquiry) -> Vec<u8> {
     let mut text = framed(rt, alloc, &[inquiry.begins.0]);
     push_opening(rt, alloc, &mut text, inquiry.lines);
     for (method, more, _) in inquiry.questions {
+        let folder = if method.contains("/") {
+            ""
+        } else {
+            "textDocument/"
+        };
         let parts = [
-            r#"{"jsonrpc":"2.0","id":5,"method":"textDocument/"#,
+            r#"{"jsonrpc":"2.0","id":5,"method":""#,
+            folder,
             *method,
             r#"","params":{"textDocument":{"uri":"a"}"#,
             *more,

@@ -6,6 +6,7 @@
 //! - `device_rows.rt`: where bytes come in pieces, and where a read or a write fails
 //! - `hint_rows.rt`: what is shown behind lines
 //! - `hover_rows.rt`: what is shown of a place
+//! - `listing_rows.rt`: the listing of lines
 //! - `outline_rows.rt`: the symbols of a text
 //! - `phase_rows.rt`: how conversations begin and end
 //! - `place_rows.rt`: where symbols are defined and read
@@ -25,6 +26,8 @@ mod device_rows;
 mod hint_rows;
 #[cfg(test)]
 mod hover_rows;
+#[cfg(test)]
+mod listing_rows;
 #[cfg(test)]
 mod outline_rows;
 #[cfg(test)]

@@ -113,6 +113,7 @@ const REFUSALS: [Row; 4] = [
             r#"{"jsonrpc":"2.0","id":25,"method":"textDocument/inlayHint","params":{"textDocument":{"uri":"a"},"position":{"line":0,"character":0}}}"#,
             r#"{"jsonrpc":"2.0","id":26,"method":"textDocument/inlayHint","params":{"textDocument":{"uri":"a"},"range":{"start":{"line":0,"character":0}}}}"#,
             r#"{"jsonrpc":"2.0","id":27,"method":"textDocument/completion","params":[]}"#,
+            r#"{"jsonrpc":"2.0","id":28,"method":"compass/rows","params":{"textDocument":{"uri":"a"},"position":{"line":0,"character":0}}}"#,
             EXIT,
         ],
         Ok(false),
@@ -128,6 +129,7 @@ const REFUSALS: [Row; 4] = [
             r#"{"error":{"code":-32602,"message":"Invalid params"},"id":25,"jsonrpc":"2.0"}"#,
             r#"{"error":{"code":-32602,"message":"Invalid params"},"id":26,"jsonrpc":"2.0"}"#,
             r#"{"error":{"code":-32602,"message":"Invalid params"},"id":27,"jsonrpc":"2.0"}"#,
+            r#"{"error":{"code":-32602,"message":"Invalid params"},"id":28,"jsonrpc":"2.0"}"#,
         ],
     ),
 ];
@@ -181,7 +183,6 @@ const STATES: [Row; 2] = [
             TOLD_A,
             r#"{"id":11,"jsonrpc":"2.0","result":{"contents":{"language":"compass","value":"L        00000000000000000000 1\n         000000 00000000000000000001      1 L         CON    1\n"}}}"#,
             r#"{"id":15,"jsonrpc":"2.0","result":[{"label":"000000 00000000000000000001","paddingLeft":true,"position":{"character":18,"line":0}}]}"#,
-            TOLD_A,
             r#"{"id":11,"jsonrpc":"2.0","result":{"contents":{"language":"compass","value":"         000000 00000000000000000001      1           CON    L\n"}}}"#,
             r#"{"id":15,"jsonrpc":"2.0","result":[{"label":"000000 00000000000000000001","paddingLeft":true,"position":{"character":18,"line":0}},{"label":"000001 00000000000000000001","paddingLeft":true,"position":{"character":26,"line":1}}]}"#,
             r#"{"id":13,"jsonrpc":"2.0","result":[]}"#,

@@ -18,7 +18,7 @@ const CLOSED: &str =
     "{\"jsonrpc\":\"2.0\",\"method\":\"textDocument/publishDiagnostics\",\"params\":{\"diagnostics\":[],\"uri\":\"a\"}}";
 
 /// Conversations about texts.
-const CONVERSATIONS: [Row; 7] = [
+const CONVERSATIONS: [Row; 8] = [
     // opened before `initialize` and behind `shutdown`: nothing is told, and no text is open
     (
         &[OPEN, INITIALIZE, CLOSE, SHUTDOWN, OPEN, CLOSE, EXIT],
@@ -45,6 +45,29 @@ const CONVERSATIONS: [Row; 7] = [
             "{\"jsonrpc\":\"2.0\",\"method\":\"textDocument/publishDiagnostics\",\"params\":{\"diagnostics\":[{\"code\":\"U\",\"message\":\"no line gives Q a value; it counts as 0\",\"range\":{\"end\":{\"character\":21,\"line\":0},\"start\":{\"character\":20,\"line\":0}},\"severity\":1,\"source\":\"compass\"},{\"code\":\"U\",\"message\":\"no line gives R a value; it counts as 0\",\"range\":{\"end\":{\"character\":19,\"line\":1},\"start\":{\"character\":18,\"line\":1}},\"severity\":1,\"source\":\"compass\"}],\"uri\":\"a\",\"version\":4}}",
             "{\"jsonrpc\":\"2.0\",\"method\":\"textDocument/publishDiagnostics\",\"params\":{\"diagnostics\":[],\"uri\":\"a\"}}",
             "{\"jsonrpc\":\"2.0\",\"method\":\"textDocument/publishDiagnostics\",\"params\":{\"diagnostics\":[{\"code\":\"U\",\"message\":\"no line gives B a value; it counts as 0\",\"range\":{\"end\":{\"character\":19,\"line\":0},\"start\":{\"character\":18,\"line\":0}},\"severity\":1,\"source\":\"compass\"}],\"uri\":\"a\",\"version\":6}}",
+        ],
+    ),
+    // a change behind the operand tells nothing, since the flag stays; one that moves it, and one that mends it are told; a line without a flag tells nothing; a
+    // text that is opened again is told as at first, and its own text in its place tells nothing
+    (
+        &[
+            INITIALIZE,
+            OPEN,
+            "{\"jsonrpc\":\"2.0\",\"method\":\"textDocument/didChange\",\"params\":{\"textDocument\":{\"uri\":\"a\",\"version\":2},\"contentChanges\":[{\"range\":{\"start\":{\"line\":0,\"character\":19},\"end\":{\"line\":0,\"character\":19}},\"text\":\" NOTE\"}]}}",
+            "{\"jsonrpc\":\"2.0\",\"method\":\"textDocument/didChange\",\"params\":{\"textDocument\":{\"uri\":\"a\",\"version\":3},\"contentChanges\":[{\"range\":{\"start\":{\"line\":0,\"character\":0},\"end\":{\"line\":0,\"character\":0}},\"text\":\"*\\n\"}]}}",
+            "{\"jsonrpc\":\"2.0\",\"method\":\"textDocument/didChange\",\"params\":{\"textDocument\":{\"uri\":\"a\",\"version\":4},\"contentChanges\":[{\"range\":{\"start\":{\"line\":1,\"character\":18},\"end\":{\"line\":1,\"character\":19}},\"text\":\"7\"}]}}",
+            "{\"jsonrpc\":\"2.0\",\"method\":\"textDocument/didChange\",\"params\":{\"textDocument\":{\"uri\":\"a\",\"version\":5},\"contentChanges\":[{\"range\":{\"start\":{\"line\":0,\"character\":1},\"end\":{\"line\":0,\"character\":1}},\"text\":\" ONE\\n          CON     1\"}]}}",
+            OPEN,
+            "{\"jsonrpc\":\"2.0\",\"method\":\"textDocument/didChange\",\"params\":{\"textDocument\":{\"uri\":\"a\",\"version\":2},\"contentChanges\":[{\"text\":\"          SX1     Q\\n\"}]}}",
+            EXIT,
+        ],
+        Ok(false),
+        &[
+            UTF16,
+            FLAGGED,
+            "{\"jsonrpc\":\"2.0\",\"method\":\"textDocument/publishDiagnostics\",\"params\":{\"diagnostics\":[{\"code\":\"U\",\"message\":\"no line gives Q a value; it counts as 0\",\"range\":{\"end\":{\"character\":19,\"line\":1},\"start\":{\"character\":18,\"line\":1}},\"severity\":1,\"source\":\"compass\"}],\"uri\":\"a\",\"version\":3}}",
+            "{\"jsonrpc\":\"2.0\",\"method\":\"textDocument/publishDiagnostics\",\"params\":{\"diagnostics\":[],\"uri\":\"a\",\"version\":4}}",
+            FLAGGED,
         ],
     ),
     // no text is open under a URI; texts under two; each is closed once, and opened again in the place of itself

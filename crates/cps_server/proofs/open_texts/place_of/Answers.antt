@@ -1,8 +1,8 @@
 use Rattle.std.proofs.Common.{rules, ◌≡◌, refl, true, Some, slice_get, map, sym, ap, ◌∙◌}
 use Rattle.std.proofs.lemmas.Option.{slice_get_read}
 use Rattle.cps_server.specs.Opened.{value_of}
-use Rattle.cps_server.specs.Standing.{is_under, text_under}
-use Rattle.cps_server.proofs.TextLemmas.{drop-there, text-first}
+use Rattle.cps_server.specs.Standing.{is_under, open_under}
+use Rattle.cps_server.proofs.TextLemmas.{drop-there, open-first}
 use Rattle.cps_server.proofs.open_texts.place_of.Goals as goal
 
 pub returns-then-eq-clause-found : goal.returns-then-eq-clause-found
@@ -14,6 +14,6 @@ returns-then-eq-clause-found c =
       one = one;
       there = there;
       under = under;
-      text = sym c.loop-at.invariant ∙ ap (λ xs. text_under c.args.uri.now (map value_of xs)) (drop-there c.args.list.now c.loop-at.at one there)
-          ∙ text-first c.args.uri.now (value_of one) _ under;
+      found = sym c.loop-at.invariant ∙ ap (λ xs. open_under c.args.uri.now (map value_of xs)) (drop-there c.args.list.now c.loop-at.at one there)
+          ∙ open-first c.args.uri.now (value_of one) _ under;
     }

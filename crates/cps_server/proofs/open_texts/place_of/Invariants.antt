@@ -1,8 +1,8 @@
 use Rattle.std.proofs.Common.{◌≡◌, drop, map}
 use Rattle.cps_server.specs.Opened.{value_of}
-use Rattle.cps_server.specs.Standing.{text_under}
+use Rattle.cps_server.specs.Standing.{open_under}
 use Rattle.cps_server.proofs.open_texts.place_of.Given as goal
 
 -- none of the texts so far stands under the URI
 abbrev pub invariant-loop-at : goal.invariant-loop-at
-invariant-loop-at l = text_under l.uri (map value_of (drop l.at l.list)) ≡ text_under l.uri (map value_of l.list)
+invariant-loop-at l = open_under l.uri (map value_of (drop l.at l.list)) ≡ open_under l.uri (map value_of l.list)

@@ -1,5 +1,6 @@
 use Rattle.std.proofs.Common.{rules, map, sym, ap, ◌∙◌}
 use Rattle.std.proofs.lemmas.Fn.{filter_same}
+use Rattle.std.specs.Prelude.{option_map}
 use Rattle.cps_server.specs.Opened.{value_of}
 use Rattle.cps_server.specs.Standing.{without}
 use Rattle.cps_server.proofs.TextLemmas.{without-kept, without-none}
@@ -13,4 +14,4 @@ returns-clause-left c =
     ∙ c.take_first-found.ensures.left
 
 pub returns-clause-none : goal.returns-clause-none
-returns-clause-none c = λ none. returns-clause-left c ∙ without-none _ _ (sym c.take_first-found.ensures.text ∙ none)
+returns-clause-none c = λ none. returns-clause-left c ∙ without-none _ _ (sym c.take_first-found.ensures.open ∙ ap (option_map value_of) none)

@@ -1,0 +1,147 @@
+-- Diagnostics as they are written.
+use Rattle.std.proofs.Common.{◌≡◌, refl, ap, subst, sym, ◌∙◌, append_assoc, arith, ℕ, ◌+◌, ◌-◌, ℤ, Bool, true, false, List, [], ◌∷◌, ◌++◌, map, drop, Option, Some, None}
+use Rattle.std.specs.Prelude.{codes, decimal, if◌then◌else◌, nat_lt, slice_index_or}
+use Rattle.std.specs.Fmt.{digits}
+use Rattle.std.proofs.lemmas.Bool.Decides.{nat_tests}
+use Rattle.std.proofs.lemmas.List.{append-nil}
+use Rattle.json.specs.Print.{escape_byte}
+use Rattle.serde_json.specs.Data.{Data, number, string}
+use Rattle.serde_json.specs.Find.{of_integer}
+use Rattle.serde_json.specs.View.{items_of}
+use Rattle.serde_json.specs.Written.{comma_if, compact_text, items_text, members_text}
+use Rattle.cps_frame.specs.Frame.{frame_of}
+use Rattle.cps_buffer.specs.declared.encoding.Encoding.{Encoding}
+use Rattle.cps_cause.specs.declared.letter.Letter.{Letter}
+use Rattle.cps_cause.specs.declared.letter.Letter.TheVariants.{A, D, E, L, O, T, U, V}
+use Rattle.cps_marks.specs.declared.kind.Kind.{Kind}
+use Rattle.cps_marks.specs.declared.kind.Kind.TheVariants.{Flag, Wrong}
+use Rattle.cps_marks.specs.declared.mark.Mark as made
+use Rattle.cps_marks.specs.Marks.{place_of}
+use Rattle.cps_queries.specs.Ranges.{position, range_of, told_units}
+use Rattle.cps_server.specs.declared.diagnostic.Stretch.{Stretch}
+use Rattle.cps_server.specs.Diagnostics.{TellsMark, TellsMarks, diagnostic, error, letter_name, list_text, mark_range, news_of, published, was_last}
+use Rattle.cps_server.specs.Frames.{frame_of_json, text_of}
+use Rattle.cps_server.specs.Writing.{AddsMark, diagnostic_text, document_text, error_text, news_text, position_text, published_text, range_text, version_text}
+
+-- ---- a diagnostic
+
+joins : (a b c d e : List ℕ) → a ++ (b ++ (c ++ (d ++ e))) ≡ a ++ b ++ c ++ d ++ e
+joins a b c d e = simp append_assoc
+
+position-written : (line character : ℕ) → compact_text (position line character) ≡ position_text line character
+unfolding escape_byte
+position-written line character = joins (codes "{\"character\":") (decimal character) (codes ",\"line\":") (decimal line) (codes "}")
+
+range-written : (line start end : ℕ) → compact_text (range_of line start end) ≡ range_text (record { line = line; start = start; end = end })
+unfolding escape_byte
+range-written line start end =
+    joins (codes "{\"end\":") (compact_text (position line end)) (codes ",\"start\":") (compact_text (position line start)) (codes "}")
+    ∙ (λ i. codes "{\"end\":" ++ position-written line end i ++ codes ",\"start\":" ++ position-written line start i ++ codes "}")
+
+error-written : (line start end : ℕ) (message : List ℕ)
+    → members_text false (error (range_of line start end) message) ≡ error_text (record { line = line; start = start; end = end }) message
+unfolding escape_byte digits
+error-written line start end message =
+    joins (codes "\"message\":") (compact_text (string message)) (codes ",\"range\":") (compact_text (range_of line start end)) (codes ",\"severity\":1,\"source\":\"compass\"}")
+    ∙ (λ i. codes "\"message\":" ++ compact_text (string message) ++ codes ",\"range\":" ++ range-written line start end i ++ codes ",\"severity\":1,\"source\":\"compass\"}")
+
+flag-written : (letter : Letter) (range : Data) (message : List ℕ)
+    → compact_text (diagnostic (Flag letter) range message) ≡ codes "{\"code\":\"" ++ letter_name letter ++ codes "\"," ++ members_text false (error range message)
+unfolding escape_byte
+flag-written A range message = refl
+flag-written D range message = refl
+flag-written E range message = refl
+flag-written L range message = refl
+flag-written O range message = refl
+flag-written T range message = refl
+flag-written U range message = refl
+flag-written V range message = refl
+
+diagnostic-written : (kind : Kind) (line start end : ℕ) (message : List ℕ)
+    → compact_text (diagnostic kind (range_of line start end) message) ≡ diagnostic_text kind (record { line = line; start = start; end = end }) message
+diagnostic-written (Flag letter) line start end message =
+    flag-written letter (range_of line start end) message ∙ ap (λ rest. codes "{\"code\":\"" ++ letter_name letter ++ codes "\"," ++ rest) (error-written line start end message)
+diagnostic-written Wrong line start end message = ap (λ rest. codes "{" ++ rest) (error-written line start end message)
+
+-- where a mark of this line shows
+abbrev pub stretch_of : Encoding → List ℕ → made.Mark → Stretch
+stretch_of encoding line mark = record {
+  line = mark.line;
+  start = told_units encoding line (mark.columns.first - 1);
+  end = told_units encoding line mark.columns.last;
+}
+
+pub mark-added : (encoding : Encoding) (lines : List (List ℕ)) (mark : made.Mark) (line : List ℕ) (stretch : Stretch) (message old new : List ℕ)
+    → line ≡ slice_index_or lines mark.line [] → stretch ≡ stretch_of encoding line mark → new ≡ old ++ diagnostic_text mark.kind stretch message
+    → AddsMark encoding lines (place_of mark) old new
+mark-added encoding lines mark line stretch message old new there shows added = (
+  diagnostic mark.kind (mark_range encoding (slice_index_or lines mark.line []) (place_of mark)) message,
+  (message, refl),
+  added ∙ (λ i. old ++ diagnostic_text mark.kind (shows i) message) ∙ (λ i. old ++ diagnostic_text mark.kind (stretch_of encoding (there i) mark) message)
+      ∙ ap (λ text. old ++ text) (sym (diagnostic-written mark.kind mark.line _ _ message)),
+)
+
+-- ---- what is told with a list
+
+ends-alone : (head list member uri end : List ℕ) → head ++ (list ++ (member ++ (uri ++ end)) ++ end) ≡ head ++ list ++ (member ++ uri ++ []) ++ (end ++ end)
+ends-alone head list member uri end = simp append_assoc
+
+ends-with : (head list member uri name version end : List ℕ)
+    → head ++ (list ++ (member ++ (uri ++ (name ++ (version ++ end)))) ++ end) ≡ head ++ list ++ (member ++ uri ++ (name ++ version)) ++ (end ++ end)
+ends-with head list member uri name version end = simp append_assoc
+
+abbrev head : List ℕ
+head = codes "{\"jsonrpc\":\"2.0\",\"method\":\"textDocument/publishDiagnostics\",\"params\":{\"diagnostics\":"
+
+published-written : (uri : List ℕ) (version : Option ℤ) (told : List Data) → compact_text (published uri version told) ≡ published_text uri version (list_text told)
+unfolding escape_byte
+published-written uri None told = ends-alone head (list_text told) (codes ",\"uri\":") (compact_text (string uri)) (codes "}")
+published-written uri (Some version) told =
+    ends-with head (list_text told) (codes ",\"uri\":") (compact_text (string uri)) (codes ",\"version\":") (compact_text (number (of_integer version))) (codes "}")
+
+pub news-written : (last : Option (List ℕ)) (uri : List ℕ) (version : Option ℤ) (told : List Data)
+    → text_of (news_of last uri version told) ≡ news_text last uri version (list_text told)
+news-written last uri version told = at (was_last last (list_text told))
+  where
+    at : (b : Bool) → text_of (if b then [] else published uri version told ∷ []) ≡ (if b then [] else frame_of (published_text uri version (list_text told)))
+    at true = refl
+    at false = append-nil (frame_of_json (published uri version told)) ∙ ap frame_of (published-written uri version told)
+
+-- the same of a list that is empty
+pub closed-written : (uri : List ℕ) → published_text uri None (codes "[]") ≡ compact_text (published uri None [])
+closed-written uri = sym (published-written uri None [])
+
+-- ---- what is added
+
+pub version-added : (version : Option ℤ) (given : ℤ) (json : Data) (old mid new : List ℕ) → version ≡ Some given → json ≡ number (of_integer given)
+    → mid ≡ old ++ codes ",\"version\":" → new ≡ mid ++ compact_text json → new ≡ old ++ version_text version
+version-added version given json old mid new there is named added =
+    added ∙ (λ i. named i ++ compact_text (is i)) ∙ append_assoc old (codes ",\"version\":") (compact_text (number (of_integer given)))
+    ∙ ap (λ version. old ++ version_text version) (sym there)
+
+later : (at : ℕ) → nat_lt 0 (at + 1) ≡ true
+later at = grind (arith, nat_tests)
+
+pub published-added : (uri : List ℕ) (version : Option ℤ) (list old named listed told new : List ℕ) → named ≡ old ++ head → listed ≡ named ++ list
+    → told ≡ listed ++ document_text uri version → new ≡ told ++ codes "}}" → new ≡ old ++ published_text uri version list
+published-added uri version list old named listed told new is_named is_listed is_told is_new =
+    is_new ∙ ap (λ text. text ++ codes "}}") (is_told ∙ ap (λ text. text ++ document_text uri version) (is_listed ∙ ap (λ text. text ++ list) is_named))
+    ∙ four old head list (document_text uri version) (codes "}}")
+  where
+    four : (a b c d e : List ℕ) → a ++ b ++ c ++ d ++ e ≡ a ++ (b ++ c ++ d ++ e)
+    four a b c d e = simp append_assoc
+
+pub item-added : (at : ℕ) (json : Data) (rest : List Data) (list mid new all : List ℕ) → mid ≡ list ++ comma_if (nat_lt 0 at) → new ≡ mid ++ compact_text json
+    → list ++ items_text (nat_lt 0 at) (items_of (json ∷ rest)) ≡ all → new ++ items_text (nat_lt 0 (at + 1)) (items_of rest) ≡ all
+item-added at json rest list mid new all comma added is =
+    (λ i. added i ++ items_text (later at i) (items_of rest))
+    ∙ ap (λ text. text ++ compact_text json ++ items_text true (items_of rest)) comma
+    ∙ append_assoc (list ++ comma_if (nat_lt 0 at)) (compact_text json) (items_text true (items_of rest))
+    ∙ append_assoc list (comma_if (nat_lt 0 at)) (compact_text json ++ items_text true (items_of rest))
+    ∙ is
+
+pub mark-next : (encoding : Encoding) (lines : List (List ℕ)) (marks : List made.Mark) (at : ℕ) (mark : made.Mark) (json : Data) (rest : List Data)
+    → drop at marks ≡ mark ∷ drop (at + 1) marks → TellsMark encoding lines (place_of mark) json
+    → TellsMarks encoding lines (map place_of (drop (at + 1) marks)) rest → TellsMarks encoding lines (map place_of (drop at marks)) (json ∷ rest)
+mark-next encoding lines marks at mark json rest dropped tells each =
+    subst (λ ms. TellsMarks encoding lines (map place_of ms) (json ∷ rest)) (sym dropped) (tells, each)

@@ -1,0 +1,16 @@
+use Rattle.std.proofs.Common.{◌≡◌, List, ◌++◌, drop, map}
+use Rattle.std.specs.Prelude.{false, nat_lt}
+use Rattle.serde_json.specs.Data.{Data}
+use Rattle.serde_json.specs.View.{items_of}
+use Rattle.serde_json.specs.Written.{items_text}
+use Rattle.cps_buffer.specs.Lines.{source_lines}
+use Rattle.cps_marks.specs.Marks.{place_of}
+use Rattle.cps_server.specs.Diagnostics.{TellsMarks}
+use Rattle.cps_server.proofs.diagnostics.push_marks.Given as goal
+
+-- whatever tells the marks that are left stands behind what is written so far, and all of it tells all marks
+abbrev pub invariant-loop-at : goal.invariant-loop-at
+invariant-loop-at l =
+    (rest : List Data) → TellsMarks l.encoding (source_lines l.document) (map place_of (drop l.at l.marks)) rest
+    → (told : List Data) × TellsMarks l.encoding (source_lines l.document) (map place_of l.marks) told
+    × (l.list.items ++ items_text (nat_lt 0 l.at) (items_of rest) ≡ l.fn.list.items ++ items_text false (items_of told))

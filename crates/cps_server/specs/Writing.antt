@@ -1,0 +1,64 @@
+-- For the code, not part of what a reader believes: diagnostics as they are written.
+use Rattle.std.specs.Prelude.{◌≡◌, ℕ, ℤ, false, List, [], ◌++◌, Option, Some, None, codes, decimal, if◌then◌else◌}
+use Rattle.serde_json.specs.Data.{Data, number, string}
+use Rattle.serde_json.specs.Find.{of_integer}
+use Rattle.serde_json.specs.View.{items_of}
+use Rattle.serde_json.specs.Written.{compact_text, items_text}
+use Rattle.cps_frame.specs.Frame.{frame_of}
+use Rattle.cps_buffer.specs.declared.encoding.Encoding.{Encoding}
+use Rattle.cps_marks.specs.declared.kind.Kind.{Kind}
+use Rattle.cps_marks.specs.declared.kind.Kind.TheVariants.{Flag, Wrong}
+use Rattle.cps_marks.specs.Marks.{Mark}
+use Rattle.cps_server.specs.declared.diagnostic.Stretch.{Stretch}
+use Rattle.cps_server.specs.Diagnostics.{TellsMark, TellsMarks, TellsText, letter_name, list_text, was_last}
+
+-- ---- a diagnostic
+
+abbrev pub position_text : ℕ → ℕ → List ℕ
+position_text line character = codes "{\"character\":" ++ decimal character ++ codes ",\"line\":" ++ decimal line ++ codes "}"
+
+abbrev pub range_text : Stretch → List ℕ
+range_text at = codes "{\"end\":" ++ position_text at.line at.end ++ codes ",\"start\":" ++ position_text at.line at.start ++ codes "}"
+
+-- what all diagnostics have, and their end
+abbrev pub error_text : Stretch → List ℕ → List ℕ
+error_text at message =
+    codes "\"message\":" ++ compact_text (string message) ++ codes ",\"range\":" ++ range_text at ++ codes ",\"severity\":1,\"source\":\"compass\"}"
+
+abbrev pub diagnostic_text : Kind → Stretch → List ℕ → List ℕ
+diagnostic_text (Flag letter) at message = codes "{\"code\":\"" ++ letter_name letter ++ codes "\"," ++ error_text at message
+diagnostic_text Wrong at message = codes "{" ++ error_text at message
+
+-- ---- a list of diagnostics
+
+-- the diagnostic of a mark is added to a text
+abbrev pub AddsMark : Encoding → List (List ℕ) → Mark → List ℕ → List ℕ → Type 0
+AddsMark encoding lines mark old new = (json : Data) × TellsMark encoding lines mark json × (new ≡ old ++ compact_text json)
+
+-- those of marks are, and the end of their list
+abbrev pub AddsMarks : Encoding → List (List ℕ) → List Mark → List ℕ → List ℕ → Type 0
+AddsMarks encoding lines marks old new = (told : List Data) × TellsMarks encoding lines marks told × (new ≡ old ++ items_text false (items_of told))
+
+-- a list is that of a text's diagnostics
+abbrev pub ListsText : Encoding → List ℕ → List ℕ → Type 0
+ListsText encoding text list = (told : List Data) × TellsText encoding text told × (list ≡ list_text told)
+
+-- ---- what is told with it
+
+abbrev pub version_text : Option ℤ → List ℕ
+version_text None = []
+version_text (Some version) = codes ",\"version\":" ++ compact_text (number (of_integer version))
+
+-- of which document a list is, and of which version
+abbrev pub document_text : List ℕ → Option ℤ → List ℕ
+document_text uri version = codes ",\"uri\":" ++ compact_text (string uri) ++ version_text version
+
+-- a list is told
+abbrev pub published_text : List ℕ → Option ℤ → List ℕ → List ℕ
+published_text uri version list =
+    codes "{\"jsonrpc\":\"2.0\",\"method\":\"textDocument/publishDiagnostics\",\"params\":{\"diagnostics\":"
+    ++ list ++ document_text uri version ++ codes "}}"
+
+-- the same in its frame, unless the list was told last
+abbrev pub news_text : Option (List ℕ) → List ℕ → Option ℤ → List ℕ → List ℕ
+news_text last uri version list = if was_last last list then [] else frame_of (published_text uri version list)

@@ -1,0 +1,137 @@
+//! A diagnostic, as it is written.
+ghost use Rattle.std.specs.Prelude.{◌≡◌, ◌-◌, ◌++◌, OnOk};
+ghost use Rattle.cps_marks.specs.declared.kind.Kind.TheVariants.{Flag, Wrong};
+ghost use Rattle.cps_queries.specs.Ranges.{told_units};
+ghost use Rattle.cps_server.specs.Diagnostics as diagnostics;
+ghost use Rattle.cps_server.specs.Writing.{diagnostic_text, error_text, position_text, range_text};
+
+use crate::writing::push_string;
+use cps_buffer::{Encoding, units_before};
+use cps_cause::Letter;
+use cps_listing::push_decimal;
+use cps_marks::{Kind, Mark};
+use std::alloc::{AllocError, Global};
+
+/// Where a diagnostic shows: its line, from 0, and the units there before its first column and through its last.
+#[derive(Clone, Copy)]
+pub struct Stretch {
+    pub line: u32,
+    pub start: u32,
+    pub end: u32,
+}
+
+impl Stretch {
+    /// Where a mark of this line shows.
+    pub fn of(encoding: Encoding, line: &[u8], mark: &Mark) -> Stretch
+        ensures { result ≡ record {
+          line = mark.now.line;
+          start = told_units encoding line.now (mark.now.columns.first - 1);
+          end = told_units encoding line.now mark.now.columns.last;
+        } }
+    {
+        Stretch {
+            line: mark.line,
+            start: units_before(encoding, line, mark.columns.first.saturating_sub(1)),
+            end: units_before(encoding, line, mark.columns.last),
+        }
+    }
+}
+
+/// Appends the diagnostic of what shows here, with a message.
+pub fn push_diagnostic(
+    alloc: Global,
+    text: &mut Vec<u8>,
+    kind: Kind,
+    stretch: Stretch,
+    message: &str,
+) -> Result<(), AllocError>
+    ensures { OnOk result (text.new.items ≡ text.old.items ++ diagnostic_text kind stretch message.now) }
+{
+    match kind {
+        Kind::Flag(letter) => push_flag(alloc, text, letter, stretch, message),
+        Kind::Wrong => push_fault(alloc, text, stretch, message),
+    }
+}
+
+/// Appends the diagnostic of a flag.
+fn push_flag(
+    alloc: Global,
+    text: &mut Vec<u8>,
+    letter: Letter,
+    stretch: Stretch,
+    message: &str,
+) -> Result<(), AllocError>
+    ensures { OnOk result (text.new.items ≡ text.old.items ++ diagnostic_text (Flag letter) stretch message.now) }
+{
+    text.extend_from_slice(b"{\"code\":\"")?;
+    text.extend_from_slice(letter_name(letter).as_bytes())?;
+    text.extend_from_slice(b"\",")?;
+    push_error(alloc, text, stretch, message)
+}
+
+/// Appends the diagnostic of bytes that no line may have.
+fn push_fault(
+    alloc: Global,
+    text: &mut Vec<u8>,
+    stretch: Stretch,
+    message: &str,
+) -> Result<(), AllocError>
+    ensures { OnOk result (text.new.items ≡ text.old.items ++ diagnostic_text Wrong stretch message.now) }
+{
+    text.extend_from_slice(b"{")?;
+    push_error(alloc, text, stretch, message)
+}
+
+/// Appends what all diagnostics have, and their end.
+fn push_error(
+    alloc: Global,
+    text: &mut Vec<u8>,
+    stretch: Stretch,
+    message: &str,
+) -> Result<(), AllocError>
+    ensures { OnOk result (text.new.items ≡ text.old.items ++ error_text stretch message.now) }
+{
+    text.extend_from_slice(b"\"message\":")?;
+    push_string(alloc, text, message)?;
+    text.extend_from_slice(b",\"range\":")?;
+    push_range(text, stretch)?;
+    text.extend_from_slice(b",\"severity\":1,\"source\":\"compass\"}")
+}
+
+/// Appends a range in a line.
+fn push_range(text: &mut Vec<u8>, stretch: Stretch) -> Result<(), AllocError>
+    ensures { OnOk result (text.new.items ≡ text.old.items ++ range_text stretch) }
+{
+    text.extend_from_slice(b"{\"end\":")?;
+    push_position(text, stretch.line, stretch.end)?;
+    text.extend_from_slice(b",\"start\":")?;
+    push_position(text, stretch.line, stretch.start)?;
+    text.extend_from_slice(b"}")
+}
+
+/// Appends a position: a line, from 0, and the units before it there.
+fn push_position(text: &mut Vec<u8>, line: u32, character: u32) -> Result<(), AllocError>
+    ensures { OnOk result (text.new.items ≡ text.old.items ++ position_text line character) }
+{
+    text.extend_from_slice(b"{\"character\":")?;
+    push_decimal(text, u64::from(character))?;
+    text.extend_from_slice(b",\"line\":")?;
+    push_decimal(text, u64::from(line))?;
+    text.extend_from_slice(b"}")
+}
+
+/// The name of a flag's letter.
+fn letter_name(letter: Letter) -> &'static str
+    ensures { result.now ≡ diagnostics.letter_name letter }
+{
+    match letter {
+        Letter::A => "A",
+        Letter::D => "D",
+        Letter::E => "E",
+        Letter::L => "L",
+        Letter::O => "O",
+        Letter::T => "T",
+        Letter::U => "U",
+        Letter::V => "V",
+    }
+}
