@@ -14,7 +14,7 @@ use Rattle.cps_input.specs.Sources.{IsSource, IsWrong, IsFirstWrong, Refuses, Re
 use Rattle.cps_input.specs.Reads.{IsAllRead}
 use Rattle.cps_input.specs.BegunLine.{IsBegun}
 use Rattle.cps_input.specs.Input.{IsIntake, HasCome}
-use Rattle.cps_input.specs.Lines.{HasText, has_no_newline, newline, without_return, last_line, lines_of}
+use Rattle.cps_input.specs.Lines.{HasText, Splits, has_no_newline, newline, without_return, last_line, lines_of}
 use Rattle.cps_input.proofs.SplitLemmas.{splits-none, splits-line, splits-piece}
 
 -- ---- lines
@@ -77,6 +77,20 @@ come-line old new taken so_far with_line empty = record {
   intake = subst (λ ls. IsIntake new.intake ls) (sym (map-append without_return so_far.lines (so_far.rest ∷ [])))
       (with_line (map without_return so_far.lines) so_far.rest so_far.intake so_far.begun);
 }
+
+-- a line comes whole where none had begun
+pub come-whole : (old new : Input) (taken line : List ℕ) → HasCome old taken
+    → ((begun : List ℕ) → IsBegun old.begun begun → begun ≡ []) → has_no_newline line ≡ true → new.begun ≡ old.begun
+    → ((lines : List (List ℕ)) → IsIntake old.intake lines → IsIntake new.intake (lines ++ without_return line ∷ [])) → HasCome new (taken ++ line ++ newline ∷ [])
+come-whole old new taken line so_far empty one same with_line =
+    let none = empty so_far.rest so_far.begun in record {
+      lines = so_far.lines ++ line ∷ [];
+      rest = [];
+      splits = subst (λ l. Splits (taken ++ line ++ newline ∷ []) (so_far.lines ++ l ∷ []) []) (ap (λ r. r ++ line) none)
+          (splits-line (taken ++ line) [] so_far.lines [] (so_far.rest ++ line) [] (splits-piece taken so_far.lines so_far.rest line so_far.splits one) splits-none);
+      begun = subst (λ b. IsBegun b []) (sym same) (subst (λ r. IsBegun old.begun r) none so_far.begun);
+      intake = subst (λ ls. IsIntake new.intake ls) (sym (map-append without_return so_far.lines (line ∷ []))) (with_line (map without_return so_far.lines) so_far.intake);
+    }
 
 -- ---- the end of the bytes
 

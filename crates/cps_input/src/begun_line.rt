@@ -78,6 +78,18 @@ impl BegunLine {
     }
 }
 
+/// What `BegunLine::text` gives of a line that has come at once.
+pub fn kept_text(line: &[u8]) -> Option<&[u8]>
+    ensures { MatchOption result (MOST_COMMAND_BYTES < length (without_return line.now)) (λ text. text.now ≡ without_return line.now) }
+{
+    let text = trimmed(line);
+    if text.len() > MOST_COMMAND_BYTES {
+        None
+    } else {
+        Some(text)
+    }
+}
+
 fn trimmed(line: &[u8]) -> &[u8]
     ensures { result.now ≡ without_return line.now }
 {

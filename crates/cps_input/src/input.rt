@@ -1,11 +1,12 @@
 //! A source, as its bytes come.
-ghost use Rattle.std.specs.Prelude.{◌≡◌, ◌==◌, ◌<◌, ℕ, List, [], ◌∷◌, ◌++◌, length, IfSome, MatchResult};
+ghost use Rattle.std.specs.Prelude.{◌≡◌, ◌==◌, ◌<◌, ℕ, List, [], ◌∷◌, ◌++◌, length, true, IfSome, MatchResult};
 ghost use Rattle.std.specs.List.{position};
 ghost use Rattle.cps_input.specs.Sources.{IsSource, Refuses};
+ghost use Rattle.cps_input.specs.BegunLine.{IsBegun};
 ghost use Rattle.cps_input.specs.Input.{HasCome};
-ghost use Rattle.cps_input.specs.Lines.{HasText, newline};
+ghost use Rattle.cps_input.specs.Lines.{HasText, has_no_newline, newline};
 
-use super::begun_line::BegunLine;
+use super::begun_line::{BegunLine, kept_text};
 use super::fault::InputFault;
 use super::intake::Intake;
 use super::taker::Taker;
@@ -31,12 +32,37 @@ impl Input {
         }
     }
 
+    /// Takes what is left of a line, which ends here.
+    fn take_line(&mut self, alloc: Global, left: &[u8])
+        requires come { (taken : List ℕ) × HasCome self.old taken }
+        requires one { has_no_newline left.now ≡ true }
+        ensures { (taken : List ℕ) → HasCome self.old taken → HasCome self.new (taken ++ left.now ++ newline ∷ []) }
+    {
+        if self.begun.is_empty() {
+            self.take_whole_line(alloc, left);
+        } else {
+            self.begun.push_all(left);
+            self.end_line(alloc);
+        }
+    }
+
+    /// Takes a line where it stands, and copies it no more than it is kept.
+    fn take_whole_line(&mut self, alloc: Global, line: &[u8])
+        requires come { (taken : List ℕ) × HasCome self.old taken }
+        requires one { has_no_newline line.now ≡ true }
+        requires none_begun { (begun : List ℕ) → IsBegun self.old.begun begun → begun ≡ [] }
+        ensures { (taken : List ℕ) → HasCome self.old taken → HasCome self.new (taken ++ line.now ++ newline ∷ []) }
+    {
+        let intake = replace(&mut self.intake, Intake::Refused(0));
+        self.intake = intake.with_line(alloc, kept_text(line));
+    }
+
     fn end_line(&mut self, alloc: Global)
         requires { (taken : List ℕ) × HasCome self.old taken }
         ensures { (taken : List ℕ) → HasCome self.old taken → HasCome self.new (taken ++ newline ∷ []) }
     {
         let intake = replace(&mut self.intake, Intake::Refused(0));
-        self.intake = intake.with_line(alloc, &self.begun);
+        self.intake = intake.with_line(alloc, self.begun.text());
         self.begun = BegunLine::new();
     }
 
@@ -51,7 +77,7 @@ impl Input {
         if begun.is_empty() {
             return intake.into_lines();
         }
-        intake.with_line(alloc, &begun).into_lines()
+        intake.with_line(alloc, begun.text()).into_lines()
     }
 }
 
@@ -63,8 +89,7 @@ impl Taker for Input {
     fn take_bytes(&mut self, alloc: Global, bytes: &[u8]) {
         let mut rest = bytes;
         while let Some(at) = newline_at(rest) {
-            self.begun.push_all(&rest[..at]);
-            self.end_line(alloc);
+            self.take_line(alloc, &rest[..at]);
             rest = &rest[at + 1..];
         }
         self.begun.push_all(rest);

@@ -2,11 +2,8 @@
 ghost use Rattle.std.specs.Prelude.{◌≡◌, ℕ, List, [], ◌∷◌, ◌++◌, ◌+◌, ◌<◌, ◌≤◌, length, MatchOption, MatchResult};
 ghost use Rattle.cps_text.specs.Line.{IsLine};
 ghost use Rattle.cps_input.specs.Sources.{IsSource, IsWrong, Refuses};
-ghost use Rattle.cps_input.specs.BegunLine.{IsBegun};
 ghost use Rattle.cps_input.specs.Input.{IsIntake};
-ghost use Rattle.cps_input.specs.Lines.{without_return};
 
-use super::begun_line::BegunLine;
 use super::fault::InputFault;
 use cps_text::limits::{MOST_COMMAND_BYTES, MOST_LINES};
 use cps_text::{Line, LineFault};
@@ -31,14 +28,15 @@ impl Intake {
         Intake::Kept(Vec::new(alloc))
     }
 
-    /// These lines and one more, which is checked also where there was no memory for them.
-    pub fn with_line(self, alloc: Global, begun: &BegunLine) -> Intake
+    /// These lines and one more, None where it has more bytes than are kept of a line. It is checked also where there was no memory for them.
+    pub fn with_line(self, alloc: Global, text: Option<&[u8]>) -> Intake
         requires { (lines : List (List ℕ)) × IsIntake self lines }
-        ensures { (lines : List (List ℕ)) (line : List ℕ) → IsIntake self lines → IsBegun begun.now line → IsIntake result (lines ++ without_return line ∷ []) }
+        ensures { (lines : List (List ℕ)) (line : List ℕ) → IsIntake self lines → MatchOption text.entry (MOST_COMMAND_BYTES < length line) (λ text. text.now ≡ line)
+            → IsIntake result (lines ++ line ∷ []) }
     {
         match self {
-            Intake::Kept(lines) => keep(alloc, lines, begun.text()),
-            Intake::Refused(count) => count_on(count, begun.text()),
+            Intake::Kept(lines) => keep(alloc, lines, text),
+            Intake::Refused(count) => count_on(count, text),
             Intake::Faulty(fault) => Intake::Faulty(fault),
         }
     }

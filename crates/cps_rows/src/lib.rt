@@ -1,9 +1,10 @@
-//! Tests of the calls of the crates up to `cps_peripheral`, by rows of worked examples.
+//! Tests of the calls of the crates up to `cps_peripheral`, and of what is told of words, by rows of worked examples.
 //!
 //! - `assertions.rt`: assertions that are proved once
 //! - `code_rows.rt`: codes of the central processor, and words
 //! - `expression_rows.rt`: expressions and data items
 //! - `given.rt`: names and lines that tests are given
+//! - `manual.rt`: what is told of words
 //! - `peripheral_rows.rt`: codes of a peripheral processor
 //! - `same_value.rt`: names that all stand for the same
 //! - `statement_rows.rt`: rows of statements
@@ -18,6 +19,8 @@ mod code_rows;
 mod expression_rows;
 #[cfg(test)]
 mod given;
+#[cfg(test)]
+mod manual;
 #[cfg(test)]
 mod peripheral_rows;
 #[cfg(test)]

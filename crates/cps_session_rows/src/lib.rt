@@ -1,14 +1,16 @@
-//! Tests of a session and of pass one, by rows of worked examples, and beside batch assembly.
+//! Tests of a session, of a document that stands on one, and of pass one, by rows of worked examples, and beside batch assembly.
 //!
 //! - `assembling.rt`: batch assembly of a source
 //! - `assertions.rt`: assertions
 //! - `chunk_rows.rt`: sources of some chunks, which edits split, shorten and join
+//! - `document.rt`: a document that an editor has open
 //! - `edit_rows.rt`: edits of a session
 //! - `enter_rows.rt`: sessions that begin with lines
 //! - `many_edits.rt`: a thousand edits
 //! - `part_rows.rt`: the texts of a session
 //! - `pass_rows.rt`: pass one, line by line
 //! - `put_rows.rt`: several lines in the place of others
+//! - `summary.rt`: the summaries of chunks
 #![tactic(auto)]
 
 #[cfg(test)]
@@ -17,6 +19,8 @@ mod assembling;
 mod assertions;
 #[cfg(test)]
 mod chunk_rows;
+#[cfg(test)]
+mod document;
 #[cfg(test)]
 mod edit_rows;
 #[cfg(test)]
@@ -29,3 +33,5 @@ mod part_rows;
 mod pass_rows;
 #[cfg(test)]
 mod put_rows;
+#[cfg(test)]
+mod summary;

@@ -12,4 +12,4 @@ with_line-requires c =
 pub returns : goal.returns
 returns c = λ taken so_far.
     let same : c.replace-intake.result ≡ c.args.self.now.intake = search rules in
-    come-line c.args.self.now _ taken so_far (λ lines line is begun. c.with_line.ensures lines line (subst (λ i. IsIntake i lines) (sym same) is) begun) c.new-self.ensures
+    come-line c.args.self.now _ taken so_far (λ lines line is begun. c.with_line.ensures lines (without_return line) (subst (λ i. IsIntake i lines) (sym same) is) (c.text.ensures line begun)) c.new-self.ensures

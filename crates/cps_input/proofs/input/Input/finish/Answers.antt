@@ -17,5 +17,5 @@ returns c = λ taken come.
     let source = map without_return come.lines ++ without_return come.rest ∷ [] in (
       source,
       text-unended c.args.self taken come (λ none. let bad = empty.1 none in cc),
-      c.into_lines-2.ensures source (c.with_line.ensures (map without_return come.lines) come.rest come.intake come.begun),
+      c.into_lines-2.ensures source (c.with_line.ensures (map without_return come.lines) (without_return come.rest) come.intake (c.text.ensures come.rest come.begun)),
     )

@@ -9,13 +9,13 @@ use Rattle.cps_input.proofs.input.InputTaker.take_bytes.Goals as goal
 pub loop-at-init : goal.loop-at-init
 loop-at-init c = record { front = []; whole = refl; come = λ taken so_far. subst (λ b. HasCome c.args.self.now b) (sym (append-nil taken)) so_far }
 
-pub end_line-requires : goal.end_line-requires
-end_line-requires c =
+pub take_line-requires-clause-come : goal.take_line-requires-clause-come
+take_line-requires-clause-come c =
     let inv = c.loop-at.invariant in
-    let rest = c.loop-at.rest.now in
-    let taken = c.requires.0 ++ inv.front in
-    let piece = take c.in-Some.at rest in
-    (taken ++ piece, come-piece c.loop-at.self _ taken piece (inv.come c.requires.0 c.requires.1) (cut_at rest c.in-Some.at c.in-Some.ensures.place).front refl c.push_all.ensures)
+    (c.requires.0 ++ inv.front, inv.come c.requires.0 c.requires.1)
+
+pub take_line-requires-clause-one : goal.take_line-requires-clause-one
+take_line-requires-clause-one c = (cut_at c.loop-at.rest.now c.in-Some.at c.in-Some.ensures.place).front
 
 pub loop-at-smaller : goal.loop-at-smaller
 loop-at-smaller c =
@@ -31,22 +31,20 @@ loop-at-preserved c =
     let rest = c.loop-at.rest.now in
     let at = c.in-Some.at in
     let cut = cut_at rest at c.in-Some.ensures.place in
-    let piece = take at rest in
-    let end = newline ∷ [] in
+    let line = take at rest ++ newline ∷ [] in
     let tail = drop (at + 1) rest in
-    let joined = append_assoc inv.front (piece ++ end) tail ∙ ap (λ r. inv.front ++ r) (append_assoc piece end tail) in
+    let joined = append_assoc inv.front line tail ∙ ap (λ r. inv.front ++ r) (append_assoc (take at rest) (newline ∷ []) tail) in
     record {
-      front = inv.front ++ (piece ++ end);
-      whole = inv.whole ∙ ap (λ r. inv.front ++ r) cut.whole ∙ sym joined ∙ ap (λ r. (inv.front ++ (piece ++ end)) ++ r) (sym (take_rest rest (at + 1)));
+      front = inv.front ++ line;
+      whole = inv.whole ∙ ap (λ r. inv.front ++ r) cut.whole ∙ sym joined ∙ ap (λ r. (inv.front ++ line) ++ r) (sym (take_rest rest (at + 1)));
       come = λ taken so_far.
-          let before = come-piece c.loop-at.self _ (taken ++ inv.front) piece (inv.come taken so_far) cut.front refl c.push_all.ensures in
-          subst (λ b. HasCome c.end_line.new.self b) (append_assoc (taken ++ inv.front) piece end ∙ append_assoc taken inv.front (piece ++ end))
-          (c.end_line.ensures ((taken ++ inv.front) ++ piece) before);
+          subst (λ b. HasCome c.take_line.new.self b) (append_assoc (taken ++ inv.front) (take at rest) (newline ∷ []) ∙ append_assoc taken inv.front line)
+          (c.take_line.ensures (taken ++ inv.front) (inv.come taken so_far));
     }
 
 pub returns : goal.returns
 returns c = λ taken so_far.
     let inv = c.loop-at.invariant in
     let rest = c.loop-at.rest.now in
-    subst (λ b. HasCome (record { intake = c.loop-at.self.intake; begun = c.push_all-2.new.self }) b) (append_assoc taken inv.front rest ∙ ap (λ b. taken ++ b) (sym inv.whole))
-    (come-piece c.loop-at.self _ (taken ++ inv.front) rest (inv.come taken so_far) (no_newline rest c.in_default.ensures.place) refl c.push_all-2.ensures)
+    subst (λ b. HasCome (record { intake = c.loop-at.self.intake; begun = c.push_all.new.self }) b) (append_assoc taken inv.front rest ∙ ap (λ b. taken ++ b) (sym inv.whole))
+    (come-piece c.loop-at.self _ (taken ++ inv.front) rest (inv.come taken so_far) (no_newline rest c.in_default.ensures.place) refl c.push_all.ensures)

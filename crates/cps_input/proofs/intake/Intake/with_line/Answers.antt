@@ -2,7 +2,6 @@ use Rattle.std.proofs.Common.{◌∷◌, [], ◌++◌, sym, subst}
 use Rattle.cps_input.specs.Sources.{IsSource}
 use Rattle.cps_input.specs.declared.intake.Intake.TheVariants.{Kept, Refused}
 use Rattle.cps_input.specs.Input.{IsIntake}
-use Rattle.cps_input.specs.Lines.{without_return}
 use Rattle.cps_input.proofs.InputLemmas.{kept-few, refused-few, wrong-before}
 use Rattle.cps_input.proofs.intake.Intake.with_line.Goals as goal
 
@@ -10,18 +9,18 @@ pub keep-requires : goal.keep-requires
 keep-requires c = kept-few c.in-Kept.lines.items c.requires.0 (subst (λ i. IsIntake i c.requires.0) c.in-Kept.is c.requires.1)
 
 pub returns-in-Kept : goal.returns-in-Kept
-returns-in-Kept c = λ lines line is begun.
+returns-in-Kept c = λ lines line is shown.
     let here : IsIntake (Kept c.in-Kept.lines) lines = subst (λ i. IsIntake i lines) c.in-Kept.is is in
-    subst (λ ls. IsIntake c.keep.result (ls ++ without_return line ∷ [])) here.0
-    (c.keep.ensures (without_return line) (c.text.ensures line begun) (subst IsSource (sym here.0) here.1))
+    subst (λ ls. IsIntake c.keep.result (ls ++ line ∷ [])) here.0
+    (c.keep.ensures line shown (subst IsSource (sym here.0) here.1))
 
 pub count_on-requires : goal.count_on-requires
 count_on-requires c = refused-few c.in-Refused.count c.requires.0 (subst (λ i. IsIntake i c.requires.0) c.in-Refused.is c.requires.1)
 
 pub returns-in-Refused : goal.returns-in-Refused
-returns-in-Refused c = λ lines line is begun.
+returns-in-Refused c = λ lines line is shown.
     let here : IsIntake (Refused c.in-Refused.count) lines = subst (λ i. IsIntake i lines) c.in-Refused.is is in
-    c.count_on.ensures lines (without_return line) (c.text-in-Refused.ensures line begun) here.0 here.1
+    c.count_on.ensures lines line shown here.0 here.1
 
 pub returns-in-Faulty : goal.returns-in-Faulty
-returns-in-Faulty c = λ lines line is begun. wrong-before lines (without_return line) c.in-Faulty.fault (subst (λ i. IsIntake i lines) c.in-Faulty.is is)
+returns-in-Faulty c = λ lines line is _shown. wrong-before lines line c.in-Faulty.fault (subst (λ i. IsIntake i lines) c.in-Faulty.is is)

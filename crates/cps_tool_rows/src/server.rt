@@ -12,29 +12,16 @@
 //! - `place_rows.rt`: where symbols are defined and read
 //! - `refused_rows.rt`: requests that are refused, and of which text one asks
 //! - `text_rows.rt`: what is told of open texts
-#![tactic(auto)]
 
-#[cfg(test)]
 mod asking;
-#[cfg(test)]
 mod conversation;
-#[cfg(test)]
 mod decks;
-#[cfg(test)]
 mod device_rows;
-#[cfg(test)]
 mod hint_rows;
-#[cfg(test)]
 mod hover_rows;
-#[cfg(test)]
 mod listing_rows;
-#[cfg(test)]
 mod outline_rows;
-#[cfg(test)]
 mod phase_rows;
-#[cfg(test)]
 mod place_rows;
-#[cfg(test)]
 mod refused_rows;
-#[cfg(test)]
 mod text_rows;

@@ -3,11 +3,7 @@
 //! - `running.rt`: a source, and what becomes of its texts
 //! - `shelf.rt`: files in memory
 //! - `writing_rows.rt`: what is told, and which files are placed
-#![tactic(auto)]
 
-#[cfg(test)]
 mod running;
-#[cfg(test)]
 mod shelf;
-#[cfg(test)]
 mod writing_rows;

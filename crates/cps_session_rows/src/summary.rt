@@ -3,11 +3,7 @@
 //! - `given.rt`: lines of a source, and the chunk of them
 //! - `names_rows.rt`: how many names a run of lines has
 //! - `run_rows.rt`: how many keys a run of lines asks, and where it stands
-#![tactic(auto)]
 
-#[cfg(test)]
 mod given;
-#[cfg(test)]
 mod names_rows;
-#[cfg(test)]
 mod run_rows;

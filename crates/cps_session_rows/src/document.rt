@@ -2,9 +2,6 @@
 //!
 //! - `assertions.rt`: assertions
 //! - `change_rows.rt`: changes of a document
-#![tactic(auto)]
 
-#[cfg(test)]
 mod assertions;
-#[cfg(test)]
 mod change_rows;

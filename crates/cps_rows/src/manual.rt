@@ -3,11 +3,7 @@
 //! - `assertions.rt`: assertions
 //! - `instruction_rows.rt`: instructions of both machines
 //! - `sentence_rows.rt`: letters of flags, statements, and words of which nothing is told
-#![tactic(auto)]
 
-#[cfg(test)]
 mod assertions;
-#[cfg(test)]
 mod instruction_rows;
-#[cfg(test)]
 mod sentence_rows;
