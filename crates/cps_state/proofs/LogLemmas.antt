@@ -1,19 +1,20 @@
 -- Where what is known of a key stands, after one more ask or put.
 use Rattle.std.proofs.Common.{◌≡◌, refl, sym, ap, subst, ◌∙◌, ℕ, suc, zero, ◌+◌, ◌-◌, ◌<◌, ◌≤◌, List, [], ◌∷◌, ◌++◌, length, take, get_or, Option, Some, None, true, false, Bool, cond, arith, length-append}
-use Rattle.std.specs.Prelude.{if◌then◌else◌, option_map, slice_get, is_some}
+use Rattle.std.specs.Prelude.{if◌then◌else◌, option_map, option_and_then, slice_get, is_some, IfSome}
+use Rattle.std.specs.Option.{option_or}
 use Rattle.std.proofs.lemmas.Option.{slice_get-get_or}
-use Rattle.std.proofs.lemmas.List.{take_more, length-take-le}
+use Rattle.std.proofs.lemmas.List.{take_more, length-take-le, map-append, length-map}
 use Rattle.cps_state.specs.declared.key.Key.{Key}
 use Rattle.cps_state.specs.declared.key.Answer.{Answer}
 use Rattle.cps_state.specs.declared.key.Asked.{Asked as Ask}
 use Rattle.cps_state.specs.declared.key.Put.{Put as APut}
 use Rattle.cps_state.specs.contracts.key.KeyPartialEq.TheImpl.{eq-value}
-use Rattle.cps_state.specs.Keys.{same_key}
+use Rattle.cps_state.specs.Keys.{State, same_key}
 use Rattle.cps_state.specs.Course.{last_put, last_ask, known_in}
 use Rattle.cps_state.proofs.KnownLemmas.{last_put-push, last_ask-push, known_in-put, known_in-ask, same_key_is}
 use Rattle.cps_state.specs.declared.log.Known.{Known}
 use Rattle.cps_state.specs.declared.log.Known.TheVariants.{Asked, Put}
-use Rattle.cps_state.specs.Log.{put_at, asked_at, found_in, StandsIn, Indexes}
+use Rattle.cps_state.specs.Log.{asked_in, put_at, asked_at, found_in, StandsIn, Indexes}
 
 slice_get-last : {X : Type 0} (xs : List X) (x : X) → slice_get (xs ++ x ∷ []) (length xs) ≡ Some x
 slice_get-last [] x = refl
@@ -33,6 +34,56 @@ map-some : {X Y : Type 0} (f : X → Y) (o : Option X) → is_some o ≡ true �
 map-some f None h = h
 map-some f (Some x) h = refl
 
+-- ---- keys that are asked in a state
+
+pub asked-more : (f : State) (ks : List Key) (k : Key) → asked_in f (ks ++ k ∷ []) ≡ asked_in f ks ++ record { key = k; answer = f k } ∷ []
+asked-more f ks k = map-append (λ (q : Key). record { key = q; answer = f q }) ks (k ∷ [])
+
+-- the keys in front of a place, and the one that stands there
+pub asked-next : (f : State) (ks : List Key) (i : ℕ) (d : Key) (answer : Option Answer) (old new : List Ask) → i < length ks → answer ≡ f (get_or ks i d)
+    → new ≡ old ++ record { key = get_or ks i d; answer = answer } ∷ [] → old ≡ asked_in f (take i ks) → new ≡ asked_in f (take (i + 1) ks)
+asked-next f ks i d answer old new lt is pushed before =
+    let k = get_or ks i d in
+    pushed ∙ ap (λ (a : Option Answer). old ++ record { key = k; answer = a } ∷ []) is
+    ∙ ap (λ (es : List Ask). es ++ record { key = k; answer = f k } ∷ []) before ∙ sym (asked-more f (take i ks) k)
+    ∙ sym (ap (asked_in f) (take_more ks i d lt))
+
+pub asked-at : (f : State) (ks : List Key) (i : ℕ) → asked_at (asked_in f ks) i ≡ option_map f (slice_get ks i)
+asked-at f [] zero = refl
+asked-at f [] (suc i) = refl
+asked-at f (k ∷ ks) zero = refl
+asked-at f (k ∷ ks) (suc i) = asked-at f ks i
+
+last-key-push : (f : State) (ks : List Key) (q k : Key) → last_ask (asked_in f (ks ++ q ∷ [])) k ≡ (if same_key q k then Some (f q) else last_ask (asked_in f ks) k)
+last-key-push f ks q k = ap (λ es. last_ask es k) (asked-more f ks q) ∙ last_ask-push (asked_in f ks) (record { key = q; answer = f q }) k
+
+pub key-last : (f : State) (ks : List Key) (k : Key) (n : ℕ) → n ≡ length ks → asked_at (asked_in f (ks ++ k ∷ [])) n ≡ Some (f k)
+key-last f ks k n is = asked-at f (ks ++ k ∷ []) n ∙ ap (λ i. option_map f (slice_get (ks ++ k ∷ []) i)) is ∙ ap (option_map f) (slice_get-last ks k)
+
+pub key-there : (f : State) (ks : List Key) (place : ℕ) → place < length ks → is_some (asked_at (asked_in f ks) place) ≡ true
+key-there f ks place lt = ap is_some (asked-at f ks place) ∙ map-some f (slice_get ks place) (slice_get-some ks place lt)
+
+pub put-there : (ps : List APut) (place : ℕ) → place < length ps → is_some (option_map (λ (a : Answer). Some a) (put_at ps place)) ≡ true
+put-there ps place lt = map-some (λ (a : Answer). Some a) (put_at ps place) (map-some (λ (p : APut). p.answer) (slice_get ps place) (slice_get-some ps place lt))
+
+-- ---- what was found is what is known
+
+known-put : (o : Option Answer) (a : Option (Option Answer)) → is_some o ≡ true → option_map Some o ≡ option_or (option_map Some o) a
+known-put None a none = cc
+known-put (Some x) a some = refl
+
+pub put-known : (es : List Ask) (ps : List APut) (place : ℕ) (k : Key) → place < length ps → put_at ps place ≡ last_put ps k → found_in es ps (Put place) ≡ known_in es ps k
+put-known es ps place k within is =
+    known-put (put_at ps place) (last_ask es k) (map-some (λ (p : APut). p.answer) (slice_get ps place) (slice_get-some ps place within))
+    ∙ ap (λ o. option_or (option_map Some o) (last_ask es k)) is
+
+pub ask-known : (es : List Ask) (ps : List APut) (found : Option (Option Answer)) (k : Key) → None ≡ last_put ps k → found ≡ last_ask es k → found ≡ known_in es ps k
+ask-known es ps found k none is = is ∙ ap (λ o. option_or (option_map Some o) (last_ask es k)) none
+
+pub index-known : (es : List Ask) (ps : List APut) (k : Key) (o : Option Known) → Indexes es ps k o → option_and_then (found_in es ps) o ≡ known_in es ps k
+index-known es ps k None is = sym is
+index-known es ps k (Some known) is = is.1
+
 -- ---- looking through from the back
 
 pub not-last-put : (ps : List APut) (i : ℕ) (d : APut) (k : Key) → i < length ps → same_key (get_or ps i d).key k ≡ false → last_put (take (i + 1) ps) k ≡ last_put (take i ps) k
@@ -45,15 +96,15 @@ is-last-put ps i d k lt same =
     ap (λ xs. last_put xs k) (take_more ps i d lt) ∙ last_put-push (take i ps) (get_or ps i d) k
     ∙ ap (λ b. if b then Some (get_or ps i d).answer else last_put (take i ps) k) same
 
-pub not-last-ask : (es : List Ask) (i : ℕ) (d : Ask) (k : Key) → i < length es → same_key (get_or es i d).key k ≡ false → last_ask (take (i + 1) es) k ≡ last_ask (take i es) k
-not-last-ask es i d k lt other =
-    ap (λ xs. last_ask xs k) (take_more es i d lt) ∙ last_ask-push (take i es) (get_or es i d) k
-    ∙ ap (λ b. if b then Some (get_or es i d).answer else last_ask (take i es) k) other
+not-last-key : (f : State) (ks : List Key) (i : ℕ) (d k : Key) → i < length ks → same_key (get_or ks i d) k ≡ false → last_ask (asked_in f (take (i + 1) ks)) k ≡ last_ask (asked_in f (take i ks)) k
+not-last-key f ks i d k lt other =
+    ap (λ xs. last_ask (asked_in f xs) k) (take_more ks i d lt) ∙ last-key-push f (take i ks) (get_or ks i d) k
+    ∙ ap (λ b. if b then Some (f (get_or ks i d)) else last_ask (asked_in f (take i ks)) k) other
 
-pub is-last-ask : (es : List Ask) (i : ℕ) (d : Ask) (k : Key) → i < length es → same_key (get_or es i d).key k ≡ true → last_ask (take (i + 1) es) k ≡ Some (get_or es i d).answer
-is-last-ask es i d k lt same =
-    ap (λ xs. last_ask xs k) (take_more es i d lt) ∙ last_ask-push (take i es) (get_or es i d) k
-    ∙ ap (λ b. if b then Some (get_or es i d).answer else last_ask (take i es) k) same
+is-last-key : (f : State) (ks : List Key) (i : ℕ) (d k : Key) → i < length ks → same_key (get_or ks i d) k ≡ true → last_ask (asked_in f (take (i + 1) ks)) k ≡ Some (f (get_or ks i d))
+is-last-key f ks i d k lt same =
+    ap (λ xs. last_ask (asked_in f xs) k) (take_more ks i d lt) ∙ last-key-push f (take i ks) (get_or ks i d) k
+    ∙ ap (λ b. if b then Some (f (get_or ks i d)) else last_ask (asked_in f (take i ks)) k) same
 
 -- the same where a place is told by the one after it
 back : (n : ℕ) → 0 < n → n ≡ (n - 1) + 1
@@ -67,16 +118,13 @@ put-found ps n d k some within same =
     ap (option_map (λ (p : APut). p.answer)) (slice_get-get_or ps (n - 1) d (omega (arith, some, within)))
     ∙ sym (ap (λ m. last_put (take m ps) k) (back n some) ∙ is-last-put ps (n - 1) d k (omega (arith, some, within)) same)
 
-pub ask-before : (es : List Ask) (n : ℕ) (d : Ask) (k : Key) → 0 < n → n ≤ length es → same_key (get_or es (n - 1) d).key k ≡ false → last_ask (take n es) k ≡ last_ask (take (n - 1) es) k
-ask-before es n d k some within other = ap (λ m. last_ask (take m es) k) (back n some) ∙ not-last-ask es (n - 1) d k (omega (arith, some, within)) other
+pub key-before : (f : State) (ks : List Key) (n : ℕ) (d k : Key) → 0 < n → n ≤ length ks → same_key (get_or ks (n - 1) d) k ≡ false → last_ask (asked_in f (take n ks)) k ≡ last_ask (asked_in f (take (n - 1) ks)) k
+key-before f ks n d k some within other = ap (λ m. last_ask (asked_in f (take m ks)) k) (back n some) ∙ not-last-key f ks (n - 1) d k (omega (arith, some, within)) other
 
-pub ask-found : (es : List Ask) (n : ℕ) (d : Ask) (k : Key) → 0 < n → n ≤ length es → same_key (get_or es (n - 1) d).key k ≡ true → asked_at es (n - 1) ≡ last_ask (take n es) k
-ask-found es n d k some within same =
-    ap (option_map (λ (a : Ask). a.answer)) (slice_get-get_or es (n - 1) d (omega (arith, some, within)))
-    ∙ sym (ap (λ m. last_ask (take m es) k) (back n some) ∙ is-last-ask es (n - 1) d k (omega (arith, some, within)) same)
-
-pub asked-last : (es : List Ask) (e : Ask) (n : ℕ) → n ≡ length es → asked_at (es ++ e ∷ []) n ≡ Some e.answer
-asked-last es e n is = ap (asked_at (es ++ e ∷ [])) is ∙ ap (option_map (λ (a : Ask). a.answer)) (slice_get-last es e)
+pub key-found : (f : State) (ks : List Key) (n : ℕ) (d k : Key) → 0 < n → n ≤ length ks → same_key (get_or ks (n - 1) d) k ≡ true → asked_at (asked_in f ks) (n - 1) ≡ last_ask (asked_in f (take n ks)) k
+key-found f ks n d k some within same =
+    asked-at f ks (n - 1) ∙ ap (option_map f) (slice_get-get_or ks (n - 1) d (omega (arith, some, within)))
+    ∙ sym (ap (λ m. last_ask (asked_in f (take m ks)) k) (back n some) ∙ is-last-key f ks (n - 1) d k (omega (arith, some, within)) same)
 
 -- ---- an index
 
@@ -115,14 +163,20 @@ indexes-put-by true es ps p k old is was = last-put-is es ps p k is
 indexes-put-by false es ps p k old is was = same-put es ps p k old is was
 
 -- one more ask of a key of which nothing is known
-pub indexes-ask : (es : List Ask) (ps : List APut) (e : Ask) (k : Key) (new old : Option Known) → known_in es ps e.key ≡ None → new ≡ cond ((eq-value.it) e.key k) (Some (Asked (length es))) old
+indexes-ask : (es : List Ask) (ps : List APut) (e : Ask) (k : Key) (new old : Option Known) → known_in es ps e.key ≡ None → new ≡ cond ((eq-value.it) e.key k) (Some (Asked (length es))) old
     → Indexes es ps k old → Indexes (es ++ e ∷ []) ps k new
 indexes-ask es ps e k new old none is was =
     subst (λ (o : Option Known). Indexes (es ++ e ∷ []) ps k o) (sym (is ∙ ap (λ b. cond b (Some (Asked (length es))) old) (same_key_is e.key k)))
     (indexes-ask-by (same_key e.key k) es ps e k old (known_in-ask es ps e k none) was)
 
+pub indexes-key : (f : State) (ks : List Key) (ps : List APut) (q k : Key) (new old : Option Known) → known_in (asked_in f ks) ps q ≡ None
+    → new ≡ cond ((eq-value.it) q k) (Some (Asked (length ks))) old → Indexes (asked_in f ks) ps k old → Indexes (asked_in f (ks ++ q ∷ [])) ps k new
+indexes-key f ks ps q k new old none is was =
+    subst (λ (es : List Ask). Indexes es ps k new) (sym (asked-more f ks q))
+    (indexes-ask (asked_in f ks) ps (record { key = q; answer = f q }) k new old none (is ∙ ap (λ n. cond ((eq-value.it) q k) (Some (Asked n)) old) (sym (length-map ks _))) was)
+
 -- one more ask, where nothing was put
-pub indexes-first-ask : (es : List Ask) (e : Ask) (k : Key) (new old : Option Known) → new ≡ cond ((eq-value.it) e.key k) (Some (Asked (length es))) old
+indexes-first-ask : (es : List Ask) (e : Ask) (k : Key) (new old : Option Known) → new ≡ cond ((eq-value.it) e.key k) (Some (Asked (length es))) old
     → Indexes es [] k old → Indexes (es ++ e ∷ []) [] k new
 indexes-first-ask es e k new old is was =
     subst (λ (o : Option Known). Indexes (es ++ e ∷ []) [] k o) (sym (is ∙ ap (λ b. cond b (Some (Asked (length es))) old) (same_key_is e.key k)))
@@ -142,12 +196,14 @@ stands-some es ps (Put i) lt = map-some (λ (a : Answer). Some a) (put_at ps i) 
 
 -- ---- an index that is made from all asks, and then from all puts
 
-pub indexes-next-ask : (es : List Ask) (i : ℕ) (d : Ask) (k : Key) (new old : Option Known) → i < length es → new ≡ cond ((eq-value.it) (get_or es i d).key k) (Some (Asked i)) old
-    → Indexes (take i es) [] k old → Indexes (take (i + 1) es) [] k new
-indexes-next-ask es i d k new old lt is was =
-    subst (λ (xs : List Ask). Indexes xs [] k new) (sym (take_more es i d lt))
-    (indexes-first-ask (take i es) (get_or es i d) k new old
-    (is ∙ ap (λ (n : ℕ). cond ((eq-value.it) (get_or es i d).key k) (Some (Asked n)) old) (sym (length-take-le i es (omega (arith, lt))))) was)
+pub indexes-next-key : (f : State) (ks : List Key) (i : ℕ) (d k : Key) (new old : Option Known) → i < length ks → new ≡ cond ((eq-value.it) (get_or ks i d) k) (Some (Asked i)) old
+    → Indexes (asked_in f (take i ks)) [] k old → Indexes (asked_in f (take (i + 1) ks)) [] k new
+indexes-next-key f ks i d k new old lt is was =
+    let q = get_or ks i d in
+    let count = length-map (take i ks) (λ (q : Key). record { key = q; answer = f q }) ∙ length-take-le i ks (omega (arith, lt)) in
+    subst (λ (es : List Ask). Indexes es [] k new) (sym (ap (asked_in f) (take_more ks i d lt) ∙ asked-more f (take i ks) q))
+    (indexes-first-ask (asked_in f (take i ks)) (record { key = q; answer = f q }) k new old
+    (is ∙ ap (λ (n : ℕ). cond ((eq-value.it) q k) (Some (Asked n)) old) (sym count)) was)
 
 pub indexes-next-put : (es : List Ask) (ps : List APut) (i : ℕ) (d : APut) (k : Key) (new old : Option Known) → i < length ps → new ≡ cond ((eq-value.it) (get_or ps i d).key k) (Some (Put i)) old
     → Indexes es (take i ps) k old → Indexes es (take (i + 1) ps) k new
@@ -155,3 +211,8 @@ indexes-next-put es ps i d k new old lt is was =
     subst (λ (xs : List APut). Indexes es xs k new) (sym (take_more ps i d lt))
     (indexes-put es (take i ps) (get_or ps i d) k new old
     (is ∙ ap (λ (n : ℕ). cond ((eq-value.it) (get_or ps i d).key k) (Some (Put n)) old) (sym (length-take-le i ps (omega (arith, lt))))) was)
+
+-- something stands at a place that an index has
+pub index-there : (es : List Ask) (ps : List APut) (k : Key) (o : Option Known) → Indexes es ps k o → IfSome o (λ known. is_some (found_in es ps known) ≡ true)
+index-there es ps k None is = tt
+index-there es ps k (Some known) is = stands-some es ps known is.0

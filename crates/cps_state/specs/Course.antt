@@ -173,6 +173,10 @@ traced (running, false) = record {
   reads = [];
 }
 
+-- the same without what was asked
+abbrev pub unasked : Trace → Trace
+unasked trace = record trace { asks = [] }
+
 -- each key that was asked has the same answer in another state
 abbrev pub Holds : List Asked → State → Type 0
 Holds [] state = Unit {0}

@@ -1,20 +1,26 @@
 -- For the code of pass one, not part of what a reader believes: what a line asked and put, and where in it what is known of a key stands.
-use Rattle.std.specs.Prelude.{◌≡◌, ℕ, ◌<◌, List, Option, None, Some, length, option_map, slice_get}
+use Rattle.std.specs.Prelude.{◌≡◌, ℕ, ◌<◌, List, Option, None, Some, length, map, option_map, slice_get}
 use Rattle.cps_state.specs.declared.key.Key.{Key}
 use Rattle.cps_state.specs.declared.key.Answer.{Answer}
 use Rattle.cps_state.specs.declared.key.Asked.{Asked as Ask}
 use Rattle.cps_state.specs.declared.key.Put.{Put as APut}
 use Rattle.cps_state.specs.declared.log.Known.{Known}
 use Rattle.cps_state.specs.declared.log.Known.TheVariants.{Asked, Put}
+use Rattle.cps_state.specs.Keys.{State}
 use Rattle.cps_state.specs.Course.{known_in}
 
+-- of what was asked the keys alone
 pub record Log : Type 0 where
-  pub asks : List Ask
+  pub asks : List Key
   pub puts : List APut
 
--- what is known of a key
-abbrev pub known_of : Log → Key → Option (Option Answer)
-known_of log k = known_in log.asks log.puts k
+-- keys with what stands there in a state
+abbrev pub asked_in : State → List Key → List Ask
+asked_in state keys = map (λ k. record { key = k; answer = state k }) keys
+
+-- what is known of a key, where the keys were asked in a state
+abbrev pub known_of : State → Log → Key → Option (Option Answer)
+known_of state log k = known_in (asked_in state log.asks) log.puts k
 
 abbrev pub put_at : List APut → ℕ → Option Answer
 put_at puts place = option_map (λ (p : APut). p.answer) (slice_get puts place)
@@ -27,8 +33,8 @@ abbrev pub found_in : List Ask → List APut → Known → Option (Option Answer
 found_in asks puts (Asked place) = asked_at asks place
 found_in asks puts (Put place) = option_map Some (put_at puts place)
 
-abbrev pub found_at : Log → Known → Option (Option Answer)
-found_at log known = found_in log.asks log.puts known
+abbrev pub found_at : State → Log → Known → Option (Option Answer)
+found_at state log known = found_in (asked_in state log.asks) log.puts known
 
 -- a place that there is
 abbrev pub StandsIn : List Ask → List APut → Known → Type 0

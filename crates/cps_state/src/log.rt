@@ -1,13 +1,14 @@
 //! What a line asked and put, and what is known of a key.
-ghost use Rattle.std.specs.Prelude.{◌≡◌, ◌++◌, ◌∷◌, [], ◌<◌, None, Some, IfOk, OnOk, IfSome, true, is_some, length, option_and_then, unwrap_or};
+ghost use Rattle.std.specs.Prelude.{◌≡◌, ◌++◌, ◌∷◌, [], ◌<◌, None, Some, IfOk, OnOk, IfSome, true, is_some, length, option_and_then, slice_get};
 ghost use Rattle.std.specs.Option.{option_copied};
 ghost use Rattle.std.specs.HashMap as hash;
 ghost use Rattle.cps_state.specs.declared.key.Key.{Key};
+ghost use Rattle.cps_state.specs.Keys.{State};
 ghost use Rattle.cps_state.specs.Course.{last_put, last_ask};
-ghost use Rattle.cps_state.specs.Log.{Log, known_of, put_at, asked_at, found_at, Indexes};
+ghost use Rattle.cps_state.specs.Log.{Log, asked_in, known_of, put_at, asked_at, found_at, Indexes};
 
 use crate::hashing::Hashing;
-use crate::key::{Answer, Asked, Key, Put, is_same_key};
+use crate::key::{Answer, Key, Put, is_same_key};
 use std::alloc::{AllocError, Global};
 use std::collections::HashMap;
 use std::marker::Model;
@@ -22,12 +23,12 @@ pub enum Known {
     Put(usize),
 }
 
-/// What a line asked and put. A short one is looked through, a long one has an index.
+/// The keys that a line asked, and what it put. A short one is looked through, a long one has an index.
 #[derive(Drop)]
 pub struct Log {
     alloc: Global,
     hashing: Hashing,
-    asks: Vec<Asked>,
+    asks: Vec<Key>,
     puts: Vec<Put>,
     /// What is known of each key. None: the log is short.
     index: Option<Box<HashMap<Key, Known, Hashing>>>,
@@ -37,18 +38,20 @@ impl Model for Log {
     ghost use Rattle.std.specs.Prelude.{IfSome};
     ghost use Rattle.std.specs.HashMap as hash;
     ghost use Rattle.cps_state.specs.declared.key.Key.{Key};
-    ghost use Rattle.cps_state.specs.Log.{Log, Indexes};
+    ghost use Rattle.cps_state.specs.Keys.{State};
+    ghost use Rattle.cps_state.specs.Log.{Log, asked_in, Indexes};
 
     ghost Value = { Log };
 
     ghost view = { λ log. record { asks = log.asks.items; puts = log.puts.items } };
 
-    ghost invariant = { λ log. IfSome log.index (λ index. (k : Key) → Indexes log.asks.items log.puts.items k (hash.get ⟦<Key as PartialEq>⟧.eq index.value k)) };
+    ghost invariant = { λ log. IfSome log.index (λ index. (state : State) (k : Key)
+        → Indexes (asked_in state log.asks.items) log.puts.items k (hash.get ⟦<Key as PartialEq>⟧.eq index.value k)) };
 }
 
 impl Log {
     /// Of these asks and puts. Takes no memory.
-    pub fn of(alloc: Global, hashing: Hashing, asks: Vec<Asked>, puts: Vec<Put>) -> Log
+    pub fn of(alloc: Global, hashing: Hashing, asks: Vec<Key>, puts: Vec<Put>) -> Log
         ensures { result ≡ record { asks = asks.items; puts = puts.items } }
     {
         Log {
@@ -62,8 +65,8 @@ impl Log {
 
     /// Where the answer stands that is known of a key.
     pub fn find(&self, key: Key) -> Option<Known>
-        ensures found { option_and_then (found_at self.now) result ≡ known_of self.now key }
-        ensures is_there { IfSome result (λ known. is_some (found_at self.now known) ≡ true) }
+        ensures found { (state : State) → option_and_then (found_at state self.now) result ≡ known_of state self.now key }
+        ensures is_there { (state : State) → IfSome result (λ known. is_some (found_at state self.now known) ≡ true) }
     {
         if let Some(index) = &self.index {
             return index.get(&key).copied();
@@ -77,48 +80,43 @@ impl Log {
         }
     }
 
-    /// The answer at a place.
-    pub fn answer(&self, known: Known) -> Option<&Answer>
-        ensures { option_copied result ≡ unwrap_or (found_at self.now known) None }
+    /// The key of an ask.
+    pub fn key_at(&self, place: usize) -> Option<&Key>
+        ensures { option_copied result ≡ slice_get self.now.asks place }
     {
-        match known {
-            Known::Asked(place) => match self.asks.get(place) {
-                Some(asked) => asked.answer.as_ref(),
-                None => None,
-            },
-            Known::Put(place) => match self.puts.get(place) {
-                Some(put) => Some(&put.answer),
-                None => None,
-            },
+        self.asks.get(place)
+    }
+
+    /// The answer of a put.
+    pub fn put_answer(&self, place: usize) -> Option<&Answer>
+        ensures { option_copied result ≡ put_at self.now.puts place }
+    {
+        match self.puts.get(place) {
+            Some(put) => Some(&put.answer),
+            None => None,
         }
     }
 
-    /// One more ask, of a key of which nothing is known. What may be refused lets the ask go by a call: a `?` here goes through all its cases.
+    /// One more ask, of a key of which nothing is known.
     #[inline(always)]
-    pub fn push_ask(&mut self, asked: Asked) -> Result<Known, AllocError>
-        requires { known_of self.old asked.key ≡ None }
-        ensures log { OnOk result (self.new ≡ record self.old { asks = self.old.asks ++ asked ∷ [] }) }
-        ensures answer { IfOk result (λ known. found_at self.new known ≡ Some asked.answer) }
+    pub fn push_ask(&mut self, key: Key) -> Result<Known, AllocError>
+        requires { (state : State) → known_of state self.old key ≡ None }
+        ensures log { OnOk result (self.new ≡ record self.old { asks = self.old.asks ++ key ∷ [] }) }
+        ensures answer { IfOk result (λ known. (state : State) → found_at state self.new known ≡ Some (state key)) }
     {
         let known = Known::Asked(self.asks.len());
         if let Some(index) = &mut self.index {
-            let Ok(_) = self.asks.reserve(1) else {
-                drop(asked);
-                return Err(AllocError);
-            };
-            let Ok(_) = index.insert(asked.key, known) else {
-                drop(asked);
-                return Err(AllocError);
-            };
-            self.asks.push_reserved(asked);
+            self.asks.reserve(1)?;
+            index.insert(key, known)?;
+            self.asks.push_reserved(key);
             return Ok(known);
         }
-        self.asks.push(asked)?;
+        self.asks.push(key)?;
         self.lengthen()?;
         Ok(known)
     }
 
-    /// One more put.
+    /// One more put. What may be refused lets the put go by a call: a `?` here goes through all its cases.
     #[inline(always)]
     pub fn push_put(&mut self, put: Put) -> Result<(), AllocError>
         ensures { OnOk result (self.new ≡ record self.old { puts = self.old.puts ++ put ∷ [] }) }
@@ -146,8 +144,8 @@ impl Log {
         self.puts.len()
     }
 
-    /// What was asked and what was put, in their order.
-    pub fn into_parts(self) -> (Vec<Asked>, Vec<Put>)
+    /// The keys that were asked and what was put, in their order.
+    pub fn into_parts(self) -> (Vec<Key>, Vec<Put>)
         ensures asks { result.0.items ≡ self.asks }
         ensures puts { result.1.items ≡ self.puts }
     {
@@ -188,13 +186,13 @@ impl Log {
 fn index_of_asks(
     alloc: Global,
     hashing: Hashing,
-    asks: &[Asked],
+    asks: &[Key],
 ) -> Result<HashMap<Key, Known, Hashing>, AllocError>
-    ensures { IfOk result (λ index. (k : Key) → Indexes asks.now [] k (hash.get ⟦<Key as PartialEq>⟧.eq index k)) }
+    ensures { IfOk result (λ index. (state : State) (k : Key) → Indexes (asked_in state asks.now) [] k (hash.get ⟦<Key as PartialEq>⟧.eq index k)) }
 {
     let mut index = HashMap::with_hasher(alloc, hashing);
     for place in 0..asks.len() {
-        index.insert(asks[place].key, Known::Asked(place))?;
+        index.insert(asks[place], Known::Asked(place))?;
     }
     Ok(index)
 }
@@ -202,11 +200,11 @@ fn index_of_asks(
 /// An index of asks, and of puts.
 fn with_puts(
     index: HashMap<Key, Known, Hashing>,
-    _asks: &[Asked],
+    _asks: &[Key],
     puts: &[Put],
 ) -> Result<HashMap<Key, Known, Hashing>, AllocError>
-    requires { (k : Key) → Indexes _asks.now [] k (hash.get ⟦<Key as PartialEq>⟧.eq index k) }
-    ensures { IfOk result (λ index. (k : Key) → Indexes _asks.now puts.now k (hash.get ⟦<Key as PartialEq>⟧.eq index k)) }
+    requires { (state : State) (k : Key) → Indexes (asked_in state _asks.now) [] k (hash.get ⟦<Key as PartialEq>⟧.eq index k) }
+    ensures { IfOk result (λ index. (state : State) (k : Key) → Indexes (asked_in state _asks.now) puts.now k (hash.get ⟦<Key as PartialEq>⟧.eq index k)) }
 {
     let mut index = index;
     for place in 0..puts.len() {
@@ -231,14 +229,14 @@ fn newest_put(puts: &[Put], key: &Key) -> Option<usize>
 }
 
 /// The newest ask of a key.
-fn newest_ask(asks: &[Asked], key: &Key) -> Option<usize>
-    ensures found { option_and_then (asked_at asks.now) result ≡ last_ask asks.now key.now }
+fn newest_ask(asks: &[Key], key: &Key) -> Option<usize>
+    ensures found { (state : State) → option_and_then (asked_at (asked_in state asks.now)) result ≡ last_ask (asked_in state asks.now) key.now }
     ensures within { IfSome result (λ place. place < length asks.now) }
 {
     let mut place = asks.len();
     while place > 0 {
         place -= 1;
-        if is_same_key(&asks[place].key, key) {
+        if is_same_key(&asks[place], key) {
             return Some(place);
         }
     }

@@ -1,8 +1,9 @@
 //! What a line has asked, put, made and read so far, over what answers its keys.
-ghost use Rattle.std.specs.Prelude.{◌≡◌, ◌≤◌, [], ◌∷◌, None, IsTrue, OnOk, IfOk};
+ghost use Rattle.std.specs.Prelude.{◌≡◌, ◌≤◌, [], ◌∷◌, IsTrue, OnOk, IfOk};
 ghost use Rattle.std.specs.Option.{option_copied};
-ghost use Rattle.cps_state.specs.Course.{begin, first_item, dropped_item, control_puts, traced, deepest, known_in};
+ghost use Rattle.cps_state.specs.Course.{begin, first_item, dropped_item, control_puts, traced, unasked, deepest};
 ghost use Rattle.cps_state.specs.Line.{Goes, known_answer, line_started, line_answer, line_asked, line_put, line_stood, line_filled, line_marked, line_told, line_settled};
+ghost use Rattle.cps_state.specs.Log.{asked_in};
 
 use crate::flags::Flags;
 use crate::item::Item;
@@ -21,7 +22,7 @@ use std::mem;
 
 /// What a line has asked, put, made and read so far, over what answers its keys. It has the memory that the line takes.
 #[derive(Drop)]
-pub struct Recorder<'a, L> {
+pub struct Recorder<'a, L: Lookup> {
     alloc: Global,
     state: &'a L,
     log: Log,
@@ -31,15 +32,16 @@ pub struct Recorder<'a, L> {
     reads: Vec<Name>,
 }
 
-impl<'a, L> Model for Recorder<'a, L> {
+impl<'a, L: Lookup> Model for Recorder<'a, L> {
     ghost use Rattle.cps_state.specs.Line.{Line};
+    ghost use Rattle.cps_state.specs.Log.{asked_in};
 
     ghost Value = { Line L };
 
     ghost view = { λ recorder. record {
       state = recorder.state.now;
       done = record {
-        asks = recorder.log.asks;
+        asks = asked_in (L.answer recorder.state.now) recorder.log.asks;
         puts = recorder.log.puts;
         settled = recorder.settled;
         finished = recorder.finished.items;
@@ -54,11 +56,11 @@ impl<'a, L: Lookup> Recorder<'a, L> {
     pub fn new(alloc: Global, sheet: Sheet, state: &'a L) -> Recorder<'a, L>
         ensures { result ≡ line_started state.now }
     {
-        let (asks, puts, reads) = sheet.into_lists();
+        let (keys, puts, reads) = sheet.into_lists();
         Recorder {
             alloc,
             state,
-            log: Log::of(alloc, state.hashing(), asks, puts),
+            log: Log::of(alloc, state.hashing(), keys, puts),
             settled: 0,
             finished: Vec::new(alloc),
             present: Item::blank(0, Shared::empty()),
@@ -71,29 +73,14 @@ impl<'a, L: Lookup> Recorder<'a, L> {
         self.alloc
     }
 
-    /// Where the answer at a key stands. The key is asked only where nothing is known of it.
+    /// Where the answer at a key stands. The key is asked only where nothing is known of it: it is noted, and what stands there is looked up where it is read.
     pub fn note(&mut self, key: Key) -> Result<Known, AllocError>
         ensures asks { OnOk result (self.new ≡ line_asked L.answer self.old key) }
         ensures answer { IfOk result (λ known. known_answer self.new known ≡ line_answer L.answer self.old key) }
     {
         match self.log.find(key) {
             Some(known) => Ok(known),
-            None => self.ask(key),
-        }
-    }
-
-    /// Asks a key of which nothing is known.
-    fn ask(&mut self, key: Key) -> Result<Known, AllocError>
-        requires { known_in self.old.done.asks self.old.done.puts key ≡ None }
-        ensures asks { OnOk result (self.new ≡ line_asked L.answer self.old key) }
-        ensures answer { IfOk result (λ known. known_answer self.new known ≡ line_answer L.answer self.old key) }
-    {
-        match self.state.ask(&key) {
-            Some(answer) => {
-                let answer = Some(answer.share()?);
-                self.log.push_ask(Asked { key, answer })
-            }
-            None => self.log.push_ask(Asked { key, answer: None }),
+            None => self.log.push_ask(key),
         }
     }
 
@@ -101,7 +88,13 @@ impl<'a, L: Lookup> Recorder<'a, L> {
     pub fn answer(&self, known: Known) -> Option<&Answer>
         ensures { option_copied result ≡ known_answer self.now known }
     {
-        self.log.answer(known)
+        match known {
+            Known::Asked(place) => match self.log.key_at(place) {
+                Some(key) => self.state.ask(key),
+                None => None,
+            },
+            Known::Put(place) => self.log.put_answer(place),
+        }
     }
 
     /// Puts an answer.
@@ -165,9 +158,30 @@ impl<'a, L: Lookup> Recorder<'a, L> {
         Ok(true)
     }
 
-    /// What the line did. It is dropped where not all of it was done.
-    pub fn into_trace(self, complete: bool) -> Result<Trace, AllocError>
-        ensures { IfOk result (λ trace. trace ≡ traced (self.entry.done, complete)) }
+    /// What the line did, in lists without room for more, and the lists that it was in for the next line. It is dropped where not all of it was done.
+    pub fn into_trace(self, complete: bool) -> Result<(Trace, Sheet), AllocError>
+        ensures { IfOk result (λ made. made.0 ≡ traced (self.entry.done, complete)) }
+    {
+        let alloc = self.alloc;
+        let state = self.state;
+        let (trace, keys) = self.into_parts(complete)?;
+        let asks = asked_in(alloc, state, &keys)?;
+        trace.into_exact(alloc, asks, keys)
+    }
+
+    /// The same without what it asked. `Sheet::take_back` gives the other lists to the next line.
+    pub fn into_unasked(self, complete: bool) -> Result<(Trace, Sheet), AllocError>
+        ensures { IfOk result (λ made. made.0 ≡ unasked (traced (self.entry.done, complete))) }
+    {
+        let alloc = self.alloc;
+        let (trace, keys) = self.into_parts(complete)?;
+        Ok((trace, Sheet::of(keys, Vec::new(alloc), Vec::new(alloc))))
+    }
+
+    /// What the line did but for its asks, and the keys that it asked.
+    fn into_parts(self, complete: bool) -> Result<(Trace, Vec<Key>), AllocError>
+        ensures trace { IfOk result (λ made. made.0 ≡ unasked (traced (self.entry.done, complete))) }
+        ensures keys { IfOk result (λ made. asked_in (L.answer self.entry.state) made.1.items ≡ self.entry.done.asks) }
     {
         let Recorder {
             alloc,
@@ -178,17 +192,39 @@ impl<'a, L: Lookup> Recorder<'a, L> {
             present,
             reads,
         } = self;
-        let (asks, mut puts) = log.into_parts();
+        let (keys, mut puts) = log.into_parts();
         if complete {
             let Ok(_) = items.reserve_exact(1) else {
                 drop(present);
                 return Err(AllocError);
             };
             items.push_reserved(present);
-            return Ok(Trace::new(asks, puts, items, reads));
+            return Ok((Trace::new(Vec::new(alloc), puts, items, reads), keys));
         }
         puts.truncate(settled);
-        dropped_trace(alloc, asks, &puts, first_item(&items, &present))
+        let trace = dropped_trace(alloc, &puts, first_item(&items, &present))?;
+        Ok((trace, keys))
+    }
+}
+
+/// Keys with what stands there.
+fn asked_in<L: Lookup>(alloc: Global, state: &L, keys: &[Key]) -> Result<Vec<Asked>, AllocError>
+    ensures { IfOk result (λ asks. asks.items ≡ asked_in (L.answer state.now) keys.now) }
+{
+    let mut asks = Vec::with_capacity(alloc, keys.len())?;
+    for key in keys {
+        let answer = shared_answer(state.ask(key))?;
+        asks.push(Asked { key: *key, answer })?;
+    }
+    Ok(asks)
+}
+
+fn shared_answer(answer: Option<&Answer>) -> Result<Option<Answer>, AllocError>
+    ensures { IfOk result (λ shared. shared ≡ option_copied answer.entry) }
+{
+    match answer {
+        Some(answer) => Ok(Some(answer.share()?)),
+        None => Ok(None),
     }
 }
 
@@ -202,21 +238,16 @@ fn first_item<'a>(finished: &'a [Item], present: &'a Item) -> &'a Item
     }
 }
 
-/// What is left of a line that is dropped: what it asked, what its own statement put at the control, and that statement.
+/// What is left of a line that is dropped, but for its asks: what its own statement put at the control, and that statement.
 #[cold]
 #[inline(never)]
-fn dropped_trace(
-    alloc: Global,
-    asks: Vec<Asked>,
-    puts: &[Put],
-    own: &Item,
-) -> Result<Trace, AllocError>
-    ensures { IfOk result (λ trace. trace ≡ record { asks = asks.items; puts = control_puts puts.now; items = dropped_item own.now ∷ []; reads = [] }) }
+fn dropped_trace(alloc: Global, puts: &[Put], own: &Item) -> Result<Trace, AllocError>
+    ensures { IfOk result (λ trace. trace ≡ record { asks = []; puts = control_puts puts.now; items = dropped_item own.now ∷ []; reads = [] }) }
 {
     let mut only = Vec::with_capacity(alloc, 1)?;
     only.push(dropped_item(own))?;
     let puts = control_puts(alloc, puts)?;
-    Ok(Trace::new(asks, puts, only, Vec::new(alloc)))
+    Ok(Trace::new(Vec::new(alloc), puts, only, Vec::new(alloc)))
 }
 
 /// The statement of a line that is dropped.

@@ -2,7 +2,7 @@
 ghost use Rattle.std.specs.Prelude.{◌≡◌, IfOk};
 
 use crate::item::Item;
-use crate::key::{Asked, Put};
+use crate::key::{Asked, Key, Put};
 use crate::sheet::Sheet;
 use cps_text::Name;
 use std::alloc::{AllocError, Global};
@@ -58,36 +58,38 @@ impl Trace {
         self.items.as_slice()
     }
 
-    /// The statements, and the lists of the rest for the next line.
-    pub fn into_parts(self) -> (Vec<Item>, Sheet)
-        ensures { result.0.items ≡ self.items }
+    /// The statements, and the lists of what was put and read.
+    pub(crate) fn into_lists(self) -> (Vec<Item>, Vec<Put>, Vec<Name>)
+        ensures items { result.0.items ≡ self.items }
+        ensures puts { result.1.items ≡ self.puts }
+        ensures reads { result.2.items ≡ self.reads }
     {
         let Trace {
-            asks,
+            asks: _,
             puts,
             items,
             reads,
         } = self;
-        (items, Sheet::of(asks, puts, reads))
+        (items, puts, reads)
     }
 
-    /// The same in lists without room for more, to be kept, and the lists that it was in for the next line.
-    pub fn into_exact(self, alloc: Global) -> Result<(Trace, Sheet), AllocError>
-        ensures { IfOk result (λ parts. parts.0 ≡ self) }
+    /// With what it asked, in lists without room for more, to be kept; and the lists that it was in, with that of its keys, for the next line.
+    pub(crate) fn into_exact(
+        self,
+        alloc: Global,
+        asks: Vec<Asked>,
+        keys: Vec<Key>,
+    ) -> Result<(Trace, Sheet), AllocError>
+        ensures { IfOk result (λ parts. parts.0 ≡ record self { asks = asks.items }) }
     {
-        let Trace {
-            mut asks,
-            mut puts,
-            items,
-            mut reads,
-        } = self;
+        let (items, mut puts, mut reads) = self.into_lists();
         let exact = Trace {
-            asks: all_of(alloc, &mut asks)?,
+            asks,
             puts: all_of(alloc, &mut puts)?,
             items,
             reads: all_of(alloc, &mut reads)?,
         };
-        Ok((exact, Sheet::of(asks, puts, reads)))
+        Ok((exact, Sheet::of(keys, puts, reads)))
     }
 
     /// The symbols that were read in pass one, in their order: those of expressions that are valued there, and those of

@@ -2,8 +2,9 @@ use Rattle.std.proofs.Common.{take, []}
 use Rattle.std.specs.HashMap as hash
 use Rattle.cps_state.specs.declared.key.Key.{Key}
 use Rattle.cps_state.specs.contracts.key.KeyPartialEq.TheImpl.{eq-value}
-use Rattle.cps_state.specs.Log.{Indexes}
+use Rattle.cps_state.specs.Keys.{State}
+use Rattle.cps_state.specs.Log.{asked_in, Indexes}
 use Rattle.cps_state.proofs.log.index_of_asks.Given as goal
 
 abbrev pub invariant-loop-place : goal.invariant-loop-place
-invariant-loop-place l = (k : Key) → Indexes (take l.place l.asks) [] k (hash.get (eq-value.it) l.index k)
+invariant-loop-place l = (state : State) (k : Key) → Indexes (asked_in state (take l.place l.asks)) [] k (hash.get (eq-value.it) l.index k)

@@ -1,12 +1,14 @@
 use Rattle.std.proofs.Common.{◌≡◌, ◌≤◌, length, take}
+use Rattle.cps_state.specs.Keys.{State}
 use Rattle.cps_state.specs.Course.{last_ask}
+use Rattle.cps_state.specs.Log.{asked_in}
 use Rattle.cps_state.proofs.log.newest_ask.Given as goal
 
 -- what comes after has other keys
 abbrev pub invariant-loop-place : goal.invariant-loop-place
 invariant-loop-place l = record {
   within : l.place ≤ length l.asks;
-  others : last_ask l.asks l.key ≡ last_ask (take l.place l.asks) l.key;
+  others : (state : State) → last_ask (asked_in state l.asks) l.key ≡ last_ask (asked_in state (take l.place l.asks)) l.key;
 }
 
 abbrev pub decreases-loop-place : goal.decreases-loop-place
