@@ -2,10 +2,16 @@
 use Rattle.std.proofs.Common.{◌≡◌, ℕ, Bool, true, false, ◌+◌, ◌<◌, ◌≤◌, refl, sym, ap, subst, ◌∙◌, List, [], ◌∷◌, ◌++◌, length, get_or, take, arith}
 use Rattle.std.proofs.lemmas.List.{length-map, take_more, take_all}
 use Rattle.cps_state.specs.declared.item.Item.{Item}
-use Rattle.cps_state.specs.Keys.{State, first_state}
-use Rattle.cps_state.specs.Course.{Trace}
+use Rattle.cps_state.specs.Keys.{State, first_state, overwritten}
+use Rattle.std.specs.Prelude.{flat_map, nat_eq}
+use Rattle.std.specs.Option.{option_or}
+use Rattle.cps_state.specs.declared.key.Put.{Put}
+use Rattle.cps_state.specs.Course.{Trace, unasked}
 use Rattle.cps_pass.specs.Expansion.{trace_of}
-use Rattle.cps_final.specs.Finals.{Finals, finals_of, Gathers, final_value}
+use Rattle.cps_gather.specs.Distinct.{distinct}
+use Rattle.cps_gather.specs.Layout.{layout_of, puts_of}
+use Rattle.cps_gather.specs.Pool.{literals_in}
+use Rattle.cps_final.specs.Finals.{Finals, finals_of, first_program, program_of, Gathers, final_value}
 use Rattle.cps_final.specs.Names.{names_defined, names_read}
 use Rattle.cps_final.specs.Outcome.{outcome_of}
 use Rattle.cps_list.specs.declared.mention.Mention.{Mention}
@@ -26,6 +32,32 @@ step-next finals before line trace state gathers same stepped =
     let now : trace ≡ trace_of line (state_after first_state before) =
     stepped ∙ ap (trace_of line) (same ∙ ap (λ (f : Finals). f.state) gathers ∙ puts-state first_state before) in
     traces_from-append first_state before (line ∷ []) ∙ ap (λ (t : Trace). traces_of before ++ t ∷ []) (sym now)
+
+-- ---- final values don't depend on what lines ask
+
+puts-unasked : (traces : List Trace) (trace : Trace) → puts_of (traces ++ unasked trace ∷ []) ≡ puts_of (traces ++ trace ∷ [])
+puts-unasked [] trace = refl
+puts-unasked (t ∷ traces) trace = ap (λ (puts : List Put). t.puts ++ puts) (puts-unasked traces trace)
+
+literals-unasked : (traces : List Trace) (trace : Trace) → flat_map literals_in (traces ++ unasked trace ∷ []) ≡ flat_map literals_in (traces ++ trace ∷ [])
+literals-unasked [] trace = refl
+literals-unasked (t ∷ traces) trace = ap (λ (words : List ℕ). literals_in t ++ words) (literals-unasked traces trace)
+
+program-unasked : (traces : List Trace) (trace : Trace) → program_of (traces ++ unasked trace ∷ []) ≡ program_of (traces ++ trace ∷ [])
+program-unasked [] trace = refl
+program-unasked (t ∷ traces) trace = ap (option_or (first_program t.items)) (program-unasked traces trace)
+
+pub finals-unasked : (traces : List Trace) (did trace : Trace) → did ≡ unasked trace → finals_of (traces ++ did ∷ []) ≡ finals_of (traces ++ trace ∷ [])
+finals-unasked traces did trace is =
+    ap (λ (t : Trace). finals_of (traces ++ t ∷ [])) is
+    ∙ (λ i. record {
+      state = overwritten first_state (puts-unasked traces trace i);
+      layout = layout_of (puts-unasked traces trace i);
+      pool = distinct nat_eq (literals-unasked traces trace i);
+      program = program-unasked traces trace i;
+    })
+
+-- ---- one line more
 
 outcomes-more : (finals : Finals) (traces : List Trace) (trace : Trace)
     → outcomes_under finals (traces ++ trace ∷ []) ≡ outcomes_under finals traces ++ outcome_of (final_value finals) trace ∷ []

@@ -1,7 +1,7 @@
 -- For batch assembly, not part of what a reader believes: what its passes have made of the lines so far.
-use Rattle.std.specs.Prelude.{◌≡◌, ℕ, List, map, IfSome}
+use Rattle.std.specs.Prelude.{◌≡◌, ℕ, List, [], ◌∷◌, ◌++◌, map, IfSome}
 use Rattle.cps_state.specs.declared.item.Item.{Item}
-use Rattle.cps_state.specs.Course.{Trace}
+use Rattle.cps_state.specs.Course.{Trace, unasked}
 use Rattle.cps_gather.specs.contracts.finals.FinalsGathered.TheImpl as finals
 use Rattle.cps_gather.specs.contracts.gather.GatherGathered.TheImpl as gather
 use Rattle.cps_final.specs.Finals.{Finals, Gathers}
@@ -14,6 +14,13 @@ use Rattle.cps_assembly.specs.Assembly.{traces_of, outcomes_under}
 -- the statements of each line
 abbrev pub statements_of : List Trace → List (List Item)
 statements_of traces = map (λ (trace : Trace). trace.items) traces
+
+-- What a line did, without what it asked, where it stands behind these lines; and what was gathered with it.
+pub record IsNext (before : List (List ℕ)) (line : List ℕ) (did : Trace) (finals : Finals) : Type 0 where
+  pub trace : Trace
+  pub is : did ≡ unasked trace
+  pub traces : traces_of (before ++ line ∷ []) ≡ traces_of before ++ trace ∷ []
+  pub gathered : Gathers finals (traces_of (before ++ line ∷ []))
 
 -- pass one: what was gathered, the statements of each line, if they are kept, and the symbols, if they are shown
 pub record IsPassed (lines : List (List ℕ)) (one : PassOne) : Type 0 where

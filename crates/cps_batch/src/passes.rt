@@ -9,11 +9,11 @@ ghost use Rattle.cps_list.specs.Symbols.{mentions_on};
 ghost use Rattle.cps_list.specs.Texts.{text_of};
 ghost use Rattle.cps_assembly.specs.Assembly.{assembly_of, outcomes_under, traces_of};
 ghost use Rattle.cps_assembly.specs.Flagged.{flagged_lines};
-ghost use Rattle.cps_batch.specs.Passes.{IsPassed, IsShown, statements_of};
+ghost use Rattle.cps_batch.specs.Passes.{IsNext, IsPassed, IsShown, statements_of};
 
 use cps_final::{Finals, Gather, Gathered, LineSymbols, Output};
 use cps_list::{Mention, Part, Printout, push_mentions};
-use cps_pass::{Hashing, Item, Sheet, Trace, Work, step_over};
+use cps_pass::{Hashing, Item, Sheet, Trace, Work, step_unasked};
 use cps_text::Line;
 use cps_text::limits::MOST_LINES;
 use std::alloc::{AllocError, Global};
@@ -125,8 +125,7 @@ impl PassOne {
         ensures passed { OnOk result ((lines : List (List ℕ)) → IsPassed lines self.old → number ≡ length lines + 1 → IsPassed (lines ++ line.now ∷ []) self.new) }
         ensures part { OnOk result (self.new.part ≡ self.old.part) }
     {
-        let sheet = replace(&mut self.sheet, Sheet::new(alloc));
-        let trace = step_next(alloc, sheet, &mut self.gather, line)?;
+        let trace = step_next(alloc, &mut self.sheet, &mut self.gather, line)?;
         note_symbols(
             &mut self.mentions,
             self.part.shows_symbols(),
@@ -135,8 +134,7 @@ impl PassOne {
             &trace,
         )?;
         self.count = counted(self.count, trace.items());
-        let (items, sheet) = trace.into_parts();
-        self.sheet = sheet;
+        let items = self.sheet.take_back(trace);
         keep(&mut self.kept, self.count, Statements { items })?;
         Ok(())
     }
@@ -214,17 +212,17 @@ fn keep(
     Ok(())
 }
 
-/// Pass one of the line after those that were gathered.
+/// Pass one of the line after those that were gathered, without what it asks.
 fn step_next(
     alloc: Global,
-    sheet: Sheet,
+    sheet: &mut Sheet,
     gather: &mut Gather,
     line: &Line,
 ) -> Result<Trace, AllocError>
     ensures { IfOk result (λ trace. (before : List (List ℕ)) → Gathers (⟦<Gather as Gathered>⟧.gathered gather.old) (traces_of before)
-        → (traces_of (before ++ line.now ∷ []) ≡ traces_of before ++ trace ∷ []) × Gathers (⟦<Gather as Gathered>⟧.gathered gather.new) (traces_of (before ++ line.now ∷ []))) }
+        → IsNext before line.now trace (⟦<Gather as Gathered>⟧.gathered gather.new)) }
 {
-    let trace = step_over(alloc, &mut Work::new(), sheet, line, gather.state())?;
+    let trace = step_unasked(alloc, &mut Work::new(), sheet, line, gather.state())?;
     gather.add(&trace)?;
     Ok(trace)
 }
@@ -375,10 +373,9 @@ impl<'a> Again<'a> {
         ensures part { OnOk result (self.new.two.printout.part ≡ self.old.two.printout.part) }
         ensures few { OnOk result (self.new.two.printout.flagged ≤ number) }
     {
-        let sheet = replace(&mut self.sheet, Sheet::new(alloc));
-        let trace = step_next(alloc, sheet, &mut self.gather, line)?;
+        let trace = step_next(alloc, &mut self.sheet, &mut self.gather, line)?;
         self.two.add(number, line, trace.items())?;
-        (_, self.sheet) = trace.into_parts();
+        drop(self.sheet.take_back(trace));
         Ok(())
     }
 }

@@ -7,10 +7,10 @@ ghost use Rattle.cps_buffer.specs.Lines.{text_lines, source_lines};
 ghost use Rattle.cps_buffer.specs.Spots.{IsSpot, between};
 
 use crate::encoding::Encoding;
-use crate::line_end::{newline_at, without_return};
 use crate::position::Range;
 use crate::replacement::Replacement;
 use crate::spot::Spot;
+use cps_input::{newline_at, without_return};
 use std::alloc::{AllocError, Global};
 use std::marker::Model;
 

@@ -3,7 +3,6 @@
 //! - `buffer.rt`: the text
 //! - `encoding.rt`: how the characters of a position are counted
 //! - `laws.rt`: what holds of all texts
-//! - `line_end.rt`: the ends of lines
 //! - `place.rt`: places in a line, as bytes and as units
 //! - `position.rt`: positions in a text
 //! - `replacement.rt`: lines in the place of others
@@ -13,7 +12,6 @@
 mod buffer;
 mod encoding;
 mod laws;
-mod line_end;
 mod place;
 mod position;
 mod replacement;

@@ -3,9 +3,9 @@ ghost use Rattle.std.specs.Prelude.{ℕ, ◌<◌, List, map, length};
 ghost use Rattle.cps_buffer.specs.Spots.{IsBehindBoth, IsSpot, IsSpotOf};
 
 use crate::encoding::Encoding;
-use crate::line_end::without_return;
 use crate::place::place_in;
 use crate::position::Position;
+use cps_input::without_return;
 
 /// A place among lines: a line, and a byte of it.
 #[derive(Clone, Copy)]

@@ -1,8 +1,8 @@
 //! A text, cut into lines.
-ghost use Rattle.std.specs.Prelude.{◌≡◌, ◌==◌, ◌<◌, length, drop, map, IfOk, IfSome};
-ghost use Rattle.std.specs.List.{position};
-ghost use Rattle.cps_input.specs.Lines.{HasText, newline, without_return};
+ghost use Rattle.std.specs.Prelude.{◌≡◌, drop, map, IfOk};
+ghost use Rattle.cps_input.specs.Lines.{HasText};
 
+use cps_input::{newline_at, without_return};
 use std::alloc::{AllocError, Global};
 
 /// The lines of a text: what stands before each newline, without a carriage return before that, and what stands behind the last newline, if it has a byte.
@@ -32,22 +32,4 @@ pub fn behind(text: &[u8], count: usize) -> &[u8]
     }
     let (_, rest) = text.split_at(count);
     rest
-}
-
-/// Where the first newline stands.
-fn newline_at(text: &[u8]) -> Option<usize>
-    ensures place { result ≡ position (λ byte. byte == newline) text.now }
-    ensures within { IfSome result (λ at. at < length text.now) }
-{
-    text.iter().position(|byte| *byte == b'\n')
-}
-
-/// A line without the carriage return at its end.
-fn without_return(line: &[u8]) -> &[u8]
-    ensures { result.now ≡ without_return line.now }
-{
-    match line {
-        [front @ .., b'\r'] => front,
-        _ => line,
-    }
 }

@@ -10,7 +10,6 @@ use cps_holding::{Finals, Gather, Gathered};
 use cps_pass::{Hashing, Sheet, Trace, Work, step_over};
 use cps_text::Line;
 use std::alloc::{AllocError, Global};
-use std::mem::replace;
 
 /// What pass one has gathered of the lines so far.
 pub struct PassOne {
@@ -65,10 +64,7 @@ impl PassOne {
         ensures err { OnErr result (gathered_in self.new ≡ gathered_in self.old) }
         ensures step { work.new ≡ raised Ones work.old }
     {
-        let sheet = replace(&mut self.sheet, Sheet::new(self.alloc));
-        let trace = step_over(self.alloc, work, sheet, line, self.gather.state())?;
-        let (trace, sheet) = trace.into_exact(self.alloc)?;
-        self.sheet = sheet;
+        let trace = step_over(self.alloc, work, &mut self.sheet, line, self.gather.state())?;
         match self.gather.add(&trace) {
             Ok(()) => Ok(trace),
             Err(refused) => {

@@ -37,7 +37,8 @@ pub fn find_all(
     finals: &Finals,
 ) -> Result<Vec<Diagnostic>, AllocError> {
     let asks = Asks::of(alloc, finals.hashing(), trace.asks())?;
-    let mut recorder = Recorder::new(alloc, Sheet::new(alloc), &asks);
+    let mut sheet = Sheet::new(alloc);
+    let mut recorder = Recorder::new(alloc, &mut sheet, &asks);
     let card = Card::of(line.bytes());
     let mut walk = Walk {
         card,

@@ -1,4 +1,5 @@
-pub mod InputLemmas
 pub mod BegunLemmas
+pub mod InputLemmas
+pub mod NewlineLemmas
 pub mod ReadLemmas
 pub mod SplitLemmas

@@ -3,6 +3,7 @@ ghost use Rattle.std.specs.Prelude.{◌≡◌, ℕ, List, [], ◌∷◌, ◌++�
 ghost use Rattle.cps_input.specs.Lines.{without_return};
 ghost use Rattle.cps_input.specs.BegunLine.{IsBegun, more_past};
 
+use super::line_end::without_return;
 use arrayvec::ArrayVec;
 use cps_text::limits::MOST_COMMAND_BYTES;
 
@@ -73,7 +74,7 @@ impl BegunLine {
         match self.past {
             Past::More => None,
             Past::Return => Some(self.bytes.as_slice()),
-            Past::Nothing => Some(trimmed(self.bytes.as_slice())),
+            Past::Nothing => Some(without_return(self.bytes.as_slice())),
         }
     }
 }
@@ -82,22 +83,11 @@ impl BegunLine {
 pub fn kept_text(line: &[u8]) -> Option<&[u8]>
     ensures { MatchOption result (MOST_COMMAND_BYTES < length (without_return line.now)) (λ text. text.now ≡ without_return line.now) }
 {
-    let text = trimmed(line);
+    let text = without_return(line);
     if text.len() > MOST_COMMAND_BYTES {
         None
     } else {
         Some(text)
-    }
-}
-
-fn trimmed(line: &[u8]) -> &[u8]
-    ensures { result.now ≡ without_return line.now }
-{
-    let len = line.len();
-    if len > 0 && line[len - 1] == b'\r' {
-        &line[..len - 1]
-    } else {
-        line
     }
 }
 

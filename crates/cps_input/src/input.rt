@@ -1,6 +1,5 @@
 //! A source, as its bytes come.
-ghost use Rattle.std.specs.Prelude.{◌≡◌, ◌==◌, ◌<◌, ℕ, List, [], ◌∷◌, ◌++◌, length, true, IfSome, MatchResult};
-ghost use Rattle.std.specs.List.{position};
+ghost use Rattle.std.specs.Prelude.{◌≡◌, ℕ, List, [], ◌∷◌, ◌++◌, true, MatchResult};
 ghost use Rattle.cps_input.specs.Sources.{IsSource, Refuses};
 ghost use Rattle.cps_input.specs.BegunLine.{IsBegun};
 ghost use Rattle.cps_input.specs.Input.{HasCome};
@@ -9,6 +8,7 @@ ghost use Rattle.cps_input.specs.Lines.{HasText, has_no_newline, newline};
 use super::begun_line::{BegunLine, kept_text};
 use super::fault::InputFault;
 use super::intake::Intake;
+use super::line_end::newline_at;
 use super::taker::Taker;
 use cps_text::Line;
 use std::alloc::Global;
@@ -94,11 +94,4 @@ impl Taker for Input {
         }
         self.begun.push_all(rest);
     }
-}
-
-fn newline_at(bytes: &[u8]) -> Option<usize>
-    ensures place { result ≡ position (λ byte. byte == newline) bytes.now }
-    ensures within { IfSome result (λ at. at < length bytes.now) }
-{
-    bytes.iter().position(|byte| *byte == b'\n')
 }

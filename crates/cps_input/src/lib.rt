@@ -5,6 +5,7 @@
 //! - `input.rt`: bytes, cut into lines
 //! - `intake.rt`: lines as they come, checked and kept
 //! - `kept_bytes.rt`: bytes as they come, kept
+//! - `line_end.rt`: the ends of lines
 //! - `reading.rt`: the reading itself
 //! - `taker.rt`: what takes the bytes of an input
 #![tactic(auto)]
@@ -14,9 +15,11 @@ mod fault;
 mod input;
 mod intake;
 mod kept_bytes;
+mod line_end;
 mod reading;
 mod taker;
 
 pub use begun_line::BegunLine;
 pub use fault::InputFault;
+pub use line_end::{newline_at, without_return};
 pub use reading::{read_bytes, read_lines};

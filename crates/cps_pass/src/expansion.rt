@@ -1,6 +1,7 @@
 //! The statements that a source line stands for: its own, and those that it opens.
 ghost use Rattle.std.specs.Prelude.{◌≡◌, ◌≤◌, ◌+◌, ◌-◌, IfOk, Some};
-ghost use Rattle.cps_state.specs.Line.{Does, Goes};
+ghost use Rattle.cps_state.specs.Course.{stop, unasked};
+ghost use Rattle.cps_state.specs.Line.{Does, Goes, runs};
 ghost use Rattle.cps_pass.specs.Expansion.{walk, body, ended, too_deep};
 ghost use Rattle.cps_pass.specs.Expansion as expansion;
 ghost use Rattle.cps_statement.specs.Taking.{Walks};
@@ -122,22 +123,47 @@ fn is_dup_body(mode: &Mode) -> bool
     }
 }
 
-/// What a source line asks, puts and makes in a state, in the lists of an earlier line.
+/// The statement of a source line, and those that it opens. False where one is too much.
+fn go_through_line<L: Lookup>(
+    recorder: &mut Recorder<'_, L>,
+    line: &[u8],
+) -> Result<bool, AllocError>
+    ensures { IfOk result (λ complete. runs (expansion.line_part line.now stop) L.answer recorder.old ≡ (recorder.new, complete)) }
+{
+    let mut scope = Scope::Source;
+    let opened = step_statement(recorder, &mut scope, line)?;
+    recorder.settle();
+    let complete = match opened {
+        Some(opened) => expand(recorder, 1, opened)?,
+        None => true,
+    };
+    Ok(complete)
+}
+
+/// What a source line asks, puts and makes in a state. Meanwhile it is in the lists of a sheet.
 pub fn trace_line<L: Lookup>(
     alloc: Global,
-    sheet: Sheet,
+    sheet: &mut Sheet,
     line: &[u8],
     state: &L,
 ) -> Result<Trace, AllocError>
     ensures { IfOk result (λ trace. trace ≡ expansion.trace_of line.now (L.answer state.now)) }
 {
     let mut recorder = Recorder::new(alloc, sheet, state);
-    let mut scope = Scope::Source;
-    let opened = step_statement(&mut recorder, &mut scope, line)?;
-    recorder.settle();
-    let complete = match opened {
-        Some(opened) => expand(&mut recorder, 1, opened)?,
-        None => true,
-    };
-    recorder.into_trace(complete)
+    let complete = go_through_line(&mut recorder, line)?;
+    recorder.into_trace(complete, sheet)
+}
+
+/// The same without what it asks, in the lists of a sheet.
+pub fn trace_unasked<L: Lookup>(
+    alloc: Global,
+    sheet: &mut Sheet,
+    line: &[u8],
+    state: &L,
+) -> Result<Trace, AllocError>
+    ensures { IfOk result (λ trace. trace ≡ unasked (expansion.trace_of line.now (L.answer state.now))) }
+{
+    let mut recorder = Recorder::new(alloc, sheet, state);
+    let complete = go_through_line(&mut recorder, line)?;
+    recorder.into_unasked(complete, sheet)
 }

@@ -12,4 +12,4 @@ pub use cps_state::{
     Lookup, Macro, MacroBody, Made, Mode, Phase, Put, Range, Shared, Sheet, Shown, Skip, State,
     Tally, Trace, Work, is_open, limit_of, word_bits,
 };
-pub use step::{step_one, step_over};
+pub use step::{step_one, step_over, step_unasked};

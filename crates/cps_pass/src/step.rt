@@ -1,13 +1,13 @@
 //! Pass one of a line.
 ghost use Rattle.std.specs.Prelude.{◌≡◌, IfOk};
-ghost use Rattle.cps_state.specs.Course.{Holds};
+ghost use Rattle.cps_state.specs.Course.{Holds, unasked};
 ghost use Rattle.cps_state.specs.Keys as keys;
 ghost use Rattle.cps_state.specs.Work.{raised};
 ghost use Rattle.cps_state.specs.declared.work.Tally.TheVariants as tally;
 ghost use Rattle.cps_pass.specs.Bounded.{AreFew, EachOnce};
 ghost use Rattle.cps_pass.specs.Expansion as expansion;
 
-use crate::expansion::trace_line;
+use crate::expansion::{trace_line, trace_unasked};
 use cps_state::{Lookup, Sheet, Tally, Trace, Work};
 use cps_text::Line;
 use std::alloc::{AllocError, Global};
@@ -29,14 +29,15 @@ pub fn step_one<L: Lookup>(
     ensures once { IfOk result (λ trace. EachOnce trace.asks) }
     ensures ones { work.new ≡ raised tally.Ones work.old }
 {
-    step_over(alloc, work, Sheet::new(alloc), line, state)
+    let mut sheet = Sheet::new(alloc);
+    step_over(alloc, work, &mut sheet, line, state)
 }
 
-/// The same in the lists of an earlier line, which `Trace::into_parts` gives back.
+/// The same, over the lists of a sheet, whose room line after line takes.
 pub fn step_over<L: Lookup>(
     alloc: Global,
     work: &mut Work,
-    sheet: Sheet,
+    sheet: &mut Sheet,
     line: &Line,
     state: &L,
 ) -> Result<Trace, AllocError>
@@ -45,4 +46,19 @@ pub fn step_over<L: Lookup>(
 {
     work.raise(Tally::Ones);
     trace_line(alloc, sheet, line.bytes(), state)
+}
+
+/// The same for callers that don't want what the line asks: the trace stands in the lists of the sheet, and `Sheet::take_back` takes them back.
+pub fn step_unasked<L: Lookup>(
+    alloc: Global,
+    work: &mut Work,
+    sheet: &mut Sheet,
+    line: &Line,
+    state: &L,
+) -> Result<Trace, AllocError>
+    ensures trace { IfOk result (λ trace. trace ≡ unasked (expansion.trace_of line.now (L.answer state.now))) }
+    ensures ones { work.new ≡ raised tally.Ones work.old }
+{
+    work.raise(Tally::Ones);
+    trace_unasked(alloc, sheet, line.bytes(), state)
 }

@@ -25,7 +25,6 @@ use cps_holding::{Run, still_holds};
 use cps_state::Lookup;
 use cps_text::Line;
 use std::alloc::{AllocError, Global};
-use std::mem::replace;
 use std::slice::from_ref;
 
 /// A line that was there before, with so many in front of it, and what it did.
@@ -251,7 +250,6 @@ impl Replay {
         ensures steps { Steps result work.old work.new 1 0 }
         ensures looked { work.new.looked ≡ work.old.looked }
     {
-        let sheet = replace(&mut self.sheet, Sheet::new(self.alloc));
         let behind = ChangedState {
             changes: self.log.changes(),
             before,
@@ -260,10 +258,7 @@ impl Replay {
             changes: self.log.present(),
             before: &behind,
         };
-        let trace = step_over(self.alloc, work, sheet, line, &now)?;
-        let (trace, sheet) = trace.into_exact(self.alloc)?;
-        self.sheet = sheet;
-        Ok(trace)
+        step_over(self.alloc, work, &mut self.sheet, line, &now)
     }
 
     /// Goes over lines that put the same as before.

@@ -88,21 +88,26 @@ fn step_all(alloc: Global, gather: &mut Gather, lines: &[Line]) -> Result<Vec<Tr
     ensures traces { IfOk result (λ traces. traces.items ≡ traces_of lines.now) }
     ensures gathered { OnOk result (Gathers (⟦<Gather as Gathered>⟧.gathered gather.new) (traces_of lines.now)) }
 {
-    let mut traces = Vec::new(alloc);
+    let mut traces = Vec::with_capacity(alloc, lines.len())?;
+    let mut sheet = Sheet::new(alloc);
     for line in lines {
-        let trace = step_next(alloc, gather, line)?;
+        let trace = step_next(alloc, &mut sheet, gather, line)?;
         traces.push(trace)?;
     }
     Ok(traces)
 }
 
 /// Pass one of the line after those that were gathered.
-fn step_next(alloc: Global, gather: &mut Gather, line: &Line) -> Result<Trace, AllocError>
+fn step_next(
+    alloc: Global,
+    sheet: &mut Sheet,
+    gather: &mut Gather,
+    line: &Line,
+) -> Result<Trace, AllocError>
     ensures { IfOk result (λ trace. (before : List (List ℕ)) → Gathers (⟦<Gather as Gathered>⟧.gathered gather.old) (traces_of before)
         → (traces_of (before ++ line.now ∷ []) ≡ traces_of before ++ trace ∷ [])
         × Gathers (⟦<Gather as Gathered>⟧.gathered gather.new) (traces_of (before ++ line.now ∷ []))) }
 {
-    let sheet = Sheet::new(alloc);
     let trace = step_over(alloc, &mut Work::new(), sheet, line, gather.state())?;
     gather.add(&trace)?;
     Ok(trace)

@@ -52,11 +52,11 @@ impl<'a, L: Lookup> Model for Recorder<'a, L> {
 }
 
 impl<'a, L: Lookup> Recorder<'a, L> {
-    /// Of a line that has done nothing, over a state, in the lists of an earlier line.
-    pub fn new(alloc: Global, sheet: Sheet, state: &'a L) -> Recorder<'a, L>
+    /// Of a line that has done nothing, over a state, in the lists of a sheet.
+    pub fn new(alloc: Global, sheet: &mut Sheet, state: &'a L) -> Recorder<'a, L>
         ensures { result ≡ line_started state.now }
     {
-        let (keys, puts, reads) = sheet.into_lists();
+        let (keys, puts, reads) = sheet.take_lists(alloc);
         Recorder {
             alloc,
             state,
@@ -158,27 +158,29 @@ impl<'a, L: Lookup> Recorder<'a, L> {
         Ok(true)
     }
 
-    /// What the line did, in lists without room for more, and the lists that it was in for the next line. It is dropped where not all of it was done.
-    pub fn into_trace(self, complete: bool) -> Result<(Trace, Sheet), AllocError>
-        ensures { IfOk result (λ made. made.0 ≡ traced (self.entry.done, complete)) }
+    /// What the line did, in lists without room for more; those that it was in go back to the sheet. It is dropped where not all of it was done.
+    pub fn into_trace(self, complete: bool, sheet: &mut Sheet) -> Result<Trace, AllocError>
+        ensures { IfOk result (λ trace. trace ≡ traced (self.entry.done, complete)) }
     {
         let alloc = self.alloc;
         let state = self.state;
         let (trace, keys) = self.into_parts(complete)?;
         let asks = asked_in(alloc, state, &keys)?;
-        trace.into_exact(alloc, asks, keys)
+        sheet.give_keys(keys);
+        trace.into_exact(alloc, asks, sheet)
     }
 
-    /// The same without what it asked. `Sheet::take_back` gives the other lists to the next line.
-    pub fn into_unasked(self, complete: bool) -> Result<(Trace, Sheet), AllocError>
-        ensures { IfOk result (λ made. made.0 ≡ unasked (traced (self.entry.done, complete))) }
+    /// The same without what it asked, in the lists that it was in. `Sheet::take_back` takes them back.
+    pub fn into_unasked(self, complete: bool, sheet: &mut Sheet) -> Result<Trace, AllocError>
+        ensures { IfOk result (λ trace. trace ≡ unasked (traced (self.entry.done, complete))) }
     {
-        let alloc = self.alloc;
         let (trace, keys) = self.into_parts(complete)?;
-        Ok((trace, Sheet::of(keys, Vec::new(alloc), Vec::new(alloc))))
+        sheet.give_keys(keys);
+        Ok(trace)
     }
 
     /// What the line did but for its asks, and the keys that it asked.
+    #[inline(always)]
     fn into_parts(self, complete: bool) -> Result<(Trace, Vec<Key>), AllocError>
         ensures trace { IfOk result (λ made. made.0 ≡ unasked (traced (self.entry.done, complete))) }
         ensures keys { IfOk result (λ made. asked_in (L.answer self.entry.state) made.1.items ≡ self.entry.done.asks) }

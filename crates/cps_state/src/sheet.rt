@@ -6,6 +6,7 @@ use crate::key::{Key, Put};
 use crate::trace::Trace;
 use cps_text::Name;
 use std::alloc::Global;
+use std::mem::replace;
 
 /// The lists of the keys that a line asked, and of what it put and read, whose room the next line takes.
 #[derive(Drop)]
@@ -25,35 +26,38 @@ impl Sheet {
         }
     }
 
-    /// Of a line that is done.
-    pub(crate) fn of(keys: Vec<Key>, puts: Vec<Put>, reads: Vec<Name>) -> Sheet {
-        Sheet { keys, puts, reads }
-    }
-
-    /// The statements of a line that is done. Its other lists are for the next line.
-    pub fn take_back(&mut self, trace: Trace) -> Vec<Item>
-        ensures { result.items ≡ trace.items }
-    {
-        let (items, puts, reads) = trace.into_lists();
-        self.puts = puts;
-        self.reads = reads;
-        items
-    }
-
-    /// The lists, without what was in them.
-    pub(crate) fn into_lists(self) -> (Vec<Key>, Vec<Put>, Vec<Name>)
+    /// The lists, without what was in them. Others without room stand in their place.
+    pub(crate) fn take_lists(&mut self, alloc: Global) -> (Vec<Key>, Vec<Put>, Vec<Name>)
         ensures keys { result.0.items ≡ [] }
         ensures puts { result.1.items ≡ [] }
         ensures reads { result.2.items ≡ [] }
     {
-        let Sheet {
-            mut keys,
-            mut puts,
-            mut reads,
-        } = self;
+        let mut keys = replace(&mut self.keys, Vec::new(alloc));
+        let mut puts = replace(&mut self.puts, Vec::new(alloc));
+        let mut reads = replace(&mut self.reads, Vec::new(alloc));
         keys.clear();
         puts.clear();
         reads.clear();
         (keys, puts, reads)
+    }
+
+    /// The list of the keys that a line asked goes back.
+    pub(crate) fn give_keys(&mut self, keys: Vec<Key>) {
+        self.keys = keys;
+    }
+
+    /// The lists of what a line put and read go back.
+    pub(crate) fn give_lists(&mut self, puts: Vec<Put>, reads: Vec<Name>) {
+        self.puts = puts;
+        self.reads = reads;
+    }
+
+    /// The statements of a line that is done. Its other lists go back.
+    pub fn take_back(&mut self, trace: Trace) -> Vec<Item>
+        ensures { result.items ≡ trace.items }
+    {
+        let (items, puts, reads) = trace.into_lists();
+        self.give_lists(puts, reads);
+        items
     }
 }

@@ -2,7 +2,7 @@
 ghost use Rattle.std.specs.Prelude.{◌≡◌, IfOk};
 
 use crate::item::Item;
-use crate::key::{Asked, Key, Put};
+use crate::key::{Asked, Put};
 use crate::sheet::Sheet;
 use cps_text::Name;
 use std::alloc::{AllocError, Global};
@@ -73,14 +73,14 @@ impl Trace {
         (items, puts, reads)
     }
 
-    /// With what it asked, in lists without room for more, to be kept; and the lists that it was in, with that of its keys, for the next line.
+    /// With what it asked, in lists without room for more, to be kept. The lists that it was in go back to the sheet.
     pub(crate) fn into_exact(
         self,
         alloc: Global,
         asks: Vec<Asked>,
-        keys: Vec<Key>,
-    ) -> Result<(Trace, Sheet), AllocError>
-        ensures { IfOk result (λ parts. parts.0 ≡ record self { asks = asks.items }) }
+        sheet: &mut Sheet,
+    ) -> Result<Trace, AllocError>
+        ensures { IfOk result (λ trace. trace ≡ record self { asks = asks.items }) }
     {
         let (items, mut puts, mut reads) = self.into_lists();
         let exact = Trace {
@@ -89,7 +89,8 @@ impl Trace {
             items,
             reads: all_of(alloc, &mut reads)?,
         };
-        Ok((exact, Sheet::of(keys, puts, reads)))
+        sheet.give_lists(puts, reads);
+        Ok(exact)
     }
 
     /// The symbols that were read in pass one, in their order: those of expressions that are valued there, and those of

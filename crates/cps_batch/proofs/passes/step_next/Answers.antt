@@ -1,12 +1,18 @@
-use Rattle.std.proofs.Common.{List, subst, sym}
-use Rattle.cps_state.specs.Course.{Trace}
-use Rattle.cps_final.specs.Finals.{Gathers}
+use Rattle.std.proofs.Common.{refl, sym, ap, ◌∙◌}
+use Rattle.cps_final.specs.Finals.{finals_of}
 use Rattle.cps_gather.specs.contracts.gather.GatherGathered.TheImpl.{gathered-value}
+use Rattle.cps_pass.specs.Expansion.{trace_of}
 use Rattle.cps_assembly.specs.Assembly.{traces_of}
-use Rattle.cps_batch.proofs.PassLemmas.{step-next}
+use Rattle.cps_batch.proofs.PassLemmas.{step-next, finals-unasked}
 use Rattle.cps_batch.proofs.passes.step_next.Goals as goal
 
 pub returns : goal.returns
 returns c = λ before gathers.
-    let more = step-next (gathered-value.it c.args.gather.now) before c.args.line.now c.in_ok-trace.trace _ gathers c.state.ensures c.in_ok-trace.ensures.trace in
-    (more, subst (λ (traces : List Trace). Gathers (gathered-value.it c.add.new.self) traces) (sym more) (c.in_ok-add.ensures.ok (traces_of before) gathers))
+    let is = c.in_ok-trace.ensures.trace in
+    let more = step-next (gathered-value.it c.args.gather.now) before c.args.line.now _ _ gathers c.state.ensures refl in
+    record {
+      trace = _;
+      is = is;
+      traces = more;
+      gathered = c.in_ok-add.ensures.ok (traces_of before) gathers ∙ finals-unasked (traces_of before) c.in_ok-trace.trace _ is ∙ ap finals_of (sym more);
+    }

@@ -7,7 +7,7 @@ use Rattle.cps_edit.proofs.pass_one.PassOne.step.Goals as goal
 
 pub returns-in-Ok-clause-ok : goal.returns-in-Ok-clause-ok
 returns-in-Ok-clause-ok c =
-    let made = c.in_ok-trace-2.ensures ∙ c.in_ok-trace.ensures.trace ∙ ap (trace_of c.args.line.now) c.state.ensures in
+    let made = c.in_ok-trace.ensures.trace ∙ ap (trace_of c.args.line.now) c.state.ensures in
     record {
       did = ap (λ (t : Trace). t ∷ []) made;
       gathers = c.in-Ok.ensures.ok;

@@ -10,4 +10,4 @@ pub returns-in-Return : goal.returns-in-Return
 returns-in-Return c = λ begun is. c.as_slice.ensures.value ∙ begun-return _ begun is c.in-Return.is
 
 pub returns-in-Nothing : goal.returns-in-Nothing
-returns-in-Nothing c = λ begun is. c.trimmed.ensures ∙ ap without_return (c.as_slice-in-Nothing.ensures.value ∙ begun-nothing _ begun is c.in-Nothing.is)
+returns-in-Nothing c = λ begun is. c.without_return.ensures ∙ ap without_return (c.as_slice-in-Nothing.ensures.value ∙ begun-nothing _ begun is c.in-Nothing.is)
