@@ -6,11 +6,11 @@ ghost use Rattle.cps_batch.specs.Batch.{Assembles, RunsBatch};
 
 use super::fault::BatchFault;
 use super::passes::make_part;
-use cps_input::read_lines;
+use cps_input::{LineText, read_text};
 use cps_list::{Part, write_text};
 use cps_pass::Hashing;
+use cps_text::Counted;
 use cps_text::limits::MOST_READS;
-use cps_text::{Counted, Line};
 use std::alloc::Global;
 use std::io::{Read, Write};
 
@@ -28,7 +28,7 @@ pub fn batch<R: Read, W: Write>(
     ensures run { RunsBatch R.remaining W.contents part result reader.old reader.new writer.old writer.new }
     ensures reads { calls_of reader.new ≤ calls_of reader.old + MOST_READS }
 {
-    match read_lines(alloc, reader) {
+    match read_text(alloc, reader) {
         Ok(lines) => write_source(alloc, hashing, &lines, writer, part),
         Err(fault) => Err(BatchFault::of_input(fault)),
     }
@@ -38,7 +38,7 @@ pub fn batch<R: Read, W: Write>(
 fn write_source<W: Write>(
     alloc: Global,
     hashing: Hashing,
-    lines: &[Line],
+    lines: &LineText,
     writer: &mut Counted<W>,
     part: Part,
 ) -> Result<u32, BatchFault>

@@ -12,9 +12,9 @@ ghost use Rattle.cps_assembly.specs.Flagged.{flagged_lines};
 ghost use Rattle.cps_batch.specs.Passes.{IsNext, IsPassed, IsShown, statements_of};
 
 use cps_final::{Finals, Gather, Gathered, LineSymbols, Output};
+use cps_input::LineText;
 use cps_list::{Mention, Part, Printout, push_mentions};
 use cps_pass::{Hashing, Item, Sheet, Trace, Work, step_unasked};
-use cps_text::Line;
 use cps_text::limits::MOST_LINES;
 use std::alloc::{AllocError, Global};
 use std::marker::Model;
@@ -27,7 +27,7 @@ const MOST_KEPT: usize = 400_000;
 pub fn make_part(
     alloc: Global,
     hashing: Hashing,
-    lines: &[Line],
+    lines: &LineText,
     part: Part,
 ) -> Result<(Vec<u8>, u32), AllocError>
     requires { length lines.now ≤ MOST_LINES }
@@ -106,7 +106,7 @@ impl PassOne {
     fn of(
         alloc: Global,
         hashing: Hashing,
-        lines: &[Line],
+        lines: &LineText,
         part: Part,
     ) -> Result<PassOne, AllocError>
         requires { length lines.now ≤ MOST_LINES }
@@ -114,14 +114,14 @@ impl PassOne {
         ensures part { IfOk result (λ one. one.part ≡ part) }
     {
         let mut one = PassOne::new(alloc, hashing, part);
-        for (before, line) in lines.iter().enumerate() {
-            one.take_line(alloc, before as u32 + 1, line)?;
+        for before in 0..lines.len() {
+            one.take_line(alloc, before as u32 + 1, lines.line(before))?;
         }
         Ok(one)
     }
 
     /// Takes the next line.
-    fn take_line(&mut self, alloc: Global, number: u32, line: &Line) -> Result<(), AllocError>
+    fn take_line(&mut self, alloc: Global, number: u32, line: &[u8]) -> Result<(), AllocError>
         ensures passed { OnOk result ((lines : List (List ℕ)) → IsPassed lines self.old → number ≡ length lines + 1 → IsPassed (lines ++ line.now ∷ []) self.new) }
         ensures part { OnOk result (self.new.part ≡ self.old.part) }
     {
@@ -140,7 +140,7 @@ impl PassOne {
     }
 
     /// The text of these lines, and the number of flagged ones. The symbols that were noted go into it.
-    fn make_text(&mut self, alloc: Global, lines: &[Line]) -> Result<(Vec<u8>, u32), AllocError>
+    fn make_text(&mut self, alloc: Global, lines: &LineText) -> Result<(Vec<u8>, u32), AllocError>
         requires passed { IsPassed lines.now self.old }
         requires few { length lines.now ≤ MOST_LINES }
         ensures { IfOk result (λ made. (made.0.items ≡ text_of self.old.part (assembly_of lines.now)) × (made.1 ≡ flagged_lines lines.now)) }
@@ -153,7 +153,7 @@ impl PassOne {
     }
 
     /// What pass two shows of these lines.
-    fn show(&self, alloc: Global, lines: &[Line]) -> Result<Printout, AllocError>
+    fn show(&self, alloc: Global, lines: &LineText) -> Result<Printout, AllocError>
         requires few { length lines.now ≤ MOST_LINES }
         requires kept { IfSome self.now.kept (λ kept. kept.items ≡ statements_of (traces_of lines.now)) }
         ensures printout { IfOk result (IsPrintoutOf lines.now (outcomes_under (⟦<Gather as Gathered>⟧.gathered self.now.gather) (traces_of lines.now))) }
@@ -217,7 +217,7 @@ fn step_next(
     alloc: Global,
     sheet: &mut Sheet,
     gather: &mut Gather,
-    line: &Line,
+    line: &[u8],
 ) -> Result<Trace, AllocError>
     ensures { IfOk result (λ trace. (before : List (List ℕ)) → Gathers (⟦<Gather as Gathered>⟧.gathered gather.old) (traces_of before)
         → IsNext before line.now trace (⟦<Gather as Gathered>⟧.gathered gather.new)) }
@@ -270,7 +270,7 @@ impl<'a> PassTwo<'a> {
     }
 
     /// Adds the next line, which stands for these statements.
-    fn add(&mut self, number: u32, line: &Line, items: &[Item]) -> Result<(), AllocError>
+    fn add(&mut self, number: u32, line: &[u8], items: &[Item]) -> Result<(), AllocError>
         requires { self.old.printout.flagged < number }
         ensures shown { OnOk result ((lines : List (List ℕ)) (trace : Trace) → IsShown lines self.old → number ≡ length lines + 1 → items.now ≡ trace.items
             → traces_of (lines ++ line.now ∷ []) ≡ traces_of lines ++ trace ∷ [] → IsShown (lines ++ line.now ∷ []) self.new) }
@@ -279,12 +279,8 @@ impl<'a> PassTwo<'a> {
         ensures few { OnOk result (self.new.printout.flagged ≤ number) }
     {
         self.output.replace(items, self.finals)?;
-        self.printout.add(
-            number,
-            line.bytes(),
-            self.output.rows(),
-            self.output.pieces(),
-        )
+        self.printout
+            .add(number, line, self.output.rows(), self.output.pieces())
     }
 }
 
@@ -292,7 +288,7 @@ impl<'a> PassTwo<'a> {
 fn show_kept(
     alloc: Global,
     part: Part,
-    lines: &[Line],
+    lines: &LineText,
     kept: &[Statements],
     finals: &Finals,
 ) -> Result<Printout, AllocError>
@@ -303,9 +299,9 @@ fn show_kept(
     ensures few { IfOk result (λ printout. printout.flagged ≤ MOST_LINES) }
 {
     let mut two = PassTwo::new(alloc, part, finals);
-    for (before, line) in lines.iter().enumerate() {
+    for before in 0..lines.len() {
         let statements = &kept[before];
-        two.add(before as u32 + 1, line, &statements.items)?;
+        two.add(before as u32 + 1, lines.line(before), &statements.items)?;
     }
     Ok(two.take_printout(alloc, part))
 }
@@ -314,7 +310,7 @@ fn show_kept(
 fn show_again(
     alloc: Global,
     part: Part,
-    lines: &[Line],
+    lines: &LineText,
     finals: &Finals,
 ) -> Result<Printout, AllocError>
     requires { length lines.now ≤ MOST_LINES }
@@ -323,8 +319,8 @@ fn show_again(
     ensures few { IfOk result (λ printout. printout.flagged ≤ MOST_LINES) }
 {
     let mut again = Again::new(alloc, part, finals);
-    for (before, line) in lines.iter().enumerate() {
-        again.take_line(alloc, before as u32 + 1, line)?;
+    for before in 0..lines.len() {
+        again.take_line(alloc, before as u32 + 1, lines.line(before))?;
     }
     Ok(again.two.take_printout(alloc, part))
 }
@@ -363,7 +359,7 @@ impl<'a> Again<'a> {
     }
 
     /// Takes the next line.
-    fn take_line(&mut self, alloc: Global, number: u32, line: &Line) -> Result<(), AllocError>
+    fn take_line(&mut self, alloc: Global, number: u32, line: &[u8]) -> Result<(), AllocError>
         requires { self.old.two.printout.flagged < number }
         ensures gathered { OnOk result ((lines : List (List ℕ)) → Gathers (⟦<Gather as Gathered>⟧.gathered self.old.gather) (traces_of lines)
             → Gathers (⟦<Gather as Gathered>⟧.gathered self.new.gather) (traces_of (lines ++ line.now ∷ []))) }

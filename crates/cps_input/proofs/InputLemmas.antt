@@ -3,14 +3,13 @@ use Rattle.std.proofs.Common.{◌≡◌, ℕ, ◌+◌, ◌≤◌, List, [], ◌�
 use Rattle.std.proofs.lemmas.List.{map-append}
 use Rattle.std.proofs.lemmas.List.Elements.{All-nil, All-push}
 use Rattle.std.specs.Prelude.{Option, Result, Ok, Err, MatchResult}
-use Rattle.std.specs.declared.vec.Vec.{Vec}
 use Rattle.cps_text.specs.declared.counted.Counted.{Counted}
 use Rattle.cps_text.specs.Line.{IsLine}
 use Rattle.cps_input.specs.declared.fault.InputFault.{InputFault}
 use Rattle.cps_input.specs.declared.fault.InputFault.TheVariants as faults
 use Rattle.cps_input.specs.declared.input.Input.{Input}
 use Rattle.cps_text.specs.declared.limits.TheConstants.{MOST_LINES}
-use Rattle.cps_input.specs.Sources.{IsSource, IsWrong, IsFirstWrong, Refuses, ReadsLines}
+use Rattle.cps_input.specs.Sources.{IsSource, IsWrong, IsFirstWrong, IsReadWhole, Refuses, ReadsLines}
 use Rattle.cps_input.specs.Reads.{IsAllRead}
 use Rattle.cps_input.specs.BegunLine.{IsBegun}
 use Rattle.cps_input.specs.Input.{IsIntake, HasCome}
@@ -120,17 +119,36 @@ text-unended input taken come some = record {
 -- ---- what was read
 
 -- an input that was read to its end, by what became of its lines
-pub lines-read : {R Z : Type 0} (remaining : R → Option (List ℕ)) (result : Result (Vec (List ℕ) Z) InputFault) (old new : Counted R) (bytes : List ℕ)
+pub lines-read : {R X : Type 0} (lines_in : X → List (List ℕ)) (remaining : R → Option (List ℕ)) (result : Result X InputFault) (old new : Counted R) (bytes : List ℕ)
     (source : List (List ℕ)) → IsAllRead remaining old new bytes → HasText bytes source
-    → MatchResult result (λ lines. (lines.items ≡ source) × IsSource source) (λ fault. Refuses fault source) → ReadsLines remaining result old new
-lines-read remaining (Ok lines) old new bytes source read text came =
+    → MatchResult result (λ made. (lines_in made ≡ source) × IsSource source) (λ fault. Refuses fault source) → ReadsLines lines_in remaining result old new
+lines-read lines_in remaining (Ok made) old new bytes source read text came =
     let same = sym came.0 in
     (record { bytes = bytes; read = read; text = subst (λ ls. HasText bytes ls) same text }, subst IsSource same came.1)
-lines-read remaining (Err (faults.LineTooLong at)) old new bytes source read text came = (source, record { bytes = bytes; read = read; text = text }, came)
-lines-read remaining (Err (faults.BadCharacter at)) old new bytes source read text came = (source, record { bytes = bytes; read = read; text = text }, came)
-lines-read remaining (Err faults.TooManyLines) old new bytes source read text came = (source, record { bytes = bytes; read = read; text = text }, came)
-lines-read remaining (Err faults.Memory) old new bytes source read text came = (source, record { bytes = bytes; read = read; text = text }, came)
-lines-read remaining (Err faults.ReadFault) old new bytes source read text came = absurd came
+lines-read lines_in remaining (Err (faults.LineTooLong at)) old new bytes source read text came = (source, record { bytes = bytes; read = read; text = text }, came)
+lines-read lines_in remaining (Err (faults.BadCharacter at)) old new bytes source read text came = (source, record { bytes = bytes; read = read; text = text }, came)
+lines-read lines_in remaining (Err faults.TooManyLines) old new bytes source read text came = (source, record { bytes = bytes; read = read; text = text }, came)
+lines-read lines_in remaining (Err faults.Memory) old new bytes source read text came = (source, record { bytes = bytes; read = read; text = text }, came)
+lines-read lines_in remaining (Err faults.ReadFault) old new bytes source read text came = absurd came
+
+-- a fault is the same whatever the lines are in
+pub fault-read : {R X Y : Type 0} (lines_in : X → List (List ℕ)) (parted_in : Y → List (List ℕ)) (remaining : R → Option (List ℕ)) (fault : InputFault) (old new : Counted R)
+    → ReadsLines lines_in remaining (Err fault) old new → ReadsLines parted_in remaining (Err fault) old new
+fault-read lines_in parted_in remaining (faults.LineTooLong at) old new read = read
+fault-read lines_in parted_in remaining (faults.BadCharacter at) old new read = read
+fault-read lines_in parted_in remaining faults.TooManyLines old new read = read
+fault-read lines_in parted_in remaining faults.Memory old new read = read
+fault-read lines_in parted_in remaining faults.ReadFault old new read = read
+
+-- lines that were read, where each is kept by itself or there is no memory for them
+pub lines-parted : {R Y : Type 0} (parted_in : Y → List (List ℕ)) (remaining : R → Option (List ℕ)) (result : Result Y InputFault) (old new : Counted R) (source : List (List ℕ))
+    → IsReadWhole remaining old new source × IsSource source → MatchResult result (λ made. parted_in made ≡ source) (λ fault. fault ≡ faults.Memory)
+    → ReadsLines parted_in remaining result old new
+lines-parted parted_in remaining (Ok made) old new source read is =
+    let same = sym is in
+    (subst (λ ls. IsReadWhole remaining old new ls) same read.0, subst IsSource same read.1)
+lines-parted parted_in remaining (Err fault) old new source read is =
+    subst (λ f. ReadsLines parted_in remaining (Err f) old new) (sym is) (source, read.0, read.1)
 
 -- ---- how many lines have come
 

@@ -11,7 +11,7 @@ use Rattle.cps_input.specs.Lines.{Splits, without_return}
 
 -- these lines have come
 abbrev pub IsIntake : Intake → List (List ℕ) → Type 0
-IsIntake (Kept kept) lines = (kept.items ≡ lines) × IsSource lines
+IsIntake (Kept kept) lines = (kept ≡ lines) × IsSource lines
 IsIntake (Refused count) lines = (count ≡ length lines) × IsSource lines
 IsIntake (Faulty fault) lines = IsFirstWrong lines fault
 

@@ -1,3 +1,4 @@
+pub mod LineText
 pub mod Lines
 pub mod Reads
 pub mod BegunLine

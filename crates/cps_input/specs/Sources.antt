@@ -1,7 +1,6 @@
 -- The lines of a source, and what reading them answers. Our own.
 use Rattle.std.specs.Prelude.{◌≡◌, ℕ, ◌+◌, ◌<◌, ◌≤◌, List, ◌∷◌, ◌++◌, length, Option, Result, Ok, Err}
 use Rattle.std.specs.List.{All}
-use Rattle.std.specs.declared.vec.Vec.{Vec}
 use Rattle.cps_text.specs.declared.counted.Counted.{Counted}
 use Rattle.cps_text.specs.declared.limits.TheConstants.{MOST_LINES}
 use Rattle.cps_text.specs.Line.{longest_line, IsLine, HasBadCharacter}
@@ -47,8 +46,8 @@ pub record IsReadWhole {R : Type 0} (remaining : R → Option (List ℕ)) (old n
   pub read : IsAllRead remaining old new bytes
   pub text : HasText bytes lines
 
--- What reading the lines of a source answers. The input is read to its end, and then its lines decide.
-abbrev pub ReadsLines : {R Z : Type 0} → (R → Option (List ℕ)) → Result (Vec (List ℕ) Z) InputFault → Counted R → Counted R → Type 0
-ReadsLines remaining (Ok lines) old new = IsReadWhole remaining old new lines.items × IsSource lines.items
-ReadsLines remaining (Err faults.ReadFault) old new = IsCutShort remaining old new
-ReadsLines remaining (Err fault) old new = (lines : List (List ℕ)) × IsReadWhole remaining old new lines × Refuses fault lines
+-- What reading the lines of a source answers, where they are in what is made of them. The input is read to its end, and then its lines decide.
+abbrev pub ReadsLines : {R X : Type 0} → (X → List (List ℕ)) → (R → Option (List ℕ)) → Result X InputFault → Counted R → Counted R → Type 0
+ReadsLines lines_in remaining (Ok made) old new = IsReadWhole remaining old new (lines_in made) × IsSource (lines_in made)
+ReadsLines lines_in remaining (Err faults.ReadFault) old new = IsCutShort remaining old new
+ReadsLines lines_in remaining (Err fault) old new = (lines : List (List ℕ)) × IsReadWhole remaining old new lines × Refuses fault lines

@@ -9,8 +9,8 @@ use super::begun_line::{BegunLine, kept_text};
 use super::fault::InputFault;
 use super::intake::Intake;
 use super::line_end::newline_at;
+use super::line_text::LineText;
 use super::taker::Taker;
-use cps_text::Line;
 use std::alloc::Global;
 use std::mem::replace;
 
@@ -33,51 +33,51 @@ impl Input {
     }
 
     /// Takes what is left of a line, which ends here.
-    fn take_line(&mut self, alloc: Global, left: &[u8])
+    fn take_line(&mut self, left: &[u8])
         requires come { (taken : List ℕ) × HasCome self.old taken }
         requires one { has_no_newline left.now ≡ true }
         ensures { (taken : List ℕ) → HasCome self.old taken → HasCome self.new (taken ++ left.now ++ newline ∷ []) }
     {
         if self.begun.is_empty() {
-            self.take_whole_line(alloc, left);
+            self.take_whole_line(left);
         } else {
             self.begun.push_all(left);
-            self.end_line(alloc);
+            self.end_line();
         }
     }
 
     /// Takes a line where it stands, and copies it no more than it is kept.
-    fn take_whole_line(&mut self, alloc: Global, line: &[u8])
+    fn take_whole_line(&mut self, line: &[u8])
         requires come { (taken : List ℕ) × HasCome self.old taken }
         requires one { has_no_newline line.now ≡ true }
         requires none_begun { (begun : List ℕ) → IsBegun self.old.begun begun → begun ≡ [] }
         ensures { (taken : List ℕ) → HasCome self.old taken → HasCome self.new (taken ++ line.now ++ newline ∷ []) }
     {
         let intake = replace(&mut self.intake, Intake::Refused(0));
-        self.intake = intake.with_line(alloc, kept_text(line));
+        self.intake = intake.with_line(kept_text(line));
     }
 
-    fn end_line(&mut self, alloc: Global)
+    fn end_line(&mut self)
         requires { (taken : List ℕ) × HasCome self.old taken }
         ensures { (taken : List ℕ) → HasCome self.old taken → HasCome self.new (taken ++ newline ∷ []) }
     {
         let intake = replace(&mut self.intake, Intake::Refused(0));
-        self.intake = intake.with_line(alloc, self.begun.text());
+        self.intake = intake.with_line(self.begun.text());
         self.begun = BegunLine::new();
     }
 
     /// The lines, if a source may have them and there was memory, where no byte is to come. A last line without a
     /// newline counts if it has a byte.
-    pub fn finish(self, alloc: Global) -> Result<Vec<Line>, InputFault>
+    pub fn finish(self) -> Result<LineText, InputFault>
         requires { (taken : List ℕ) × HasCome self taken }
         ensures { (taken : List ℕ) → HasCome self taken → (source : List (List ℕ)) × HasText taken source
-            × MatchResult result (λ lines. (lines.items ≡ source) × IsSource source) (λ fault. Refuses fault source) }
+            × MatchResult result (λ lines. (lines ≡ source) × IsSource source) (λ fault. Refuses fault source) }
     {
         let Input { intake, begun } = self;
         if begun.is_empty() {
             return intake.into_lines();
         }
-        intake.with_line(alloc, begun.text()).into_lines()
+        intake.with_line(begun.text()).into_lines()
     }
 }
 
@@ -86,10 +86,10 @@ impl Taker for Input {
 
     ghost has_come = { λ input taken. HasCome input taken };
 
-    fn take_bytes(&mut self, alloc: Global, bytes: &[u8]) {
+    fn take_bytes(&mut self, bytes: &[u8]) {
         let mut rest = bytes;
         while let Some(at) = newline_at(rest) {
-            self.take_line(alloc, &rest[..at]);
+            self.take_line(&rest[..at]);
             rest = &rest[at + 1..];
         }
         self.begun.push_all(rest);

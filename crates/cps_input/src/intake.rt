@@ -5,6 +5,7 @@ ghost use Rattle.cps_input.specs.Sources.{IsSource, IsWrong, Refuses};
 ghost use Rattle.cps_input.specs.Input.{IsIntake};
 
 use super::fault::InputFault;
+use super::line_text::LineText;
 use cps_text::limits::{MOST_COMMAND_BYTES, MOST_LINES};
 use cps_text::{Line, LineFault};
 use std::alloc::Global;
@@ -13,7 +14,7 @@ use std::alloc::Global;
 #[derive(Drop)]
 pub enum Intake {
     /// Lines that a source may have.
-    Kept(Vec<Line>),
+    Kept(LineText),
     /// So many lines that a source may have, where there was no memory for them.
     Refused(u32),
     /// Lines of which the first that no source may have is wrong in this way.
@@ -25,25 +26,25 @@ impl Intake {
     pub fn new(alloc: Global) -> Intake
         ensures { IsIntake result [] }
     {
-        Intake::Kept(Vec::new(alloc))
+        Intake::Kept(LineText::new(alloc))
     }
 
     /// These lines and one more, None where it has more bytes than are kept of a line. It is checked also where there was no memory for them.
-    pub fn with_line(self, alloc: Global, text: Option<&[u8]>) -> Intake
+    pub fn with_line(self, text: Option<&[u8]>) -> Intake
         requires { (lines : List (List ℕ)) × IsIntake self lines }
         ensures { (lines : List (List ℕ)) (line : List ℕ) → IsIntake self lines → MatchOption text.entry (MOST_COMMAND_BYTES < length line) (λ text. text.now ≡ line)
             → IsIntake result (lines ++ line ∷ []) }
     {
         match self {
-            Intake::Kept(lines) => keep(alloc, lines, text),
+            Intake::Kept(lines) => keep(lines, text),
             Intake::Refused(count) => count_on(count, text),
             Intake::Faulty(fault) => Intake::Faulty(fault),
         }
     }
 
     /// The lines, if a source may have them and there was memory.
-    pub fn into_lines(self) -> Result<Vec<Line>, InputFault>
-        ensures { (source : List (List ℕ)) → IsIntake self source → MatchResult result (λ lines. (lines.items ≡ source) × IsSource source) (λ fault. Refuses fault source) }
+    pub fn into_lines(self) -> Result<LineText, InputFault>
+        ensures { (source : List (List ℕ)) → IsIntake self source → MatchResult result (λ lines. (lines ≡ source) × IsSource source) (λ fault. Refuses fault source) }
     {
         match self {
             Intake::Kept(lines) => Ok(lines),
@@ -54,9 +55,9 @@ impl Intake {
 }
 
 /// These lines and one more, None where more bytes came than are kept of a line. A line that there is no room for takes no memory.
-fn keep(alloc: Global, lines: Vec<Line>, text: Option<&[u8]>) -> Intake
-    requires { length lines.items ≤ MOST_LINES }
-    ensures { (line : List ℕ) → MatchOption text.entry (MOST_COMMAND_BYTES < length line) (λ text. text.now ≡ line) → IsSource lines.items → IsIntake result (lines.items ++ line ∷ []) }
+fn keep(lines: LineText, text: Option<&[u8]>) -> Intake
+    requires { length lines ≤ MOST_LINES }
+    ensures { (line : List ℕ) → MatchOption text.entry (MOST_COMMAND_BYTES < length line) (λ text. text.now ≡ line) → IsSource lines → IsIntake result (lines ++ line ∷ []) }
 {
     if lines.len() == MOST_LINES {
         return count_on(MOST_LINES as u32, text);
@@ -65,17 +66,15 @@ fn keep(alloc: Global, lines: Vec<Line>, text: Option<&[u8]>) -> Intake
     let Some(text) = text else {
         return Intake::Faulty(InputFault::LineTooLong(number));
     };
-    match Line::new(alloc, text) {
-        Ok(line) => push_line(lines, number, line),
-        Err(LineFault::LineTooLong) => Intake::Faulty(InputFault::LineTooLong(number)),
-        Err(LineFault::BadCharacter) => Intake::Faulty(InputFault::BadCharacter(number)),
-        Err(LineFault::Memory) => Intake::Refused(number),
+    match fault_of(number, text) {
+        Some(fault) => Intake::Faulty(fault),
+        None => push_line(lines, number, text),
     }
 }
 
 /// These lines and one more, or their number where there is no memory for it.
-fn push_line(lines: Vec<Line>, number: u32, line: Line) -> Intake
-    ensures { number ≡ length lines.items + 1 → IsSource (lines.items ++ line ∷ []) → IsIntake result (lines.items ++ line ∷ []) }
+fn push_line(lines: LineText, number: u32, line: &[u8]) -> Intake
+    ensures { number ≡ length lines + 1 → IsSource (lines ++ line.now ∷ []) → IsIntake result (lines ++ line.now ∷ []) }
 {
     let mut lines = lines;
     match lines.push(line) {

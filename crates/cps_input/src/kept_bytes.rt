@@ -51,7 +51,7 @@ impl Taker for KeptBytes {
 
     ghost has_come = { λ bytes taken. HasBytes bytes taken };
 
-    fn take_bytes(&mut self, _alloc: Global, bytes: &[u8]) {
+    fn take_bytes(&mut self, bytes: &[u8]) {
         let kept = replace(self, KeptBytes::Refused);
         *self = kept.with_bytes(bytes);
     }

@@ -6,6 +6,7 @@
 //! - `intake.rt`: lines as they come, checked and kept
 //! - `kept_bytes.rt`: bytes as they come, kept
 //! - `line_end.rt`: the ends of lines
+//! - `line_text.rt`: lines, one behind another in one text
 //! - `reading.rt`: the reading itself
 //! - `taker.rt`: what takes the bytes of an input
 #![tactic(auto)]
@@ -16,10 +17,12 @@ mod input;
 mod intake;
 mod kept_bytes;
 mod line_end;
+mod line_text;
 mod reading;
 mod taker;
 
 pub use begun_line::BegunLine;
 pub use fault::InputFault;
 pub use line_end::{newline_at, without_return};
-pub use reading::{read_bytes, read_lines};
+pub use line_text::LineText;
+pub use reading::{read_bytes, read_lines, read_text};

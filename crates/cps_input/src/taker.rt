@@ -1,7 +1,5 @@
 //! What takes the bytes of an input.
 
-use std::alloc::Global;
-
 /// What takes the bytes of an input as they come. It takes all of them, also where there is no memory to keep them.
 pub trait Taker {
     ghost use Rattle.std.specs.Prelude.{ℕ, List, ◌++◌};
@@ -10,7 +8,7 @@ pub trait Taker {
     ghost has_come: { Self → List ℕ → Type 0 };
 
     /// Takes the next bytes.
-    fn take_bytes(&mut self, alloc: Global, bytes: &[u8])
+    fn take_bytes(&mut self, bytes: &[u8])
         requires { (taken : List ℕ) × has_come self.old taken }
         ensures { (taken : List ℕ) → has_come self.old taken → has_come self.new (taken ++ bytes.now) };
 }

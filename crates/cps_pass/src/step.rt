@@ -53,12 +53,12 @@ pub fn step_unasked<L: Lookup>(
     alloc: Global,
     work: &mut Work,
     sheet: &mut Sheet,
-    line: &Line,
+    line: &[u8],
     state: &L,
 ) -> Result<Trace, AllocError>
     ensures trace { IfOk result (λ trace. trace ≡ unasked (expansion.trace_of line.now (L.answer state.now))) }
     ensures ones { work.new ≡ raised tally.Ones work.old }
 {
     work.raise(Tally::Ones);
-    trace_unasked(alloc, sheet, line.bytes(), state)
+    trace_unasked(alloc, sheet, line, state)
 }

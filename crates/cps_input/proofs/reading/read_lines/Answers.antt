@@ -1,8 +1,11 @@
-use Rattle.cps_input.proofs.InputLemmas.{lines-read}
+use Rattle.std.proofs.Common.{List, ℕ, Global, Vec}
+use Rattle.cps_input.proofs.InputLemmas.{fault-read, lines-parted}
 use Rattle.cps_input.proofs.reading.read_lines.Goals as goal
 
-pub returns-clause-read : goal.returns-clause-read
-returns-clause-read g c =
-    let read = c.in_ok-read_all.ensures.ok in
-    let lines = c.finish.ensures read.0 read.2 in
-    lines-read g.R.Read.remaining c.finish.result c.args.reader.now c.read_all.new.reader read.0 lines.0 read.1 lines.1 lines.2
+pub returns-in-Ok-clause-read : goal.returns-in-Ok-clause-read
+returns-in-Ok-clause-read g c =
+    lines-parted (λ lines. lines.items) g.R.Read.remaining c.lines_of.result c.args.reader.now c.read_text.new.reader c.in-Ok.text c.in-Ok.ensures.read c.lines_of.ensures
+
+pub returns-in-Err-clause-read : goal.returns-in-Err-clause-read
+returns-in-Err-clause-read g c =
+    fault-read (λ (lines : List (List ℕ)). lines) (λ (lines : Vec (List ℕ) Global). lines.items) g.R.Read.remaining c.in-Err.fault c.args.reader.now c.read_text.new.reader c.in-Err.ensures.read

@@ -1,4 +1,5 @@
-use Rattle.std.proofs.Common.{◌∙◌, take}
+use Rattle.std.proofs.Common.{◌<◌, ◌∙◌, length, take, arith}
+use Rattle.cps_input.proofs.LineTextLemmas.{line-at}
 use Rattle.cps_batch.proofs.PassLemmas.{passed-more, passed-all, number-taken}
 use Rattle.cps_batch.proofs.passes.PassOne.of.Goals as goal
 
@@ -6,12 +7,14 @@ pub loop-before-preserved : goal.loop-before-preserved
 loop-before-preserved c =
     let lines = c.args.lines.now in
     let i = c.loop-before.before in
-    let within = c.loop-before-test.true in
+    let within : i < length lines = omega (arith, c.len-before-end.ensures, c.loop-before-test.true) in
+    let line = c.line.result.now in
     record {
-      passed = passed-more c.take_line.new.self lines i c.index-lines-before.result within c.index-lines-before.is
+      passed = passed-more c.take_line.new.self lines i line within (line-at lines i line within c.line.ensures)
           (c.in_ok-take_line.ensures.passed (take i lines) c.loop-before.invariant.passed (number-taken lines i within));
       part = c.in_ok-take_line.ensures.part ∙ c.loop-before.invariant.part;
     }
 
 pub returns-clause-passed : goal.returns-clause-passed
-returns-clause-passed c = passed-all c.loop-before.one c.args.lines.now c.loop-before.before c.loop-before-test.false c.loop-before.invariant.passed
+returns-clause-passed c =
+    passed-all c.loop-before.one c.args.lines.now c.loop-before.before (omega (arith, c.len-before-end.ensures, c.loop-before-test.false)) c.loop-before.invariant.passed

@@ -17,6 +17,5 @@ returns-clause-shown c =
     let outcome = outcome_of (final_value finals) trace in
     let made = c.in_ok-replace.ensures ∙ ap (output_of (final_value finals)) are_items in
     let shown = added lines outcomes outcome so at (c.rows.ensures ∙ ap (λ (o : Output). o.rows) made) (c.pieces.ensures ∙ ap (λ (o : Output). o.pieces) made) in
-    shown-next finals c.add.new.self lines c.args.line.now trace more
-    (subst (λ line. IsPrintoutOf (lines ++ line ∷ []) (outcomes ++ outcome ∷ []) c.add.new.self) c.bytes.ensures.value shown))
+    shown-next finals c.add.new.self lines c.args.line.now trace more shown)
     c.add.ensures.printout

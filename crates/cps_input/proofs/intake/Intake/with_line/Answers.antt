@@ -6,7 +6,7 @@ use Rattle.cps_input.proofs.InputLemmas.{kept-few, refused-few, wrong-before}
 use Rattle.cps_input.proofs.intake.Intake.with_line.Goals as goal
 
 pub keep-requires : goal.keep-requires
-keep-requires c = kept-few c.in-Kept.lines.items c.requires.0 (subst (λ i. IsIntake i c.requires.0) c.in-Kept.is c.requires.1)
+keep-requires c = kept-few c.in-Kept.lines c.requires.0 (subst (λ i. IsIntake i c.requires.0) c.in-Kept.is c.requires.1)
 
 pub returns-in-Kept : goal.returns-in-Kept
 returns-in-Kept c = λ lines line is shown.

@@ -1,0 +1,13 @@
+use Rattle.std.proofs.Common.{◌≡◌, ◌+◌, ◌∷◌, [], ◌++◌, ap, subst, arith}
+use Rattle.cps_input.specs.Input.{IsIntake}
+use Rattle.cps_input.proofs.InputLemmas.{source-more}
+use Rattle.cps_input.proofs.intake.keep.Goals as goal
+
+pub returns-in-None : goal.returns-in-None
+returns-in-None c = λ line is source.
+    let text = c.in-Some.text.now in
+    let same : text ≡ line = rw c.in-Some.is at is in
+    let kept = c.in-None.ensures in
+    let number = ap (λ n. n + 1) c.len-2.ensures in
+    subst (λ l. IsIntake c.push_line.result (c.args.lines ++ l ∷ [])) same
+    (c.push_line.ensures number (source-more c.args.lines text source kept.0 (omega (arith, kept.1, c.len-2.ensures))))
