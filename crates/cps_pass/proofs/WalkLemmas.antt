@@ -1,5 +1,5 @@
 -- The statements of an expansion, one more.
-use Rattle.std.proofs.Common.{◌≡◌, Result, Ok, Err, map, take, append-nil, refl, sym, ap, ◌∙◌, ℕ, zero, suc, ◌+◌, ◌-◌, ◌<◌, ◌≤◌, List, [], ◌∷◌, ◌++◌, Option, Some, None, true, false, Bool, length, get_or, drop, arith}
+use Rattle.std.proofs.Common.{◌≡◌, Result, Ok, Err, map, append-nil, refl, sym, ap, ◌∙◌, ℕ, zero, suc, ◌+◌, ◌-◌, ◌<◌, ◌≤◌, List, [], ◌∷◌, ◌++◌, Option, Some, None, true, false, Bool, length, get_or, drop, arith}
 use Rattle.std.proofs.lemmas.List.{drop_more}
 use Rattle.std.specs.Prelude.{IfOk}
 use Rattle.cps_text.specs.Insertion.{Pairs, inserted}
