@@ -1,7 +1,6 @@
 use Rattle.std.proofs.Common.{refl, sym, ap, ◌∙◌}
 use Rattle.cps_final.specs.Finals.{finals_of}
 use Rattle.cps_gather.specs.contracts.gather.GatherGathered.TheImpl.{gathered-value}
-use Rattle.cps_pass.specs.Expansion.{trace_of}
 use Rattle.cps_assembly.specs.Assembly.{traces_of}
 use Rattle.cps_batch.proofs.PassLemmas.{step-next, finals-unasked}
 use Rattle.cps_batch.proofs.passes.step_next.Goals as goal

@@ -18,7 +18,7 @@ returns-clause-passed c = λ lines so at.
     let noted = c.in_ok-note_symbols.ensures
     ∙ ap (λ is_shown. old.mentions.items ++ shown is_shown (mentions_on c.args.number (names_defined c.in_ok-trace.trace) (names_read c.in_ok-trace.trace))) c.shows_symbols.ensures
     ∙ ap (λ (t : Trace). old.mentions.items ++ shown (shows_symbols old.part) (mentions_on c.args.number (names_defined t) (names_read t))) next.is in
-    let items = c.take_back.ensures ∙ ap (λ (t : Trace). t.items) next.is in
+    let items = c.take_back-items.ensures ∙ ap (λ (t : Trace). t.items) next.is in
     let statements = ap (λ (items : List Item). statements_of (traces_of lines) ++ items ∷ []) items ∙ kept-more lines line next.trace next.traces in
     record {
       gathered = next.gathered;
