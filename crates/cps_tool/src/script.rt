@@ -1,8 +1,8 @@
 //! Running a script.
-ghost use Rattle.std.specs.Prelude.{◌≡◌, ℕ, List, false, true, OnOk, OnErr, IfSome, IsErrOf, MatchOption, ◌≤◌, ◌+◌};
+ghost use Rattle.std.specs.Prelude.{◌≡◌, ℕ, List, [], false, true, OnOk, OnErr, IfSome, IsErrOf, MatchOption, ◌≤◌, ◌+◌};
 ghost use Rattle.cps_tool.specs.Command.{is_quit};
 ghost use Rattle.cps_text.specs.Counted.{inner_of, calls_of, failures_of, FailsOnce};
-ghost use Rattle.cps_state.specs.Work.{Counts};
+ghost use Rattle.cps_state.specs.Work.{Counts, no_work};
 ghost use Rattle.cps_input.specs.BegunLine.{IsBegun};
 ghost use Rattle.cps_input.specs.Lines.{without_return};
 ghost use Rattle.cps_tool.specs.EditReplies.{at, beginning};
@@ -47,27 +47,19 @@ pub fn run_script<R: Read, W: Write>(
         × IsWritten W.contents writer.old writer.new text)) }
     ensures reads { calls_of reader.new ≤ calls_of reader.old + MOST_READS }
 {
-    let mut line = BegunLine::new();
-    let mut work = Work::new();
+    let mut interpreter = Interpreter::new(alloc);
     let mut chunk = [0; CHUNK];
     for _ in 0..MOST_READS {
         let Some(count) = reader.read(&mut chunk) else {
             return Err(RunFault::ReadFault);
         };
         if count == 0 {
-            return match finish(alloc, &line, writer, session, &mut work) {
+            return match interpreter.finish(writer, session) {
                 Ok(()) => Ok(session.flagged()),
                 Err(fault) => Err(fault),
             };
         }
-        match take_bytes(
-            alloc,
-            &chunk[..count],
-            &mut line,
-            writer,
-            session,
-            &mut work,
-        ) {
+        match interpreter.take_bytes(&chunk[..count], writer, session) {
             Ok(Flow::GoesOn) => {}
             Ok(Flow::Ends) => return Ok(session.flagged()),
             Err(fault) => return Err(fault),
@@ -76,31 +68,78 @@ pub fn run_script<R: Read, W: Write>(
     Err(RunFault::ReadFault)
 }
 
-/// Answers the last line, where it has no newline.
-fn finish<W: Write>(
+/// What obeys a script: the command line that has begun, and what the last edit took.
+#[derive(Drop)]
+struct Interpreter {
     alloc: Global,
-    line: &BegunLine,
-    writer: &mut Counted<W>,
-    session: &mut Session,
-    work: &mut Work,
-) -> Result<(), RunFault>
-    ensures finishes { Finishes result line.now (at session.old.lines work.old) (at session.new.lines work.new)
-        (W.contents (inner_of writer.old)) (W.contents (inner_of writer.new)) }
-    ensures fault { IsErrOf result RunFault.ReadFault → ⊥ }
-    ensures failed { OnErr result (FailsOnce writer.old writer.new) }
-    ensures failures { OnOk result (failures_of writer.new ≡ failures_of writer.old) }
-{
-    if line.is_empty() {
-        return Ok(());
+    line: BegunLine,
+    work: Work,
+}
+
+impl Interpreter {
+    /// Of a script of which no byte has come.
+    fn new(alloc: Global) -> Interpreter
+        ensures line { IsBegun result.line [] }
+        ensures work { result.work ≡ no_work }
+    {
+        Interpreter {
+            alloc,
+            line: BegunLine::new(),
+            work: Work::new(),
+        }
     }
-    match answer_line(alloc, line, writer, session, work) {
-        Ok(_) => Ok(()),
-        Err(fault) => Err(fault),
+
+    /// Takes bytes, and answers each line that ends in them.
+    fn take_bytes<W: Write>(
+        &mut self,
+        bytes: &[u8],
+        writer: &mut Counted<W>,
+        session: &mut Session,
+    ) -> Result<Flow, RunFault>
+        ensures takes { Takes result self.old.line self.new.line (at session.old.lines self.old.work) (at session.new.lines self.new.work)
+            (W.contents (inner_of writer.old)) (W.contents (inner_of writer.new)) bytes.now }
+        ensures fault { IsErrOf result RunFault.ReadFault → ⊥ }
+        ensures failed { OnErr result (FailsOnce writer.old writer.new) }
+        ensures failures { OnOk result (failures_of writer.new ≡ failures_of writer.old) }
+    {
+        for byte in bytes {
+            if *byte != b'\n' {
+                self.line.push(*byte);
+                continue;
+            }
+            match answer_line(self.alloc, &self.line, writer, session, &mut self.work) {
+                Ok(Flow::GoesOn) => self.line = BegunLine::new(),
+                Ok(Flow::Ends) => return Ok(Flow::Ends),
+                Err(fault) => return Err(fault),
+            }
+        }
+        Ok(Flow::GoesOn)
+    }
+
+    /// Answers the last line, where it has no newline.
+    fn finish<W: Write>(
+        &mut self,
+        writer: &mut Counted<W>,
+        session: &mut Session,
+    ) -> Result<(), RunFault>
+        ensures finishes { Finishes result self.old.line (at session.old.lines self.old.work) (at session.new.lines self.new.work)
+            (W.contents (inner_of writer.old)) (W.contents (inner_of writer.new)) }
+        ensures fault { IsErrOf result RunFault.ReadFault → ⊥ }
+        ensures failed { OnErr result (FailsOnce writer.old writer.new) }
+        ensures failures { OnOk result (failures_of writer.new ≡ failures_of writer.old) }
+    {
+        if self.line.is_empty() {
+            return Ok(());
+        }
+        match answer_line(self.alloc, &self.line, writer, session, &mut self.work) {
+            Ok(_) => Ok(()),
+            Err(fault) => Err(fault),
+        }
     }
 }
 
 /// Obeys a command line that has come, and writes the reply.
-pub fn answer_line<W: Write>(
+fn answer_line<W: Write>(
     alloc: Global,
     line: &BegunLine,
     writer: &mut Counted<W>,
@@ -117,35 +156,6 @@ pub fn answer_line<W: Write>(
         return Ok(Flow::Ends);
     };
     write_reply(writer, &reply)?;
-    Ok(Flow::GoesOn)
-}
-
-/// Takes bytes of a script, and answers each line that ends in them.
-fn take_bytes<W: Write>(
-    alloc: Global,
-    bytes: &[u8],
-    line: &mut BegunLine,
-    writer: &mut Counted<W>,
-    session: &mut Session,
-    work: &mut Work,
-) -> Result<Flow, RunFault>
-    ensures takes { Takes result line.old line.new (at session.old.lines work.old) (at session.new.lines work.new)
-        (W.contents (inner_of writer.old)) (W.contents (inner_of writer.new)) bytes.now }
-    ensures fault { IsErrOf result RunFault.ReadFault → ⊥ }
-    ensures failed { OnErr result (FailsOnce writer.old writer.new) }
-    ensures failures { OnOk result (failures_of writer.new ≡ failures_of writer.old) }
-{
-    for byte in bytes {
-        if *byte != b'\n' {
-            line.push(*byte);
-            continue;
-        }
-        match answer_line(alloc, line, writer, session, work) {
-            Ok(Flow::GoesOn) => *line = BegunLine::new(),
-            Ok(Flow::Ends) => return Ok(Flow::Ends),
-            Err(fault) => return Err(fault),
-        }
-    }
     Ok(Flow::GoesOn)
 }
 
