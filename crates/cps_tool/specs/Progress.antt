@@ -39,6 +39,11 @@ Answers result line old new before after = MatchResult result
     (λ flow. MatchFlow flow (IsReplied line old new before after) (IsLast line old new before after))
     (λ _. IsPartlyReplied line old new before after)
 
+-- the same of a line as it was collected
+abbrev pub AnswersBegun : Result Flow RunFault → BegunLine → Standing → Standing → Option (List ℕ) → Option (List ℕ) → Type 0
+AnswersBegun result line old new before after =
+    (begun : List ℕ) → IsBegun line begun → Answers result (without_return begun) old new before after
+
 -- From where a script began, the lines that end in the bytes taken were answered by a text. A last line has begun.
 pub record Progress (start : Standing) (taken : List ℕ) (line : BegunLine) (text : List ℕ) (now : Standing) : Type 0 where
   pub lines : List (List ℕ)

@@ -6,7 +6,7 @@ ghost use Rattle.cps_state.specs.Work.{Counts, no_work};
 ghost use Rattle.cps_input.specs.BegunLine.{IsBegun};
 ghost use Rattle.cps_input.specs.Lines.{without_return};
 ghost use Rattle.cps_tool.specs.EditReplies.{at, beginning};
-ghost use Rattle.cps_tool.specs.Progress.{Answers, Takes, Finishes};
+ghost use Rattle.cps_tool.specs.Progress.{AnswersBegun, Takes, Finishes};
 ghost use Rattle.cps_tool.specs.Reply.{meaning_of};
 ghost use Rattle.cps_tool.specs.Script.{Script, RunsScript, IsAnswered};
 ghost use Rattle.cps_tool.specs.Written.{IsWritten};
@@ -146,7 +146,7 @@ fn answer_line<W: Write>(
     session: &mut Session,
     work: &mut Work,
 ) -> Result<Flow, RunFault>
-    ensures answer { (begun : List ℕ) → IsBegun line.now begun → Answers result (without_return begun) (at session.old.lines work.old) (at session.new.lines work.new)
+    ensures answer { AnswersBegun result line.now (at session.old.lines work.old) (at session.new.lines work.new)
         (W.contents (inner_of writer.old)) (W.contents (inner_of writer.new)) }
     ensures fault { IsErrOf result RunFault.ReadFault → ⊥ }
     ensures failed { OnErr result (FailsOnce writer.old writer.new) }

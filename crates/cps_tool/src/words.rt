@@ -104,7 +104,8 @@ fn serve<'a, S: Sources, R: Read, W: Write, E: Write>(
     writer: &mut Counted<W>,
     errors: &mut Counted<E>,
 ) -> u8
-    ensures serves { DoesWith (S.holds host.now.files) S.Opened.remaining R.remaining W.contents call.entry result reader.old reader.new writer.old writer.new }
+    ensures serves { DoesWith (S.holds host.now.files) S.Opened.remaining R.remaining W.contents call.entry result
+        reader.old reader.new writer.old writer.new }
     ensures quiet { IsQuiet result errors.old errors.new }
 {
     match (call.request, call.file) {
@@ -130,7 +131,8 @@ fn serve_one<'a, S: Sources, R: Read, W: Write, E: Write>(
     writer: &mut Counted<W>,
     errors: &mut Counted<E>,
 ) -> u8
-    ensures serves { DoesOne (S.holds host.now.files) S.Opened.remaining R.remaining W.contents call.entry result reader.old reader.new writer.old writer.new }
+    ensures serves { DoesOne (S.holds host.now.files) S.Opened.remaining R.remaining W.contents call.entry result
+        reader.old reader.new writer.old writer.new }
     ensures quiet { IsQuiet result errors.old errors.new }
 {
     let Some(name) = call.file else {

@@ -1,5 +1,6 @@
 //! What a server says, however its input comes, and where a read or a write fails.
 use super::assertions::{assert_row, assert_same};
+use crate::assertions::assert_taken;
 use cps_devices::{FailsAt, SlowReader, SlowWriter};
 use cps_frame::push_frame;
 use cps_serving::{ServerFault, Service, serve};
@@ -157,10 +158,7 @@ fn assert_failed_write(rt: &impl Abort, alloc: Global, front: &[u8]) {
     });
     let end = run(alloc, &mut reader, &mut writer);
     assert_same(rt, room, &end, &Err(ServerFault::WriteFault));
-    assert_same(rt, room, &writer.failures(), &1);
-    let taken = writer.into_inner().taken;
-    assert_same(rt, room, &taken.as_slice(), &front);
-    drop(taken);
+    assert_taken(rt, writer, front);
 }
 
 /// At each write in turn: a front of what is said stands, and the failed device is not tried again.
