@@ -16,15 +16,6 @@ pub six-pieces : (t a b c d e f r1 r2 r3 r4 r5 r6 : List ℕ) → r1 ≡ t ++ a 
 six-pieces t a b c d e f r1 r2 r3 r4 r5 r6 e1 e2 e3 e4 e5 e6 =
     e6 ∙ ap (λ (l : List ℕ). l ++ f) (five-pieces t a b c d e r1 r2 r3 r4 r5 e1 e2 e3 e4 e5) ∙ append_assoc t (a ++ b ++ c ++ d ++ e) f
 
--- how many digits there are
-pub octal-length : (digits number : ℕ) → length (octal digits number) ≡ digits
-unfolding octal
-octal-length zero number = refl
-octal-length (suc digits) number =
-    let shorter = octal-length digits (number / 8) in
-    let whole = length-append (octal digits (number / 8)) ((48 + number % 8) ∷ []) in
-    omega (arith, shorter, whole)
-
 -- a chosen value, or another
 pub unwrap-below : (o : Option ℕ) (d n : ℕ) → ForSome o (λ x. x < n) → d < n → unwrap_or o d < n
 unwrap-below None d n chosen other = other

@@ -1,6 +1,6 @@
 -- Blanks at the end of a line.
-use Rattle.std.proofs.Common.{◌≡◌, ℕ, ◌+◌, ◌<◌, Bool, true, false, ◌&&◌, cond, refl, sym, ap, ◌∙◌, List, [], ◌∷◌, ◌++◌, length, get_or, take, drop}
-use Rattle.std.proofs.lemmas.List.{take_more}
+use Rattle.std.proofs.Common.{◌≡◌, ℕ, ◌+◌, ◌<◌, Bool, true, false, ◌&&◌, cond, refl, sym, ap, ◌∙◌, zero, suc, replicate, append_assoc, List, [], ◌∷◌, ◌++◌, length, get_or, take, drop}
+use Rattle.std.proofs.lemmas.List.{append-nil, take_more}
 use Rattle.std.proofs.Math.Seq.{drop-append_seam, take-append-add}
 use Rattle.std.specs.List.{list_all}
 use Rattle.cps_text.specs.Text.{is_blank}
@@ -32,6 +32,12 @@ trimmed-filled [] c is = ap (λ b. cond {A = List ℕ} (b && true) [] (c ∷ [])
 trimmed-filled (x ∷ front) c is =
     let all = all-more (x ∷ front) c ∙ ap (λ b. list_all is_blank (x ∷ front) && b) is ∙ and_false (list_all is_blank (x ∷ front)) in
     ap (λ b. cond {A = List ℕ} b [] (x ∷ trimmed (front ++ c ∷ []))) all ∙ ap (λ t. x ∷ t) (trimmed-filled front c is)
+
+-- blanks behind a text
+pub trimmed-blanks : (count : ℕ) (text : List ℕ) → trimmed (text ++ replicate count 32) ≡ trimmed text
+trimmed-blanks zero text = ap trimmed (append-nil text)
+trimmed-blanks (suc count) text =
+    ap trimmed (sym (append_assoc text (32 ∷ []) (replicate count 32))) ∙ trimmed-blanks count (text ++ 32 ∷ []) ∙ trimmed-blank text 32 refl
 
 -- a blank at the end of a front
 pub trimmed-cut : (text : List ℕ) (last d : ℕ) → last < length text → is_blank (get_or text last d) ≡ true → trimmed (take (last + 1) text) ≡ trimmed (take last text)

@@ -5,6 +5,24 @@ ghost use Rattle.cps_listing.specs.Columns as laid;
 use itoa::Buffer;
 use std::alloc::AllocError;
 
+/// The columns before the address.
+pub const BEFORE_ADDRESS: usize = 9;
+
+/// The octal digits of an address.
+pub const ADDRESS_DIGITS: u8 = 6;
+
+/// The columns before the code.
+pub const BEFORE_CODE: usize = 16;
+
+/// The columns before a line's number.
+pub const BEFORE_NUMBER: usize = 37;
+
+/// The columns of a line's number.
+pub const NUMBER_COLUMNS: usize = 6;
+
+/// The columns before the line.
+pub const BEFORE_LINE: usize = 44;
+
 /// Fills the columns that a row takes from a length of a text on.
 pub fn fill_columns(text: &mut Vec<u8>, before: usize, columns: usize) -> Result<(), AllocError>
     requires within { before ≤ length text.old.items }

@@ -2,10 +2,12 @@
 //! open; and the columns of rows.
 //!
 //! - `columns.rt`: rows, laid out in columns
+//! - `front.rt`: what stands before the line, written over blanks
 //! - `listing.rt`: the rows of the listing
 #![tactic(auto)]
 
 mod columns;
+mod front;
 mod listing;
 
 pub use columns::{fill_columns, push_decimal};

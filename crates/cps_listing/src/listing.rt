@@ -1,31 +1,24 @@
 //! The listing.
-ghost use Rattle.std.specs.Prelude.{◌≡◌, ◌++◌, ◌+◌, ◌≤◌, ◌<◌, ℕ, List, OnOk, length, take};
+ghost use Rattle.std.specs.Prelude.{◌≡◌, ◌++◌, ◌+◌, ◌≤◌, ◌<◌, ℕ, List, IsTrue, OnOk, length, take};
 ghost use Rattle.cps_listing.specs.Columns.{with_columns, with_column, at_right, laid_out};
+ghost use Rattle.cps_listing.specs.Front.{HasFront, HasRow, IsNarrow, front_columns};
 ghost use Rattle.cps_listing.specs.Listing as texts;
 
-use crate::columns::{fill_columns, last_of, push_at_right};
+use crate::columns::{
+    ADDRESS_DIGITS, BEFORE_ADDRESS, BEFORE_CODE, BEFORE_LINE, BEFORE_NUMBER, NUMBER_COLUMNS,
+    fill_columns, last_of, push_at_right,
+};
+use crate::front::write_front;
 use cps_final::{Digits, Row};
 use cps_text::push_octal;
 use itoa::Buffer;
 use std::alloc::AllocError;
 
-/// The columns before the address, the code, the line's number and the line.
-const BEFORE_ADDRESS: usize = 9;
-
-const BEFORE_CODE: usize = 16;
-
-const BEFORE_NUMBER: usize = 37;
-
-const BEFORE_LINE: usize = 44;
-
-/// The columns of a line's number.
-const NUMBER_COLUMNS: usize = 6;
-
 /// The most columns that a statement's text takes.
 const TEXT_COLUMNS: usize = 90;
 
-/// The octal digits of an address.
-const ADDRESS_DIGITS: u8 = 6;
+/// The columns of a code.
+const CODE_COLUMNS: u8 = 20;
 
 /// The rows of a line.
 pub fn push_rows(
@@ -46,15 +39,68 @@ fn push_row(text: &mut Vec<u8>, number: u32, line: &[u8], row: &Row) -> Result<(
     ensures { OnOk result (text.new.items ≡ text.old.items ++ texts.listing_row number line.now row.now) }
 {
     let before = text.len();
-    row.flags.push_letters(text)?;
-    push_address(text, before, row.location)?;
-    let code = row.code.digits();
-    let second = row.second.digits();
-    push_code(text, before, code, second)?;
-    push_statement(text, before, number, line, row)?;
+    push_columns(text, number, line, row)?;
     cut_blanks(text, before);
     text.push(b'\n')?;
     Ok(())
+}
+
+/// The columns of a row, perhaps with blanks at their end.
+fn push_columns(text: &mut Vec<u8>, number: u32, line: &[u8], row: &Row) -> Result<(), AllocError>
+    ensures { OnOk result (HasRow text.old.items text.new.items (texts.row_columns number line.now row.now)) }
+{
+    if is_narrow(row) {
+        push_narrow(text, number, line, row)
+    } else {
+        push_wide(text, number, line, row)
+    }
+}
+
+/// Whether a row has no second word, and no more digits of a code than columns for them.
+fn is_narrow(row: &Row) -> bool
+    ensures { IsTrue result → IsNarrow row.now }
+{
+    match (row.second.digits(), row.code.digits()) {
+        (None, None) => true,
+        (None, Some(code)) => code.count <= CODE_COLUMNS,
+        (Some(_), _) => false,
+    }
+}
+
+/// The columns of a narrow row.
+fn push_narrow(text: &mut Vec<u8>, number: u32, line: &[u8], row: &Row) -> Result<(), AllocError>
+    requires { IsNarrow row.now }
+    ensures { OnOk result (HasRow text.old.items text.new.items (texts.row_columns number line.now row.now)) }
+{
+    push_front(text, number, row)?;
+    if row.is_later {
+        return Ok(());
+    }
+    text.extend_from_slice(text_shown(row, line))?;
+    Ok(())
+}
+
+/// The columns before the line: the flags, and blanks over which the others are written.
+fn push_front(text: &mut Vec<u8>, number: u32, row: &Row) -> Result<(), AllocError>
+    requires { IsNarrow row.now }
+    ensures { OnOk result (HasFront text.old.items text.new.items (front_columns number row.now)) }
+{
+    let before = text.len();
+    row.flags.push_letters(text)?;
+    fill_columns(text, before, BEFORE_LINE)?;
+    write_front(&mut text[before..], number, row);
+    Ok(())
+}
+
+/// The columns of any row, one after another.
+fn push_wide(text: &mut Vec<u8>, number: u32, line: &[u8], row: &Row) -> Result<(), AllocError>
+    ensures { OnOk result (HasRow text.old.items text.new.items (texts.row_columns number line.now row.now)) }
+{
+    let before = text.len();
+    row.flags.push_letters(text)?;
+    push_address(text, before, row.location)?;
+    push_code(text, before, row.code.digits(), row.second.digits())?;
+    push_statement(text, before, number, line, row)
 }
 
 /// The address, from its column on.

@@ -50,7 +50,7 @@ pub use data_item::{CP_CHARACTERS, PP_CHARACTERS, Side, TextItem};
 pub use insertion::{PairList, Substitution, insert_by, insert_text};
 pub use line::{Line, LineFault};
 pub use name::Name;
-pub use octal::push_octal;
+pub use octal::{push_octal, write_octal};
 pub use operand_list::Operands;
 pub use run::run_end;
 pub use statement::Statement;

@@ -16,8 +16,9 @@ pub fn push_octal(text: &mut Vec<u8>, number: u64, digits: u8) -> Result<(), All
     Ok(())
 }
 
-/// Writes the low octal digits of a number over a text.
-fn write_octal(text: &mut [u8], number: u64)
+/// Writes the low octal digits of a number over a text, as many as it has characters.
+#[inline(always)]
+pub fn write_octal(text: &mut [u8], number: u64)
     ensures { text.new ≡ octal (length text.old) number }
 {
     let mut rest = number;
