@@ -1,6 +1,6 @@
 pub mod BegunLemmas
 pub mod InputLemmas
-pub mod LineTextLemmas
+pub mod PartLemmas
 pub mod NewlineLemmas
 pub mod ReadLemmas
 pub mod SplitLemmas

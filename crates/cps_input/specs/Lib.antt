@@ -1,4 +1,4 @@
-pub mod LineText
+pub mod Parts
 pub mod Lines
 pub mod Reads
 pub mod BegunLine

@@ -1,8 +1,8 @@
 //! The lines of a source, as they come.
-ghost use Rattle.std.specs.Prelude.{◌≡◌, ℕ, List, [], ◌∷◌, ◌++◌, ◌+◌, ◌<◌, ◌≤◌, length, MatchOption, MatchResult};
+ghost use Rattle.std.specs.Prelude.{◌≡◌, ℕ, List, [], ◌∷◌, ◌++◌, ◌+◌, ◌≤◌, length, MatchOption, MatchResult};
 ghost use Rattle.cps_text.specs.Line.{IsLine};
 ghost use Rattle.cps_input.specs.Sources.{IsSource, IsWrong, Refuses};
-ghost use Rattle.cps_input.specs.Input.{IsIntake};
+ghost use Rattle.cps_input.specs.Input.{IsGiven, IsIntake};
 
 use super::fault::InputFault;
 use super::line_text::LineText;
@@ -32,7 +32,7 @@ impl Intake {
     /// These lines and one more, None where it has more bytes than are kept of a line. It is checked also where there was no memory for them.
     pub fn with_line(self, text: Option<&[u8]>) -> Intake
         requires { (lines : List (List ℕ)) × IsIntake self lines }
-        ensures { (lines : List (List ℕ)) (line : List ℕ) → IsIntake self lines → MatchOption text.entry (MOST_COMMAND_BYTES < length line) (λ text. text.now ≡ line)
+        ensures { (lines : List (List ℕ)) (line : List ℕ) → IsIntake self lines → IsGiven text.entry line
             → IsIntake result (lines ++ line ∷ []) }
     {
         match self {
@@ -57,7 +57,7 @@ impl Intake {
 /// These lines and one more, None where more bytes came than are kept of a line. A line that there is no room for takes no memory.
 fn keep(lines: LineText, text: Option<&[u8]>) -> Intake
     requires { length lines ≤ MOST_LINES }
-    ensures { (line : List ℕ) → MatchOption text.entry (MOST_COMMAND_BYTES < length line) (λ text. text.now ≡ line) → IsSource lines → IsIntake result (lines ++ line ∷ []) }
+    ensures { (line : List ℕ) → IsGiven text.entry line → IsSource lines → IsIntake result (lines ++ line ∷ []) }
 {
     if lines.len() == MOST_LINES {
         return count_on(MOST_LINES as u32, text);
@@ -86,7 +86,7 @@ fn push_line(lines: LineText, number: u32, line: &[u8]) -> Intake
 /// One line more than so many, None where more bytes came than are kept of a line.
 fn count_on(count: u32, text: Option<&[u8]>) -> Intake
     requires { count ≤ MOST_LINES }
-    ensures { (lines : List (List ℕ)) (line : List ℕ) → MatchOption text.entry (MOST_COMMAND_BYTES < length line) (λ text. text.now ≡ line) → count ≡ length lines → IsSource lines → IsIntake result (lines ++ line ∷ []) }
+    ensures { (lines : List (List ℕ)) (line : List ℕ) → IsGiven text.entry line → count ≡ length lines → IsSource lines → IsIntake result (lines ++ line ∷ []) }
 {
     let number = count + 1;
     let Some(text) = text else {

@@ -7,6 +7,7 @@
 //! - `kept_bytes.rt`: bytes as they come, kept
 //! - `line_end.rt`: the ends of lines
 //! - `line_text.rt`: lines, one behind another in one text
+//! - `parts.rt`: parts, one behind another in one list
 //! - `reading.rt`: the reading itself
 //! - `taker.rt`: what takes the bytes of an input
 #![tactic(auto)]
@@ -18,6 +19,7 @@ mod intake;
 mod kept_bytes;
 mod line_end;
 mod line_text;
+mod parts;
 mod reading;
 mod taker;
 
@@ -25,4 +27,5 @@ pub use begun_line::BegunLine;
 pub use fault::InputFault;
 pub use line_end::{newline_at, without_return};
 pub use line_text::LineText;
+pub use parts::part_at;
 pub use reading::{read_bytes, read_lines, read_text};

@@ -1,7 +1,7 @@
 //! The lines of a source, one behind another in one text.
 ghost use Rattle.std.specs.Prelude.{◌≡◌, ◌<◌, [], ◌∷◌, ◌++◌, Some, length, slice_get, IfOk, OnOk};
 
-use cps_text::{Line, LineFault};
+use crate::parts::part_at;
 use std::alloc::{AllocError, Global};
 use std::marker::Model;
 
@@ -15,11 +15,11 @@ pub struct LineText {
 
 impl Model for LineText {
     ghost use Rattle.std.specs.Prelude.{ℕ, List, length};
-    ghost use Rattle.cps_input.specs.LineText.{lines_at, RisesTo};
+    ghost use Rattle.cps_input.specs.Parts.{parts_at, RisesTo};
 
     ghost Value = { List (List ℕ) };
 
-    ghost view = { λ lines. lines_at 0 lines.ends.items lines.text.items };
+    ghost view = { λ lines. parts_at 0 lines.ends.items lines.text.items };
 
     ghost invariant = { λ lines. RisesTo 0 lines.ends.items (length lines.text.items) };
 }
@@ -57,13 +57,6 @@ impl LineText {
         requires { before < length self.now }
         ensures { slice_get self.now before ≡ Some result.now }
     {
-        if before == 0 {
-            let (line, _) = self.text.split_at(self.ends[0]);
-            return line;
-        }
-        let begin = self.ends[before - 1];
-        let (_, rest) = self.text.split_at(begin);
-        let (line, _) = rest.split_at(self.ends[before] - begin);
-        line
+        part_at(&self.text, &self.ends, before)
     }
 }
