@@ -65,7 +65,7 @@ module _ {first next : SecondPass} {start : ℕ} {cs ds : List Chunk} {i at : �
   stops-at = next-place first start cs ds h.lengths i at c h.there h.is h.place
 
   pub here-exact : IsExactPass next
-  here-exact = exact-still first h.exact next h.over.ends h.over.differences
+  here-exact = exact-still first h.exact next h.over.base h.over.ends h.over.differences
 
   pub here-end : m ≤ length next.base.traces.now
   here-end = omega (arith, stops-within, h.end, ap (λ (b : Baseline). length b.traces.now) h.over.base)

@@ -1,11 +1,11 @@
 -- Labels that have other final values, and what has the same.
 use Rattle.std.proofs.Common.{◌≡◌, ℕ, ◌+◌, ◌≤◌, refl, sym, ap, ◌∙◌, Bool, true, false, not, ◌||◌, List, [], ◌∷◌, ◌++◌, take, Option, None, Some}
-use Rattle.std.specs.Prelude.{All, is_some, unwrap_or, option_and_then}
+use Rattle.std.specs.Prelude.{All, flat_map, is_some, unwrap_or, option_and_then}
 use Rattle.std.specs.List.{list_all, list_any, slice_get}
-use Rattle.std.proofs.lemmas.Bool.{and_from, or_from, or_parts}
+use Rattle.std.proofs.lemmas.Bool.{and_from, and_parts, or_from, or_parts}
 use Rattle.std.proofs.lemmas.List.{take_all}
 use Rattle.std.proofs.lemmas.List.Elements.{All-head, All-tail}
-use Rattle.std.proofs.lemmas.List.Folds.{list_any-append, list_any_more}
+use Rattle.std.proofs.lemmas.List.Folds.{list_all-append, list_any-append, list_any_more}
 use Rattle.std.proofs.lemmas.Option.{slice_get_within, get_or_from_slice_get}
 use Rattle.cps_text.specs.declared.name.Name.{Name}
 use Rattle.cps_expr.specs.Value.{same_name}
@@ -16,6 +16,8 @@ use Rattle.cps_state.specs.declared.key.Key.TheVariants as key
 use Rattle.cps_state.specs.declared.key.Answer.{Answer}
 use Rattle.cps_state.specs.Course.{Trace}
 use Rattle.cps_state.specs.Keys.{value_of}
+use Rattle.cps_state.specs.Made.{content_literals, content_names}
+use Rattle.cps_state.specs.declared.item.Item.{Item}
 use Rattle.cps_state.proofs.KnownLemmas.{same_key_is, same_key-true}
 use Rattle.cps_changes.specs.Changes.{changed}
 use Rattle.cps_changes.specs.Kept.{changes_in, count_of, keys_in}
@@ -26,7 +28,12 @@ use Rattle.cps_gather.specs.Storage.{stored, PlacesStand}
 use Rattle.cps_gather.specs.declared.storage.Storage.{Storage}
 use Rattle.cps_gather.specs.contracts.finals.FinalsGathered.TheImpl.{gathered-value}
 use Rattle.cps_final.specs.Finals.{Named, label, setting, block, literal}
+use Rattle.cps_final.specs.Names.{names_later, names_read}
+use Rattle.cps_final.specs.Outcome.{blocks_named, labels_read}
 use Rattle.cps_naming.specs.Names.{Names, names_in, all_pass}
+use Rattle.cps_naming.specs.Naming.{all_named}
+use Rattle.cps_naming.proofs.NamesLemmas.{names-law}
+use Rattle.cps_naming.proofs.NamingLemmas.{flat-all}
 use Rattle.cps_naming.proofs.DecideLemmas.{option-decides, name-decides}
 use Rattle.cps_holding.specs.Agreeing.{same_value, same_at}
 use Rattle.cps_holding.proofs.AnswerLemmas.{value-decides}
@@ -37,6 +44,9 @@ use Rattle.cps_replay.specs.Ends.{was_of, now_of}
 use Rattle.cps_holding.specs.declared.ends.Ends.{Ends}
 use Rattle.cps_replay.proofs.KeysLemmas.{all-keys}
 use Rattle.cps_editing.specs.Differences.{passes_by, PlacesStandIn, IsListed}
+use Rattle.cps_editing.specs.NamesRead.{has_all, has_name, HasReadBy}
+use Rattle.cps_editing.specs.declared.names_read.NamesRead.{NamesRead}
+use Rattle.cps_editing.proofs.NamesReadLemmas.{all-filter, all-once, weaker}
 
 -- a label is among some
 abbrev pub is-among : List Name → Name → Bool
@@ -56,30 +66,35 @@ or-right : (b : Bool) → (b || true) ≡ true
 or-right true = refl
 or-right false = refl
 
+-- a test whose opposite is true
+pub none-true : (b : Bool) → not b ≡ true → b ≡ false
+none-true true is = cc
+none-true false is = refl
+
 -- ---- what lines name
+
+-- a label that passes a test is none of those that don't
+apart : (p : Name → Bool) (labels : List Name) → list_any p labels ≡ false → (name : Name) → p name ≡ true → is-among labels name ≡ false
+apart p [] none name here = refl
+apart p (other ∷ labels) none name here =
+    let parts = or_parts (p other) (list_any p labels) none in
+    or_from (same_name other name) (is-among labels name) (at parts.0 (same_name other name) refl) (apart p labels parts.1 name here)
+  where
+    at : p other ≡ false → (same : Bool) → same_name other name ≡ same → same ≡ false
+    at gone false is = refl
+    at gone true is =
+        let wrong : true ≡ false = sym here ∙ sym (ap p ((name-decides other name).0 is)) ∙ gone in
+        cc
 
 module _ (hashing : Hashing) (m : Marks) where
   abbrev pub label-has : Name → Bool
   label-has name = has m (mark_of hashing (key.Label name))
 
-  -- a label with its mark is none of those without
-  apart : (labels : List Name) → list_any label-has labels ≡ false → (name : Name) → label-has name ≡ true → is-among labels name ≡ false
-  apart [] none name here = refl
-  apart (other ∷ labels) none name here =
-      let parts = or_parts (label-has other) (list_any label-has labels) none in
-      or_from (same_name other name) (is-among labels name) (at parts.0 (same_name other name) refl) (apart labels parts.1 name here)
-    where
-      at : label-has other ≡ false → (same : Bool) → same_name other name ≡ same → same ≡ false
-      at gone false is = refl
-      at gone true is =
-          let wrong : true ≡ false = sym here ∙ sym (ap label-has ((name-decides other name).0 is)) ∙ gone in
-          cc
-
   pub none-among : (labels : List Name) → list_any label-has labels ≡ false → (ts : List Trace) → AreMarked hashing m (keys_named ts)
       → list_all (λ name. not (is-among labels name)) (names_in ts).labels ≡ true
   none-among labels none ts marked =
       each-passes (λ name. not (is-among labels name)) (names_in ts).labels
-      (each-named hashing m (λ name. not (is-among labels name) ≡ true) (λ name here. ap not (apart labels none name here)) ts marked)
+      (each-named hashing m (λ name. not (is-among labels name) ≡ true) (λ name here. ap not (apart label-has labels none name here)) ts marked)
 
 module _ (ends : Ends) where
   -- all passes but the labels that are listed
@@ -88,9 +103,31 @@ module _ (ends : Ends) where
       and_from (list_all (λ name. not (is-among labels name)) names.labels) _ others
       (and_from (list_all (λ (name : Option Name). true) names.blocks) _ (all-true names.blocks) (all-true names.literals))
 
-  pub none-listed : (labels : List Name) → labels ≡ [] → (names : Names) → all_pass (passes_by ends (Some labels)) names ≡ true
-  none-listed labels none names =
-      labels-pass labels names (ap (λ (held : List Name). list_all (λ name. not (is-among held name)) names.labels) none ∙ all-true names.labels)
+  -- where none is read, all that lines name passes
+  module _ (set : NamesRead) (labels : List Name) (none : list_any (has_name set) labels ≡ false) where
+    abbrev test : Named → Bool
+    test named = passes_by ends (Some labels) named
+
+    item-known : (item : Item) → has_all set (flat_map content_names item.made.contents) ≡ true → all_named test item ≡ true
+    item-known item all =
+        let names : List Name = flat_map content_names item.made.contents in
+        let others : Name → Bool = λ name. not (is-among labels name) in
+        let pass = weaker (has_name set) others (λ name here. ap not (apart (has_name set) labels none name here)) names all in
+        and_from (list_all others (labels_read item.made)) _ (all-filter others (λ name. not (list_any (λ held. same_name held.name name) item.made.held)) names pass)
+        (and_from (list_all (λ (name : Option Name). true) (blocks_named item)) _ (all-true (blocks_named item)) (all-true (flat_map content_literals item.made.contents)))
+
+    trace-known : (trace : Trace) → has_all set (names_read trace) ≡ true → list_all (all_named test) trace.items ≡ true
+    trace-known trace all =
+        let has : Name → Bool = has_name set in
+        let each = all-once has same_name (λ a b. (name-decides a b).0) (trace.reads ++ names_later trace.items) all in
+        let later = (and_parts (list_all has trace.reads) (list_all has (names_later trace.items)) (sym (list_all-append has trace.reads (names_later trace.items)) ∙ each)).1 in
+        weaker (λ (item : Item). has_all set (flat_map content_names item.made.contents)) (all_named test) item-known trace.items
+        (flat-all has (λ (item : Item). flat_map content_names item.made.contents) trace.items ∙ later)
+
+    pub known : (ts : List Trace) → HasReadBy set ts → all_pass test (names_in ts) ≡ true
+    known ts all =
+        names-law test ts ∙ sym (flat-all (all_named test) (λ (t : Trace). t.items) ts)
+        ∙ weaker (λ (t : Trace). has_all set (names_read t)) (λ (t : Trace). list_all (all_named test) t.items) trace-known ts all
 
   -- ---- the test says whether something has the same final value
 

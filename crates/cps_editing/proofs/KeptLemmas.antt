@@ -31,19 +31,22 @@ use Rattle.cps_editing.specs.declared.kept_source.KeptSource.{KeptSource}
 use Rattle.cps_editing.specs.declared.news.News.{News}
 use Rattle.cps_editing.specs.ChunkList.{Fits, HasRoom, is_append}
 use Rattle.cps_editing.specs.Editing.{AreKept, AreNewTraces, AreOutcomesOf, HasRoomFor, IsCut, IsKept, splice_of}
+use Rattle.cps_editing.specs.NamesRead.{HasRead, HasReadBy, StillHas}
 use Rattle.cps_editing.proofs.ChunkListLemmas.{appends}
+use Rattle.cps_editing.proofs.NamesReadLemmas.{read-by, read-still}
 
 -- ---- the same is kept
 
 -- whatever was gathered of the chunks
 pub are-same : {old new : KeptSource} → AreKept old → new.first ≡ old.first → new.lines.items ≡ old.lines.items → new.traces.items ≡ old.traces.items → new.outcomes.items ≡ old.outcomes.items
-    → AreChunksOf new.hashing new.chunks.items new.traces.items → lengths_of new.chunks.items ≡ lengths_of old.chunks.items → AreKept new
-are-same are first lines traces outcomes chunks lengths = record {
+    → AreChunksOf new.hashing new.chunks.items new.traces.items → lengths_of new.chunks.items ≡ lengths_of old.chunks.items → StillHas old.read new.read → AreKept new
+are-same {old = old} {new = new} are first lines traces outcomes chunks lengths still = record {
   first = ap answer-value.it first ∙ are.first;
   did = traces ∙ are.did ∙ ap traces_of (sym lines);
   made = outcomes ∙ are.made ∙ ap (λ ls. outcomes_by (finals_in ls) (traces_of ls)) (sym lines);
   chunks = chunks;
   divided = subst AreChunks (sym lengths) are.divided;
+  read = read-still old.read new.read still new.outcomes.items (subst (λ (os : List Outcome). HasRead old.read os) (sym outcomes) are.read);
 }
 
 chunks-same : (old new : KeptSource) → new.hashing ≡ old.hashing → new.traces.items ≡ old.traces.items → new.chunks.items ≡ old.chunks.items
@@ -54,11 +57,18 @@ chunks-same old new hashing traces chunks are =
     (subst (λ (ts : List Trace). AreChunksOf old.hashing old.chunks.items ts) (sym traces) are))
 
 pub kept-same : {old new : KeptSource} → IsKept old → new.first ≡ old.first → new.hashing ≡ old.hashing → new.lines.items ≡ old.lines.items → new.traces.items ≡ old.traces.items
-    → new.outcomes.items ≡ old.outcomes.items → new.chunks.items ≡ old.chunks.items → gathered-value.it new.finals ≡ gathered-value.it old.finals → IsKept new
-kept-same {old = old} {new = new} kept first hashing lines traces outcomes chunks finals = record {
-  lines = are-same kept.lines first lines traces outcomes (chunks-same old new hashing traces chunks kept.lines.chunks) (ap lengths_of chunks);
+    → new.outcomes.items ≡ old.outcomes.items → new.chunks.items ≡ old.chunks.items → gathered-value.it new.finals ≡ gathered-value.it old.finals → new.read ≡ old.read → IsKept new
+kept-same {old = old} {new = new} kept first hashing lines traces outcomes chunks finals read = record {
+  lines = are-same kept.lines first lines traces outcomes (chunks-same old new hashing traces chunks kept.lines.chunks) (ap lengths_of chunks)
+      (subst (StillHas old.read) (sym read) (λ name here. here));
   finals = finals ∙ kept.finals ∙ ap (λ ls. finals_of (traces_of ls)) (sym lines);
 }
+
+-- what the lines read
+pub kept-read : (kept : KeptSource) → AreKept kept → HasReadBy kept.read kept.traces.items
+kept-read kept are =
+    subst (λ (ts : List Trace). HasReadBy kept.read ts) (sym are.did)
+    (read-by kept.read (finals_in kept.lines.items) (traces_of kept.lines.items) kept.outcomes.items are.made are.read)
 
 -- ---- items in the place of others
 

@@ -13,6 +13,7 @@ pub mod MendedLemmas
 pub mod ExchangeLemmas
 pub mod MovedPassLemmas
 pub mod MovedStorageLemmas
+pub mod NamesReadLemmas
 pub mod PlaceLemmas
 pub mod RenewedLemmas
 pub mod SecondPassLemmas

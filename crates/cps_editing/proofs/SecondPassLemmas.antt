@@ -29,7 +29,7 @@ use Rattle.cps_replay.specs.Walk.{stretch}
 use Rattle.cps_replay.proofs.ReplayedLemmas.{redone-all_same, redone-each_same, redone-append, redone-drop_front, redone-drop_behind}
 use Rattle.cps_replay.proofs.WalkLemmas.{stretch-behind, stretch-long, lengths-next, lengths-drop, lengths-set, chunk-at, chunk-set}
 use Rattle.cps_touched.specs.Looks.{items_before, items_from, looks_again}
-use Rattle.cps_editing.specs.Differences.{passes}
+use Rattle.cps_editing.specs.Differences.{passes, AreExact}
 use Rattle.cps_editing.specs.declared.second_pass.SecondPass.{SecondPass}
 use Rattle.cps_editing.specs.SecondPass.{IsExactPass, IsStillChunk, GoesOver, redone_in, looks_at, looks_in}
 
@@ -80,6 +80,10 @@ module _ (was now : Resolved) (ts : List Trace) where
   pub redone-none : (i : ℕ) → all_pass (same_at was now) (names_in ts) ≡ true → redone was now i [] ts ≡ []
   redone-none i same = redone-all_same was now i [] ts (sym (names-law (same_at was now) ts) ∙ same) (λ k low high. refl)
 
+  -- each line for itself
+  pub names-same : all_pass (same_at was now) (names_in ts) ≡ true → list_all (λ (t : Trace). same_named was now t.items) ts ≡ true
+  names-same same = flat-all (all_named (same_at was now)) (λ (t : Trace). t.items) ts ∙ sym (names-law (same_at was now) ts) ∙ same
+
   -- of a stretch in two parts
   pub redone-parts : (a m b : ℕ) (news : List (SparseItem Trace)) → a ≤ m → m ≤ b → b ≤ length ts → AreWithin a b news
       → redone was now a news (stretch a b ts) ≡ redone was now a (items_before m news) (stretch a m ts) ++ redone was now m (items_from m news) (stretch m b ts)
@@ -117,20 +121,26 @@ module _ (pass : SecondPass) where
 
   -- ---- its test
 
+  pub exact-same : pass.differences.ends ≡ pass.redo.ends → AreExact pass.differences → (names : Names)
+      → all_pass (passes pass.differences) names ≡ all_pass (same_at (was_of pass.redo.ends) (now_of pass.redo.ends)) names
+  exact-same ends exact names =
+      (λ i. all_pass (λ (named : Named). exact named i) names) ∙ ap (λ (e : Ends). all_pass (same_at (was_of e) (now_of e)) names) ends
+
   module _ (exact : IsExactPass pass) where
     pub exact-names : (names : Names) → all_pass (passes pass.differences) names ≡ all_pass (same_at (was_of pass.redo.ends) (now_of pass.redo.ends)) names
-    exact-names names =
-        (λ i. all_pass (λ (named : Named). exact.exact named i) names) ∙ ap (λ (e : Ends). all_pass (same_at (was_of e) (now_of e)) names) exact.ends
+    exact-names names = exact-same exact.ends exact.exact names
 
     -- nothing that lines with these marks name has another final value
     pub exact-quiet : (chunk : Chunk) → ((us : List Trace) → AreMarked pass.base.hashing chunk.reads (keys_named us) → all_pass (passes pass.differences) (names_in us) ≡ true)
         → IsQuiet (was_of pass.redo.ends) (now_of pass.redo.ends) pass.base.hashing chunk
     exact-quiet chunk none us marked = sym (exact-names (names_in us)) ∙ none us marked
 
-    pub exact-still : (next : SecondPass) → next.redo.ends ≡ pass.redo.ends → next.differences ≡ pass.differences → IsExactPass next
-    exact-still next ends differences = record {
+    pub exact-still : (next : SecondPass) → next.base ≡ pass.base → next.redo.ends ≡ pass.redo.ends → next.differences ≡ pass.differences → IsExactPass next
+    exact-still next base ends differences = record {
       ends = ap (λ d. d.ends) differences ∙ exact.ends ∙ sym ends;
       exact = subst (λ d. (named : Named) → passes d named ≡ same_at (was_of d.ends) (now_of d.ends) named) (sym differences) exact.exact;
+      known = λ yes.
+          (λ i. list_all (λ (t : Trace). same_named (was_of (ends i)) (now_of (ends i)) t.items) (base i).traces.now) ∙ exact.known (sym (ap (λ d. d.unread) differences) ∙ yes);
     }
 
 -- ---- what follows where a call ends well

@@ -9,6 +9,10 @@ use Rattle.cps_final.specs.Finals.{Named, label, setting, block, literal}
 use Rattle.cps_holding.specs.Agreeing.{same_at}
 use Rattle.cps_replay.specs.Ends.{was_of, now_of}
 use Rattle.cps_holding.specs.declared.ends.Ends.{Ends}
+use Rattle.cps_state.specs.Course.{Trace}
+use Rattle.cps_naming.specs.Names.{all_pass, names_in}
+use Rattle.cps_editing.specs.NamesRead.{HasReadBy}
+use Rattle.cps_editing.specs.declared.names_read.NamesRead.{NamesRead}
 use Rattle.cps_editing.specs.declared.differences.Differences.{Differences}
 
 -- all but the labels that are known to have other final values; where these aren't known, what has the same
@@ -25,6 +29,10 @@ passes differences named = passes_by differences.ends (option_map (λ labels. la
 -- they say of all that can be named whether it has the same final value
 abbrev pub AreExact : Differences → Type 0
 AreExact differences = (named : Named) → passes differences named ≡ same_at (was_of differences.ends) (now_of differences.ends) named
+
+-- where none of the labels with other final values is read, all that lines name has the same, if they read no symbols but these
+abbrev pub AreKnown : NamesRead → Differences → Type 0
+AreKnown read differences = differences.unread ≡ true → (ts : List Trace) → HasReadBy read ts → all_pass (passes differences) (names_in ts) ≡ true
 
 -- each block and each literal stands where it stood
 pub record PlacesStandIn (ends : Ends) : Type 0 where

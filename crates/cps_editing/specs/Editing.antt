@@ -26,9 +26,11 @@ use Rattle.cps_replay.specs.Replayed.{redone_behind, redone_front, replayed_behi
 use Rattle.cps_touched.specs.Recuts.{Recuts}
 use Rattle.cps_touched.specs.Touched.{touched_of}
 use Rattle.cps_editing.specs.ChunkList.{is_append}
+use Rattle.cps_editing.specs.NamesRead.{HasRead, items_of}
 use Rattle.cps_editing.specs.declared.cut.Cut.{Cut}
 use Rattle.cps_editing.specs.declared.first_pass.FirstPass.{FirstPass}
 use Rattle.cps_editing.specs.declared.kept_source.KeptSource.{KeptSource}
+use Rattle.cps_editing.specs.declared.names_read.NamesRead.{NamesRead}
 use Rattle.cps_editing.specs.declared.news.News.{News}
 
 -- new lines in their places, as a splice
@@ -58,6 +60,7 @@ pub record AreKept (kept : KeptSource) : Type 0 where
   pub made : kept.outcomes.items ≡ outcomes_by (finals_in kept.lines.items) (traces_of kept.lines.items)
   pub chunks : AreChunksOf kept.hashing kept.chunks.items kept.traces.items
   pub divided : AreChunks (lengths_of kept.chunks.items)
+  pub read : HasRead kept.read kept.outcomes.items
 
 -- and what stands behind the last line
 pub record IsKept (kept : KeptSource) : Type 0 where
@@ -114,6 +117,11 @@ pub record IsFirstPass (lines : List (List ℕ)) (splice : Splice) (pass : First
 pub record AreNewOutcomes (was now : Resolved) (lines : List (List ℕ)) (splice : Splice) (news : News Outcome) : Type 0 where
   pub entered : news.entered.items ≡ outcomes_by now (traces_from (state_front lines splice) splice.new)
   pub renewed : news.renewed.items ≡ redone_front was now lines splice ++ redone_behind was now lines splice
+
+-- the symbols that the new lines read, and those that pass two makes anew
+pub record HasReadNews (read : NamesRead) (news : News Outcome) : Type 0 where
+  pub entered : HasRead read news.entered.items
+  pub renewed : HasRead read (items_of news.renewed.items)
 
 -- ---- an edit
 

@@ -5,6 +5,7 @@ pub mod Entering
 pub mod Exchanged
 pub mod MovedPass
 pub mod FirstPass
+pub mod NamesRead
 pub mod SecondPass
 pub mod Storing
 pub use Rattle.cps_touched.specs.Recuts

@@ -21,10 +21,15 @@ use Rattle.cps_editing.specs.declared.cut.Cut.{Cut}
 use Rattle.cps_editing.specs.declared.second_pass.SecondPass.{SecondPass}
 use Rattle.cps_editing.specs.declared.second_pass.Stretch.{Stretch}
 
+-- all that lines name has the same final values
+abbrev pub NameTheSame : SecondPass → List Trace → Type 0
+NameTheSame pass traces = list_all (λ trace. same_named (was_of pass.redo.ends) (now_of pass.redo.ends) trace.items) traces ≡ true
+
 -- it compares by the final values that it makes lines anew by
 pub record IsExactPass (pass : SecondPass) : Type 0 where
   pub ends : pass.differences.ends ≡ pass.redo.ends
   pub exact : AreExact pass.differences
+  pub known : pass.differences.unread ≡ true → NameTheSame pass pass.base.traces.now
 
 -- what pass two makes now of the lines from one on up to another that are disturbed in it, of which these do something new
 abbrev pub redone_in : SecondPass → ℕ → ℕ → List (SparseItem Trace) → List (SparseItem Outcome)
@@ -60,12 +65,9 @@ looks_at pass from to news =
 abbrev pub looks_in : SecondPass → List ℕ → ℕ → List (SparseItem Trace) → ℕ
 looks_in pass lengths at news = looks_again (was_of pass.redo.ends) (now_of pass.redo.ends) lengths at news (drop at pass.base.traces.now)
 
--- whether something has the same final value, and that so has all that lines name
+-- whether something has the same final value
 abbrev pub is_same_in : SecondPass → Named → Bool
 is_same_in pass named = same_at (was_of pass.redo.ends) (now_of pass.redo.ends) named
-
-abbrev pub NameTheSame : SecondPass → List Trace → Type 0
-NameTheSame pass traces = list_all (λ trace. same_named (was_of pass.redo.ends) (now_of pass.redo.ends) trace.items) traces ≡ true
 
 -- nothing that these lines name has another final value, if that is known
 abbrev pub NoneDiffers : SecondPass → Stretch → Type 0

@@ -6,8 +6,10 @@ ghost use Rattle.cps_state.specs.Course.{Trace as Did};
 ghost use Rattle.cps_state.specs.declared.key.Key.TheVariants as key;
 ghost use Rattle.cps_chunk.specs.Marks.{AreMarked, has, keys_named, mark_of};
 ghost use Rattle.cps_naming.specs.Names.{names_in, all_pass};
-ghost use Rattle.cps_editing.specs.Differences.{passes, AreExact, PlacesStandIn, IsListed};
+ghost use Rattle.cps_editing.specs.NamesRead.{has_name};
+ghost use Rattle.cps_editing.specs.Differences.{passes, AreExact, AreKnown, PlacesStandIn, IsListed};
 
+use crate::names_read::NamesRead;
 use cps_chunk::{Marks, mark_of};
 use cps_expr::is_same_name;
 use cps_naming::Naming;
@@ -23,12 +25,18 @@ const FEW: usize = 64;
 pub struct Differences<'a> {
     ends: Ends<'a>,
     labels: Option<Vec<Name>>,
+    /// Whether no line reads one of these labels.
+    unread: bool,
 }
 
 // Written out: what holds them drops them by a call.
 impl Drop for Differences<'_> {
     fn drop(self) {
-        let Differences { ends: _, labels } = self;
+        let Differences {
+            ends: _,
+            labels,
+            unread: _,
+        } = self;
         drop(labels);
     }
 }
@@ -61,29 +69,37 @@ impl<'a> Naming for Differences<'a> {
 }
 
 impl<'a> Differences<'a> {
-    /// Between the final values before an edit and after it.
-    pub fn of(alloc: Global, ends: Ends<'a>) -> Result<Differences<'a>, AllocError>
+    /// Between the final values before an edit and after it, for lines that read none but these symbols.
+    pub fn of(
+        alloc: Global,
+        ends: Ends<'a>,
+        read: &NamesRead,
+    ) -> Result<Differences<'a>, AllocError>
         ensures ends { IfOk result (λ differences. differences.ends ≡ ends.entry) }
         ensures exact { IfOk result AreExact }
+        ensures known { IfOk result (AreKnown read.now) }
     {
         if ends.mend.changes.count() > FEW || !places_stand(ends) {
-            return Ok(Differences { ends, labels: None });
+            return Ok(Differences {
+                ends,
+                labels: None,
+                unread: false,
+            });
         }
         let labels = list_labels(alloc, ends)?;
+        let unread = !has_read(read, &labels);
         Ok(Differences {
             ends,
             labels: Some(labels),
+            unread,
         })
     }
 
-    /// Whether all that lines name has the same final values, whichever they are, by a test that may say no where that is so.
+    /// Whether all that the lines name is known to have the same final values.
     pub fn is_none(&self) -> bool
-        ensures { IsTrue result → (ts : List Did) → all_pass (passes self.now) (names_in ts) ≡ true }
+        ensures { result ≡ self.now.unread }
     {
-        match &self.labels {
-            Some(labels) => labels.is_empty(),
-            None => false,
-        }
+        self.unread
     }
 
     /// Whether what lines name may have another final value, of whose labels these have all marks.
@@ -104,6 +120,13 @@ fn has_label(hashing: Hashing, marks: &Marks, labels: &[Name]) -> bool
     labels
         .iter()
         .any(|name| marks.has(mark_of(hashing, Key::Label(*name))))
+}
+
+/// Whether one of some labels is read.
+fn has_read(read: &NamesRead, labels: &[Name]) -> bool
+    ensures { result ≡ list_any (λ name. has_name read.now name) labels.now }
+{
+    labels.iter().any(|name| read.has(*name))
 }
 
 fn is_among(labels: &[Name], name: Name) -> bool

@@ -8,6 +8,7 @@ ghost use Rattle.cps_editing.specs.Entering.{full_chunks};
 
 use crate::chunk_list::chunks_of;
 use crate::kept_source::KeptSource;
+use crate::names_read::NamesRead;
 use crate::second_pass::step_two_all;
 use cps_division::FULL;
 use cps_edit::PassOne;
@@ -36,6 +37,8 @@ pub fn kept_of(
         unreachable!();
     };
     let outcomes = step_two_all(alloc, &traces, &finals, work)?;
+    let mut read = NamesRead::new(alloc, hashing);
+    read.add_all(&outcomes)?;
     let chunks = chunks_of(hashing, &lengths, &traces, room);
     Ok(KeptSource {
         alloc,
@@ -46,6 +49,7 @@ pub fn kept_of(
         outcomes,
         chunks,
         finals,
+        read,
     })
 }
 

@@ -4,6 +4,7 @@ ghost use Rattle.cps_chunk.specs.Chunk.{lengths_of};
 ghost use Rattle.cps_edit.specs.Compares.{ComparesUpTo, Steps};
 ghost use Rattle.cps_replay.specs.Sparse.{AreWithin};
 ghost use Rattle.cps_editing.specs.Editing.{AreKept, HasRoomToMend, IsKept, IsStill, IsStillWith};
+ghost use Rattle.cps_editing.specs.NamesRead.{HasRead, items_of};
 ghost use Rattle.cps_editing.specs.Exchanged.{AreMovedParts, HasPassedMoved, HasRuns, IsExchanged, IsMovedPass, IsRecutMoved, LooksOfExchange, StepsOfExchange, looks_by, redone_by};
 
 use crate::chunk_list::mark_all;
@@ -129,6 +130,7 @@ impl KeptSource {
         ensures kept { AreKept self.new }
         ensures still { IsStillWith self.old self.new }
         ensures made { IfOk result (λ made. made.items ≡ redone_by self.old mend.now traces.now) }
+        ensures read { IfOk result (λ made. HasRead self.new.read (items_of made.items)) }
         ensures steps { Steps result work.old work.new 0 (length (redone_by self.old mend.now traces.now)) }
         ensures looked { ComparesUpTo work.old work.new (looks_by self.old mend.now traces.now) }
     {
@@ -143,9 +145,11 @@ impl KeptSource {
             finals: &self.finals,
             mend,
         };
-        let mut pass = SecondPass::new(base, ends)?;
+        let mut pass = SecondPass::new(base, ends, &self.read)?;
         pass.go_over_chunks(0, &mut self.chunks, traces, work)?;
-        Ok(pass.into_news())
+        let renewed = pass.into_news();
+        self.read.add_renewed(&renewed)?;
+        Ok(renewed)
     }
 
     /// Puts all that comes with a move in its place. Takes no memory.
@@ -153,6 +157,7 @@ impl KeptSource {
         requires kept { AreKept self.old }
         requires runs { HasRuns (vec_len self.old.lines) exchange }
         requires parts { AreMovedParts self.old exchange parts }
+        requires read { HasRead self.old.read (items_of parts.outcomes.items) }
         ensures kept { AreKept self.new }
         ensures moved { IsExchanged exchange self.old self.new }
         ensures finals { self.new.finals ≡ self.old.finals }

@@ -1,12 +1,13 @@
 //! What is kept of a source, and new lines in the place of others.
 ghost use Rattle.std.specs.Prelude.{◌≡◌, ◌+◌, ◌<◌, ◌^◌, [], IfOk, OnOk, OnErr, vec_len};
 ghost use Rattle.cps_chunk.specs.Chunk.{lengths_of};
-ghost use Rattle.cps_editing.specs.Editing.{AreKept, AreMendedEnds, AreNewTraces, AreOutcomesOf, HasPassedAgain, HasRoomFor, HasRoomToMend, IsCut, IsEdited, IsFirstPass, IsKept, IsStill, IsStillWith, LooksOfFirst, LooksOfSplice, StepsOfFirst, StepsOfSplice, splice_of};
+ghost use Rattle.cps_editing.specs.Editing.{AreKept, AreMendedEnds, AreNewTraces, AreOutcomesOf, HasPassedAgain, HasReadNews, HasRoomFor, HasRoomToMend, IsCut, IsEdited, IsFirstPass, IsKept, IsStill, IsStillWith, LooksOfFirst, LooksOfSplice, StepsOfFirst, StepsOfSplice, splice_of};
 
 use crate::chunk_list::{mark_all, put_chunks};
 use crate::cut::Cut;
 use crate::first_pass::FirstPass;
 use crate::lists::{make_room_for, put_at};
+use crate::names_read::NamesRead;
 use crate::news::News;
 use crate::second_pass::{SecondPass, step_two_all};
 use crate::storage::storage_behind;
@@ -31,6 +32,8 @@ pub struct KeptSource {
     pub outcomes: Vec<Outcome>,
     pub chunks: Vec<Chunk>,
     pub finals: Finals,
+    /// All symbols that the lines read, and perhaps others.
+    pub read: NamesRead,
 }
 
 /// What the passes make of an edit, and a list for the new chunks.
@@ -60,6 +63,7 @@ impl KeptSource {
             outcomes: Vec::new(alloc),
             chunks: Vec::new(alloc),
             finals,
+            read: NamesRead::new(alloc, hashing),
         }
     }
 
@@ -185,6 +189,7 @@ impl KeptSource {
         ensures kept { AreKept self.new }
         ensures still { IsStillWith self.old self.new }
         ensures made { IfOk result (AreOutcomesOf self.old cut.now) }
+        ensures read { IfOk result (HasReadNews self.new.read) }
         ensures work { HasPassedAgain result self.old cut.now work.old work.new }
     {
         let base = Baseline {
@@ -199,12 +204,12 @@ impl KeptSource {
             mend,
         };
         let entered = step_two_all(self.alloc, &traces.entered, ends.finals, work)?;
-        let mut pass = SecondPass::new(base, ends)?;
+        let mut pass = SecondPass::new(base, ends, &self.read)?;
         pass.go_around(&mut self.chunks, cut, &traces.renewed, work)?;
-        Ok(News {
-            entered,
-            renewed: pass.into_news(),
-        })
+        let renewed = pass.into_news();
+        self.read.add_all(&entered)?;
+        self.read.add_renewed(&renewed)?;
+        Ok(News { entered, renewed })
     }
 
     /// Puts all that comes with an edit in its place, where there is room for it.
@@ -213,6 +218,7 @@ impl KeptSource {
         requires cut { IsCut self.old.lines.items (lengths_of self.old.chunks.items) cut }
         requires traces { AreNewTraces self.old.lines.items (splice_of cut) parts.traces }
         requires outcomes { AreOutcomesOf self.old cut parts.outcomes }
+        requires read { HasReadNews self.old.read parts.outcomes }
         requires room { HasRoomFor self.old cut parts.chunks }
         ensures kept { AreKept self.new }
         ensures edited { IsEdited cut self.old self.new }

@@ -10,6 +10,7 @@
 //! - `laws.rt`: the law of the division of lines that a source begins with
 //! - `lists.rt`: items in the place of others
 //! - `moved_pass.rt`: pass one of a move
+//! - `names_read.rt`: which symbols lines read, in a set that only grows
 //! - `news.rt`: what a pass makes anew
 //! - `second_pass.rt`: pass two of an edit, chunk by chunk
 //! - `storage.rt`: where blocks and literals stand behind an edit
@@ -25,6 +26,7 @@ mod kept_source;
 pub mod laws;
 mod lists;
 mod moved_pass;
+mod names_read;
 mod news;
 mod second_pass;
 mod storage;

@@ -9,10 +9,12 @@ ghost use Rattle.cps_chunk.specs.Chunk.{AreChunksOf, IsChunkOf, lengths_of};
 ghost use Rattle.cps_touched.specs.Looks.{items_before, items_from};
 ghost use Rattle.cps_replay.specs.Sparse.{AreWithin};
 ghost use Rattle.cps_replay.specs.Walk.{stretch};
+ghost use Rattle.cps_editing.specs.NamesRead.{HasReadBy};
 ghost use Rattle.cps_editing.specs.SecondPass.{AreStillChunks, CutsAround, GoesAround, GoesOver, IsExactPass, IsStillChunk, NameTheSame, NoneDiffers, StandFrom, StepsAround, is_same_in, looks_around, looks_at, looks_in, redone_in};
 
 use crate::cut::Cut;
 use crate::differences::Differences;
+use crate::names_read::NamesRead;
 use cps_chunk::Chunk;
 use cps_final::{Finals, Outcome, step_two};
 use cps_pass::{Trace, Work};
@@ -40,14 +42,19 @@ impl Drop for SecondPass<'_> {
 }
 
 impl<'a> SecondPass<'a> {
-    /// In front of the first line.
-    pub fn new(base: Baseline<'a>, ends: Ends<'a>) -> Result<SecondPass<'a>, AllocError>
+    /// In front of the first of lines that read none but these symbols.
+    pub fn new(
+        base: Baseline<'a>,
+        ends: Ends<'a>,
+        read: &NamesRead,
+    ) -> Result<SecondPass<'a>, AllocError>
+        requires { HasReadBy read.now base.traces.now }
         ensures base { IfOk result (λ pass. pass.base ≡ base.entry) }
         ensures ends { IfOk result (λ pass. pass.redo.ends ≡ ends.entry) }
         ensures news { IfOk result (λ pass. pass.redo.news.items ≡ []) }
         ensures exact { IfOk result IsExactPass }
     {
-        let differences = Differences::of(base.alloc, ends)?;
+        let differences = Differences::of(base.alloc, ends, read)?;
         Ok(SecondPass {
             base,
             differences,

@@ -2,11 +2,14 @@ use Rattle.std.proofs.Common.{arith, ◌∙◌, ◌++◌, refl, List, sym, ap, s
 use Rattle.cps_state.specs.Course.{Trace}
 use Rattle.cps_division.specs.Division.{AreChunks}
 use Rattle.cps_division.specs.Recut.{recut}
+use Rattle.cps_final.specs.Outcome.{Outcome}
 use Rattle.cps_edit.specs.Disturbed.{finals_in}
 use Rattle.cps_edit.specs.Passes.{traces_of, outcomes_by}
 use Rattle.cps_chunk.specs.Chunk.{AreChunksOf}
 use Rattle.cps_replay.specs.Sparse.{renewed}
 use Rattle.cps_replay.proofs.SparseLemmas.{length-renewed}
+use Rattle.cps_editing.specs.NamesRead.{HasRead, has_all}
+use Rattle.cps_editing.proofs.NamesReadLemmas.{all-put, all-renewed}
 use Rattle.cps_editing.proofs.KeptLemmas.{cut-fits, cut-room, entered-outcomes, entered-traces, outcome-places, outcomes-edited, outcomes-long, trace-places_all, traces-edited, traces-long}
 use Rattle.cps_editing.proofs.kept_source.KeptSource.commit.Goals as goal
 
@@ -73,6 +76,8 @@ returns-clause-kept c =
     let h = c.requires in
     let cut = c.args.cut in
     let lines = c.put_at.ensures ∙ ap (λ ns. take cut.keep c.args.self.now.lines.items ++ (ns ++ drop cut.from c.args.self.now.lines.items)) (ap (λ v. v.items) c.replace-lines.ensures.value) in
+    let olds : List Outcome = c.args.self.now.outcomes.items in
+    let has = λ (o : Outcome). has_all c.args.self.now.read o.read in
     let lengths = c.put_chunks.ensures.lengths ∙ ap (recut cut.start cut.end cut.lengths.items) c.mark_all.ensures.lengths in
     record {
       first = h.kept.first;
@@ -80,4 +85,7 @@ returns-clause-kept c =
       made = c.put-2.ensures ∙ outcomes-edited h.kept h.cut h.outcomes ∙ ap (λ ls. outcomes_by (finals_in ls) (traces_of ls)) (sym lines);
       chunks = subst (λ (ts : List Trace). AreChunksOf c.args.self.now.hashing c.put_chunks.new.chunks.items ts) c.deref-2.ensures.value c.put_chunks.ensures.chunks;
       divided = subst AreChunks (sym lengths) h.cut.recuts.made;
+      read = subst (λ (os : List Outcome). HasRead c.args.self.now.read os) (sym c.put-2.ensures)
+          (all-put has cut.keep cut.from c.args.parts.outcomes.entered.items (renewed 0 c.args.parts.outcomes.renewed.items olds) h.read.entered
+          (all-renewed has 0 c.args.parts.outcomes.renewed.items olds h.read.renewed h.kept.read));
     }

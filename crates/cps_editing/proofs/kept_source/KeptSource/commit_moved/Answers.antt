@@ -5,12 +5,15 @@ use Rattle.cps_division.specs.Division.{AreChunks}
 use Rattle.cps_division.specs.Pieces.{lines_of}
 use Rattle.cps_division.specs.declared.exchange.Piece.{Piece}
 use Rattle.cps_exchange.specs.Exchange.{exchanged}
+use Rattle.cps_final.specs.Outcome.{Outcome}
 use Rattle.cps_edit.specs.Disturbed.{finals_in}
 use Rattle.cps_edit.specs.Passes.{traces_of, outcomes_by}
 use Rattle.cps_chunk.specs.declared.chunk.Chunk.{Chunk}
 use Rattle.cps_chunk.specs.Chunk.{AreChunksOf}
 use Rattle.cps_replay.specs.Sparse.{renewed}
 use Rattle.cps_moving.specs.Moved.{AreMoved}
+use Rattle.cps_editing.specs.NamesRead.{HasRead, has_all}
+use Rattle.cps_editing.proofs.NamesReadLemmas.{all-exchanged, all-renewed}
 use Rattle.cps_editing.proofs.ExchangeLemmas.{lines-long, lines-total, moved-chunks, moved-did, moved-divided, moved-made, moved-outcome_places, moved-outcomes_long, moved-trace_places, moved-traces_long, turned-items, turned-within}
 use Rattle.cps_editing.proofs.kept_source.KeptSource.commit_moved.Goals as goal
 
@@ -65,6 +68,8 @@ returns-clause-kept c =
     let outcomes =
     turned-items h.kept h.runs h.parts c.put_all-2.new.items _ _ c.turn-3.ensures c.deref_mut-3.ensures.value (ap length c.put_all-2.ensures.items ∙ moved-outcomes_long h.kept h.runs h.parts)
     ∙ ap (exchanged e) c.put_all-2.ensures.items in
+    let olds : List Outcome = c.args.self.now.outcomes.items in
+    let has = λ (o : Outcome). has_all c.args.self.now.read o.read in
     let lengths = c.chunks_moved.ensures.lengths ∙ ap lines_of c.deref-2.ensures.value ∙ h.parts.pieces.lengths in
     record {
       first = h.kept.first;
@@ -72,4 +77,6 @@ returns-clause-kept c =
       made = outcomes ∙ moved-made h.kept h.runs h.parts ∙ ap (λ ls. outcomes_by (finals_in ls) (traces_of ls)) (sym lines);
       chunks = subst (λ (ts : List Trace). AreChunksOf c.args.self.now.hashing c.chunks_moved.result.items ts) c.deref-3.ensures.value c.chunks_moved.ensures.chunks;
       divided = subst AreChunks (sym lengths) (moved-divided h.kept h.runs h.parts);
+      read = subst (λ (os : List Outcome). HasRead c.args.self.now.read os) (sym outcomes)
+          (all-exchanged has e (renewed 0 c.args.parts.outcomes.items olds) (all-renewed has 0 c.args.parts.outcomes.items olds h.read h.kept.read));
     }

@@ -188,7 +188,7 @@ returns-in-Err-clause-kept c =
     let all = c.pass_again.ensures.kept in
     let three = c.pass_again.ensures.still in
     record {
-      lines = record { first = all.first; did = all.did; made = all.made; chunks = all.chunks; divided = all.divided };
+      lines = record { first = all.first; did = all.did; made = all.made; chunks = all.chunks; divided = all.divided; read = all.read };
       finals = c.exchange-in-Err.ensures.now ∙ ap (λ finals. mended c.exchange.new.mend (gathered-value.it finals)) three.finals ∙ c.exchange.ensures.back ∙ kept
           ∙ ap (λ ls. finals_of (traces_of ls)) (sym (three.still.lines ∙ two.lines ∙ one.lines));
     }

@@ -14,6 +14,7 @@ returns-clause-kept c = record {
     made = search rules;
     chunks = search rules;
     divided = subst (λ (cs : List Chunk). AreChunks (lengths_of cs)) (sym c.new-5.ensures.items) tt;
+    read = search rules;
   };
   finals = c.in-Ok.ensures.finals ∙ c.new.ensures ∙ ap (λ ls. finals_of (traces_of ls)) (sym c.new-2.ensures.items);
 }

@@ -23,6 +23,7 @@ returns-clause-kept c =
         made = kept.made;
         chunks = subst (λ (ts : List Trace). AreChunksOf c.args.self.now.hashing c.of_splice.new.chunks.items ts) c.deref-2.ensures.value made.chunks;
         divided = subst AreChunks (sym made.lengths) kept.divided;
+        read = kept.read;
       };
       finals = c.requires.kept.finals;
     }

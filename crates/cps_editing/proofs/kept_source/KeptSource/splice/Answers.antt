@@ -168,7 +168,7 @@ returns-in-Err-clause-kept c =
     ∙ finals-mended lines (spliced lines (splice_of cut)) c.in_ok-storage.storage (changes_in c.in_ok-pass.pass.changes) stored pass.state in
     let all = c.pass_two.ensures.kept in
     record {
-      lines = record { first = all.first; did = all.did; made = all.made; chunks = all.chunks; divided = all.divided };
+      lines = record { first = all.first; did = all.did; made = all.made; chunks = all.chunks; divided = all.divided; read = all.read };
       finals = c.exchange-in-Err.ensures.now ∙ ap (λ finals. mended c.exchange.new.mend (gathered-value.it finals)) c.pass_two.ensures.still.finals ∙ c.exchange.ensures.back ∙ kept
           ∙ ap (λ ls. finals_of (traces_of ls)) (sym (c.pass_two.ensures.still.still.lines ∙ two.lines ∙ one.lines));
     }

@@ -97,7 +97,7 @@ go_over_chunks-requires-2-clause-exact c =
     let one = c.split_at_mut-in_front.ensures in
     let two = c.split_at_mut-between.ensures in
     let h = parts c.requires.exact c.requires.cut c.requires.news one.value one.front one.back two.value two.front two.back c.split_before.ensures.before c.split_before.ensures.from in
-    exact-still c.args.self.now c.requires.exact c.go_over_lines-2.new.self (c.in_ok-go_over_lines-2.ensures.over.ends ∙ c.in_ok-go_over_lines.ensures.over.ends ∙ c.in_ok-go_over_chunks.ensures.over.ends) (c.in_ok-go_over_lines-2.ensures.over.differences ∙ c.in_ok-go_over_lines.ensures.over.differences ∙ c.in_ok-go_over_chunks.ensures.over.differences)
+    exact-still c.args.self.now c.requires.exact c.go_over_lines-2.new.self (c.in_ok-go_over_lines-2.ensures.over.base ∙ c.in_ok-go_over_lines.ensures.over.base ∙ c.in_ok-go_over_chunks.ensures.over.base) (c.in_ok-go_over_lines-2.ensures.over.ends ∙ c.in_ok-go_over_lines.ensures.over.ends ∙ c.in_ok-go_over_chunks.ensures.over.ends) (c.in_ok-go_over_lines-2.ensures.over.differences ∙ c.in_ok-go_over_lines.ensures.over.differences ∙ c.in_ok-go_over_chunks.ensures.over.differences)
 
 pub go_over_chunks-requires-2-clause-chunks : goal.go_over_chunks-requires-2-clause-chunks
 go_over_chunks-requires-2-clause-chunks c =

@@ -2,11 +2,13 @@ use Rattle.std.proofs.Common.{arith, rules, ◌≡◌, ◌+◌, ◌<◌, [], len
 use Rattle.std.specs.Prelude.{sum}
 use Rattle.std.proofs.lemmas.Bool.{eqb-true}
 use Rattle.std.proofs.lemmas.List.{nil_from_length}
-use Rattle.cps_naming.specs.Names.{names_in}
+use Rattle.cps_state.specs.Course.{Trace}
+use Rattle.cps_holding.specs.Agreeing.{same_named}
 use Rattle.cps_chunk.specs.Chunk.{lengths_of}
-use Rattle.cps_replay.specs.Walk.{stretch}
+use Rattle.cps_replay.specs.Ends.{was_of, now_of}
 use Rattle.cps_editing.proofs.CountLemmas.{steps-none, counts-next, counts-fail, looks-next}
-use Rattle.cps_editing.proofs.SecondPassLemmas.{exact-names, none-made, goes-none, next-within}
+use Rattle.cps_editing.proofs.NamesReadLemmas.{all-stretch}
+use Rattle.cps_editing.proofs.SecondPassLemmas.{each-made, goes-none, next-within}
 use Rattle.cps_editing.proofs.ChunkLoopLemmas.{next-chunk, stops-at, here-exact, here-end, here-chunk, here-within, here-count, here-looks, here-over, here-chunks, here-lengths, here-all}
 use Rattle.cps_editing.proofs.second_pass.SecondPass.go_over_chunks.Goals as goal
 
@@ -17,20 +19,22 @@ returns-then-is_none-clause-over c =
     let pass = c.args.self.now in
     let news = c.args.news.now in
     let end = c.args.at + sum (lengths_of c.args.chunks.now) in
-    let part = stretch c.args.at end pass.base.traces.now in
     let empty : news ≡ [] = nil_from_length news (eqb-true (length news) 0 (sym c.is_empty.ensures ∙ c.if-is_empty.true)) in
+    let all = c.requires.exact.known (sym c.is_none.ensures ∙ c.if-is_none.true) in
+    let same = all-stretch (λ (t : Trace). same_named (was_of pass.redo.ends) (now_of pass.redo.ends) t.items) c.args.at end pass.base.traces.now all in
     goes-none pass c.args.at end news
-    (none-made pass c.args.at end news empty (sym (exact-names pass c.requires.exact (names_in part)) ∙ c.is_none.ensures c.if-is_none.true part))
+    (each-made pass c.args.at end news empty same)
 
 pub returns-then-is_none-clause-steps : goal.returns-then-is_none-clause-steps
 returns-then-is_none-clause-steps c =
     let pass = c.args.self.now in
     let news = c.args.news.now in
     let end = c.args.at + sum (lengths_of c.args.chunks.now) in
-    let part = stretch c.args.at end pass.base.traces.now in
     let empty : news ≡ [] = nil_from_length news (eqb-true (length news) 0 (sym c.is_empty.ensures ∙ c.if-is_empty.true)) in
+    let all = c.requires.exact.known (sym c.is_none.ensures ∙ c.if-is_none.true) in
+    let same = all-stretch (λ (t : Trace). same_named (was_of pass.redo.ends) (now_of pass.redo.ends) t.items) c.args.at end pass.base.traces.now all in
     steps-none tt c.args.work.now _
-    (ap length (none-made pass c.args.at end news empty (sym (exact-names pass c.requires.exact (names_in part)) ∙ c.is_none.ensures c.if-is_none.true part)))
+    (ap length (each-made pass c.args.at end news empty same))
 
 -- ---- the next chunk
 
