@@ -1,12 +1,16 @@
 -- For batch assembly, not part of what a reader believes: what its passes have made of the lines so far.
-use Rattle.std.specs.Prelude.{◌≡◌, ℕ, List, [], ◌∷◌, ◌++◌, map, IfSome}
+use Rattle.std.specs.Prelude.{◌≡◌, ◌+◌, ℕ, Bool, List, [], ◌∷◌, ◌++◌, length, map, IfSome}
 use Rattle.cps_state.specs.declared.item.Item.{Item}
-use Rattle.cps_state.specs.Course.{Trace, unasked}
+use Rattle.cps_state.specs.Course.{Trace}
+use Rattle.cps_state.specs.Sheet.{Sheet, StandsOn, statements_on}
+use Rattle.cps_input.specs.Parts.{RisesTo, parts_at}
 use Rattle.cps_gather.specs.contracts.finals.FinalsGathered.TheImpl as finals
 use Rattle.cps_gather.specs.contracts.gather.GatherGathered.TheImpl as gather
 use Rattle.cps_final.specs.Finals.{Finals, Gathers}
 use Rattle.cps_list.specs.Making.{IsPrintoutOf, shown, shows_symbols}
-use Rattle.cps_list.specs.Symbols.{mentions_from}
+use Rattle.cps_list.specs.Symbols.{mentions_from, mentions_on}
+use Rattle.cps_list.specs.declared.mention.Mention.{Mention}
+use Rattle.cps_final.specs.Names.{names_defined, names_read}
 use Rattle.cps_batch.specs.declared.passes.PassOne.{PassOne}
 use Rattle.cps_batch.specs.declared.passes.PassTwo.{PassTwo}
 use Rattle.cps_assembly.specs.Assembly.{traces_of, outcomes_under}
@@ -15,18 +19,30 @@ use Rattle.cps_assembly.specs.Assembly.{traces_of, outcomes_under}
 abbrev pub statements_of : List Trace → List (List Item)
 statements_of traces = map (λ (trace : Trace). trace.items) traces
 
--- What a line did, without what it asked, where it stands behind these lines; and what was gathered with it.
-pub record IsNext (before : List (List ℕ)) (line : List ℕ) (did : Trace) (finals : Finals) : Type 0 where
+-- these are the parts of a list, by where each ends
+pub record AreParts (ends : List ℕ) (items : List Item) (parts : List (List Item)) : Type 0 where
+  pub rise : RisesTo 0 ends (length items)
+  pub are : parts_at 0 ends items ≡ parts
+
+-- What a line did behind these lines stands on a sheet, behind the statements that stood there.
+pub record IsNext (before : List (List ℕ)) (line : List ℕ) (front : List Item) (sheet : Sheet) : Type 0 where
   pub trace : Trace
-  pub is : did ≡ unasked trace
+  pub stands : StandsOn sheet front trace
   pub traces : traces_of (before ++ line ∷ []) ≡ traces_of before ++ trace ∷ []
-  pub gathered : Gathers finals (traces_of (before ++ line ∷ []))
 
 -- pass one: what was gathered, the statements of each line, if they are kept, and the symbols, if they are shown
 pub record IsPassed (lines : List (List ℕ)) (one : PassOne) : Type 0 where
   pub gathered : Gathers (gather.gathered-value.it one.gather) (traces_of lines)
-  pub kept : IfSome one.kept (λ kept. kept.items ≡ statements_of (traces_of lines))
+  pub kept : IfSome one.ends (λ ends. AreParts ends.items (statements_on one.sheet) (statements_of (traces_of lines)))
   pub mentions : (finals : Finals) → one.mentions.items ≡ shown (shows_symbols one.part) (mentions_from 1 (outcomes_under finals (traces_of lines)))
+
+-- pass one of lines, and of one line more with its number
+abbrev pub PassesOn : List ℕ → ℕ → PassOne → PassOne → Type 0
+PassesOn line number old new = (lines : List (List ℕ)) → IsPassed lines old → number ≡ length lines + 1 → IsPassed (lines ++ line ∷ []) new
+
+-- the symbols that a line is noted for, where they are shown
+abbrev pub noted : Bool → ℕ → Trace → List Mention
+noted is_shown number trace = shown is_shown (mentions_on number (names_defined trace) (names_read trace))
 
 -- pass two: what a part shows under the final values
 abbrev pub IsShown : List (List ℕ) → PassTwo → Type 0

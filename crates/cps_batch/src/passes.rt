@@ -2,22 +2,20 @@
 ghost use Rattle.std.specs.Prelude.{◌≡◌, ℕ, List, [], ◌∷◌, ◌++◌, ◌+◌, ◌≤◌, ◌<◌, length, IfOk, IfSome, OnOk};
 ghost use Rattle.cps_state.specs.declared.item.Item.{Item};
 ghost use Rattle.cps_state.specs.Course.{Trace};
+ghost use Rattle.cps_state.specs.Sheet.{statements_on};
 ghost use Rattle.cps_final.specs.Finals.{Gathers};
-ghost use Rattle.cps_final.specs.Names.{names_defined, names_read};
-ghost use Rattle.cps_list.specs.Making.{IsPrintoutOf, shown, shows_symbols};
-ghost use Rattle.cps_list.specs.Symbols.{mentions_on};
+ghost use Rattle.cps_list.specs.Making.{IsPrintoutOf, shows_symbols};
 ghost use Rattle.cps_list.specs.Texts.{text_of};
 ghost use Rattle.cps_assembly.specs.Assembly.{assembly_of, outcomes_under, traces_of};
 ghost use Rattle.cps_assembly.specs.Flagged.{flagged_lines};
-ghost use Rattle.cps_batch.specs.Passes.{IsNext, IsPassed, IsShown, statements_of};
+ghost use Rattle.cps_batch.specs.Passes.{AreParts, IsNext, IsPassed, IsShown, PassesOn, noted, statements_of};
 
 use cps_final::{Finals, Gather, Gathered, LineSymbols, Output};
-use cps_input::LineText;
+use cps_input::{LineText, part_at};
 use cps_list::{Mention, Part, Printout, push_mentions};
-use cps_pass::{Hashing, Item, Sheet, Trace, Work, step_unasked};
+use cps_pass::{Hashing, Item, Sheet, Work, step_unasked};
 use cps_text::limits::MOST_LINES;
 use std::alloc::{AllocError, Global};
-use std::marker::Model;
 use std::mem::replace;
 
 /// Statements and their contents are kept for pass two up to so many. Where the lines make more, each line is gone through again.
@@ -37,27 +35,12 @@ pub fn make_part(
     one.make_text(alloc, lines)
 }
 
-/// The statements of a line.
-#[derive(Drop)]
-struct Statements {
-    items: Vec<Item>,
-}
-
-impl Model for Statements {
-    ghost use Rattle.std.specs.Prelude.{List};
-    ghost use Rattle.cps_state.specs.declared.item.Item.{Item};
-
-    ghost Value = { List Item };
-
-    ghost view = { λ statements. statements.items.items };
-}
-
 /// What pass one makes of the lines so far.
 struct PassOne {
     part: Part,
     gather: Gather,
-    /// The statements of each line. None: they are too many.
-    kept: Option<Vec<Statements>>,
+    /// Where the statements of each line end among those on the sheet. None: they are too many, and none is kept.
+    ends: Option<Vec<usize>>,
     /// How many statements and contents there are.
     count: usize,
     sheet: Sheet,
@@ -71,14 +54,14 @@ impl Drop for PassOne {
         let PassOne {
             part: _,
             gather,
-            kept,
+            ends,
             count: _,
             sheet,
             symbols,
             mentions,
         } = self;
         drop(gather);
-        drop(kept);
+        drop(ends);
         drop(sheet);
         drop(symbols);
         drop(mentions);
@@ -94,7 +77,7 @@ impl PassOne {
         PassOne {
             part,
             gather: Gather::new(alloc, hashing),
-            kept: Some(Vec::new(alloc)),
+            ends: Some(Vec::new(alloc)),
             count: 0,
             sheet: Sheet::new(alloc),
             symbols: LineSymbols::new(alloc, hashing),
@@ -122,20 +105,20 @@ impl PassOne {
 
     /// Takes the next line.
     fn take_line(&mut self, alloc: Global, number: u32, line: &[u8]) -> Result<(), AllocError>
-        ensures passed { OnOk result ((lines : List (List ℕ)) → IsPassed lines self.old → number ≡ length lines + 1 → IsPassed (lines ++ line.now ∷ []) self.new) }
+        ensures passed { OnOk result (PassesOn line.now number self.old self.new) }
         ensures part { OnOk result (self.new.part ≡ self.old.part) }
     {
-        let trace = step_next(alloc, &mut self.sheet, &mut self.gather, line)?;
+        step_next(alloc, &mut self.sheet, &self.gather, line)?;
         note_symbols(
             &mut self.mentions,
             self.part.shows_symbols(),
             number,
             &mut self.symbols,
-            &trace,
+            &self.sheet,
         )?;
-        self.count = counted(self.count, trace.items());
-        let items = self.sheet.take_back(trace);
-        keep(&mut self.kept, self.count, Statements { items })?;
+        self.count = counted(self.count, self.sheet.items());
+        self.gather.take(&mut self.sheet)?;
+        keep(&mut self.ends, self.count, &mut self.sheet)?;
         Ok(())
     }
 
@@ -155,33 +138,36 @@ impl PassOne {
     /// What pass two shows of these lines.
     fn show(&self, alloc: Global, lines: &LineText) -> Result<Printout, AllocError>
         requires few { length lines.now ≤ MOST_LINES }
-        requires kept { IfSome self.now.kept (λ kept. kept.items ≡ statements_of (traces_of lines.now)) }
+        requires kept { IfSome self.now.ends (λ ends. AreParts ends.items (statements_on self.now.sheet) (statements_of (traces_of lines.now))) }
         ensures printout { IfOk result (IsPrintoutOf lines.now (outcomes_under (⟦<Gather as Gathered>⟧.gathered self.now.gather) (traces_of lines.now))) }
         ensures part { IfOk result (λ printout. printout.part ≡ self.now.part) }
         ensures few { IfOk result (λ printout. printout.flagged ≤ MOST_LINES) }
     {
         let finals = self.gather.finals();
-        match &self.kept {
-            Some(kept) => show_kept(alloc, self.part, lines, kept, finals),
+        match &self.ends {
+            Some(ends) => {
+                let items = self.sheet.all_items();
+                show_kept(alloc, self.part, lines, Statements { items, ends }, finals)
+            }
             None => show_again(alloc, self.part, lines, finals),
         }
     }
 }
 
-/// Notes the symbols of a line, where they are shown.
+/// Notes the symbols of the line on a sheet, where they are shown.
 fn note_symbols(
     mentions: &mut Vec<Mention>,
     is_shown: bool,
     number: u32,
     symbols: &mut LineSymbols,
-    trace: &Trace,
+    sheet: &Sheet,
 ) -> Result<(), AllocError>
-    ensures { OnOk result (mentions.new.items ≡ mentions.old.items ++ shown is_shown (mentions_on number (names_defined trace.now) (names_read trace.now))) }
+    ensures { OnOk result (mentions.new.items ≡ mentions.old.items ++ noted is_shown number sheet.now.line) }
 {
     if !is_shown {
         return Ok(());
     }
-    symbols.replace(trace)?;
+    symbols.replace(sheet.puts(), sheet.reads(), sheet.items())?;
     push_mentions(mentions, number, symbols.defined(), symbols.read())
 }
 
@@ -194,20 +180,19 @@ fn counted(count: usize, items: &[Item]) -> usize {
     count
 }
 
-/// Keeps the statements of a line, unless there are too many by now.
-fn keep(
-    kept: &mut Option<Vec<Statements>>,
-    count: usize,
-    statements: Statements,
-) -> Result<(), AllocError>
-    ensures { OnOk result ((before : List (List Item)) → IfSome kept.old (λ kept. kept.items ≡ before) → IfSome kept.new (λ kept. kept.items ≡ before ++ statements ∷ [])) }
+/// Keeps the statements of the line on a sheet, unless there are too many by now.
+fn keep(ends: &mut Option<Vec<usize>>, count: usize, sheet: &mut Sheet) -> Result<(), AllocError>
+    ensures { OnOk result ((parts : List (List Item)) → IfSome ends.old (λ ends. AreParts ends.items sheet.old.before parts)
+        → IfSome ends.new (λ ends. AreParts ends.items (statements_on sheet.new) (parts ++ sheet.old.line.items ∷ []))) }
 {
     if count > MOST_KEPT {
-        *kept = None;
+        *ends = None;
+        sheet.clear_items();
         return Ok(());
     }
-    if let Some(kept) = kept {
-        kept.push(statements)?;
+    match ends {
+        Some(ends) => ends.push(sheet.all_items().len())?,
+        None => sheet.clear_items(),
     }
     Ok(())
 }
@@ -216,15 +201,13 @@ fn keep(
 fn step_next(
     alloc: Global,
     sheet: &mut Sheet,
-    gather: &mut Gather,
+    gather: &Gather,
     line: &[u8],
-) -> Result<Trace, AllocError>
-    ensures { IfOk result (λ trace. (before : List (List ℕ)) → Gathers (⟦<Gather as Gathered>⟧.gathered gather.old) (traces_of before)
-        → IsNext before line.now trace (⟦<Gather as Gathered>⟧.gathered gather.new)) }
+) -> Result<(), AllocError>
+    ensures { OnOk result ((before : List (List ℕ)) → Gathers (⟦<Gather as Gathered>⟧.gathered gather.now) (traces_of before)
+        → IsNext before line.now (statements_on sheet.old) sheet.new) }
 {
-    let trace = step_unasked(alloc, &mut Work::new(), sheet, line, gather.state())?;
-    gather.add(&trace)?;
-    Ok(trace)
+    step_unasked(alloc, &mut Work::new(), sheet, line, gather.state())
 }
 
 /// What pass two shows of the lines so far, under the final values.
@@ -284,24 +267,31 @@ impl<'a> PassTwo<'a> {
     }
 }
 
+/// The statements of lines, and where those of each line end.
+#[derive(Clone, Copy)]
+struct Statements<'a> {
+    items: &'a [Item],
+    ends: &'a [usize],
+}
+
 /// What pass two shows of lines whose statements were kept.
 fn show_kept(
     alloc: Global,
     part: Part,
     lines: &LineText,
-    kept: &[Statements],
+    kept: Statements<'_>,
     finals: &Finals,
 ) -> Result<Printout, AllocError>
     requires few { length lines.now ≤ MOST_LINES }
-    requires kept { kept.now ≡ statements_of (traces_of lines.now) }
+    requires kept { AreParts kept.ends.now kept.items.now (statements_of (traces_of lines.now)) }
     ensures printout { IfOk result (IsPrintoutOf lines.now (outcomes_under (⟦<Finals as Gathered>⟧.gathered finals.now) (traces_of lines.now))) }
     ensures part { IfOk result (λ printout. printout.part ≡ part) }
     ensures few { IfOk result (λ printout. printout.flagged ≤ MOST_LINES) }
 {
     let mut two = PassTwo::new(alloc, part, finals);
     for before in 0..lines.len() {
-        let statements = &kept[before];
-        two.add(before as u32 + 1, lines.line(before), &statements.items)?;
+        let items = part_at(kept.items, kept.ends, before);
+        two.add(before as u32 + 1, lines.line(before), items)?;
     }
     Ok(two.take_printout(alloc, part))
 }
@@ -369,9 +359,10 @@ impl<'a> Again<'a> {
         ensures part { OnOk result (self.new.two.printout.part ≡ self.old.two.printout.part) }
         ensures few { OnOk result (self.new.two.printout.flagged ≤ number) }
     {
-        let trace = step_next(alloc, &mut self.sheet, &mut self.gather, line)?;
-        self.two.add(number, line, trace.items())?;
-        drop(self.sheet.take_back(trace));
+        step_next(alloc, &mut self.sheet, &self.gather, line)?;
+        self.gather.take(&mut self.sheet)?;
+        self.two.add(number, line, self.sheet.items())?;
+        self.sheet.clear_items();
         Ok(())
     }
 }

@@ -65,7 +65,7 @@ impl KnownPlaces {
         }
         let mut of_line = LineSymbols::new(alloc, hashing);
         for trace in traces {
-            of_line.replace(trace)?;
+            of_line.replace(trace.puts(), trace.reads(), trace.items())?;
             note_readings(&mut symbols, of_line.read())?;
         }
         Ok(KnownPlaces {

@@ -15,13 +15,13 @@ use Rattle.cps_state.specs.declared.key.Put.{Put}
 use Rattle.cps_state.specs.Course.{Trace}
 use Rattle.cps_state.specs.Flags.{joined}
 use Rattle.cps_state.specs.Machines.{limit, behind}
-use Rattle.cps_state.specs.Made.{Made, no_flags, width_of, content_names, end_of, HaveRoom}
+use Rattle.cps_state.specs.Made.{Made, no_flags, width_of, end_of, HaveRoom}
 use Rattle.cps_state.proofs.PlaceLemmas.{end-not-before, end-next}
 use Rattle.cps_final.specs.declared.row.Row.{Row}
 use Rattle.cps_final.specs.Values.{Resolved, known_in, Standing, standing_of, first_address}
 use Rattle.cps_final.specs.Places.{with_places}
 use Rattle.cps_final.specs.Rows.{row_at, later_rows, content_rows, with_contents, blank_row, rows_with, rows_made, row_of, rows_of}
-use Rattle.cps_final.specs.Names.{later_names, symbol_put, names_read, names_defined}
+use Rattle.cps_final.specs.Names.{defined_by, names_defined, names_later, names_read, read_by, symbol_put}
 use Rattle.cps_final.specs.Outcome.{Output, output_of, outcome_of, joined_with}
 use Rattle.cps_standing.proofs.BlockLemmas.{same_name-laws}
 use Rattle.cps_standing.proofs.GatherLemmas.{distinct-append}
@@ -149,24 +149,21 @@ at_ok (Err e) ok p = absurd (true≢false (sym ok))
 -- ---- a line
 
 -- the names of a line, inserted one after another into none
-pub defined-made : (trace : Trace) (puts : List Put) (none defined : List Name) → puts ≡ trace.puts → none ≡ []
-    → defined ≡ insert_all same_name none (flat_map (λ p. symbol_put p.key) puts) → defined ≡ names_defined trace
-defined-made trace puts none defined are_puts is_none defines =
-    defines ∙ (λ i. insert_all same_name (is_none i) (flat_map (λ p. symbol_put p.key) (are_puts i)))
-    ∙ sym (distinct-append same_name same_name-laws [] (flat_map (λ p. symbol_put p.key) trace.puts))
+pub defined-made : (puts : List Put) (none defined : List Name) → none ≡ [] → defined ≡ insert_all same_name none (flat_map (λ p. symbol_put p.key) puts) → defined ≡ defined_by puts
+defined-made puts none defined is_none defines =
+    defines ∙ ap (λ (l : List Name). insert_all same_name l (flat_map (λ p. symbol_put p.key) puts)) is_none
+    ∙ sym (distinct-append same_name same_name-laws [] (flat_map (λ p. symbol_put p.key) puts))
 
-pub read-made : (trace : Trace) (none read : List Name) → none ≡ [] → read ≡ insert_all same_name none (trace.reads ++ later_names trace) → read ≡ names_read trace
-read-made trace none read is_none reads =
-    reads ∙ ap (λ (l : List Name). insert_all same_name l (trace.reads ++ later_names trace)) is_none
-    ∙ sym (distinct-append same_name same_name-laws [] (trace.reads ++ later_names trace))
+pub read-made : (reads : List Name) (items : List Item) (none read : List Name) → none ≡ [] → read ≡ insert_all same_name none (reads ++ names_later items) → read ≡ read_by reads items
+read-made reads items none read is_none made =
+    made ∙ ap (λ (l : List Name). insert_all same_name l (reads ++ names_later items)) is_none
+    ∙ sym (distinct-append same_name same_name-laws [] (reads ++ names_later items))
 
 -- those that are read now, and then those that are read later
-pub reads-join : (trace : Trace) (reads : List Name) (items : List Item) (old mid new : List Name) → reads ≡ trace.reads → items ≡ trace.items
-    → mid ≡ insert_all same_name old reads → new ≡ insert_all same_name mid (flat_map (λ item. flat_map content_names item.made.contents) items)
-    → new ≡ insert_all same_name old (trace.reads ++ later_names trace)
-reads-join trace reads items old mid new are_reads are_items first later =
-    later ∙ (λ i. insert_all same_name ((first ∙ ap (insert_all same_name old) are_reads) i) (flat_map (λ item. flat_map content_names item.made.contents) (are_items i)))
-    ∙ sym (fold-append (insert_key same_name) old trace.reads (later_names trace))
+pub reads-join : (reads : List Name) (items : List Item) (old mid new : List Name) → mid ≡ insert_all same_name old reads → new ≡ insert_all same_name mid (names_later items)
+    → new ≡ insert_all same_name old (reads ++ names_later items)
+reads-join reads items old mid new first later =
+    later ∙ ap (λ (l : List Name). insert_all same_name l (names_later items)) first ∙ sym (fold-append (insert_key same_name) old reads (names_later items))
 
 pub outcome-made : (finals : Resolved) (trace : Trace) (output : Output) (defined read : List Name) (items : List Item) → items ≡ trace.items
     → output ≡ output_of finals items → defined ≡ names_defined trace → read ≡ names_read trace

@@ -1,9 +1,9 @@
 //! The symbols of one line after another.
 ghost use Rattle.std.specs.Prelude.{◌≡◌, [], OnOk};
-ghost use Rattle.cps_final.specs.Names.{names_defined, names_read};
+ghost use Rattle.cps_final.specs.Names.{defined_by, read_by};
 
 use crate::names::{insert_defined, insert_read};
-use cps_state::{Hashing, Trace};
+use cps_state::{Hashing, Item, Put};
 use cps_text::Name;
 use indexmap::IndexSet;
 use std::alloc::{AllocError, Global};
@@ -35,14 +35,19 @@ impl LineSymbols {
         }
     }
 
-    /// Puts the symbols of a line in the place of those that stood here.
-    pub fn replace(&mut self, trace: &Trace) -> Result<(), AllocError>
-        ensures { OnOk result (self.new ≡ record { defined = names_defined trace.now; read = names_read trace.now }) }
+    /// Puts the symbols of a line, by what it put, read in pass one and made, in the place of those that stood here.
+    pub fn replace(
+        &mut self,
+        puts: &[Put],
+        reads: &[Name],
+        items: &[Item],
+    ) -> Result<(), AllocError>
+        ensures { OnOk result (self.new ≡ record { defined = defined_by puts.now; read = read_by reads.now items.now }) }
     {
         self.defined.clear();
         self.read.clear();
-        insert_defined(&mut self.defined, trace.puts())?;
-        insert_read(&mut self.read, trace)
+        insert_defined(&mut self.defined, puts)?;
+        insert_read(&mut self.read, reads, items)
     }
 
     /// The symbols that the line defines.

@@ -33,11 +33,11 @@ pub fn list_read(alloc: Global, hashing: Hashing, trace: &Trace) -> Result<KeptN
     ensures { IfOk result (λ names. names ≡ names_read trace.now) }
 {
     let mut few = FewNames::new(alloc);
-    if insert_read(&mut few, trace).is_ok() {
+    if insert_read(&mut few, trace.reads(), trace.items()).is_ok() {
         return Ok(few.names);
     }
     let mut names = IndexSet::with_hasher(alloc, hashing);
-    insert_read(&mut names, trace)?;
+    insert_read(&mut names, trace.reads(), trace.items())?;
     KeptNames::copy_of(alloc, names.as_slice())
 }
 

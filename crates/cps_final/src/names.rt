@@ -3,11 +3,11 @@ ghost use Rattle.std.specs.Prelude.{◌≡◌, ◌++◌, flat_map, OnOk};
 ghost use Rattle.cps_code.specs.Operand.{operand_names};
 ghost use Rattle.cps_expr.specs.Value.{same_name};
 ghost use Rattle.cps_state.specs.Made.{content_names};
-ghost use Rattle.cps_final.specs.Names.{later_names, symbol_put};
+ghost use Rattle.cps_final.specs.Names.{names_later, symbol_put};
 ghost use Rattle.indexmap.specs.IndexSet.{insert_all};
 
 use cps_code::Hole;
-use cps_state::{Content, Hashing, Item, Key, Put, Trace};
+use cps_state::{Content, Hashing, Item, Key, Put};
 use cps_text::Name;
 use indexmap::IndexSet;
 use std::alloc::AllocError;
@@ -57,15 +57,19 @@ fn insert_symbol<S: NameSet>(names: &mut S, key: Key) -> Result<(), AllocError>
 }
 
 /// Inserts the symbols that a line reads, now or later.
-pub fn insert_read<S: NameSet>(names: &mut S, trace: &Trace) -> Result<(), AllocError>
-    ensures { OnOk result (S.names names.new ≡ insert_all same_name (S.names names.old) (trace.now.reads ++ later_names trace.now)) }
+pub fn insert_read<S: NameSet>(
+    names: &mut S,
+    reads: &[Name],
+    items: &[Item],
+) -> Result<(), AllocError>
+    ensures { OnOk result (S.names names.new ≡ insert_all same_name (S.names names.old) (reads.now ++ names_later items.now)) }
 {
-    insert_names(names, trace.reads())?;
-    insert_later_names(names, trace.items())
+    insert_names(names, reads)?;
+    insert_later_names(names, items)
 }
 
 fn insert_later_names<S: NameSet>(names: &mut S, items: &[Item]) -> Result<(), AllocError>
-    ensures { OnOk result (S.names names.new ≡ insert_all same_name (S.names names.old) (flat_map (λ item. flat_map content_names item.made.contents) items.now)) }
+    ensures { OnOk result (S.names names.new ≡ insert_all same_name (S.names names.old) (names_later items.now)) }
 {
     for item in items {
         insert_contents_names(names, item.made.contents())?;

@@ -1,13 +1,16 @@
 -- For the code that keeps final values, not part of what a reader believes: where blocks and literals stand, apart from what stands at keys.
-use Rattle.std.specs.Prelude.{◌≡◌, ◌≤◌, ℕ, List, [], ◌∷◌, ◌++◌, length, Option, Some}
+use Rattle.std.specs.Prelude.{◌≡◌, ◌≤◌, ℕ, List, [], ◌∷◌, ◌++◌, length, Option, Some, nat_eq}
 use Rattle.indexmap.specs.IndexMap.{spare}
-use Rattle.indexmap.specs.IndexSet.{spare as set_spare}
+use Rattle.indexmap.specs.IndexSet.{insert_all, spare as set_spare}
+use Rattle.std.specs.Option.{option_or}
+use Rattle.cps_state.specs.declared.key.Put.{Put}
 use Rattle.cps_state.specs.Course.{Trace}
-use Rattle.cps_state.specs.Keys.{first_state}
+use Rattle.cps_state.specs.Keys.{first_state, overwritten}
 use Rattle.cps_text.specs.declared.name.Name.{Name}
-use Rattle.cps_gather.specs.Finals.{Finals, finals_of, final_value, block, literal}
+use Rattle.cps_gather.specs.Finals.{Finals, finals_of, final_value, first_program, block, literal}
 use Rattle.cps_gather.specs.Layout.{Layout}
-use Rattle.cps_gather.specs.Gathering.{layout_kept}
+use Rattle.cps_gather.specs.Gathering.{grown_by, layout_kept}
+use Rattle.cps_gather.specs.Pool.{literals_in}
 use Rattle.cps_gather.specs.declared.storage.Storage.{Storage}
 
 -- what is kept, as if nothing had been put
@@ -27,9 +30,16 @@ IsStored storage traces = stored storage ≡ record (finals_of traces) { state =
 abbrev pub StoresMore : Storage → Storage → Trace → Type 0
 StoresMore old new trace = (traces : List Trace) → IsStored old traces → IsStored new (traces ++ trace ∷ [])
 
+-- final values with one line more
+pub record HasGathered (old new : Finals) (trace : Trace) : Type 0 where
+  pub state : new.state ≡ overwritten old.state trace.puts
+  pub layout : new.layout ≡ grown_by old.layout trace.puts
+  pub pool : new.pool ≡ insert_all nat_eq old.pool (literals_in trace)
+  pub program : new.program ≡ option_or old.program (first_program trace.items)
+
 -- there is room for what a line puts, and for these literals
-pub record HasRoom (storage : Storage) (trace : Trace) (literals : List ℕ) : Type 0 where
-  pub blocks : length trace.puts ≤ spare storage.blocks.named
+pub record HasRoom (storage : Storage) (puts : List Put) (literals : List ℕ) : Type 0 where
+  pub blocks : length puts ≤ spare storage.blocks.named
   pub pool : length literals ≤ set_spare storage.pool
 
 -- the same named blocks in the same order, each with as many words

@@ -1,24 +1,19 @@
 //! Final values.
-ghost use Rattle.std.specs.Prelude.{◌≡◌, ◌+◌, ◌<◌, ◌≤◌, ◌^◌, [], nat_eq, nat_le, OnOk, OnErr, IfSome};
-ghost use Rattle.std.specs.Option.{option_or};
+ghost use Rattle.std.specs.Prelude.{◌≡◌, ◌+◌, ◌<◌, ◌≤◌, ◌^◌, [], nat_le, OnOk, OnErr, IfSome};
 ghost use Rattle.cps_expr.specs.Value.{IsInRange};
 ghost use Rattle.cps_state.specs.Exchange.{room_of};
-ghost use Rattle.cps_state.specs.Keys.{overwritten};
 ghost use Rattle.cps_state.specs.Machines.{limit};
 ghost use Rattle.cps_changes.specs.Kept.{changes_in, count_of, MayStandIn};
-ghost use Rattle.cps_gather.specs.Finals.{first_program, Gathers, machine_of, is_open_at_end, final_value, label, setting, block as block_named, literal, address_of};
-ghost use Rattle.cps_gather.specs.Gathering.{grown_by};
+ghost use Rattle.cps_gather.specs.Finals.{Gathers, machine_of, is_open_at_end, final_value, label, setting, block as block_named, literal, address_of};
 ghost use Rattle.cps_gather.specs.Addresses.{address_in, final_of};
 ghost use Rattle.cps_gather.specs.Mend.{mended};
-ghost use Rattle.cps_gather.specs.Pool.{literals_in};
-ghost use Rattle.cps_gather.specs.Storage.{stored};
-ghost use Rattle.indexmap.specs.IndexSet.{insert_all};
+ghost use Rattle.cps_gather.specs.Storage.{HasGathered, stored};
 
 use crate::mend::Mend;
 use crate::storage::{Storage, magnitude};
 use cps_expr::{Machine, Names, Value};
 use cps_state::{
-    Hashing, Key, Lookup, Stand, State, Trace, control_of, is_open, limit_of, value_of,
+    Hashing, Key, Lookup, Sheet, Stand, State, Trace, control_of, is_open, limit_of, value_of,
 };
 use cps_text::Name;
 use std::alloc::{AllocError, Global};
@@ -39,7 +34,7 @@ pub trait Gathered {
 }
 
 impl Gathered for Finals {
-    ghost use Rattle.cps_gather.specs.Storage.{stored};
+    ghost use Rattle.cps_gather.specs.Storage.{HasGathered, stored};
 
     ghost gathered = { λ finals. record (stored finals.storage) { state = ⟦<State as Lookup>⟧.answer finals.state } };
 }
@@ -57,15 +52,25 @@ impl Finals {
 
     /// With one more line. Where there is no memory, nothing changes.
     pub(crate) fn add(&mut self, trace: &Trace) -> Result<(), AllocError>
-        ensures state { OnOk result ((⟦<Finals as Gathered>⟧.gathered self.new).state ≡ overwritten (⟦<Finals as Gathered>⟧.gathered self.old).state trace.now.puts) }
-        ensures layout { OnOk result ((⟦<Finals as Gathered>⟧.gathered self.new).layout ≡ grown_by (⟦<Finals as Gathered>⟧.gathered self.old).layout trace.now.puts) }
-        ensures pool { OnOk result ((⟦<Finals as Gathered>⟧.gathered self.new).pool ≡ insert_all nat_eq (⟦<Finals as Gathered>⟧.gathered self.old).pool (literals_in trace.now)) }
-        ensures program { OnOk result ((⟦<Finals as Gathered>⟧.gathered self.new).program ≡ option_or (⟦<Finals as Gathered>⟧.gathered self.old).program (first_program trace.now.items)) }
+        ensures ok { OnOk result (HasGathered (⟦<Finals as Gathered>⟧.gathered self.old) (⟦<Finals as Gathered>⟧.gathered self.new) trace.now) }
         ensures err { OnErr result (⟦<Finals as Gathered>⟧.gathered self.new ≡ ⟦<Finals as Gathered>⟧.gathered self.old) }
     {
-        let literals = self.storage.make_room(trace)?;
+        let literals = self.storage.make_room(trace.puts(), trace.items())?;
         self.state.apply(trace)?;
-        self.storage.take(trace, &literals);
+        self.storage.take(trace.puts(), trace.items(), &literals);
+        Ok(())
+    }
+
+    /// With the line on a sheet, whose puts stand there no more.
+    pub(crate) fn take(&mut self, sheet: &mut Sheet) -> Result<(), AllocError>
+        ensures ok { OnOk result (HasGathered (⟦<Finals as Gathered>⟧.gathered self.old) (⟦<Finals as Gathered>⟧.gathered self.new) sheet.old.line) }
+        ensures sheet { OnOk result (sheet.new ≡ record sheet.old { line = record sheet.old.line { puts = [] } }) }
+        ensures err { OnErr result (⟦<Finals as Gathered>⟧.gathered self.new ≡ ⟦<Finals as Gathered>⟧.gathered self.old) }
+    {
+        let literals = self.storage.make_room(sheet.puts(), sheet.items())?;
+        self.state.reserve(sheet.puts().len())?;
+        self.storage.take(sheet.puts(), sheet.items(), &literals);
+        sheet.put_into(&mut self.state);
         Ok(())
     }
 

@@ -5,7 +5,7 @@ ghost use Rattle.cps_state.specs.Keys.{overwritten};
 ghost use Rattle.cps_gather.specs.Finals.{Gathers};
 
 use crate::finals::{Finals, Gathered};
-use cps_state::{Hashing, Lookup, State, Trace};
+use cps_state::{Hashing, Lookup, Sheet, State, Trace};
 use std::alloc::{AllocError, Global};
 
 /// What was gathered of the lines that were added, in their order.
@@ -35,6 +35,15 @@ impl Gather {
         ensures err { OnErr result (⟦<Gather as Gathered>⟧.gathered self.new ≡ ⟦<Gather as Gathered>⟧.gathered self.old) }
     {
         self.finals.add(trace)
+    }
+
+    /// Adds the line on a sheet, without what it asked; its puts stand there no more. Where there is no memory, nothing changes here.
+    pub fn take(&mut self, sheet: &mut Sheet) -> Result<(), AllocError>
+        ensures ok { OnOk result ((traces : List Trace) → Gathers (⟦<Gather as Gathered>⟧.gathered self.old) traces → Gathers (⟦<Gather as Gathered>⟧.gathered self.new) (traces ++ sheet.old.line ∷ [])) }
+        ensures sheet { OnOk result (sheet.new ≡ record sheet.old { line = record sheet.old.line { puts = [] } }) }
+        ensures err { OnErr result (⟦<Gather as Gathered>⟧.gathered self.new ≡ ⟦<Gather as Gathered>⟧.gathered self.old) }
+    {
+        self.finals.take(sheet)
     }
 
     /// What stands after the lines so far.

@@ -2,14 +2,14 @@
 ghost use Rattle.std.specs.Prelude.{◌≡◌, ◌++◌, flat_map, OnOk, IfOk};
 ghost use Rattle.cps_state.specs.Operand.{operand_literals};
 ghost use Rattle.cps_state.specs.Made.{content_literals};
-ghost use Rattle.cps_gather.specs.Pool.{literals_of};
+ghost use Rattle.cps_gather.specs.Pool.{literals_among};
 
 use cps_state::{Content, Hole, Item, Operand};
 use std::alloc::{AllocError, Global};
 
 /// The literal words of statements, in their order. Takes no memory where there is none.
 pub fn list_literals(alloc: Global, items: &[Item]) -> Result<Vec<u64>, AllocError>
-    ensures { IfOk result (λ literals. literals.items ≡ flat_map (λ item. literals_of item.made) items.now) }
+    ensures { IfOk result (λ literals. literals.items ≡ literals_among items.now) }
 {
     let mut literals = Vec::new(alloc);
     for item in items {

@@ -5,14 +5,14 @@ ghost use Rattle.cps_expr.specs.Value.{plain, limited, IsInRange};
 ghost use Rattle.cps_gather.specs.Finals.{first_program, words_to_named, base_of, final_value, block as block_named, literal};
 ghost use Rattle.cps_gather.specs.Gathering.{grown_by, layout_kept};
 ghost use Rattle.cps_gather.specs.Addresses.{base_in, final_of};
-ghost use Rattle.cps_gather.specs.Pool.{literals_in};
+ghost use Rattle.cps_gather.specs.Pool.{literals_among};
 ghost use Rattle.cps_gather.specs.Storage.{stored, IsStored, StoresMore, HasRoom, PlacesStand};
 ghost use Rattle.indexmap.specs.IndexSet.{insert_all, insert_key, spare};
 
 use crate::blocks::Blocks;
 use crate::literals::list_literals;
 use cps_expr::Value;
-use cps_state::{Hashing, Item, Trace};
+use cps_state::{Hashing, Item, Put, Trace};
 use cps_text::Name;
 use indexmap::IndexSet;
 use std::alloc::{AllocError, Global};
@@ -40,30 +40,30 @@ impl Storage {
     }
 
     /// Makes room for what a line puts, and for its literals, which it gives.
-    pub(crate) fn make_room(&mut self, trace: &Trace) -> Result<Vec<u64>, AllocError>
+    pub(crate) fn make_room(&mut self, puts: &[Put], items: &[Item]) -> Result<Vec<u64>, AllocError>
         ensures same { stored self.new ≡ stored self.old }
-        ensures literals { IfOk result (λ literals. literals.items ≡ literals_in trace.now) }
-        ensures room { IfOk result (λ literals. HasRoom self.new trace.now literals.items) }
+        ensures literals { IfOk result (λ literals. literals.items ≡ literals_among items.now) }
+        ensures room { IfOk result (λ literals. HasRoom self.new puts.now literals.items) }
     {
-        let literals = list_literals(self.alloc, trace.items())?;
-        self.blocks.reserve(trace.puts().len())?;
+        let literals = list_literals(self.alloc, items)?;
+        self.blocks.reserve(puts.len())?;
         self.pool.reserve(literals.len())?;
         Ok(literals)
     }
 
     /// With one more line, whose literals these are, where there is room for it.
-    pub(crate) fn take(&mut self, trace: &Trace, literals: &[u64])
-        requires room { HasRoom self.old trace.now literals.now }
-        requires literals { literals.now ≡ literals_in trace.now }
-        ensures layout { (stored self.new).layout ≡ grown_by (stored self.old).layout trace.now.puts }
-        ensures pool { (stored self.new).pool ≡ insert_all nat_eq (stored self.old).pool (literals_in trace.now) }
-        ensures program { (stored self.new).program ≡ option_or (stored self.old).program (first_program trace.now.items) }
+    pub(crate) fn take(&mut self, puts: &[Put], items: &[Item], literals: &[u64])
+        requires room { HasRoom self.old puts.now literals.now }
+        requires literals { literals.now ≡ literals_among items.now }
+        ensures layout { (stored self.new).layout ≡ grown_by (stored self.old).layout puts.now }
+        ensures pool { (stored self.new).pool ≡ insert_all nat_eq (stored self.old).pool (literals_among items.now) }
+        ensures program { (stored self.new).program ≡ option_or (stored self.old).program (first_program items.now) }
     {
-        self.blocks.put_all(trace.puts());
+        self.blocks.put_all(puts);
         insert_literals(&mut self.pool, literals);
         self.program = match self.program {
             Some(name) => Some(name),
-            None => first_program(trace.items()),
+            None => first_program(items),
         };
     }
 
@@ -72,8 +72,8 @@ impl Storage {
         ensures ok { OnOk result (StoresMore self.old self.new trace.now) }
         ensures err { OnErr result (stored self.new ≡ stored self.old) }
     {
-        let literals = self.make_room(trace)?;
-        self.take(trace, &literals);
+        let literals = self.make_room(trace.puts(), trace.items())?;
+        self.take(trace.puts(), trace.items(), &literals);
         Ok(())
     }
 

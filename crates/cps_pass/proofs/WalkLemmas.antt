@@ -5,7 +5,8 @@ use Rattle.std.specs.Prelude.{IfOk}
 use Rattle.cps_text.specs.Insertion.{Pairs, inserted}
 use Rattle.cps_state.specs.Course.{Course, stop, begin, settle, Part, ◌before◌, nothing, run, started}
 use Rattle.cps_state.specs.Line.{Line, runs, line_started, line_settled, goes_on, Goes}
-use Rattle.cps_state.proofs.LineLemmas.{runs-done}
+use Rattle.cps_state.proofs.LineLemmas.{runs-before, runs-done}
+use Rattle.cps_state.specs.declared.item.Item.{Item}
 use Rattle.cps_state.specs.Keys.{State}
 use Rattle.cps_statement.specs.declared.opened.Opened.{Opened}
 use Rattle.cps_statement.specs.declared.scope.Scope.{Scope}
@@ -183,5 +184,11 @@ lined text later o complete f r s u t hands settled goes =
     ∙ at-end complete f t
 
 -- what a line did in its state
-pub done-is : {S : Type 0} (course : Course) (f : S → State) (state : S) (t : Line S) (complete : Bool) → runs course f (line_started state) ≡ (t, complete) → (t.done, complete) ≡ run course (f state) started
-done-is {S} course f state t complete is = ap (λ (r : Line S × Bool). (r.0.done, r.1)) (sym is) ∙ runs-done course f state started
+pub done-is : {S : Type 0} (course : Course) (f : S → State) (front : List Item) (state : S) (t : Line S) (complete : Bool)
+    → runs course f (line_started front state) ≡ (t, complete) → (t.done, complete) ≡ run course (f state) started
+done-is {S} course f front state t complete is = ap (λ (r : Line S × Bool). (r.0.done, r.1)) (sym is) ∙ runs-done course f state front started
+
+-- the statements of the lines before stay
+pub before-stays : {S : Type 0} (course : Course) (f : S → State) (front : List Item) (state : S) (t : Line S) (complete : Bool)
+    → runs course f (line_started front state) ≡ (t, complete) → t.before ≡ front
+before-stays {S} course f front state t complete is = ap (λ (r : Line S × Bool). r.0.before) (sym is) ∙ runs-before course f state front started

@@ -1,6 +1,6 @@
 -- What a source line does in pass one: its own statement, and the statements that it opens. From the manual's descriptions of DUP and of macro calls; how
 -- deep expansions may stand, and how many statements a line may stand for, are our profile's.
-use Rattle.std.specs.Prelude.{ℕ, zero, suc, ◌+◌, Bool, true, false, List, [], ◌∷◌, map, if◌then◌else◌}
+use Rattle.std.specs.Prelude.{ℕ, ◌-◌, zero, suc, ◌+◌, Bool, true, false, List, [], ◌∷◌, map, if◌then◌else◌}
 use Rattle.cps_text.specs.Insertion.{inserted}
 use Rattle.cps_state.specs.declared.key.Mode.{Mode}
 use Rattle.cps_state.specs.declared.key.Mode.TheVariants.{KeepDup}
@@ -46,6 +46,14 @@ body (suc depths) depth (naming pairs locals lines) rest =
 -- the first depth that is too deep: what stands below is not looked at
 abbrev pub too_deep : ℕ
 too_deep = deepest + 1
+
+-- the statements that a statement opens, at their depth, down to that
+abbrev pub opened_at : ℕ → Opening → Part
+opened_at depth opening = body (too_deep + 1 - depth) depth opening
+
+-- statements at a depth, each followed by those that it opens
+abbrev pub walk_at : ℕ → Scope → List (List ℕ) → (Scope → Part) → Part
+walk_at depth scope texts next = walk (body (too_deep - depth)) depth scope texts next
 
 -- ---- a source line
 

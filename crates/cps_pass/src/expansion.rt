@@ -1,8 +1,9 @@
 //! The statements that a source line stands for: its own, and those that it opens.
-ghost use Rattle.std.specs.Prelude.{◌≡◌, ◌≤◌, ◌+◌, ◌-◌, IfOk, Some};
-ghost use Rattle.cps_state.specs.Course.{stop, unasked};
+ghost use Rattle.std.specs.Prelude.{◌≡◌, ◌≤◌, ◌+◌, ◌-◌, IfOk, OnOk, Some};
+ghost use Rattle.cps_state.specs.Course.{stop};
 ghost use Rattle.cps_state.specs.Line.{Does, Goes, runs};
-ghost use Rattle.cps_pass.specs.Expansion.{walk, body, ended, too_deep};
+ghost use Rattle.cps_state.specs.Sheet.{StandsOn, statements_on};
+ghost use Rattle.cps_pass.specs.Expansion.{ended, opened_at, too_deep, walk_at};
 ghost use Rattle.cps_pass.specs.Expansion as expansion;
 ghost use Rattle.cps_statement.specs.Taking.{Walks};
 ghost use Rattle.cps_statement.specs.Opened.{opening_of, body_opening, lines_of};
@@ -22,7 +23,7 @@ fn go_through<L: Lookup>(
     texts: &[Shared<u8>],
 ) -> Result<bool, AllocError>
     requires { depth ≤ too_deep }
-    ensures { IfOk result (λ complete. Walks (walk (body (too_deep - depth)) depth scope.old texts.now) complete scope.new L.answer recorder.old recorder.new) }
+    ensures { IfOk result (λ complete. Walks (walk_at depth scope.old texts.now) complete scope.new L.answer recorder.old recorder.new) }
 {
     for text in texts {
         if !recorder.begin(depth, text.share()?)? {
@@ -45,7 +46,7 @@ fn expand<L: Lookup>(
     opened: Opened<'_>,
 ) -> Result<bool, AllocError>
     requires { depth ≤ too_deep }
-    ensures { IfOk result (λ complete. Goes (body (too_deep + 1 - depth) depth (opening_of (Some opened.entry))) complete L.answer recorder.old recorder.new) }
+    ensures { IfOk result (λ complete. Goes (opened_at depth (opening_of (Some opened.entry))) complete L.answer recorder.old recorder.new) }
 {
     match opened {
         Opened::Lines(lines) => repeat(recorder, depth, &lines),
@@ -61,7 +62,7 @@ fn repeat<L: Lookup>(
     opened: &Repeated,
 ) -> Result<bool, AllocError>
     requires { depth ≤ too_deep }
-    ensures { IfOk result (λ complete. Goes (body (too_deep + 1 - depth) depth (plain (lines_of opened.now))) complete L.answer recorder.old recorder.new) }
+    ensures { IfOk result (λ complete. Goes (opened_at depth (plain (lines_of opened.now))) complete L.answer recorder.old recorder.new) }
 {
     let alloc = recorder.alloc();
     let mut scope = Scope::Expansion(Own::at_start(alloc));
@@ -82,7 +83,7 @@ fn expand_body<L: Lookup>(
     called: &Body<'_>,
 ) -> Result<bool, AllocError>
     requires { depth ≤ too_deep }
-    ensures { IfOk result (λ complete. Goes (body (too_deep + 1 - depth) depth (body_opening called.now)) complete L.answer recorder.old recorder.new) }
+    ensures { IfOk result (λ complete. Goes (opened_at depth (body_opening called.now)) complete L.answer recorder.old recorder.new) }
 {
     let alloc = recorder.alloc();
     let mut known = Substitutes::of(alloc, &called.pairs)?;
@@ -154,16 +155,16 @@ pub fn trace_line<L: Lookup>(
     recorder.into_trace(complete, sheet)
 }
 
-/// The same without what it asks, in the lists of a sheet.
-pub fn trace_unasked<L: Lookup>(
+/// The same without what it asks, on a sheet behind all statements there.
+pub fn write_line<L: Lookup>(
     alloc: Global,
     sheet: &mut Sheet,
     line: &[u8],
     state: &L,
-) -> Result<Trace, AllocError>
-    ensures { IfOk result (λ trace. trace ≡ unasked (expansion.trace_of line.now (L.answer state.now))) }
+) -> Result<(), AllocError>
+    ensures { OnOk result (StandsOn sheet.new (statements_on sheet.old) (expansion.trace_of line.now (L.answer state.now))) }
 {
     let mut recorder = Recorder::new(alloc, sheet, state);
     let complete = go_through_line(&mut recorder, line)?;
-    recorder.into_unasked(complete, sheet)
+    recorder.write(complete, sheet)
 }

@@ -1,13 +1,14 @@
 //! Pass one of a line.
-ghost use Rattle.std.specs.Prelude.{◌≡◌, IfOk};
-ghost use Rattle.cps_state.specs.Course.{Holds, unasked};
+ghost use Rattle.std.specs.Prelude.{◌≡◌, IfOk, OnOk};
+ghost use Rattle.cps_state.specs.Course.{Holds};
 ghost use Rattle.cps_state.specs.Keys as keys;
+ghost use Rattle.cps_state.specs.Sheet.{StandsOn, statements_on};
 ghost use Rattle.cps_state.specs.Work.{raised};
 ghost use Rattle.cps_state.specs.declared.work.Tally.TheVariants as tally;
 ghost use Rattle.cps_pass.specs.Bounded.{AreFew, EachOnce};
 ghost use Rattle.cps_pass.specs.Expansion as expansion;
 
-use crate::expansion::{trace_line, trace_unasked};
+use crate::expansion::{trace_line, write_line};
 use cps_state::{Lookup, Sheet, Tally, Trace, Work};
 use cps_text::Line;
 use std::alloc::{AllocError, Global};
@@ -48,17 +49,17 @@ pub fn step_over<L: Lookup>(
     trace_line(alloc, sheet, line.bytes(), state)
 }
 
-/// The same for callers that don't want what the line asks: the trace stands in the lists of the sheet, and `Sheet::take_back` takes them back.
+/// The same for callers that don't want what the line asks: what it did stands on the sheet, behind all statements that were there.
 pub fn step_unasked<L: Lookup>(
     alloc: Global,
     work: &mut Work,
     sheet: &mut Sheet,
     line: &[u8],
     state: &L,
-) -> Result<Trace, AllocError>
-    ensures trace { IfOk result (λ trace. trace ≡ unasked (expansion.trace_of line.now (L.answer state.now))) }
+) -> Result<(), AllocError>
+    ensures line { OnOk result (StandsOn sheet.new (statements_on sheet.old) (expansion.trace_of line.now (L.answer state.now))) }
     ensures ones { work.new ≡ raised tally.Ones work.old }
 {
     work.raise(Tally::Ones);
-    trace_unasked(alloc, sheet, line, state)
+    write_line(alloc, sheet, line, state)
 }

@@ -11,6 +11,7 @@ pub mod Log
 pub mod Machines
 pub mod Made
 pub mod MadeKept
+pub mod Sheet
 pub mod Work
 pub use Rattle.cps_peripheral.specs.Bits
 pub use Rattle.cps_peripheral.specs.Operand

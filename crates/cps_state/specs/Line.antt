@@ -5,47 +5,49 @@ use Rattle.cps_state.specs.declared.flags.Flags.{Flags}
 use Rattle.cps_state.specs.declared.key.Key.{Key}
 use Rattle.cps_state.specs.declared.key.Answer.{Answer}
 use Rattle.cps_state.specs.declared.key.Put.{Put}
+use Rattle.cps_state.specs.declared.item.Item.{Item}
 use Rattle.cps_state.specs.declared.log.Known.{Known}
 use Rattle.cps_state.specs.Course.{Course, stop, ask, put, stand, fill, mark, tell, settle, begin, Part, Running, started, answer_at, with_ask, with_put_made, stood, filled, marked, with_read, settled_by, begun, too_much}
 use Rattle.cps_state.specs.Keys.{State}
 use Rattle.cps_state.specs.Log.{found_in}
 use Rattle.cps_state.specs.Made.{Made}
 
--- what answers the keys of a line, and what the line has done
+-- what answers the keys of a line, the statements of the lines before it, and what the line has done
 pub record Line (S : Type 0) : Type 0 where
   pub state : S
+  pub before : List Item
   pub done : Running
 
 -- a line that has done nothing
-abbrev pub line_started : {S : Type 0} → S → Line S
-line_started state = record { state = state; done = started }
+abbrev pub line_started : {S : Type 0} → List Item → S → Line S
+line_started before state = record { state = state; before = before; done = started }
 
 abbrev pub line_answer : {S : Type 0} → (S → State) → Line S → Key → Option Answer
 line_answer answer line k = answer_at (answer line.state) line.done k
 
 abbrev pub line_asked : {S : Type 0} → (S → State) → Line S → Key → Line S
-line_asked answer line k = record { state = line.state; done = with_ask (answer line.state) line.done k }
+line_asked answer line k = record { state = line.state; before = line.before; done = with_ask (answer line.state) line.done k }
 
 abbrev pub line_put : {S : Type 0} → Line S → Put → Line S
-line_put line p = record { state = line.state; done = with_put_made line.done p }
+line_put line p = record { state = line.state; before = line.before; done = with_put_made line.done p }
 
 abbrev pub line_stood : {S : Type 0} → Line S → Option Name → Line S
-line_stood line block = record { state = line.state; done = stood line.done block }
+line_stood line block = record { state = line.state; before = line.before; done = stood line.done block }
 
 abbrev pub line_filled : {S : Type 0} → Line S → Made → Line S
-line_filled line made = record { state = line.state; done = filled line.done made }
+line_filled line made = record { state = line.state; before = line.before; done = filled line.done made }
 
 abbrev pub line_marked : {S : Type 0} → Line S → Flags → Line S
-line_marked line flags = record { state = line.state; done = marked line.done flags }
+line_marked line flags = record { state = line.state; before = line.before; done = marked line.done flags }
 
 abbrev pub line_told : {S : Type 0} → Line S → Name → Line S
-line_told line name = record { state = line.state; done = with_read line.done name }
+line_told line name = record { state = line.state; before = line.before; done = with_read line.done name }
 
 abbrev pub line_settled : {S : Type 0} → Line S → Line S
-line_settled line = record { state = line.state; done = settled_by line.done }
+line_settled line = record { state = line.state; before = line.before; done = settled_by line.done }
 
 abbrev pub line_begun : {S : Type 0} → Line S → ℕ → List ℕ → Line S
-line_begun line depth text = record { state = line.state; done = begun line.done depth text }
+line_begun line depth text = record { state = line.state; before = line.before; done = begun line.done depth text }
 
 -- the answer at a place of the log
 abbrev pub known_answer : {S : Type 0} → Line S → Known → Option Answer

@@ -45,3 +45,7 @@ StandsIn asks puts (Put place) = place < length puts
 abbrev pub Indexes : List Ask → List APut → Key → Option Known → Type 0
 Indexes asks puts k None = known_in asks puts k ≡ None
 Indexes asks puts k (Some known) = StandsIn asks puts known × (found_in asks puts known ≡ known_in asks puts k)
+
+-- an index, by what it has at each key
+abbrev pub IsIndex : List Key → List APut → (Key → Option Known) → Type 0
+IsIndex asks puts found = (state : State) (k : Key) → Indexes (asked_in state asks) puts k (found k)

@@ -2,10 +2,9 @@
 ghost use Rattle.std.specs.Prelude.{◌≡◌, ◌++◌, ◌∷◌, [], ◌<◌, None, Some, IfOk, OnOk, IfSome, true, is_some, length, option_and_then, slice_get};
 ghost use Rattle.std.specs.Option.{option_copied};
 ghost use Rattle.std.specs.HashMap as hash;
-ghost use Rattle.cps_state.specs.declared.key.Key.{Key};
 ghost use Rattle.cps_state.specs.Keys.{State};
 ghost use Rattle.cps_state.specs.Course.{last_put, last_ask};
-ghost use Rattle.cps_state.specs.Log.{Log, asked_in, known_of, put_at, asked_at, found_at, Indexes};
+ghost use Rattle.cps_state.specs.Log.{IsIndex, Log, asked_in, known_of, put_at, asked_at, found_at};
 
 use crate::hashing::Hashing;
 use crate::key::{Answer, Key, Put, is_same_key};
@@ -37,16 +36,13 @@ pub struct Log {
 impl Model for Log {
     ghost use Rattle.std.specs.Prelude.{IfSome};
     ghost use Rattle.std.specs.HashMap as hash;
-    ghost use Rattle.cps_state.specs.declared.key.Key.{Key};
-    ghost use Rattle.cps_state.specs.Keys.{State};
-    ghost use Rattle.cps_state.specs.Log.{Log, asked_in, Indexes};
+    ghost use Rattle.cps_state.specs.Log.{IsIndex, Log};
 
     ghost Value = { Log };
 
     ghost view = { λ log. record { asks = log.asks.items; puts = log.puts.items } };
 
-    ghost invariant = { λ log. IfSome log.index (λ index. (state : State) (k : Key)
-        → Indexes (asked_in state log.asks.items) log.puts.items k (hash.get ⟦<Key as PartialEq>⟧.eq index.value k)) };
+    ghost invariant = { λ log. IfSome log.index (λ index. IsIndex log.asks.items log.puts.items (hash.get ⟦<Key as PartialEq>⟧.eq index.value)) };
 }
 
 impl Log {
@@ -188,7 +184,7 @@ fn index_of_asks(
     hashing: Hashing,
     asks: &[Key],
 ) -> Result<HashMap<Key, Known, Hashing>, AllocError>
-    ensures { IfOk result (λ index. (state : State) (k : Key) → Indexes (asked_in state asks.now) [] k (hash.get ⟦<Key as PartialEq>⟧.eq index k)) }
+    ensures { IfOk result (λ index. IsIndex asks.now [] (hash.get ⟦<Key as PartialEq>⟧.eq index)) }
 {
     let mut index = HashMap::with_hasher(alloc, hashing);
     for place in 0..asks.len() {
@@ -203,8 +199,8 @@ fn with_puts(
     _asks: &[Key],
     puts: &[Put],
 ) -> Result<HashMap<Key, Known, Hashing>, AllocError>
-    requires { (state : State) (k : Key) → Indexes (asked_in state _asks.now) [] k (hash.get ⟦<Key as PartialEq>⟧.eq index k) }
-    ensures { IfOk result (λ index. (state : State) (k : Key) → Indexes (asked_in state _asks.now) puts.now k (hash.get ⟦<Key as PartialEq>⟧.eq index k)) }
+    requires { IsIndex _asks.now [] (hash.get ⟦<Key as PartialEq>⟧.eq index) }
+    ensures { IfOk result (λ index. IsIndex _asks.now puts.now (hash.get ⟦<Key as PartialEq>⟧.eq index)) }
 {
     let mut index = index;
     for place in 0..puts.len() {

@@ -1,9 +1,10 @@
 //! What a line has asked, put, made and read so far, over what answers its keys.
-ghost use Rattle.std.specs.Prelude.{◌≡◌, ◌≤◌, [], ◌∷◌, IsTrue, OnOk, IfOk};
+ghost use Rattle.std.specs.Prelude.{◌≡◌, ◌≤◌, [], ◌∷◌, IsTrue, OnOk, IfOk, drop, length};
 ghost use Rattle.std.specs.Option.{option_copied};
-ghost use Rattle.cps_state.specs.Course.{begin, first_item, dropped_item, control_puts, traced, unasked, deepest};
+ghost use Rattle.cps_state.specs.Course.{begin, first_item, dropped_item, control_puts, traced, deepest};
 ghost use Rattle.cps_state.specs.Line.{Goes, known_answer, line_started, line_answer, line_asked, line_put, line_stood, line_filled, line_marked, line_told, line_settled};
 ghost use Rattle.cps_state.specs.Log.{asked_in};
+ghost use Rattle.cps_state.specs.Sheet.{StandsOn, statements_on, with_dropped};
 
 use crate::flags::Flags;
 use crate::item::Item;
@@ -12,7 +13,7 @@ use crate::log::{Known, Log};
 use crate::lookup::Lookup;
 use crate::made::Made;
 use crate::shared::Shared;
-use crate::sheet::Sheet;
+use crate::sheet::{Lists, Sheet};
 use crate::trace::Trace;
 use cps_text::Name;
 use cps_text::limits::{DEEPEST, MOST_STATEMENTS};
@@ -27,12 +28,16 @@ pub struct Recorder<'a, L: Lookup> {
     state: &'a L,
     log: Log,
     settled: usize,
-    finished: Vec<Item>,
+    /// The statements of the lines before, and those of the line that are finished.
+    items: Vec<Item>,
+    /// How many are of the lines before.
+    begun: usize,
     present: Item,
     reads: Vec<Name>,
 }
 
 impl<'a, L: Lookup> Model for Recorder<'a, L> {
+    ghost use Rattle.std.specs.Prelude.{◌≤◌, take, drop, length};
     ghost use Rattle.cps_state.specs.Line.{Line};
     ghost use Rattle.cps_state.specs.Log.{asked_in};
 
@@ -40,29 +45,38 @@ impl<'a, L: Lookup> Model for Recorder<'a, L> {
 
     ghost view = { λ recorder. record {
       state = recorder.state.now;
+      before = take recorder.begun recorder.items.items;
       done = record {
         asks = asked_in (L.answer recorder.state.now) recorder.log.asks;
         puts = recorder.log.puts;
         settled = recorder.settled;
-        finished = recorder.finished.items;
+        finished = drop recorder.begun recorder.items.items;
         present = recorder.present;
         reads = recorder.reads.items;
       };
     } };
+
+    ghost invariant = { λ recorder. recorder.begun ≤ length recorder.items.items };
 }
 
 impl<'a, L: Lookup> Recorder<'a, L> {
-    /// Of a line that has done nothing, over a state, in the lists of a sheet.
+    /// Of a line that has done nothing, over a state, on a sheet behind all statements there.
     pub fn new(alloc: Global, sheet: &mut Sheet, state: &'a L) -> Recorder<'a, L>
-        ensures { result ≡ line_started state.now }
+        ensures { result ≡ line_started (statements_on sheet.old) state.now }
     {
-        let (keys, puts, reads) = sheet.take_lists(alloc);
+        let Lists {
+            keys,
+            puts,
+            reads,
+            items,
+        } = sheet.take_lists(alloc);
         Recorder {
             alloc,
             state,
             log: Log::of(alloc, state.hashing(), keys, puts),
             settled: 0,
-            finished: Vec::new(alloc),
+            begun: items.len(),
+            items,
             present: Item::blank(0, Shared::empty()),
             reads,
         }
@@ -145,67 +159,65 @@ impl<'a, L: Lookup> Recorder<'a, L> {
         ensures begun { IfOk result (λ complete. Goes (begin depth text) complete L.answer self.old self.new) }
         ensures deep { IfOk result (λ complete. IsTrue complete → depth ≤ deepest) }
     {
-        if depth > DEEPEST || self.finished.len() >= MOST_STATEMENTS {
+        if depth > DEEPEST || self.items.len() - self.begun >= MOST_STATEMENTS {
             return Ok(false);
         }
-        let Ok(_) = self.finished.reserve(1) else {
+        let Ok(_) = self.items.reserve(1) else {
             drop(text);
             return Err(AllocError);
         };
         let next = Item::blank(depth, text);
         let last = mem::replace(&mut self.present, next);
-        self.finished.push_reserved(last);
+        self.items.push_reserved(last);
         Ok(true)
     }
 
-    /// What the line did, in lists without room for more; those that it was in go back to the sheet. It is dropped where not all of it was done.
+    /// What the line did, in lists without room for more, to be kept. It is dropped where not all of it was done.
     pub fn into_trace(self, complete: bool, sheet: &mut Sheet) -> Result<Trace, AllocError>
         ensures { IfOk result (λ trace. trace ≡ traced (self.entry.done, complete)) }
     {
         let alloc = self.alloc;
         let state = self.state;
-        let (trace, keys) = self.into_parts(complete)?;
-        let asks = asked_in(alloc, state, &keys)?;
-        sheet.give_keys(keys);
-        trace.into_exact(alloc, asks, sheet)
+        self.write(complete, sheet)?;
+        let asks = asked_in(alloc, state, sheet.keys())?;
+        sheet.take_trace(alloc, asks)
     }
 
-    /// The same without what it asked, in the lists that it was in. `Sheet::take_back` takes them back.
-    pub fn into_unasked(self, complete: bool, sheet: &mut Sheet) -> Result<Trace, AllocError>
-        ensures { IfOk result (λ trace. trace ≡ unasked (traced (self.entry.done, complete))) }
-    {
-        let (trace, keys) = self.into_parts(complete)?;
-        sheet.give_keys(keys);
-        Ok(trace)
-    }
-
-    /// What the line did but for its asks, and the keys that it asked.
+    /// Writes on the sheet what the line did. It is dropped where not all of it was done.
     #[inline(always)]
-    fn into_parts(self, complete: bool) -> Result<(Trace, Vec<Key>), AllocError>
-        ensures trace { IfOk result (λ made. made.0 ≡ unasked (traced (self.entry.done, complete))) }
-        ensures keys { IfOk result (λ made. asked_in (L.answer self.entry.state) made.1.items ≡ self.entry.done.asks) }
+    pub fn write(self, complete: bool, sheet: &mut Sheet) -> Result<(), AllocError>
+        ensures line { OnOk result (StandsOn sheet.new self.entry.before (traced (self.entry.done, complete))) }
+        ensures keys { OnOk result (asked_in (L.answer self.entry.state) sheet.new.keys ≡ self.entry.done.asks) }
     {
         let Recorder {
             alloc,
             state: _,
             log,
             settled,
-            finished: mut items,
+            items,
+            begun,
             present,
             reads,
         } = self;
-        let (keys, mut puts) = log.into_parts();
+        let (keys, puts) = log.into_parts();
+        let mut lists = Lists {
+            keys,
+            puts,
+            reads,
+            items,
+        };
         if complete {
-            let Ok(_) = items.reserve_exact(1) else {
+            let Ok(_) = lists.items.reserve(1) else {
                 drop(present);
                 return Err(AllocError);
             };
-            items.push_reserved(present);
-            return Ok((Trace::new(Vec::new(alloc), puts, items, reads), keys));
+            lists.items.push_reserved(present);
+        } else {
+            lists.puts.truncate(settled);
+            drop_line(alloc, &mut lists, begun, &present)?;
         }
-        puts.truncate(settled);
-        let trace = dropped_trace(alloc, &puts, first_item(&items, &present))?;
-        Ok((trace, keys))
+        sheet.give_lists(lists, begun);
+        Ok(())
     }
 }
 
@@ -230,26 +242,37 @@ fn shared_answer(answer: Option<&Answer>) -> Result<Option<Answer>, AllocError>
     }
 }
 
-/// The statement that began first.
-fn first_item<'a>(finished: &'a [Item], present: &'a Item) -> &'a Item
-    ensures { result.now ≡ first_item finished.now present.now }
+/// The statement that began first, behind so many of the lines before.
+fn first_item<'a>(items: &'a [Item], begun: usize, present: &'a Item) -> &'a Item
+    ensures { result.now ≡ first_item (drop begun items.now) present.now }
 {
-    match finished.first() {
+    match items.get(begun) {
         Some(item) => item,
         None => present,
     }
 }
 
-/// What is left of a line that is dropped, but for its asks: what its own statement put at the control, and that statement.
+/// Leaves of a line that is dropped what its own statement put at the control, and that statement.
 #[cold]
 #[inline(never)]
-fn dropped_trace(alloc: Global, puts: &[Put], own: &Item) -> Result<Trace, AllocError>
-    ensures { IfOk result (λ trace. trace ≡ record { asks = []; puts = control_puts puts.now; items = dropped_item own.now ∷ []; reads = [] }) }
+fn drop_line(
+    alloc: Global,
+    lists: &mut Lists,
+    begun: usize,
+    present: &Item,
+) -> Result<(), AllocError>
+    requires { begun ≤ length lists.old.items.items }
+    ensures keys { OnOk result (lists.new.keys.items ≡ lists.old.keys.items) }
+    ensures puts { OnOk result (lists.new.puts.items ≡ control_puts lists.old.puts.items) }
+    ensures reads { OnOk result (lists.new.reads.items ≡ []) }
+    ensures items { OnOk result (lists.new.items.items ≡ with_dropped begun lists.old.items.items present.now) }
 {
-    let mut only = Vec::with_capacity(alloc, 1)?;
-    only.push(dropped_item(own))?;
-    let puts = control_puts(alloc, puts)?;
-    Ok(Trace::new(Vec::new(alloc), puts, only, Vec::new(alloc)))
+    let own = dropped_item(first_item(&lists.items, begun, present));
+    lists.items.truncate(begun);
+    lists.items.push(own)?;
+    lists.puts = control_puts(alloc, &lists.puts)?;
+    lists.reads.clear();
+    Ok(())
 }
 
 /// The statement of a line that is dropped.

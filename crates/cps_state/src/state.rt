@@ -1,5 +1,5 @@
 //! The state of an assembly.
-ghost use Rattle.std.specs.Prelude.{◌≡◌, ◌<◌, ◌≤◌, ◌+◌, true, OnOk, OnErr, Some as Just, length, reverse};
+ghost use Rattle.std.specs.Prelude.{◌≡◌, ◌<◌, ◌≤◌, ◌+◌, true, [], OnOk, OnErr, Some as Just, length, reverse};
 ghost use Rattle.std.specs.HashMap as hash;
 ghost use Rattle.cps_state.specs.Exchange.{MayStand, room_of, with_answer};
 ghost use Rattle.cps_state.specs.KeptAnswers.{is_other};
@@ -155,9 +155,10 @@ impl State {
     }
 
     /// Puts all that a list has, from its end on, where there is room.
-    fn put_all(&mut self, puts: &mut Vec<Put>)
-        requires { length puts.old.items ≤ hash.spare self.old.others }
-        ensures { ⟦<State as Lookup>⟧.answer self.new ≡ overwritten (⟦<State as Lookup>⟧.answer self.old) (reverse puts.old.items) }
+    pub(crate) fn put_all(&mut self, puts: &mut Vec<Put>)
+        requires { length puts.old.items ≤ room_of self.old }
+        ensures answer { ⟦<State as Lookup>⟧.answer self.new ≡ overwritten (⟦<State as Lookup>⟧.answer self.old) (reverse puts.old.items) }
+        ensures none { puts.new.items ≡ [] }
     {
         while let Some(put) = puts.pop() {
             self.put(put);

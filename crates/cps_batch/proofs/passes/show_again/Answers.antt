@@ -1,5 +1,5 @@
 use Rattle.std.proofs.Common.{◌<◌, ap, ◌∙◌, length, take, arith}
-use Rattle.cps_input.proofs.LineTextLemmas.{line-at}
+use Rattle.cps_input.proofs.PartLemmas.{part-at}
 use Rattle.cps_gather.specs.contracts.finals.FinalsGathered.TheImpl.{gathered-value}
 use Rattle.cps_batch.proofs.PassLemmas.{gathers-more, two-more, two-all, number-taken}
 use Rattle.cps_batch.proofs.passes.show_again.Goals as goal
@@ -10,7 +10,7 @@ loop-before-preserved c =
     let i = c.loop-before.before in
     let line = c.line.result.now in
     let within : i < length lines = omega (arith, c.len-before-end.ensures, c.loop-before-test.true) in
-    let is = line-at lines i line within c.line.ensures in
+    let is = part-at lines i line within c.line.ensures in
     let so = c.loop-before.invariant in
     let taken = c.in_ok-take_line.ensures in
     record {

@@ -6,5 +6,5 @@ pub returns : goal.returns
 returns g c =
     let names = g.S.NameSet.names in
     on_ok_weaker c.insert_later_names.result
-    (reads-join c.args.trace.now c.reads.result.now c.items.result.now (names c.args.names.now) (names c.insert_names.new.names) _ c.reads.ensures c.items.ensures c.in_ok-insert_names.ensures)
+    (reads-join c.args.reads.now c.args.items.now (names c.args.names.now) (names c.insert_names.new.names) _ c.in_ok-insert_names.ensures)
     c.insert_later_names.ensures

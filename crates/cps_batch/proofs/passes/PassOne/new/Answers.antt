@@ -1,11 +1,11 @@
 use Rattle.std.proofs.Common.{◌∙◌}
 use Rattle.cps_list.specs.Making.{shows_symbols}
-use Rattle.cps_batch.proofs.PassLemmas.{none-noted}
+use Rattle.cps_batch.proofs.PassLemmas.{none-kept, none-noted}
 use Rattle.cps_batch.proofs.passes.PassOne.new.Goals as goal
 
 pub returns-clause-passed : goal.returns-clause-passed
 returns-clause-passed c = record {
   gathered = c.new.ensures;
-  kept = c.new-2.ensures.items;
+  kept = none-kept _ _ c.new-2.ensures.items c.new-3.ensures;
   mentions = λ finals. c.new-5.ensures.items ∙ none-noted (shows_symbols c.args.part);
 }

@@ -1,5 +1,5 @@
 use Rattle.std.proofs.Common.{◌<◌, ◌∙◌, length, take, arith}
-use Rattle.cps_input.proofs.LineTextLemmas.{line-at}
+use Rattle.cps_input.proofs.PartLemmas.{part-at}
 use Rattle.cps_batch.proofs.PassLemmas.{passed-more, passed-all, number-taken}
 use Rattle.cps_batch.proofs.passes.PassOne.of.Goals as goal
 
@@ -10,7 +10,7 @@ loop-before-preserved c =
     let within : i < length lines = omega (arith, c.len-before-end.ensures, c.loop-before-test.true) in
     let line = c.line.result.now in
     record {
-      passed = passed-more c.take_line.new.self lines i line within (line-at lines i line within c.line.ensures)
+      passed = passed-more c.take_line.new.self lines i line within (part-at lines i line within c.line.ensures)
           (c.in_ok-take_line.ensures.passed (take i lines) c.loop-before.invariant.passed (number-taken lines i within));
       part = c.in_ok-take_line.ensures.part ∙ c.loop-before.invariant.part;
     }

@@ -4,6 +4,5 @@ use Rattle.cps_final.proofs.line_symbols.LineSymbols.replace.Goals as goal
 
 pub returns : goal.returns
 returns c =
-    let trace = c.args.trace.now in
-    let defined = defined-made trace _ _ _ c.puts.ensures c.clear.ensures.empty c.in_ok-insert_defined.ensures in
-    on_ok_weaker c.insert_read.result (λ reads i. record { defined = defined i; read = read-made trace _ _ c.clear-2.ensures.empty reads i }) c.insert_read.ensures
+    let defined = defined-made c.args.puts.now _ _ c.clear.ensures.empty c.in_ok-insert_defined.ensures in
+    on_ok_weaker c.insert_read.result (λ reads i. record { defined = defined i; read = read-made c.args.reads.now c.args.items.now _ _ c.clear-2.ensures.empty reads i }) c.insert_read.ensures

@@ -1,10 +1,10 @@
-use Rattle.std.proofs.Common.{ap, ◌∙◌}
+use Rattle.std.proofs.Common.{◌∙◌}
 use Rattle.std.specs.Prelude.{nat_eq}
 use Rattle.std.specs.Option.{option_or}
 use Rattle.indexmap.specs.IndexSet.{insert_all}
-use Rattle.cps_gather.specs.Finals.{Finals, first_program}
+use Rattle.cps_gather.specs.Finals.{first_program}
 use Rattle.cps_gather.specs.Gathering.{grown_by}
-use Rattle.cps_gather.specs.Pool.{literals_in}
+use Rattle.cps_gather.specs.Pool.{literals_among}
 use Rattle.cps_gather.specs.Storage.{stored}
 use Rattle.cps_gather.proofs.GatherLemmas.{stored-more, on_err}
 use Rattle.cps_gather.proofs.storage.Storage.add.Goals as goal
@@ -17,6 +17,6 @@ returns-clause-ok c =
     let trace = c.args.trace.now in
     let same = c.make_room.ensures.same in
     stored-more (stored c.args.self.now) (stored c.take.new.self) trace
-    (c.take.ensures.layout ∙ ap (λ (f : Finals). grown_by f.layout trace.puts) same)
-    (c.take.ensures.pool ∙ ap (λ (f : Finals). insert_all nat_eq f.pool (literals_in trace)) same)
-    (c.take.ensures.program ∙ ap (λ (f : Finals). option_or f.program (first_program trace.items)) same)
+    (c.take.ensures.layout ∙ (λ i. grown_by (same i).layout (c.puts-2.ensures i)))
+    (c.take.ensures.pool ∙ (λ i. insert_all nat_eq (same i).pool (literals_among (c.items-2.ensures i))))
+    (c.take.ensures.program ∙ (λ i. option_or (same i).program (first_program (c.items-2.ensures i))))

@@ -18,5 +18,5 @@ loop-put-preserved c =
       left = overwritten-next _ _ _ _ _ _ (last-first _ _ _ c.in-Some.ensures.items) c.put.ensures.answer c.loop-put.invariant.left;
     }
 
-pub returns : goal.returns
-returns c = overwritten-all _ _ c.loop-put.puts.items (sym c.loop-put.puts.ok.0 ∙ c.in_default.ensures.cases.0) c.loop-put.invariant.left
+pub returns-clause-answer : goal.returns-clause-answer
+returns-clause-answer c = overwritten-all _ _ c.loop-put.puts.items (sym c.loop-put.puts.ok.0 ∙ c.in_default.ensures.cases.0) c.loop-put.invariant.left
