@@ -1,5 +1,5 @@
 -- How far a script has come, byte by byte and line by line.
-use Rattle.std.proofs.Common.{◌≡◌, ℕ, Bool, true, false, not, ◌&&◌, eqb, List, [], ◌∷◌, ◌++◌, map, Option, Result, Ok, Err, refl, sym, ap, subst, ◌∙◌, append_assoc, append-nil, inl, inr}
+use Rattle.std.proofs.Common.{◌≡◌, ℕ, Bool, true, false, not, ◌&&◌, List, [], ◌∷◌, ◌++◌, map, Option, Result, Ok, Err, refl, sym, ap, subst, ◌∙◌, append_assoc, append-nil, inl, inr}
 use Rattle.std.specs.List.{list_all}
 use Rattle.std.specs.Io.KnownBytes.{Appends, Consumes, IsAtEnd}
 use Rattle.std.specs.Prelude.{IfSome, None, Some}
@@ -16,8 +16,8 @@ use Rattle.cps_tool.specs.declared.script.Flow.TheVariants.{GoesOn, Ends}
 use Rattle.cps_input.specs.BegunLine.{IsBegun}
 use Rattle.cps_tool.specs.Command.{is_quit}
 use Rattle.cps_tool.specs.EditReplies.{Standing, at, beginning}
-use Rattle.cps_input.proofs.SplitLemmas.{left_true, right_true, splits-none, splits-line, splits-byte, split_of}
-use Rattle.cps_input.specs.Lines.{Splits, without_return, last_line, newline}
+use Rattle.cps_input.proofs.SplitLemmas.{left_true, right_true, splits-none, splits-line, splits-piece, split_of}
+use Rattle.cps_input.specs.Lines.{Splits, has_no_newline, without_return, last_line, newline}
 use Rattle.cps_tool.specs.Reply.{Response, reply_text}
 use Rattle.cps_tool.specs.Script.{Run, RunsScript, Script, FrontOfScript, LinesOfScript, IsAnswered, HasQuit, LacksQuit, IsReadToEnd, AreAnswered, goes_on, command_lines, before_quit}
 use Rattle.cps_tool.specs.Progress.{MatchFlow, IsReplied, IsPartlyReplied, IsLast, Progress, Takes, Finishes}
@@ -66,15 +66,15 @@ whole_run lines going = ap before_quit (sym (append-nil (map without_return line
 pub takes-none : (line : BegunLine) (now : Standing) (before : Option (List ℕ)) → Takes (Ok GoesOn) line line now now before before []
 takes-none line now before = λ start taken text so_far. ([], Appends-nil before, rw (append-nil, append-nil) so_far)
 
-pub takes-byte : (line new : BegunLine) (now : Standing) (before : Option (List ℕ)) (byte : ℕ) → eqb byte newline ≡ false
-    → ((begun : List ℕ) → IsBegun line begun → IsBegun new (begun ++ byte ∷ [])) → Takes (Ok GoesOn) line new now now before before (byte ∷ [])
-takes-byte line new now before byte other push = λ start taken text so_far. (
+pub takes-piece : (line new : BegunLine) (now : Standing) (before : Option (List ℕ)) (piece : List ℕ) → has_no_newline piece ≡ true
+    → ((begun : List ℕ) → IsBegun line begun → IsBegun new (begun ++ piece)) → Takes (Ok GoesOn) line new now now before before piece
+takes-piece line new now before piece other push = λ start taken text so_far. (
   [],
   Appends-nil before,
   rw append-nil (record {
     lines = so_far.lines;
-    rest = so_far.rest ++ byte ∷ [];
-    splits = splits-byte taken so_far.lines so_far.rest byte so_far.splits other;
+    rest = so_far.rest ++ piece;
+    splits = splits-piece taken so_far.lines so_far.rest piece so_far.splits other;
     begun = push so_far.rest so_far.begun;
     going = so_far.going;
     run = so_far.run;

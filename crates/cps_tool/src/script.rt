@@ -14,7 +14,7 @@ ghost use Rattle.cps_tool.specs.Written.{IsWritten};
 use super::reply::{Refusal, Reply};
 use super::replying::{obey, write_reply};
 use super::writing::RunFault;
-use cps_input::BegunLine;
+use cps_input::{BegunLine, newline_at};
 use cps_pass::Work;
 use cps_session::Session;
 use cps_text::Counted;
@@ -102,17 +102,17 @@ impl Interpreter {
         ensures failed { OnErr result (FailsOnce writer.old writer.new) }
         ensures failures { OnOk result (failures_of writer.new ≡ failures_of writer.old) }
     {
-        for byte in bytes {
-            if *byte != b'\n' {
-                self.line.push(*byte);
-                continue;
-            }
+        let mut rest = bytes;
+        while let Some(at) = newline_at(rest) {
+            self.line.push_all(&rest[..at]);
             match answer_line(self.alloc, &self.line, writer, session, &mut self.work) {
                 Ok(Flow::GoesOn) => self.line = BegunLine::new(),
                 Ok(Flow::Ends) => return Ok(Flow::Ends),
                 Err(fault) => return Err(fault),
             }
+            rest = &rest[at + 1..];
         }
+        self.line.push_all(rest);
         Ok(Flow::GoesOn)
     }
 
