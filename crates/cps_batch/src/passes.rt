@@ -118,7 +118,7 @@ impl PassOne {
         )?;
         self.count = counted(self.count, self.sheet.items());
         self.gather.take(&mut self.sheet)?;
-        keep(&mut self.ends, self.count, &mut self.sheet)?;
+        keep(alloc, &mut self.ends, self.count, &mut self.sheet)?;
         Ok(())
     }
 
@@ -180,14 +180,19 @@ fn counted(count: usize, items: &[Item]) -> usize {
     count
 }
 
-/// Keeps the statements of the line on a sheet, unless there are too many by now.
-fn keep(ends: &mut Option<Vec<usize>>, count: usize, sheet: &mut Sheet) -> Result<(), AllocError>
+/// Keeps the statements of the line on a sheet. Where there are too many by now, their memory goes back.
+fn keep(
+    alloc: Global,
+    ends: &mut Option<Vec<usize>>,
+    count: usize,
+    sheet: &mut Sheet,
+) -> Result<(), AllocError>
     ensures { OnOk result ((parts : List (List Item)) → IfSome ends.old (λ ends. AreParts ends.items sheet.old.before parts)
         → IfSome ends.new (λ ends. AreParts ends.items (statements_on sheet.new) (parts ++ sheet.old.line.items ∷ []))) }
 {
     if count > MOST_KEPT {
         *ends = None;
-        sheet.clear_items();
+        *sheet = Sheet::new(alloc);
         return Ok(());
     }
     match ends {
