@@ -8,7 +8,7 @@ use Rattle.cps_state.specs.declared.key.Answer.{Answer}
 use Rattle.cps_state.specs.declared.key.Put.{Put}
 use Rattle.cps_state.specs.Course.{last_put}
 use Rattle.cps_state.specs.Keys.{State, same_key, with_put, overwritten}
-use Rattle.cps_changes.specs.Changes.{Changed, no_change, changed, without, settled, SettledLaw}
+use Rattle.cps_changes.specs.Changes.{Changed, no_change, changed, with_change, without, settled, SettledLaw}
 
 -- where nothing is changed, the same stands
 pub changed-no_change : (state : State) → changed no_change state ≡ state
@@ -28,6 +28,26 @@ settled-at : (last : Option Answer) (now : Option (Option Answer)) (before : Opt
     → option_or last (unwrap_or now before) ≡ unwrap_or (if is_some last then None else now) (option_or last before)
 settled-at None now before = refl
 settled-at (Some a) now before = refl
+
+-- a key that is put stands as it is put
+pub changed-put : (now : Changed) (state : State) (p : Put) → changed (with_change now p.key (Some p.answer)) state ≡ with_put (changed now state) p
+changed-put now state p = λ i. λ k. at k (same_key p.key k) i
+  where
+    at : (k : Key) (here : Bool) → unwrap_or (if here then Some (Some p.answer) else now k) (state k) ≡ (if here then Some p.answer else unwrap_or (now k) (state k))
+    at k true = refl
+    at k false = refl
+
+-- one put of the list is made
+pub put-next : (now before : Changed) (state end : State) (puts : List Put) (i : ℕ) (p : Put) → i < length puts → p ≡ get_or puts i p → now ≡ with_change before p.key (Some p.answer)
+    → overwritten (changed before state) (drop i puts) ≡ end → overwritten (changed now state) (drop (i + 1) puts) ≡ end
+put-next now before state end puts i p lt is made so_far =
+    ap (λ (c : Changed). overwritten (changed c state) (drop (i + 1) puts)) made
+    ∙ ap (λ (f : State). overwritten f (drop (i + 1) puts)) (changed-put before state p)
+    ∙ ap (λ (q : Put). overwritten (changed before state) (q ∷ drop (i + 1) puts)) is ∙ sym (ap (overwritten (changed before state)) (drop_more puts i p lt)) ∙ so_far
+
+-- all of the list is made
+pub put-all : (now : Changed) (state end : State) (puts : List Put) (i : ℕ) → length puts ≤ i → overwritten (changed now state) (drop i puts) ≡ end → changed now state ≡ end
+put-all now state end puts i all so_far = sym (ap (overwritten (changed now state)) (drop_all i puts all)) ∙ so_far
 
 -- lines that put the same as before leave those changes that they don't settle
 pub settled-law : SettledLaw

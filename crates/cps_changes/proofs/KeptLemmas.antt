@@ -4,15 +4,17 @@ use Rattle.std.specs.Prelude.{is_some, unwrap_or, option_map, if◌then◌else�
 use Rattle.std.specs.List.{list_any, slice_get}
 use Rattle.std.specs.Map.{lookup, keys_of}
 use Rattle.std.proofs.lemmas.Option.{slice_get-map}
-use Rattle.indexmap.specs.IndexMap.{IndexMap, keys, insert_entry, ContainsKey}
-use Rattle.indexmap.proofs.CallerLemmas.{keys-insert_entry-present}
+use Rattle.std.proofs.lemmas.Map.Entries.{hash_map_get_place}
+use Rattle.indexmap.specs.IndexMap.{IndexMap, keys, values, get, with_value_at, IsUnique}
+use Rattle.indexmap.proofs.CallerLemmas.{updates-with_value_at}
 use Rattle.cps_state.specs.declared.key.Key.{Key}
 use Rattle.cps_state.specs.declared.key.Key.TheVariants as key
 use Rattle.cps_state.specs.declared.key.Answer.{Answer}
 use Rattle.cps_state.specs.declared.key.Put.{Put}
+use Rattle.cps_state.specs.contracts.key.KeyEq.TheImpl.Laws.{laws-law}
 use Rattle.cps_state.specs.contracts.key.KeyPartialEq.TheImpl.{eq-value}
 use Rattle.cps_state.specs.Course.{last_put}
-use Rattle.cps_state.specs.Exchange.{with_answer}
+use Rattle.cps_state.specs.Exchange.{with_answer, MayStand}
 use Rattle.cps_state.specs.Keys.{State, same_key}
 use Rattle.cps_state.specs.KeptAnswers.{is_other, answers_in}
 use Rattle.cps_state.proofs.KnownLemmas.{same_key_is, same_key-true}
@@ -38,24 +40,35 @@ changed-set now next at answer is = λ i. λ k. (is k ∙ ap (λ (b : Bool). if 
 pub changed-forgotten : (now next : Changed) (at : Key) → ((k : Key) → next k ≡ cond (eq at k) None (now k)) → next ≡ without now at
 changed-forgotten now next at is = λ i. λ k. (is k ∙ ap (λ (b : Bool). if b then None else now k) (same_key_is at k)) i
 
--- one key is changed twice: the last counts
-pub changed-twice : (now next last : Changed) (at : Key) (first answer : Option Answer) → ((k : Key) → next k ≡ cond (eq at k) (Some first) (now k))
-    → ((k : Key) → last k ≡ cond (eq at k) (Some answer) (next k)) → last ≡ with_change now at answer
-changed-twice now next last at first answer is again =
-    λ i. λ k. (again k ∙ ap (cond (eq at k) (Some answer)) (is k) ∙ over (now k) (eq at k)
-    ∙ ap (λ (b : Bool). if b then Some answer else now k) (same_key_is at k)) i
+-- the entry at a place is the key and the answer there
+entry-at : {S : Type 0} (m : IndexMap Key (Option Answer) S) (i : ℕ) (k : Key) (a : Option Answer) → slice_get (keys m) i ≡ Some k → Some a ≡ slice_get (values m) i
+    → slice_get m.entries i ≡ Some (k, a)
+entry-at m i k a key-is value-is =
+    by (slice_get m.entries i) (sym (slice_get-map (λ (e : Key × Option Answer). e.0) m.entries i) ∙ key-is)
+    (value-is ∙ slice_get-map (λ (e : Key × Option Answer). e.1) m.entries i)
   where
-    over : (before : Option (Option Answer)) (b : Bool) → cond b (Some answer) (cond b (Some first) before) ≡ (if b then Some answer else before)
-    over before true = refl
-    over before false = refl
+    by : (o : Option (Key × Option Answer)) → option_map (λ e. e.0) o ≡ Some k → Some a ≡ option_map (λ e. e.1) o → o ≡ Some (k, a)
+    by None no-key no-value = cc
+    by (Some e) key-is value-is = λ j. Some (unwrap_or (key-is j) k, unwrap_or (sym value-is j) a)
+
+module _ {S : Type 0} (m : IndexMap Key (Option Answer) S) (i : ℕ) (k : Key) (a : Option Answer) where
+  -- what stands at a place stands at its key
+  pub at-place : IsUnique eq m → slice_get (keys m) i ≡ Some k → Some a ≡ slice_get (values m) i → get eq m k ≡ Some a
+  at-place unique key-is value-is = hash_map_get_place laws-law m i k a unique (entry-at m i k a key-is value-is)
+
+  -- another answer at a place changes its key
+  pub written-at : (w : Option Answer) → IsUnique eq m → slice_get (keys m) i ≡ Some k → Some a ≡ slice_get (values m) i
+      → (λ (x : Key). get eq (with_value_at m i w) x) ≡ with_change (λ (x : Key). get eq m x) k w
+  written-at w unique key-is value-is = changed-set _ _ k w (updates-with_value_at m i w laws-law unique k a (entry-at m i k a key-is value-is)).0
 
 -- the key of an entry is a key at its place
 pub key-at : {S : Type 0} (m : IndexMap Key (Option Answer) S) (i : ℕ) (k : Key) (a : Option Answer) → Some (k, a) ≡ slice_get m.entries i → slice_get (keys m) i ≡ Some k
 key-at m i k a at = slice_get-map (λ (e : Key × Option Answer). e.0) m.entries i ∙ ap (option_map (λ (e : Key × Option Answer). e.0)) (sym at)
 
--- another answer at a key that is there leaves the keys
-pub keys-kept : {S : Type 0} (old new : IndexMap Key (Option Answer) S) (k : Key) (a : Option Answer) → ContainsKey eq old k → new.entries ≡ insert_entry eq old.entries k a → keys new ≡ keys old
-keys-kept old new k a there is = ap keys_of is ∙ keys-insert_entry-present eq old k a there
+-- what stands at a changed key may stand there
+pub may-stand : (now : Changed) (k : Key) (a : Option Answer) → MayStandIn now → now k ≡ Some a → MayStand k a
+may-stand now k (Some a) stands is = record {}
+may-stand now k None stands is = elim (is_other k) as (λ b. is_other k ≡ b → b ≡ true) [ true ↦ λ h. refl | false ↦ λ h. absurd (stands k h is) ] refl
 
 -- nothing is what never stands where always something does
 pub stands-always : (control nominal uses blocks ranges locals : Answer) (others : State) (k : Key) → is_other k ≡ false → answers_in control nominal uses blocks ranges locals others k ≡ None → ⊥

@@ -3,6 +3,7 @@ ghost use Rattle.std.specs.Prelude.{◌≡◌, ◌↔◌, ◌^◌, ◌+◌, ◌<
 ghost use Rattle.std.specs.Option.{option_copied};
 ghost use Rattle.cps_state.specs.declared.key.Key.{Key as AKey};
 ghost use Rattle.cps_state.specs.Exchange.{room_of};
+ghost use Rattle.cps_state.specs.Keys.{State as AState, overwritten};
 ghost use Rattle.cps_changes.specs.Changes.{no_change, changed, with_change, without, settled};
 ghost use Rattle.cps_changes.specs.Kept.{changes_in, count_of, keys_in, HasSameKeys, MayStandIn, taken_over};
 
@@ -107,6 +108,17 @@ impl Changes {
         }
     }
 
+    /// At each key that lines put stands what they put last, whether that is another answer or not. Where there is no memory, some of it may be left out.
+    pub fn put_all(&mut self, puts: &[Put]) -> Result<(), AllocError>
+        ensures { OnOk result ((state : AState) → changed (changes_in self.new) state ≡ overwritten (changed (changes_in self.old) state) puts.now) }
+    {
+        for put in puts {
+            let answer = put.answer.share()?;
+            self.set(put.key, Some(answer))?;
+        }
+        Ok(())
+    }
+
     /// A state takes over what stands at these keys now, and gives what stood there; so the same once more undoes it.
     /// It uses room for as many keys at most.
     pub fn exchange(&mut self, state: &mut State)
@@ -121,13 +133,13 @@ impl Changes {
     {
         for i in 0..self.answers.len() {
             let key = self.key(i);
-            self.exchange_at(key, state);
+            self.exchange_at(i, key, state);
         }
     }
 
-    /// The same, at one of the keys.
-    fn exchange_at(&mut self, key: Key, state: &mut State)
-        requires there { is_some (changes_in self.old key) ≡ true }
+    /// The same, at the key with this number.
+    fn exchange_at(&mut self, i: usize, key: Key, state: &mut State)
+        requires there { slice_get (keys_in self.old) i ≡ Just key }
         requires room { 0 < room_of state.old }
         requires stands { MayStandIn (changes_in self.old) }
         ensures changes { changes_in self.new ≡ with_change (changes_in self.old) key (⟦<State as Lookup>⟧.answer state.old key) }
@@ -136,13 +148,10 @@ impl Changes {
         ensures stands { MayStandIn (changes_in self.new) }
         ensures room { room_of state.old ≤ room_of state.new + 1 }
     {
-        let Ok(Some(answer)) = self.answers.insert(key, None) else {
+        let Some(kept) = self.answers.get_index_mut(i) else {
             unreachable!();
         };
-        let old = state.replace(key, answer);
-        let Ok(taken) = self.answers.insert(key, old) else {
-            unreachable!();
-        };
-        drop(taken);
+        let answer = kept.take();
+        *kept = state.replace(key, answer);
     }
 }

@@ -1,5 +1,5 @@
 -- Chunks of lines, line by line and chunk by chunk.
-use Rattle.std.proofs.Common.{arith, ◌≡◌, ℕ, zero, suc, ◌+◌, ◌-◌, ◌<◌, ◌≤◌, refl, sym, ap, subst, ◌∙◌, List, [], ◌∷◌, ◌++◌, get_or, set, length, take, drop, None}
+use Rattle.std.proofs.Common.{arith, ◌≡◌, ℕ, zero, suc, ◌+◌, ◌-◌, ◌<◌, ◌≤◌, refl, sym, ap, subst, ◌∙◌, List, [], ◌∷◌, ◌++◌, get_or, set, length, take, drop, Option, None}
 use Rattle.std.specs.Prelude.{IfSome, flat_map, sum}
 use Rattle.std.proofs.lemmas.Grind.{flat_map-append}
 use Rattle.std.proofs.lemmas.List.{length-append, length-drop, length-set, take-append-le, drop-append-le, take-append-drop, take-set-le, drop-set-lt, drop-set-add, take-take, drop-take, drop-drop, drop_all, length-take-le, length-take, take_more, take_all}
@@ -8,10 +8,12 @@ use Rattle.std.proofs.Math.Seq.{take-set-lt}
 use Rattle.cps_state.specs.declared.hashing.Hashing.{Hashing}
 use Rattle.cps_state.specs.declared.key.Key.{Key}
 use Rattle.cps_state.specs.Course.{Trace}
+use Rattle.cps_holding.specs.RunGathering.{KeptRun, kept_run}
+use Rattle.cps_holding.specs.Names.{Names, names_in}
 use Rattle.cps_chunk.specs.declared.chunk.Chunk.{Chunk}
 use Rattle.cps_chunk.specs.declared.marks.Marks.{Marks}
 use Rattle.cps_chunk.specs.Marks.{AreMarked, HasAll, puts_at, asks_at, names_at, keys_put, keys_asked, keys_named}
-use Rattle.cps_chunk.specs.Chunk.{IsSummary, IsChunkOf, WasMarked, lengths_of, AreChunksOf}
+use Rattle.cps_chunk.specs.Chunk.{IsChunkOf, WasMarked, lengths_of, AreChunksOf}
 use Rattle.cps_chunk.proofs.MarkLemmas.{marked-still, marked-append, marked-parts}
 
 -- ---- line by line
@@ -36,23 +38,32 @@ module _ (hashing : Hashing) where
 
   pub was-marked : (t : Trace) (old : Chunk) (puts asks names : Marks) → AreMarked hashing puts (keys_put (t ∷ [])) → HasAll old.puts puts → AreMarked hashing asks (keys_asked (t ∷ []))
       → HasAll old.reads asks → AreMarked hashing names (keys_named (t ∷ [])) → HasAll asks names
-      → WasMarked hashing t old (record { lines = old.lines; puts = puts; reads = names; summary = None })
+      → WasMarked hashing t old (record { lines = old.lines; puts = puts; reads = names; run = None; names = None })
   was-marked t old puts asks names put put_kept asked asked_kept named named_kept = record {
     kept_puts = put_kept;
     kept_reads = λ n h. named_kept n (asked_kept n h);
     puts = put;
     asks = marked-still hashing asks names (keys_asked (t ∷ [])) named_kept asked;
     names = named;
-    summary = refl;
+    no_run = refl;
+    no_names = refl;
   }
 
-  pub chunk-none : (c : Chunk) → c.lines ≡ 0 → c.summary ≡ None → IsChunkOf hashing [] c
-  chunk-none c none nothing = record {
+  -- nothing is gathered
+  run-none : (ts : List Trace) (c : Chunk) → c.run ≡ None → IfSome c.run (λ run. run ≡ kept_run ts)
+  run-none ts c none = subst (λ (run : Option KeptRun). IfSome run (λ run. run ≡ kept_run ts)) (sym none) tt
+
+  names-none : (ts : List Trace) (c : Chunk) → c.names ≡ None → IfSome c.names (λ names. names ≡ names_in ts)
+  names-none ts c none = subst (λ (names : Option Names). IfSome names (λ names. names ≡ names_in ts)) (sym none) tt
+
+  pub chunk-none : (c : Chunk) → c.lines ≡ 0 → c.run ≡ None → c.names ≡ None → IsChunkOf hashing [] c
+  chunk-none c none no_run no_names = record {
     lines = sym none;
     puts = refl;
     asks = refl;
     names = refl;
-    summary = subst (λ s. IfSome s (IsSummary [])) (sym nothing) tt;
+    run = run-none [] c no_run;
+    names_kept = names-none [] c no_names;
   }
 
   pub chunk-set : (old new : Chunk) (t : Trace) → new.lines ≡ old.lines → WasMarked hashing t old new → (ts : List Trace) (i : ℕ) → IsChunkOf hashing ts old → IsChunkOf hashing (set ts i t) new
@@ -61,7 +72,8 @@ module _ (hashing : Hashing) where
     puts = marked-set new.puts puts_at ts i t marked.puts (marked-still hashing old.puts new.puts (keys_put ts) marked.kept_puts is.puts);
     asks = marked-set new.reads asks_at ts i t marked.asks (marked-still hashing old.reads new.reads (keys_asked ts) marked.kept_reads is.asks);
     names = marked-set new.reads names_at ts i t marked.names (marked-still hashing old.reads new.reads (keys_named ts) marked.kept_reads is.names);
-    summary = subst (λ s. IfSome s (IsSummary (set ts i t))) (sym marked.summary) tt;
+    run = run-none (set ts i t) new marked.no_run;
+    names_kept = names-none (set ts i t) new marked.no_names;
   }
 
   pub chunk-behind : (old new : Chunk) (t : Trace) → new.lines ≡ old.lines + 1 → WasMarked hashing t (record old { lines = old.lines + 1 }) new → (ts : List Trace)
@@ -71,19 +83,21 @@ module _ (hashing : Hashing) where
     puts = marked-behind new.puts puts_at ts t marked.puts (marked-still hashing old.puts new.puts (keys_put ts) marked.kept_puts is.puts);
     asks = marked-behind new.reads asks_at ts t marked.asks (marked-still hashing old.reads new.reads (keys_asked ts) marked.kept_reads is.asks);
     names = marked-behind new.reads names_at ts t marked.names (marked-still hashing old.reads new.reads (keys_named ts) marked.kept_reads is.names);
-    summary = subst (λ s. IfSome s (IsSummary (ts ++ t ∷ []))) (sym marked.summary) tt;
+    run = run-none (ts ++ t ∷ []) new marked.no_run;
+    names_kept = names-none (ts ++ t ∷ []) new marked.no_names;
   }
 
   -- two chunks as one
   pub chunk-joined : (a b new : Chunk) (ts us : List Trace) → new.lines ≡ a.lines + b.lines → HasAll a.puts new.puts → HasAll b.puts new.puts → HasAll a.reads new.reads
-      → HasAll b.reads new.reads → new.summary ≡ None → IsChunkOf hashing ts a → IsChunkOf hashing us b → IsChunkOf hashing (ts ++ us) new
-  chunk-joined a b new ts us lines puts_a puts_b reads_a reads_b none one two = record {
+      → HasAll b.reads new.reads → new.run ≡ None → new.names ≡ None → IsChunkOf hashing ts a → IsChunkOf hashing us b → IsChunkOf hashing (ts ++ us) new
+  chunk-joined a b new ts us lines puts_a puts_b reads_a reads_b no_run no_names one two = record {
     lines = omega (arith, lines, one.lines, two.lines, length-append ts us);
     puts = marked-both new.puts puts_at ts us (marked-still hashing a.puts new.puts (keys_put ts) puts_a one.puts) (marked-still hashing b.puts new.puts (keys_put us) puts_b two.puts);
     asks = marked-both new.reads asks_at ts us (marked-still hashing a.reads new.reads (keys_asked ts) reads_a one.asks) (marked-still hashing b.reads new.reads (keys_asked us) reads_b two.asks);
     names =
         marked-both new.reads names_at ts us (marked-still hashing a.reads new.reads (keys_named ts) reads_a one.names) (marked-still hashing b.reads new.reads (keys_named us) reads_b two.names);
-    summary = subst (λ s. IfSome s (IsSummary (ts ++ us))) (sym none) tt;
+    run = run-none (ts ++ us) new no_run;
+    names_kept = names-none (ts ++ us) new no_names;
   }
 
   pub chunk-next : (ts : List Trace) (i : ℕ) (t : Trace) (c : Chunk) → i < length ts → t ≡ get_or ts i t → IsChunkOf hashing (take i ts ++ t ∷ []) c → IsChunkOf hashing (take (i + 1) ts) c

@@ -4,22 +4,17 @@ use Rattle.cps_state.specs.declared.hashing.Hashing.{Hashing}
 use Rattle.cps_state.specs.Course.{Trace}
 use Rattle.cps_holding.specs.RunGathering.{kept_run}
 use Rattle.cps_holding.specs.Names.{names_in}
-use Rattle.cps_chunk.specs.declared.chunk.Summary.{Summary}
 use Rattle.cps_chunk.specs.declared.chunk.Chunk.{Chunk}
 use Rattle.cps_chunk.specs.Marks.{AreMarked, HasAll, keys_put, keys_asked, keys_named}
 
--- what was gathered is that of lines which did this
-pub record IsSummary (traces : List Trace) (summary : Summary) : Type 0 where
-  pub run : summary.run ≡ kept_run traces
-  pub names : summary.names ≡ names_in traces
-
--- a chunk of lines which did this
+-- a chunk of lines which did this, and so is what was gathered
 pub record IsChunkOf (hashing : Hashing) (traces : List Trace) (chunk : Chunk) : Type 0 where
   pub lines : length traces ≡ chunk.lines
   pub puts : AreMarked hashing chunk.puts (keys_put traces)
   pub asks : AreMarked hashing chunk.reads (keys_asked traces)
   pub names : AreMarked hashing chunk.reads (keys_named traces)
-  pub summary : IfSome chunk.summary (IsSummary traces)
+  pub run : IfSome chunk.run (λ run. run ≡ kept_run traces)
+  pub names_kept : IfSome chunk.names (λ names. names ≡ names_in traces)
 
 -- what a line did was marked, no mark was lost, and nothing is gathered
 pub record WasMarked (hashing : Hashing) (trace : Trace) (old new : Chunk) : Type 0 where
@@ -28,7 +23,8 @@ pub record WasMarked (hashing : Hashing) (trace : Trace) (old new : Chunk) : Typ
   pub puts : AreMarked hashing new.puts (keys_put (trace ∷ []))
   pub asks : AreMarked hashing new.reads (keys_asked (trace ∷ []))
   pub names : AreMarked hashing new.reads (keys_named (trace ∷ []))
-  pub summary : new.summary ≡ None
+  pub no_run : new.run ≡ None
+  pub no_names : new.names ≡ None
 
 -- how many lines each chunk has
 abbrev pub lengths_of : List Chunk → List ℕ

@@ -1,30 +1,12 @@
 //! A chunk of a source: how many lines it has, and what is kept of them together.
-ghost use Rattle.std.specs.Prelude.{◌≡◌, ◌+◌, ◌<◌, ◌++◌, ◌∷◌, ℕ, [], List, IfOk, slice_set};
+ghost use Rattle.std.specs.Prelude.{◌≡◌, ◌+◌, ◌<◌, ◌++◌, ◌∷◌, ℕ, [], List, OnOk, is_some, slice_set, true};
 ghost use Rattle.cps_state.specs.Course.{Trace as Did};
-ghost use Rattle.cps_chunk.specs.Chunk.{IsChunkOf, IsSummary, WasMarked};
+ghost use Rattle.cps_chunk.specs.Chunk.{IsChunkOf, WasMarked};
 
 use crate::marks::Marks;
 use cps_holding::{Names, Run};
 use cps_state::{Hashing, Trace};
 use std::alloc::{AllocError, Global};
-
-/// What the lines of a chunk ask and name, exactly.
-#[derive(Drop)]
-pub struct Summary {
-    pub run: Run,
-    pub names: Names,
-}
-
-impl Summary {
-    /// Of lines that did this.
-    pub fn of(alloc: Global, hashing: Hashing, traces: &[Trace]) -> Result<Summary, AllocError>
-        ensures { IfOk result (λ summary. IsSummary traces.now summary) }
-    {
-        let run = Run::of(alloc, hashing, traces)?;
-        let names = Names::of(alloc, hashing, traces)?;
-        Ok(Summary { run, names })
-    }
-}
 
 /// Some lines one after another.
 #[derive(Drop)]
@@ -34,8 +16,10 @@ pub struct Chunk {
     pub puts: Marks,
     /// Marks of all keys that they ask, and of all labels that they name, and perhaps of others.
     pub reads: Marks,
-    /// What they ask and name, if that was gathered.
-    pub summary: Option<Summary>,
+    /// What they ask together, exactly, if that was gathered.
+    pub run: Option<Run>,
+    /// What they name, likewise.
+    pub names: Option<Names>,
 }
 
 impl Chunk {
@@ -47,7 +31,8 @@ impl Chunk {
             lines: 0,
             puts: Marks::none(),
             reads: Marks::none(),
-            summary: None,
+            run: None,
+            names: None,
         };
         for trace in traces {
             chunk.grow(hashing, trace);
@@ -74,6 +59,47 @@ impl Chunk {
         self.puts.mark_puts(hashing, trace);
         self.reads.mark_asks(hashing, trace);
         self.reads.mark_names(hashing, trace);
-        self.summary = None;
+        self.run = None;
+        self.names = None;
+    }
+
+    /// Gathers what its lines ask together, if it was not.
+    pub fn gather_run(
+        &mut self,
+        alloc: Global,
+        hashing: Hashing,
+        traces: &[Trace],
+    ) -> Result<(), AllocError>
+        requires { IsChunkOf hashing traces.now self.old }
+        ensures chunk { IsChunkOf hashing traces.now self.new }
+        ensures lines { self.new.lines ≡ self.old.lines }
+        ensures gathered { OnOk result (is_some self.new.run ≡ true) }
+    {
+        if self.run.is_some() {
+            return Ok(());
+        }
+        let run = Run::of(alloc, hashing, traces)?;
+        self.run = Some(run);
+        Ok(())
+    }
+
+    /// Gathers what its lines name, likewise.
+    pub fn gather_names(
+        &mut self,
+        alloc: Global,
+        hashing: Hashing,
+        traces: &[Trace],
+    ) -> Result<(), AllocError>
+        requires { IsChunkOf hashing traces.now self.old }
+        ensures chunk { IsChunkOf hashing traces.now self.new }
+        ensures lines { self.new.lines ≡ self.old.lines }
+        ensures gathered { OnOk result (is_some self.new.names ≡ true) }
+    {
+        if self.names.is_some() {
+            return Ok(());
+        }
+        let names = Names::of(alloc, hashing, traces)?;
+        self.names = Some(names);
+        Ok(())
     }
 }

@@ -1,11 +1,11 @@
 -- Chunks that are marked, made and put in the place of others.
-use Rattle.std.proofs.Common.{◌≡◌, ℕ, ◌+◌, ◌-◌, ◌<◌, ◌≤◌, refl, sym, ap, subst, ◌∙◌, Bool, true, false, List, [], ◌∷◌, ◌++◌, append-nil, append_assoc, length, get_or, set, take, drop, arith}
-use Rattle.std.specs.Prelude.{sum, nat_eq, ◌&&◌}
-use Rattle.std.proofs.lemmas.Bool.{eqb-true}
+use Rattle.std.proofs.Common.{◌≡◌, ℕ, ◌+◌, ◌-◌, ◌<◌, ◌≤◌, refl, sym, ap, subst, ◌∙◌, List, [], ◌∷◌, ◌++◌, append-nil, append_assoc, length, get_or, set, take, drop, arith}
+use Rattle.std.specs.Prelude.{sum}
 use Rattle.std.proofs.lemmas.List.{length-take-le, length-drop, length-map, map-append, drop-map, take-map, take_all, drop_all, take_more, take-take, drop-take, drop-drop, take-append-drop, set_at, get_or_default}
 use Rattle.std.proofs.lemmas.List.Sums.{sum_by_push, sum_by-cons, sum_by-take-le}
 use Rattle.cps_state.specs.declared.hashing.Hashing.{Hashing}
 use Rattle.cps_state.specs.Course.{Trace}
+use Rattle.cps_division.specs.Division.{AreChunks, full, inserted_at}
 use Rattle.cps_division.specs.Recut.{recut}
 use Rattle.cps_edit.proofs.TakenLemmas.{drop_at}
 use Rattle.cps_chunk.specs.declared.chunk.Chunk.{Chunk}
@@ -15,7 +15,8 @@ use Rattle.cps_replay.specs.declared.sparse.SparseItem.{SparseItem}
 use Rattle.cps_replay.specs.Sparse.{renewed, AreWithin}
 use Rattle.cps_replay.proofs.WalkLemmas.{lengths-next, lengths-front, lengths-all, same-long}
 use Rattle.cps_editing.specs.declared.cut.Cut.{Cut}
-use Rattle.cps_editing.specs.ChunkList.{Fits, is_append}
+use Rattle.cps_editing.specs.ChunkList.{Fits}
+use Rattle.cps_editing.proofs.AppendLemmas.{IsAtEnd, grows, length-at}
 use Rattle.cps_editing.proofs.RenewedLemmas.{renewed-next}
 
 pub same-read : (cs : List Chunk) (i : ℕ) (c d : Chunk) → i < length cs → c ≡ get_or cs i c → d ≡ get_or cs i d → c ≡ d
@@ -78,96 +79,7 @@ module _ (ns : List ℕ) (i : ℕ) (lt : i < length ns) (ts left : List Trace) (
 
 -- ---- new chunks in the place of others
 
-both-true : (a b : Bool) → (a && b) ≡ true → (a ≡ true) × (b ≡ true)
-both-true true b h = (refl, h)
-both-true false b h = cc
-
--- what stands where one line comes behind the last
-pub record Appends (cut : Cut) (chunks lines : ℕ) : Type 0 where
-  pub end : cut.end ≡ chunks
-  pub start : cut.start + 1 ≡ cut.end
-  pub last : cut.keep ≡ cut.behind
-  pub keep : cut.keep + 1 ≡ lines
-  pub one : length cut.lengths.items ≡ 1
-
-pub appends : (cut : Cut) (chunks lines : ℕ) → is_append cut chunks lines ≡ true → Appends cut chunks lines
-appends cut chunks lines last =
-    let a = both-true (nat_eq cut.end chunks && nat_eq (cut.start + 1) cut.end && nat_eq cut.keep cut.behind && nat_eq (cut.keep + 1) lines) (nat_eq (length cut.lengths.items) 1) last in
-    let b = both-true (nat_eq cut.end chunks && nat_eq (cut.start + 1) cut.end && nat_eq cut.keep cut.behind) (nat_eq (cut.keep + 1) lines) a.0 in
-    let d = both-true (nat_eq cut.end chunks && nat_eq (cut.start + 1) cut.end) (nat_eq cut.keep cut.behind) b.0 in
-    let e = both-true (nat_eq cut.end chunks) (nat_eq (cut.start + 1) cut.end) d.0 in
-    record {
-      end = eqb-true cut.end chunks e.0;
-      start = eqb-true (cut.start + 1) cut.end e.1;
-      last = eqb-true cut.keep cut.behind d.1;
-      keep = eqb-true (cut.keep + 1) lines b.1;
-      one = eqb-true (length cut.lengths.items) 1 a.1;
-    }
-
-one-only : (ns : List ℕ) → length ns ≡ 1 → ns ≡ sum ns ∷ []
-one-only [] one = absurd (omega (arith, one))
-one-only (n ∷ []) one = let same : n ≡ sum (n ∷ []) = omega (arith, sum_by-cons (λ x. x) n []) in ap (λ k. k ∷ []) same
-one-only (n ∷ m ∷ ns) one = absurd (omega (arith, one))
-
 module _ (hashing : Hashing) (cut : Cut) (cs : List Chunk) (olds news : List Trace) (fits : Fits hashing cut cs olds news) where
-  module _ (last : is_append cut (length cs) (length news) ≡ true) (c : Chunk) (is : c ≡ get_or cs cut.start c) where
-    at_end : Appends cut (length cs) (length news)
-    at_end = appends cut (length cs) (length news) last
-
-    some : cut.start < length cs
-    some = omega (arith, at_end.end, at_end.start)
-
-    pub append-start : cut.start < length cs
-    append-start = some
-
-    olds-long : length olds + 1 ≡ length news
-    olds-long =
-        omega (arith, ap length (fits.append last), length-take-le (length news - 1) news (omega arith), at_end.keep)
-
-    split : cs ≡ take cut.start cs ++ c ∷ []
-    split =
-        let behind : drop cut.start cs ≡ c ∷ [] = drop_at cs cut.start c some is ∙ ap (λ ds. c ∷ ds) (drop_all (cut.start + 1) cs (omega (arith, at_end.end, at_end.start))) in
-        sym (take-append-drop cut.start cs) ∙ ap (λ ds. take cut.start cs ++ ds) behind
-
-    put : (d : Chunk) → set cs cut.start d ≡ take cut.start cs ++ d ∷ []
-    put d = ap (λ ds. set ds cut.start d) split ∙ set_at (take cut.start cs) c [] d cut.start (length-take-le cut.start cs (omega (arith, some)))
-
-    ends : AreChunksOf hashing (take cut.start cs ++ c ∷ []) olds
-    ends = subst (λ (ds : List Chunk). AreChunksOf hashing ds olds) split fits.chunks
-
-    -- there is room for one line more
-    pub lines-few : c.lines + 1 ≤ length news
-    lines-few = omega (arith, (chunks-last hashing (take cut.start cs) c olds ends).long, olds-long)
-
-    -- the last chunk has one line more
-    pub chunks-grown : (d : Chunk) (t : Trace) → t ≡ get_or news (length news - 1) t → ((ts : List Trace) → IsChunkOf hashing ts c → IsChunkOf hashing (ts ++ t ∷ []) d)
-        → AreChunksOf hashing (set cs cut.start d) news
-    chunks-grown d t at grown =
-        let parts = chunks-last hashing (take cut.start cs) c olds ends in
-        let m : ℕ = length olds - c.lines in
-        let made : AreChunksOf hashing (take cut.start cs ++ d ∷ []) (take m olds ++ (drop m olds ++ t ∷ [])) =
-        chunks-append hashing (take cut.start cs) (d ∷ []) (take m olds) (drop m olds ++ t ∷ []) parts.front (chunks-one hashing d (drop m olds ++ t ∷ []) (grown (drop m olds) parts.last)) in
-        let next : length news - 1 + 1 ≡ length news = omega (arith, olds-long) in
-        let whole : take m olds ++ (drop m olds ++ t ∷ []) ≡ news =
-        sym (append_assoc (take m olds) (drop m olds) (t ∷ [])) ∙ ap (λ us. us ++ t ∷ []) (take-append-drop m olds ∙ sym (fits.append last))
-        ∙ ap (λ u. take (length news - 1) news ++ u ∷ []) at ∙ sym (take_more news (length news - 1) t (omega (arith, olds-long)))
-        ∙ ap (λ k. take k news) next ∙ take_all (length news) news (omega arith) in
-        subst (λ (ds : List Chunk). AreChunksOf hashing ds news) (sym (put d)) (subst (λ (us : List Trace). AreChunksOf hashing (take cut.start cs ++ d ∷ []) us) whole made)
-
-    pub lengths-grown : (d : Chunk) → d.lines ≡ c.lines + 1 → lengths_of (set cs cut.start d) ≡ recut cut.start cut.end cut.lengths.items (lengths_of cs)
-    lengths-grown d more =
-        let ls : List ℕ = lengths_of cs in
-        let long : length ls ≡ length cs = length-map cs (λ (e : Chunk). e.lines) in
-        let next : sum (take (cut.start + 1) ls) ≡ sum (take cut.start ls) + c.lines = lengths-next cs cut.start c some is in
-        let behind : cut.behind ≡ sum (take (cut.start + 1) ls) = fits.behind ∙ ap (λ k. sum (take k ls)) (sym at_end.start) in
-        let all : sum (take cut.end ls) ≡ length olds = lengths-all hashing cs olds cut.end (omega (arith, at_end.end)) fits.chunks in
-        let size : d.lines ≡ sum cut.lengths.items = omega (arith, more, next, behind, all, fits.behind, fits.before, fits.count, olds-long) in
-        let lengths : d.lines ∷ [] ≡ cut.lengths.items = ap (λ k. k ∷ []) size ∙ sym (one-only cut.lengths.items at_end.one) in
-        let none : drop cut.end ls ≡ [] = drop_all cut.end ls (omega (arith, long, at_end.end)) in
-        ap lengths_of (put d) ∙ map-append (λ (e : Chunk). e.lines) (take cut.start cs) (d ∷ [])
-        ∙ (λ i. sym (take-map (λ (e : Chunk). e.lines) cut.start cs) i ++ (lengths ∙ sym (append-nil cut.lengths.items)) i)
-        ∙ ap (λ ns. take cut.start ls ++ (cut.lengths.items ++ ns)) (sym none)
-
   -- the lines of the new chunks are there
   pub lines-within : sum cut.lengths.items ≤ length (drop cut.before news)
   lines-within = omega (arith, fits.count, length-drop cut.before news)
@@ -192,3 +104,51 @@ lengths-recut start end cs ds ns same =
     let lines : Chunk → ℕ = λ (c : Chunk). c.lines in
     map-append lines (take start cs) (ds ++ drop end cs) ∙ ap (λ us. lengths_of (take start cs) ++ us) (map-append lines ds (drop end cs))
     ∙ (λ i. sym (take-map lines start cs) i ++ (same i ++ sym (drop-map lines end cs) i))
+
+-- ---- a line behind the last
+
+module _ (cs : List Chunk) (k : ℕ) (last : k + 1 ≡ length cs) (c : Chunk) (is : c ≡ get_or cs k c) where
+  split : cs ≡ take k cs ++ c ∷ []
+  split =
+      let behind : drop k cs ≡ c ∷ [] = drop_at cs k c (omega (arith, last)) is ∙ ap (λ ds. c ∷ ds) (drop_all (k + 1) cs (omega (arith, last))) in
+      sym (take-append-drop k cs) ∙ ap (λ ds. take k cs ++ ds) behind
+
+  put : (d : Chunk) → set cs k d ≡ take k cs ++ d ∷ []
+  put d = ap (λ ds. set ds k d) split ∙ set_at (take k cs) c [] d k (length-take-le k cs (omega (arith, last)))
+
+  -- the last chunk has one line more
+  pub chunks-grown : (hashing : Hashing) (d : Chunk) (t : Trace) → ((ts : List Trace) → IsChunkOf hashing ts c → IsChunkOf hashing (ts ++ t ∷ []) d)
+      → (ts : List Trace) → AreChunksOf hashing cs ts → AreChunksOf hashing (set cs k d) (ts ++ t ∷ [])
+  chunks-grown hashing d t grown ts are =
+      let ends : AreChunksOf hashing (take k cs ++ c ∷ []) ts = subst (λ (ds : List Chunk). AreChunksOf hashing ds ts) split are in
+      let parts = chunks-last hashing (take k cs) c ts ends in
+      let m : ℕ = length ts - c.lines in
+      let made : AreChunksOf hashing (take k cs ++ d ∷ []) (take m ts ++ (drop m ts ++ t ∷ [])) =
+      chunks-append hashing (take k cs) (d ∷ []) (take m ts) (drop m ts ++ t ∷ []) parts.front (chunks-one hashing d (drop m ts ++ t ∷ []) (grown (drop m ts) parts.last)) in
+      let whole : take m ts ++ (drop m ts ++ t ∷ []) ≡ ts ++ t ∷ [] =
+      sym (append_assoc (take m ts) (drop m ts) (t ∷ [])) ∙ ap (λ us. us ++ t ∷ []) (take-append-drop m ts) in
+      subst (λ (ds : List Chunk). AreChunksOf hashing ds (ts ++ t ∷ [])) (sym (put d)) (subst (λ (us : List Trace). AreChunksOf hashing (take k cs ++ d ∷ []) us) whole made)
+
+  pub lengths-grown : (d : Chunk) → AreChunks (lengths_of cs) → c.lines < full → d.lines ≡ c.lines + 1 → lengths_of (set cs k d) ≡ inserted_at (sum (lengths_of cs)) (lengths_of cs)
+  lengths-grown d divided small more =
+      let ls : List ℕ = lengths_of cs in
+      let long : length ls ≡ length cs = length-map cs (λ (e : Chunk). e.lines) in
+      let lines = length-at cs k c (omega (arith, last)) is in
+      let at = grows ls k c.lines (sum ls) (omega (arith, long, last)) lines (record { chunks = divided; total = refl }) small in
+      let none : drop (length ls) ls ≡ [] = drop_all (length ls) ls (omega arith) in
+      ap lengths_of (put d) ∙ map-append (λ (e : Chunk). e.lines) (take k cs) (d ∷ [])
+      ∙ (λ i. sym (take-map (λ (e : Chunk). e.lines) k cs) i ++ more i ∷ [])
+      ∙ ap (λ ns. take k ls ++ (c.lines + 1) ∷ ns) (sym none) ∙ at.divided.chunks
+
+-- a new one comes
+pub chunks-begun : (hashing : Hashing) (cs : List Chunk) (d : Chunk) (t : Trace) → IsChunkOf hashing (t ∷ []) d → (ts : List Trace) → AreChunksOf hashing cs ts
+    → AreChunksOf hashing (cs ++ d ∷ []) (ts ++ t ∷ [])
+chunks-begun hashing cs d t chunk ts are = chunks-append hashing cs (d ∷ []) ts (t ∷ []) are (chunks-one hashing d (t ∷ []) chunk)
+
+pub lengths-begun : (cs : List Chunk) (d : Chunk) → IsAtEnd (lengths_of cs) (sum (lengths_of cs)) (length (lengths_of cs)) 0 → d.lines ≡ 1
+    → lengths_of (cs ++ d ∷ []) ≡ inserted_at (sum (lengths_of cs)) (lengths_of cs)
+lengths-begun cs d at one =
+    let ls : List ℕ = lengths_of cs in
+    let all : take (length ls) ls ≡ ls = take_all (length ls) ls (omega arith) in
+    let none : drop (length ls) ls ≡ [] = drop_all (length ls) ls (omega arith) in
+    map-append (λ (e : Chunk). e.lines) cs (d ∷ []) ∙ (λ i. sym all i ++ one i ∷ sym none i) ∙ at.divided.chunks

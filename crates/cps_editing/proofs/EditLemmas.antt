@@ -11,7 +11,6 @@ use Rattle.cps_touched.specs.Touched.{touched_of}
 use Rattle.cps_touched.proofs.TouchedLemmas.{looks-law}
 use Rattle.cps_editing.specs.declared.cut.Cut.{Cut}
 use Rattle.cps_editing.specs.declared.kept_source.KeptSource.{KeptSource}
-use Rattle.cps_editing.specs.ChunkList.{is_append}
 use Rattle.cps_editing.specs.Editing.{HasAsMuchRoom, HasRoomFor, IsCut, IsStill, LooksOfFirst, LooksOfSecond, splice_of}
 
 -- ---- how many lines are compared
@@ -54,5 +53,5 @@ room-still old new cut list still much room =
       outcomes = omega (arith, room.outcomes, o, much.outcomes);
       chunks = omega (arith, room.chunks, c, much.chunks);
       empty = room.empty;
-      list = λ not. room.list ((λ i. is_append cut (sym c i) (sym n i + vec_len cut.lines)) ∙ not);
+      list = room.list;
     }

@@ -29,10 +29,9 @@ use Rattle.cps_replay.proofs.WalkLemmas.{lengths-all, same-long}
 use Rattle.cps_editing.specs.declared.cut.Cut.{Cut}
 use Rattle.cps_editing.specs.declared.kept_source.KeptSource.{KeptSource}
 use Rattle.cps_editing.specs.declared.news.News.{News}
-use Rattle.cps_editing.specs.ChunkList.{Fits, HasRoom, is_append}
+use Rattle.cps_editing.specs.ChunkList.{Fits, HasRoom}
 use Rattle.cps_editing.specs.Editing.{AreKept, AreNewTraces, AreOutcomesOf, HasRoomFor, IsCut, IsKept, splice_of}
 use Rattle.cps_editing.specs.NamesRead.{HasRead, HasReadBy, StillHas}
-use Rattle.cps_editing.proofs.ChunkListLemmas.{appends}
 use Rattle.cps_editing.proofs.NamesReadLemmas.{read-by, read-still}
 
 -- ---- the same is kept
@@ -90,25 +89,7 @@ module _ {X : Type 0} (keep from : ℕ) (olds es news : List X) (ordered : keep 
       (λ j. drop (one j) (is j)) ∙ drop-append-add (take keep olds) (es ++ drop from olds) (length es + (m - from)) ∙ drop-append-add es (drop from olds) (m - from)
       ∙ drop-drop (m - from) from olds ∙ ap (λ k. drop k olds) two
 
-  pub put-all : keep ≡ length olds → news ≡ olds ++ es
-  put-all last =
-      let front : take keep olds ≡ olds = take_all keep olds (omega (arith, last)) in
-      let none : drop from olds ≡ [] = drop_all from olds (omega (arith, last, ordered)) in
-      is ∙ (λ j. front j ++ (ap (λ us. es ++ us) none ∙ append-nil es) j)
-
 -- ---- an edit of what is kept
-
--- what comes is an append for so many lines where it is one for all that are there then
-pub append-none : (cut : Cut) (chunks lines news : ℕ) → cut.keep ≤ cut.from → cut.from ≤ cut.behind → (cut.from ≡ cut.keep → lines ≡ news) → is_append cut chunks news ≡ false
-    → is_append cut chunks lines ≡ false
-append-none cut chunks lines news ordered ends same none = by_test (is_append cut chunks lines) refl
-  where
-    by_test : (test : Bool) → is_append cut chunks lines ≡ test → is_append cut chunks lines ≡ false
-    by_test false is = is
-    by_test true is =
-        let at = appends cut chunks lines is in
-        let equal : lines ≡ news = same (omega (arith, at.last, ordered, ends)) in
-        ap (is_append cut chunks) equal ∙ none
 
 module _ {kept : KeptSource} {cut : Cut} (are : AreKept kept) (cuts : IsCut kept.lines.items (lengths_of kept.chunks.items) cut) where
   pub traces-long : length kept.traces.items ≡ length kept.lines.items
@@ -174,9 +155,6 @@ module _ {kept : KeptSource} {cut : Cut} (are : AreKept kept) (cuts : IsCut kept
     back-end : cut.before + sum cut.lengths.items ≡ cut.keep + length es + (cut.behind - cut.from)
     back-end = omega (arith, entered, cuts.before, cuts.behind, cuts.recuts.begins, cuts.recuts.ends, cuts.recuts.order, cuts.recuts.count)
 
-    whole : (hashing : Hashing) → AreChunksOf hashing cs olds → cut.end ≡ length cs → cut.behind ≡ length olds
-    whole hashing chunks last = cuts.behind ∙ ap (λ ns. sum (take cut.end ns)) (sym same) ∙ lengths-all hashing cs olds cut.end (omega (arith, last)) chunks
-
     behind-most : cut.behind ≤ length olds
     behind-most = omega (arith, long, cuts.behind, cuts.recuts.total, sum_by-take-le (λ x. x) (lengths_of kept.chunks.items) cut.end)
 
@@ -190,28 +168,15 @@ module _ {kept : KeptSource} {cut : Cut} (are : AreKept kept) (cuts : IsCut kept
       front = put-front cut.keep cut.from olds es news cuts.recuts.order within is cut.before (omega (arith, cuts.before, cuts.recuts.begins));
       back = put-back cut.keep cut.from olds es news cuts.recuts.order within is (cut.before + sum cut.lengths.items) cut.behind (omega (arith, cuts.behind, cuts.recuts.ends)) back-end;
       count = omega (arith, back-end, behind-most, put-long cut.keep cut.from olds es news cuts.recuts.order within is, cuts.behind, cuts.recuts.ends);
-      append = λ last.
-          let at = appends (record cut { lines = later.lines }) (length cs) (length news) last in
-          let all : cut.behind ≡ length olds = whole hashing chunks at.end in
-          let keep : length news - 1 ≡ length olds = omega (arith, at.keep, at.last, all) in
-          let last_line : cut.keep ≡ length olds = at.last ∙ all in
-          (λ j. take (keep j) (put-all cut.keep cut.from olds es news cuts.recuts.order within is last_line j))
-          ∙ take-append-le (length olds) olds es (omega arith) ∙ take_all (length olds) olds (omega arith);
     }
 
     -- and there is room for the chunks
     pub cut-room : {Z : Type 0} (chunks : Vec Chunk Z) (room : Vec Chunk Z) → chunks.items ≡ cs → vec_capacity chunks ≡ vec_capacity kept.chunks → HasRoomFor kept cut room
         → HasRoom (record cut { lines = later.lines }) chunks news room
     cut-room chunks room items capacity has =
-        let n : ℕ = vec_len kept.chunks in
-        let count : vec_len chunks ≡ n = omega (arith, chunks.ok.0, kept.chunks.ok.0, ap length items, same-long kept.chunks.items cs same) in
+        let count : vec_len chunks ≡ vec_len kept.chunks = omega (arith, chunks.ok.0, kept.chunks.ok.0, ap length items, same-long kept.chunks.items cs same) in
         let added : length cut.lengths.items ≡ vec_len cut.lengths = omega (arith, cut.lengths.ok.0) in
-        let lines : cut.from ≡ cut.keep → vec_len kept.lines + vec_len cut.lines ≡ length news = λ none.
-        omega (arith, none, kept.lines.ok.0, cut.lines.ok.0, long, entered, within, put-long cut.keep cut.from olds es news cuts.recuts.order within is) in
         record {
           chunks = omega (arith, count, added, capacity, has.chunks);
-          list = λ grows.
-              let still : is_append cut n (length news) ≡ false = ap (λ k. is_append cut k (length news)) (sym count) ∙ grows in
-              let none = append-none cut n (vec_len kept.lines + vec_len cut.lines) (length news) cuts.recuts.order (omega (arith, cuts.behind, cuts.recuts.ends)) lines still in
-              omega (arith, added, has.list none);
+          list = omega (arith, added, has.list);
         }

@@ -1,5 +1,7 @@
 pub mod AgainLemmas
+pub mod AppendLemmas
 pub mod AroundLemmas
+pub mod BehindLemmas
 pub mod ChunkListLemmas
 pub mod ChunkLoopLemmas
 pub mod CountLemmas

@@ -1,5 +1,5 @@
 -- For the code that makes an edit, not part of what a reader believes: what is kept of a source, and what the passes make of an edit.
-use Rattle.std.specs.Prelude.{◌≡◌, ◌*◌, ℕ, ◌+◌, ◌-◌, ◌≤◌, false, List, ◌++◌, sum, take, drop, vec_len, vec_capacity, Result}
+use Rattle.std.specs.Prelude.{◌≡◌, ◌*◌, ℕ, ◌+◌, ◌-◌, ◌≤◌, List, ◌++◌, sum, take, drop, vec_len, vec_capacity, Result}
 use Rattle.std.specs.declared.vec.Vec.{Vec}
 use Rattle.cps_state.specs.Course.{Trace}
 use Rattle.cps_state.specs.Exchange.{room_of}
@@ -25,7 +25,6 @@ use Rattle.cps_touched.specs.Looks.{first_looks, second_looks}
 use Rattle.cps_replay.specs.Replayed.{redone_behind, redone_front, replayed_behind, state_front}
 use Rattle.cps_touched.specs.Recuts.{Recuts}
 use Rattle.cps_touched.specs.Touched.{touched_of}
-use Rattle.cps_editing.specs.ChunkList.{is_append}
 use Rattle.cps_editing.specs.NamesRead.{HasRead, items_of}
 use Rattle.cps_editing.specs.declared.cut.Cut.{Cut}
 use Rattle.cps_editing.specs.declared.first_pass.FirstPass.{FirstPass}
@@ -67,14 +66,14 @@ pub record IsKept (kept : KeptSource) : Type 0 where
   pub lines : AreKept kept
   pub finals : gathered-value.it kept.finals ≡ finals_of (traces_of kept.lines.items)
 
--- there is room for the lines and chunks of an edit, and in a list for the chunks, where they don't only grow
+-- there is room for the lines and chunks of an edit, and in a list for the chunks
 pub record HasRoomFor {Z : Type 0} (kept : KeptSource) (cut : Cut) (news : Vec Chunk Z) : Type 0 where
   pub lines : vec_len kept.lines + vec_len cut.lines ≤ vec_capacity kept.lines
   pub traces : vec_len kept.traces + vec_len cut.lines ≤ vec_capacity kept.traces
   pub outcomes : vec_len kept.outcomes + vec_len cut.lines ≤ vec_capacity kept.outcomes
   pub chunks : vec_len kept.chunks + vec_len cut.lengths ≤ vec_capacity kept.chunks
   pub empty : vec_len news ≡ 0
-  pub list : is_append cut (vec_len kept.chunks) (vec_len kept.lines + vec_len cut.lines) ≡ false → vec_len cut.lengths ≤ vec_capacity news
+  pub list : vec_len cut.lengths ≤ vec_capacity news
 
 -- and for what an edit changes behind the last line, once and back
 abbrev pub HasRoomToMend : KeptSource → Mend → Type 0

@@ -1,3 +1,4 @@
+pub mod Append
 pub mod ChunkList
 pub mod Differences
 pub mod Editing

@@ -1,6 +1,7 @@
 //! The chunks of a source, kept up to date.
-ghost use Rattle.std.specs.Prelude.{◌≡◌, ◌≤◌, List, length, sum, take, vec_len, vec_capacity};
+ghost use Rattle.std.specs.Prelude.{◌≡◌, ◌≤◌, ◌<◌, ◌++◌, ◌∷◌, [], List, length, sum, take, vec_len, vec_capacity};
 ghost use Rattle.cps_state.specs.Course.{Trace as Did};
+ghost use Rattle.cps_division.specs.Division.{AreChunks, inserted_at};
 ghost use Rattle.cps_division.specs.Recut.{recut};
 ghost use Rattle.cps_chunk.specs.Chunk.{AreChunksOf, lengths_of};
 ghost use Rattle.cps_replay.specs.Sparse.{AreWithin, renewed};
@@ -9,8 +10,10 @@ ghost use Rattle.cps_editing.specs.ChunkList.{Fits, HasRoom};
 use crate::cut::Cut;
 use crate::lists::put_at;
 use cps_chunk::Chunk;
+use cps_division::FULL;
 use cps_pass::{Hashing, Trace};
 use cps_replay::SparseItem;
+use std::slice::from_ref;
 
 /// Marks what lines do now, each at its place, in their chunks.
 pub fn mark_all(chunks: &mut Vec<Chunk>, hashing: Hashing, news: &[SparseItem<Trace>])
@@ -53,7 +56,22 @@ pub fn chunks_of(
     chunks
 }
 
-/// Puts new chunks in the place of others, where the lines do this now; `room` is a list for them, with room where they don't only grow by a line behind the last.
+/// A line behind the last: the last chunk grows, or a new one comes.
+pub fn grow_last(chunks: &mut Vec<Chunk>, hashing: Hashing, trace: &Trace)
+    requires divided { AreChunks (lengths_of chunks.old.items) }
+    requires room { vec_len chunks.old < vec_capacity chunks.old }
+    ensures chunks { (ts : List Did) → AreChunksOf hashing chunks.old.items ts → AreChunksOf hashing chunks.new.items (ts ++ trace.now ∷ []) }
+    ensures lengths { lengths_of chunks.new.items ≡ inserted_at (sum (lengths_of chunks.old.items)) (lengths_of chunks.old.items) }
+{
+    let count = chunks.len();
+    if count > 0 && chunks[count - 1].lines < FULL {
+        chunks[count - 1].grow(hashing, trace);
+        return;
+    }
+    chunks.push_reserved(Chunk::of(hashing, from_ref(trace)));
+}
+
+/// Puts new chunks in the place of others, where the lines do this now; `room` is a list for them.
 pub fn put_chunks(
     chunks: &mut Vec<Chunk>,
     hashing: Hashing,
@@ -67,10 +85,6 @@ pub fn put_chunks(
     ensures chunks { AreChunksOf hashing chunks.new.items traces.now }
     ensures lengths { lengths_of chunks.new.items ≡ recut cut.now.start cut.now.end cut.now.lengths.items (lengths_of chunks.old.items) }
 {
-    if cut.is_append(chunks.len(), traces.len()) {
-        chunks[cut.start].grow(hashing, &traces[traces.len() - 1]);
-        return;
-    }
     let news = chunks_of(hashing, &cut.lengths, &traces[cut.before..], room);
     put_at(chunks, cut.start, cut.end, news);
 }

@@ -10,9 +10,11 @@ use crate::chunk_list::chunks_of;
 use crate::kept_source::KeptSource;
 use crate::names_read::NamesRead;
 use crate::second_pass::step_two_all;
+use cps_changes::Changes;
 use cps_division::FULL;
 use cps_edit::PassOne;
 use cps_pass::{Hashing, State, Work};
+use cps_state::Sheet;
 use cps_text::Line;
 use std::alloc::{AllocError, Global};
 
@@ -50,6 +52,8 @@ pub fn kept_of(
         chunks,
         finals,
         read,
+        sheet: Sheet::new(alloc),
+        changes: Changes::new(alloc, hashing),
     })
 }
 

@@ -118,7 +118,7 @@ impl KeptSource {
     }
 
     /// Pass two over all lines, of which these do something new, under the final values that are kept.
-    fn pass_again(
+    pub(crate) fn pass_again(
         &mut self,
         traces: &[SparseItem<Trace>],
         mend: &Mend,

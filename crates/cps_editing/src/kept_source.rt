@@ -11,11 +11,13 @@ use crate::names_read::NamesRead;
 use crate::news::News;
 use crate::second_pass::{SecondPass, step_two_all};
 use crate::storage::storage_behind;
+use cps_changes::Changes;
 use cps_chunk::Chunk;
 use cps_final::{Finals, Gather, Outcome};
 use cps_gather::Mend;
 use cps_pass::{Hashing, State, Trace, Work};
 use cps_replay::{Baseline, Ends};
+use cps_state::Sheet;
 use cps_text::Line;
 use std::alloc::{AllocError, Global};
 use std::mem::replace;
@@ -34,6 +36,10 @@ pub struct KeptSource {
     pub finals: Finals,
     /// All symbols that the lines read, and perhaps others.
     pub read: NamesRead,
+    /// The lists that the next line behind the last is stepped with.
+    pub sheet: Sheet,
+    /// Room for what that line changes behind it.
+    pub changes: Changes,
 }
 
 /// What the passes make of an edit, and a list for the new chunks.
@@ -64,6 +70,8 @@ impl KeptSource {
             chunks: Vec::new(alloc),
             finals,
             read: NamesRead::new(alloc, hashing),
+            sheet: Sheet::new(alloc),
+            changes: Changes::new(alloc, hashing),
         }
     }
 
@@ -168,9 +176,6 @@ impl KeptSource {
         make_room_for(&mut self.outcomes, lines)?;
         make_room_for(&mut self.chunks, cut.lengths.len())?;
         self.finals.make_room(mend)?;
-        if cut.is_append(self.chunks.len(), self.lines.len() + lines) {
-            return Ok(Vec::new(self.alloc));
-        }
         Vec::with_capacity(self.alloc, cut.lengths.len())
     }
 

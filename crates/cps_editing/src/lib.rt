@@ -1,5 +1,6 @@
 //! A source that is edited: what is kept of its lines, and what an edit makes anew beside it.
 //!
+//! - `append.rt`: a line behind the last
 //! - `chunk_list.rt`: the chunks of a source, kept up to date
 //! - `cut.rt`: where new lines come, and what chunks come there
 //! - `differences.rt`: which labels have other final values
@@ -16,6 +17,7 @@
 //! - `storage.rt`: where blocks and literals stand behind an edit
 #![tactic(auto)]
 
+mod append;
 mod chunk_list;
 mod cut;
 mod differences;

@@ -1,5 +1,5 @@
 //! Which symbols lines read, in a set that only grows.
-ghost use Rattle.std.specs.Prelude.{◌≡◌, [], true, OnOk};
+ghost use Rattle.std.specs.Prelude.{◌≡◌, ◌∷◌, [], true, OnOk};
 ghost use Rattle.cps_editing.specs.NamesRead.{HasRead, StillHas, has_all, has_name, items_of};
 
 use cps_final::Outcome;
@@ -52,6 +52,14 @@ impl NamesRead {
             self.add(outcome.names_read())?;
         }
         Ok(())
+    }
+
+    /// With those that a line reads, of which pass two makes this.
+    pub fn add_one(&mut self, outcome: &Outcome) -> Result<(), AllocError>
+        ensures still { StillHas self.old self.new }
+        ensures read { OnOk result (HasRead self.new (outcome.now ∷ [])) }
+    {
+        self.add(outcome.names_read())
     }
 
     /// With those that lines read, of which pass two makes this anew.

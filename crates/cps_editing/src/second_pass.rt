@@ -18,7 +18,7 @@ use crate::names_read::NamesRead;
 use cps_chunk::Chunk;
 use cps_final::{Finals, Outcome, step_two};
 use cps_pass::{Trace, Work};
-use cps_replay::{Baseline, Ends, Redo, SparseItem, gather, part};
+use cps_replay::{Baseline, Ends, Redo, SparseItem, part};
 use std::alloc::{AllocError, Global};
 
 /// Pass two of an edit over the lines that were there before, as far as it has come.
@@ -73,9 +73,9 @@ impl<'a> SecondPass<'a> {
         if !self.differences.may_have(self.base.hashing, &chunk.reads) {
             return Ok(true);
         }
-        gather(self.base, chunk, olds)?;
-        match &chunk.summary {
-            Some(summary) => Ok(summary.names.all_pass(&self.differences)),
+        chunk.gather_names(self.base.alloc, self.base.hashing, olds)?;
+        match &chunk.names {
+            Some(names) => Ok(names.all_pass(&self.differences)),
             None => Ok(false),
         }
     }

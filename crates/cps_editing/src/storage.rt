@@ -1,5 +1,6 @@
 //! Where blocks and literals stand behind an edit.
-ghost use Rattle.std.specs.Prelude.{◌≡◌, ◌≤◌, IfOk, IsTrue, length};
+ghost use Rattle.std.specs.Prelude.{◌≡◌, ◌≤◌, ◌++◌, ◌∷◌, [], IfOk, IsTrue, List, length};
+ghost use Rattle.cps_state.specs.Course.{Trace as Did};
 ghost use Rattle.cps_gather.specs.Storage.{IsStored};
 ghost use Rattle.cps_replay.specs.Sparse.{AreWithin, renewed};
 ghost use Rattle.cps_exchange.specs.Exchange.{exchanged};
@@ -45,6 +46,18 @@ pub fn storage_behind(
     store_all(&mut next, &olds[..cut.keep])?;
     store_all(&mut next, &traces.entered)?;
     store_renewed(&mut next, cut.from, behind, &traces.renewed)?;
+    Ok(Some(next))
+}
+
+/// The same behind a line more, which does this.
+pub fn storage_with(storage: &Storage, trace: &Trace) -> Result<Option<Storage>, AllocError>
+    ensures { IfOk result (λ next. (olds : List Did) → IsStored storage.now olds → IsStoredBehind olds next (olds ++ trace.now ∷ [])) }
+{
+    if leave_same(&[], from_ref(trace)) {
+        return Ok(None);
+    }
+    let mut next = storage.copy()?;
+    next.add(trace)?;
     Ok(Some(next))
 }
 

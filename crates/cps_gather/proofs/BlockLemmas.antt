@@ -8,7 +8,7 @@ use Rattle.std.specs.Map.{keys_of, lookup}
 use Rattle.std.specs.HashMap.Eq.{lookup_congr}
 use Rattle.std.proofs.lemmas.Bool.{and_parts, eqb-true}
 use Rattle.std.proofs.lemmas.Cmp.{nat_list_eq_equiv}
-use Rattle.std.proofs.lemmas.List.{drop_more, take_more}
+use Rattle.std.proofs.lemmas.List.{drop_more, length-append, take_more}
 use Rattle.std.proofs.lemmas.List.Sums.{sum_by-append}
 use Rattle.std.proofs.lemmas.Option.{slice_get_within, get_or_from_slice_get, slice_get-map}
 use Rattle.indexmap.specs.IndexMap.{IndexMap, keys, get, insert_entry, Updates}
@@ -20,7 +20,7 @@ use Rattle.cps_state.specs.declared.key.Put.{Put}
 use Rattle.cps_state.specs.declared.key.Key.{Key}
 use Rattle.cps_state.specs.declared.key.Key.TheVariants as key
 use Rattle.cps_state.specs.Keys.{same_block, same_key, place_of}
-use Rattle.cps_gather.specs.Layout.{Layout, words_before, named_by}
+use Rattle.cps_gather.specs.Layout.{Layout, words_before, named_by, names_put}
 use Rattle.cps_gather.specs.Finals.{words_of_first}
 use Rattle.cps_gather.specs.Gathering.{size_kept, layout_kept, grown, grown_by, grown_to}
 use Rattle.cps_gather.specs.Storage.{AreSameNamed}
@@ -76,6 +76,13 @@ pub grown-next : (layout before end : Layout) (puts : List Put) (i : ℕ) (p : P
     → grown_by before (drop i puts) ≡ end → grown_by layout (drop (i + 1) puts) ≡ end
 grown-next layout before end puts i p lt is made so_far =
     ap (λ (l : Layout). grown_by l (drop (i + 1) puts)) (made ∙ ap (grown before) is) ∙ sym (ap (grown_by before) (drop_more puts i p lt)) ∙ so_far
+
+-- and its named block is counted
+pub names-next : (puts : List Put) (i : ℕ) (p : Put) → i < length puts → p ≡ get_or puts i p
+    → length (names_put (drop i puts)) ≡ length (named_by p.key) + length (names_put (drop (i + 1) puts))
+names-next puts i p lt is =
+    ap (λ ps. length (names_put ps)) (drop_more puts i p lt) ∙ length-append (named_by (get_or puts i p).key) (names_put (drop (i + 1) puts))
+    ∙ ap (λ (q : Put). length (named_by q.key) + length (names_put (drop (i + 1) puts))) (sym is)
 
 -- a put of a counter makes its block grow
 pub grown-counter : (layout new : Layout) (p : Put) (block : Option Name) (words : ℕ) → p.key ≡ key.Counter block → words ≡ words_before (place_of Cp (Some p.answer))

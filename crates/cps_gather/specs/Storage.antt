@@ -8,7 +8,7 @@ use Rattle.cps_state.specs.Course.{Trace}
 use Rattle.cps_state.specs.Keys.{first_state, overwritten}
 use Rattle.cps_text.specs.declared.name.Name.{Name}
 use Rattle.cps_gather.specs.Finals.{Finals, finals_of, final_value, first_program, block, literal}
-use Rattle.cps_gather.specs.Layout.{Layout}
+use Rattle.cps_gather.specs.Layout.{Layout, names_put}
 use Rattle.cps_gather.specs.Gathering.{grown_by, layout_kept}
 use Rattle.cps_gather.specs.Pool.{literals_in}
 use Rattle.cps_gather.specs.declared.storage.Storage.{Storage}
@@ -39,7 +39,7 @@ pub record HasGathered (old new : Finals) (trace : Trace) : Type 0 where
 
 -- there is room for what a line puts, and for these literals
 pub record HasRoom (storage : Storage) (puts : List Put) (literals : List ℕ) : Type 0 where
-  pub blocks : length puts ≤ spare storage.blocks.named
+  pub blocks : length (names_put puts) ≤ spare storage.blocks.named
   pub pool : length literals ≤ set_spare storage.pool
 
 -- the same named blocks in the same order, each with as many words

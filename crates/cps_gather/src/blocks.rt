@@ -2,9 +2,10 @@
 ghost use Rattle.std.specs.Prelude.{◌≡◌, ◌↔◌, IfOk, IsTrue, ◌≤◌, ◌<◌, ◌+◌, ◌*◌, ◌^◌, [], OnOk, IfSome, length, position};
 ghost use Rattle.cps_state.specs.Place.{position as bits_before};
 ghost use Rattle.cps_expr.specs.declared.machine.Machine.TheVariants.{Cp};
+ghost use Rattle.cps_state.specs.declared.key.Key.TheVariants.{Counter};
 ghost use Rattle.cps_expr.specs.Value.{same_name};
 ghost use Rattle.cps_state.specs.Machines.{limit};
-ghost use Rattle.cps_gather.specs.Layout.{layout_of, words_before};
+ghost use Rattle.cps_gather.specs.Layout.{layout_of, named_by, names_put, words_before};
 ghost use Rattle.cps_gather.specs.Finals.{words_of_first};
 ghost use Rattle.cps_gather.specs.Gathering.{layout_kept, grown, grown_by, grown_to};
 ghost use Rattle.cps_gather.specs.Storage.{AreSameNamed};
@@ -57,17 +58,17 @@ impl Blocks {
         self.named.as_slice() == other.named.as_slice()
     }
 
-    /// Makes room for so many puts.
-    pub fn reserve(&mut self, puts: usize) -> Result<(), AllocError>
+    /// Makes room for the named blocks whose counters are put. Puts of other keys take none.
+    pub fn reserve(&mut self, puts: &[Put]) -> Result<(), AllocError>
         ensures same { layout_kept self.new.nominal self.new.named ≡ layout_kept self.old.nominal self.old.named }
-        ensures room { OnOk result (puts ≤ spare self.new.named) }
+        ensures room { OnOk result (length (names_put puts.now) ≤ spare self.new.named) }
     {
-        self.named.reserve(puts)
+        self.named.reserve(count_named(puts))
     }
 
     /// The words that puts give, where there is room for them.
     pub fn put_all(&mut self, puts: &[Put])
-        requires { length puts.now ≤ spare self.old.named }
+        requires { length (names_put puts.now) ≤ spare self.old.named }
         ensures { layout_kept self.new.nominal self.new.named ≡ grown_by (layout_kept self.old.nominal self.old.named) puts.now }
     {
         for put in puts {
@@ -76,9 +77,9 @@ impl Blocks {
     }
 
     fn put(&mut self, put: &Put)
-        requires { 0 < spare self.old.named }
+        requires { length (named_by put.now.key) ≤ spare self.old.named }
         ensures layout { layout_kept self.new.nominal self.new.named ≡ grown (layout_kept self.old.nominal self.old.named) put.now }
-        ensures room { spare self.old.named ≤ spare self.new.named + 1 }
+        ensures room { spare self.old.named ≤ spare self.new.named + length (named_by put.now.key) }
     {
         if let Key::Counter(block) = put.key {
             self.put_words(
@@ -89,9 +90,9 @@ impl Blocks {
     }
 
     fn put_words(&mut self, block: Option<Name>, words: u32)
-        requires { 0 < spare self.old.named }
+        requires { length (named_by (Counter block)) ≤ spare self.old.named }
         ensures layout { layout_kept self.new.nominal self.new.named ≡ grown_to (layout_kept self.old.nominal self.old.named) block words }
-        ensures room { spare self.old.named ≤ spare self.new.named + 1 }
+        ensures room { spare self.old.named ≤ spare self.new.named + length (named_by (Counter block)) }
     {
         match block {
             None => self.nominal = self.nominal.max(words),
@@ -139,6 +140,28 @@ impl Blocks {
             words += u128::from(*size);
         }
         words
+    }
+}
+
+/// How many puts are of counters of named blocks.
+fn count_named(puts: &[Put]) -> usize
+    ensures { result ≡ length (names_put puts.now) }
+{
+    let mut count = 0;
+    for put in puts {
+        count += count_of_name(&put.key);
+    }
+    count
+}
+
+/// One for the counter of a named block, none for another key.
+fn count_of_name(key: &Key) -> usize
+    ensures count { result ≡ length (named_by key.now) }
+    ensures most { result ≤ 1 }
+{
+    match key {
+        Key::Counter(Some(_)) => 1,
+        _ => 0,
     }
 }
 

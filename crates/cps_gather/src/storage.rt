@@ -46,7 +46,7 @@ impl Storage {
         ensures room { IfOk result (λ literals. HasRoom self.new puts.now literals.items) }
     {
         let literals = list_literals(self.alloc, items)?;
-        self.blocks.reserve(puts.len())?;
+        self.blocks.reserve(puts)?;
         self.pool.reserve(literals.len())?;
         Ok(literals)
     }

@@ -9,6 +9,7 @@ use Rattle.cps_changes.specs.Changes.{Changed}
 use Rattle.cps_changes.specs.Kept.{changes_in}
 use Rattle.cps_final.specs.Layout.{puts_of}
 use Rattle.cps_holding.specs.Holds.{holds}
+use Rattle.cps_holding.specs.RunGathering.{KeptRun, kept_run}
 use Rattle.cps_holding.proofs.AnswerLemmas.{asks-decide}
 use Rattle.cps_edit.specs.Expansion.{trace_of}
 use Rattle.cps_edit.specs.Renewed.{WasMeant}
@@ -16,8 +17,6 @@ use Rattle.cps_edit.proofs.AskedLemmas.{meant-here}
 use Rattle.cps_edit.proofs.TakenLemmas.{drop_at}
 use Rattle.cps_replay.specs.declared.change_log.ChangeLog.{ChangeLog}
 use Rattle.cps_replay.specs.Replay.{PutsAlso}
-use Rattle.cps_chunk.specs.Chunk.{IsSummary}
-use Rattle.cps_chunk.specs.declared.chunk.Summary.{Summary}
 use Rattle.cps_replay.specs.Compared.{with_puts}
 use Rattle.cps_replay.proofs.ComparedLemmas.{with_puts-append}
 
@@ -42,6 +41,6 @@ held-puts line t state meant held = sym (ap (λ (u : Trace). u.puts) (sym (meant
 
 -- ---- the lines of a chunk
 
--- what was gathered of a chunk is that of its lines
-pub summary-is : (summary : Option Summary) (found : Summary) (ts : List Trace) → summary ≡ Some found → IfSome summary (IsSummary ts) → IsSummary ts found
-summary-is summary found ts is gathered = subst (λ (s : Option Summary). IfSome s (IsSummary ts)) is gathered
+-- what was gathered of a chunk is the run of its lines
+pub run-is : (run : Option KeptRun) (found : KeptRun) (ts : List Trace) → run ≡ Some found → IfSome run (λ run. run ≡ kept_run ts) → found ≡ kept_run ts
+run-is run found ts is gathered = subst (λ (run : Option KeptRun). IfSome run (λ run. run ≡ kept_run ts)) is gathered

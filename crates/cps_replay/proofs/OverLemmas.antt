@@ -87,7 +87,7 @@ looked-over f w v here left all p q r = omega arith
 
 -- ---- one chunk
 
--- a walk in which other lines were gone over, or other summaries gathered
+-- a walk in which other lines were gone over, or more of chunks gathered
 pub still-walk : (old mid new : Walk) → IsWalk mid → new.base ≡ mid.base → new.chunks.items ≡ mid.chunks.items → mid.base ≡ old.base
     → lengths_of mid.chunks.items ≡ lengths_of old.chunks.items → IsStillWalk old new
 still-walk old mid new walk base chunks kept lengths = record {

@@ -71,9 +71,9 @@ pub record IsInside (walk : Walk) (cursor : Cursor) (part : Span) : Type 0 where
   pub begins : cursor.line ≤ part.from
   pub ends : part.to ≤ sum (take (cursor.chunk + 1) (lengths_of walk.chunks.items))
 
--- something is gathered of a chunk
+-- what a chunk asks is gathered
 abbrev pub IsGatheredAt : Walk → ℕ → Type 0
-IsGatheredAt walk i = (c : Chunk) → c ≡ get_or walk.chunks.items i c → is_some c.summary ≡ true
+IsGatheredAt walk i = (c : Chunk) → c ≡ get_or walk.chunks.items i c → is_some c.run ≡ true
 
 -- ---- how many lines are compared
 

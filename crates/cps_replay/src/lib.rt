@@ -28,4 +28,4 @@ pub use sparse::{SparseItem, put_all};
 pub use standing::{asks_stand, still_stands};
 pub use states::{ChangedState, FormerState};
 pub use storing::{leave_same, store_all, store_renewed};
-pub use walk::{Baseline, Cursor, Position, Span, Walk, gather, part};
+pub use walk::{Baseline, Cursor, Position, Span, Walk, part};

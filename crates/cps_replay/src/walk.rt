@@ -22,7 +22,7 @@ ghost use Rattle.cps_replay.specs.declared.walk.Position.TheVariants.{Behind};
 
 use crate::replay::{OldLine, Replay};
 use cps_changes::Changes;
-use cps_chunk::{Chunk, Marks, Past, Summary, last_put, mark_of};
+use cps_chunk::{Chunk, Marks, Past, last_put, mark_of};
 use cps_edit::{Hashing, Trace, Work};
 use cps_state::{Key, Lookup, State};
 use cps_text::Line;
@@ -293,9 +293,9 @@ impl<'a> Walk<'a> {
         if !may_have(self.base.hashing, &chunk.reads, self.replay.changes()) {
             return Ok(true);
         }
-        gather(self.base, chunk, traces)?;
-        match &chunk.summary {
-            Some(summary) => Ok(self.replay.run_stands(&summary.run)),
+        chunk.gather_run(self.base.alloc, self.base.hashing, traces)?;
+        match &chunk.run {
+            Some(run) => Ok(self.replay.run_stands(run)),
             None => Ok(false),
         }
     }
@@ -443,17 +443,17 @@ impl<'a> Walk<'a> {
         ensures walk { IsStillWalk self.old self.new }
         ensures replay { self.new.replay ≡ self.old.replay }
     {
-        self.gather_chunk(cursor, end)?;
+        self.gather_run(cursor, end)?;
         let there = self.cursor_at(place);
         let past = past_of(self.base, &self.chunks, there, place);
-        match &self.chunks[cursor.chunk].summary {
-            Some(summary) => Ok(self.replay.run_holds(&summary.run, &past)),
+        match &self.chunks[cursor.chunk].run {
+            Some(run) => Ok(self.replay.run_holds(run, &past)),
             None => Ok(false),
         }
     }
 
-    /// Gathers what the lines of a chunk, up to this end, ask, put and name together, if it was not.
-    fn gather_chunk(&mut self, cursor: Cursor, end: usize) -> Result<(), AllocError>
+    /// Gathers what the lines of a chunk, up to this end, ask together, if it was not.
+    fn gather_run(&mut self, cursor: Cursor, end: usize) -> Result<(), AllocError>
         requires walk { IsWalk self.old }
         requires cursor { IsChunkAt self.old cursor }
         requires end { end ≡ sum (take (cursor.chunk + 1) (lengths_of self.old.chunks.items)) }
@@ -462,7 +462,7 @@ impl<'a> Walk<'a> {
         ensures replay { self.new.replay ≡ self.old.replay }
     {
         let traces = part(self.base.traces, cursor.line, end);
-        gather(self.base, &mut self.chunks[cursor.chunk], traces)
+        self.chunks[cursor.chunk].gather_run(self.base.alloc, self.base.hashing, traces)
     }
 
     /// Carries lines one by one.
@@ -535,21 +535,6 @@ pub fn part<'a>(traces: &'a [Trace], from: usize, to: usize) -> &'a [Trace]
     ensures { result.now ≡ stretch from to traces.now }
 {
     &traces[from..to]
-}
-
-/// Gathers what the lines of a chunk ask, put and name together, if it was not.
-pub fn gather(base: Baseline, chunk: &mut Chunk, traces: &[Trace]) -> Result<(), AllocError>
-    requires { IsChunkOf base.hashing traces.now chunk.old }
-    ensures chunk { IsChunkOf base.entry.hashing traces.now chunk.new }
-    ensures lines { chunk.new.lines ≡ chunk.old.lines }
-    ensures gathered { OnOk result (is_some chunk.new.summary ≡ true) }
-{
-    if chunk.summary.is_some() {
-        return Ok(());
-    }
-    let summary = Summary::of(base.alloc, base.hashing, traces)?;
-    chunk.summary = Some(summary);
-    Ok(())
 }
 
 /// Whether a changed key may have its mark, which of many keys isn't sought. It is counted nowhere, and takes no memory.

@@ -9,38 +9,18 @@ use Rattle.cps_division.specs.Division.{AreChunks, IsDivision, deleted_at, inser
 use Rattle.cps_division.specs.Recut.{recut}
 use Rattle.cps_division.specs.Put.{IsRecut, inserted_each, put_at}
 use Rattle.cps_division.specs.declared.put.Recut.{Recut}
-use Rattle.cps_edit.specs.Splice.{Splice, insertion, splice_at}
+use Rattle.cps_edit.specs.Splice.{Splice, splice_at}
 use Rattle.cps_editing.specs.Recuts.{Recuts}
 use Rattle.cps_editing.proofs.CutLemmas.{sum-part, sum-parts}
 use Rattle.cps_editing.proofs.PlanLemmas.{planned}
 use Rattle.cps_editing.specs.Editing.{IsCut, splice_of}
 use Rattle.cps_editing.specs.declared.cut.Cut.{Cut}
 use Rattle.cps_session.specs.Edits.{Source, LooksOfEdit}
-use Rattle.cps_session.specs.Cutting.{IsCutFor, IsDivided}
-use Rattle.cps_session.proofs.AppendLemmas.{IsAtEnd}
+use Rattle.cps_editing.specs.ChunkList.{IsDivided}
+use Rattle.cps_session.specs.Cutting.{IsCutFor}
 
 pub first-few : (i : ℕ) (ns : List ℕ) → sum (take i ns) ≤ sum ns
 first-few i ns = omega (arith, sum-parts i ns)
-
--- a cut behind the last line
-pub cut-behind : (olds : List ℕ) (count last : ℕ) (line : List ℕ) (cut : Cut) → IsAtEnd olds count cut.start last → IsDivision count olds
-    → AreChunks (inserted_at count olds) → splice_of cut ≡ insertion count line → cut.end ≡ length olds → cut.before ≡ count - last → cut.behind ≡ count
-    → cut.lengths.items ≡ (last + 1) ∷ [] → IsCutFor (insertion count line) olds (inserted_at count olds) cut
-cut-behind olds count last line cut here division chunks lines end before behind lengths =
-    let a = subst (λ (n : ℕ). IsDivided count count cut.start n ((last + 1) ∷ []) olds (inserted_at count olds)) (sym end) here.divided in
-    let divided = subst (λ (ns : List ℕ). IsDivided count count cut.start cut.end ns olds (inserted_at count olds)) (sym lengths) a in
-    let all : sum (take cut.end olds) ≡ count = ap sum (ap (λ n. take n olds) end ∙ take_all (length olds) olds (omega arith)) ∙ division.total in
-    let one : sum ((last + 1) ∷ []) ≡ last + 1 = omega arith in
-    let new : sum cut.lengths.items ≡ last + 1 = ap sum lengths ∙ one in
-    record {
-      lines = lines;
-      order = omega arith;
-      divided = divided;
-      before = omega (arith, before, here.lines);
-      behind = behind ∙ sym all;
-      count = omega (arith, new, all, sum-part cut.start cut.end olds divided.ordered, here.lines);
-      chunks = chunks;
-    }
 
 -- what it compares is what the edit does
 pub cut-looks : (source : Source) (edit : Splice) (news : List ℕ) (cut : Cut) (was now : Counts) → IsCutFor edit source.lengths news cut
@@ -61,12 +41,6 @@ cut-is lines edit olds news cut is division =
       before = is.before;
       behind = is.behind;
     }
-
--- so is it by what a session tells of them
-pub cut-told : (olds told : List ℕ) (count lines : ℕ) (line : List ℕ) (cut : Cut) → told ≡ olds → count ≡ lines
-    → IsCutFor (insertion count line) told (inserted_at count told) cut → IsCutFor (insertion lines line) olds (inserted_at lines olds) cut
-cut-told olds told count lines line cut same seen is =
-    subst (λ (n : ℕ). IsCutFor (insertion n line) olds (inserted_at n olds) cut) seen (subst (λ (ms : List ℕ). IsCutFor (insertion count line) ms (inserted_at count ms) cut) same is)
 
 -- the lines of the chunks that come
 pub recut-lines : (start end : ℕ) (news olds : List ℕ) → start ≤ end → sum (recut start end news olds) + sum (slice_range olds start end) ≡ sum olds + sum news

@@ -1,4 +1,3 @@
-mod AppendLemmas
 mod CuttingLemmas
 mod IdleLemmas
 pub mod SessionLemmas

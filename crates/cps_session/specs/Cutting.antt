@@ -2,9 +2,8 @@
 use Rattle.std.specs.Prelude.{◌≡◌, ℕ, ◌+◌, ◌-◌, ◌≤◌, List, length, take, sum, slice_range}
 use Rattle.cps_division.specs.Division.{AreChunks}
 use Rattle.cps_division.specs.Put.{put_at}
-use Rattle.cps_division.specs.Recut.{recut}
-use Rattle.cps_division.specs.Staying.{IsTight}
 use Rattle.cps_edit.specs.Splice.{Splice, splice_at}
+use Rattle.cps_editing.specs.ChunkList.{IsDivided}
 use Rattle.cps_editing.specs.Editing.{splice_of}
 use Rattle.cps_editing.specs.declared.cut.Cut.{Cut}
 use Rattle.cps_session.specs.declared.cutting.NewLines.{NewLines}
@@ -15,15 +14,6 @@ edit_of new = splice_at new.keep new.from new.lines.items
 
 abbrev pub lengths_with : NewLines → List ℕ → List ℕ
 lengths_with new lengths = put_at new.keep (new.from - new.keep) (length new.lines.items) lengths
-
--- chunks of the lengths `ns` come in the place of those from `start` up to `end`, around lines from `keep` up to `from`
-pub record IsDivided (keep from start end : ℕ) (ns olds news : List ℕ) : Type 0 where
-  pub chunks : recut start end ns olds ≡ news
-  pub ordered : start ≤ end
-  pub within : end ≤ length olds
-  pub begins : sum (take start olds) ≤ keep
-  pub ends : from ≤ sum (take end olds)
-  pub tight : IsTight keep (sum olds - from) start end ns olds
 
 -- a cut makes this edit, and chunks of the new lengths of those of the old ones
 pub record IsCutFor (edit : Splice) (olds news : List ℕ) (cut : Cut) : Type 0 where

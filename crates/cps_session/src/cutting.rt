@@ -1,13 +1,11 @@
 //! Where an edit comes, and what chunks come there.
-ghost use Rattle.std.specs.Prelude.{◌≡◌, ◌+◌, ◌-◌, ◌<◌, ◌≤◌, ◌^◌, [], ◌∷◌, IfOk, length, sum, vec_len};
-ghost use Rattle.cps_editing.specs.Chunk.{lengths_of};
-ghost use Rattle.cps_division.specs.Division.{AreChunks, IsDivision, inserted_at};
-ghost use Rattle.cps_edit.specs.Splice.{insertion};
+ghost use Rattle.std.specs.Prelude.{◌≡◌, ◌+◌, ◌<◌, ◌≤◌, ◌^◌, [], ◌∷◌, IfOk, sum, vec_len};
+ghost use Rattle.cps_division.specs.Division.{AreChunks};
 ghost use Rattle.cps_session.specs.Cutting.{IsCutFor, edit_of, lengths_with};
 
-use cps_division::laws::{a_put_divides_again, an_insertion_divides_again};
-use cps_division::{FULL, Recut, lines_of, recut_put};
-use cps_editing::{Chunk, Cut};
+use cps_division::laws::a_put_divides_again;
+use cps_division::{Recut, lines_of, recut_put};
+use cps_editing::Cut;
 use cps_text::Line;
 use std::alloc::{AllocError, Global};
 
@@ -45,39 +43,6 @@ pub fn cut_for(alloc: Global, lengths: &[usize], new: NewLines) -> Result<Cut, A
         before,
         behind: lines_of(&lengths[..end]),
         lengths: news,
-    })
-}
-
-/// A line behind the last of so many: the last chunk grows, or a new one comes. No other chunk is looked at.
-pub fn cut_for_append(
-    alloc: Global,
-    chunks: &[Chunk],
-    count: usize,
-    line: Line,
-) -> Result<Cut, AllocError>
-    requires { IsDivision count (lengths_of chunks.now) }
-    ensures { IfOk result (IsCutFor (insertion count line) (lengths_of chunks.now) (inserted_at count (lengths_of chunks.now))) }
-{
-    an_insertion_divides_again();
-    let end = chunks.len();
-    let mut start = end;
-    let mut last = 0;
-    if end > 0 {
-        let lines = chunks[end - 1].lines;
-        if lines < FULL {
-            start = end - 1;
-            last = lines;
-        }
-    }
-    Ok(Cut {
-        keep: count,
-        from: count,
-        lines: list_of(alloc, line)?,
-        start,
-        end,
-        before: count - last,
-        behind: count,
-        lengths: list_of(alloc, last + 1)?,
     })
 }
 

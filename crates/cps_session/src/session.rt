@@ -14,7 +14,7 @@ ghost use Rattle.cps_division.specs.Exchange.{exchanged_at, moved_at};
 ghost use Rattle.cps_session.specs.Cutting.{edit_of, lengths_with};
 ghost use Rattle.cps_session.specs.Edits.{HasLine, LacksLine, HasLines, LacksLines, HasMove, LacksMove, LacksPlace, MayPut, MayNotPut, IsPut, put_of, without_lines, WorkOfEdit, WorkOfMove, LooksOfAppend, LooksOfEdit, LooksOfMove, LooksOfPut, LooksOfExchange};
 
-use crate::cutting::{NewLines, cut_for, cut_for_append, list_of};
+use crate::cutting::{NewLines, cut_for, list_of};
 use cps_assembly::flagged_lines;
 use cps_editing::{Cut, KeptSource, kept_of};
 use cps_exchange::Exchange;
@@ -368,11 +368,11 @@ impl Session {
         ensures work { WorkOfEdit result self.old.lines (insertion (length self.old.lines) line) work.old work.new }
         ensures looked { LooksOfAppend self.old line work.old work.new }
     {
-        let count = self.kept.lines.len();
-        let Ok(cut) = cut_for_append(self.alloc, &self.kept.chunks, count, line) else {
+        let made = self.kept.append(line, work);
+        let Ok(()) = made else {
             return Err(EditFault::Memory);
         };
-        self.splice(cut, work)
+        Ok(())
     }
 
     /// Puts new lines in the place of others.

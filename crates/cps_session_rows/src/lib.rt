@@ -6,11 +6,11 @@
 //! - `document.rt`: a document that an editor has open
 //! - `edit_rows.rt`: edits of a session
 //! - `enter_rows.rt`: sessions that begin with lines
+//! - `gathering.rt`: what is gathered of a chunk
 //! - `many_edits.rt`: a thousand edits
 //! - `part_rows.rt`: the texts of a session
 //! - `pass_rows.rt`: pass one, line by line
 //! - `put_rows.rt`: several lines in the place of others
-//! - `summary.rt`: the summaries of chunks
 #![tactic(auto)]
 
 #[cfg(test)]
@@ -26,6 +26,8 @@ mod edit_rows;
 #[cfg(test)]
 mod enter_rows;
 #[cfg(test)]
+mod gathering;
+#[cfg(test)]
 mod many_edits;
 #[cfg(test)]
 mod part_rows;
@@ -33,5 +35,3 @@ mod part_rows;
 mod pass_rows;
 #[cfg(test)]
 mod put_rows;
-#[cfg(test)]
-mod summary;

@@ -47,6 +47,7 @@ impl Item {
     }
 
     /// What the statement made.
+    #[inline(always)]
     pub fn fill(&mut self, made: Made)
         ensures { self.new ≡ with_made made self.old }
     {

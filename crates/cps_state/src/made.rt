@@ -137,6 +137,7 @@ impl Model for Made {
 
 impl Made {
     /// Of a statement that does nothing but have flags.
+    #[inline(always)]
     pub fn nothing(flags: Flags) -> Made
         ensures { result ≡ nothing_made flags }
     {
@@ -151,6 +152,7 @@ impl Made {
     }
 
     /// Of a statement that names the program.
+    #[inline(always)]
     pub fn naming(flags: Flags, name: Name) -> Made
         ensures { result ≡ record (nothing_made flags) { program = Some name } }
     {
@@ -161,6 +163,7 @@ impl Made {
     }
 
     /// Of a statement whose row shows something.
+    #[inline(always)]
     pub fn showing(flags: Flags, shown: Shown) -> Made
         ensures { result ≡ record (nothing_made flags) { shown = shown } }
     {
@@ -168,6 +171,7 @@ impl Made {
     }
 
     /// Of a statement that leaves bits of a block, and perhaps shows something.
+    #[inline(always)]
     pub fn leaving(flags: Flags, machine: Machine, filling: Option<Piece>, shown: Shown) -> Made
         ensures { result ≡ record (nothing_made flags) { machine = machine; filling = option_to_list (option_map piece_of filling); shown = shown } }
     {
@@ -182,6 +186,7 @@ impl Made {
     }
 
     /// Of a statement that reserves words, or that makes so many words of zeros.
+    #[inline(always)]
     pub fn reserving(flags: Flags, machine: Machine, begun: Begun, zeros: u32) -> Made
         requires word { begun.start % 60 < bits_of machine }
         requires within { begun.start ≤ 60 * limit machine }
@@ -199,6 +204,7 @@ impl Made {
     }
 
     /// Of a statement with contents.
+    #[inline(always)]
     pub fn placing(
         flags: Flags,
         machine: Machine,
@@ -225,6 +231,7 @@ impl Made {
     }
 
     /// Of a statement that makes nothing, with contents that give flags.
+    #[inline(always)]
     pub fn flagging(
         flags: Flags,
         machine: Machine,

@@ -126,6 +126,7 @@ impl<'a, L: Lookup> Recorder<'a, L> {
     }
 
     /// What the statement that began last made.
+    #[inline(always)]
     pub fn fill(&mut self, made: Made)
         ensures { self.new ≡ line_filled self.old made }
     {

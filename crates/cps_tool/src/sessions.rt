@@ -13,6 +13,7 @@ use cps_text::limits::MOST_LINES;
 use cps_text::{Counted, Line};
 use std::alloc::Global;
 use std::io::{Read, Write};
+use std::mem::forget;
 
 /// Runs the script of a session that begins with the lines of a file.
 pub fn run_session_from<S: Sources, R: Read, W: Write, E: Write>(
@@ -56,7 +57,7 @@ fn run_session_of<S, R: Read, W: Write, E: Write>(
     }
 }
 
-/// Runs a script over the source of a session.
+/// Runs a script over the source of a session. The program ends with it: what the session keeps is not dropped line by line, and its memory goes with the program's.
 pub fn run_script_over<R: Read, W: Write, E: Write>(
     alloc: Global,
     session: Session,
@@ -68,7 +69,9 @@ pub fn run_script_over<R: Read, W: Write, E: Write>(
     ensures quiet { IsQuiet result errors.old errors.new }
 {
     let mut session = session;
-    match run_script(alloc, reader, writer, &mut session) {
+    let ran = run_script(alloc, reader, writer, &mut session);
+    forget(session);
+    match ran {
         Ok(count) => status_of_count(count),
         Err(fault) => complain_of(errors, fault),
     }

@@ -1,41 +1,11 @@
-use Rattle.std.proofs.Common.{arith, ◌≡◌, ℕ, ◌-◌, ◌∙◌, true, List, length, subst, sym, ap, take, drop}
+use Rattle.std.proofs.Common.{arith, ◌≡◌, ℕ, ◌-◌, ◌∙◌, List, length, subst, sym, ap, take, drop}
 use Rattle.std.specs.Prelude.{sum}
 use Rattle.std.proofs.lemmas.List.{take_rest}
 use Rattle.cps_state.specs.Course.{Trace}
 use Rattle.cps_chunk.specs.declared.chunk.Chunk.{Chunk}
 use Rattle.cps_chunk.specs.Chunk.{AreChunksOf, lengths_of}
-use Rattle.cps_editing.specs.ChunkList.{is_append}
-use Rattle.cps_editing.proofs.ChunkListLemmas.{lines-few, chunks-grown, lengths-grown, chunks-recut, lengths-recut}
+use Rattle.cps_editing.proofs.ChunkListLemmas.{chunks-recut, lengths-recut}
 use Rattle.cps_editing.proofs.chunk_list.put_chunks.Goals as goal
-
-pub grow-requires : goal.grow-requires
-grow-requires c =
-    let cs = c.args.chunks.now.items in
-    let cut = c.args.cut.now in
-    let news = c.args.traces.now in
-    let count : c.len.result ≡ length cs = omega (arith, c.len.ensures, c.args.chunks.now.ok.0) in
-    let last : is_append cut (length cs) (length news) ≡ true = ap (λ (k : ℕ). is_append cut k (length news)) (sym count) ∙ sym c.is_append.ensures ∙ c.if-is_append.true in
-    let few = lines-few c.args.hashing cut cs c.requires.fits.0 news c.requires.fits.1 last c.index_mut.result.now c.index_mut.ensures.value in
-    omega (arith, few)
-
-pub returns-then-is_append-clause-chunks : goal.returns-then-is_append-clause-chunks
-returns-then-is_append-clause-chunks c =
-    let cs = c.args.chunks.now.items in
-    let cut = c.args.cut.now in
-    let news = c.args.traces.now in
-    let count : c.len.result ≡ length cs = omega (arith, c.len.ensures, c.args.chunks.now.ok.0) in
-    let last : is_append cut (length cs) (length news) ≡ true = ap (λ (k : ℕ). is_append cut k (length news)) (sym count) ∙ sym c.is_append.ensures ∙ c.if-is_append.true in
-    chunks-grown c.args.hashing cut cs c.requires.fits.0 news c.requires.fits.1 last c.index_mut.result.now c.index_mut.ensures.value c.grow.new.self c.index-traces-traces.result
-    c.index-traces-traces.is c.grow.ensures.chunk
-
-pub returns-then-is_append-clause-lengths : goal.returns-then-is_append-clause-lengths
-returns-then-is_append-clause-lengths c =
-    let cs = c.args.chunks.now.items in
-    let cut = c.args.cut.now in
-    let news = c.args.traces.now in
-    let count : c.len.result ≡ length cs = omega (arith, c.len.ensures, c.args.chunks.now.ok.0) in
-    let last : is_append cut (length cs) (length news) ≡ true = ap (λ (k : ℕ). is_append cut k (length news)) (sym count) ∙ sym c.is_append.ensures ∙ c.if-is_append.true in
-    lengths-grown c.args.hashing cut cs c.requires.fits.0 news c.requires.fits.1 last c.index_mut.result.now c.index_mut.ensures.value c.grow.new.self c.grow.ensures.lines
 
 pub returns-clause-chunks : goal.returns-clause-chunks
 returns-clause-chunks c =

@@ -21,10 +21,6 @@ pub returns-in_err-make_room-clause-kept : goal.returns-in_err-make_room-clause-
 returns-in_err-make_room-clause-kept c =
     kept-same c.requires.kept refl refl c.make_room_for.ensures.items c.make_room_for-2.ensures.items c.make_room_for-3.ensures.items c.make_room_for-4.ensures.items c.make_room.ensures.same refl
 
-pub returns-then-is_append-clause-kept : goal.returns-then-is_append-clause-kept
-returns-then-is_append-clause-kept c =
-    kept-same c.requires.kept refl refl c.make_room_for.ensures.items c.make_room_for-2.ensures.items c.make_room_for-3.ensures.items c.make_room_for-4.ensures.items c.make_room.ensures.same refl
-
 pub returns-clause-kept : goal.returns-clause-kept
 returns-clause-kept c =
     kept-same c.requires.kept refl refl c.make_room_for.ensures.items c.make_room_for-2.ensures.items c.make_room_for-3.ensures.items c.make_room_for-4.ensures.items c.make_room.ensures.same refl

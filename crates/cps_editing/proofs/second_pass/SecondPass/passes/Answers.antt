@@ -1,8 +1,6 @@
 use Rattle.std.proofs.Common.{rules, ◌≡◌, false, Option, sym, ap, subst, ◌∙◌}
 use Rattle.std.specs.Prelude.{IfSome}
 use Rattle.cps_naming.specs.Names.{Names, all_pass, names_in}
-use Rattle.cps_chunk.specs.Chunk.{IsSummary}
-use Rattle.cps_chunk.specs.declared.chunk.Summary.{Summary}
 use Rattle.cps_editing.specs.Differences.{passes}
 use Rattle.cps_editing.proofs.SecondPassLemmas.{exact-names}
 use Rattle.cps_editing.proofs.second_pass.SecondPass.passes.Goals as goal
@@ -15,6 +13,7 @@ returns-then-not-may_have-clause-passes c =
 pub returns-in-Some-clause-passes : goal.returns-in-Some-clause-passes
 returns-in-Some-clause-passes c =
     let pass = c.args.self.now in
-    let is : IsSummary c.args.olds.now c.in-Some.summary = subst (λ (s : Option Summary). IfSome s (IsSummary c.args.olds.now)) c.in-Some.is c.gather.ensures.chunk.summary in
-    c.all_pass.ensures ∙ ap (λ (names : Names). all_pass (passes pass.differences) names) is.names
+    let is : c.in-Some.names ≡ names_in c.args.olds.now =
+    subst (λ (kept : Option Names). IfSome kept (λ names. names ≡ names_in c.args.olds.now)) c.in-Some.is c.gather_names.ensures.chunk.names_kept in
+    c.all_pass.ensures ∙ ap (λ (names : Names). all_pass (passes pass.differences) names) is
     ∙ exact-names pass c.requires.exact (names_in c.args.olds.now)

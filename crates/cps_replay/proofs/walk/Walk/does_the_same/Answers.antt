@@ -39,38 +39,38 @@ returns-then-not-may_have-clause-walk c =
           c.requires.cursor.line c.requires.end refl is c.requires.walk.chunks;
     }
 
-pub gather-requires : goal.gather-requires
-gather-requires c =
+pub gather_run-requires : goal.gather_run-requires
+gather_run-requires c =
     let walk = c.args.self.now in
     let d = c.index_mut-chunk.result.now in
     subst (λ (us : List Trace). IsChunkOf walk.base.hashing us d) (sym c.part-traces.ensures)
     (chunk-at walk.base.hashing walk.chunks.items walk.base.traces.now c.args.cursor.chunk c.args.cursor.line c.args.end d c.requires.within c.index_mut-chunk.ensures.value
     c.requires.cursor.line c.requires.end c.requires.walk.chunks)
 
-pub returns-in_err-gather-clause-walk : goal.returns-in_err-gather-clause-walk
-returns-in_err-gather-clause-walk c =
+pub returns-in_err-gather_run-clause-walk : goal.returns-in_err-gather_run-clause-walk
+returns-in_err-gather_run-clause-walk c =
     let walk = c.args.self.now in
     record {
       base = c.requires.walk.base;
-      chunks = chunk-set walk.base.hashing walk.chunks.items walk.base.traces.now c.part-traces.result.now c.args.cursor.chunk c.args.cursor.line c.args.end c.index_mut-chunk.result.now c.gather.new.chunk
-          c.requires.within c.index_mut-chunk.ensures.value c.gather.ensures.lines c.requires.cursor.line c.requires.end c.part-traces.ensures c.gather.ensures.chunk c.requires.walk.chunks;
+      chunks = chunk-set walk.base.hashing walk.chunks.items walk.base.traces.now c.part-traces.result.now c.args.cursor.chunk c.args.cursor.line c.args.end c.index_mut-chunk.result.now c.gather_run.new.self
+          c.requires.within c.index_mut-chunk.ensures.value c.gather_run.ensures.lines c.requires.cursor.line c.requires.end c.part-traces.ensures c.gather_run.ensures.chunk c.requires.walk.chunks;
     }
 
-pub returns-in_err-gather-clause-lengths : goal.returns-in_err-gather-clause-lengths
-returns-in_err-gather-clause-lengths c =
+pub returns-in_err-gather_run-clause-lengths : goal.returns-in_err-gather_run-clause-lengths
+returns-in_err-gather_run-clause-lengths c =
     let walk = c.args.self.now in
-    lengths-set walk.base.hashing walk.chunks.items c.args.cursor.chunk c.index_mut-chunk.result.now c.gather.new.chunk c.requires.within c.index_mut-chunk.ensures.value c.gather.ensures.lines
+    lengths-set walk.base.hashing walk.chunks.items c.args.cursor.chunk c.index_mut-chunk.result.now c.gather_run.new.self c.requires.within c.index_mut-chunk.ensures.value c.gather_run.ensures.lines
 
 pub returns-in-Some-clause-walk : goal.returns-in-Some-clause-walk
 returns-in-Some-clause-walk c =
     let walk = c.args.self.now in
     record {
       base = c.requires.walk.base;
-      chunks = chunk-set walk.base.hashing walk.chunks.items walk.base.traces.now c.part-traces.result.now c.args.cursor.chunk c.args.cursor.line c.args.end c.index_mut-chunk.result.now c.gather.new.chunk
-          c.requires.within c.index_mut-chunk.ensures.value c.gather.ensures.lines c.requires.cursor.line c.requires.end c.part-traces.ensures c.gather.ensures.chunk c.requires.walk.chunks;
+      chunks = chunk-set walk.base.hashing walk.chunks.items walk.base.traces.now c.part-traces.result.now c.args.cursor.chunk c.args.cursor.line c.args.end c.index_mut-chunk.result.now c.gather_run.new.self
+          c.requires.within c.index_mut-chunk.ensures.value c.gather_run.ensures.lines c.requires.cursor.line c.requires.end c.part-traces.ensures c.gather_run.ensures.chunk c.requires.walk.chunks;
     }
 
 pub returns-in-Some-clause-lengths : goal.returns-in-Some-clause-lengths
 returns-in-Some-clause-lengths c =
     let walk = c.args.self.now in
-    lengths-set walk.base.hashing walk.chunks.items c.args.cursor.chunk c.index_mut-chunk.result.now c.gather.new.chunk c.requires.within c.index_mut-chunk.ensures.value c.gather.ensures.lines
+    lengths-set walk.base.hashing walk.chunks.items c.args.cursor.chunk c.index_mut-chunk.result.now c.gather_run.new.self c.requires.within c.index_mut-chunk.ensures.value c.gather_run.ensures.lines

@@ -1,40 +1,37 @@
-use Rattle.std.proofs.Common.{arith, ◌≡◌, length, sym, ap, subst, ◌∙◌, List, ℕ}
-use Rattle.cps_division.specs.Division.{IsDivision, inserted_at}
-use Rattle.cps_editing.specs.Chunk.{lengths_of}
-use Rattle.cps_editing.specs.declared.Chunk.{Chunk}
+use Rattle.std.proofs.Common.{arith, ◌<◌, ◌∷◌, ◌++◌, [], length, subst, sym}
+use Rattle.std.proofs.lemmas.List.{length-append}
+use Rattle.cps_edit.specs.Disturbed.{ones_of, twos_of}
 use Rattle.cps_edit.specs.Splice.{insertion}
-use Rattle.cps_session.specs.Edits.{Source}
-use Rattle.cps_session.proofs.CuttingLemmas.{cut-is, cut-looks, cut-told}
-use Rattle.cps_session.proofs.SessionLemmas.{divided}
+use Rattle.cps_assembly.specs.Limits.{most_lines}
+use Rattle.cps_session.specs.Edits.{Source, HaveStepped, HaveSteppedUpTo, LooksOfAppend}
+use Rattle.cps_session.proofs.SessionLemmas.{held}
 use Rattle.cps_session.proofs.session.Session.append.Goals as goal
 
-pub cut_for_append-requires : goal.cut_for_append-requires
-cut_for_append-requires c =
-    let kept = c.self.inside.kept in
-    let count : length kept.lines.items ≡ c.len-count.result = omega (arith, c.len-count.ensures, kept.lines.ok.0) in
-    subst (λ (n : ℕ). IsDivision n (lengths_of c.deref.result.now)) count
-    (subst (λ (chunks : List Chunk). IsDivision (length kept.lines.items) (lengths_of chunks)) (sym c.deref.ensures.value) (divided kept c.self.invariant))
+pub invariant_of-self : goal.invariant_of-self
+invariant_of-self c = held c.append-made.new.self c.self.inside.kept.lines.items c.append-made.ensures.kept c.in_default.ensures.err.lines c.self.invariant.few
 
-pub splice-requires-clause-cut : goal.splice-requires-clause-cut
-splice-requires-clause-cut c =
-    let kept = c.self.inside.kept in
-    let source = c.args.self.now in
-    let told = lengths_of c.deref.result.now in
-    let same : told ≡ source.lengths = ap lengths_of c.deref.ensures.value ∙ ap (λ (s : Source). s.lengths) c.self.view_is in
-    let lines : length kept.lines.items ≡ length source.lines = ap (λ (s : Source). length s.lines) c.self.view_is in
-    let seen : c.len-count.result ≡ length source.lines = omega (arith, c.len-count.ensures, kept.lines.ok.0, lines) in
-    let made = cut-told source.lengths told c.len-count.result (length source.lines) c.args.line c.in-Ok.cut same seen c.in-Ok.ensures in
-    cut-is source.lines (insertion (length source.lines) c.args.line) source.lengths (inserted_at (length source.lines) source.lengths) c.in-Ok.cut made
-    (subst (λ (s : Source). IsDivision (length s.lines) s.lengths) c.self.view_is (divided kept c.self.invariant))
+pub returns-in_default-clause-work : goal.returns-in_default-clause-work
+returns-in_default-clause-work c =
+    let line = c.args.line in
+    let steps = c.in_default.ensures.steps in
+    subst (λ (s : Source). HaveSteppedUpTo (ones_of s.lines (insertion (length s.lines) line)) (twos_of s.lines (insertion (length s.lines) line)) c.args.work.now c.append-made.new.work) c.self.view_is
+    (record { first = steps.ones_most; second = steps.twos_most; first_kept = steps.ones_least; second_kept = steps.twos_least })
+
+pub returns-in_default-clause-looked : goal.returns-in_default-clause-looked
+returns-in_default-clause-looked c = subst (λ (s : Source). LooksOfAppend s c.args.line c.args.work.now c.append-made.new.work) c.self.view_is c.append-made.ensures.looked
+
+pub invariant_of-self-2 : goal.invariant_of-self-2
+invariant_of-self-2 c =
+    let lines = c.self.inside.kept.lines.items in
+    let few = subst (λ (s : Source). length s.lines < most_lines) (sym c.self.view_is) c.requires in
+    held c.append-made.new.self (lines ++ c.args.line ∷ []) c.append-made.ensures.kept c.in-Ok.ensures.ok.lines (omega (arith, length-append lines (c.args.line ∷ []), few))
+
+pub returns-clause-work : goal.returns-clause-work
+returns-clause-work c =
+    let line = c.args.line in
+    let steps = c.in-Ok.ensures.steps in
+    subst (λ (s : Source). HaveStepped (ones_of s.lines (insertion (length s.lines) line)) (twos_of s.lines (insertion (length s.lines) line)) c.args.work.now c.append-made.new.work) c.self.view_is
+    (record { first = steps.ones; second = steps.twos })
 
 pub returns-clause-looked : goal.returns-clause-looked
-returns-clause-looked c =
-    let kept = c.self.inside.kept in
-    let source = c.args.self.now in
-    let told = lengths_of c.deref.result.now in
-    let same : told ≡ source.lengths = ap lengths_of c.deref.ensures.value ∙ ap (λ (s : Source). s.lengths) c.self.view_is in
-    let lines : length kept.lines.items ≡ length source.lines = ap (λ (s : Source). length s.lines) c.self.view_is in
-    let seen : c.len-count.result ≡ length source.lines = omega (arith, c.len-count.ensures, kept.lines.ok.0, lines) in
-    let made = cut-told source.lengths told c.len-count.result (length source.lines) c.args.line c.in-Ok.cut same seen c.in-Ok.ensures in
-    let edit = insertion (length source.lines) c.args.line in
-    cut-looks source edit (inserted_at (length source.lines) source.lengths) c.in-Ok.cut c.args.work.now c.splice.new.work made c.splice.ensures.looked
+returns-clause-looked c = subst (λ (s : Source). LooksOfAppend s c.args.line c.args.work.now c.append-made.new.work) c.self.view_is c.append-made.ensures.looked

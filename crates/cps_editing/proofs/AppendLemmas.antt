@@ -7,11 +7,11 @@ use Rattle.cps_division.specs.Division.{full, joined, AreChunks, IsDivision, gro
 use Rattle.cps_division.specs.Recut.{recut}
 use Rattle.cps_division.specs.Staying.{same_front}
 use Rattle.cps_division.proofs.StayingLemmas.{chunks-some, some-second, front-past, front-other, front-beyond}
-use Rattle.cps_editing.specs.Chunk.{lengths_of}
-use Rattle.cps_editing.specs.declared.Chunk.{Chunk}
+use Rattle.cps_chunk.specs.Chunk.{lengths_of}
+use Rattle.cps_chunk.specs.declared.chunk.Chunk.{Chunk}
 use Rattle.cps_edit.proofs.TakenLemmas.{drop_at}
-use Rattle.cps_editing.proofs.CutLemmas.{sum-append, sum-cons}
-use Rattle.cps_session.specs.Cutting.{IsDivided}
+use Rattle.cps_touched.proofs.CutLemmas.{sum-append, sum-cons}
+use Rattle.cps_editing.specs.ChunkList.{IsDivided}
 
 -- ---- the new lengths
 

@@ -1,5 +1,5 @@
 //! What lines of a source did, and the chunk of them.
-use cps_chunk::{Chunk, Summary};
+use cps_chunk::Chunk;
 use cps_pass::{Hashing, State, Trace, Work, step_one};
 use cps_text::Line;
 use std::alloc::{AllocError, Global};
@@ -25,14 +25,13 @@ pub fn take_text(alloc: Global, state: &mut State, traces: &mut Vec<Trace>, text
     }
 }
 
-/// The chunk of all these lines, and what is gathered of them.
+/// The chunk of all these lines, with what they ask together.
 pub fn gathered_chunk(
     alloc: Global,
     hashing: Hashing,
     traces: &[Trace],
 ) -> Result<Chunk, AllocError> {
-    let summary = Summary::of(alloc, hashing, traces)?;
     let mut chunk = Chunk::of(hashing, traces);
-    chunk.summary = Some(summary);
+    chunk.gather_run(alloc, hashing, traces)?;
     Ok(chunk)
 }

@@ -1,4 +1,4 @@
-//! Tests of the summaries of chunks, by rows of worked examples.
+//! Tests of what is gathered of a chunk, by rows of worked examples.
 //!
 //! - `given.rt`: lines of a source, and the chunk of them
 //! - `names_rows.rt`: how many names a run of lines has

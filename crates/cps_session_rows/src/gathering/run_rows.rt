@@ -15,8 +15,8 @@ fn seen_of(lines: usize, run: &Run, front: &State, behind: &State) -> Seen {
 }
 
 fn seen_in(chunk: &Chunk, front: &State, behind: &State) -> Option<Seen> {
-    match &chunk.summary {
-        Some(summary) => Some(seen_of(chunk.lines, &summary.run, front, behind)),
+    match &chunk.run {
+        Some(run) => Some(seen_of(chunk.lines, run, front, behind)),
         None => None,
     }
 }

@@ -2,7 +2,7 @@ use Rattle.std.proofs.Common.{arith, ◌+◌, List, refl, sym, subst}
 use Rattle.cps_state.specs.Course.{Trace}
 use Rattle.cps_chunk.specs.Chunk.{IsChunkOf}
 use Rattle.cps_replay.proofs.WalkLemmas.{chunk-at, chunk-set, lengths-set, lengths-grow, lengths-within}
-use Rattle.cps_replay.proofs.walk.Walk.gather_chunk.Goals as goal
+use Rattle.cps_replay.proofs.walk.Walk.gather_run.Goals as goal
 
 pub part-traces-requires-clause-ordered : goal.part-traces-requires-clause-ordered
 part-traces-requires-clause-ordered c =
@@ -13,8 +13,8 @@ part-traces-requires-clause-within c =
     let walk = c.args.self.now in
     omega (arith, c.requires.end, lengths-within walk.base.hashing walk.chunks.items walk.base.traces.now (c.args.cursor.chunk + 1) c.requires.walk.chunks)
 
-pub gather-requires : goal.gather-requires
-gather-requires c =
+pub gather_run-requires : goal.gather_run-requires
+gather_run-requires c =
     let walk = c.args.self.now in
     let d = c.index_mut.result.now in
     subst (λ (us : List Trace). IsChunkOf walk.base.hashing us d) (sym c.part-traces.ensures)
@@ -27,9 +27,9 @@ returns-clause-walk c =
     record {
       walk = record {
         base = c.requires.walk.base;
-        chunks = chunk-set walk.base.hashing walk.chunks.items walk.base.traces.now c.part-traces.result.now c.args.cursor.chunk c.args.cursor.line c.args.end c.index_mut.result.now c.gather.new.chunk
-            c.requires.cursor.within c.index_mut.ensures.value c.gather.ensures.lines c.requires.cursor.stands.line c.requires.end c.part-traces.ensures c.gather.ensures.chunk c.requires.walk.chunks;
+        chunks = chunk-set walk.base.hashing walk.chunks.items walk.base.traces.now c.part-traces.result.now c.args.cursor.chunk c.args.cursor.line c.args.end c.index_mut.result.now c.gather_run.new.self
+            c.requires.cursor.within c.index_mut.ensures.value c.gather_run.ensures.lines c.requires.cursor.stands.line c.requires.end c.part-traces.ensures c.gather_run.ensures.chunk c.requires.walk.chunks;
       };
       base = refl;
-      lengths = lengths-set walk.base.hashing walk.chunks.items c.args.cursor.chunk c.index_mut.result.now c.gather.new.chunk c.requires.cursor.within c.index_mut.ensures.value c.gather.ensures.lines;
+      lengths = lengths-set walk.base.hashing walk.chunks.items c.args.cursor.chunk c.index_mut.result.now c.gather_run.new.self c.requires.cursor.within c.index_mut.ensures.value c.gather_run.ensures.lines;
     }
