@@ -14,32 +14,33 @@ use Rattle.cps_changes.specs.Changes.{changed}
 use Rattle.cps_changes.specs.Kept.{changes_in}
 use Rattle.cps_gather.specs.Mend.{mended}
 use Rattle.cps_gather.specs.declared.mend.Mend.{Mend}
-use Rattle.cps_final.specs.Finals.{finals_of}
+use Rattle.cps_gather.specs.contracts.finals.FinalsGathered.TheImpl.{gathered-value}
+use Rattle.cps_final.specs.Finals.{Finals, final_value, finals_of}
 use Rattle.cps_final.specs.Outcome.{Outcome, Resolved, outcome_of}
 use Rattle.cps_pass.specs.Expansion.{trace_of}
 use Rattle.cps_naming.specs.Names.{names_in}
 use Rattle.cps_division.specs.Division.{AreChunks, IsDivision, full, inserted_at}
-use Rattle.cps_division.specs.Recut.{recut}
 use Rattle.cps_edit.specs.Compares.{ComparesUpTo, Steps}
 use Rattle.cps_edit.specs.Disturbed.{finals_in, ones_of, twos_of}
 use Rattle.cps_edit.specs.Passes.{outcomes_by, state_after, traces_of}
 use Rattle.cps_edit.specs.Splice.{Splice, insertion, spliced}
 use Rattle.cps_edit.proofs.RedoLemmas.{append-outcomes}
 use Rattle.cps_edit.proofs.SpliceLemmas.{length-traces_from, state_after-append, traces_from-append}
+use Rattle.cps_chunk.specs.Chunk.{lengths_of}
 use Rattle.cps_replay.specs.Redo.{is_passed}
 use Rattle.cps_replay.specs.Replayed.{redone, redone_behind, replayed_behind}
 use Rattle.cps_replay.specs.Sparse.{renewed}
 use Rattle.cps_replay.proofs.ReplayedLemmas.{renewed-redone, twos-spliced}
 use Rattle.cps_replay.proofs.SparseLemmas.{renewed-none}
 use Rattle.cps_replay.proofs.WalkLemmas.{same-long}
-use Rattle.cps_touched.specs.Looks.{first_looks, looks_again, second_looks}
+use Rattle.cps_touched.specs.Looks.{looks_again}
 use Rattle.cps_touched.specs.Recuts.{Recuts}
 use Rattle.cps_touched.specs.Touched.{touched_of}
 use Rattle.cps_touched.proofs.CutLemmas.{sum-part, sum-parts}
 use Rattle.cps_touched.proofs.PlanLemmas.{planned}
 use Rattle.cps_touched.proofs.TouchedLemmas.{looks-law}
-use Rattle.cps_editing.specs.Append.{HasRoomForOne}
-use Rattle.cps_editing.specs.Editing.{HasAsMuchRoom, IsStill}
+use Rattle.cps_editing.specs.Append.{HasRoomForOne, IsMendOf, trace_behind}
+use Rattle.cps_editing.specs.Editing.{HasAsMuchRoom, IsKept, IsStill}
 use Rattle.cps_editing.specs.declared.kept_source.KeptSource.{KeptSource}
 use Rattle.cps_editing.proofs.AgainLemmas.{steps-of}
 use Rattle.cps_editing.proofs.AppendLemmas.{IsAtEnd, begins, begins-first, grows}
@@ -162,6 +163,44 @@ module _ (lines : List (List ℕ)) (line : List ℕ) where
         let some = by-last olds division (length olds) refl in
         subst (λ (ls : List (List ℕ)). looks_again (finals_in lines) (finals_in ls) olds 0 [] (traces_of lines) ≤ 128 * touched_of lines edit olds (inserted_at n olds)) lines-behind
         (looks-at some.0 some.1 some.2)
+
+-- ---- what is kept where the line has been stepped and there is room for it
+
+-- the lines and what they do, and what stood behind the last before the line and stands there now
+pub record IsBehind (lines : List (List ℕ)) (line : List ℕ) (kept : KeptSource) (was now : Finals) : Type 0 where
+  pub source : kept.lines.items ≡ lines
+  pub traces : kept.traces.items ≡ traces_of lines
+  pub before : was ≡ finals_of (traces_of lines)
+  pub behind : now ≡ finals_of (traces_of (lines ++ line ∷ []))
+
+pub is-behind : {old one two three : KeptSource} {t : Trace} {mend : Mend} (line : List ℕ) (back : Mend) {next : Finals} → IsKept old → IsStill old one → IsStill one two → IsStill two three → IsKept three
+    → t ≡ trace_behind old line → IsMendOf one t mend → next ≡ mended mend (gathered-value.it three.finals) → mended back next ≡ gathered-value.it three.finals
+    → IsBehind old.lines.items line three (mended back next) next
+is-behind {old = old} {one = one} {t = t} {mend = mend} line back kept first second third there is made next undone =
+    let did = first.traces ∙ kept.lines.did in
+    let same = third.lines ∙ second.lines ∙ first.lines in
+    let finals = there.finals ∙ ap (λ ls. finals_of (traces_of ls)) same in
+    record {
+      source = same;
+      traces = third.traces ∙ second.traces ∙ did;
+      before = undone ∙ finals;
+      behind = next ∙ ap (mended mend) finals ∙ finals-behind old.lines.items line mend one.traces.items t did is made.state made.storage;
+    }
+
+module _ {lines : List (List ℕ)} {line : List ℕ} {kept : KeptSource} {was now : Finals} (b : IsBehind lines line kept was now) where
+  -- how many lines pass two steps
+  pub twos-are : twos_of lines (insertion (length lines) line) ≡ 1 + length (redone (final_value was) (final_value now) 0 [] kept.traces.items)
+  twos-are =
+      twos-behind lines line (finals_in lines) (finals_in (lines ++ line ∷ [])) refl refl
+      ∙ (λ i. 1 + length (redone (final_value (sym b.before i)) (final_value (sym b.behind i)) 0 [] (sym b.traces i)))
+
+  -- and how many it compares
+  pub looks-are : (olds : List ℕ) → lengths_of kept.chunks.items ≡ olds → IsDivision (length lines) olds → AreChunks (inserted_at (length lines) olds)
+      → looks_again (final_value was) (final_value now) (lengths_of kept.chunks.items) 0 [] kept.traces.items ≤ 128 * touched_of lines (insertion (length lines) line) olds (inserted_at (length lines) olds)
+  looks-are olds lengths division again =
+      let most : ℕ = 128 * touched_of lines (insertion (length lines) line) olds (inserted_at (length lines) olds) in
+      subst (λ (m : ℕ). m ≤ most) (λ i. looks_again (final_value (sym b.before i)) (final_value (sym b.behind i)) (sym lengths i) 0 [] (sym b.traces i))
+      (looks-behind lines line olds division again)
 
 -- ---- steps and comparisons of both passes
 

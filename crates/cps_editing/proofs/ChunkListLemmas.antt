@@ -1,8 +1,8 @@
 -- Chunks that are marked, made and put in the place of others.
-use Rattle.std.proofs.Common.{◌≡◌, ℕ, ◌+◌, ◌-◌, ◌<◌, ◌≤◌, refl, sym, ap, subst, ◌∙◌, List, [], ◌∷◌, ◌++◌, append-nil, append_assoc, length, get_or, set, take, drop, arith}
+use Rattle.std.proofs.Common.{◌≡◌, ℕ, ◌+◌, ◌-◌, ◌<◌, ◌≤◌, refl, sym, ap, subst, ◌∙◌, List, [], ◌∷◌, ◌++◌, append_assoc, length, get_or, set, take, drop, arith}
 use Rattle.std.specs.Prelude.{sum}
 use Rattle.std.proofs.lemmas.List.{length-take-le, length-drop, length-map, map-append, drop-map, take-map, take_all, drop_all, take_more, take-take, drop-take, drop-drop, take-append-drop, set_at, get_or_default}
-use Rattle.std.proofs.lemmas.List.Sums.{sum_by_push, sum_by-cons, sum_by-take-le}
+use Rattle.std.proofs.lemmas.List.Sums.{sum_by_push, sum_by-take-le}
 use Rattle.cps_state.specs.declared.hashing.Hashing.{Hashing}
 use Rattle.cps_state.specs.Course.{Trace}
 use Rattle.cps_division.specs.Division.{AreChunks, full, inserted_at}
@@ -13,7 +13,7 @@ use Rattle.cps_chunk.specs.Chunk.{IsChunkOf, AreChunksOf, lengths_of}
 use Rattle.cps_chunk.proofs.ChunkLemmas.{chunks-append, chunks-one, chunks-last, chunks-set, chunks-behind}
 use Rattle.cps_replay.specs.declared.sparse.SparseItem.{SparseItem}
 use Rattle.cps_replay.specs.Sparse.{renewed, AreWithin}
-use Rattle.cps_replay.proofs.WalkLemmas.{lengths-next, lengths-front, lengths-all, same-long}
+use Rattle.cps_replay.proofs.WalkLemmas.{lengths-next, lengths-front, same-long}
 use Rattle.cps_editing.specs.declared.cut.Cut.{Cut}
 use Rattle.cps_editing.specs.ChunkList.{Fits}
 use Rattle.cps_editing.proofs.AppendLemmas.{IsAtEnd, grows, length-at}

@@ -1,5 +1,5 @@
 -- An edit, put together of its parts.
-use Rattle.std.proofs.Common.{arith, ◌≡◌, sym, ap, subst, ◌∙◌, ℕ, ◌+◌, ◌*◌, ◌-◌, ◌≤◌, List, length, take, drop, Vec}
+use Rattle.std.proofs.Common.{arith, ◌≡◌, sym, ap, subst, ℕ, ◌+◌, ◌*◌, ◌-◌, ◌≤◌, List, length, take, drop, Vec}
 use Rattle.std.specs.Prelude.{sum, vec_len}
 use Rattle.cps_state.specs.Work.{Counts}
 use Rattle.cps_division.specs.Recut.{recut}

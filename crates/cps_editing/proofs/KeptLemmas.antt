@@ -1,8 +1,8 @@
 -- What is kept of a source behind an edit.
-use Rattle.std.proofs.Common.{◌≡◌, ℕ, ◌+◌, ◌-◌, ◌≤◌, refl, sym, ap, subst, ◌∙◌, Bool, true, false, List, [], ◌++◌, append-nil, length, take, drop, arith}
+use Rattle.std.proofs.Common.{◌≡◌, ℕ, ◌+◌, ◌-◌, ◌≤◌, sym, ap, subst, ◌∙◌, List, ◌++◌, length, take, drop, arith}
 use Rattle.std.specs.Prelude.{sum, vec_len, vec_capacity}
 use Rattle.std.specs.declared.vec.Vec.{Vec}
-use Rattle.std.proofs.lemmas.List.{length-append, length-drop, length-map, length-take-le, take-append-le, take-take, take_all, drop-drop, drop_all}
+use Rattle.std.proofs.lemmas.List.{length-append, length-drop, length-map, length-take-le, take-append-le, take-take, drop-drop}
 use Rattle.std.proofs.lemmas.List.Sums.{sum_by-take-le}
 use Rattle.std.proofs.Math.Seq.{drop-append-add}
 use Rattle.cps_state.specs.Keys.{State, first_state}
@@ -25,7 +25,7 @@ use Rattle.cps_replay.specs.Sparse.{AreWithin, renewed}
 use Rattle.cps_replay.specs.Replayed.{state_front, replayed_behind, redone_front, redone_behind}
 use Rattle.cps_replay.proofs.SparseLemmas.{AreWithin-wider}
 use Rattle.cps_replay.proofs.ReplayedLemmas.{replayed_behind-within, redone-within_all, traces-put, outcomes-put}
-use Rattle.cps_replay.proofs.WalkLemmas.{lengths-all, same-long}
+use Rattle.cps_replay.proofs.WalkLemmas.{same-long}
 use Rattle.cps_editing.specs.declared.cut.Cut.{Cut}
 use Rattle.cps_editing.specs.declared.kept_source.KeptSource.{KeptSource}
 use Rattle.cps_editing.specs.declared.news.News.{News}

@@ -1,9 +1,8 @@
-use Rattle.std.proofs.Common.{◌≡◌, ◌∙◌, ap, refl, subst, sym}
-use Rattle.cps_state.specs.Keys.{State, first_state, overwritten}
+use Rattle.std.proofs.Common.{◌∙◌, ap, refl, subst, sym}
+use Rattle.cps_state.specs.Keys.{first_state, overwritten}
 use Rattle.cps_changes.specs.Changes.{Changed, changed}
 use Rattle.cps_final.specs.Finals.{Finals}
 use Rattle.cps_gather.specs.Storage.{IsStored}
-use Rattle.cps_edit.specs.Passes.{traces_of}
 use Rattle.cps_editing.proofs.KeptLemmas.{kept-same}
 use Rattle.cps_editing.proofs.kept_source.KeptSource.mend_of.Goals as goal
 
