@@ -1,6 +1,6 @@
 -- The cards of a source.
 use Rattle.std.proofs.Common.{◌≡◌, ℕ, ◌+◌, ◌<◌, ◌≤◌, min, List, [], ◌∷◌, ◌++◌, length, get_or, take, drop, map, refl, sym, ap, ◌∙◌, arith, length-take}
-use Rattle.std.specs.Prelude.{Some, slice_get, slice_range}
+use Rattle.std.specs.Prelude.{None, Option, Some, slice_get, slice_range}
 use Rattle.std.specs.List.{AllByRecursion, splice}
 use Rattle.std.proofs.lemmas.List.{length-map, map-append, map_push, take-map, drop-map, take_all, drop_min}
 use Rattle.std.proofs.lemmas.List.Edits.{between_more}
@@ -12,7 +12,9 @@ use Rattle.cps_input.specs.Lines.{HasText}
 use Rattle.cps_input.specs.Sources.{IsSource}
 use Rattle.cps_card.specs.Card.{card_of, cards_of}
 use Rattle.cps_card.proofs.CardLemmas.{IsLine-card, card_of-line}
+use Rattle.cps_buffer.specs.declared.position.Range.{Range}
 use Rattle.cps_buffer.specs.declared.replacement.Replacement.{Replacement}
+use Rattle.cps_buffer.specs.Changes.{end_touched, first_touched}
 use Rattle.cps_buffer.specs.Laws.{IsInSource}
 use Rattle.cps_buffer.specs.Lines.{source_lines}
 use Rattle.cps_buffer.proofs.SourceLemmas.{source-read}
@@ -88,3 +90,10 @@ stands text = record {
   each = All-from_recursion IsLine (source_of_text text) (cards-lines (take MOST_LINES (source_lines text)));
   few = omega (arith, length-cards (source_lines text));
 }
+
+-- ---- a replacement
+
+-- the lines that a range touches end behind the first of them
+pub ends-behind : (lines : List (List ℕ)) (range : Option Range) → first_touched lines range ≤ end_touched lines range
+ends-behind lines None = omega arith
+ends-behind lines (Some range) = omega arith

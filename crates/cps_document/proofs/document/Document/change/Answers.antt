@@ -1,8 +1,15 @@
 use Rattle.std.proofs.Common.{◌≤◌, min, length, ap, ◌∙◌, arith}
 use Rattle.cps_text.specs.declared.limits.TheConstants.{MOST_LINES}
-use Rattle.cps_buffer.specs.Lines.{source_lines}
-use Rattle.cps_document.proofs.SourceLemmas.{length-cards, source-put}
+use Rattle.cps_buffer.specs.Lines.{source_lines, text_lines}
+use Rattle.cps_document.proofs.SourceLemmas.{ends-behind, length-cards, source-put}
 use Rattle.cps_document.proofs.document.Document.change.Goals as goal
+
+pub put_cards-requires-clause-ordered : goal.put_cards-requires-clause-ordered
+put_cards-requires-clause-ordered c =
+    let old = c.self.inside.buffer in
+    let made = c.in_ok-first.ensures.lines in
+    let within = c.source_is_replaced.ensures old c.change.new.self c.args.range c.in_ok-first.field-0 made in
+    omega (arith, ends-behind (text_lines old) c.args.range, made.first, made.end, within.in_old, c.source_len-old_len.ensures, c.min.ensures)
 
 pub put_cards-requires-clause-within : goal.put_cards-requires-clause-within
 put_cards-requires-clause-within c =
