@@ -5,6 +5,7 @@ pub mod ItemReading
 pub mod NameLemmas
 pub mod OctalLemmas
 pub mod OrderLemmas
+pub mod PairLemmas
 pub mod PartLemmas
 pub mod PlaceLemmas
 pub mod RunLemmas
