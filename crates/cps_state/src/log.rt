@@ -60,6 +60,7 @@ impl Log {
     }
 
     /// Where the answer stands that is known of a key.
+    #[inline(always)]
     pub fn find(&self, key: Key) -> Option<Known>
         ensures found { (state : State) → option_and_then (found_at state self.now) result ≡ known_of state self.now key }
         ensures is_there { (state : State) → IfSome result (λ known. is_some (found_at state self.now known) ≡ true) }

@@ -61,6 +61,7 @@ impl<'a, L: Lookup> Model for Recorder<'a, L> {
 
 impl<'a, L: Lookup> Recorder<'a, L> {
     /// Of a line that has done nothing, over a state, on a sheet behind all statements there.
+    #[inline(always)]
     pub fn new(alloc: Global, sheet: &mut Sheet, state: &'a L) -> Recorder<'a, L>
         ensures { result ≡ line_started (statements_on sheet.old) state.now }
     {
@@ -88,6 +89,7 @@ impl<'a, L: Lookup> Recorder<'a, L> {
     }
 
     /// Where the answer at a key stands. The key is asked only where nothing is known of it: it is noted, and what stands there is looked up where it is read.
+    #[inline(always)]
     pub fn note(&mut self, key: Key) -> Result<Known, AllocError>
         ensures asks { OnOk result (self.new ≡ line_asked L.answer self.old key) }
         ensures answer { IfOk result (λ known. known_answer self.new known ≡ line_answer L.answer self.old key) }

@@ -140,6 +140,7 @@ impl Sheet {
     }
 
     /// The lists of a line that is done go back, where so many statements are of the lines before.
+    #[inline(always)]
     pub(crate) fn give_lists(&mut self, lists: Lists, begun: usize)
         requires { begun ≤ length lists.items.items }
         ensures { self.new ≡ record {

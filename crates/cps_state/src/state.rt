@@ -111,6 +111,7 @@ impl State {
     }
 
     /// Puts an answer, and gives what stood there.
+    #[inline(always)]
     fn exchange(&mut self, key: Key, answer: Answer) -> Option<Answer>
         requires room { 0 < room_of self.old }
         ensures old { result ≡ ⟦<State as Lookup>⟧.answer self.old key }

@@ -58,6 +58,7 @@ pub enum Scope {
 }
 
 /// What is done with a statement: for a source line what the state says.
+#[inline(always)]
 pub fn mode_in(mode: Mode, scope: &Scope) -> Result<Mode, AllocError>
     ensures { IfOk result (λ found. found ≡ meaning.mode_in mode scope.now) }
 {
