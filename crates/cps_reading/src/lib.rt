@@ -5,5 +5,5 @@
 
 mod reading;
 
-pub use cps_peripheral::{PpForm, is_builtin};
+pub use cps_peripheral::{FormFault, PpForm, cp_form, is_builtin, pp_form};
 pub use reading::{Location, Stating, read_location, read_stating};

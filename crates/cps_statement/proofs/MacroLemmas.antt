@@ -1,8 +1,8 @@
 -- The lines that a call opens.
-use Rattle.std.proofs.Common.{◌≡◌, ℕ, ◌<◌, ◌≤◌, length, arith, refl, sym, ap, ◌∙◌, List, [], ◌∷◌, map, Option, None, Some, append-nil}
+use Rattle.std.proofs.Common.{◌≡◌, sym, ap, ◌∙◌, Option, None, Some}
 use Rattle.std.proofs.lemmas.Option.{none-some}
 use Rattle.std.specs.Prelude.{option_map, is_some}
-use Rattle.cps_text.specs.Insertion.{Pairs, inserted}
+use Rattle.cps_text.specs.Insertion.{Pairs}
 use Rattle.cps_state.specs.Course.{Part}
 use Rattle.cps_state.specs.Line.{Line, Hands, line_filled, runs}
 use Rattle.cps_state.specs.Keys.{State}
@@ -10,10 +10,9 @@ use Rattle.cps_state.specs.Made.{Made}
 use Rattle.cps_state.specs.declared.key.Macro.{Macro}
 use Rattle.cps_statement.specs.declared.opened.Opened.{Opened}
 use Rattle.cps_statement.specs.declared.scope.Scope.{Scope}
-use Rattle.cps_statement.specs.Treating.{repeated}
-use Rattle.cps_statement.specs.Macros.{call_made, calling_with, opening_behind, opening_with}
+use Rattle.cps_statement.specs.Macros.{call_made, calling_with, opening_with}
 use Rattle.cps_statement.specs.Opened.{opening_of}
-use Rattle.cps_statement.specs.Opening.{Opening, plain, naming, none_opened}
+use Rattle.cps_statement.specs.Opening.{Opening, none_opened}
 use Rattle.cps_statement.specs.Taking.{HandsOn}
 
 same-opening : (one other : Opening) → Some other ≡ Some one → other ≡ one

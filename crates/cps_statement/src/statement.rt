@@ -1,10 +1,11 @@
 //! A statement in pass one: by what it says, where it stands, and by whether it is assembled, skipped or kept.
-ghost use Rattle.std.specs.Prelude.{◌≡◌, OnOk, IfOk};
+ghost use Rattle.std.specs.Prelude.{◌≡◌, true, Some as Just, None as Nothing, OnOk, IfOk};
 ghost use Rattle.std.specs.Option.{option_copied};
 ghost use Rattle.cps_expr.specs.Bounds.{IsBounded};
 ghost use Rattle.cps_expr.specs.Operation.{operation_named};
+ghost use Rattle.cps_text.specs.Card.{StatementLine};
 ghost use Rattle.cps_text.specs.CardFields.{fields_value, statement_value};
-ghost use Rattle.cps_reading.specs.Readings.{IsStating};
+ghost use Rattle.cps_reading.specs.Reading.{instruction_in};
 ghost use Rattle.cps_state.specs.Line.{Does, Hands};
 ghost use Rattle.cps_local.specs.Cards as cards;
 ghost use Rattle.cps_statement.specs.Meaning as meaning;
@@ -24,9 +25,9 @@ use cps_effect::{
     Front, end, flag, instruction, leave_head, misplaced, obey_plainly, obey_unread_plainly,
     peripheral_instruction, stand, unknown, unmatched,
 };
-use cps_expr::{Operation, Row};
+use cps_expr::{ExprFault, Machine, Operation, Radix, Row, Stated};
 use cps_local::card_in;
-use cps_reading::{Location, Stating, read_location, read_stating};
+use cps_reading::{FormFault, Location, cp_form, pp_form, read_location};
 use cps_state::{
     Control, Flags, Key, Lookup, Mode, Phase, Recorder, control_of, macro_of, mode_of,
 };
@@ -49,8 +50,9 @@ pub fn step_statement<'a, L: Lookup>(
     ensures { IfOk result (λ opened. HandsOn (meaning.statement scope.old text.now) scope.new (opening_of opened) L.answer recorder.old recorder.new) }
 {
     let known = recorder.note(Key::Control)?;
-    let control = control_of(recorder.answer(known));
-    let mode = mode_of(recorder.answer(known))?;
+    let answer = recorder.answer(known);
+    let control = control_of(answer);
+    let mode = mode_of(answer)?;
     let fields = card_in(text);
     match control.phase {
         Phase::AfterEnd => {
@@ -82,19 +84,41 @@ fn step_before_end<'a, L: Lookup>(
     requires { fields_value written.fields ≡ cards.card_in written.text.now }
     ensures { IfOk result (λ opened. HandsOn (meaning.before_end control mode scope.old written.entry.text.now (meaning.end_in scope.old (cards.card_in written.entry.text.now))) scope.new (opening_of opened) L.answer recorder.old recorder.new) }
 {
-    if let Some(location) = end_in(scope, written.fields) {
+    let named = operation_in(written.fields);
+    if let Some(location) = end_in(scope, written.fields, named) {
         end(recorder, Front { control, location }, &mode)?;
         return Ok(None);
     }
     let mode = mode_in(mode, scope)?;
     let Written { text, fields } = written;
-    let passing = Passing {
-        control,
-        mode: &mode,
-        text,
-    };
     match &mode {
-        Mode::Normal => assemble(recorder, control, scope, fields),
+        Mode::Normal => assemble(recorder, control, scope, fields, named),
+        mode => {
+            let passing = Passing {
+                control,
+                mode,
+                text,
+            };
+            pass_by(recorder, passing, scope, fields)
+        }
+    }
+}
+
+/// A statement that is skipped or kept. It stands apart from `step_before_end`, which most statements leave before this.
+#[cold]
+#[inline(never)]
+fn pass_by<'a, L: Lookup>(
+    recorder: &mut Recorder<'_, L>,
+    passing: Passing<'_>,
+    scope: &mut Scope,
+    fields: Fields<'_>,
+) -> Result<Option<Opened<'a>>, AllocError>
+    requires columns { fields_value fields ≡ cards.card_in passing.text.now }
+    requires passed { meaning.is_passed passing.mode.now ≡ true }
+    ensures { IfOk result (λ opened. HandsOn (meaning.in_mode passing.entry.control scope.old passing.entry.text.now passing.entry.mode.now) scope.new (opening_of opened) L.answer recorder.old recorder.new) }
+{
+    match passing.mode {
+        Mode::Normal => unreachable!(),
         Mode::SkipLines(count) => treat(recorder, passing, scope, skipped_line(*count)),
         Mode::SkipRange(skip) => {
             let seen = seen_in(fields);
@@ -111,20 +135,31 @@ fn step_before_end<'a, L: Lookup>(
     }
 }
 
-/// The location field of END on a source line.
-fn end_in(scope: &Scope, fields: Fields<'_>) -> Option<Location>
-    ensures { result ≡ meaning.end_in scope.now (fields_value fields.entry) }
+/// The operation of the statement table that a line has.
+fn operation_in(fields: Fields<'_>) -> Option<Operation>
+    ensures { result ≡ meaning.operation_in (fields_value fields.entry) }
 {
-    match (scope, fields) {
-        (Scope::Source, Fields::Statement(statement)) => end_location(statement),
+    match fields {
+        Fields::Statement(statement) => Operation::named(statement.operation),
         _ => None,
     }
 }
 
-fn end_location(statement: StatementFields<'_>) -> Option<Location>
-    ensures { result ≡ meaning.end_location (statement_value statement.entry) (operation_named statement.entry.operation.now) }
+/// The location field of END on a source line.
+fn end_in(scope: &Scope, fields: Fields<'_>, named: Option<Operation>) -> Option<Location>
+    requires { named ≡ meaning.operation_in (fields_value fields) }
+    ensures { result ≡ meaning.end_in scope.now (fields_value fields.entry) }
 {
-    match Operation::named(statement.operation) {
+    match (scope, fields) {
+        (Scope::Source, Fields::Statement(statement)) => end_location(statement, named),
+        _ => None,
+    }
+}
+
+fn end_location(statement: StatementFields<'_>, named: Option<Operation>) -> Option<Location>
+    ensures { result ≡ meaning.end_location (statement_value statement.entry) named }
+{
+    match named {
         Some(Operation::End) => Some(read_location(statement.location)),
         _ => None,
     }
@@ -136,7 +171,9 @@ fn assemble<'a, L: Lookup>(
     control: Control,
     scope: &mut Scope,
     fields: Fields<'a>,
+    named: Option<Operation>,
 ) -> Result<Option<Opened<'a>>, AllocError>
+    requires { named ≡ meaning.operation_in (fields_value fields) }
     ensures { IfOk result (λ opened. HandsOn (meaning.assembled control scope.old (fields_value fields.entry)) scope.new (opening_of opened) L.answer recorder.old recorder.new) }
 {
     match fields {
@@ -148,37 +185,127 @@ fn assemble<'a, L: Lookup>(
             misplaced(recorder);
             Ok(None)
         }
-        Fields::Statement(statement) => {
-            let location = read_location(statement.location);
-            let tail = statement.tail;
-            let operation = statement.operation;
-            let stating = read_stating(
-                recorder.alloc(),
-                operation,
-                tail,
-                control.machine,
-                control.radix,
-            )?;
-            let stays = stays_in_head(&stating);
-            let control = leave_head(recorder, control, stays)?;
-            let front = Front { control, location };
-            obey_stating(recorder, front, scope, tail, stating)
-        }
+        Fields::Statement(statement) => match named {
+            Some(named) => assemble_named(recorder, control, scope, statement, named),
+            None => assemble_unnamed(recorder, control, scope, statement),
+        },
     }
 }
 
-/// Whether a statement stays in the head of a program, which all others end.
-fn stays_in_head(stating: &Stating) -> bool
-    ensures { result ≡ meaning.stays_in_head stating.now }
+/// A statement with an operation of the statement table.
+#[inline(never)]
+fn assemble_named<'a, L: Lookup>(
+    recorder: &mut Recorder<'_, L>,
+    control: Control,
+    scope: &mut Scope,
+    statement: StatementFields<'_>,
+    named: Operation,
+) -> Result<Option<Opened<'a>>, AllocError>
+    requires { operation_named statement.operation.now ≡ Just named }
+    ensures { IfOk result (λ opened. HandsOn (meaning.assembled control scope.old (StatementLine (statement_value statement.entry))) scope.new (opening_of opened) L.answer recorder.old recorder.new) }
 {
-    match stating {
-        Stating::Missing => true,
-        Stating::Stated(statement) => row_stays(statement.row()),
-        Stating::Unreadable(operation) => operation_stays(*operation),
-        Stating::Unknown(_) | Stating::Instruction(_) | Stating::Peripheral(_) => false,
+    let location = read_location(statement.location);
+    let alloc = recorder.alloc();
+    let read = Stated::read(alloc, named, statement.tail, control.machine, control.radix);
+    match read {
+        Ok(stated) => {
+            let control = leave_head(recorder, control, row_stays(stated.row()))?;
+            let front = Front { control, location };
+            obey_row(recorder, front, scope, stated.into_row())?;
+            Ok(None)
+        }
+        Err(ExprFault::Unreadable) => {
+            let control = leave_head(recorder, control, operation_stays(named))?;
+            let front = Front { control, location };
+            obey_unreadable(recorder, front, scope, named)?;
+            Ok(None)
+        }
+        Err(ExprFault::Memory) => Err(AllocError),
     }
 }
 
+/// A statement without an operation, or with one that the statement table doesn't have.
+fn assemble_unnamed<'a, L: Lookup>(
+    recorder: &mut Recorder<'_, L>,
+    control: Control,
+    scope: &Scope,
+    statement: StatementFields<'a>,
+) -> Result<Option<Opened<'a>>, AllocError>
+    requires { operation_named statement.operation.now ≡ Nothing }
+    ensures { IfOk result (λ opened. HandsOn (meaning.assembled control scope.now (StatementLine (statement_value statement.entry))) scope.now (opening_of opened) L.answer recorder.old recorder.new) }
+{
+    if statement.operation.is_empty() {
+        unknown(recorder);
+        return Ok(None);
+    }
+    let location = read_location(statement.location);
+    let Control { machine, radix, .. } = control;
+    let control = leave_head(recorder, control, false)?;
+    let front = Front { control, location };
+    match machine {
+        Machine::Cp => assemble_central(recorder, front, scope, statement, radix),
+        Machine::Pp => assemble_peripheral(recorder, front, scope, statement, radix),
+    }
+}
+
+/// An instruction of the central processor, or a call of a macro.
+fn assemble_central<'a, L: Lookup>(
+    recorder: &mut Recorder<'_, L>,
+    front: Front,
+    scope: &Scope,
+    statement: StatementFields<'a>,
+    radix: Radix,
+) -> Result<Option<Opened<'a>>, AllocError>
+    ensures { IfOk result (λ opened. HandsOn (meaning.stated front.control scope.now front.location statement.entry.tail.now (instruction_in Machine.Cp radix statement.entry.operation.now statement.entry.tail.now)) scope.now (opening_of opened) L.answer recorder.old recorder.new) }
+{
+    let alloc = recorder.alloc();
+    match cp_form(alloc, statement.operation, statement.tail, radix) {
+        Ok(form) => {
+            instruction(recorder, front, Some(form))?;
+            Ok(None)
+        }
+        Err(FormFault::Unreadable) => {
+            instruction(recorder, front, None)?;
+            Ok(None)
+        }
+        Err(FormFault::NoOperation) => {
+            let name = Name::read(statement.operation);
+            call_named(recorder, front, scope, statement.tail, name)
+        }
+        Err(FormFault::Memory) => Err(AllocError),
+    }
+}
+
+/// An instruction of a peripheral processor, or a call of a macro.
+#[inline(never)]
+fn assemble_peripheral<'a, L: Lookup>(
+    recorder: &mut Recorder<'_, L>,
+    front: Front,
+    scope: &Scope,
+    statement: StatementFields<'a>,
+    radix: Radix,
+) -> Result<Option<Opened<'a>>, AllocError>
+    ensures { IfOk result (λ opened. HandsOn (meaning.stated front.control scope.now front.location statement.entry.tail.now (instruction_in Machine.Pp radix statement.entry.operation.now statement.entry.tail.now)) scope.now (opening_of opened) L.answer recorder.old recorder.new) }
+{
+    let alloc = recorder.alloc();
+    match pp_form(alloc, statement.operation, statement.tail, radix) {
+        Ok(form) => {
+            peripheral_instruction(recorder, front, Some(form))?;
+            Ok(None)
+        }
+        Err(FormFault::Unreadable) => {
+            peripheral_instruction(recorder, front, None)?;
+            Ok(None)
+        }
+        Err(FormFault::NoOperation) => {
+            let name = Name::read(statement.operation);
+            call_named(recorder, front, scope, statement.tail, name)
+        }
+        Err(FormFault::Memory) => Err(AllocError),
+    }
+}
+
+/// Whether a row stays in the head of a program, which all others end.
 fn row_stays(row: &Row) -> bool
     ensures { result ≡ meaning.row_stays row.now }
 {
@@ -196,6 +323,7 @@ fn row_stays(row: &Row) -> bool
     }
 }
 
+/// Whether an operation with unreadable operands stays there.
 fn operation_stays(operation: Operation) -> bool
     ensures { result ≡ meaning.operation_stays operation }
 {
@@ -206,41 +334,6 @@ fn operation_stays(operation: Operation) -> bool
         | Operation::Set
         | Operation::Macro => true,
         _ => false,
-    }
-}
-
-fn obey_stating<'a, L: Lookup>(
-    recorder: &mut Recorder<'_, L>,
-    front: Front,
-    scope: &mut Scope,
-    tail: &'a [u8],
-    stating: Stating,
-) -> Result<Option<Opened<'a>>, AllocError>
-    requires { IsStating front.control.machine stating }
-    ensures { IfOk result (λ opened. HandsOn (meaning.stated front.control scope.old front.location tail.now stating) scope.new (opening_of opened) L.answer recorder.old recorder.new) }
-{
-    match stating {
-        Stating::Missing => {
-            unknown(recorder);
-            Ok(None)
-        }
-        Stating::Unknown(name) => call_named(recorder, front, scope, tail, name),
-        Stating::Stated(statement) => {
-            obey_row(recorder, front, scope, statement.into_row())?;
-            Ok(None)
-        }
-        Stating::Unreadable(operation) => {
-            obey_unreadable(recorder, front, scope, operation)?;
-            Ok(None)
-        }
-        Stating::Instruction(form) => {
-            instruction(recorder, front, form)?;
-            Ok(None)
-        }
-        Stating::Peripheral(form) => {
-            peripheral_instruction(recorder, front, form)?;
-            Ok(None)
-        }
     }
 }
 
@@ -327,6 +420,7 @@ fn end_within<L: Lookup>(recorder: &mut Recorder<'_, L>, control: Control) -> Re
 }
 
 /// A call of a macro, if there is one; None: the operation is no symbol.
+#[inline(never)]
 fn call_named<'a, L: Lookup>(
     recorder: &mut Recorder<'_, L>,
     front: Front,
