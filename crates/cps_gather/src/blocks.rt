@@ -34,10 +34,16 @@ impl Blocks {
         }
     }
 
-    /// The same once more.
-    pub fn copy(&self) -> Result<Blocks, AllocError>
+    /// The same once more. Takes no memory where no block is named.
+    pub fn copy(&self, alloc: Global) -> Result<Blocks, AllocError>
         ensures { IfOk result (λ copy. layout_kept copy.nominal copy.named ≡ layout_kept self.now.nominal self.now.named) }
     {
+        if self.named.is_empty() {
+            return Ok(Blocks {
+                nominal: self.nominal,
+                named: IndexMap::with_hasher(alloc, *self.named.hasher()),
+            });
+        }
         Ok(Blocks {
             nominal: self.nominal,
             named: self.named.clone()?,

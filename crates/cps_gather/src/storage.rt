@@ -83,8 +83,8 @@ impl Storage {
     {
         Ok(Storage {
             alloc: self.alloc,
-            blocks: self.blocks.copy()?,
-            pool: self.pool.clone()?,
+            blocks: self.blocks.copy(self.alloc)?,
+            pool: copy_pool(self.alloc, &self.pool)?,
             program: self.program,
         })
     }
@@ -180,6 +180,19 @@ impl Storage {
     {
         u128::from(self.blocks.size(None)) + self.pool.len() as u128
     }
+}
+
+/// The literals of a pool once more. Takes no memory where there is none.
+fn copy_pool(
+    alloc: Global,
+    pool: &IndexSet<u64, Hashing>,
+) -> Result<IndexSet<u64, Hashing>, AllocError>
+    ensures { IfOk result (λ copy. copy.keys ≡ pool.now.keys) }
+{
+    if pool.is_empty() {
+        return Ok(IndexSet::with_hasher(alloc, *pool.hasher()));
+    }
+    pool.clone()
 }
 
 /// The pool with more literals, where there is room for them.
