@@ -17,7 +17,7 @@ use cps_pass::{Trace, Work, step_over};
 use cps_replay::{SparseItem, put_all};
 use cps_text::Line;
 use std::alloc::AllocError;
-use std::mem::{replace, swap};
+use std::mem::swap;
 
 /// What pass two makes of a line behind the last, and of the lines in front of it that it disturbs.
 #[derive(Drop)]
@@ -39,7 +39,11 @@ impl KeptSource {
     {
         an_insertion_divides_again();
         let trace = self.step_behind(&line, work)?;
-        let mut mend = self.mend_of(&trace)?;
+        let mut mend = Mend {
+            changes: Changes::new(self.alloc, self.hashing),
+            storage: None,
+        };
+        self.mend_for(&trace, &mut mend)?;
         self.make_room_for_one(&mend)?;
         self.finals.exchange(&mut mend);
         match self.pass_two_with(&trace, &mend, work) {
@@ -66,19 +70,18 @@ impl KeptSource {
         step_over(self.alloc, work, &mut self.sheet, line, self.finals.state())
     }
 
-    /// What a line that does this changes behind the last.
-    fn mend_of(&mut self, trace: &Trace) -> Result<Mend, AllocError>
+    /// What a line that does this changes behind the last, in the place of a mend, in the room of the changes of the append before.
+    fn mend_for(&mut self, trace: &Trace, mend: &mut Mend) -> Result<(), AllocError>
         requires kept { IsKept self.old }
         ensures kept { IsKept self.new }
         ensures still { IsStill self.old self.new }
-        ensures mend { IfOk result (IsMendOf self.old trace.now) }
+        ensures mend { OnOk result (IsMendOf self.old trace.now mend.new) }
     {
-        let storage = storage_with(self.finals.storage(), trace)?;
-        let none = Changes::new(self.alloc, self.hashing);
-        let mut changes = replace(&mut self.changes, none);
-        changes.clear();
-        changes.put_all(trace.puts())?;
-        Ok(Mend { changes, storage })
+        mend.storage = storage_with(self.finals.storage(), trace)?;
+        swap(&mut self.changes, &mut mend.changes);
+        mend.changes.clear();
+        mend.changes.put_all(trace.puts())?;
+        Ok(())
     }
 
     /// The next append takes the room of these changes.

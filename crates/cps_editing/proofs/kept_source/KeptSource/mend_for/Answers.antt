@@ -4,7 +4,7 @@ use Rattle.cps_changes.specs.Changes.{Changed, changed}
 use Rattle.cps_final.specs.Finals.{Finals}
 use Rattle.cps_gather.specs.Storage.{IsStored}
 use Rattle.cps_editing.proofs.KeptLemmas.{kept-same}
-use Rattle.cps_editing.proofs.kept_source.KeptSource.mend_of.Goals as goal
+use Rattle.cps_editing.proofs.kept_source.KeptSource.mend_for.Goals as goal
 
 pub returns-in_err-put_all-clause-kept : goal.returns-in_err-put_all-clause-kept
 returns-in_err-put_all-clause-kept c = kept-same c.requires.kept refl refl refl refl refl refl refl refl
@@ -21,5 +21,5 @@ returns-clause-mend c =
     let stored = subst (IsStored c.storage.result.now) (sym kept.lines.did) there in
     record {
       state = λ state. c.in_ok-put_all.ensures state ∙ ap (λ (now : Changed). overwritten (changed now state) c.puts.result.now) c.clear.ensures.changes ∙ ap (overwritten state) c.puts.ensures;
-      storage = c.in_ok-storage.ensures traces stored;
+      storage = c.in_ok-mend.ensures traces stored;
     }
