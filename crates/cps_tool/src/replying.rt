@@ -69,14 +69,17 @@ fn insert_line(
     if after > session.count() {
         return Reply::Refused(Refusal::NoSuchLine);
     }
-    if let Some(refusal) = refusal_of_text(text) {
-        return Reply::Refused(refusal);
-    }
     if session.is_full() {
-        return Reply::Refused(Refusal::TooManyLines);
+        return match refusal_of_text(text) {
+            Some(refusal) => Reply::Refused(refusal),
+            None => Reply::Refused(Refusal::TooManyLines),
+        };
     }
-    let Ok(line) = Line::new(alloc, text) else {
-        return Reply::Refused(Refusal::NoMemory);
+    let line = match Line::new(alloc, text) {
+        Ok(line) => line,
+        Err(LineFault::LineTooLong) => return Reply::Refused(Refusal::LineTooLong),
+        Err(LineFault::BadCharacter) => return Reply::Refused(Refusal::BadCharacter),
+        Err(LineFault::Memory) => return Reply::Refused(Refusal::NoMemory),
     };
     match session.insert(after, line, work) {
         Ok(()) => Reply::Accepted(session.count()),
