@@ -36,6 +36,14 @@ impl BegunLine {
         }
     }
 
+    /// Becomes a line of which no byte has come.
+    pub fn clear(&mut self)
+        ensures { IsBegun self.new [] }
+    {
+        self.bytes.clear();
+        self.past = Past::Nothing;
+    }
+
     /// Whether no byte has come.
     pub fn is_empty(&self) -> bool
         ensures { (begun : List ℕ) → IsBegun self.now begun → IsTrue result ↔ (begun ≡ []) }

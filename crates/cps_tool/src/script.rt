@@ -106,7 +106,7 @@ impl Interpreter {
         while let Some(at) = newline_at(rest) {
             self.line.push_all(&rest[..at]);
             match answer_line(self.alloc, &self.line, writer, session, &mut self.work) {
-                Ok(Flow::GoesOn) => self.line = BegunLine::new(),
+                Ok(Flow::GoesOn) => self.line.clear(),
                 Ok(Flow::Ends) => return Ok(Flow::Ends),
                 Err(fault) => return Err(fault),
             }
