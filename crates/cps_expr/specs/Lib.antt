@@ -1,4 +1,5 @@
 pub mod Bounds
+pub mod Constant
 pub mod Expression
 pub mod Grammar
 pub mod Item

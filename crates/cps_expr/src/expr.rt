@@ -2,6 +2,7 @@
 ghost use Rattle.std.specs.Prelude.{◌≡◌, ◌↔◌, ◌++◌, [], ◌∷◌, false, is_some, Option, Some, None, IfOk, IfSome, IsErrOf, IsSome, OnOk, OnErr};
 ghost use Rattle.cps_text.specs.declared.name.Name.{Name};
 ghost use Rattle.cps_expr.specs.declared.value.Value.{Value};
+ghost use Rattle.cps_expr.specs.Constant.{IsConstant};
 ghost use Rattle.cps_expr.specs.Expression.{Expression, expression_of, names_of, has_counter, terms_of, signed_texts};
 ghost use Rattle.cps_expr.specs.Grammar.{Writes};
 ghost use Rattle.cps_expr.specs.Term.{term_of};
@@ -88,6 +89,7 @@ impl Expr {
     }
 
     /// Reads an expression; the first sign may be left out. Numbers with no letter go by the radix.
+    #[inline(always)]
     #[tactic(auto, unfolding(crate::specs::Expression::expression_of))]
     pub fn read(alloc: Global, text: &[u8], radix: Radix) -> Result<Expr, ExprFault>
         ensures expression { IfOk result (λ expression. expression_of radix text.now ≡ Some expression) }
@@ -114,6 +116,14 @@ impl Expr {
         self.terms.has_counter()
     }
 
+    /// The value of a number that stands alone, which no name and no place changes. None also for other expressions that nothing changes.
+    #[inline(always)]
+    pub fn constant(&self) -> Option<Value>
+        ensures { IfSome result (IsConstant self.now) }
+    {
+        self.terms.constant()
+    }
+
     /// What it gives under some names, where `*` stands for `here`. Takes no memory.
     pub fn value<N: Names>(&self, names: &N, here: Value) -> Valued
         ensures value { result.value ≡ value_in (N.value names.now) here self.now }
@@ -127,6 +137,7 @@ impl Expr {
 }
 
 /// The element that a text without signs writes, if it writes one alone.
+#[inline(always)]
 fn lone_element(is_minus: bool, text: &[u8], radix: Radix) -> Option<Signed>
     ensures term { IfSome result (λ element. term_of radix is_minus text.now ≡ Some (element_term element)) }
     ensures expression { IfSome result (λ element. is_minus ≡ false → terms_of radix (signed_texts text.now) ≡ Some (element_term element ∷ [])) }
@@ -138,6 +149,7 @@ fn lone_element(is_minus: bool, text: &[u8], radix: Radix) -> Option<Signed>
 }
 
 /// Most texts write one element alone.
+#[inline(always)]
 fn read_terms(alloc: Global, text: &[u8], radix: Radix) -> Result<Expr, ExprFault>
     ensures expression { IfOk result (λ expression. terms_of radix (signed_texts text.now) ≡ Some expression) }
     ensures unreadable { IsErrOf result ExprFault.Unreadable ↔ (terms_of radix (signed_texts text.now) ≡ None) }
@@ -153,6 +165,7 @@ fn read_terms(alloc: Global, text: &[u8], radix: Radix) -> Result<Expr, ExprFaul
 }
 
 /// Reads the terms one after another, to the last one also where memory is refused.
+#[inline(never)]
 fn read_signed_terms(alloc: Global, text: &[u8], radix: Radix) -> Result<Expr, ExprFault>
     ensures expression { IfOk result (λ expression. terms_of radix (signed_texts text.now) ≡ Some expression) }
     ensures unreadable { IsErrOf result ExprFault.Unreadable ↔ (terms_of radix (signed_texts text.now) ≡ None) }

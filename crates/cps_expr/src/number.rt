@@ -1,5 +1,5 @@
 //! Numbers of the language.
-ghost use Rattle.std.specs.Prelude.{◌≡◌, ◌+◌, ◌-◌, ◌^◌, ◌<◌, ◌≤◌, true, false, IfSome, MatchOption, length, take, ◌⊎◌};
+ghost use Rattle.std.specs.Prelude.{◌≡◌, ◌+◌, ◌-◌, ◌^◌, ◌<◌, ◌≤◌, true, false, IfSome, MatchOption, length, slice_index, take, ◌⊎◌};
 ghost use Rattle.cps_expr.specs.Number.{base_of, base_named, last, number_of, number_in};
 ghost use Rattle.cps_text.specs.Digits.{with_digit};
 ghost use Rattle.cps_text.specs.Text.{is_digit};
@@ -13,9 +13,22 @@ pub fn read_number(text: &[u8], radix: Radix, greatest: u64) -> Option<u64>
     ensures value { result ≡ number_of (greatest + 1) radix text.now }
     ensures small { IfSome result (λ number. number ≤ greatest) }
 {
+    if !begins_with_digit(text) {
+        return None;
+    }
     match named_base(last_byte(text)) {
         None => number_in_base(text, default_base(radix), greatest),
         Some(base) => number_in_base(all_but_last(text), base, greatest),
+    }
+}
+
+/// Whether a text begins with a decimal digit. No number begins with anything else, and most operands are symbols.
+fn begins_with_digit(text: &[u8]) -> bool
+    ensures { result ≡ is_digit 10 (slice_index text.now 0) }
+{
+    match text {
+        [first, ..] => b'0' <= *first && *first <= b'9',
+        [] => false,
     }
 }
 

@@ -6,6 +6,7 @@ ghost use Rattle.cps_expr.specs.Term.{name_in, is_counter, term_names, term_has_
 ghost use Rattle.cps_expr.specs.TermsKept.{element_term};
 ghost use Rattle.cps_expr.specs.Value.{IsInRange, element_value, multiplied, added, both, term_value, value_in, has_undefined, limited, plain};
 ghost use Rattle.cps_expr.specs.ValuedSoFar.{is_undefined, term_has_undefined};
+ghost use Rattle.cps_expr.specs.Constant.{IsConstant};
 
 use crate::expr::Valued;
 use crate::names::Names;
@@ -91,6 +92,16 @@ impl Signed {
         is_counter(self.element)
     }
 
+    /// The value of a number that is added.
+    pub(crate) fn constant(&self) -> Option<Value>
+        ensures { IfSome result (IsConstant (element_term self.now ∷ [])) }
+    {
+        match (self.is_minus, self.element) {
+            (false, Element::Number(number)) => number_value(number),
+            _ => None,
+        }
+    }
+
     /// What it gives under some names, where `*` stands for `here`.
     pub(crate) fn value<N: Names>(&self, names: &N, here: Value) -> Valued
         ensures value { result.value ≡ value_in (N.value names.now) here (element_term self.now ∷ []) }
@@ -98,8 +109,11 @@ impl Signed {
         ensures range { IfSome result.value IsInRange }
     {
         let element = element_value(self.element, names, here);
+        if !self.is_minus {
+            return element;
+        }
         Valued {
-            value: both_added(self.is_minus, Some(Value::plain(0)), element.value),
+            value: both_added(true, Some(Value::plain(0)), element.value),
             undefined: element.undefined,
         }
     }
@@ -209,9 +223,11 @@ fn any_counter(factors: &[Factor]) -> bool
 }
 
 /// What an element stands for; an undefined name counts as plain 0.
+#[inline(always)]
 fn element_value<N: Names>(element: Element, names: &N, here: Value) -> Valued
     ensures value { result.value ≡ element_value (N.value names.now) here element }
     ensures undefined { result.undefined ≡ is_undefined (N.value names.now) element }
+    ensures range { IfSome result.value IsInRange }
 {
     match element {
         Element::Number(number) => Valued {
@@ -229,6 +245,7 @@ fn element_value<N: Names>(element: Element, names: &N, here: Value) -> Valued
 fn named_value(found: Option<Value>) -> Valued
     ensures value { result.value ≡ limited (unwrap_or found (plain (pos 0))) }
     ensures undefined { result.undefined ≡ is_none found }
+    ensures range { IfSome result.value IsInRange }
 {
     Valued {
         value: limited(found.unwrap_or(Value::plain(0))),
@@ -237,7 +254,8 @@ fn named_value(found: Option<Value>) -> Valued
 }
 
 fn number_value(number: u64) -> Option<Value>
-    ensures { result ≡ limited (plain (pos number)) }
+    ensures value { result ≡ limited (plain (pos number)) }
+    ensures range { IfSome result IsInRange }
 {
     if number > GREATEST_PLAIN {
         return None;

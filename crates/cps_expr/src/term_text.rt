@@ -106,6 +106,7 @@ fn read_operator(text: &[u8]) -> Option<Operator>
     }
 }
 
+#[inline(always)]
 pub(crate) fn read_element(text: &[u8], radix: Radix) -> Option<Element>
     ensures { result ≡ element_of radix text.now }
 {

@@ -1,5 +1,6 @@
 //! The terms of an expression, as they are kept.
 ghost use Rattle.std.specs.Prelude.{◌≡◌, ◌++◌, [], ◌∷◌, IfOk, IfSome, OnOk, OnErr};
+ghost use Rattle.cps_expr.specs.Constant.{IsConstant};
 ghost use Rattle.cps_expr.specs.Expression.{names_of, has_counter};
 ghost use Rattle.cps_expr.specs.TermsKept.{element_term, terms_in};
 ghost use Rattle.cps_expr.specs.Value.{value_in, has_undefined, IsInRange};
@@ -59,6 +60,16 @@ impl Terms {
             Terms::Empty => false,
             Terms::One(first) => first.is_counter(),
             Terms::Long(terms) => any_counter(&terms.terms),
+        }
+    }
+
+    /// The value of a number alone.
+    pub(crate) fn constant(&self) -> Option<Value>
+        ensures { IfSome result (IsConstant (terms_in self.now)) }
+    {
+        match self {
+            Terms::One(first) => first.constant(),
+            Terms::Empty | Terms::Long(_) => None,
         }
     }
 
@@ -154,6 +165,7 @@ fn any_counter(terms: &[Term]) -> bool
 }
 
 /// The terms added and subtracted from left to right, each name asked for once.
+#[inline(never)]
 fn value_of_terms<N: Names>(terms: &[Term], names: &N, here: Value) -> Valued
     ensures value { result.value ≡ value_in (N.value names.now) here terms.now }
     ensures undefined { result.undefined ≡ has_undefined (N.value names.now) terms.now }
