@@ -1,2 +1,3 @@
 pub mod HoldingLemmas
 pub mod SiteLemmas
+pub mod UnsetLemmas

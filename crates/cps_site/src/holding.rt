@@ -1,18 +1,25 @@
 //! The values that SET gave to symbols that contents read.
-ghost use Rattle.std.specs.Prelude.{◌≡◌, ◌++◌, flat_map, All, OnOk, IfOk, IfSome};
+ghost use Rattle.std.specs.Prelude.{◌≡◌, true, Some, ◌++◌, flat_map, All, OnOk, IfOk, IfSome};
 ghost use Rattle.cps_code.specs.Operand.{operand_names};
 ghost use Rattle.cps_expr.specs.Value.{IsInRange};
 ghost use Rattle.cps_state.specs.Line.{Hands};
 ghost use Rattle.cps_state.specs.Made.{IsHeld, content_names};
-ghost use Rattle.cps_site.specs.Holding.{holding_after};
+ghost use Rattle.cps_site.specs.Holding.{HoldsMore, IsUnset, IsHolding};
 ghost use Rattle.cps_site.specs.Placing as placing;
 
 use crate::asking::ask_value;
 use cps_code::Hole;
-use cps_expr::Value;
+use cps_expr::{Value, is_same_name};
 use cps_state::{Content, Held, Key, Lookup, Recorder};
 use cps_text::Name;
 use std::alloc::AllocError;
+
+/// Values that are held, and the symbol that was asked last, if SET has given it none.
+#[derive(Drop)]
+struct Holding {
+    held: Vec<Held>,
+    unset: Option<Name>,
+}
 
 /// The values that SET has given by now to the symbols that contents read.
 pub fn hold<L: Lookup>(
@@ -22,43 +29,46 @@ pub fn hold<L: Lookup>(
     ensures held { IfOk result (λ held. Hands (placing.holding contents.now) held.items L.answer recorder.old recorder.new) }
     ensures each { IfOk result (λ held. All IsHeld held.items) }
 {
-    let mut held = Vec::new(recorder.alloc());
+    let mut holding = Holding {
+        held: Vec::new(recorder.alloc()),
+        unset: None,
+    };
     for content in contents {
-        hold_content(recorder, &mut held, content)?;
+        hold_content(recorder, &mut holding, content)?;
     }
-    Ok(held)
+    Ok(holding.held)
 }
 
 /// The same of a content, after others.
 fn hold_content<L: Lookup>(
     recorder: &mut Recorder<'_, L>,
-    held: &mut Vec<Held>,
+    holding: &mut Holding,
     content: &Content,
 ) -> Result<(), AllocError>
-    requires { All IsHeld held.old.items }
-    ensures held { OnOk result (Hands (holding_after held.old.items (content_names content.now)) held.new.items L.answer recorder.old recorder.new) }
-    ensures each { OnOk result (All IsHeld held.new.items) }
+    requires { IsHolding L.answer recorder.old holding.old }
+    ensures held { OnOk result (HoldsMore (content_names content.now) holding.old holding.new L.answer recorder.old recorder.new) }
+    ensures holding { OnOk result (IsHolding L.answer recorder.new holding.new) }
 {
     match content {
-        Content::Instruction(form) => hold_holes(recorder, held, form.holes()),
-        Content::Value(_, expression) => hold_names(recorder, held, expression.names()),
+        Content::Instruction(form) => hold_holes(recorder, holding, form.holes()),
+        Content::Value(_, expression) => hold_names(recorder, holding, expression.names()),
         Content::Number(..) => Ok(()),
-        Content::Unsized(expression) => hold_names(recorder, held, expression.names()),
+        Content::Unsized(expression) => hold_names(recorder, holding, expression.names()),
     }
 }
 
 /// The same of what an instruction's fields read.
 fn hold_holes<L: Lookup>(
     recorder: &mut Recorder<'_, L>,
-    held: &mut Vec<Held>,
+    holding: &mut Holding,
     holes: &[Hole],
 ) -> Result<(), AllocError>
-    requires { All IsHeld held.old.items }
-    ensures held { OnOk result (Hands (holding_after held.old.items (flat_map (λ hole. operand_names hole.operand) holes.now)) held.new.items L.answer recorder.old recorder.new) }
-    ensures each { OnOk result (All IsHeld held.new.items) }
+    requires { IsHolding L.answer recorder.old holding.old }
+    ensures held { OnOk result (HoldsMore (flat_map (λ hole. operand_names hole.operand) holes.now) holding.old holding.new L.answer recorder.old recorder.new) }
+    ensures holding { OnOk result (IsHolding L.answer recorder.new holding.new) }
 {
     for hole in holes {
-        hold_names(recorder, held, hole.operand.names())?;
+        hold_names(recorder, holding, hole.operand.names())?;
     }
     Ok(())
 }
@@ -67,29 +77,49 @@ fn hold_holes<L: Lookup>(
 #[inline(always)]
 fn hold_names<L: Lookup>(
     recorder: &mut Recorder<'_, L>,
-    held: &mut Vec<Held>,
+    holding: &mut Holding,
     names: &[Name],
 ) -> Result<(), AllocError>
-    requires { All IsHeld held.old.items }
-    ensures held { OnOk result (Hands (holding_after held.old.items names.now) held.new.items L.answer recorder.old recorder.new) }
-    ensures each { OnOk result (All IsHeld held.new.items) }
+    requires { IsHolding L.answer recorder.old holding.old }
+    ensures held { OnOk result (HoldsMore names.now holding.old holding.new L.answer recorder.old recorder.new) }
+    ensures holding { OnOk result (IsHolding L.answer recorder.new holding.new) }
 {
     for name in names {
-        let value = setting_now(recorder, name)?;
-        push_held(held, name, value)?;
+        let value = setting_now(recorder, &mut holding.unset, name)?;
+        push_held(&mut holding.held, name, value)?;
     }
     Ok(())
 }
 
-/// The value that SET has given to a symbol by now.
+/// The value that SET has given to a symbol by now. One that was asked last, and has none, is not asked again.
+#[inline(always)]
 fn setting_now<L: Lookup>(
     recorder: &mut Recorder<'_, L>,
+    unset: &mut Option<Name>,
     name: &Name,
 ) -> Result<Option<Value>, AllocError>
+    requires { IfSome unset.old (IsUnset L.answer recorder.old) }
     ensures value { IfOk result (λ value. Hands (placing.setting_now name.now) value L.answer recorder.old recorder.new) }
+    ensures unset { OnOk result (IfSome unset.new (IsUnset L.answer recorder.new)) }
     ensures range { IfOk result (λ value. IfSome value IsInRange) }
 {
-    ask_value(recorder, Key::Setting(*name))
+    if is_unset(*unset, *name) {
+        return Ok(None);
+    }
+    let value = ask_value(recorder, Key::Setting(*name))?;
+    *unset = if value.is_none() { Some(*name) } else { None };
+    Ok(value)
+}
+
+/// Whether a symbol is the one that was asked last and has no value.
+#[inline(always)]
+fn is_unset(unset: Option<Name>, name: Name) -> bool
+    ensures { result ≡ true → unset ≡ Some name }
+{
+    match unset {
+        Some(last) => is_same_name(last, name),
+        None => false,
+    }
 }
 
 fn push_held(held: &mut Vec<Held>, name: &Name, value: Option<Value>) -> Result<(), AllocError>

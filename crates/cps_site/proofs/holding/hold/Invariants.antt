@@ -1,16 +1,16 @@
-use Rattle.std.proofs.Common.{◌≡◌, drop, flat_map, List, All}
+use Rattle.std.proofs.Common.{◌≡◌, drop, flat_map, List}
 use Rattle.cps_state.specs.declared.made.Held.{Held}
 use Rattle.cps_state.specs.Course.{Course, Part}
 use Rattle.cps_state.specs.Line.{runs}
-use Rattle.cps_state.specs.Made.{IsHeld, content_names}
-use Rattle.cps_site.specs.Holding.{holding_after}
+use Rattle.cps_state.specs.Made.{content_names}
+use Rattle.cps_site.specs.Holding.{holding_after, IsHolding}
 use Rattle.cps_site.specs.Placing.{holding}
 use Rattle.cps_site.proofs.holding.hold.Given as goal
 
 abbrev pub invariant-loop-content : goal.invariant-loop-content
 invariant-loop-content g l = record {
   left : (next : List Held → Part) (rest : Course)
-      → runs (holding_after l.held.items (flat_map content_names (drop l.content-index l.contents)) next rest) g.L.Lookup.answer l.recorder
+      → runs (holding_after l.holding.held.items (flat_map content_names (drop l.content-index l.contents)) next rest) g.L.Lookup.answer l.recorder
       ≡ runs (holding l.contents next rest) g.L.Lookup.answer l.fn.recorder;
-  each : All IsHeld l.held.items;
+  holding : IsHolding g.L.Lookup.answer l.recorder l.holding;
 }
