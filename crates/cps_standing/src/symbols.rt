@@ -20,6 +20,7 @@ impl Names for Symbols<'_> {
 
     ghost value = { λ symbols. values_in (resolved symbols.finals.now) symbols.held.now };
 
+    #[inline(always)]
     fn value_of(&self, name: Name) -> Option<Value> {
         symbol_value(self.finals, self.held, name)
     }
