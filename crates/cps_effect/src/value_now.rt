@@ -82,8 +82,24 @@ pub fn value_here<L: Lookup>(
     Ok(value)
 }
 
-/// The value of an expression, where `*` stands for `here`.
+/// The value of an expression, where `*` stands for `here`. Most are numbers.
+#[inline(always)]
 pub fn value_now<L: Lookup>(
+    recorder: &mut Recorder<'_, L>,
+    expression: &Expr,
+    here: Value,
+) -> Result<ValueNow, AllocError>
+    ensures { IfOk result (λ value. Hands (now.now expression.now here) value L.answer recorder.old recorder.new) }
+{
+    match expression.constant() {
+        Some(value) => Ok(ValueNow::Known(value)),
+        None => value_of_names(recorder, expression, here),
+    }
+}
+
+/// The value of an expression, by those of its names.
+#[inline(never)]
+fn value_of_names<L: Lookup>(
     recorder: &mut Recorder<'_, L>,
     expression: &Expr,
     here: Value,
