@@ -1,5 +1,5 @@
 -- A text written over the blanks of a front.
-use Rattle.std.proofs.Common.{◌≡◌, ℕ, zero, suc, ◌+◌, ◌-◌, ◌/◌, ◌%◌, ◌≤◌, refl, sym, ap, ◌∙◌, append_assoc, Bool, true, false, List, [], ◌∷◌, ◌++◌, length, take, drop, arith}
+use Rattle.std.proofs.Common.{◌≡◌, ℕ, zero, suc, ◌+◌, ◌-◌, ◌/◌, ◌%◌, ◌≤◌, refl, sym, ap, ◌∙◌, append_assoc, Bool, true, false, List, [], ◌∷◌, ◌++◌, Option, Some, None, length, take, drop, arith}
 use Rattle.std.proofs.lemmas.List.{append-nil, replicate-append-replicate, take-replicate, drop-replicate, length-replicate, length-append, length-drop, length-take-le, take-append-drop}
 use Rattle.cps_text.specs.Octal.{octal}
 use Rattle.std.proofs.Math.Seq.{take-append-add, drop-append-add, drop-append_seam, take-length}
@@ -7,7 +7,7 @@ use Rattle.std.proofs.Math.ListN.{drop_of_length-le}
 use Rattle.std.specs.Prelude.{if◌then◌else◌}
 use Rattle.cps_listing.specs.Columns.{Column, at_left, at_right, blanks, laid_out, with_column}
 use Rattle.cps_final.specs.Flags.{letter, letters}
-use Rattle.cps_listing.specs.Front.{IsFront, IsNarrow, front_columns}
+use Rattle.cps_listing.specs.Front.{IsFront, IsNarrow, front_columns, with_text}
 use Rattle.cps_listing.specs.Listing.{address_text, code_text, number_text, row_columns, second_text, text_shown, trimmed}
 use Rattle.cps_final.specs.declared.row.Row.{Row}
 use Rattle.cps_listing.proofs.TextLemmas.{trimmed-blanks}
@@ -28,7 +28,7 @@ part-length front before count full most =
     length-take-le (before + count - before) (drop before front) (omega (arith, full, most, rest)) ∙ omega arith
 
 -- what blanks fill, cut at a column behind what has begun
-front-taken : (begun : List ℕ) (before width : ℕ) → length begun ≤ before → before ≤ width → take before (at_left width begun) ≡ at_left before begun
+pub front-taken : (begun : List ℕ) (before width : ℕ) → length begun ≤ before → before ≤ width → take before (at_left width begun) ≡ at_left before begun
 front-taken begun before width within most =
     let m = before - length begun in
     let sum : before ≡ length begun + m = omega (arith, within) in
@@ -132,6 +132,19 @@ letters-length row =
     append-few _ _ 7 1 seven (letter-length row.flags.width 86)
 
 -- blanks at the end of a row are cut
+address-length : (location : Option ℕ) → length (address_text location) ≤ 6
+address-length None = omega arith
+address-length (Some address) = let six = octal-length 6 address in omega (arith, six)
+
+-- a later row ends behind its code
+pub later-length : (number : ℕ) (row : Row) → row.is_later ≡ true → length (laid_out (front_columns number row)) ≡ 16 + length (code_text row.code)
+later-length number row later =
+    let begun = with_text (letters row.flags) 10 (address_text row.location) in
+    let eight = letters-length row in
+    let nine = at_left-length (letters row.flags) 9 (omega (arith, eight)) in
+    let few = append-few (at_left 9 (letters row.flags)) (address_text row.location) 9 6 (omega (arith, nine)) (address-length row.location) in
+    rw later (length-append (at_left 16 begun) (code_text row.code) ∙ (λ i. at_left-length begun 16 (omega (arith, few)) i + length (code_text row.code)))
+
 pub trimmed-left : (width : ℕ) (row : List ℕ) → trimmed (at_left width row) ≡ trimmed row
 trimmed-left width row = trimmed-blanks (width - length row) row
 

@@ -1,5 +1,5 @@
 //! The listing.
-ghost use Rattle.std.specs.Prelude.{◌≡◌, ◌++◌, ◌+◌, ◌-◌, ◌≤◌, ◌<◌, ℕ, List, IsTrue, OnOk, length, take};
+ghost use Rattle.std.specs.Prelude.{◌≡◌, ◌++◌, ◌+◌, ◌≤◌, ℕ, List, IsTrue, OnOk, true, length, take};
 ghost use Rattle.cps_listing.specs.Columns.{with_columns, with_column, at_right, laid_out};
 ghost use Rattle.cps_listing.specs.Front.{HasFront, HasRow, IsNarrow, front_columns};
 ghost use Rattle.cps_listing.specs.Listing as texts;
@@ -72,12 +72,26 @@ fn push_narrow(text: &mut Vec<u8>, number: u32, line: &[u8], row: &Row) -> Resul
     requires { IsNarrow row.now }
     ensures { OnOk result (HasRow text.old.items text.new.items (texts.row_columns number line.now row.now)) }
 {
+    let before = text.len();
     push_front(text, number, row)?;
     if row.is_later {
+        text.truncate(before + later_columns(row));
         return Ok(());
     }
     text.extend_from_slice(text_shown(row, line))?;
     Ok(())
+}
+
+/// The columns of a later row, which ends behind its code. One without a code ends where the line would begin.
+fn later_columns(row: &Row) -> usize
+    requires { IsNarrow row.now }
+    ensures within { result ≤ 44 }
+    ensures columns { row.now.is_later ≡ true → (number : ℕ) → length (laid_out (front_columns number row.now)) ≤ result }
+{
+    match row.code.digits() {
+        Some(code) => BEFORE_CODE + usize::from(code.count),
+        None => BEFORE_LINE,
+    }
 }
 
 /// The columns before the line: the flags, and blanks over which the others are written.
@@ -214,45 +228,8 @@ fn cut_blanks(text: &mut Vec<u8>, before: usize)
     text.truncate(before + kept);
 }
 
-/// The length of a text without the blanks at its end. Rows of further fields end in some thirty: so these are cut by fours, and the rest one by one.
+/// The length of a text without the blanks at its end.
 fn trimmed_length(text: &[u8]) -> usize
-    ensures length { take result text.now ≡ texts.trimmed text.now }
-    ensures within { result ≤ length text.now }
-{
-    let length = length_by_fours(text);
-    length_by_ones(&text[..length])
-}
-
-/// The length of a text without some of the blanks at its end.
-fn length_by_fours(text: &[u8]) -> usize
-    ensures same { texts.trimmed text.now ≡ texts.trimmed (take result text.now) }
-    ensures within { result ≤ length text.now }
-{
-    let mut length = text.len();
-    while length >= 4 && ends_in_four(text, length) {
-        length -= 4;
-    }
-    length
-}
-
-/// Whether the four characters before a place are blanks.
-fn ends_in_four(text: &[u8], at: usize) -> bool
-    requires { (4 ≤ at) × (at ≤ length text.now) }
-    ensures { IsTrue result → texts.trimmed (take at text.now) ≡ texts.trimmed (take (at - 4) text.now) }
-{
-    ends_in_two(text, at) && ends_in_two(text, at - 2)
-}
-
-/// Whether the two characters before a place are blanks.
-fn ends_in_two(text: &[u8], at: usize) -> bool
-    requires { (2 ≤ at) × (at ≤ length text.now) }
-    ensures { IsTrue result → texts.trimmed (take at text.now) ≡ texts.trimmed (take (at - 2) text.now) }
-{
-    text[at - 1] == b' ' && text[at - 2] == b' '
-}
-
-/// The length of a text without the blanks at its end, found one by one.
-fn length_by_ones(text: &[u8]) -> usize
     ensures length { take result text.now ≡ texts.trimmed text.now }
     ensures within { result ≤ length text.now }
 {

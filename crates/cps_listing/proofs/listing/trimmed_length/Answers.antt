@@ -3,7 +3,7 @@ use Rattle.std.specs.Prelude.{slice_index}
 use Rattle.cps_text.specs.Text.{is_blank}
 use Rattle.cps_listing.specs.Listing.{trimmed}
 use Rattle.cps_listing.proofs.TextLemmas.{trimmed-cut, trimmed-kept}
-use Rattle.cps_listing.proofs.listing.length_by_ones.Goals as goal
+use Rattle.cps_listing.proofs.listing.trimmed_length.Goals as goal
 
 pub returns-then-text-last-ne32-clause-length : goal.returns-then-text-last-ne32-clause-length
 returns-then-text-last-ne32-clause-length c =
