@@ -137,11 +137,6 @@ assembled control scope (StatementLine statement) behind =
 
 -- ---- by the mode
 
--- whether a statement is skipped or kept
-abbrev pub is_passed : Mode → Bool
-is_passed Normal = false
-is_passed _ = true
-
 abbrev pub in_mode : Control → Scope → List ℕ → Mode → Behind → Part
 in_mode control scope text Normal behind = assembled control scope (card_in text) behind
 in_mode control scope text (SkipLines count) behind = treated control scope (SkipLines count) text (skipped_line count) behind
@@ -150,11 +145,6 @@ in_mode control scope text (KeepMacro body) behind = treated control scope (Keep
 in_mode control scope text (KeepDup body) behind = treated control scope (KeepDup body) text (kept_for_dup body body.extent (seen_in (card_in text))) behind
 
 -- ---- END, and what stands after it
-
--- the operation of the statement table that a line has
-abbrev pub operation_in : LineFields → Option Operation
-operation_in (StatementLine statement) = operation_named statement.operation
-operation_in _ = None
 
 -- the location field of END on a source line
 abbrev pub end_location : StatementFields → Option Operation → Option Location

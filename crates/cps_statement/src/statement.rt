@@ -10,6 +10,7 @@ ghost use Rattle.cps_state.specs.Line.{Does, Hands};
 ghost use Rattle.cps_local.specs.Cards as cards;
 ghost use Rattle.cps_statement.specs.Meaning as meaning;
 ghost use Rattle.cps_statement.specs.Opened.{opening_of};
+ghost use Rattle.cps_statement.specs.Taking as taking;
 ghost use Rattle.cps_statement.specs.Taking.{HandsOn};
 
 use crate::keeping::{kept_for_dup, kept_for_macro};
@@ -114,7 +115,7 @@ fn pass_by<'a, L: Lookup>(
     fields: Fields<'_>,
 ) -> Result<Option<Opened<'a>>, AllocError>
     requires columns { fields_value fields ≡ cards.card_in passing.text.now }
-    requires passed { meaning.is_passed passing.mode.now ≡ true }
+    requires passed { taking.is_passed passing.mode.now ≡ true }
     ensures { IfOk result (λ opened. HandsOn (meaning.in_mode passing.entry.control scope.old passing.entry.text.now passing.entry.mode.now) scope.new (opening_of opened) L.answer recorder.old recorder.new) }
 {
     match passing.mode {
@@ -137,7 +138,7 @@ fn pass_by<'a, L: Lookup>(
 
 /// The operation of the statement table that a line has.
 fn operation_in(fields: Fields<'_>) -> Option<Operation>
-    ensures { result ≡ meaning.operation_in (fields_value fields.entry) }
+    ensures { result ≡ taking.operation_in (fields_value fields.entry) }
 {
     match fields {
         Fields::Statement(statement) => Operation::named(statement.operation),
@@ -147,7 +148,7 @@ fn operation_in(fields: Fields<'_>) -> Option<Operation>
 
 /// The location field of END on a source line.
 fn end_in(scope: &Scope, fields: Fields<'_>, named: Option<Operation>) -> Option<Location>
-    requires { named ≡ meaning.operation_in (fields_value fields) }
+    requires { named ≡ taking.operation_in (fields_value fields) }
     ensures { result ≡ meaning.end_in scope.now (fields_value fields.entry) }
 {
     match (scope, fields) {
@@ -173,7 +174,7 @@ fn assemble<'a, L: Lookup>(
     fields: Fields<'a>,
     named: Option<Operation>,
 ) -> Result<Option<Opened<'a>>, AllocError>
-    requires { named ≡ meaning.operation_in (fields_value fields) }
+    requires { named ≡ taking.operation_in (fields_value fields) }
     ensures { IfOk result (λ opened. HandsOn (meaning.assembled control scope.old (fields_value fields.entry)) scope.new (opening_of opened) L.answer recorder.old recorder.new) }
 {
     match fields {
