@@ -1,10 +1,12 @@
 //! MACRO, and calls of macros.
-ghost use Rattle.std.specs.Prelude.{◌≡◌, Some, OnOk, IfOk, option_map, map};
+ghost use Rattle.std.specs.Prelude.{◌≡◌, Some, IfOk, map};
+ghost use Rattle.std.specs.Option.{option_copied as copied};
 ghost use Rattle.cps_text.specs.Insertion.{pairs_value, inserted};
 ghost use Rattle.cps_state.specs.Line.{Hands};
 ghost use Rattle.cps_statement.specs.Macros as macros;
+ghost use Rattle.cps_statement.specs.Macros.{macro_from};
 ghost use Rattle.cps_statement.specs.Opened.{opening_of};
-ghost use Rattle.cps_statement.specs.Taking.{HandsOn};
+ghost use Rattle.cps_statement.specs.Taking.{Leads, Opens, OpensBody};
 
 use crate::keeping::no_lines;
 use crate::opened::{Body, Opened, Repeated};
@@ -22,7 +24,7 @@ pub fn define<L: Lookup>(
     scope: &mut Scope,
     parameters: Option<&[Name]>,
 ) -> Result<(), AllocError>
-    ensures { OnOk result (Hands (macros.macro_from front.control scope.old front.location (option_map (λ p. p.now) parameters.entry)) scope.new L.answer recorder.old recorder.new) }
+    ensures { Leads result (macro_from front.control scope.old front.location (copied parameters.entry)) scope.new L.answer recorder.old recorder.new }
 {
     let alloc = recorder.alloc();
     let name = macro_name(front.location);
@@ -51,7 +53,7 @@ fn macro_mode(
     name: Option<Name>,
     parameters: Option<&[Name]>,
 ) -> Result<Mode, AllocError>
-    ensures { IfOk result (λ mode. mode ≡ macros.macro_mode name (option_map (λ p. p.now) parameters.entry)) }
+    ensures { IfOk result (λ mode. mode ≡ macros.macro_mode name (copied parameters.entry)) }
 {
     match (name, parameters) {
         (Some(name), Some(parameters)) => Ok(Mode::KeepMacro(MacroBody {
@@ -75,7 +77,7 @@ pub fn call<'a, L: Lookup>(
     named: &Macro,
     tail: &'a [u8],
 ) -> Result<Option<Opened<'a>>, AllocError>
-    ensures { IfOk result (λ opened. HandsOn (macros.calling front.control scope.now front.location named.now tail.now) scope.now (opening_of opened) L.answer recorder.old recorder.new) }
+    ensures { Opens result (macros.calling front.control scope.now front.location named.now tail.now) scope.now L.answer recorder.old recorder.new }
 {
     let alloc = recorder.alloc();
     let made = call_at(recorder, front)?;
@@ -132,7 +134,7 @@ fn open_body<'a>(
     named: &Macro,
     tail: &'a [u8],
 ) -> Result<Option<Opened<'a>>, AllocError>
-    ensures { IfOk result (λ opened. option_map (λ o. opening_of (Some o)) opened ≡ option_map (λ pairs. macros.opening_with pairs named.now) (macros.bound named.now.parameters tail.now)) }
+    ensures { OpensBody result named.now (macros.bound named.now.parameters tail.now) }
 {
     if named.parameters.as_slice().is_empty() {
         return Ok(Some(open_once(alloc, named, Vec::new(alloc))?));
@@ -149,7 +151,7 @@ fn open_with<'a>(
     named: &Macro,
     list: &[&'a [u8]],
 ) -> Result<Option<Opened<'a>>, AllocError>
-    ensures { IfOk result (λ opened. option_map (λ o. opening_of (Some o)) opened ≡ option_map (λ pairs. macros.opening_with pairs named.now) (macros.paired named.now.parameters (map (λ text. text.now) list.now))) }
+    ensures { OpensBody result named.now (macros.paired named.now.parameters (map (λ text. text.now) list.now)) }
 {
     let parameters = named.parameters.as_slice();
     if list.len() > parameters.len() {

@@ -1,7 +1,8 @@
 //! Conditional assembly: IFEQ and the like, IF, ELSE and ENDIF.
-ghost use Rattle.std.specs.Prelude.{◌≡◌, OnOk, IfOk};
+ghost use Rattle.std.specs.Prelude.{◌≡◌, IfOk};
 ghost use Rattle.cps_state.specs.Line.{Hands};
 ghost use Rattle.cps_statement.specs.Ranges as meaning;
+ghost use Rattle.cps_statement.specs.Taking.{Leads};
 
 use crate::scope::{Scope, ask_ranges, go_by, put_ranges};
 use cps_effect::{
@@ -28,7 +29,7 @@ pub fn if_compared<L: Lookup>(
     scope: &mut Scope,
     test: &Comparison,
 ) -> Result<(), AllocError>
-    ensures { OnOk result (Hands (meaning.if_compared front.control scope.old front.location test.now) scope.new L.answer recorder.old recorder.new) }
+    ensures { Leads result (meaning.if_compared front.control scope.old front.location test.now) scope.new L.answer recorder.old recorder.new }
 {
     let tested = ask_compared(recorder, front.control, test)?;
     hang(recorder, front, scope, &test.lines, tested)
@@ -41,7 +42,7 @@ pub fn if_defined<L: Lookup>(
     scope: &mut Scope,
     test: &SymbolTest,
 ) -> Result<(), AllocError>
-    ensures { OnOk result (Hands (meaning.if_defined front.control scope.old front.location test.now) scope.new L.answer recorder.old recorder.new) }
+    ensures { Leads result (meaning.if_defined front.control scope.old front.location test.now) scope.new L.answer recorder.old recorder.new }
 {
     let tested = ask_defined(recorder, test)?;
     hang(recorder, front, scope, &test.lines, tested)
@@ -53,7 +54,7 @@ pub fn turn_range<L: Lookup>(
     front: Front,
     scope: &mut Scope,
 ) -> Result<(), AllocError>
-    ensures { OnOk result (Hands (meaning.else_of front.control scope.old front.location) scope.new L.answer recorder.old recorder.new) }
+    ensures { Leads result (meaning.else_of front.control scope.old front.location) scope.new L.answer recorder.old recorder.new }
 {
     let ranges = ask_ranges(recorder, scope)?;
     turn(recorder, front, scope, ranges.as_slice())
@@ -65,7 +66,7 @@ fn turn<L: Lookup>(
     scope: &mut Scope,
     ranges: &[Range],
 ) -> Result<(), AllocError>
-    ensures { OnOk result (Hands (meaning.turned_round front.control scope.old front.location ranges.now) scope.new L.answer recorder.old recorder.new) }
+    ensures { Leads result (meaning.turned_round front.control scope.old front.location ranges.now) scope.new L.answer recorder.old recorder.new }
 {
     let alloc = recorder.alloc();
     let [Range::BeforeElse, others @ ..] = ranges else {
@@ -88,7 +89,7 @@ pub fn close_range<L: Lookup>(
     scope: &mut Scope,
     location: Location,
 ) -> Result<(), AllocError>
-    ensures { OnOk result (Hands (meaning.endif_of scope.old location) scope.new L.answer recorder.old recorder.new) }
+    ensures { Leads result (meaning.endif_of scope.old location) scope.new L.answer recorder.old recorder.new }
 {
     let ranges = ask_ranges(recorder, scope)?;
     close(recorder, scope, location, ranges.as_slice())
@@ -100,7 +101,7 @@ fn close<L: Lookup>(
     location: Location,
     ranges: &[Range],
 ) -> Result<(), AllocError>
-    ensures { OnOk result (Hands (meaning.closed scope.old location ranges.now) scope.new L.answer recorder.old recorder.new) }
+    ensures { Leads result (meaning.closed scope.old location ranges.now) scope.new L.answer recorder.old recorder.new }
 {
     let alloc = recorder.alloc();
     let [_, others @ ..] = ranges else {
@@ -204,7 +205,7 @@ fn hang<L: Lookup>(
     lines: &Option<Expr>,
     test: Tested,
 ) -> Result<(), AllocError>
-    ensures { OnOk result (Hands (meaning.hanging front.control scope.old front.location lines.now test) scope.new L.answer recorder.old recorder.new) }
+    ensures { Leads result (meaning.hanging front.control scope.old front.location lines.now test) scope.new L.answer recorder.old recorder.new }
 {
     match lines {
         Some(lines) => count_lines(recorder, front, scope, lines, test),
@@ -219,7 +220,7 @@ fn count_lines<L: Lookup>(
     lines: &Expr,
     test: Tested,
 ) -> Result<(), AllocError>
-    ensures { OnOk result (Hands (meaning.hanging_lines front.control scope.old front.location lines.now test) scope.new L.answer recorder.old recorder.new) }
+    ensures { Leads result (meaning.hanging_lines front.control scope.old front.location lines.now test) scope.new L.answer recorder.old recorder.new }
 {
     let value = value_here(recorder, front.control, lines)?;
     count(recorder, front, scope, test, value)
@@ -231,7 +232,7 @@ fn open_range<L: Lookup>(
     scope: &mut Scope,
     test: Tested,
 ) -> Result<(), AllocError>
-    ensures { OnOk result (Hands (meaning.hanging_range front.control scope.old front.location test) scope.new L.answer recorder.old recorder.new) }
+    ensures { Leads result (meaning.hanging_range front.control scope.old front.location test) scope.new L.answer recorder.old recorder.new }
 {
     let others = ask_ranges(recorder, scope)?;
     let others = others.as_slice();
@@ -246,7 +247,7 @@ fn count<L: Lookup>(
     test: Tested,
     value: ValueNow,
 ) -> Result<(), AllocError>
-    ensures { OnOk result (Hands (meaning.counting front.control scope.old front.location test value) scope.new L.answer recorder.old recorder.new) }
+    ensures { Leads result (meaning.counting front.control scope.old front.location test value) scope.new L.answer recorder.old recorder.new }
 {
     let count = line_count(value);
     skip_lines(recorder, front.control, scope, test.holds, count)?;
@@ -284,7 +285,7 @@ fn skip_lines<L: Lookup>(
     holds: bool,
     count: Option<u32>,
 ) -> Result<(), AllocError>
-    ensures { OnOk result (Hands (meaning.skipping_lines control scope.old holds count) scope.new L.answer recorder.old recorder.new) }
+    ensures { Leads result (meaning.skipping_lines control scope.old holds count) scope.new L.answer recorder.old recorder.new }
 {
     match count {
         Some(count) if !holds && count > 0 => {
@@ -302,7 +303,7 @@ fn open<L: Lookup>(
     test: Tested,
     others: &[Range],
 ) -> Result<(), AllocError>
-    ensures { OnOk result (Hands (meaning.opening front.control scope.old front.location test others.now) scope.new L.answer recorder.old recorder.new) }
+    ensures { Leads result (meaning.opening front.control scope.old front.location test others.now) scope.new L.answer recorder.old recorder.new }
 {
     let mut flags = present_flags(front.location).joined(test.flags);
     if others.len() >= MOST_RANGES {
@@ -323,7 +324,7 @@ fn begin_range<L: Lookup>(
     holds: bool,
     others: &[Range],
 ) -> Result<(), AllocError>
-    ensures { OnOk result (Hands (meaning.beginning_range control scope.old holds others.now) scope.new L.answer recorder.old recorder.new) }
+    ensures { Leads result (meaning.beginning_range control scope.old holds others.now) scope.new L.answer recorder.old recorder.new }
 {
     let alloc = recorder.alloc();
     if holds {

@@ -1,8 +1,8 @@
 //! DUP and ENDD where lines are assembled.
-ghost use Rattle.std.specs.Prelude.{◌≡◌, OnOk};
-ghost use Rattle.cps_state.specs.Line.{Hands};
+ghost use Rattle.std.specs.Prelude.{◌≡◌};
 ghost use Rattle.cps_effect.specs.Numbers.{plain_number};
-ghost use Rattle.cps_statement.specs.Repeating as repeating;
+ghost use Rattle.cps_statement.specs.Repeating as meaning;
+ghost use Rattle.cps_statement.specs.Taking.{Leads, repeating_known};
 
 use crate::keeping::no_lines;
 use crate::ranges::count_flags;
@@ -20,7 +20,7 @@ pub fn dup<L: Lookup>(
     scope: &mut Scope,
     repetition: &Repetition,
 ) -> Result<(), AllocError>
-    ensures { OnOk result (Hands (repeating.dup front.control scope.old front.location repetition.now) scope.new L.answer recorder.old recorder.new) }
+    ensures { Leads result (meaning.dup front.control scope.old front.location repetition.now) scope.new L.answer recorder.old recorder.new }
 {
     let times = value_here(recorder, front.control, &repetition.count)?;
     repeat_by(recorder, front, scope, times, &repetition.lines)
@@ -34,7 +34,7 @@ fn repeat_by<L: Lookup>(
     times: ValueNow,
     lines: &Option<Expr>,
 ) -> Result<(), AllocError>
-    ensures { OnOk result (Hands (repeating.repeating_by front.control scope.old front.location times lines.now) scope.new L.answer recorder.old recorder.new) }
+    ensures { Leads result (meaning.repeating_by front.control scope.old front.location times lines.now) scope.new L.answer recorder.old recorder.new }
 {
     match lines {
         Some(lines) => repeat_counted(recorder, front, scope, times, lines),
@@ -49,7 +49,7 @@ fn repeat_counted<L: Lookup>(
     times: ValueNow,
     lines: &Expr,
 ) -> Result<(), AllocError>
-    ensures { OnOk result (Hands (repeating.repeating_counted front.control scope.old front.location times lines.now) scope.new L.answer recorder.old recorder.new) }
+    ensures { Leads result (meaning.repeating_counted front.control scope.old front.location times lines.now) scope.new L.answer recorder.old recorder.new }
 {
     let value = value_here(recorder, front.control, lines)?;
     repeat_lines(recorder, front, scope, times, value)
@@ -62,7 +62,7 @@ fn repeat_lines<L: Lookup>(
     times: ValueNow,
     lines: ValueNow,
 ) -> Result<(), AllocError>
-    ensures { OnOk result (Hands (repeating.repeating_lines front.control scope.old front.location times lines (repeating.body_count lines)) scope.new L.answer recorder.old recorder.new) }
+    ensures { Leads result (repeating_known front.control scope.old front.location times lines) scope.new L.answer recorder.old recorder.new }
 {
     match body_count(lines) {
         Some(count) => repeat(recorder, front, scope, times, Extent::Counted(count)),
@@ -81,7 +81,7 @@ fn repeat<L: Lookup>(
     times: ValueNow,
     extent: Extent,
 ) -> Result<(), AllocError>
-    ensures { OnOk result (Hands (repeating.repeating front.control scope.old front.location times extent) scope.new L.answer recorder.old recorder.new) }
+    ensures { Leads result (meaning.repeating front.control scope.old front.location times extent) scope.new L.answer recorder.old recorder.new }
 {
     let body = DupBody {
         times: times_in(times),
@@ -98,7 +98,7 @@ fn repeat<L: Lookup>(
 
 /// How many lines are repeated.
 fn body_count(lines: ValueNow) -> Option<u32>
-    ensures { result ≡ repeating.body_count lines }
+    ensures { result ≡ meaning.body_count lines }
 {
     match plain_number(lines) {
         Some(count) if count >= 1 && count <= u64::from(MOST_BODY_LINES) => Some(count as u32),
@@ -108,7 +108,7 @@ fn body_count(lines: ValueNow) -> Option<u32>
 
 /// How often they are repeated.
 fn times_in(times: ValueNow) -> u32
-    ensures { result ≡ repeating.times_in (plain_number times) }
+    ensures { result ≡ meaning.times_in (plain_number times) }
 {
     match plain_number(times) {
         Some(number) if number <= MOST_TIMES => number as u32,
@@ -117,7 +117,7 @@ fn times_in(times: ValueNow) -> u32
 }
 
 fn times_flags(times: ValueNow) -> Flags
-    ensures { result ≡ repeating.times_flags times (plain_number times) }
+    ensures { result ≡ meaning.times_flags times (plain_number times) }
 {
     match plain_number(times) {
         None => count_flags(times, None),

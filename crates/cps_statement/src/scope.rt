@@ -1,9 +1,9 @@
 //! Where a statement stands: a source line, or a statement of an expansion.
-ghost use Rattle.std.specs.Prelude.{◌≡◌, OnOk, IfOk};
+ghost use Rattle.std.specs.Prelude.{◌≡◌, IfOk};
 ghost use Rattle.cps_state.specs.Line.{Hands};
 ghost use Rattle.cps_statement.specs.Own.{new_expansion};
 ghost use Rattle.cps_statement.specs.Scope as meaning;
-ghost use Rattle.cps_statement.specs.Taking.{TakesBody};
+ghost use Rattle.cps_statement.specs.Taking.{Leads, TakesBody};
 
 use cps_state::{
     Answer, Control, Key, Lookup, Mode, Range, Recorder, Shared, SharedMode, ranges_of, text_of,
@@ -75,7 +75,7 @@ pub fn go_by<L: Lookup>(
     scope: &mut Scope,
     mode: Mode,
 ) -> Result<(), AllocError>
-    ensures { OnOk result (Hands (meaning.going_by control scope.old mode) scope.new L.answer recorder.old recorder.new) }
+    ensures { Leads result (meaning.going_by control scope.old mode) scope.new L.answer recorder.old recorder.new }
 {
     match scope {
         Scope::Source => {
@@ -111,7 +111,7 @@ pub fn put_ranges<L: Lookup>(
     scope: &mut Scope,
     ranges: Shared<Range>,
 ) -> Result<(), AllocError>
-    ensures { OnOk result (Hands (meaning.putting_ranges scope.old ranges) scope.new L.answer recorder.old recorder.new) }
+    ensures { Leads result (meaning.putting_ranges scope.old ranges) scope.new L.answer recorder.old recorder.new }
 {
     match scope {
         Scope::Source => recorder.put(Key::Ifs, Answer::Ifs(ranges)),
@@ -129,7 +129,7 @@ pub fn keep<L: Lookup>(
     count: u32,
     text: Shared<u8>,
 ) -> Result<(), AllocError>
-    ensures { OnOk result (Hands (meaning.keeping scope.old count text) scope.new L.answer recorder.old recorder.new) }
+    ensures { Leads result (meaning.keeping scope.old count text) scope.new L.answer recorder.old recorder.new }
 {
     match scope {
         Scope::Source => recorder.put(Key::Kept(count), Answer::Text(text)),

@@ -1,17 +1,17 @@
 //! A statement in pass one: by what it says, where it stands, and by whether it is assembled, skipped or kept.
 ghost use Rattle.std.specs.Prelude.{◌≡◌, true, Some as Just, None as Nothing, OnOk, IfOk};
-ghost use Rattle.std.specs.Option.{option_copied};
+ghost use Rattle.std.specs.Option.{option_copied as copied};
 ghost use Rattle.cps_expr.specs.Bounds.{IsBounded};
 ghost use Rattle.cps_expr.specs.Operation.{operation_named};
 ghost use Rattle.cps_text.specs.Card.{StatementLine};
 ghost use Rattle.cps_text.specs.CardFields.{fields_value, statement_value};
-ghost use Rattle.cps_reading.specs.Reading.{instruction_in};
-ghost use Rattle.cps_state.specs.Line.{Does, Hands};
+ghost use Rattle.cps_state.specs.Line.{Does};
 ghost use Rattle.cps_local.specs.Cards as cards;
 ghost use Rattle.cps_statement.specs.Meaning as meaning;
+ghost use Rattle.cps_statement.specs.Meaning.{assembled, macro};
 ghost use Rattle.cps_statement.specs.Opened.{opening_of};
 ghost use Rattle.cps_statement.specs.Taking as taking;
-ghost use Rattle.cps_statement.specs.Taking.{HandsOn};
+ghost use Rattle.cps_statement.specs.Taking.{HandsOn, Leads, Opens, unnamed};
 
 use crate::keeping::{kept_for_dup, kept_for_macro};
 use crate::macros::{call, define};
@@ -83,7 +83,7 @@ fn step_before_end<'a, L: Lookup>(
     written: Written<'a>,
 ) -> Result<Option<Opened<'a>>, AllocError>
     requires { fields_value written.fields ≡ cards.card_in written.text.now }
-    ensures { IfOk result (λ opened. HandsOn (meaning.before_end control mode scope.old written.entry.text.now (meaning.end_in scope.old (cards.card_in written.entry.text.now))) scope.new (opening_of opened) L.answer recorder.old recorder.new) }
+    ensures { Opens result (meaning.in_phase control mode scope.old written.entry.text.now Phase.Body) scope.new L.answer recorder.old recorder.new }
 {
     let named = operation_in(written.fields);
     if let Some(location) = end_in(scope, written.fields, named) {
@@ -116,7 +116,7 @@ fn pass_by<'a, L: Lookup>(
 ) -> Result<Option<Opened<'a>>, AllocError>
     requires columns { fields_value fields ≡ cards.card_in passing.text.now }
     requires passed { taking.is_passed passing.mode.now ≡ true }
-    ensures { IfOk result (λ opened. HandsOn (meaning.in_mode passing.entry.control scope.old passing.entry.text.now passing.entry.mode.now) scope.new (opening_of opened) L.answer recorder.old recorder.new) }
+    ensures { Opens result (taking.passed passing.entry scope.old) scope.new L.answer recorder.old recorder.new }
 {
     match passing.mode {
         Mode::Normal => unreachable!(),
@@ -175,7 +175,7 @@ fn assemble<'a, L: Lookup>(
     named: Option<Operation>,
 ) -> Result<Option<Opened<'a>>, AllocError>
     requires { named ≡ taking.operation_in (fields_value fields) }
-    ensures { IfOk result (λ opened. HandsOn (meaning.assembled control scope.old (fields_value fields.entry)) scope.new (opening_of opened) L.answer recorder.old recorder.new) }
+    ensures { Opens result (assembled control scope.old (fields_value fields.entry)) scope.new L.answer recorder.old recorder.new }
 {
     match fields {
         Fields::Comment => {
@@ -203,7 +203,7 @@ fn assemble_named<'a, L: Lookup>(
     named: Operation,
 ) -> Result<Option<Opened<'a>>, AllocError>
     requires { operation_named statement.operation.now ≡ Just named }
-    ensures { IfOk result (λ opened. HandsOn (meaning.assembled control scope.old (StatementLine (statement_value statement.entry))) scope.new (opening_of opened) L.answer recorder.old recorder.new) }
+    ensures { Opens result (assembled control scope.old (StatementLine (statement_value statement.entry))) scope.new L.answer recorder.old recorder.new }
 {
     let location = read_location(statement.location);
     let alloc = recorder.alloc();
@@ -233,7 +233,7 @@ fn assemble_unnamed<'a, L: Lookup>(
     statement: StatementFields<'a>,
 ) -> Result<Option<Opened<'a>>, AllocError>
     requires { operation_named statement.operation.now ≡ Nothing }
-    ensures { IfOk result (λ opened. HandsOn (meaning.assembled control scope.now (StatementLine (statement_value statement.entry))) scope.now (opening_of opened) L.answer recorder.old recorder.new) }
+    ensures { Opens result (assembled control scope.now (StatementLine (statement_value statement.entry))) scope.now L.answer recorder.old recorder.new }
 {
     if statement.operation.is_empty() {
         unknown(recorder);
@@ -257,7 +257,7 @@ fn assemble_central<'a, L: Lookup>(
     statement: StatementFields<'a>,
     radix: Radix,
 ) -> Result<Option<Opened<'a>>, AllocError>
-    ensures { IfOk result (λ opened. HandsOn (meaning.stated front.control scope.now front.location statement.entry.tail.now (instruction_in Machine.Cp radix statement.entry.operation.now statement.entry.tail.now)) scope.now (opening_of opened) L.answer recorder.old recorder.new) }
+    ensures { Opens result (unnamed Machine.Cp radix front.control scope.now front.location statement.entry) scope.now L.answer recorder.old recorder.new }
 {
     let alloc = recorder.alloc();
     match cp_form(alloc, statement.operation, statement.tail, radix) {
@@ -286,7 +286,7 @@ fn assemble_peripheral<'a, L: Lookup>(
     statement: StatementFields<'a>,
     radix: Radix,
 ) -> Result<Option<Opened<'a>>, AllocError>
-    ensures { IfOk result (λ opened. HandsOn (meaning.stated front.control scope.now front.location statement.entry.tail.now (instruction_in Machine.Pp radix statement.entry.operation.now statement.entry.tail.now)) scope.now (opening_of opened) L.answer recorder.old recorder.new) }
+    ensures { Opens result (unnamed Machine.Pp radix front.control scope.now front.location statement.entry) scope.now L.answer recorder.old recorder.new }
 {
     let alloc = recorder.alloc();
     match pp_form(alloc, statement.operation, statement.tail, radix) {
@@ -346,7 +346,7 @@ fn obey_row<L: Lookup>(
     row: Row,
 ) -> Result<(), AllocError>
     requires { IsBounded front.control.machine row }
-    ensures { OnOk result (Hands (meaning.obeyed front.control scope.old front.location row) scope.new L.answer recorder.old recorder.new) }
+    ensures { Leads result (meaning.obeyed front.control scope.old front.location row) scope.new L.answer recorder.old recorder.new }
 {
     match row {
         Row::Macro(names) => obey_macro(recorder, front, scope, Some(names.as_slice())),
@@ -375,7 +375,7 @@ fn obey_unreadable<L: Lookup>(
     scope: &mut Scope,
     operation: Operation,
 ) -> Result<(), AllocError>
-    ensures { OnOk result (Hands (meaning.unreadable front.control scope.old front.location operation) scope.new L.answer recorder.old recorder.new) }
+    ensures { Leads result (meaning.unreadable front.control scope.old front.location operation) scope.new L.answer recorder.old recorder.new }
 {
     match operation {
         Operation::Macro => obey_macro(recorder, front, scope, None),
@@ -390,7 +390,7 @@ fn obey_macro<L: Lookup>(
     scope: &mut Scope,
     parameters: Option<&[Name]>,
 ) -> Result<(), AllocError>
-    ensures { OnOk result (Hands (meaning.macro front.control scope.old front.location (option_copied parameters.entry)) scope.new L.answer recorder.old recorder.new) }
+    ensures { Leads result (macro front.control scope.old front.location (copied parameters.entry)) scope.new L.answer recorder.old recorder.new }
 {
     match scope {
         Scope::Source => define(recorder, front, scope, parameters),
@@ -429,7 +429,7 @@ fn call_named<'a, L: Lookup>(
     tail: &'a [u8],
     name: Option<Name>,
 ) -> Result<Option<Opened<'a>>, AllocError>
-    ensures { IfOk result (λ opened. HandsOn (meaning.calling_named front.control scope.now front.location tail.now name) scope.now (opening_of opened) L.answer recorder.old recorder.new) }
+    ensures { Opens result (meaning.calling_named front.control scope.now front.location tail.now name) scope.now L.answer recorder.old recorder.new }
 {
     let Some(name) = name else {
         unknown(recorder);

@@ -1,9 +1,8 @@
 //! Lines that are not assembled: they are skipped or kept, and closing ones open what was kept.
-ghost use Rattle.std.specs.Prelude.{◌≡◌, ◌++◌, IfOk, OnOk};
-ghost use Rattle.cps_state.specs.Line.{Hands};
+ghost use Rattle.std.specs.Prelude.{◌≡◌, ◌++◌, IfOk};
 ghost use Rattle.cps_statement.specs.Opened.{opening_of};
 ghost use Rattle.cps_statement.specs.Opening.{plain};
-ghost use Rattle.cps_statement.specs.Taking.{HandsOn};
+ghost use Rattle.cps_statement.specs.Taking.{Leads, Opens, with_passing};
 ghost use Rattle.cps_statement.specs.Treating as treating;
 
 use crate::opened::{Opened, Repeated};
@@ -32,7 +31,7 @@ pub fn treat<'a, L: Lookup>(
     scope: &mut Scope,
     treatment: Treatment,
 ) -> Result<Option<Opened<'a>>, AllocError>
-    ensures { IfOk result (λ opened. HandsOn (treating.treated passing.entry.control scope.old passing.entry.mode.now passing.entry.text.now treatment) scope.new (opening_of opened) L.answer recorder.old recorder.new) }
+    ensures { Opens result (with_passing treating.treated passing.entry scope.old treatment) scope.new L.answer recorder.old recorder.new }
 {
     match treatment {
         Treatment::Passes(later, kept_at, flags) => {
@@ -67,7 +66,7 @@ fn pass<L: Lookup>(
     later: Mode,
     kept_at: Option<u32>,
 ) -> Result<(), AllocError>
-    ensures { OnOk result (Hands (treating.passing passing.entry.control scope.old passing.entry.mode.now passing.entry.text.now later kept_at) scope.new L.answer recorder.old recorder.new) }
+    ensures { Leads result (with_passing treating.passing passing.entry scope.old later kept_at) scope.new L.answer recorder.old recorder.new }
 {
     keep_at(recorder, scope, kept_at, passing.text)?;
     change(recorder, passing.control, scope, passing.mode, later)
@@ -79,7 +78,7 @@ fn keep_at<L: Lookup>(
     kept_at: Option<u32>,
     text: &[u8],
 ) -> Result<(), AllocError>
-    ensures { OnOk result (Hands (treating.keeping_at kept_at scope.old text.now) scope.new L.answer recorder.old recorder.new) }
+    ensures { Leads result (treating.keeping_at kept_at scope.old text.now) scope.new L.answer recorder.old recorder.new }
 {
     let Some(count) = kept_at else {
         return Ok(());
@@ -95,7 +94,7 @@ fn change<L: Lookup>(
     mode: &Mode,
     later: Mode,
 ) -> Result<(), AllocError>
-    ensures { OnOk result (Hands (treating.changing control scope.old mode.now later) scope.new L.answer recorder.old recorder.new) }
+    ensures { Leads result (treating.changing control scope.old mode.now later) scope.new L.answer recorder.old recorder.new }
 {
     if later == *mode {
         return Ok(());
@@ -109,7 +108,7 @@ fn resume<L: Lookup>(
     control: Control,
     scope: &mut Scope,
 ) -> Result<(), AllocError>
-    ensures { OnOk result (Hands (treating.resuming control scope.old) scope.new L.answer recorder.old recorder.new) }
+    ensures { Leads result (treating.resuming control scope.old) scope.new L.answer recorder.old recorder.new }
 {
     let others = ask_ranges(recorder, scope)?;
     let ranges = Shared::with(recorder.alloc(), Range::BehindElse, others.as_slice())?;
@@ -125,7 +124,7 @@ fn define_macro<L: Lookup>(
     name: Name,
     body: MacroBody,
 ) -> Result<(), AllocError>
-    ensures { OnOk result (Hands (treating.defining_macro control scope.old name body) scope.new L.answer recorder.old recorder.new) }
+    ensures { Leads result (treating.defining_macro control scope.old name body) scope.new L.answer recorder.old recorder.new }
 {
     let lines = take_body(recorder, control, scope, body.kept.lines)?;
     let named = macro_of_lines(body.parameters, lines)?;
