@@ -173,6 +173,10 @@ pub record IsBehind (lines : List (List ℕ)) (line : List ℕ) (kept : KeptSour
   pub before : was ≡ finals_of (traces_of lines)
   pub behind : now ≡ finals_of (traces_of (lines ++ line ∷ []))
 
+-- what holds of a mend holds where it is lent
+pub lent-mend : (kept : KeptSource) (trace : Trace) (mend lent : Mend) → lent ≡ mend → IsMendOf kept trace mend → IsMendOf kept trace lent
+lent-mend kept trace mend lent same is = subst (IsMendOf kept trace) (sym same) is
+
 pub is-behind : {old one two three : KeptSource} {t : Trace} {mend : Mend} (line : List ℕ) (back : Mend) {next : Finals} → IsKept old → IsStill old one → IsStill one two → IsStill two three → IsKept three
     → t ≡ trace_behind old line → IsMendOf one t mend → next ≡ mended mend (gathered-value.it three.finals) → mended back next ≡ gathered-value.it three.finals
     → IsBehind old.lines.items line three (mended back next) next

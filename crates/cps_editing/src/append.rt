@@ -17,7 +17,7 @@ use cps_pass::{Trace, Work, step_over};
 use cps_replay::{SparseItem, put_all};
 use cps_text::Line;
 use std::alloc::AllocError;
-use std::mem::swap;
+use std::mem::replace;
 
 /// What pass two makes of a line behind the last, and of the lines in front of it that it disturbs.
 #[derive(Drop)]
@@ -39,21 +39,18 @@ impl KeptSource {
     {
         an_insertion_divides_again();
         let trace = self.step_behind(&line, work)?;
-        let mut mend = Mend {
-            changes: Changes::new(self.alloc, self.hashing),
-            storage: None,
-        };
-        self.mend_for(&trace, &mut mend)?;
-        self.make_room_for_one(&mend)?;
-        self.finals.exchange(&mut mend);
-        match self.pass_two_with(&trace, &mend, work) {
+        let mut kept = self.mend_for(&trace)?;
+        let mend = &mut *kept;
+        self.make_room_for_one(mend)?;
+        self.finals.exchange(mend);
+        match self.pass_two_with(&trace, mend, work) {
             Ok(outcomes) => {
                 self.commit_with(line, trace, outcomes);
-                self.keep_changes(mend);
+                self.keep_mend(kept);
                 Ok(())
             }
             Err(refused) => {
-                self.finals.exchange(&mut mend);
+                self.finals.exchange(mend);
                 Err(refused)
             }
         }
@@ -70,29 +67,54 @@ impl KeptSource {
         step_over(self.alloc, work, &mut self.sheet, line, self.finals.state())
     }
 
-    /// What a line that does this changes behind the last, in the place of a mend, in the room of the changes of the append before.
-    fn mend_for(&mut self, trace: &Trace, mend: &mut Mend) -> Result<(), AllocError>
+    /// What a line that does this changes behind the last, in the room of what the line before it changed.
+    fn mend_for(&mut self, trace: &Trace) -> Result<Box<Mend>, AllocError>
+        requires kept { IsKept self.old }
+        ensures kept { IsKept self.new }
+        ensures still { IsStill self.old self.new }
+        ensures mend { IfOk result (λ mend. IsMendOf self.old trace.now mend.value) }
+    {
+        let mut mend = self.take_mend()?;
+        self.fill_mend(trace, &mut mend)?;
+        Ok(mend)
+    }
+
+    /// The mend of the append before, for its room. Takes memory for the first.
+    fn take_mend(&mut self) -> Result<Box<Mend>, AllocError>
+        requires kept { IsKept self.old }
+        ensures kept { IsKept self.new }
+        ensures still { IsStill self.old self.new }
+    {
+        if let Some(mend) = replace(&mut self.mend, None) {
+            return Ok(mend);
+        }
+        let mend = Mend {
+            changes: Changes::new(self.alloc, self.hashing),
+            storage: None,
+        };
+        Ok(Box::new(self.alloc, mend)?)
+    }
+
+    /// Puts what a line that does this changes behind the last in the place of what stood in a mend.
+    fn fill_mend(&mut self, trace: &Trace, mend: &mut Mend) -> Result<(), AllocError>
         requires kept { IsKept self.old }
         ensures kept { IsKept self.new }
         ensures still { IsStill self.old self.new }
         ensures mend { OnOk result (IsMendOf self.old trace.now mend.new) }
     {
         mend.storage = storage_with(self.finals.storage(), trace)?;
-        swap(&mut self.changes, &mut mend.changes);
         mend.changes.clear();
         mend.changes.put_all(trace.puts())?;
         Ok(())
     }
 
-    /// The next append takes the room of these changes.
-    fn keep_changes(&mut self, mend: Mend)
+    /// The next append takes the room of this mend.
+    fn keep_mend(&mut self, mend: Box<Mend>)
         requires kept { IsKept self.old }
         ensures kept { IsKept self.new }
         ensures still { IsStill self.old self.new }
     {
-        let mut mend = mend;
-        swap(&mut self.changes, &mut mend.changes);
-        drop(mend);
+        drop(replace(&mut self.mend, Some(mend)));
     }
 
     /// Room for a line more, and for what it changes behind the last, once and back.

@@ -10,7 +10,6 @@ use crate::chunk_list::chunks_of;
 use crate::kept_source::KeptSource;
 use crate::names_read::NamesRead;
 use crate::second_pass::step_two_all;
-use cps_changes::Changes;
 use cps_division::FULL;
 use cps_edit::PassOne;
 use cps_pass::{Hashing, State, Work};
@@ -53,7 +52,7 @@ pub fn kept_of(
         finals,
         read,
         sheet: Sheet::new(alloc),
-        changes: Changes::new(alloc, hashing),
+        mend: None,
     })
 }
 

@@ -11,7 +11,6 @@ use crate::names_read::NamesRead;
 use crate::news::News;
 use crate::second_pass::{SecondPass, step_two_all};
 use crate::storage::storage_behind;
-use cps_changes::Changes;
 use cps_chunk::Chunk;
 use cps_final::{Finals, Gather, Outcome};
 use cps_gather::Mend;
@@ -38,8 +37,8 @@ pub struct KeptSource {
     pub read: NamesRead,
     /// The lists that the next line behind the last is stepped with.
     pub sheet: Sheet,
-    /// Room for what that line changes behind it.
-    pub changes: Changes,
+    /// What the line that was put behind the last changed there. The next one takes its room.
+    pub mend: Option<Box<Mend>>,
 }
 
 /// What the passes make of an edit, and a list for the new chunks.
@@ -71,7 +70,7 @@ impl KeptSource {
             finals,
             read: NamesRead::new(alloc, hashing),
             sheet: Sheet::new(alloc),
-            changes: Changes::new(alloc, hashing),
+            mend: None,
         }
     }
 

@@ -11,7 +11,7 @@ use Rattle.cps_edit.specs.Disturbed.{finals_in}
 use Rattle.cps_edit.specs.Passes.{state_after, traces_of}
 use Rattle.cps_chunk.specs.Chunk.{lengths_of}
 use Rattle.cps_replay.specs.Replayed.{redone}
-use Rattle.cps_editing.proofs.BehindLemmas.{both-made, both-refused, changed-behind, is-behind, looks-are, looks-since, one-refused, ones-behind, room-same, twos-are}
+use Rattle.cps_editing.proofs.BehindLemmas.{both-made, both-refused, changed-behind, is-behind, lent-mend, looks-are, looks-since, one-refused, ones-behind, room-same, twos-are}
 use Rattle.cps_editing.proofs.ExchangeLemmas.{lines-total}
 use Rattle.cps_editing.proofs.MendedLemmas.{may-stand}
 use Rattle.cps_editing.proofs.kept_source.KeptSource.append.Goals as goal
@@ -19,8 +19,8 @@ use Rattle.cps_editing.proofs.kept_source.KeptSource.append.Goals as goal
 pub returns-in_err-trace-clause-steps : goal.returns-in_err-trace-clause-steps
 returns-in_err-trace-clause-steps c = one-refused _ _ c.from_residual.ensures.0 (ones-behind c.args.self.now.lines.items c.args.line) c.step_behind.ensures.step
 
-pub returns-in_err-mend_for-clause-steps : goal.returns-in_err-mend_for-clause-steps
-returns-in_err-mend_for-clause-steps c = one-refused _ _ c.from_residual-in_err-mend_for.ensures.0 (ones-behind c.args.self.now.lines.items c.args.line) c.step_behind.ensures.step
+pub returns-in_err-kept-clause-steps : goal.returns-in_err-kept-clause-steps
+returns-in_err-kept-clause-steps c = one-refused _ _ c.from_residual-in_err-kept.ensures.0 (ones-behind c.args.self.now.lines.items c.args.line) c.step_behind.ensures.step
 
 pub returns-in_err-make_room_for_one-clause-steps : goal.returns-in_err-make_room_for_one-clause-steps
 returns-in_err-make_room_for_one-clause-steps c = one-refused _ _ c.from_residual-in_err-make_room_for_one.ensures.0 (ones-behind c.args.self.now.lines.items c.args.line) c.step_behind.ensures.step
@@ -31,9 +31,9 @@ pub exchange-requires-clause-stands : goal.exchange-requires-clause-stands
 exchange-requires-clause-stands c =
     let lines = c.args.self.now.lines.items in
     let line = c.args.line in
-    let mend = c.mend_for.new.mend in
+    let mend = c.deref_mut-mend.result.now in
     may-stand (changes_in mend.changes) lines (lines ++ line ∷ [])
-    (changed-behind lines line mend c.in_ok-trace.trace c.in_ok-trace.ensures.trace c.in_ok-mend_for.ensures.mend.state)
+    (changed-behind lines line mend c.in_ok-trace.trace c.in_ok-trace.ensures.trace (lent-mend _ _ _ _ c.deref_mut-mend.ensures.value c.in_ok-kept.ensures.mend).state)
 
 -- ---- it is put in its place
 
@@ -42,7 +42,7 @@ commit_with-requires-clause-made c =
     let lines = c.args.self.now.lines.items in
     let line = c.args.line in
     let behind = is-behind c.args.line c.exchange.new.mend c.requires.kept c.step_behind.ensures.still c.mend_for.ensures.still c.make_room_for_one.ensures.still c.make_room_for_one.ensures.kept
-    c.in_ok-trace.ensures.trace c.in_ok-mend_for.ensures.mend c.exchange.ensures.now c.exchange.ensures.back in
+    c.in_ok-trace.ensures.trace (lent-mend _ _ _ _ c.deref_mut-mend.ensures.value c.in_ok-kept.ensures.mend) c.exchange.ensures.now c.exchange.ensures.back in
     let still = c.pass_two_with.ensures.still.still in
     let new = c.in-Ok.ensures.made in
     let path : lines ≡ c.pass_two_with.new.self.lines.items = sym (still.lines ∙ behind.source) in
@@ -59,12 +59,12 @@ commit_with-requires-clause-room c =
     let still = c.pass_two_with.ensures.still in
     room-same _ c.pass_two_with.new.self still.still still.room (record { lines = room.lines; traces = room.traces; outcomes = room.outcomes; chunks = room.chunks })
 
-pub keep_changes-requires : goal.keep_changes-requires
-keep_changes-requires c =
+pub keep_mend-requires : goal.keep_mend-requires
+keep_mend-requires c =
     let lines = c.args.self.now.lines.items in
     let line = c.args.line in
     let behind = is-behind c.args.line c.exchange.new.mend c.requires.kept c.step_behind.ensures.still c.mend_for.ensures.still c.make_room_for_one.ensures.still c.make_room_for_one.ensures.kept
-    c.in_ok-trace.ensures.trace c.in_ok-mend_for.ensures.mend c.exchange.ensures.now c.exchange.ensures.back in
+    c.in_ok-trace.ensures.trace (lent-mend _ _ _ _ c.deref_mut-mend.ensures.value c.in_ok-kept.ensures.mend) c.exchange.ensures.now c.exchange.ensures.back in
     let still = c.pass_two_with.ensures.still in
     let all : c.commit_with.new.self.lines.items ≡ lines ++ line ∷ [] =
     c.commit_with.ensures.appended.lines ∙ ap (λ ls. ls ++ line ∷ []) (still.still.lines ∙ behind.source) in
@@ -80,14 +80,14 @@ returns-in-Ok-clause-steps c =
     let lines = c.args.self.now.lines.items in
     let line = c.args.line in
     let behind = is-behind c.args.line c.exchange.new.mend c.requires.kept c.step_behind.ensures.still c.mend_for.ensures.still c.make_room_for_one.ensures.still c.make_room_for_one.ensures.kept
-    c.in_ok-trace.ensures.trace c.in_ok-mend_for.ensures.mend c.exchange.ensures.now c.exchange.ensures.back in
+    c.in_ok-trace.ensures.trace (lent-mend _ _ _ _ c.deref_mut-mend.ensures.value c.in_ok-kept.ensures.mend) c.exchange.ensures.now c.exchange.ensures.back in
     both-made _ _ _ (ones-behind lines line) (twos-are behind) c.step_behind.ensures.step c.in-Ok.ensures.work.steps
 
 pub returns-in-Ok-clause-looked : goal.returns-in-Ok-clause-looked
 returns-in-Ok-clause-looked c =
     let lines = c.args.self.now.lines.items in
     let behind = is-behind c.args.line c.exchange.new.mend c.requires.kept c.step_behind.ensures.still c.mend_for.ensures.still c.make_room_for_one.ensures.still c.make_room_for_one.ensures.kept
-    c.in_ok-trace.ensures.trace c.in_ok-mend_for.ensures.mend c.exchange.ensures.now c.exchange.ensures.back in
+    c.in_ok-trace.ensures.trace (lent-mend _ _ _ _ c.deref_mut-mend.ensures.value c.in_ok-kept.ensures.mend) c.exchange.ensures.now c.exchange.ensures.back in
     let olds = lengths_of c.args.self.now.chunks.items in
     let lengths = c.make_room_for_one.ensures.still.lengths ∙ c.mend_for.ensures.still.lengths ∙ c.step_behind.ensures.still.lengths in
     let division : IsDivision (length lines) olds = record { chunks = c.requires.kept.lines.divided; total = lines-total c.requires.kept.lines } in
@@ -100,7 +100,7 @@ returns-in-Ok-clause-looked c =
 pub returns-in-Err-clause-kept : goal.returns-in-Err-clause-kept
 returns-in-Err-clause-kept c =
     let behind = is-behind c.args.line c.exchange.new.mend c.requires.kept c.step_behind.ensures.still c.mend_for.ensures.still c.make_room_for_one.ensures.still c.make_room_for_one.ensures.kept
-    c.in_ok-trace.ensures.trace c.in_ok-mend_for.ensures.mend c.exchange.ensures.now c.exchange.ensures.back in
+    c.in_ok-trace.ensures.trace (lent-mend _ _ _ _ c.deref_mut-mend.ensures.value c.in_ok-kept.ensures.mend) c.exchange.ensures.now c.exchange.ensures.back in
     let still = c.pass_two_with.ensures.still in
     let all = c.pass_two_with.ensures.kept in
     record {
@@ -114,14 +114,14 @@ returns-in-Err-clause-steps c =
     let lines = c.args.self.now.lines.items in
     let line = c.args.line in
     let behind = is-behind c.args.line c.exchange.new.mend c.requires.kept c.step_behind.ensures.still c.mend_for.ensures.still c.make_room_for_one.ensures.still c.make_room_for_one.ensures.kept
-    c.in_ok-trace.ensures.trace c.in_ok-mend_for.ensures.mend c.exchange.ensures.now c.exchange.ensures.back in
+    c.in_ok-trace.ensures.trace (lent-mend _ _ _ _ c.deref_mut-mend.ensures.value c.in_ok-kept.ensures.mend) c.exchange.ensures.now c.exchange.ensures.back in
     both-refused _ _ _ (ones-behind lines line) (twos-are behind) c.step_behind.ensures.step c.pass_two_with.ensures.work.steps
 
 pub returns-in-Err-clause-looked : goal.returns-in-Err-clause-looked
 returns-in-Err-clause-looked c =
     let lines = c.args.self.now.lines.items in
     let behind = is-behind c.args.line c.exchange.new.mend c.requires.kept c.step_behind.ensures.still c.mend_for.ensures.still c.make_room_for_one.ensures.still c.make_room_for_one.ensures.kept
-    c.in_ok-trace.ensures.trace c.in_ok-mend_for.ensures.mend c.exchange.ensures.now c.exchange.ensures.back in
+    c.in_ok-trace.ensures.trace (lent-mend _ _ _ _ c.deref_mut-mend.ensures.value c.in_ok-kept.ensures.mend) c.exchange.ensures.now c.exchange.ensures.back in
     let olds = lengths_of c.args.self.now.chunks.items in
     let lengths = c.make_room_for_one.ensures.still.lengths ∙ c.mend_for.ensures.still.lengths ∙ c.step_behind.ensures.still.lengths in
     let division : IsDivision (length lines) olds = record { chunks = c.requires.kept.lines.divided; total = lines-total c.requires.kept.lines } in

@@ -4,7 +4,7 @@ use Rattle.cps_changes.specs.Changes.{Changed, changed}
 use Rattle.cps_final.specs.Finals.{Finals}
 use Rattle.cps_gather.specs.Storage.{IsStored}
 use Rattle.cps_editing.proofs.KeptLemmas.{kept-same}
-use Rattle.cps_editing.proofs.kept_source.KeptSource.mend_for.Goals as goal
+use Rattle.cps_editing.proofs.kept_source.KeptSource.fill_mend.Goals as goal
 
 pub returns-in_err-put_all-clause-kept : goal.returns-in_err-put_all-clause-kept
 returns-in_err-put_all-clause-kept c = kept-same c.requires.kept refl refl refl refl refl refl refl refl
