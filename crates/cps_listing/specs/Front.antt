@@ -1,5 +1,5 @@
 -- For the code of rows, not part of what a reader believes: a row in the making, of which the columns before the line are there from the beginning.
-use Rattle.std.specs.Prelude.{◌≡◌, ℕ, ◌≤◌, List, [], ◌∷◌, ◌++◌, length, None, IfSome, if◌then◌else◌}
+use Rattle.std.specs.Prelude.{◌≡◌, ℕ, ◌≤◌, List, [], ◌∷◌, ◌++◌, length, None, Result, IfSome, OnOk, if◌then◌else◌}
 use Rattle.cps_final.specs.Flags.{letters}
 use Rattle.cps_final.specs.declared.row.Row.{Row}
 use Rattle.cps_listing.specs.Columns.{Column, at_left, at_right, laid_out, with_column}
@@ -13,6 +13,10 @@ with_text row first text = with_column row (record { first = first; text = text 
 pub record IsFront (front begun : List ℕ) (columns : ℕ) : Type 0 where
   pub filled : front ≡ at_left 44 begun
   pub within : length begun ≤ columns
+
+-- where nothing failed, the row that begins at a length has become another
+abbrev pub RowBecomes : {T E : Type 0} → Result T E → List ℕ → List ℕ → ℕ → (List ℕ → List ℕ) → Type 0
+RowBecomes result old new before change = (front row : List ℕ) → old ≡ front ++ row → before ≡ length front → OnOk result (new ≡ front ++ change row)
 
 -- a row without a second word, with no more digits than its columns have
 pub record IsNarrow (row : Row) : Type 0 where

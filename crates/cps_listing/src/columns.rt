@@ -1,6 +1,7 @@
 //! Rows of columns.
-ghost use Rattle.std.specs.Prelude.{◌≡◌, ◌++◌, ◌≤◌, ℕ, List, OnOk, length, decimal};
+ghost use Rattle.std.specs.Prelude.{◌≡◌, ◌++◌, ◌≤◌, OnOk, length, decimal};
 ghost use Rattle.cps_listing.specs.Columns as laid;
+ghost use Rattle.cps_listing.specs.Front.{RowBecomes};
 
 use itoa::Buffer;
 use std::alloc::AllocError;
@@ -27,7 +28,7 @@ pub const BEFORE_LINE: usize = 44;
 pub fn fill_columns(text: &mut Vec<u8>, before: usize, columns: usize) -> Result<(), AllocError>
     requires within { before ≤ length text.old.items }
     requires few { columns ≤ 44 }
-    ensures row { (front row : List ℕ) → text.old.items ≡ front ++ row → before ≡ length front → OnOk result (text.new.items ≡ front ++ laid.at_left columns row) }
+    ensures row { RowBecomes result text.old.items text.new.items before (laid.at_left columns) }
     ensures grows { OnOk result (length text.old.items ≤ length text.new.items) }
 {
     let used = text.len() - before;

@@ -1,7 +1,7 @@
 //! The listing.
 ghost use Rattle.std.specs.Prelude.{◌≡◌, ◌++◌, ◌+◌, ◌≤◌, ℕ, List, IsTrue, OnOk, true, length, take};
-ghost use Rattle.cps_listing.specs.Columns.{with_columns, with_column, at_right, laid_out};
-ghost use Rattle.cps_listing.specs.Front.{HasFront, HasRow, IsNarrow, front_columns};
+ghost use Rattle.cps_listing.specs.Columns.{with_columns, at_right, laid_out};
+ghost use Rattle.cps_listing.specs.Front.{HasFront, HasRow, IsNarrow, RowBecomes, front_columns, with_text};
 ghost use Rattle.cps_listing.specs.Listing as texts;
 
 use crate::columns::{
@@ -120,8 +120,7 @@ fn push_wide(text: &mut Vec<u8>, number: u32, line: &[u8], row: &Row) -> Result<
 /// The address, from its column on.
 fn push_address(text: &mut Vec<u8>, before: usize, location: Option<u64>) -> Result<(), AllocError>
     requires { before ≤ length text.old.items }
-    ensures { (front row : List ℕ) → text.old.items ≡ front ++ row → before ≡ length front
-        → OnOk result (text.new.items ≡ front ++ with_column row (record { first = BEFORE_ADDRESS + 1; text = texts.address_text location })) }
+    ensures { RowBecomes result text.old.items text.new.items before (λ row. with_text row (BEFORE_ADDRESS + 1) (texts.address_text location)) }
 {
     fill_columns(text, before, BEFORE_ADDRESS)?;
     if let Some(address) = location {
@@ -138,8 +137,8 @@ fn push_code(
     second: Option<Digits>,
 ) -> Result<(), AllocError>
     requires { before ≤ length text.old.items }
-    ensures { (front row : List ℕ) → text.old.items ≡ front ++ row → before ≡ length front
-        → OnOk result (text.new.items ≡ front ++ with_column row (record { first = BEFORE_CODE + 1; text = texts.code_text code ++ texts.second_text second })) }
+    ensures { RowBecomes result text.old.items text.new.items before
+        (λ row. with_text row (BEFORE_CODE + 1) (texts.code_text code ++ texts.second_text second)) }
 {
     fill_columns(text, before, BEFORE_CODE)?;
     if let Some(digits) = code {
@@ -161,8 +160,7 @@ fn push_statement(
     row: &Row,
 ) -> Result<(), AllocError>
     requires { before ≤ length text.old.items }
-    ensures { (front begun : List ℕ) → text.old.items ≡ front ++ begun → before ≡ length front
-        → OnOk result (text.new.items ≡ front ++ with_columns begun (texts.statement_columns number line.now row.now)) }
+    ensures { RowBecomes result text.old.items text.new.items before (λ begun. with_columns begun (texts.statement_columns number line.now row.now)) }
 {
     if row.is_later {
         return Ok(());
