@@ -1,5 +1,5 @@
 -- Makers put into slots, piece by piece.
-use Rattle.std.proofs.Common.{◌≡◌, ℕ, ◌+◌, ◌*◌, ◌/◌, ◌<◌, ◌≤◌, Bool, true, false, cond, ◌&&◌, eqb, ltb, leb, List, [], ◌∷◌, ◌++◌, get_or, reverse, Option, Some, refl, sym, ap, ◌∙◌, arith, ⊎_elim}
+use Rattle.std.proofs.Common.{◌≡◌, ℕ, ◌+◌, ◌*◌, ◌/◌, ◌<◌, ◌≤◌, Bool, true, false, cond, ◌&&◌, eqb, ltb, leb, List, [], ◌∷◌, ◌++◌, reverse, Option, Some, refl, sym, ap, ◌∙◌, arith, ⊎_elim}
 use Rattle.std.specs.List.{find}
 use Rattle.std.specs.Option.{option_map_or}
 use Rattle.std.proofs.lemmas.List.{reverse-append}
@@ -9,10 +9,7 @@ use Rattle.cps_code.specs.Image.{Piece}
 use Rattle.cps_compare.specs.declared.maker.Maker.{Maker}
 use Rattle.cps_compare.specs.declared.maker.Maker.TheVariants.{Nobody}
 use Rattle.cps_compare.specs.Makers.{Signed, signed_by, meets}
-use Rattle.cps_compare.specs.Reading.{AreMade}
-
-abbrev pub slot_at : List Maker → ℕ → Maker
-slot_at slots slot = get_or slots slot Nobody
+use Rattle.cps_compare.specs.Reading.{AreMade, slot_at}
 
 abbrev pub is_inside : Piece → ℕ → Bool
 is_inside piece digit = ltb piece.first (3 * digit + 3) && ltb (3 * digit) (piece.first + piece.width)

@@ -1,5 +1,5 @@
 -- A source compared with an octal text. Our own.
-use Rattle.std.specs.Prelude.{◌≡◌, ℕ, List, [], Result, Ok, Err, ⊤}
+use Rattle.std.specs.Prelude.{◌≡◌, ℕ, List, Result, Ok, Err, ⊤}
 use Rattle.cps_final.specs.Finals.{machine_of}
 use Rattle.cps_list.specs.Assembly.{Assembly}
 use Rattle.cps_compare.specs.declared.limits.Limits.{Limits}
@@ -8,7 +8,7 @@ use Rattle.cps_compare.specs.declared.fault.CompareFault.{CompareFault}
 use Rattle.cps_compare.specs.declared.fault.CompareFault.TheVariants as faults
 use Rattle.cps_compare.specs.Given.{given_in}
 use Rattle.cps_compare.specs.Makers.{signed_of, maker_of}
-use Rattle.cps_compare.specs.Differences.{size_of, deck_of, IsLow, IsHigh}
+use Rattle.cps_compare.specs.Differences.{size_of, deck_of, GivesNone, IsLow, IsHigh}
 use Rattle.cps_compare.specs.Told.{Sides, told_text, count_differing}
 
 -- what is compared: the digits that the octal text gives, and the words of the source
@@ -32,5 +32,5 @@ pub record Tells (limits : Limits) (sides : Sides) (comparison : Comparison) : T
 -- What a comparison answers: what differs; or that no row of the text gives digits; or nothing is said, where there was no memory.
 abbrev pub Compares : Limits → Sides → Result Comparison CompareFault → Type 0
 Compares limits sides (Ok comparison) = Tells limits sides comparison
-Compares limits sides (Err faults.NoRow) = (address : ℕ) → sides.given address ≡ []
+Compares limits sides (Err faults.NoRow) = GivesNone sides.given
 Compares limits sides (Err faults.Memory) = ⊤

@@ -56,6 +56,10 @@ places digits word = filter (differs_in digits word) (range_with_len 0 (if has_d
 
 -- ---- the addresses that are compared
 
+-- no digits are given for any address
+abbrev pub GivesNone : (ℕ → List ℕ) → Type 0
+GivesNone given = (address : ℕ) → given address ≡ []
+
 pub record IsFirst (given : ℕ → List ℕ) (address : ℕ) : Type 0 where
   pub here : 0 < length (given address)
   pub before : (other : ℕ) → other < address → given other ≡ []

@@ -67,14 +67,21 @@ abbrev pub maker_rows : List (List ℕ) → Maker → List Maker → List ℕ
 maker_rows lines last [] = []
 maker_rows lines last (maker ∷ makers) = (if is_same last maker then [] else maker_row lines maker) ++ maker_rows lines maker makers
 
+-- the rows of what made the digits at places of a word
+abbrev pub made_rows : List (List ℕ) → (ℕ → Maker) → List ℕ → List ℕ
+made_rows lines maker at = maker_rows lines Nobody (map maker at)
+
 -- ---- the rows of an address
+
+-- the rows below two words: carets, where there are digits, and what made those that differ
+abbrev pub digit_rows : List (List ℕ) → (ℕ → Maker) → List ℕ → List ℕ → List ℕ
+digit_rows lines maker digits word =
+    (if has_digits digits then caret_row (places digits word) else []) ++ made_rows lines maker (places digits word)
 
 abbrev pub rows_with : Sides → ℕ → List ℕ → Option (List ℕ) → List ℕ
 rows_with sides address digits None = word_rows address digits None
 rows_with sides address digits (Some word) =
-    word_rows address digits (Some word)
-    ++ (if has_digits digits then caret_row (places digits word) else [])
-    ++ maker_rows sides.lines Nobody (map (sides.maker address) (places digits word))
+    word_rows address digits (Some word) ++ digit_rows sides.lines (sides.maker address) digits word
 
 abbrev pub differs_at : Sides → ℕ → Bool
 differs_at sides address = differs (sides.given address) (sides.deck address)

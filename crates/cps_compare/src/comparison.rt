@@ -1,9 +1,10 @@
 //! The comparison as a whole.
-ghost use Rattle.std.specs.Prelude.{◌≡◌, ℕ, [], ◌<◌, ◌^◌, IfSome, MatchOption};
+ghost use Rattle.std.specs.Prelude.{◌<◌, ◌^◌, IfSome, MatchOption};
 ghost use Rattle.std.specs.Option.{ForSome};
 ghost use Rattle.cps_compare.specs.Comparison.{Compares, sides_of};
-ghost use Rattle.cps_compare.specs.Differences.{IsLow, IsHigh};
+ghost use Rattle.cps_compare.specs.Differences.{GivesNone};
 ghost use Rattle.cps_compare.specs.Reading.{digits_at};
+ghost use Rattle.cps_compare.specs.Shown.{IsSpan};
 
 use super::deck::Deck;
 use super::fault::CompareFault;
@@ -66,8 +67,7 @@ pub fn compare<V: View>(
 /// The first and the last address that are compared. None: the octal text gives no digits.
 fn span(words: &OctalWords, limits: Limits) -> Option<(u32, u32)>
     requires { ForSome limits.to (λ to. to < 2 ^ 18) }
-    ensures span { MatchOption result ((address : ℕ) → digits_at words.now address ≡ [])
-        (λ span. IsLow limits.from (digits_at words.now) span.0 × IsHigh limits.to (digits_at words.now) span.1) }
+    ensures span { MatchOption result (GivesNone (digits_at words.now)) (IsSpan limits (digits_at words.now)) }
     ensures few { IfSome result (λ span. span.1 < 2 ^ 18) }
 {
     let Some(first) = words.first() else {

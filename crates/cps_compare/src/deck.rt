@@ -1,11 +1,11 @@
 //! The words of a source, and what made their digits.
-ghost use Rattle.std.specs.Prelude.{◌≡◌, ◌∷◌, [], ◌++◌, ◌<◌, ◌%◌, ◌^◌, ℕ, List, IfOk, OnOk, map};
+ghost use Rattle.std.specs.Prelude.{◌≡◌, ◌∷◌, [], ◌<◌, ◌%◌, ◌^◌, ℕ, IfOk, OnOk, map};
 ghost use Rattle.cps_expr.specs.Item.{bits_of};
 ghost use Rattle.cps_code.specs.Image.{piece_of};
 ghost use Rattle.cps_state.specs.Machines.{limit};
 ghost use Rattle.cps_list.specs.Binary as texts;
-ghost use Rattle.cps_compare.specs.Makers.{Signed, signed_by, signed_of};
-ghost use Rattle.cps_compare.specs.Reading.{IsDeck};
+ghost use Rattle.cps_compare.specs.Makers.{signed_by, signed_of};
+ghost use Rattle.cps_compare.specs.Reading.{AddsPieces, IsDeck, PutsOver};
 
 use super::maker::Maker;
 use super::makers::Makers;
@@ -25,7 +25,7 @@ pub struct Deck {
 
 impl Deck {
     ghost use Rattle.cps_compare.specs.Makers.{signed_of, signed_by};
-    ghost use Rattle.cps_compare.specs.Reading.{IsDeck};
+    ghost use Rattle.cps_compare.specs.Reading.{IsDeck, PutsOver};
 
     /// Of an assembled source.
     pub fn of<V: View>(alloc: Global, view: &V) -> Result<Deck, AllocError>
@@ -55,8 +55,7 @@ impl Deck {
 
     /// Puts pieces that somebody made over what stands.
     fn add(&mut self, maker: Maker, pieces: &[Piece]) -> Result<(), AllocError>
-        ensures { OnOk result ((all : List Signed) → IsDeck all self.old.words self.old.makers
-            → IsDeck (all ++ map (signed_by maker) (map piece_of pieces.now)) self.new.words self.new.makers) }
+        ensures { OnOk result (PutsOver (map (signed_by maker) (map piece_of pieces.now)) self.old self.new) }
     {
         for piece in pieces {
             self.words.deposit(*piece)?;
@@ -79,8 +78,7 @@ fn pool_pieces(alloc: Global, finals: &Finals) -> Result<Vec<Piece>, AllocError>
 
 /// A literal at its final address, if that is below the machine's limit.
 fn push_literal(pieces: &mut Vec<Piece>, finals: &Finals, word: u64) -> Result<(), AllocError>
-    ensures { OnOk result (map piece_of pieces.new.items ≡ map piece_of pieces.old.items
-        ++ texts.literal_piece (⟦<Finals as Gathered>⟧.gathered finals.now) word) }
+    ensures { OnOk result (AddsPieces (texts.literal_piece (⟦<Finals as Gathered>⟧.gathered finals.now) word) pieces.old.items pieces.new.items) }
 {
     let machine = finals.machine();
     let address = finals.literal_address(word);

@@ -1,5 +1,5 @@
 //! The rows that tell a difference.
-ghost use Rattle.std.specs.Prelude.{◌≡◌, [], ◌++◌, ◌<◌, length, map, OnOk, IfSome, All};
+ghost use Rattle.std.specs.Prelude.{◌≡◌, [], ◌++◌, ◌<◌, length, OnOk, IfSome, All};
 ghost use Rattle.std.specs.List.{position};
 ghost use Rattle.std.specs.Option.{option_map};
 ghost use Rattle.cps_text.specs.Text.{is_filled};
@@ -80,7 +80,7 @@ pub fn push_makers<V: View>(
     places: &[usize],
 ) -> Result<(), AllocError>
     ensures { OnOk result (text.new.items ≡ text.old.items
-        ++ told.maker_rows (V.assembly view.now).lines Maker.Nobody (map (maker_at makers.now address) places.now)) }
+        ++ told.made_rows (V.assembly view.now).lines (maker_at makers.now address) places.now) }
 {
     let mut last = Maker::Nobody;
     for place in places {

@@ -1,8 +1,8 @@
 //! The makers of all digits of a source.
-ghost use Rattle.std.specs.Prelude.{◌≡◌, ◌∷◌, [], ◌++◌, ◌+◌, ◌*◌, ◌<◌, ◌≤◌, ◌&&◌, ℕ, List, length, nat_le, nat_lt, slice_index_or, OnOk, if◌then◌else◌, vec_len};
+ghost use Rattle.std.specs.Prelude.{◌≡◌, ◌∷◌, [], ◌++◌, ◌+◌, ◌*◌, ◌<◌, ◌≤◌, ◌&&◌, ℕ, List, length, nat_le, nat_lt, OnOk, if◌then◌else◌, vec_len};
 ghost use Rattle.cps_code.specs.Image.{piece_of};
 ghost use Rattle.cps_compare.specs.Makers.{Signed, signed_by};
-ghost use Rattle.cps_compare.specs.Reading.{AreMade, maker_at};
+ghost use Rattle.cps_compare.specs.Reading.{AreMade, maker_at, slot_at};
 
 use super::maker::Maker;
 use super::octal_words::MOST_DIGITS;
@@ -67,7 +67,7 @@ impl Makers {
 /// Adds slots of nobody up to an end.
 fn make_room(slots: &mut Vec<Maker>, end: usize) -> Result<(), AllocError>
     ensures room { OnOk result (end ≤ vec_len slots.new) }
-    ensures same { (slot : ℕ) → slice_index_or slots.new.items slot Maker.Nobody ≡ slice_index_or slots.old.items slot Maker.Nobody }
+    ensures same { (slot : ℕ) → slot_at slots.new.items slot ≡ slot_at slots.old.items slot }
 {
     if slots.len() < end {
         slots.resize(end, Maker::Nobody)?;
@@ -93,8 +93,7 @@ fn mark_words(slots: &mut [Maker], maker: Maker, piece: Piece)
 fn mark_slots(slots: &mut [Maker], maker: Maker, from: usize, to: usize)
     requires ordered { from ≤ to }
     requires there { to ≤ length slots.old }
-    ensures { (slot : ℕ) → slice_index_or slots.new slot Maker.Nobody
-        ≡ (if nat_le from slot && nat_lt slot to then maker else slice_index_or slots.old slot Maker.Nobody) }
+    ensures { (slot : ℕ) → slot_at slots.new slot ≡ (if nat_le from slot && nat_lt slot to then maker else slot_at slots.old slot) }
 {
     for slot in from..to {
         slots[slot] = maker;

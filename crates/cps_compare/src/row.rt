@@ -1,8 +1,8 @@
 //! A row of an octal text: an address, and octal digits behind it.
-ghost use Rattle.std.specs.Prelude.{◌≡◌, ◌∷◌, [], ◌++◌, ◌<◌, ◌≤◌, ◌+◌, ◌^◌, true, length, IfOk, OnOk, IfSome, MatchOption, ◌&&◌, nat_lt};
+ghost use Rattle.std.specs.Prelude.{◌≡◌, ◌∷◌, ◌++◌, ◌<◌, ◌≤◌, ◌+◌, ◌^◌, true, length, IfOk, OnOk, IfSome, ◌&&◌, nat_lt};
 ghost use Rattle.std.specs.List.{position};
-ghost use Rattle.std.specs.Option.{option_map_or};
 ghost use Rattle.cps_compare.specs.Rows as rows;
+ghost use Rattle.cps_compare.specs.Reading.{parts_left, row_found};
 
 use super::limits::{Columns, columns_read};
 use std::alloc::AllocError;
@@ -31,9 +31,7 @@ pub fn read_row(
 
 /// The part of a row that is its address, and what stands behind it.
 fn address_in(row: &[u8]) -> Option<(&[u8], Option<&[u8]>)>
-    ensures row { MatchOption result (rows.row_from (rows.parts_of row.now) ≡ rows.unread_row)
-        (λ found. rows.row_from (rows.parts_of row.now)
-        ≡ rows.row_at found.0.now (rows.digits_in (option_map_or (λ rest. rows.parts_of rest.now) found.1 []))) }
+    ensures row { rows.row_from (rows.parts_of row.now) ≡ row_found result }
     ensures digits { IfSome result (λ found. rows.are_digits found.0.now ≡ true) }
 {
     let mut rest = Some(row);
@@ -49,8 +47,7 @@ fn address_in(row: &[u8]) -> Option<(&[u8], Option<&[u8]>)>
 
 /// Appends the digits of the parts of a text, up to the first part that has another byte.
 fn push_digits(digits: &mut Vec<u8>, text: Option<&[u8]>) -> Result<(), AllocError>
-    ensures { OnOk result (digits.new.items ≡ digits.old.items
-        ++ rows.digits_in (option_map_or (λ text. rows.parts_of text.now) text.entry [])) }
+    ensures { OnOk result (digits.new.items ≡ digits.old.items ++ rows.digits_in (parts_left text.entry)) }
 {
     let mut rest = text;
     while let Some(text) = rest {
@@ -66,7 +63,7 @@ fn push_digits(digits: &mut Vec<u8>, text: Option<&[u8]>) -> Result<(), AllocErr
 
 /// What stands before the first blank of a text, and what behind it.
 fn cut(text: &[u8]) -> (&[u8], Option<&[u8]>)
-    ensures parts { rows.parts_of text.now ≡ result.0.now ∷ option_map_or (λ rest. rows.parts_of rest.now) result.1 [] }
+    ensures parts { rows.parts_of text.now ≡ result.0.now ∷ parts_left result.1 }
     ensures shorter { IfSome result.1 (λ rest. length rest.now < length text.now) }
 {
     match blank_at(text) {

@@ -1,10 +1,7 @@
 //! An octal text and a source, side by side.
-ghost use Rattle.std.specs.Prelude.{◌≡◌, [], ◌++◌, ◌+◌, ◌<◌, ◌≤◌, ◌^◌, List, None, Some, true, length, map, IfOk, OnOk, if◌then◌else◌};
+ghost use Rattle.std.specs.Prelude.{◌≡◌, ◌++◌, ◌+◌, ◌<◌, ◌≤◌, ◌^◌, List, true, length, IfOk, OnOk};
 ghost use Rattle.cps_code.specs.Image.{Piece, ArePacked};
 ghost use Rattle.cps_compare.specs.Differences as differences;
-ghost use Rattle.cps_compare.specs.Differences.{has_digits};
-ghost use Rattle.cps_compare.specs.Reading.{digits_at, maker_at};
-ghost use Rattle.cps_compare.specs.Told as told;
 
 use super::deck::Deck;
 use super::difference::{differs, places, show_word};
@@ -26,7 +23,7 @@ pub struct Sides {
 }
 
 impl Sides {
-    ghost use Rattle.cps_compare.specs.Shown.{Counts, shown_sides};
+    ghost use Rattle.cps_compare.specs.Shown.{CountsAt, ForSides, Shows, TellsAll, TellsAt, kept_digit_rows};
 
     /// Tells the differences from one address to another.
     pub fn tell_all<V: View>(
@@ -37,10 +34,7 @@ impl Sides {
         high: u32,
     ) -> Result<Telling, AllocError>
         requires { high < 2 ^ 18 }
-        ensures { (pieces : List Piece) → ArePacked pieces self.now.deck.words
-            → let sides = shown_sides self.now pieces (V.assembly view.now).lines in
-            IfOk result (λ telling. (telling.text.items ≡ told.told_text sides low high)
-            × (telling.differing ≡ told.count_differing sides low high)) }
+        ensures { ForSides self.now (V.assembly view.now).lines (λ sides. IfOk result (TellsAll sides low high)) }
     {
         let mut telling = Telling::new(alloc);
         let mut shown = Vec::new(alloc);
@@ -60,13 +54,9 @@ impl Sides {
         telling: &mut Telling,
     ) -> Result<(), AllocError>
         requires few { telling.old.compared + telling.old.differing < 2 ^ 30 }
-        ensures text { (pieces : List Piece) → ArePacked pieces self.now.deck.words
-            → let sides = shown_sides self.now pieces (V.assembly view.now).lines in
-            OnOk result (telling.new.text.items ≡ telling.old.text.items ++ told.rows_at sides address) }
+        ensures text { ForSides self.now (V.assembly view.now).lines (λ sides. OnOk result (TellsAt sides address telling.old telling.new)) }
         ensures few { OnOk result (telling.new.compared + telling.new.differing ≤ telling.old.compared + telling.old.differing + 2) }
-        ensures counts { (pieces : List Piece) → ArePacked pieces self.now.deck.words
-            → OnOk result (Counts (digits_at self.now.words address) (differences.digits_in self.now.machine pieces address)
-            telling.old telling.new) }
+        ensures counts { ForSides self.now (V.assembly view.now).lines (λ sides. OnOk result (CountsAt sides address telling.old telling.new)) }
     {
         let digits = self.words.get(address);
         let stands = self.show(address, shown)?;
@@ -91,10 +81,8 @@ impl Sides {
         text: &mut Vec<u8>,
     ) -> Result<(), AllocError>
         requires { length word.now ≤ 20 }
-        ensures { let digits = digits_at self.now.words address in OnOk result (text.new.items ≡ text.old.items
-            ++ (if has_digits digits then told.caret_row (differences.places digits word.now) else [])
-            ++ told.maker_rows (V.assembly view.now).lines Maker.Nobody
-            (map (maker_at self.now.deck.makers address) (differences.places digits word.now))) }
+        ensures { OnOk result (text.new.items ≡ text.old.items
+            ++ kept_digit_rows self.now (V.assembly view.now).lines address word.now) }
     {
         let digits = self.words.get(address);
         let places = places(digits, word);
@@ -107,9 +95,7 @@ impl Sides {
     /// Whether a word stands at an address. Its digits are put in the place of what `shown` has.
     fn show(&self, address: u32, shown: &mut Vec<u8>) -> Result<bool, AllocError>
         ensures few { IfOk result (λ stands. stands ≡ true → length shown.new.items ≤ 20) }
-        ensures word { (pieces : List Piece) → ArePacked pieces self.now.deck.words
-            → IfOk result (λ stands. differences.digits_in self.now.machine pieces address
-            ≡ (if stands then Some shown.new.items else None)) }
+        ensures word { IfOk result (Shows self.now address shown.new.items) }
     {
         let Some(word) = self.word(address) else {
             return Ok(false);
