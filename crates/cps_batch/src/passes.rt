@@ -1,14 +1,11 @@
 //! The two passes of batch assembly over the lines of a source.
-ghost use Rattle.std.specs.Prelude.{◌≡◌, ℕ, List, [], ◌∷◌, ◌++◌, ◌+◌, ◌≤◌, ◌<◌, length, IfOk, IfSome, OnOk};
-ghost use Rattle.cps_state.specs.declared.item.Item.{Item};
-ghost use Rattle.cps_state.specs.Course.{Trace};
+ghost use Rattle.std.specs.Prelude.{◌≡◌, ℕ, List, [], ◌∷◌, ◌++◌, ◌+◌, ◌≤◌, ◌<◌, length, IfOk, OnOk};
 ghost use Rattle.cps_state.specs.Sheet.{statements_on};
-ghost use Rattle.cps_final.specs.Finals.{Gathers};
 ghost use Rattle.cps_list.specs.Making.{IsPrintoutOf, shows_symbols};
 ghost use Rattle.cps_list.specs.Texts.{text_of};
 ghost use Rattle.cps_assembly.specs.Assembly.{assembly_of, outcomes_under, traces_of};
 ghost use Rattle.cps_assembly.specs.Flagged.{flagged_lines};
-ghost use Rattle.cps_batch.specs.Passes.{AreParts, IsNext, IsPassed, IsShown, PassesOn, noted, statements_of};
+ghost use Rattle.cps_batch.specs.Passes.{AreGathered, AreKeptParts, AreParts, AreStatements, IsNext, IsPassed, IsShown, KeepsOn, PassesOn, ShowsOn, noted, statements_of};
 
 use cps_final::{Finals, Gather, Gathered, LineSymbols, Output};
 use cps_input::{LineText, part_at};
@@ -138,7 +135,7 @@ impl PassOne {
     /// What pass two shows of these lines.
     fn show(&self, alloc: Global, lines: &LineText) -> Result<Printout, AllocError>
         requires few { length lines.now ≤ MOST_LINES }
-        requires kept { IfSome self.now.ends (λ ends. AreParts ends.items (statements_on self.now.sheet) (statements_of (traces_of lines.now))) }
+        requires kept { AreKeptParts self.now.ends (statements_on self.now.sheet) (statements_of (traces_of lines.now)) }
         ensures printout { IfOk result (IsPrintoutOf lines.now (outcomes_under (⟦<Gather as Gathered>⟧.gathered self.now.gather) (traces_of lines.now))) }
         ensures part { IfOk result (λ printout. printout.part ≡ self.now.part) }
         ensures few { IfOk result (λ printout. printout.flagged ≤ MOST_LINES) }
@@ -187,8 +184,7 @@ fn keep(
     count: usize,
     sheet: &mut Sheet,
 ) -> Result<(), AllocError>
-    ensures { OnOk result ((parts : List (List Item)) → IfSome ends.old (λ ends. AreParts ends.items sheet.old.before parts)
-        → IfSome ends.new (λ ends. AreParts ends.items (statements_on sheet.new) (parts ++ sheet.old.line.items ∷ []))) }
+    ensures { OnOk result (KeepsOn ends.old ends.new sheet.old sheet.new) }
 {
     if count > MOST_KEPT {
         *ends = None;
@@ -209,8 +205,7 @@ fn step_next(
     gather: &Gather,
     line: &[u8],
 ) -> Result<(), AllocError>
-    ensures { OnOk result ((before : List (List ℕ)) → Gathers (⟦<Gather as Gathered>⟧.gathered gather.now) (traces_of before)
-        → IsNext before line.now (statements_on sheet.old) sheet.new) }
+    ensures { OnOk result ((before : List (List ℕ)) → AreGathered before gather.now → IsNext before line.now (statements_on sheet.old) sheet.new) }
 {
     step_unasked(alloc, &mut Work::new(), sheet, line, gather.state())
 }
@@ -260,8 +255,7 @@ impl<'a> PassTwo<'a> {
     /// Adds the next line, which stands for these statements.
     fn add(&mut self, number: u32, line: &[u8], items: &[Item]) -> Result<(), AllocError>
         requires { self.old.printout.flagged < number }
-        ensures shown { OnOk result ((lines : List (List ℕ)) (trace : Trace) → IsShown lines self.old → number ≡ length lines + 1 → items.now ≡ trace.items
-            → traces_of (lines ++ line.now ∷ []) ≡ traces_of lines ++ trace ∷ [] → IsShown (lines ++ line.now ∷ []) self.new) }
+        ensures shown { OnOk result ((lines : List (List ℕ)) → AreStatements lines line.now items.now → ShowsOn lines line.now number self.old self.new) }
         ensures finals { OnOk result (self.new.finals.now ≡ self.old.finals.now) }
         ensures part { OnOk result (self.new.printout.part ≡ self.old.printout.part) }
         ensures few { OnOk result (self.new.printout.flagged ≤ number) }
@@ -340,7 +334,7 @@ impl Drop for Again<'_> {
 impl<'a> Again<'a> {
     /// Of no line.
     fn new(alloc: Global, part: Part, finals: &'a Finals) -> Again<'a>
-        ensures gathered { Gathers (⟦<Gather as Gathered>⟧.gathered result.gather) (traces_of []) }
+        ensures gathered { AreGathered [] result.gather }
         ensures none { IsShown [] result.two }
         ensures finals { result.two.finals.now ≡ finals.now }
         ensures part { result.two.printout.part ≡ part }
@@ -356,10 +350,9 @@ impl<'a> Again<'a> {
     /// Takes the next line.
     fn take_line(&mut self, alloc: Global, number: u32, line: &[u8]) -> Result<(), AllocError>
         requires { self.old.two.printout.flagged < number }
-        ensures gathered { OnOk result ((lines : List (List ℕ)) → Gathers (⟦<Gather as Gathered>⟧.gathered self.old.gather) (traces_of lines)
-            → Gathers (⟦<Gather as Gathered>⟧.gathered self.new.gather) (traces_of (lines ++ line.now ∷ []))) }
-        ensures shown { OnOk result ((lines : List (List ℕ)) → Gathers (⟦<Gather as Gathered>⟧.gathered self.old.gather) (traces_of lines)
-            → IsShown lines self.old.two → number ≡ length lines + 1 → IsShown (lines ++ line.now ∷ []) self.new.two) }
+        ensures gathered { OnOk result ((lines : List (List ℕ)) → AreGathered lines self.old.gather → AreGathered (lines ++ line.now ∷ []) self.new.gather) }
+        ensures shown { OnOk result ((lines : List (List ℕ)) → AreGathered lines self.old.gather
+            → ShowsOn lines line.now number self.old.two self.new.two) }
         ensures finals { OnOk result (self.new.two.finals.now ≡ self.old.two.finals.now) }
         ensures part { OnOk result (self.new.two.printout.part ≡ self.old.two.printout.part) }
         ensures few { OnOk result (self.new.two.printout.flagged ≤ number) }

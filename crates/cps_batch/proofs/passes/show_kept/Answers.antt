@@ -26,7 +26,7 @@ loop-before-preserved c =
     let added = c.in_ok-add.ensures in
     record {
       shown = two-more c.add.new.self lines i line within is
-          (added.shown (take i lines) here.0 c.loop-before.invariant.shown (number-taken lines i within) here.2 here.1);
+          (added.shown (take i lines) here c.loop-before.invariant.shown (number-taken lines i within));
       finals = added.finals ∙ c.loop-before.invariant.finals;
       part = added.part ∙ c.loop-before.invariant.part;
       few = added.few;

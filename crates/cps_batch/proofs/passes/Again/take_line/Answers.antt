@@ -13,4 +13,4 @@ pub returns-clause-shown : goal.returns-clause-shown
 returns-clause-shown c = λ lines gathers so at.
     let next = c.in_ok-step_next.ensures lines gathers in
     let items = c.items.ensures ∙ ap (λ (sheet : Sheet). sheet.line.items) c.in_ok-take.ensures.sheet ∙ ap (λ (t : Trace). t.items) next.stands.line in
-    c.in_ok-add.ensures.shown lines next.trace so at items next.traces
+    c.in_ok-add.ensures.shown lines (next.trace, next.traces, items) so at
