@@ -1,5 +1,6 @@
 pub mod EditReplies
 pub mod Command
+pub mod NoCommand
 pub mod Reply
 pub mod Written
 pub mod Script

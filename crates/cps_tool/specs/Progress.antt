@@ -1,15 +1,20 @@
 -- For the loop over a script's bytes, not part of what a reader believes: how far a script has come.
-use Rattle.std.specs.Prelude.{◌≡◌, ℕ, true, false, List, [], ◌++◌, map, Option, Result, MatchResult}
+use Rattle.std.specs.Prelude.{◌≡◌, ℕ, true, false, List, [], ◌++◌, map, Option, Result, MatchOption, MatchResult}
 use Rattle.std.specs.List.{list_all}
 use Rattle.std.specs.Io.KnownBytes.{Appends}
+use Rattle.cps_text.specs.declared.counted.Counted.{Counted}
+use Rattle.cps_text.specs.Counted.{inner_of}
+use Rattle.cps_session.specs.Edits.{Source}
+use Rattle.cps_tool.specs.declared.reply.Reply.{Reply}
+use Rattle.cps_tool.specs.declared.script.Interpreter.{Interpreter}
 use Rattle.cps_tool.specs.declared.script.Flow.{Flow}
 use Rattle.cps_tool.specs.declared.script.Flow.TheVariants.{GoesOn, Ends}
 use Rattle.cps_tool.specs.declared.writing.RunFault.{RunFault}
 use Rattle.cps_input.specs.declared.begun_line.BegunLine.{BegunLine}
 use Rattle.cps_input.specs.Lines.{Splits, without_return}
-use Rattle.cps_tool.specs.EditReplies.{Standing}
+use Rattle.cps_tool.specs.EditReplies.{Standing, at}
 use Rattle.cps_tool.specs.Command.{is_quit}
-use Rattle.cps_tool.specs.Reply.{Response, reply_text}
+use Rattle.cps_tool.specs.Reply.{Response, meaning_of, reply_text}
 use Rattle.cps_tool.specs.Script.{IsAnswered, Run, Script, FrontOfScript, IsInputEnd, HasQuit, goes_on}
 use Rattle.cps_tool.specs.Written.{AppendsFront}
 use Rattle.cps_input.specs.BegunLine.{IsBegun}
@@ -18,6 +23,16 @@ use Rattle.cps_input.specs.BegunLine.{IsBegun}
 abbrev pub MatchFlow : Flow → Type 0 → Type 0 → Type 0
 MatchFlow GoesOn on ended = on
 MatchFlow Ends on ended = ended
+
+-- A command line was obeyed: to the one that ends the script there is no reply, and nothing is changed; any other was answered by this reply.
+abbrev pub ObeysLine : Standing → List ℕ → Option Reply → Standing → Type 0
+ObeysLine old line reply new = MatchOption reply
+    ((is_quit line ≡ true) × (new ≡ old))
+    (λ reply. (is_quit line ≡ false) × IsAnswered old line (meaning_of reply) new)
+
+-- the same of a line as it was collected
+abbrev pub ObeysBegun : Standing → BegunLine → Option Reply → Standing → Type 0
+ObeysBegun old line reply new = (begun : List ℕ) → IsBegun line begun → ObeysLine old (without_return begun) reply new
 
 -- a command line that does not end the script was answered, and its reply written
 abbrev pub IsReplied : List ℕ → Standing → Standing → Option (List ℕ) → Option (List ℕ) → Type 0
@@ -44,6 +59,11 @@ abbrev pub AnswersBegun : Result Flow RunFault → BegunLine → Standing → St
 AnswersBegun result line old new before after =
     (begun : List ℕ) → IsBegun line begun → Answers result (without_return begun) old new before after
 
+-- the same, by what a counted writer took
+abbrev pub AnswersLine : {W : Type 0} → (W → Option (List ℕ)) → Result Flow RunFault → BegunLine → Standing → Standing → Counted W → Counted W → Type 0
+AnswersLine contents result line old new writer writer' =
+    AnswersBegun result line old new (contents (inner_of writer)) (contents (inner_of writer'))
+
 -- From where a script began, the lines that end in the bytes taken were answered by a text. A last line has begun.
 pub record Progress (start : Standing) (taken : List ℕ) (line : BegunLine) (text : List ℕ) (now : Standing) : Type 0 where
   pub lines : List (List ℕ)
@@ -64,6 +84,13 @@ Takes result old_line new_line old new before after bytes =
     (λ _. (added unsaid : List ℕ) × Appends before after added
     × ((more last : List ℕ) (left : Option (List ℕ)) → FrontOfScript start (taken ++ bytes ++ more) last left (text ++ added) unsaid new))
 
+-- the same of what obeys a script, by its session and its writer
+abbrev pub TakesBytes : {W : Type 0} → (W → Option (List ℕ)) → Result Flow RunFault → Interpreter → Interpreter → Source → Source
+    → Counted W → Counted W → List ℕ → Type 0
+TakesBytes contents result old new session session' writer writer' bytes =
+    Takes result old.line new.line (at session.lines old.work) (at session'.lines new.work)
+    (contents (inner_of writer)) (contents (inner_of writer')) bytes
+
 -- What the end of the bytes comes to: the line that has begun is answered as well.
 abbrev pub Finishes : Result (Unit {0}) RunFault → BegunLine → Standing → Standing → Option (List ℕ) → Option (List ℕ) → Type 0
 Finishes result line old new before after =
@@ -71,3 +98,9 @@ Finishes result line old new before after =
     (λ _. (added : List ℕ) × Appends before after added × Script start taken (text ++ added) new)
     (λ _. (added unsaid : List ℕ) × Appends before after added
     × ((last : List ℕ) (left : Option (List ℕ)) → IsInputEnd last left → FrontOfScript start taken last left (text ++ added) unsaid new))
+
+-- the same of what obeys a script, by its session and its writer
+abbrev pub TakesEnd : {W : Type 0} → (W → Option (List ℕ)) → Result (Unit {0}) RunFault → Interpreter → Interpreter → Source → Source
+    → Counted W → Counted W → Type 0
+TakesEnd contents result old new session session' writer writer' =
+    Finishes result old.line (at session.lines old.work) (at session'.lines new.work) (contents (inner_of writer)) (contents (inner_of writer'))

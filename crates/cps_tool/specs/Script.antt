@@ -1,5 +1,5 @@
 -- What a script writes, and the source after it. Our own.
-use Rattle.std.specs.Prelude.{◌≡◌, ℕ, Bool, true, false, not, List, [], ◌∷◌, ◌++◌, map, length, ◌⊎◌, Option, Result, Ok, Err, if◌then◌else◌}
+use Rattle.std.specs.Prelude.{◌≡◌, ℕ, Bool, true, false, not, List, [], ◌∷◌, ◌++◌, map, length, ◌⊎◌, Option, IfSome, Result, Ok, Err, if◌then◌else◌}
 use Rattle.std.specs.List.{list_all}
 use Rattle.std.specs.Io.KnownBytes.{Consumes, IsAtEnd}
 use Rattle.cps_text.specs.declared.counted.Counted.{Counted}
@@ -152,6 +152,12 @@ pub record RanToEnd {R W : Type 0} (remaining : R → Option (List ℕ)) (conten
   pub flagged : count ≡ flagged_lines new
   pub read_unfailed : failures_of reader' ≡ failures_of reader
   pub write_unfailed : failures_of writer' ≡ failures_of writer
+
+-- A script was run as a whole: where all bytes that were to come are known, what was written is a text that they may write.
+abbrev pub RanWhole : {R W : Type 0} → (R → Option (List ℕ)) → (W → Option (List ℕ)) → List (List ℕ) → List (List ℕ) → Counted R → Counted W → Counted W → Type 0
+RanWhole remaining contents old new reader writer writer' =
+    (work : Counts) × IfSome (remaining (inner_of reader)) (λ input.
+    (text : List ℕ) × Script (beginning old) input text (at new work) × IsWritten contents writer writer' text)
 
 -- Reading ended before the script did. What was written is a text of the lines that a newline ended.
 pub record StoppedAtRead {R W : Type 0} (remaining : R → Option (List ℕ)) (contents : W → Option (List ℕ)) (old new : List (List ℕ)) (reader reader' : Counted R) (writer writer' : Counted W) : Type 0 where

@@ -2,6 +2,7 @@
 ghost use Rattle.std.specs.Prelude.{◌≡◌, ℕ, ◌<◌, ◌≤◌, List, false, length, IfOk, IfSome, IfNone, MatchResult, MatchOption};
 ghost use Rattle.std.specs.List.{before_first, after_first, position_from};
 ghost use Rattle.cps_tool.specs.Command.{Order, append, insert, replace, delete, move, list, binary, symbols, flags, work, Spells, IsNumber, IsNumbered, IsPair, IsRange, IsMove, is_quit, is_quit_order, order_of};
+ghost use Rattle.cps_tool.specs.NoCommand.{IsUnnumbered, IsNoMove};
 ghost use Rattle.cps_text.specs.Text.{is_blank};
 
 use cps_text::limits::MOST_COMMAND_BYTES;
@@ -137,9 +138,7 @@ fn read_edit(line: &[u8]) -> Option<Command<'_>>
 
 /// A number of 1 to 5 digits, and the text behind the blank that follows it.
 fn read_numbered(bytes: &[u8]) -> Option<(u32, &[u8])>
-    ensures { MatchOption result
-        ((number : ℕ) (text : List ℕ) → IsNumbered bytes.now number text → ⊥)
-        (λ numbered. IsNumbered bytes.now numbered.0 numbered.1.now) }
+    ensures { MatchOption result (IsUnnumbered bytes.now) (λ numbered. IsNumbered bytes.now numbered.0 numbered.1.now) }
 {
     let (digits, text) = split_at_blank(bytes);
     let number = read_number(digits)?;
@@ -161,9 +160,7 @@ fn read_range(bytes: &[u8]) -> Option<(u32, u32)>
 
 /// The numbers of the first and the last of some lines, and of the line that they go after, with a blank between two of them.
 fn read_move(bytes: &[u8]) -> Option<(u32, u32, u32)>
-    ensures { MatchOption result
-        ((first last after : ℕ) → IsMove bytes.now first last after → ⊥)
-        (λ numbers. IsMove bytes.now numbers.0 numbers.1 numbers.2) }
+    ensures { MatchOption result (IsNoMove bytes.now) (λ numbers. IsMove bytes.now numbers.0 numbers.1 numbers.2) }
 {
     let (digits, more) = split_at_blank(bytes);
     let first = read_number(digits)?;

@@ -1,6 +1,6 @@
 //! A comparison of an octal text with a source, of which one at least is a file.
-ghost use Rattle.std.specs.Prelude.{◌≡◌, IfSome, option_map};
-ghost use Rattle.clap.specs.Words.{Text};
+ghost use Rattle.std.specs.Prelude.{◌≡◌, IfSome};
+ghost use Rattle.cps_output.specs.Outputs.{name_of};
 ghost use Rattle.cps_tool.specs.Files.{AreFiles, ComparesFiles};
 
 use super::host::Host;
@@ -30,7 +30,7 @@ pub fn open_files<'a, S: Sources, E: Write>(
     source: Option<&'a str>,
     errors: &mut Counted<E>,
 ) -> Option<Files<S::Opened>>
-    ensures files { IfSome result (AreFiles (S.holds sources.now) S.Opened.remaining (option_map (λ name. name.now) octal.entry) (option_map (λ name. name.now) source.entry)) }
+    ensures files { IfSome result (AreFiles (S.holds sources.now) S.Opened.remaining (name_of octal.entry) (name_of source.entry)) }
     ensures quiet { IfSome result (λ _. errors.new ≡ errors.old) }
 {
     match (octal, source) {

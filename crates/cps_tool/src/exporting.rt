@@ -1,7 +1,7 @@
 //! A source, written into files.
 ghost use Rattle.std.specs.Prelude.{◌≡◌};
-ghost use Rattle.cps_output.specs.Export.{wanted_of};
-ghost use Rattle.cps_tool.specs.CommandLine.{Exported, IsQuiet};
+ghost use Rattle.cps_tool.specs.Calling.{DoesExport};
+ghost use Rattle.cps_tool.specs.CommandLine.{IsQuiet};
 
 use super::host::Host;
 use super::telling::{NO_MEMORY, complain, status_of_count};
@@ -19,7 +19,7 @@ pub fn run_export<'a, S: Targets, R: Read, W: Write, E: Write>(
     writer: &mut Counted<W>,
     errors: &mut Counted<E>,
 ) -> u8
-    ensures exported { Exported S.placed R.remaining W.contents (wanted_of export.entry) result
+    ensures exported { DoesExport S.placed R.remaining W.contents export.entry result
         host.old.files host.new.files reader.old reader.new writer.old writer.new }
     ensures waiting { S.waiting host.new.files ≡ S.waiting host.old.files }
     ensures quiet { IsQuiet result errors.old errors.new }

@@ -1,12 +1,11 @@
 //! Obeying the commands of a script, and writing the replies.
-ghost use Rattle.std.specs.Prelude.{◌≡◌, ◌++◌, false, true, MatchOption, MatchResult, OnOk, OnErr, IsErrOf, codes, decimal};
-ghost use Rattle.cps_tool.specs.Command.{is_quit};
+ghost use Rattle.std.specs.Prelude.{◌≡◌, ◌++◌, MatchOption, MatchResult, OnOk, OnErr, IsErrOf, codes, decimal};
 ghost use Rattle.cps_text.specs.Counted.{failures_of, FailsOnce};
 ghost use Rattle.cps_text.specs.Line.{IsLine};
 ghost use Rattle.cps_tool.specs.EditReplies.{IsNoLine, Inserted, Replaced, Deleted, Moved, at};
 ghost use Rattle.cps_tool.specs.Reply.{meaning_of, shown, refused, worked, refusal_of, reply_text, refusal_text};
 ghost use Rattle.cps_tool.specs.declared.reply.Refusal.TheVariants.{NoMemory};
-ghost use Rattle.cps_tool.specs.Script.{IsAnswered};
+ghost use Rattle.cps_tool.specs.Progress.{ObeysLine};
 ghost use Rattle.cps_tool.specs.Written.{IsWritten, IsFrontWritten};
 
 use super::command::Command;
@@ -23,9 +22,7 @@ use std::io::Write;
 
 /// The reply to a line of a script, None to the one that ends it.
 pub fn obey(alloc: Global, line: &[u8], session: &mut Session, work: &mut Work) -> Option<Reply>
-    ensures { MatchOption result
-        ((is_quit line.now ≡ true) × (at session.new.lines work.new ≡ at session.old.lines work.old))
-        (λ reply. (is_quit line.now ≡ false) × IsAnswered (at session.old.lines work.old) line.now (meaning_of reply) (at session.new.lines work.new)) }
+    ensures { ObeysLine (at session.old.lines work.old) line.now result (at session.new.lines work.new) }
 {
     match Command::read(line) {
         Err(_) => Some(Reply::Refused(Refusal::BadCommand)),

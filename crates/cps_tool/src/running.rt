@@ -1,9 +1,8 @@
 //! What is asked of one input, done with it.
 ghost use Rattle.std.specs.Prelude.{◌≡◌, ◌⊎◌, ℕ, List, None};
-ghost use Rattle.cps_output.specs.Outputs.{name_of};
-ghost use Rattle.cps_tool.specs.CommandLine.{Calls, ChecksAs, Explains, IsIdle, IsQuiet, IsUndone, TellsText};
+ghost use Rattle.cps_tool.specs.Calling.{DoesRequest, UndoneOr};
+ghost use Rattle.cps_tool.specs.CommandLine.{Calls, ChecksAs, Explains, IsIdle, IsQuiet, TellsText};
 ghost use Rattle.cps_words.specs.Task as tasks;
-ghost use Rattle.cps_words.specs.Task.{task_of};
 
 use super::host::Host;
 use super::sessions::run_script_over;
@@ -33,7 +32,7 @@ pub fn run_request<'a, S, R: Read, W: Write, E: Write>(
     writer: &mut Counted<W>,
     errors: &mut Counted<E>,
 ) -> u8
-    ensures calls { IsUndone result reader.old reader.new writer.old writer.new ⊎ Calls R.remaining W.contents (task_of call.entry.request) (name_of call.entry.file) result reader.old reader.new writer.old writer.new }
+    ensures calls { UndoneOr (DoesRequest R.remaining W.contents call.entry) result reader.old reader.new writer.old writer.new }
     ensures quiet { IsQuiet result errors.old errors.new }
 {
     match call.request {

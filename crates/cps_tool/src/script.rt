@@ -1,15 +1,11 @@
 //! Running a script.
-ghost use Rattle.std.specs.Prelude.{◌≡◌, ℕ, List, [], false, true, OnOk, OnErr, IfSome, IsErrOf, MatchOption, ◌≤◌, ◌+◌};
-ghost use Rattle.cps_tool.specs.Command.{is_quit};
-ghost use Rattle.cps_text.specs.Counted.{inner_of, calls_of, failures_of, FailsOnce};
-ghost use Rattle.cps_state.specs.Work.{Counts, no_work};
+ghost use Rattle.std.specs.Prelude.{◌≡◌, [], OnOk, OnErr, IsErrOf, ◌≤◌, ◌+◌};
+ghost use Rattle.cps_text.specs.Counted.{calls_of, failures_of, FailsOnce};
+ghost use Rattle.cps_state.specs.Work.{no_work};
 ghost use Rattle.cps_input.specs.BegunLine.{IsBegun};
-ghost use Rattle.cps_input.specs.Lines.{without_return};
-ghost use Rattle.cps_tool.specs.EditReplies.{at, beginning};
-ghost use Rattle.cps_tool.specs.Progress.{AnswersBegun, Takes, Finishes};
-ghost use Rattle.cps_tool.specs.Reply.{meaning_of};
-ghost use Rattle.cps_tool.specs.Script.{Script, RunsScript, IsAnswered};
-ghost use Rattle.cps_tool.specs.Written.{IsWritten};
+ghost use Rattle.cps_tool.specs.EditReplies.{at};
+ghost use Rattle.cps_tool.specs.Progress.{AnswersLine, ObeysBegun, TakesBytes, TakesEnd};
+ghost use Rattle.cps_tool.specs.Script.{RanWhole, RunsScript};
 
 use super::reply::{Refusal, Reply};
 use super::replying::{obey, write_reply};
@@ -42,9 +38,7 @@ pub fn run_script<R: Read, W: Write>(
     session: &mut Session,
 ) -> Result<u32, RunFault>
     ensures run { RunsScript R.remaining W.contents session.old.lines session.new.lines result reader.old reader.new writer.old writer.new }
-    ensures whole_input { OnOk result ((work : Counts) × IfSome (R.remaining (inner_of reader.old)) (λ input. (text : List ℕ)
-        × Script (beginning session.old.lines) input text (at session.new.lines work)
-        × IsWritten W.contents writer.old writer.new text)) }
+    ensures whole_input { OnOk result (RanWhole R.remaining W.contents session.old.lines session.new.lines reader.old writer.old writer.new) }
     ensures reads { calls_of reader.new ≤ calls_of reader.old + MOST_READS }
 {
     let mut interpreter = Interpreter::new(alloc);
@@ -96,8 +90,7 @@ impl Interpreter {
         writer: &mut Counted<W>,
         session: &mut Session,
     ) -> Result<Flow, RunFault>
-        ensures takes { Takes result self.old.line self.new.line (at session.old.lines self.old.work) (at session.new.lines self.new.work)
-            (W.contents (inner_of writer.old)) (W.contents (inner_of writer.new)) bytes.now }
+        ensures takes { TakesBytes W.contents result self.old self.new session.old session.new writer.old writer.new bytes.now }
         ensures fault { IsErrOf result RunFault.ReadFault → ⊥ }
         ensures failed { OnErr result (FailsOnce writer.old writer.new) }
         ensures failures { OnOk result (failures_of writer.new ≡ failures_of writer.old) }
@@ -122,8 +115,7 @@ impl Interpreter {
         writer: &mut Counted<W>,
         session: &mut Session,
     ) -> Result<(), RunFault>
-        ensures finishes { Finishes result self.old.line (at session.old.lines self.old.work) (at session.new.lines self.new.work)
-            (W.contents (inner_of writer.old)) (W.contents (inner_of writer.new)) }
+        ensures finishes { TakesEnd W.contents result self.old self.new session.old session.new writer.old writer.new }
         ensures fault { IsErrOf result RunFault.ReadFault → ⊥ }
         ensures failed { OnErr result (FailsOnce writer.old writer.new) }
         ensures failures { OnOk result (failures_of writer.new ≡ failures_of writer.old) }
@@ -146,8 +138,8 @@ fn answer_line<W: Write>(
     session: &mut Session,
     work: &mut Work,
 ) -> Result<Flow, RunFault>
-    ensures answer { AnswersBegun result line.now (at session.old.lines work.old) (at session.new.lines work.new)
-        (W.contents (inner_of writer.old)) (W.contents (inner_of writer.new)) }
+    ensures answer { AnswersLine W.contents result line.now (at session.old.lines work.old) (at session.new.lines work.new)
+        writer.old writer.new }
     ensures fault { IsErrOf result RunFault.ReadFault → ⊥ }
     ensures failed { OnErr result (FailsOnce writer.old writer.new) }
     ensures failures { OnOk result (failures_of writer.new ≡ failures_of writer.old) }
@@ -166,9 +158,7 @@ fn reply_to(
     session: &mut Session,
     work: &mut Work,
 ) -> Option<Reply>
-    ensures { (begun : List ℕ) → IsBegun line.now begun → MatchOption result
-        ((is_quit (without_return begun) ≡ true) × (at session.new.lines work.new ≡ at session.old.lines work.old))
-        (λ reply. (is_quit (without_return begun) ≡ false) × IsAnswered (at session.old.lines work.old) (without_return begun) (meaning_of reply) (at session.new.lines work.new)) }
+    ensures { ObeysBegun (at session.old.lines work.old) line.now result (at session.new.lines work.new) }
 {
     match line.text() {
         None => Some(Reply::Refused(Refusal::BadCommand)),

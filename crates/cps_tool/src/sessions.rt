@@ -1,6 +1,7 @@
 //! A session, with the lines that it begins with.
-ghost use Rattle.std.specs.Prelude.{◌⊎◌, length, ◌≤◌};
-ghost use Rattle.cps_tool.specs.CommandLine.{EditsFile, IsQuiet, IsUndone, RunsFrom, WithFile};
+ghost use Rattle.std.specs.Prelude.{length, ◌≤◌};
+ghost use Rattle.cps_tool.specs.Calling.{DoesSession, UndoneOr};
+ghost use Rattle.cps_tool.specs.CommandLine.{IsQuiet, RunsFrom};
 
 use super::host::Host;
 use super::script::run_script;
@@ -23,8 +24,8 @@ pub fn run_session_from<S: Sources, R: Read, W: Write, E: Write>(
     writer: &mut Counted<W>,
     errors: &mut Counted<E>,
 ) -> u8
-    ensures runs { IsUndone result reader.old reader.new writer.old writer.new ⊎ WithFile (S.holds host.now.files name.now) S.Opened.remaining
-        (λ file file'. EditsFile S.Opened.remaining R.remaining W.contents result file file' reader.old reader.new writer.old writer.new) }
+    ensures runs { DoesSession (S.holds host.now.files) S.Opened.remaining R.remaining W.contents name.now result
+        reader.old reader.new writer.old writer.new }
     ensures quiet { IsQuiet result errors.old errors.new }
 {
     match open_input(host.alloc, &host.files, name, errors) {
@@ -48,7 +49,7 @@ fn run_session_of<S, R: Read, W: Write, E: Write>(
     errors: &mut Counted<E>,
 ) -> u8
     requires { length lines.items ≤ MOST_LINES }
-    ensures runs { IsUndone result reader.old reader.new writer.old writer.new ⊎ RunsFrom R.remaining W.contents lines.items result reader.old reader.new writer.old writer.new }
+    ensures runs { UndoneOr (RunsFrom R.remaining W.contents lines.items) result reader.old reader.new writer.old writer.new }
     ensures quiet { IsQuiet result errors.old errors.new }
 {
     match Session::enter(host.alloc, host.hashing, lines, &mut Work::new()) {
