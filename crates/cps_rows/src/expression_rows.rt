@@ -115,6 +115,32 @@ fn tells_undefined_names(rt: HostRuntime) {
     assert_same(&rt, "defined", &got, &(Some(Value::plain(20)), false));
 }
 
+/// The value that a text has as a number alone.
+fn number_alone(alloc: Global, text: &[u8]) -> Result<Option<i64>, ExprFault> {
+    match read(alloc, text, Radix::Decimal)?.constant() {
+        Some(value) => Ok(Some(value.offset)),
+        None => Ok(None),
+    }
+}
+
+#[test]
+fn tells_numbers_alone(rt: HostRuntime) {
+    const ROWS: [(&[u8], Option<i64>); 9] = [
+        (b"60", Some(60)),
+        (b"0", Some(0)),
+        (b"17B", Some(15)),
+        (b"576460752303423487", Some(GREATEST)),
+        (b"-1", None),
+        (b"1+1", None),
+        (b"2*3", None),
+        (b"*", None),
+        (b"A", None),
+    ];
+    for (at, (text, want)) in ROWS.iter().enumerate() {
+        assert_row(&rt, at, &number_alone(rt.alloc(), text), &Ok(*want));
+    }
+}
+
 #[test]
 fn tells_a_counter(rt: HostRuntime) {
     let counted = read(rt.alloc(), b"2*3**", Radix::Decimal).expect(&rt, "an expression");
