@@ -145,6 +145,14 @@ impl PpForm {
         self.holes.as_slice()
     }
 
+    /// Whether a forcing is pending after the statement: never, since each statement of a peripheral processor begins a word.
+    pub fn forces_after(&self) -> bool
+        ensures { result ≡ self.now.forces_after }
+    {
+        let _bits = self.bits;
+        false
+    }
+
     /// The code with these numbers in its holes, one for each hole: for a target the distance to it.
     pub fn fill(&self, numbers: &[i64]) -> Filled
         requires one_each { length numbers.now ≡ length self.now.holes }

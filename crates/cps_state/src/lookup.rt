@@ -5,6 +5,9 @@ use crate::hashing::Hashing;
 use crate::key::{Answer, Key};
 
 /// What answers the keys that a line asks.
+///
+/// A caller's own lookup has `ask`, whose answers its ghost `answer` names, and `hashing`: the number by which its state hashes serves, as
+/// `State::hashing` gives it. What a line does hangs on the answers alone, and on no number.
 pub trait Lookup {
     ghost use Rattle.std.specs.Prelude.{◌≡◌, Option};
     ghost use Rattle.std.specs.Option.{option_copied};
