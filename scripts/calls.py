@@ -58,6 +58,16 @@ def session(script, replies, status=0):
     return ["session"], script, status, replies, b""
 
 
+def entering(*lines):
+    """Commands that enter lines after the last one."""
+    return b"".join(b"a %s\n" % it for it in lines)
+
+
+def words_up_to(row):
+    """A binary text with this last row, and a word of four NO at each address before it."""
+    return NO_WORD + b"".join(b"%06o 46000460004600046000\n" % it for it in range(int(row[:6], 8))) + row
+
+
 # each text of a program, and all
 TEXTS = [
     part("listing", PROGRAM, LISTING),
@@ -102,6 +112,7 @@ WRONG_LINES = [
     wrong(b"\n" * 99_999 + b"A", b"too many lines\n"),
     wrong(b"\n" * 100_000 + b"~", b"too many lines\n"),
     wrong(b"\n" * 99_999 + b"~", b"line 100000: bad character\n"),
+    wrong(b"\n" * 99_999 + b"X" * 91, b"line 100000: line too long\n"),
     part("flags", b"*" * 90, FLAGS),
     part("flags", b"*" * 90 + b"\r", FLAGS),
     wrong(b"*" * 91, b"line 1: line too long\n", "--part", "flags"),
@@ -150,6 +161,26 @@ LIMITS = [
     session(b"a\n" * 10_000 + b"a          CON     1\na          CON     2\nm 1 10000 10001\nwork\nbinary\nm 2 10001 0\nwork\nd 1 10000\nwork\n",
             entered(10_002) + b"ok 10002 lines\nones 10000 twos 10000\nIDENT\n000000 00000000000000000001\n000001 00000000000000000002\n"
             b"ok 10002 lines\nones 10000 twos 10000\nok 2 lines\nones 0 twos 0\n"),
+]
+
+# A thousand times two instructions of 15 bits, and three; then a macro that repeats the call of another one, whose statements are 1,999 and
+# 2,001: DUP, the call in it and ENDD, and each call with its line.
+NOTHING, DUP, ENDM = b"         NO", b"         DUP     1000", b"         ENDM"
+BOMB = [b"N        MACRO", NOTHING, ENDM, b"M        MACRO", b"         DUP     998", b"         N", b"         ENDD", ENDM, b"         M"]
+REPEATED = [
+    session(entering(DUP, NOTHING, NOTHING, b"         ENDD") + b"flags\nbinary\n",
+            entered(4) + FLAGS + words_up_to(b"000763 46000460004600046000\n")),
+    session(entering(DUP, NOTHING, NOTHING, NOTHING, b"         ENDD") + b"flags\nbinary\n",
+            entered(5) + FLAGS + words_up_to(b"001355 46000460004600046000\n")),
+    session(entering(*BOMB) + b"flags\nbinary\nr 5          DUP     999\nflags\nbinary\n",
+            entered(9) + FLAGS + words_up_to(b"000371 46000460000000000000\n")
+            + b"ok 9 lines\n" + FLAGS + words_up_to(b"000371 46000460004600000000\n")),
+]
+
+# among 5,000 lines a comment takes the place of another, and goes elsewhere
+MANY = [
+    session(entering(*[b"         CON     1"] * 2_499, b"* ONE", *[b"         CON     1"] * 2_500) + b"r 2500 * TWO\nwork\nm 2500 2500 10\nwork\n",
+            entered(5_000) + b"ok 5000 lines\nones 1 twos 1\nok 5000 lines\nones 0 twos 0\n"),
 ]
 
 # a source in a file, and files that can't be opened
@@ -224,7 +255,7 @@ WORDS = [
     refused(["session", "name"], b"unexpected argument 'name' found\n\nUsage: compass session [OPTIONS]"),
 ]
 
-CALLS = TEXTS + LONG + LINES + WRONG_LINES + SCRIPTS + LIMITS + FILES + SOURCES + EXPLAINED + EDITORS + WORDS
+CALLS = TEXTS + LONG + LINES + WRONG_LINES + SCRIPTS + LIMITS + REPEATED + MANY + FILES + SOURCES + EXPLAINED + EDITORS + WORDS
 
 # words that ask for help or the version, and what is written among other lines, none of which has more than 80 columns
 HELPS = [
