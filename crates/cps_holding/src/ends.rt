@@ -52,7 +52,8 @@ impl<'a> Ends<'a> {
     }
 }
 
-fn is_same(a: Option<Value>, b: Option<Value>) -> bool
+/// Whether two values are the same, or neither is there.
+pub(crate) fn is_same(a: Option<Value>, b: Option<Value>) -> bool
     ensures { result ≡ option_eq same_value a b }
 {
     a == b
@@ -60,7 +61,7 @@ fn is_same(a: Option<Value>, b: Option<Value>) -> bool
 
 /// Whether the labels, the blocks and the literals that the statements of a line name have the same final values, so that pass two makes the same
 /// of it. It is one comparison, and takes no memory.
-pub fn same_finals(trace: &Trace, ends: Ends, work: &mut Work) -> bool
+pub fn ends_agree(trace: &Trace, ends: Ends, work: &mut Work) -> bool
     ensures same { result ≡ same_named (was_of ends.entry) (now_of ends.entry) trace.now.items }
     ensures decides { IsTrue result ↔ AgreeOnNamed (was_of ends.entry) (now_of ends.entry) trace.now }
     ensures alone { IsTrue result → outcome_of (was_of ends.entry) trace.now ≡ outcome_of (now_of ends.entry) trace.now }

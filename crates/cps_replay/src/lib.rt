@@ -21,7 +21,7 @@ mod storing;
 mod walk;
 
 pub use change_log::ChangeLog;
-pub use cps_holding::{Ends, same_finals};
+pub use cps_holding::{Ends, ends_agree};
 pub use redo::Redo;
 pub use replay::{OldLine, Replay};
 pub use sparse::{SparseItem, put_all};

@@ -12,7 +12,7 @@ ghost use Rattle.cps_replay.specs.Sparse.{AreWithin};
 use crate::sparse::SparseItem;
 use cps_edit::{Trace, Work};
 use cps_final::{Outcome, step_two};
-use cps_holding::{Ends, same_finals};
+use cps_holding::{Ends, ends_agree};
 use std::alloc::{AllocError, Global};
 
 /// Pass two of an edit, as far as it has come.
@@ -65,7 +65,7 @@ impl<'a> Redo<'a> {
         match new {
             Some(trace) => self.make(at, trace, work),
             None => {
-                if same_finals(old, self.ends, work) {
+                if ends_agree(old, self.ends, work) {
                     return Ok(());
                 }
                 self.make(at, old, work)

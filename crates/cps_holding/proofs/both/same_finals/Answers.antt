@@ -1,21 +1,21 @@
 use Rattle.std.proofs.Common.{rules, ◌≡◌, ◌∙◌, subst, sym, Bool}
 use Rattle.std.specs.Bool.{Decides}
 use Rattle.cps_naming.specs.Outcome.{AgreeOnNamed}
+use Rattle.cps_naming.specs.Resolving.{resolved}
 use Rattle.cps_holding.specs.Agreeing.{same_named}
 use Rattle.cps_holding.proofs.AgreeLemmas.{named-alone, named-decides}
-use Rattle.cps_holding.specs.Ends.{was_of, now_of}
-use Rattle.cps_holding.proofs.ends.same_finals.Goals as goal
+use Rattle.cps_holding.proofs.both.same_finals.Goals as goal
 
 pub returns-clause-decides : goal.returns-clause-decides
 returns-clause-decides c =
-    let was = was_of c.args.ends in
-    let now = now_of c.args.ends in
+    let was = resolved c.args.before.now in
+    let now = resolved c.args.after.now in
     let test : c.all_pass.result ≡ same_named was now c.args.trace.now.items = search rules in
     subst (λ (t : Bool). Decides t (AgreeOnNamed was now c.args.trace.now)) (sym test) (named-decides was now c.args.trace.now)
 
 pub returns-clause-alone : goal.returns-clause-alone
 returns-clause-alone c =
-    let was = was_of c.args.ends in
-    let now = now_of c.args.ends in
+    let was = resolved c.args.before.now in
+    let now = resolved c.args.after.now in
     let test : c.all_pass.result ≡ same_named was now c.args.trace.now.items = search rules in
     λ h. named-alone was now c.args.trace.now (sym test ∙ h)
