@@ -5,3 +5,8 @@ mod StatementStands
 mod LineStands
 mod LocalStands
 pub mod EditCounts
+mod PutLines
+mod ChunkEnds
+mod ChunkFillings
+mod PutChunks
+mod ChunkCounterparts

@@ -1,13 +1,13 @@
 -- Which lines an edit disturbs, told of each line by itself: by the state in front of it, what the same line did in the old source, and the final values
 -- of both sources. The lines may be those of a splice or of a move. Our own.
-use Rattle.std.specs.Prelude.{◌≡◌, ℕ, zero, suc, ◌+◌, Bool, List, [], length, get_or, take, map, Option, if◌then◌else◌}
+use Rattle.std.specs.Prelude.{◌≡◌, ℕ, zero, suc, ◌+◌, ◌≤◌, Bool, List, [], ◌∷◌, ◌++◌, length, get_or, take, map, Option, if◌then◌else◌}
 use Rattle.cps_state.specs.Course.{Trace}
 use Rattle.cps_state.specs.Keys.{State, first_state}
 use Rattle.cps_final.specs.Outcome.{Resolved}
 use Rattle.cps_exchange.specs.declared.exchange.Exchange.{Exchange}
 use Rattle.cps_exchange.specs.Exchange.{exchanged}
 use Rattle.cps_edit.specs.Passes.{state_after}
-use Rattle.cps_edit.specs.Splice.{Splice, spliced}
+use Rattle.cps_edit.specs.Splice.{Splice, splice_at, spliced, insertion, deletion}
 use Rattle.cps_edit.specs.Disturbed.{Placed, fresh, all_kept, placed, is_disturbed, disturbed_from, is_redone_at, redone_places}
 
 -- how many of the numbers from 0 below a bound pass
@@ -28,6 +28,13 @@ abbrev pub PlacesAreTheSource : Type 0
 PlacesAreTheSource = (lines : List (List ℕ))
     → ((splice : Splice) → lines_of (placed lines splice) ≡ spliced lines splice)
     × ((e : Exchange) → lines_of (exchanged e (all_kept lines)) ≡ exchanged e lines)
+
+-- a put is the others deleted, and each line inserted behind the one before it
+abbrev pub PutsAreOneByOne : Type 0
+PutsAreOneByOne = (lines : List (List ℕ)) (keep from : ℕ) → keep ≤ length lines
+    → (spliced lines (splice_at keep from []) ≡ spliced lines (deletion (keep + 1) from))
+    × ((new : List (List ℕ)) (line : List ℕ)
+    → spliced lines (splice_at keep from (new ++ line ∷ [])) ≡ spliced (spliced lines (splice_at keep from new)) (insertion (keep + length new) line))
 
 -- ---- how many are disturbed
 

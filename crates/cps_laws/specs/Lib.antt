@@ -3,3 +3,4 @@ pub mod Listed
 pub mod LineLaws
 pub mod Standing
 pub mod EditLaws
+pub mod ChunkLaws

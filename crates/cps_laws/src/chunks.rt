@@ -1,0 +1,26 @@
+//! What the definitions of the division say of an edit: which chunks stay, and what a put is.
+ghost use Rattle.cps_laws.specs.ChunkLaws.{StaysByCounterparts, PutsStay, PutsAreEdits};
+
+use cps_division::laws::{
+    a_deletion_divides_again, a_put_divides_again, an_insertion_divides_again,
+};
+
+/// The chunks that are old ones by their lengths are those whose lines have all the lines of an old chunk as counterparts.
+pub fn chunks_stay_by_counterparts()
+    ensures { StaysByCounterparts }
+{
+    an_insertion_divides_again();
+    a_put_divides_again();
+}
+
+/// All chunks stay at a put but those of the lines that go, the one before them and the next two.
+pub fn a_put_changes_few_chunks()
+    ensures { PutsStay }
+{
+    a_deletion_divides_again();
+}
+
+/// An insertion, a replacement and a deletion are puts, and one line more is one more insertion.
+pub fn a_put_is_single_edits()
+    ensures { PutsAreEdits }
+{}
