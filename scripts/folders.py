@@ -1,5 +1,5 @@
 """Folders in which `run-examples` makes calls, told by the paths in them: a file is its bytes, or its bytes and its permissions where these
-aren't 0o644; a link is the text that it has; a folder is None."""
+aren't 0o644; a link is the text that it has, and another name of a file is `Hard` with its first one; a folder is None."""
 import ctypes
 import os
 import stat
@@ -10,6 +10,10 @@ USUAL = 0o644
 LIBRARY = ctypes.CDLL(None)
 # prctl's number for what a program may never get, and the power that root has over the permissions of files
 DROP, OVERRIDE = 24, 1
+
+
+class Hard(str):
+    """Another name of the file that has this one."""
 
 
 def bind():
@@ -24,6 +28,8 @@ def fill(room, told):
         path = os.path.join(room, path)
         if entry is None:
             os.mkdir(path)
+        elif isinstance(entry, Hard):
+            os.link(os.path.join(room, entry), path)
         elif isinstance(entry, str):
             os.symlink(entry, path)
         else:
@@ -31,6 +37,11 @@ def fill(room, told):
             with open(path, "wb") as file:
                 file.write(text)
             os.chmod(path, mode)
+
+
+def seen(told):
+    """What is told, as it is found: a file with two names has its bytes under both."""
+    return {path: told[entry] if isinstance(entry, Hard) else entry for path, entry in told.items()}
 
 
 def entry_at(path):

@@ -1,7 +1,8 @@
 """Calls of `compass batch` that write texts into files, for `run-examples`, which makes each in a folder of its own: the words, what stands on
 standard input, the status, what is written and what is told, as in `calls.py`, and then the folder before the call and after it, as
-`folders.py` has it."""
+`folders.py` has it. In the place of the words a line for a shell may stand."""
 from calls import ALL, BINARY, FLAGS, HELP, LISTING, PARTS, PROGRAM, SYMBOLS
+from folders import Hard
 
 OLD = b"OLD\n"
 TEXTS = {"t1.list": LISTING, "t1.oct": BINARY, "t1.refs": SYMBOLS, "t1.flags": FLAGS}
@@ -78,11 +79,73 @@ DEVICES = [
     made(["--binary", "/dev/stdout", "--part", "flags"], {}, text=BINARY + FLAGS),
 ]
 
-# names are the same only where they are written alike; files are placed in the order of the texts
+# files are placed in the order of the texts
 NAMES = [
     made(["--flags", "./-"], {"-": FLAGS}),
-    made(["--flags", "it", "--listing", "./it"], {"it": FLAGS}),
-    made(["--listing", "./it", "it"], {"it": LISTING}, {"it": PROGRAM}),
+    made(["--flags", "./it", "--listing", "./to", "./t1.cps"], {"t1.cps": PROGRAM, "it": FLAGS, "to": LISTING}, {"t1.cps": PROGRAM}, given=b"A\n"),
+    made(["--flags", "in/it", "--listing", "it"], {"in": None, "in/it": FLAGS, "it": LISTING}, {"in": None}),
+    made(["--flags", "link/it", "--listing", "it"], {"link": "in", "in": None, "in/it": FLAGS, "it": LISTING}, {"link": "in", "in": None}),
+]
+
+DECK = {"deck.cps": PROGRAM}
+IN_FOLDER = {"in": None, "in/deck.cps": PROGRAM, "link": "in"}
+
+
+def same(words, name, other, before):
+    """Names that lead to one file, of which the other is the source: it stays as it was, and nothing is read or written."""
+    return failed(words, b"cannot write " + name + b": it is the same file as " + other + b", the source\n", before, b"A\n")
+
+
+def twice(words, name, other, before=None):
+    """Names of texts that lead to one file."""
+    return failed(words, b"cannot write " + name + b": it is the same file as " + other + b", where another text goes\n", before, b"A\n")
+
+
+def shell(line, status, told, before, text=b""):
+    """A line for a shell, after which the folder is as it was."""
+    return line, b"", status, text, told, before, before
+
+
+# The source is never written over, nor one text over another, by whatever names, links and folders.
+ONE_FILE = [
+    same(["--listing", "./deck.cps", "deck.cps"], b"./deck.cps", b"deck.cps", DECK),
+    same(["--binary", "deck.cps", "./deck.cps"], b"deck.cps", b"./deck.cps", DECK),
+    same(["--flags", "in/../deck.cps", "deck.cps"], b"in/../deck.cps", b"deck.cps", {**DECK, "in": None}),
+    same(["--listing", "it", "--symbols", ".//deck.cps", "--part", "all", "deck.cps"], b".//deck.cps", b"deck.cps", {**DECK, "it": OLD}),
+    same(["--listing", "link", "deck.cps"], b"link", b"deck.cps", {**DECK, "link": "deck.cps"}),
+    same(["--binary", "deck.cps", "link"], b"deck.cps", b"link", {**DECK, "link": "deck.cps"}),
+    same(["--binary", "one", "two"], b"one", b"two", {**DECK, "one": "deck.cps", "two": "./one"}),
+    same(["--symbols", "other", "deck.cps"], b"other", b"deck.cps", {**DECK, "other": Hard("deck.cps")}),
+    same(["--flags", "deck.cps", "other"], b"deck.cps", b"other", {**DECK, "other": Hard("deck.cps")}),
+    same(["--listing", "link/deck.cps", "in/deck.cps"], b"link/deck.cps", b"in/deck.cps", IN_FOLDER),
+    same(["--listing", "./none.cps", "none.cps"], b"./none.cps", b"none.cps", {}),
+    same(["--listing", "\t./../x\n", "\t/../x\n"], b"?./../x\n", b"?/../x\n", {"\t": None, "\t.": None, "x\n": PROGRAM}),
+    twice(["--listing", "x", "--binary", "./x"], b"./x", b"x"),
+    twice(["--listing", "x", "--binary", "./x", "--part", "flags"], b"./x", b"x", {"x": OLD}),
+    twice(["--symbols", "in/x", "--flags", "link/x"], b"link/x", b"in/x", IN_FOLDER),
+    twice(["--listing", "in/../x", "--symbols", "link/../x"], b"link/../x", b"in/../x", IN_FOLDER),
+    twice(["--listing", "it", "--flags", "link"], b"link", b"it", {"it": OLD, "link": "it"}),
+    twice(["--binary", "it", "--symbols", "other"], b"other", b"it", {"it": OLD, "other": Hard("it")}),
+]
+
+# what a shell opens: standard input from the file that is written, and standard output to one that a text or the source has
+OPENED = [
+    shell("compass batch --listing deck.cps < deck.cps", 2, b"cannot write deck.cps: it is the same file as /dev/stdin, the source\n", DECK),
+    shell("compass batch --flags link - < deck.cps", 2, b"cannot write link: it is the same file as /dev/stdin, the source\n", {**DECK, "link": "deck.cps"}),
+    shell("compass batch --listing /dev/stdin < deck.cps", 2, b"cannot write /dev/stdin: it is the same file as /dev/stdin, the source\n", DECK),
+    shell("compass batch --listing /dev/stdout deck.cps >> deck.cps", 2, b"cannot write /dev/stdout: it is the same file as deck.cps, the source\n", DECK),
+    shell("compass batch --listing it --part flags deck.cps >> it", 2,
+          b"cannot write /dev/stdout: it is the same file as it, where another text goes\n", {**DECK, "it": OLD}),
+    shell("compass batch --listing it --part flags deck.cps >> deck.cps", 2, b"cannot write /dev/stdout: it is the same file as deck.cps, the source\n", DECK),
+]
+
+# Devices, and what is open already, take one text behind another.
+MANY = b"".join(sorted((LISTING + FLAGS).splitlines(True)))
+SHARED = [
+    made(["--listing", "/dev/null", "--flags", "/dev/null", "--symbols", "/dev/./null"], {}),
+    shell("compass batch --listing /dev/stdout --flags /dev/stdout deck.cps | LC_ALL=C sort", 0, b"", DECK, MANY),
+    shell("compass batch --listing /dev/stderr --flags /dev/stderr deck.cps 2>&1 >/dev/null | LC_ALL=C sort", 0, b"", DECK, MANY),
+    (["batch", "--listing", "/dev/stdout", "--part", "flags"], PROGRAM, 0, LISTING + FLAGS, b"", {}, {}),
 ]
 
 # no source
@@ -126,4 +189,4 @@ WORDS = [
      b"error: unexpected argument '--listing' found\n\nUsage: compass session [OPTIONS]" + HELP, {}, {}),
 ]
 
-EXPORTS = WRITTEN + REPLACED + DEVICES + NAMES + UNREAD + UNWRITTEN + WORDS
+EXPORTS = WRITTEN + REPLACED + DEVICES + NAMES + ONE_FILE + OPENED + SHARED + UNREAD + UNWRITTEN + WORDS

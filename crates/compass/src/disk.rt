@@ -1,5 +1,6 @@
 //! The files of the machine.
 use super::draft::Draft;
+use super::identity::lead_to_one;
 use cps_output::Targets;
 use cps_tool::Sources;
 use std::fs::File;
@@ -33,10 +34,16 @@ impl<'a> Targets for Disk<'a> {
 
     type Draft = Draft<'a>;
 
-    // Nor is it known which files were placed, and which drafts stand.
+    // Nor is it known which files were placed, which drafts stand, and where names lead.
     ghost placed = { λ disk. None };
 
     ghost waiting = { λ disk. None };
+
+    ghost same = { λ disk one other. None };
+
+    fn is_same(&self, one: &str, other: &str) -> bool {
+        lead_to_one(self.rt, one, other)
+    }
 
     fn create(&mut self, name: &str) -> io::Result<Draft<'a>> {
         Draft::new(self.rt, name)

@@ -1,14 +1,12 @@
 //! Files of the machine that aren't in their places yet.
 use super::successor::Successor;
+use cps_output::is_open_already;
 use std::fs::{File, OpenOptions};
 use std::io::{ErrorKind, Write};
 use std::{fs, io};
 
 /// The names of standard output.
 const OUTPUT: [&str; 3] = ["/dev/stdout", "/dev/fd/1", "/proc/self/fd/1"];
-
-/// How the names begin of what a process has open already.
-const OPEN_ALREADY: [&str; 3] = ["/dev/std", "/dev/fd/", "/proc/"];
 
 /// A file that isn't in its place yet; or what is no regular file, which is written in its place.
 #[derive(Drop)]
@@ -75,11 +73,6 @@ impl Write for Draft<'_> {
 /// Opens what is written behind what it has. The machine refuses a directory.
 fn open_at_end(rt: &HostRuntime, name: &str) -> io::Result<File> {
     OpenOptions::new().append(true).open(rt, name)
-}
-
-/// Whether a name is that of what a process has open already.
-fn is_open_already(name: &str) -> bool {
-    OPEN_ALREADY.iter().any(|front| name.starts_with(*front))
 }
 
 /// Whether nothing stands under a name, and no link to nothing either.

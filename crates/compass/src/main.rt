@@ -13,6 +13,7 @@
 
 mod disk;
 mod draft;
+mod identity;
 mod successor;
 
 use cps_text::Counted;

@@ -1,1 +1,2 @@
 pub mod PlacingLemmas
+pub mod NameLemmas

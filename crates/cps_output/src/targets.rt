@@ -1,5 +1,5 @@
 //! What puts files in their places.
-ghost use Rattle.std.specs.Prelude.{◌≡◌, ℕ, List, [], Option, Some, IfSome, IfOk, OnOk, OnErr};
+ghost use Rattle.std.specs.Prelude.{◌≡◌, ℕ, Bool, List, [], Option, Some, IfSome, IfOk, OnOk, OnErr};
 ghost use Rattle.cps_output.specs.Placing.{Placed, with_placed, one_more_on_ok, one_less};
 
 use std::io;
@@ -8,7 +8,7 @@ use std::io::Write;
 /// What puts files in their places. A file is made as a draft, which isn't seen under the file's name; then it is placed
 /// or discarded.
 pub trait Targets {
-    ghost use Rattle.std.specs.Prelude.{◌≡◌, ℕ, List, [], Option, Some, IfSome, IfOk, OnOk, OnErr};
+    ghost use Rattle.std.specs.Prelude.{◌≡◌, ℕ, Bool, List, [], Option, Some, IfSome, IfOk, OnOk, OnErr};
     ghost use Rattle.cps_output.specs.Placing.{Placed, with_placed, one_more_on_ok, one_less};
 
     /// A file that isn't in its place yet. What was written to it may be lost at a power failure until it is flushed.
@@ -19,6 +19,13 @@ pub trait Targets {
 
     // How many drafts were neither placed nor discarded, None where that isn't known.
     ghost waiting: { Self → Option ℕ };
+
+    // Whether two names lead to one file that has a text or would get one, None where that isn't known.
+    ghost same: { Self → List ℕ → List ℕ → Option Bool };
+
+    /// Whether two names lead to one file that has a text or would get one. To a device many names may lead.
+    fn is_same(&self, one: &str, other: &str) -> bool
+        ensures { IfSome (same self.now one.now other.now) (λ is. result ≡ is) };
 
     /// Makes a draft of the file of that name, with nothing in it. Where `placed` is known, so are the bytes of each draft.
     fn create(&mut self, name: &str) -> io::Result<Self::Draft>

@@ -16,6 +16,7 @@ use Rattle.cps_list.specs.declared.part.Part.{Part}
 use Rattle.cps_output.specs.declared.outputs.Outputs.{Outputs}
 use Rattle.cps_output.specs.Outputs.{name_of, names_of}
 use Rattle.cps_output.specs.Placing.{Placed}
+use Rattle.cps_output.specs.Same.{KeepsAll, Sameness}
 use Rattle.std.specs.Borrow.{Bor}
 use Rattle.std.specs.Prelude.{option_map, unwrap_or}
 use Rattle.cps_words.specs.Task.{task_of, Task, batch, export, check, compare, explain, server, session}
@@ -65,10 +66,10 @@ module _ {R W : Type 0} (remaining : R → Option (List ℕ)) (contents : W → 
 
 -- ---- a call that places no file
 
-module _ {T F R W : Type 0} (holds : T → List ℕ → Option (List ℕ)) (placed : T → Option (List Placed)) (opened : F → Option (List ℕ)) (remaining : R → Option (List ℕ))
-    (contents : W → Option (List ℕ)) (status : ℕ) (files : T) (reader reader' : Counted R) (writer writer' : Counted W) where
+module _ {T F R W : Type 0} (holds : T → List ℕ → Option (List ℕ)) (placed : T → Option (List Placed)) (same : T → Sameness) (opened : F → Option (List ℕ))
+    (remaining : R → Option (List ℕ)) (contents : W → Option (List ℕ)) (status : ℕ) (files : T) (reader reader' : Counted R) (writer writer' : Counted W) where
   pub serves_call : (answer : Answer) → ServesWith (holds files) opened remaining contents answer status reader reader' writer writer'
-      → ServesCall holds placed opened remaining contents answer status files files reader reader' writer writer'
+      → ServesCall holds placed same opened remaining contents answer status files files reader reader' writer writer'
   serves_call (asks (export names part) None) (inl idle) = inr (idle, refl)
   serves_call (asks (export names part) None) (inr calls) = elim calls [ ]
   serves_call (asks (export names part) (Some name)) (inl idle) = inr (idle, refl)
@@ -83,22 +84,35 @@ module _ {T F R W : Type 0} (holds : T → List ℕ → Option (List ℕ)) (plac
   serves_call refuses s = (s, refl)
 
 -- an export was asked, of standard input or of a file
-module _ {T F R W : Type 0} (holds : T → List ℕ → Option (List ℕ)) (placed : T → Option (List Placed)) (opened : F → Option (List ℕ)) (remaining : R → Option (List ℕ))
-    (contents : W → Option (List ℕ)) (request : Request) (outputs : Outputs) (part : Option Part) (is : request ≡ Export outputs part)
+module _ {T F R W : Type 0} (holds : T → List ℕ → Option (List ℕ)) (placed : T → Option (List Placed)) (same : T → Sameness) (opened : F → Option (List ℕ))
+    (remaining : R → Option (List ℕ)) (contents : W → Option (List ℕ)) (request : Request) (outputs : Outputs) (part : Option Part) (is : request ≡ Export outputs part)
     (status : ℕ) (files files' : T) (reader : Counted R) (writer writer' : Counted W) where
-  pub exports_input : (reader' : Counted R)
+  pub exports_input : (reader' : Counted R) → KeepsAll (same files) None (record { names = names_of outputs; part = part })
       → Exported placed remaining contents (record { names = names_of outputs; part = part }) status files files' reader reader' writer writer'
-      → ServesCall holds placed opened remaining contents (asks (task_of request) None) status files files' reader reader' writer writer'
-  exports_input reader' exported =
-      subst (λ request. ServesCall holds placed opened remaining contents (asks (task_of request) None) status files files' reader reader' writer writer') (sym is)
-      (inl exported)
+      → ServesCall holds placed same opened remaining contents (asks (task_of request) None) status files files' reader reader' writer writer'
+  exports_input reader' keeps exported =
+      subst (λ request. ServesCall holds placed same opened remaining contents (asks (task_of request) None) status files files' reader reader' writer writer') (sym is)
+      (inl (keeps, exported))
 
-  pub exports_file : (name : Text) (file file' : Counted F) → IsOpened (holds files name) opened file
+  pub exports_file : (name : Text) (file file' : Counted F) → KeepsAll (same files) (Some name) (record { names = names_of outputs; part = part })
+      → IsOpened (holds files name) opened file
       → Exported placed opened contents (record { names = names_of outputs; part = part }) status files files' file file' writer writer'
-      → ServesCall holds placed opened remaining contents (asks (task_of request) (Some name)) status files files' reader reader writer writer'
-  exports_file name file file' opens exported =
-      subst (λ request. ServesCall holds placed opened remaining contents (asks (task_of request) (Some name)) status files files' reader reader writer writer') (sym is)
-      (inl (refl, record { file = file; file' = file'; is_opened = opens; does = exported }))
+      → ServesCall holds placed same opened remaining contents (asks (task_of request) (Some name)) status files files' reader reader writer writer'
+  exports_file name file file' keeps opens exported =
+      subst (λ request. ServesCall holds placed same opened remaining contents (asks (task_of request) (Some name)) status files files' reader reader writer writer') (sym is)
+      (inl (keeps, refl, record { file = file; file' = file'; is_opened = opens; does = exported }))
+
+  -- nothing is done, whatever file is named
+  pub exports_nothing : (named : Option Text) → status ≡ 2
+      → ServesCall holds placed same opened remaining contents (asks (task_of request) named) status files files reader reader writer writer
+  exports_nothing named two =
+      subst (λ request. ServesCall holds placed same opened remaining contents (asks (task_of request) named) status files files reader reader writer writer) (sym is)
+      (undone_export named)
+    where
+      undone_export : (named : Option Text)
+          → ServesCall holds placed same opened remaining contents (asks (export (names_of outputs) part) named) status files files reader reader writer writer
+      undone_export None = inr ((two, refl, refl), refl)
+      undone_export (Some name) = inr ((two, refl, refl), refl)
 
 -- files that were opened by their names, and compared
 pub compares : {F R W : Type 0} (holds : List ℕ → Option (List ℕ)) (opened : F → Option (List ℕ)) (remaining : R → Option (List ℕ)) (contents : W → Option (List ℕ))

@@ -15,6 +15,7 @@ use Rattle.cps_manual.specs.Manual as manual
 use Rattle.cps_output.specs.declared.export_fault.ExportFault.{ExportFault}
 use Rattle.cps_output.specs.Export.{Exports, Wanted}
 use Rattle.cps_output.specs.Placing.{Placed}
+use Rattle.cps_output.specs.Same.{KeepsAll, Sameness}
 use Rattle.cps_server.specs.Running.{RunsServer}
 use Rattle.cps_serving.specs.declared.fault.ServerFault.{ServerFault}
 use Rattle.cps_words.specs.Task.{Task, batch, export, session, check, compare, explain, server}
@@ -192,17 +193,20 @@ abbrev pub Exported : {T R W : Type 0} → (T → Option (List Placed)) → (R �
 Exported placed remaining contents wanted status files files' reader reader' writer writer' =
     (result : Result ℕ ExportFault) × (status ≡ status_of result) × Exports placed remaining contents wanted result files files' reader reader' writer writer'
 
--- What a call does that may write files. An export reads the file that is named in the place of standard input, and no other call places a file.
-abbrev pub ServesCall : {T F R W : Type 0} → (T → List ℕ → Option (List ℕ)) → (T → Option (List Placed)) → (F → Option (List ℕ)) → (R → Option (List ℕ))
-    → (W → Option (List ℕ)) → Answer → ℕ → T → T → Counted R → Counted R → Counted W → Counted W → Type 0
-ServesCall holds placed opened remaining contents (asks (export names part) None) status files files' reader reader' writer writer' =
-    Exported placed remaining contents (record { names = names; part = part }) status files files' reader reader' writer writer'
+-- What a call does that may write files. An export reads the file that is named in the place of standard input, and no other call places a file. It is
+-- done only where no text goes over the source or over another one, as far as is known of the names; else nothing is read and nothing written.
+abbrev pub ServesCall : {T F R W : Type 0} → (T → List ℕ → Option (List ℕ)) → (T → Option (List Placed)) → (T → Sameness) → (F → Option (List ℕ))
+    → (R → Option (List ℕ)) → (W → Option (List ℕ)) → Answer → ℕ → T → T → Counted R → Counted R → Counted W → Counted W → Type 0
+ServesCall holds placed same opened remaining contents (asks (export names part) None) status files files' reader reader' writer writer' =
+    (KeepsAll (same files) None (record { names = names; part = part })
+    × Exported placed remaining contents (record { names = names; part = part }) status files files' reader reader' writer writer')
     ⊎ (IsUndone status reader reader' writer writer' × (placed files' ≡ placed files))
-ServesCall holds placed opened remaining contents (asks (export names part) (Some name)) status files files' reader reader' writer writer' =
-    ((reader' ≡ reader) × WithFile (holds files name) opened (λ file file'.
+ServesCall holds placed same opened remaining contents (asks (export names part) (Some name)) status files files' reader reader' writer writer' =
+    (KeepsAll (same files) (Some name) (record { names = names; part = part })
+    × (reader' ≡ reader) × WithFile (holds files name) opened (λ file file'.
     Exported placed opened contents (record { names = names; part = part }) status files files' file file' writer writer'))
     ⊎ (IsUndone status reader reader' writer writer' × (placed files' ≡ placed files))
-ServesCall holds placed opened remaining contents answer status files files' reader reader' writer writer' =
+ServesCall holds placed same opened remaining contents answer status files files' reader reader' writer writer' =
     ServesWith (holds files) opened remaining contents answer status reader reader' writer writer' × (placed files' ≡ placed files)
 
 -- nothing is said of a call that ends with another status than 2

@@ -5,7 +5,7 @@ ghost use Rattle.cps_tool.specs.CommandLine.{IsQuiet};
 
 use super::host::Host;
 use super::telling::{NO_MEMORY, complain, status_of_count};
-use cps_output::{Export, ExportFault, Targets, export_source};
+use cps_output::{Clash, Export, ExportFault, Targets, export_source};
 use cps_text::Counted;
 use cps_words::shown;
 use std::alloc::{AllocError, Global};
@@ -38,15 +38,33 @@ fn complain_of_export<E: Write>(
 ) -> u8
     ensures { result ≡ 2 }
 {
-    match line_of(alloc, fault) {
+    complain_by(alloc, fault.text(alloc), errors)
+}
+
+/// Tells that two names of an export lead to one file.
+pub fn complain_of_clash<E: Write>(alloc: Global, clash: &Clash<'_>, errors: &mut Counted<E>) -> u8
+    ensures { result ≡ 2 }
+{
+    complain_by(alloc, clash.text(alloc), errors)
+}
+
+/// Tells a text on a line of its own.
+fn complain_by<E: Write>(
+    alloc: Global,
+    text: Result<String, AllocError>,
+    errors: &mut Counted<E>,
+) -> u8
+    ensures { result ≡ 2 }
+{
+    match line_of(alloc, text) {
         Ok(line) => complain(errors, line.as_str()),
         Err(_) => complain(errors, NO_MEMORY),
     }
 }
 
-/// The line that tells a fault.
-fn line_of(alloc: Global, fault: &ExportFault<'_>) -> Result<String, AllocError> {
-    let text = fault.text(alloc)?;
+/// The line that tells a text.
+fn line_of(alloc: Global, text: Result<String, AllocError>) -> Result<String, AllocError> {
+    let text = text?;
     let mut line = shown(alloc, &text)?;
     line.push('\n')?;
     Ok(line)

@@ -6,13 +6,13 @@ ghost use Rattle.cps_tool.specs.CommandLine.{IsQuiet, Serves, ServesCall};
 ghost use Rattle.cps_words.specs.Request.{answer_of, asked_by};
 
 use super::comparing::{compare_files, open_files};
-use super::exporting::run_export;
+use super::exporting::{complain_of_clash, run_export};
 use super::host::Host;
 use super::running::run_request;
 use super::sessions::run_session_from;
 use super::sources::{Sources, open_input};
 use super::telling::{FAULTY, NO_FILES, complain, complain_of, status_of_count, tell_unread};
-use cps_output::{Export, Targets};
+use cps_output::{Export, Targets, find_clash};
 use cps_text::Counted;
 use cps_words::{Call, Request, read_words};
 use std::io::{Read, Write};
@@ -44,7 +44,8 @@ pub fn run_words<'a, R: Read, W: Write, E: Write>(
 }
 
 /// Does what the words of a call ask, as `run_words` does, but reads the file that they name in the place of `reader`, and writes those
-/// that they name for texts. A file that can't be opened or written is told to `errors`, with status 2.
+/// that they name for texts. A file that can't be opened or written is told to `errors`, with status 2. So are two names that lead to
+/// one file, where a text would be lost: nothing is read then.
 pub fn run_call<'a, S: Sources + Targets, R: Read, W: Write, E: Write>(
     host: &mut Host<S>,
     words: &'a [&'a str],
@@ -52,7 +53,7 @@ pub fn run_call<'a, S: Sources + Targets, R: Read, W: Write, E: Write>(
     writer: &mut Counted<W>,
     errors: &mut Counted<E>,
 ) -> u8
-    ensures serves { ServesCall S.holds S.placed S.Opened.remaining R.remaining W.contents (answer_of (texts words.now)) result
+    ensures serves { ServesCall S.holds S.placed S.same S.Opened.remaining R.remaining W.contents (answer_of (texts words.now)) result
         host.old.files host.new.files reader.old reader.new writer.old writer.new }
     ensures waiting { S.waiting host.new.files ≡ S.waiting host.old.files }
     ensures quiet { IsQuiet result errors.old errors.new }
@@ -71,7 +72,7 @@ fn serve_call<'a, S: Sources + Targets, R: Read, W: Write, E: Write>(
     writer: &mut Counted<W>,
     errors: &mut Counted<E>,
 ) -> u8
-    ensures serves { ServesCall S.holds S.placed S.Opened.remaining R.remaining W.contents (asked_by call.entry) result
+    ensures serves { ServesCall S.holds S.placed S.same S.Opened.remaining R.remaining W.contents (asked_by call.entry) result
         host.old.files host.new.files reader.old reader.new writer.old writer.new }
     ensures waiting { S.waiting host.new.files ≡ S.waiting host.old.files }
     ensures quiet { IsQuiet result errors.old errors.new }
@@ -84,6 +85,9 @@ fn serve_call<'a, S: Sources + Targets, R: Read, W: Write, E: Write>(
         outputs,
         part,
     };
+    if let Some(clash) = find_clash(&host.files, call.file, export) {
+        return complain_of_clash(host.alloc, &clash, errors);
+    }
     let Some(name) = call.file else {
         return run_export(host, export, reader, writer, errors);
     };

@@ -136,6 +136,12 @@ two_outputs_in_one : answer_of (call (codes "batch" ∷ codes "--listing" ∷ co
 unfolding clap_on_literals
 two_outputs_in_one = refl
 
+-- what is written to a device takes the place of nothing
+two_outputs_to_a_device : answer_of (call (codes "batch" ∷ codes "--listing" ∷ codes "/dev/stderr" ∷ codes "--flags" ∷ codes "/dev/stderr" ∷ []))
+    ≡ asks (export (record no_file_of_a_text { listing = Some (codes "/dev/stderr"); flags = Some (codes "/dev/stderr") }) None) None
+unfolding clap_on_literals
+two_outputs_to_a_device = refl
+
 output_of_a_check : answer_of (call (codes "check" ∷ codes "--flags" ∷ codes "x" ∷ [])) ≡ refuses
 unfolding clap_on_literals
 output_of_a_check = refl

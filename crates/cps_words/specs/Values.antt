@@ -1,7 +1,7 @@
 -- What the values of options and operands name. Our own.
 use Prim.Native.Char.{code}
-use Rattle.std.specs.Prelude.{ℕ, Bool, true, false, not, ◌==◌, ◌&&◌, nat_le, nat_lt, List, [], ◌∷◌, length, Option, Some, None, is_none, if◌then◌else◌, codes, bytes_eq, option_map, unwrap_or}
-use Rattle.std.specs.List.{after_first, before_first, list_all, list_any, position_or_len}
+use Rattle.std.specs.Prelude.{ℕ, Bool, true, false, not, ◌==◌, ◌&&◌, ◌||◌, nat_eq, nat_le, nat_lt, List, [], ◌∷◌, length, Option, Some, None, is_none, if◌then◌else◌, codes, bytes_eq, option_map, unwrap_or}
+use Rattle.std.specs.List.{after_first, before_first, list_all, list_any, position_or_len, starts_with}
 use Rattle.std.specs.Char.{is_digit}
 use Rattle.std.specs.Str.Parse.{digits_value}
 use Rattle.clap.specs.Words.{Row, Text, first_of}
@@ -48,13 +48,18 @@ abbrev pub is_name : Text → Option Text → Bool
 is_name name None = false
 is_name name (Some other) = bytes_eq name other
 
--- no two of the names that are given are the same
+-- a name is that of a device, as `/dev/null`, which may be read and written under one name
+abbrev pub is_device : Text → Bool
+is_device name = starts_with nat_eq name (codes "/dev/")
+
+-- no two of the names that are given are the same, but for those of devices
 abbrev pub are_distinct : List (Option Text) → Bool
 are_distinct [] = true
 are_distinct (None ∷ names) = are_distinct names
-are_distinct (Some name ∷ names) = not (list_any (is_name name) names) && are_distinct names
+are_distinct (Some name ∷ names) = (is_device name || not (list_any (is_name name) names)) && are_distinct names
 
--- a text goes neither to standard output, nor over the source, nor where another text goes
+-- A text goes neither to standard output, nor over the source, nor where another text goes. This is what the words show; which of them lead to one
+-- file the files of the call tell.
 abbrev pub are_apart : Option Text → Names → Bool
 are_apart source names =
     are_distinct (Some (codes "-") ∷ source ∷ names.listing ∷ names.binary ∷ names.symbols ∷ names.flags ∷ [])

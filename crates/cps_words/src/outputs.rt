@@ -34,7 +34,7 @@ pub fn wants_no_file(outputs: Outputs<'_>) -> bool
         && outputs.flags.is_none()
 }
 
-/// Whether each text has a file of its own, which is neither standard output nor the source.
+/// Whether each text has a name of its own, which is neither standard output's nor the source's. A device may be named twice.
 pub fn are_apart<'a>(source: Option<&'a str>, outputs: Outputs<'a>) -> bool
     ensures { result ≡ values.are_apart (name_of source.entry) (names_of outputs.entry) }
 {
@@ -48,15 +48,24 @@ pub fn are_apart<'a>(source: Option<&'a str>, outputs: Outputs<'a>) -> bool
     ])
 }
 
-/// Whether no two of the names that are given are the same.
+/// Whether no two of the names that are given are the same, but for those of devices.
 fn are_distinct(names: &[Option<&str>]) -> bool
     ensures { result ≡ values.are_distinct (map name_of names.now) }
 {
     match names {
         [] => true,
         [None, rest @ ..] => are_distinct(rest),
-        [Some(name), rest @ ..] => !has_name(rest, name) && are_distinct(rest),
+        [Some(name), rest @ ..] => {
+            (is_device(name) || !has_name(rest, name)) && are_distinct(rest)
+        }
     }
+}
+
+/// Whether a name is that of a device, as a terminal or what takes all.
+fn is_device(name: &str) -> bool
+    ensures { result ≡ values.is_device name.now }
+{
+    name.starts_with("/dev/")
 }
 
 /// Whether a name is given among others.
@@ -110,6 +119,9 @@ pub fn say_taken<'a>(alloc: Global, source: Option<&'a str>, outputs: Outputs<'a
 fn why_taken(name: &str, source: Option<&str>, before: &[Option<&str>]) -> Option<&'static str> {
     if name == "-" {
         return Some("standard output has the part that '--part' names");
+    }
+    if is_device(name) {
+        return None;
     }
     if is_name(name, source) {
         return Some("it is the source");

@@ -99,7 +99,7 @@ impl<'a> Shelf<'a> {
 }
 
 impl<'a> Targets for Shelf<'a> {
-    ghost use Rattle.std.specs.Prelude.{Some, map, string_bytes};
+    ghost use Rattle.std.specs.Prelude.{Some, bytes_eq, map, string_bytes};
 
     type Draft = Draft<'a>;
 
@@ -107,6 +107,13 @@ impl<'a> Targets for Shelf<'a> {
         Some (map (λ file. record { name = string_bytes file.name; bytes = file.bytes.items }) shelf.placed.items) };
 
     ghost waiting = { λ shelf. Some shelf.waiting };
+
+    // Each name leads to a file of its own.
+    ghost same = { λ shelf one other. Some (bytes_eq one other) };
+
+    fn is_same(&self, one: &str, other: &str) -> bool {
+        one == other
+    }
 
     fn create(&mut self, _name: &str) -> io::Result<Draft<'a>> {
         self.calls.call()?;

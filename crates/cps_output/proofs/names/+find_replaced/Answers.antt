@@ -1,0 +1,16 @@
+use Rattle.cps_output.specs.Same.{replaces}
+use Rattle.cps_output.proofs.NameLemmas.{clash-first, clashed-later}
+use Rattle.cps_output.proofs.names.+find_replaced.Goals as goal
+
+pub returns-in-None-clause-clash : goal.returns-in-None-clause-clash
+returns-in-None-clause-clash g t c =
+    clashed-later (replaces (g.T.Targets.same c.args.targets.now)) c.args.names.now c.find_replaced.result c.find_replaced.ensures.clash
+
+pub returns-in-Some-find_replacing-clause-clash : goal.returns-in-Some-find_replacing-clause-clash
+returns-in-Some-find_replacing-clause-clash g t c =
+    clash-first (replaces (g.T.Targets.same c.args.targets.now)) c.args.names.now c.in-Some.name.now c.in-Some-find_replacing.other.now ? c.in-Some-find_replacing.ensures.meets
+
+pub returns-in-None-find_replacing-clause-clash : goal.returns-in-None-find_replacing-clause-clash
+returns-in-None-find_replacing-clause-clash g t c =
+    clashed-later (replaces (g.T.Targets.same c.args.targets.now)) c.args.names.now c.find_replaced-in-None-find_replacing.result
+    c.find_replaced-in-None-find_replacing.ensures.clash
