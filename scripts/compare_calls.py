@@ -110,6 +110,21 @@ LIMITED = [
     compared("parcels.cps", b"1 000001 73412\n2 000002 73510\n", b"0 of 2 words differ (000001 to 000002)\n", "--columns=3-90"),
 ]
 
+# One address is a range. Where no word and no digits stand, nothing is compared, and that is no agreement.
+EMPTY = [
+    compared("parcels.cps", WORDS, b"0 of 1 words differ (000002 to 000002)\n", "--from", "2", "--to", "2"),
+    failed(["--from", "1000", "-", example("parcels.cps")], b"nothing is compared: no digits and no word (001000 to 000002)\n", WORDS),
+    failed(["--from", "10", "--to", "17", "-", example("parcels.cps")], b"nothing is compared: no digits and no word (000010 to 000017)\n", WORDS),
+    failed(["--from=3", "--to=3", "-", example("parcels.cps")], b"nothing is compared: no digits and no word (000003 to 000003)\n", WORDS),
+    failed(["--to", "0", "-", example("parcels.cps")], b"nothing is compared: no digits and no word (000001 to 000000)\n", WORDS.splitlines(True)[1]),
+    failed(["--from", "0", "-", example("parcels.cps")], b"no row of OCTAL has an address and octal digits\n"),
+    failed(["--columns", "1-6", "-", example("parcels.cps")], b"no row of OCTAL has an address and octal digits\n", WORDS),
+    refused(["compare", "--from", "1001", "--to", "1000", "-", example("parcels.cps")],
+            b"invalid value '1000' for '--to <B>': it is below the address of '--from'"),
+    refused(["compare", "--to", "77", "--from", "0100", example("none"), example("none")],
+            b"invalid value '77' for '--to <B>': it is below the address of '--from'"),
+]
+
 # what isn't compared
 FAILING = [
     failed(["-", example("parcels.cps")], b"no row of OCTAL has an address and octal digits\n", b"NO DIGITS\n000100\n1234567 1\n"),
@@ -126,4 +141,4 @@ FAILING = [
     refused(["compare"], b"the following required arguments were not provided:\n  <OCTAL>\n\nUsage: compass compare <OCTAL> [FILE]"),
 ]
 
-COMPARISONS = AGREEING + DIFFERING + LIMITED + FAILING
+COMPARISONS = AGREEING + DIFFERING + LIMITED + EMPTY + FAILING

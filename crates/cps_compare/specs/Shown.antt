@@ -5,7 +5,7 @@ use Rattle.cps_compare.specs.declared.limits.Limits.{Limits}
 use Rattle.cps_compare.specs.declared.sides.Sides as code
 use Rattle.cps_compare.specs.declared.telling.Telling.{Telling}
 use Rattle.cps_compare.specs.Differences.{differs, is_compared, digits_in, IsLow, IsHigh}
-use Rattle.cps_compare.specs.Told.{Sides, told_text, count_differing, digit_rows, rows_at}
+use Rattle.cps_compare.specs.Told.{Sides, told_text, count_compared, count_differing, digit_rows, rows_at}
 use Rattle.cps_compare.specs.Reading.{digits_at, maker_at}
 
 -- the first and the last address that are compared
@@ -52,4 +52,5 @@ TellsAt sides address old new = new.text.items ≡ old.text.items ++ rows_at sid
 
 -- all words from one address to another are told
 abbrev pub TellsAll : Sides → ℕ → ℕ → Telling → Type 0
-TellsAll sides low high telling = (telling.text.items ≡ told_text sides low high) × (telling.differing ≡ count_differing sides low high)
+TellsAll sides low high telling =
+    (telling.text.items ≡ told_text sides low high) × (telling.differing ≡ count_differing sides low high) × (telling.compared ≡ count_compared sides low high)

@@ -30,7 +30,8 @@ pub struct Comparison {
 /// words of 20 digits, of 4 for a peripheral processor: the first at the address, the next ones behind it. A row at the address
 /// of a word that lacks digits goes on behind those that it has. What stands first for a digit counts. Other rows aren't read.
 ///
-/// The caller writes the text. No address of the limits may have more than six octal digits.
+/// Where no digits and no word stand at any of the addresses, that is a fault: the two sides don't agree by that. The caller writes
+/// the text. No address of the limits may have more than six octal digits.
 pub fn compare<V: View>(
     alloc: Global,
     view: &V,
@@ -55,13 +56,16 @@ pub fn compare<V: View>(
         words,
         deck,
     };
-    match sides.tell_all(alloc, view, low, high) {
-        Ok(telling) => Ok(Comparison {
-            text: telling.text,
-            differing: telling.differing,
-        }),
-        Err(_) => Err(CompareFault::Memory),
+    let Ok(telling) = sides.tell_all(alloc, view, low, high) else {
+        return Err(CompareFault::Memory);
+    };
+    if telling.compared == 0 {
+        return Err(CompareFault::Nothing(low, high));
     }
+    Ok(Comparison {
+        text: telling.text,
+        differing: telling.differing,
+    })
 }
 
 /// The first and the last address that are compared. None: the octal text gives no digits.

@@ -56,6 +56,7 @@ impl Telling {
         ensures text { OnOk result (self.new.text.items ≡ self.old.text.items
             ++ told.last_row self.old.differing self.old.compared low high) }
         ensures count { self.new.differing ≡ self.old.differing }
+        ensures compared { self.new.compared ≡ self.old.compared }
     {
         push_decimal(&mut self.text, u64::from(self.differing))?;
         self.text.extend_from_slice(b" of ")?;

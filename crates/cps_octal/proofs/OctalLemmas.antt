@@ -31,4 +31,5 @@ reports contents limits (Err faults.WriteFault) bytes lines told old new source 
 reports contents limits (Err faults.ReadFault) bytes lines told old new source tells written = absurd written
 reports contents limits (Err (faults.Source fault)) bytes lines told old new source tells written = absurd written
 reports contents limits (Err faults.NoRow) bytes lines told old new source tells written = absurd written
+reports contents limits (Err (faults.Nothing low high)) bytes lines told old new source tells written = absurd written
 reports contents limits (Err faults.Memory) bytes lines told old new source tells written = absurd written

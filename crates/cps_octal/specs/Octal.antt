@@ -9,7 +9,7 @@ use Rattle.cps_input.specs.Sources.{IsSource, Refuses, IsReadWhole}
 use Rattle.cps_source.specs.Assembly.{assembly_of}
 use Rattle.cps_compare.specs.declared.limits.Limits.{Limits}
 use Rattle.cps_compare.specs.declared.comparison.Comparison.{Comparison}
-use Rattle.cps_compare.specs.Comparison.{Tells, sides_of}
+use Rattle.cps_compare.specs.Comparison.{ComparesNothing, Tells, sides_of}
 use Rattle.cps_compare.specs.Told.{Sides}
 use Rattle.cps_octal.specs.declared.fault.OctalFault.{OctalFault}
 use Rattle.cps_octal.specs.declared.fault.OctalFault.TheVariants as faults
@@ -27,10 +27,12 @@ WritesTold contents (Err faults.WriteFault) told old new =
 WritesTold contents (Err _) told old new = ⊥
 
 -- What is done with the bytes of an octal text and the lines of an input, by the result: what they tell is written, or a front of it where
--- a write failed; or nothing is written, since no row gives digits, there was no memory, or the lines are none of a source.
+-- a write failed; or nothing is written, since no row gives digits, nothing is compared, there was no memory, or the lines are none of a source.
 abbrev pub Reports : {W : Type 0} → (W → Option (List ℕ)) → Limits → Result ℕ OctalFault → List ℕ → List (List ℕ) → Counted W → Counted W → Type 0
 Reports contents limits (Err faults.NoRow) octal lines old new =
     IsSource lines × ((address : ℕ) → (sides_with limits octal lines).given address ≡ []) × (new ≡ old)
+Reports contents limits (Err (faults.Nothing low high)) octal lines old new =
+    IsSource lines × ComparesNothing limits (sides_with limits octal lines) low high × (new ≡ old)
 Reports contents limits (Err faults.Memory) octal lines old new = IsSource lines × (new ≡ old)
 Reports contents limits (Err (faults.Source fault)) octal lines old new = Refuses fault lines × (new ≡ old)
 Reports contents limits result octal lines old new =

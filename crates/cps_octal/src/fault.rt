@@ -15,6 +15,9 @@ pub enum OctalFault {
     /// In no row of the octal text, or of the columns that are read, digits stand behind an address.
     #[error("no row of OCTAL has an address and octal digits")]
     NoRow,
+    /// From the first of these addresses to the second one the octal text gives no digits, and no word of the source stands there.
+    #[error("nothing is compared: no digits and no word ({0:06o} to {1:06o})")]
+    Nothing(u32, u32),
     /// Nothing is wrong with the lines of the source, and there was no memory.
     #[error("no memory")]
     Memory,

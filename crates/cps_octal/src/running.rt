@@ -81,6 +81,7 @@ fn compare_lines<W: Write>(
     match compare(alloc, &source, &text, setup.limits) {
         Ok(comparison) => write_comparison(writer, &comparison),
         Err(CompareFault::NoRow) => Err(OctalFault::NoRow),
+        Err(CompareFault::Nothing(low, high)) => Err(OctalFault::Nothing(low, high)),
         Err(CompareFault::Memory) => Err(OctalFault::Memory),
     }
 }

@@ -71,7 +71,7 @@ pub fn tell<W: Write, E: Write>(writer: &mut Counted<W>, errors: &mut Counted<E>
 pub fn complain_of<E: Write, F: Display + Drop>(errors: &mut Counted<E>, fault: F) -> u8
     ensures { result ≡ 2 }
 {
-    let mut text: ArrayString<64> = ArrayString::new();
+    let mut text: ArrayString<128> = ArrayString::new();
     let _ = writeln!(text, "{fault}");
     complain(errors, text.as_str())
 }

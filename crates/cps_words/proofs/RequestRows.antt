@@ -210,6 +210,15 @@ limits_row : answer_of (call (codes "compare" ∷ codes "--from" ∷ codes "100"
 unfolding clap_on_literals
 limits_row = refl
 
+falling_addresses : answer_of (call (codes "compare" ∷ codes "--from" ∷ codes "1001" ∷ codes "--to" ∷ codes "1000" ∷ codes "old.oct" ∷ [])) ≡ refuses
+unfolding clap_on_literals
+falling_addresses = refl
+
+one_address : answer_of (call (codes "compare" ∷ codes "--to=1000" ∷ codes "--from=1000" ∷ codes "old.oct" ∷ []))
+    ≡ asks (compare (Some (codes "old.oct")) (record { from = Some 512; to = Some 512; columns = None })) None
+unfolding clap_on_literals
+one_address = refl
+
 one_column : answer_of (call (codes "compare" ∷ codes "old.oct" ∷ codes "--columns" ∷ codes "7" ∷ []))
     ≡ asks (compare (Some (codes "old.oct")) (record { from = None; to = None; columns = columns_of 7 7 })) None
 unfolding clap_on_literals

@@ -127,11 +127,16 @@ columns_from word (Some halves) = columns_between (column_named halves.0) (colum
 abbrev pub columns_named : Text → Option Columns
 columns_named word = columns_from word (halves_of word)
 
+-- the first address isn't above the last, where both are named
+abbrev pub are_rising : Option ℕ → Option ℕ → Bool
+are_rising (Some from) (Some to) = nat_le from to
+are_rising _ _ = true
+
 abbrev pub limits_from : Option (Option ℕ) → Option (Option ℕ) → Option (Option Columns) → Option Limits
-limits_from (Some from) (Some to) (Some columns) = Some (record { from = from; to = to; columns = columns })
+limits_from (Some from) (Some to) (Some columns) = if are_rising from to then Some (record { from = from; to = to; columns = columns }) else None
 limits_from _ _ _ = None
 
--- the limits that the options name, None where one of their values is wrong
+-- the limits that the options name, None where one of their values is wrong, or the first address above the last
 abbrev pub limits_in : List Row → Option Limits
 limits_in rows = limits_from (value_from address_named (first_of (codes "from") rows)) (value_from address_named (first_of (codes "to") rows))
     (value_from columns_named (first_of (codes "columns") rows))

@@ -94,9 +94,9 @@ behind the code, and is read by --columns 10-36. In rows such as '100: 4000' put
 a blank in the place of the colon first, as by tr ':' ' '.
 
 Exit status:
-  0  all words agree
+  0  all words agree, of which there is one at least
   1  a word differs, is missing or too many
-  2  a fault, which is said on standard error";
+  2  a fault, which is said on standard error, also that nothing is compared";
 
 pub const EXPLAIN_ABOUT: &str = "Explain a flag or an operation";
 

@@ -1,8 +1,9 @@
 //! What is to be compared, by the options of `compare`.
-ghost use Rattle.std.specs.Prelude.{◌<◌, ◌^◌, IfOk, option_map};
+ghost use Rattle.std.specs.Prelude.{◌≡◌, ◌<◌, ◌^◌, IfOk, option_map};
 ghost use Rattle.std.specs.Option.{ForSome};
 ghost use Rattle.clap.specs.Words.{found_of, rows_of};
 ghost use Rattle.cps_words.specs.Values.{address_named, columns_named, value_from, limits_in};
+ghost use Rattle.cps_words.specs.Values as values;
 ghost use Rattle.cps_words.specs.Reading.{ReadsValue};
 
 use super::numbers::{read_address, read_columns};
@@ -20,7 +21,21 @@ pub fn read_limits(alloc: Global, values: &ArgMatches) -> Result<Limits, Unread>
     let from = read_address_limit(alloc, "--from <A>", word_in(values, "from"))?;
     let to = read_address_limit(alloc, "--to <B>", word_in(values, "to"))?;
     let columns = read_columns_limit(alloc, word_in(values, "columns"))?;
+    if !are_rising(from, to) {
+        let last = word_in(values, "to").unwrap_or("");
+        return Err(say_wrong_value(alloc, "--to <B>", last, "it is below the address of '--from'"));
+    }
     Ok(Limits { from, to, columns })
+}
+
+/// Whether a first address isn't above a last one, where both are named.
+fn are_rising(from: Option<u32>, to: Option<u32>) -> bool
+    ensures { result ≡ values.are_rising from to }
+{
+    match (from, to) {
+        (Some(from), Some(to)) => from <= to,
+        _ => true,
+    }
 }
 
 /// The address that an option names, None where it is left out.

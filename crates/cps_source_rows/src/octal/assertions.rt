@@ -47,6 +47,17 @@ pub fn assert_fault(
     drop(ran);
 }
 
+/// Asserts that a comparison of words from 100 to 101 within limits ends with a fault and writes nothing.
+pub fn assert_fault_within(rt: &impl Abort, alloc: Global, limits: Limits, fault: OctalFault)
+    requires { ForSome limits.to (λ to. to < 2 ^ 18) }
+{
+    let octal = ["000100 00000000000000000001 00000000000000000002"];
+    let source = ["          ORG     100B", "          DATA    1,2"];
+    let ran = ran(rt, alloc, &octal, &source, limits);
+    assert_ran(rt, 0, &ran, Err(fault), "");
+    drop(ran);
+}
+
 fn ran(rt: &impl Abort, alloc: Global, octal: &[&str], source: &[&str], limits: Limits) -> Ran
     requires { ForSome limits.to (λ to. to < 2 ^ 18) }
 {

@@ -1,7 +1,8 @@
 //! Addresses and columns that are asked for.
-use super::assertions::{Row, assert_told};
+use super::assertions::{Row, assert_fault_within, assert_told};
 use super::running::ALL;
 use cps_compare::{Columns, Limits};
+use cps_octal::OctalFault;
 
 /// Of four words the first and the last differ.
 const AMONG_FOUR: Row = (
@@ -38,6 +39,27 @@ fn compares_past_the_text(rt: HostRuntime) {
         ..ALL
     };
     assert_told(&rt, rt.alloc(), 0, &BEHIND, limits);
+}
+
+/// Where no word and no digits stand, nothing is compared, and nothing agrees by that.
+#[test]
+fn tells_that_nothing_is_compared(rt: HostRuntime) {
+    let behind = Limits {
+        from: Some(0o102),
+        to: Some(0o777),
+        ..ALL
+    };
+    assert_fault_within(&rt, rt.alloc(), behind, OctalFault::Nothing(0o102, 0o777));
+    let falling = Limits {
+        from: Some(0o102),
+        ..ALL
+    };
+    assert_fault_within(&rt, rt.alloc(), falling, OctalFault::Nothing(0o102, 0o101));
+    let before = Limits {
+        to: Some(0o77),
+        ..ALL
+    };
+    assert_fault_within(&rt, rt.alloc(), before, OctalFault::Nothing(0o100, 0o77));
 }
 
 /// A row whose first columns number it, and whose last ones have a remark of digits.

@@ -43,4 +43,5 @@ returns g c = λ pieces packed.
           ∙ (λ i. was.0 i ++ last_row (was.1 i) (was.2 i) low high)
           ∙ ap (λ n. flat_map (rows_at sides) (range_with_len low n) ++ last_row (count_by (differs_at sides) (range_with_len low n)) (count_by compared (range_with_len low n)) low high) same,
       c.in_ok-push_last.ensures.count ∙ was.1 ∙ ap (λ n. count_by (differs_at sides) (range_with_len low n)) same,
+      c.in_ok-push_last.ensures.compared ∙ was.2 ∙ ap (λ n. count_by compared (range_with_len low n)) same,
     )
