@@ -2,67 +2,61 @@
 use Rattle.std.proofs.Common.{◌≡◌, refl, sym, ap, subst, ◌∙◌, inr, ℕ, ℤ, List, [], ◌∷◌, ◌++◌, Option, Some, None}
 use Rattle.std.proofs.lemmas.List.{append-nil}
 use Rattle.serde_json.specs.Data.{Data, null}
+use Rattle.cps_frame.specs.Frame.{frame_of}
 use Rattle.cps_params.specs.Params.{Change, OpenedText, opened_in, version_in}
 use Rattle.cps_rpc.specs.declared.error_code.ErrorCode.TheVariants.{InvalidRequest, ParseError}
 use Rattle.cps_rpc.specs.Json.{IsNoJson}
 use Rattle.cps_rpc.specs.Message.{request, invalid}
 use Rattle.cps_rpc.specs.Outgoing.{refusal}
 use Rattle.cps_server.specs.Answers.{Hears, IsAnswered}
-use Rattle.cps_server.specs.Diagnostics.{list_text, news_of, published}
+use Rattle.cps_server.specs.Diagnostics.{published}
 use Rattle.cps_server.specs.Frames.{frame_of_json}
 use Rattle.cps_server.specs.Notices.{TakesText, Opens, OpensBy, ChangesText, ClosesText, changed_by}
 use Rattle.cps_server.specs.Requests.{Owed, Owes, after_request, answer_with, request_named}
 use Rattle.cps_server.specs.Said.{Adds}
 use Rattle.cps_server.specs.Standing.{OpenText, Standing, open_under, with_text, without}
-use Rattle.cps_server.specs.Writing.{ListsText, news_text}
+use Rattle.cps_server.specs.Writing.{ListsText, published_text}
 use Rattle.cps_server.proofs.SaidLemmas.{adds-one, adds-as}
 use Rattle.cps_server.proofs.TextLemmas.{without-twice}
-use Rattle.cps_server.proofs.WritingLemmas.{news-written}
+use Rattle.cps_server.proofs.WritingLemmas.{published-written}
 
 -- ---- texts
 
-pub takes : (old new : Standing) (uri : List ℕ) (version : Option ℤ) (text : List ℕ) (last : Option (List ℕ)) (list said now : List ℕ)
-    → ListsText old.encoding text list → now ≡ said ++ news_text last uri version list
-    → new ≡ record old { texts = with_text (record { uri = uri; text = text; told = list }) old.texts }
-    → Adds (λ news. TakesText old uri version text last news new) said now
-takes old new uri version text last list said now lists added moves = record {
-  said = news_of last uri version lists.0;
-  right = record {
-    told = lists.0;
-    tells = lists.1;
-    says = refl;
-    moves = moves ∙ ap (λ told. record old { texts = with_text (record { uri = uri; text = text; told = told }) old.texts }) lists.2;
-  };
-  added = added ∙ ap (λ told. said ++ news_text last uri version told) lists.2 ∙ ap (λ news. said ++ news) (sym (news-written last uri version lists.0));
-}
+pub takes : (old new : Standing) (uri : List ℕ) (version : Option ℤ) (text list said now : List ℕ)
+    → ListsText old.encoding text list → now ≡ said ++ frame_of (published_text uri version list)
+    → new ≡ record old { texts = with_text (record { uri = uri; text = text }) old.texts }
+    → Adds (λ news. TakesText old uri version text news new) said now
+takes old new uri version text list said now lists added moves =
+    adds-one (λ news. TakesText old uri version text news new) (published uri version lists.0) said now
+    (record { told = lists.0; tells = lists.1; says = refl; moves = moves })
+    (added ∙ ap (λ list. said ++ frame_of (published_text uri version list)) lists.2 ∙ ap (λ text. said ++ frame_of text) (sym (published-written uri version lists.0)))
 
 pub opens : (params : Data) (old new : Standing) (opened : OpenedText) (version : Option ℤ) (text said now : List ℕ) → opened_in params ≡ Some opened
-    → version ≡ version_in params → text ≡ opened.text → Adds (λ news. TakesText old opened.uri version text None news new) said now
+    → version ≡ version_in params → text ≡ opened.text → Adds (λ news. TakesText old opened.uri version text news new) said now
     → Adds (λ news. OpensBy params old news new) said now
 opens params old new opened version text said now there known same adds =
     subst (λ found. Adds (λ news. Opens old (version_in params) found news new) said now) (sym there)
-    (subst (λ v. Adds (λ news. TakesText old opened.uri v opened.text None news new) said now) known
-    (subst (λ t. Adds (λ news. TakesText old opened.uri version t None news new) said now) same adds))
+    (subst (λ v. Adds (λ news. TakesText old opened.uri v opened.text news new) said now) known
+    (subst (λ t. Adds (λ news. TakesText old opened.uri version t news new) said now) same adds))
 
-pub changes : (old mid new : Standing) (uri : List ℕ) (version : Option ℤ) (all : List Change) (one : OpenText) (made last said now : List ℕ)
-    → open_under uri old.texts ≡ Some one → last ≡ one.told → mid ≡ record old { texts = without uri old.texts } → made ≡ changed_by mid.encoding all one.text
-    → Adds (λ news. TakesText mid uri version made (Some last) news new) said now
+pub changes : (old mid new : Standing) (uri : List ℕ) (version : Option ℤ) (all : List Change) (one : OpenText) (made said now : List ℕ)
+    → open_under uri old.texts ≡ Some one → mid ≡ record old { texts = without uri old.texts } → made ≡ changed_by mid.encoding all one.text
+    → Adds (λ news. TakesText mid uri version made news new) said now
     → Adds (λ news. ChangesText old uri version all (open_under uri old.texts) news new) said now
-changes old mid new uri version all one made last said now there same moved is adds =
+changes old mid new uri version all one made said now there moved is adds =
     subst (λ found. Adds (λ news. ChangesText old uri version all found news new) said now) (sym there)
-    (adds-as (λ news. TakesText (record old { texts = without uri old.texts }) uri version (changed_by old.encoding all one.text) (Some one.told) news new)
-    (λ news. TakesText old uri version (changed_by old.encoding all one.text) (Some one.told) news new) said now
+    (adds-as (λ news. TakesText (record old { texts = without uri old.texts }) uri version (changed_by old.encoding all one.text) news new)
+    (λ news. TakesText old uri version (changed_by old.encoding all one.text) news new) said now
     (λ news takes. record {
       told = takes.told;
       tells = takes.tells;
       says = takes.says;
       moves = takes.moves
-          ∙ ap (λ texts. record old { texts = texts ++ record { uri = uri; text = changed_by old.encoding all one.text; told = list_text takes.told } ∷ [] })
+          ∙ ap (λ texts. record old { texts = texts ++ record { uri = uri; text = changed_by old.encoding all one.text } ∷ [] })
           (without-twice uri old.texts);
     })
-    (subst (λ standing. Adds (λ news. TakesText standing uri version (changed_by standing.encoding all one.text) (Some one.told) news new) said now) moved
-    (subst (λ text. Adds (λ news. TakesText mid uri version text (Some one.told) news new) said now) is
-    (subst (λ told. Adds (λ news. TakesText mid uri version made (Some told) news new) said now) same adds))))
+    (subst (λ standing. Adds (λ news. TakesText standing uri version (changed_by standing.encoding all one.text) news new) said now) moved
+    (subst (λ text. Adds (λ news. TakesText mid uri version text news new) said now) is adds)))
 
 pub closes : (old new : Standing) (uri : List ℕ) (one : OpenText) (said now : List ℕ) → open_under uri old.texts ≡ Some one
     → new ≡ record old { texts = without uri old.texts }

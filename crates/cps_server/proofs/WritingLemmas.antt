@@ -1,27 +1,25 @@
 -- Diagnostics as they are written.
-use Rattle.std.proofs.Common.{◌≡◌, refl, ap, subst, sym, ◌∙◌, append_assoc, arith, ℕ, ◌+◌, ◌-◌, ℤ, Bool, true, false, List, [], ◌∷◌, ◌++◌, map, drop, Option, Some, None}
-use Rattle.std.specs.Prelude.{codes, decimal, if◌then◌else◌, nat_lt, slice_index_or}
-use Rattle.std.specs.Fmt.{digits}
+use Rattle.std.proofs.Common.{rules, ◌≡◌, refl, ap, subst, sym, ◌∙◌, append_assoc, arith, ℕ, ◌+◌, ◌-◌, ℤ, Bool, true, false, List, [], ◌∷◌, ◌++◌, map, drop, Option, Some, None}
+use Rattle.std.specs.Prelude.{codes, decimal, length, nat_lt, slice_get, slice_index_or, take, unwrap_or}
 use Rattle.std.proofs.lemmas.Bool.Decides.{nat_tests}
-use Rattle.std.proofs.lemmas.List.{append-nil}
+use Rattle.std.proofs.lemmas.List.{append-nil, drop-map, length-drop, length-map, length-take, take-map}
 use Rattle.json.specs.Print.{escape_byte}
-use Rattle.serde_json.specs.Data.{Data, number, string}
+use Rattle.serde_json.specs.Data.{Data, number, object, string}
 use Rattle.serde_json.specs.Find.{of_integer}
 use Rattle.serde_json.specs.View.{items_of}
 use Rattle.serde_json.specs.Written.{comma_if, compact_text, items_text, members_text}
-use Rattle.cps_frame.specs.Frame.{frame_of}
 use Rattle.cps_buffer.specs.declared.encoding.Encoding.{Encoding}
+use Rattle.cps_buffer.specs.Lines.{source_lines}
 use Rattle.cps_cause.specs.declared.letter.Letter.{Letter}
 use Rattle.cps_cause.specs.declared.letter.Letter.TheVariants.{A, D, E, L, O, T, U, V}
 use Rattle.cps_marks.specs.declared.kind.Kind.{Kind}
 use Rattle.cps_marks.specs.declared.kind.Kind.TheVariants.{Flag, Wrong}
 use Rattle.cps_marks.specs.declared.mark.Mark as made
-use Rattle.cps_marks.specs.Marks.{place_of}
+use Rattle.cps_marks.specs.Marks.{Mark, Marks, place_of}
 use Rattle.cps_queries.specs.Ranges.{position, range_of, told_units}
 use Rattle.cps_server.specs.declared.diagnostic.Stretch.{Stretch}
-use Rattle.cps_server.specs.Diagnostics.{TellsMark, TellsMarks, diagnostic, error, letter_name, list_text, mark_range, news_of, published, was_last}
-use Rattle.cps_server.specs.Frames.{frame_of_json, text_of}
-use Rattle.cps_server.specs.Writing.{AddsMark, diagnostic_text, document_text, error_text, news_text, position_text, published_text, range_text, version_text}
+use Rattle.cps_server.specs.Diagnostics.{TellsMark, TellsMarks, diagnostic, letter_name, more_message, most_told, published, range_among, report, told_of_more}
+use Rattle.cps_server.specs.Writing.{AddsMark, AddsMarks, ListsText, behind_text, diagnostic_text, document_text, information_text, list_text, more_text, position_text, published_text, range_text, report_text, version_text}
 
 -- ---- a diagnostic
 
@@ -38,15 +36,20 @@ range-written line start end =
     joins (codes "{\"end\":") (compact_text (position line end)) (codes ",\"start\":") (compact_text (position line start)) (codes "}")
     ∙ (λ i. codes "{\"end\":" ++ position-written line end i ++ codes ",\"start\":" ++ position-written line start i ++ codes "}")
 
-error-written : (line start end : ℕ) (message : List ℕ)
-    → members_text false (error (range_of line start end) message) ≡ error_text (record { line = line; start = start; end = end }) message
-unfolding escape_byte digits
-error-written line start end message =
-    joins (codes "\"message\":") (compact_text (string message)) (codes ",\"range\":") (compact_text (range_of line start end)) (codes ",\"severity\":1,\"source\":\"compass\"}")
-    ∙ (λ i. codes "\"message\":" ++ compact_text (string message) ++ codes ",\"range\":" ++ range-written line start end i ++ codes ",\"severity\":1,\"source\":\"compass\"}")
+seven : (a b c d e f g : List ℕ) → a ++ (b ++ (c ++ (d ++ (e ++ (f ++ g))))) ≡ a ++ b ++ c ++ d ++ e ++ f ++ g
+seven a b c d e f g = simp append_assoc
+
+report-written : (severity line start end : ℕ) (message : List ℕ)
+    → members_text false (report severity (range_of line start end) message) ≡ report_text severity (record { line = line; start = start; end = end }) message
+unfolding escape_byte
+report-written severity line start end message =
+    seven (codes "\"message\":") (compact_text (string message)) (codes ",\"range\":") (compact_text (range_of line start end))
+    (codes ",\"severity\":") (decimal severity) (codes ",\"source\":\"compass\"}")
+    ∙ (λ i. codes "\"message\":" ++ compact_text (string message) ++ codes ",\"range\":" ++ range-written line start end i
+    ++ codes ",\"severity\":" ++ decimal severity ++ codes ",\"source\":\"compass\"}")
 
 flag-written : (letter : Letter) (range : Data) (message : List ℕ)
-    → compact_text (diagnostic (Flag letter) range message) ≡ codes "{\"code\":\"" ++ letter_name letter ++ codes "\"," ++ members_text false (error range message)
+    → compact_text (diagnostic (Flag letter) range message) ≡ codes "{\"code\":\"" ++ letter_name letter ++ codes "\"," ++ members_text false (report 1 range message)
 unfolding escape_byte
 flag-written A range message = refl
 flag-written D range message = refl
@@ -60,8 +63,12 @@ flag-written V range message = refl
 diagnostic-written : (kind : Kind) (line start end : ℕ) (message : List ℕ)
     → compact_text (diagnostic kind (range_of line start end) message) ≡ diagnostic_text kind (record { line = line; start = start; end = end }) message
 diagnostic-written (Flag letter) line start end message =
-    flag-written letter (range_of line start end) message ∙ ap (λ rest. codes "{\"code\":\"" ++ letter_name letter ++ codes "\"," ++ rest) (error-written line start end message)
-diagnostic-written Wrong line start end message = ap (λ rest. codes "{" ++ rest) (error-written line start end message)
+    flag-written letter (range_of line start end) message ∙ ap (λ rest. codes "{\"code\":\"" ++ letter_name letter ++ codes "\"," ++ rest) (report-written 1 line start end message)
+diagnostic-written Wrong line start end message = ap (λ rest. codes "{" ++ rest) (report-written 1 line start end message)
+
+information-written : (line start end : ℕ) (message : List ℕ)
+    → compact_text (object (report 3 (range_of line start end) message)) ≡ information_text (record { line = line; start = start; end = end }) message
+information-written line start end message = ap (λ rest. codes "{" ++ rest) (report-written 3 line start end message)
 
 -- where a mark of this line shows
 abbrev pub stretch_of : Encoding → List ℕ → made.Mark → Stretch
@@ -75,11 +82,89 @@ pub mark-added : (encoding : Encoding) (lines : List (List ℕ)) (mark : made.Ma
     → line ≡ slice_index_or lines mark.line [] → stretch ≡ stretch_of encoding line mark → new ≡ old ++ diagnostic_text mark.kind stretch message
     → AddsMark encoding lines (place_of mark) old new
 mark-added encoding lines mark line stretch message old new there shows added = (
-  diagnostic mark.kind (mark_range encoding (slice_index_or lines mark.line []) (place_of mark)) message,
+  diagnostic mark.kind (range_among encoding lines (place_of mark)) message,
   (message, refl),
   added ∙ (λ i. old ++ diagnostic_text mark.kind (shows i) message) ∙ (λ i. old ++ diagnostic_text mark.kind (stretch_of encoding (there i) mark) message)
       ∙ ap (λ text. old ++ text) (sym (diagnostic-written mark.kind mark.line _ _ message)),
 )
+
+-- ---- more marks
+
+more-told : (encoding : Encoding) (lines : List (List ℕ)) (mark : made.Mark) (marks : List made.Mark) (line : List ℕ) (stretch : Stretch) (message old mid new : List ℕ)
+    → line ≡ slice_index_or lines mark.line [] → stretch ≡ stretch_of encoding line mark → message ≡ more_message (length (mark ∷ marks))
+    → mid ≡ old ++ codes "," → new ≡ mid ++ information_text stretch message → new ≡ old ++ more_text encoding lines (map place_of (mark ∷ marks))
+more-told encoding lines mark marks line stretch message old mid new there shows counts comma added =
+    added ∙ (λ i. comma i ++ information_text (shows i) (counts i))
+    ∙ (λ i. old ++ codes "," ++ information_text (stretch_of encoding (there i) mark) (more_message (same i)))
+    ∙ ap (λ text. old ++ codes "," ++ text) (sym (information-written mark.line _ _ _)) ∙ append_assoc old (codes ",") _
+  where
+    same : length (mark ∷ marks) ≡ length (map place_of (mark ∷ marks))
+    same = sym (length-map (mark ∷ marks) place_of)
+
+pub more-added : (encoding : Encoding) (lines : List (List ℕ)) (marks : List made.Mark) (mark : made.Mark) (line : List ℕ) (stretch : Stretch) (message old mid new : List ℕ)
+    → slice_get marks 0 ≡ Some mark → line ≡ slice_index_or lines mark.line [] → stretch ≡ stretch_of encoding line mark
+    → message ≡ more_message (length marks) → mid ≡ old ++ codes "," → new ≡ mid ++ information_text stretch message
+    → new ≡ old ++ more_text encoding lines (map place_of marks)
+more-added encoding lines [] mark line stretch message old mid new first there shows counts comma added = absurd (search rules)
+more-added encoding lines (one ∷ marks) mark line stretch message old mid new first there shows counts comma added =
+    let same : mark ≡ one = sym (ap (λ o. unwrap_or o mark) first) in
+    more-told encoding lines one marks line stretch message old mid new (there ∙ ap (λ (m : made.Mark). slice_index_or lines m.line []) same)
+    (shows ∙ ap (stretch_of encoding line) same) counts comma added
+
+-- where no mark is left out, nothing is added
+pub none-more : (encoding : Encoding) (lines : List (List ℕ)) (marks : List made.Mark) (old : List ℕ) → slice_get marks 0 ≡ None
+    → old ≡ old ++ more_text encoding lines (map place_of marks)
+none-more encoding lines [] old none = sym (append-nil old)
+none-more encoding lines (one ∷ marks) old none = absurd (search rules)
+
+-- behind others stands what is told of more, and the end of the list
+ends-more : (encoding : Encoding) (lines : List (List ℕ)) (later : Bool) (marks : List Mark) → (0 < length marks → later ≡ true)
+    → more_text encoding lines marks ++ codes "]" ≡ items_text later (items_of (told_of_more encoding lines marks))
+ends-more encoding lines later [] some = refl
+ends-more encoding lines later (mark ∷ marks) some =
+    let told = told_of_more encoding lines (mark ∷ marks) in
+    append_assoc (codes ",") (compact_text (object (report 3 (range_among encoding lines mark) (more_message (length (mark ∷ marks)))))) (codes "]")
+    ∙ sym (λ i. items_text (some (omega arith) i) (items_of told))
+
+some-first : (marks : List Mark) → 0 < length (drop most_told marks) → nat_lt 0 (length (take most_told marks)) ≡ true
+some-first marks more =
+    let dropped = length-drop most_told marks in
+    let taken = length-take most_told marks in
+    grind (arith, nat_tests)
+
+pub list-made : (encoding : Encoding) (text : List ℕ) (marks first more : List made.Mark) (list mid behind new : List ℕ) → Marks text (map place_of marks)
+    → first ≡ take most_told marks → more ≡ drop most_told marks → list ≡ codes "[" → AddsMarks encoding (source_lines text) (map place_of first) list mid
+    → behind ≡ mid ++ more_text encoding (source_lines text) (map place_of more) → new ≡ behind ++ codes "]" → ListsText encoding text new
+list-made encoding text marks first more list mid behind new of_text is_first is_more opened adds more_added ended = (
+  adds.0 ++ told,
+  record {
+    marks = places;
+    of_text = of_text;
+    first = adds.0;
+    each = subst (λ ms. TellsMarks encoding lines ms adds.0) front adds.1;
+    all = refl;
+  },
+  ended ∙ ap (λ text. text ++ codes "]") more_added ∙ append_assoc mid (more_text encoding lines (map place_of more)) (codes "]")
+      ∙ (λ i. mid ++ (more_text encoding lines (back i) ++ codes "]"))
+      ∙ ap (λ text. mid ++ text) (ends-more encoding lines (nat_lt 0 (length (take most_told places))) (drop most_told places) (some-first places))
+      ∙ (λ i. mid ++ items_text (nat_lt 0 (length (sym front i))) (items_of told)) ∙ adds.2 told
+      ∙ ap (λ list. list ++ items_text false (items_of (adds.0 ++ told))) opened,
+)
+  where
+    lines : List (List ℕ)
+    lines = source_lines text
+
+    places : List Mark
+    places = map place_of marks
+
+    told : List Data
+    told = told_of_more encoding (source_lines text) (drop most_told (map place_of marks))
+
+    front : map place_of first ≡ take most_told places
+    front = ap (map place_of) is_first ∙ sym (take-map place_of most_told marks)
+
+    back : map place_of more ≡ drop most_told places
+    back = ap (map place_of) is_more ∙ sym (drop-map place_of most_told marks)
 
 -- ---- what is told with a list
 
@@ -93,19 +178,11 @@ ends-with head list member uri name version end = simp append_assoc
 abbrev head : List ℕ
 head = codes "{\"jsonrpc\":\"2.0\",\"method\":\"textDocument/publishDiagnostics\",\"params\":{\"diagnostics\":"
 
-published-written : (uri : List ℕ) (version : Option ℤ) (told : List Data) → compact_text (published uri version told) ≡ published_text uri version (list_text told)
+pub published-written : (uri : List ℕ) (version : Option ℤ) (told : List Data) → compact_text (published uri version told) ≡ published_text uri version (list_text told)
 unfolding escape_byte
 published-written uri None told = ends-alone head (list_text told) (codes ",\"uri\":") (compact_text (string uri)) (codes "}")
 published-written uri (Some version) told =
     ends-with head (list_text told) (codes ",\"uri\":") (compact_text (string uri)) (codes ",\"version\":") (compact_text (number (of_integer version))) (codes "}")
-
-pub news-written : (last : Option (List ℕ)) (uri : List ℕ) (version : Option ℤ) (told : List Data)
-    → text_of (news_of last uri version told) ≡ news_text last uri version (list_text told)
-news-written last uri version told = at (was_last last (list_text told))
-  where
-    at : (b : Bool) → text_of (if b then [] else published uri version told ∷ []) ≡ (if b then [] else frame_of (published_text uri version (list_text told)))
-    at true = refl
-    at false = append-nil (frame_of_json (published uri version told)) ∙ ap frame_of (published-written uri version told)
 
 -- the same of a list that is empty
 pub closed-written : (uri : List ℕ) → published_text uri None (codes "[]") ≡ compact_text (published uri None [])

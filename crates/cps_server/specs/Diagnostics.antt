@@ -1,10 +1,9 @@
--- What an editor is told of a text: a diagnostic for each mark. From the Language Server Protocol 3.17; when it is told is our own.
-use Rattle.std.specs.Prelude.{◌≡◌, ℕ, ℤ, Bool, false, List, [], ◌∷◌, Option, Some, None, bytes_eq, codes, slice_index_or, if◌then◌else◌}
+-- What an editor is told of a text: a diagnostic for each mark, up to 1,000. From the Language Server Protocol 3.17; the limit is our own.
+use Rattle.std.specs.Prelude.{◌≡◌, ℕ, ℤ, List, [], ◌∷◌, ◌++◌, length, take, drop, Option, Some, None, codes, decimal, slice_index_or}
 use Rattle.std.specs.List.{AllZip}
 use Rattle.serde_json.specs.Data.{Data, unsigned, number, string, array, object, Members, no_members, member}
 use Rattle.serde_json.specs.Find.{of_integer}
 use Rattle.serde_json.specs.View.{items_of}
-use Rattle.serde_json.specs.Written.{compact_text}
 use Rattle.cps_buffer.specs.declared.encoding.Encoding.{Encoding}
 use Rattle.cps_buffer.specs.Lines.{source_lines}
 use Rattle.cps_cause.specs.declared.letter.Letter.{Letter}
@@ -21,6 +20,10 @@ use Rattle.cps_marks.specs.Marks.{Mark, Marks}
 abbrev pub mark_range : Encoding → List ℕ → Mark → Data
 mark_range encoding line mark = columns_range encoding line mark.line mark.first mark.last
 
+-- that of a mark in a source of these lines
+abbrev pub range_among : Encoding → List (List ℕ) → Mark → Data
+range_among encoding lines mark = mark_range encoding (slice_index_or lines mark.line []) mark
+
 -- the name of a flag's letter
 abbrev pub letter_name : Letter → List ℕ
 letter_name A = codes "A"
@@ -32,25 +35,40 @@ letter_name T = codes "T"
 letter_name U = codes "U"
 letter_name V = codes "V"
 
--- an error of compass, with a range and a message
-abbrev pub error : Data → List ℕ → Members
-error range message =
+-- what compass reports of a range, with a message: an error has severity 1, and information severity 3
+abbrev pub report : ℕ → Data → List ℕ → Members
+report severity range message =
     member (codes "message") (string message) (member (codes "range") range
-    (member (codes "severity") (number (unsigned 1)) (member (codes "source") (string (codes "compass")) no_members)))
+    (member (codes "severity") (number (unsigned severity)) (member (codes "source") (string (codes "compass")) no_members)))
 
--- a flag is told with its letter
+-- an error; a flag is told with its letter
 abbrev pub diagnostic : Kind → Data → List ℕ → Data
-diagnostic (Flag letter) range message = object (member (codes "code") (string (letter_name letter)) (error range message))
-diagnostic Wrong range message = object (error range message)
+diagnostic (Flag letter) range message = object (member (codes "code") (string (letter_name letter)) (report 1 range message))
+diagnostic Wrong range message = object (report 1 range message)
 
 -- the diagnostic of a mark in a source of these lines; its message is free
 abbrev pub TellsMark : Encoding → List (List ℕ) → Mark → Data → Type 0
-TellsMark encoding lines mark json =
-    (message : List ℕ) × (json ≡ diagnostic mark.kind (mark_range encoding (slice_index_or lines mark.line []) mark) message)
+TellsMark encoding lines mark json = (message : List ℕ) × (json ≡ diagnostic mark.kind (range_among encoding lines mark) message)
 
 -- marks are told, each by a diagnostic, and nothing else
 abbrev pub TellsMarks : Encoding → List (List ℕ) → List Mark → List Data → Type 0
 TellsMarks encoding lines marks told = AllZip (TellsMark encoding lines) marks told
+
+-- ---- more marks
+
+-- the most marks that are told one by one
+abbrev pub most_told : ℕ
+most_told = 1_000
+
+-- how many more there are
+abbrev pub more_message : ℕ → List ℕ
+more_message count = codes "and " ++ decimal count ++ codes " more from here on"
+
+-- what is told of marks that are left out: where the first of them is, how many they are
+abbrev pub told_of_more : Encoding → List (List ℕ) → List Mark → List Data
+told_of_more encoding lines [] = []
+told_of_more encoding lines (mark ∷ marks) =
+    object (report 3 (range_among encoding lines mark) (more_message (length (mark ∷ marks)))) ∷ []
 
 -- ---- a text
 
@@ -63,21 +81,10 @@ told_of uri (Some version) list =
 abbrev pub published : List ℕ → Option ℤ → List Data → Data
 published uri version told = notification (codes "textDocument/publishDiagnostics") (told_of uri version (array (items_of told)))
 
--- the marks of a text are told, and nothing else
+-- the marks of a text are told, and nothing else: the first 1,000 one by one, and how many more there are
 pub record TellsText (encoding : Encoding) (text : List ℕ) (told : List Data) : Type 0 where
   pub marks : List Mark
   pub of_text : Marks text marks
-  pub each : TellsMarks encoding (source_lines text) marks told
-
--- a list of diagnostics as JSON, with no blank in it
-abbrev pub list_text : List Data → List ℕ
-list_text told = compact_text (array (items_of told))
-
--- whether a list is that which was told last
-abbrev pub was_last : Option (List ℕ) → List ℕ → Bool
-was_last None list = false
-was_last (Some last) list = bytes_eq last list
-
--- what is said of a text, by its diagnostics: nothing, if these were told last
-abbrev pub news_of : Option (List ℕ) → List ℕ → Option ℤ → List Data → List Data
-news_of last uri version told = if was_last last (list_text told) then [] else published uri version told ∷ []
+  pub first : List Data
+  pub each : TellsMarks encoding (source_lines text) (take most_told marks) first
+  pub all : told ≡ first ++ told_of_more encoding (source_lines text) (drop most_told marks)

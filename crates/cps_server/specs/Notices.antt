@@ -8,7 +8,7 @@ use Rattle.cps_server.specs.declared.notice.Notice.{Notice}
 use Rattle.cps_server.specs.declared.notice.Notice.TheVariants.{Exit, Open, Change as ChangeNotice, Close, Unknown}
 use Rattle.cps_server.specs.declared.phase.Phase.{Phase}
 use Rattle.cps_server.specs.declared.phase.Phase.TheVariants.{Uninitialized, Running, ShutDown}
-use Rattle.cps_server.specs.Diagnostics.{TellsText, list_text, news_of, published}
+use Rattle.cps_server.specs.Diagnostics.{TellsText, published}
 use Rattle.cps_server.specs.Standing.{OpenText, Standing, open_under, with_text, without}
 
 -- the notification of a method
@@ -23,17 +23,17 @@ notice_named method =
 abbrev pub IsSilent : Standing → List Data → Standing → Type 0
 IsSilent old said new = (said ≡ []) × (new ≡ old)
 
--- a text is open under a URI; its marks are told, unless its last diagnostics were the same
-pub record TakesText (old : Standing) (uri : List ℕ) (version : Option ℤ) (text : List ℕ) (last : Option (List ℕ)) (said : List Data) (new : Standing) : Type 0 where
+-- a text is open under a URI, and its marks are told
+pub record TakesText (old : Standing) (uri : List ℕ) (version : Option ℤ) (text : List ℕ) (said : List Data) (new : Standing) : Type 0 where
   pub told : List Data
   pub tells : TellsText old.encoding text told
-  pub says : said ≡ news_of last uri version told
-  pub moves : new ≡ record old { texts = with_text (record { uri = uri; text = text; told = list_text told }) old.texts }
+  pub says : said ≡ published uri version told ∷ []
+  pub moves : new ≡ record old { texts = with_text (record { uri = uri; text = text }) old.texts }
 
 -- a text is opened; wrong parameters do nothing
 abbrev pub Opens : Standing → Option ℤ → Option OpenedText → List Data → Standing → Type 0
 Opens old version None said new = IsSilent old said new
-Opens old version (Some opened) said new = TakesText old opened.uri version opened.text None said new
+Opens old version (Some opened) said new = TakesText old opened.uri version opened.text said new
 
 abbrev pub OpensBy : Data → Standing → List Data → Standing → Type 0
 OpensBy params old said new = Opens old (version_in params) (opened_in params) said new
@@ -48,7 +48,7 @@ changed_by encoding (change ∷ changes) text = changed_by encoding changes (cha
 -- the text under a URI is changed, if one is open there
 abbrev pub ChangesText : Standing → List ℕ → Option ℤ → List Change → Option OpenText → List Data → Standing → Type 0
 ChangesText old uri version changes None said new = IsSilent old said new
-ChangesText old uri version changes (Some one) said new = TakesText old uri version (changed_by old.encoding changes one.text) (Some one.told) said new
+ChangesText old uri version changes (Some one) said new = TakesText old uri version (changed_by old.encoding changes one.text) said new
 
 abbrev pub ChangesUnder : List ℕ → Option ℤ → List Change → Standing → List Data → Standing → Type 0
 ChangesUnder uri version changes old said new = ChangesText old uri version changes (open_under uri old.texts) said new

@@ -7,11 +7,10 @@ use Rattle.cps_server.specs.declared.phase.Phase.TheVariants.{Uninitialized, Run
 
 -- ---- texts
 
--- A text that is open, under the URI of its document, with the list of its diagnostics that was told last, as JSON.
+-- A text that is open, under the URI of its document.
 pub record OpenText : Type 0 where
   pub uri : List ℕ
   pub text : List ℕ
-  pub told : List ℕ
 
 abbrev pub is_under : List ℕ → OpenText → Bool
 is_under uri one = bytes_eq one.uri uri

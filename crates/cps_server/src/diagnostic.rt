@@ -3,7 +3,7 @@ ghost use Rattle.std.specs.Prelude.{◌≡◌, ◌-◌, ◌++◌, OnOk};
 ghost use Rattle.cps_marks.specs.declared.kind.Kind.TheVariants.{Flag, Wrong};
 ghost use Rattle.cps_queries.specs.Ranges.{told_units};
 ghost use Rattle.cps_server.specs.Diagnostics as diagnostics;
-ghost use Rattle.cps_server.specs.Writing.{diagnostic_text, error_text, position_text, range_text};
+ghost use Rattle.cps_server.specs.Writing.{diagnostic_text, information_text, message_text, position_text, range_text, report_text};
 
 use crate::writing::push_string;
 use cps_buffer::{Encoding, units_before};
@@ -11,6 +11,11 @@ use cps_cause::Letter;
 use cps_listing::push_decimal;
 use cps_marks::{Kind, Mark};
 use std::alloc::{AllocError, Global};
+
+/// How severe a diagnostic is, as the protocol counts.
+const ERROR: u64 = 1;
+
+const INFORMATION: u64 = 3;
 
 /// Where a diagnostic shows: its line, from 0, and the units there before its first column and through its last.
 #[derive(Clone, Copy)]
@@ -66,7 +71,7 @@ fn push_flag(
     text.extend_from_slice(b"{\"code\":\"")?;
     text.extend_from_slice(letter_name(letter).as_bytes())?;
     text.extend_from_slice(b"\",")?;
-    push_error(alloc, text, stretch, message)
+    push_report(alloc, text, ERROR, stretch, message)
 }
 
 /// Appends the diagnostic of bytes that no line may have.
@@ -79,23 +84,51 @@ fn push_fault(
     ensures { OnOk result (text.new.items ≡ text.old.items ++ diagnostic_text Wrong stretch message.now) }
 {
     text.extend_from_slice(b"{")?;
-    push_error(alloc, text, stretch, message)
+    push_report(alloc, text, ERROR, stretch, message)
 }
 
-/// Appends what all diagnostics have, and their end.
-fn push_error(
+/// Appends the diagnostic of what is no error.
+pub fn push_information(
     alloc: Global,
     text: &mut Vec<u8>,
     stretch: Stretch,
     message: &str,
 ) -> Result<(), AllocError>
-    ensures { OnOk result (text.new.items ≡ text.old.items ++ error_text stretch message.now) }
+    ensures { OnOk result (text.new.items ≡ text.old.items ++ information_text stretch message.now) }
+{
+    text.extend_from_slice(b"{")?;
+    push_report(alloc, text, INFORMATION, stretch, message)
+}
+
+/// Appends what all diagnostics have, and their end.
+fn push_report(
+    alloc: Global,
+    text: &mut Vec<u8>,
+    severity: u64,
+    stretch: Stretch,
+    message: &str,
+) -> Result<(), AllocError>
+    ensures { OnOk result (text.new.items ≡ text.old.items ++ report_text severity stretch message.now) }
+{
+    push_message(alloc, text, stretch, message)?;
+    text.extend_from_slice(b",\"severity\":")?;
+    push_decimal(text, severity)?;
+    text.extend_from_slice(b",\"source\":\"compass\"}")
+}
+
+/// Appends a message, and where it shows.
+fn push_message(
+    alloc: Global,
+    text: &mut Vec<u8>,
+    stretch: Stretch,
+    message: &str,
+) -> Result<(), AllocError>
+    ensures { OnOk result (text.new.items ≡ text.old.items ++ message_text stretch message.now) }
 {
     text.extend_from_slice(b"\"message\":")?;
     push_string(alloc, text, message)?;
     text.extend_from_slice(b",\"range\":")?;
-    push_range(text, stretch)?;
-    text.extend_from_slice(b",\"severity\":1,\"source\":\"compass\"}")
+    push_range(text, stretch)
 }
 
 /// Appends a range in a line.

@@ -1,13 +1,14 @@
-//! The diagnostics of a text, and when an editor is told them.
-ghost use Rattle.std.specs.Prelude.{◌≡◌, [], ◌++◌, map, option_map, IfOk, OnOk, None};
+//! The diagnostics of a text, and how an editor is told them.
+ghost use Rattle.std.specs.Prelude.{◌≡◌, [], ◌++◌, map, IfOk, OnOk, None};
+ghost use Rattle.std.specs.String.{string_bytes};
 ghost use Rattle.cps_buffer.specs.Lines.{source_lines};
 ghost use Rattle.cps_frame.specs.Frame.{frame_of};
 ghost use Rattle.cps_marks.specs.Marks.{place_of};
-ghost use Rattle.cps_server.specs.Diagnostics.{published, was_last};
+ghost use Rattle.cps_server.specs.Diagnostics.{more_message, published};
 ghost use Rattle.cps_server.specs.Frames.{frame_of_json};
-ghost use Rattle.cps_server.specs.Writing.{AddsMark, AddsMarks, ListsText, document_text, news_text, published_text};
+ghost use Rattle.cps_server.specs.Writing.{AddsMark, AddsMarks, ListsText, document_text, more_text, published_text};
 
-use crate::diagnostic::{Stretch, push_diagnostic};
+use crate::diagnostic::{Stretch, push_diagnostic, push_information};
 use crate::writing::{push_comma, push_string, push_version};
 use cps_buffer::Encoding;
 use cps_document::Document;
@@ -16,6 +17,9 @@ use cps_lookup::line_of;
 use cps_marks::{Mark, marks_of};
 use std::alloc::{AllocError, Global};
 use std::str;
+
+/// The most marks that are told one by one.
+const MOST_TOLD: usize = 1_000;
 
 /// A text of which an editor is told.
 #[derive(Clone, Copy)]
@@ -28,7 +32,7 @@ pub struct ToldText<'a> {
 
 // ---- the list
 
-/// The diagnostics of a document's text, as JSON with no blank in it.
+/// The diagnostics of a document's text, as JSON with no blank in it: of its first 1,000 marks, and one that tells how many more there are.
 pub fn list_of(
     alloc: Global,
     encoding: Encoding,
@@ -37,13 +41,17 @@ pub fn list_of(
     ensures { IfOk result (λ list. ListsText encoding document.now list.items) }
 {
     let marks = marks_of(alloc, document)?;
+    let all = marks.as_slice();
+    let (first, more) = all.split_at(MOST_TOLD.min(all.len()));
     let mut list = Vec::new(alloc);
     list.push(b'[')?;
-    push_marks(alloc, encoding, document, &marks, &mut list)?;
+    push_marks(alloc, encoding, document, first, &mut list)?;
+    push_more(alloc, encoding, document, more, &mut list)?;
+    list.push(b']')?;
     Ok(list)
 }
 
-/// Appends the diagnostics of marks in a document's text, and the end of their list.
+/// Appends the diagnostics of marks in a document's text to the beginning of a list.
 fn push_marks(
     alloc: Global,
     encoding: Encoding,
@@ -57,7 +65,6 @@ fn push_marks(
         push_comma(list, at > 0)?;
         push_mark(alloc, encoding, document, mark, list)?;
     }
-    list.push(b']')?;
     Ok(())
 }
 
@@ -76,6 +83,33 @@ fn push_mark(
     push_diagnostic(alloc, list, mark.kind, stretch, text_of(&mark.message))
 }
 
+/// Appends to a list the diagnostic that tells how many marks are left out, if some are. It shows where the first of them would.
+fn push_more(
+    alloc: Global,
+    encoding: Encoding,
+    document: &Document,
+    marks: &[Mark],
+    list: &mut Vec<u8>,
+) -> Result<(), AllocError>
+    ensures { OnOk result (list.new.items ≡ list.old.items ++ more_text encoding (source_lines document.now) (map place_of marks.now)) }
+{
+    let Some(mark) = marks.first() else {
+        return Ok(());
+    };
+    let line = line_of(document, mark.line);
+    let stretch = Stretch::of(encoding, line, mark);
+    let message = message_of_more(alloc, marks.len())?;
+    list.push(b',')?;
+    push_information(alloc, list, stretch, &message)
+}
+
+/// How many marks are left out.
+fn message_of_more(alloc: Global, count: usize) -> Result<String, AllocError>
+    ensures { IfOk result (λ message. string_bytes message ≡ more_message count) }
+{
+    format!(in alloc; "and {count} more from here on")
+}
+
 /// A message as a text.
 fn text_of(message: &[u8]) -> &str {
     match str::from_utf8(message) {
@@ -86,33 +120,6 @@ fn text_of(message: &[u8]) -> &str {
 
 // ---- what is said
 
-/// Says the diagnostics of a text, by their list, unless this one was told last.
-pub fn say_news(
-    alloc: Global,
-    text: ToldText<'_>,
-    last: Option<&[u8]>,
-    list: &[u8],
-    said: &mut Vec<u8>,
-) -> Result<(), AllocError>
-    ensures { OnOk result (said.new.items
-        ≡ said.old.items ++ news_text (option_map (λ last. last.now) last.entry) text.entry.uri.now text.entry.version list.now) }
-{
-    if is_last(last, list) {
-        return Ok(());
-    }
-    say_list(alloc, text, list, said)
-}
-
-/// Whether a list is that which was told last.
-fn is_last(last: Option<&[u8]>, list: &[u8]) -> bool
-    ensures { result ≡ was_last (option_map (λ last. last.now) last.entry) list.now }
-{
-    match last {
-        Some(last) => last == list,
-        None => false,
-    }
-}
-
 /// Says that an editor has no diagnostics of a text that was closed.
 pub fn say_closed(alloc: Global, uri: &str, said: &mut Vec<u8>) -> Result<(), AllocError>
     ensures { OnOk result (said.new.items ≡ said.old.items ++ frame_of_json (published uri.now None [])) }
@@ -120,8 +127,8 @@ pub fn say_closed(alloc: Global, uri: &str, said: &mut Vec<u8>) -> Result<(), Al
     say_list(alloc, ToldText { uri, version: None }, b"[]", said)
 }
 
-/// Says a list of diagnostics.
-fn say_list(
+/// Says a list of diagnostics of a text.
+pub fn say_list(
     alloc: Global,
     text: ToldText<'_>,
     list: &[u8],

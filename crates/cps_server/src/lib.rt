@@ -1,7 +1,7 @@
 //! A server for editors, by the Language Server Protocol: it tells which flags the texts have that an editor has open.
 //!
 //! - `diagnostic.rt`: a diagnostic, as it is written
-//! - `diagnostics.rt`: the diagnostics of a text, and when an editor is told them
+//! - `diagnostics.rt`: the diagnostics of a text, and how an editor is told them
 //! - `introducing.rt`: what a server tells of itself
 //! - `notice.rt`: the notifications that a server hears
 //! - `open_texts.rt`: the texts that are open

@@ -12,36 +12,25 @@ pub struct OpenText {
     /// The URI of its document.
     uri: String,
     document: Document,
-    /// The list of its diagnostics that was told last, as JSON.
-    told: Vec<u8>,
 }
 
 // Written out, as that of the document.
 impl Drop for OpenText {
     fn drop(self) {
-        let OpenText {
-            uri,
-            document,
-            told,
-        } = self;
+        let OpenText { uri, document } = self;
         drop(uri);
         drop(document);
-        drop(told);
     }
 }
 
 impl OpenText {
-    /// Its document, and the list of its diagnostics that was told last.
-    pub fn into_parts(self) -> (Document, Vec<u8>)
-        ensures { result ≡ (self.document, self.told) }
+    /// Its document.
+    pub fn into_document(self) -> Document
+        ensures { result ≡ self.document }
     {
-        let OpenText {
-            uri,
-            document,
-            told,
-        } = self;
+        let OpenText { uri, document } = self;
         drop(uri);
-        (document, told)
+        document
     }
 }
 
@@ -99,16 +88,12 @@ impl OpenTexts {
         found
     }
 
-    /// Opens a text behind all others, with the list of its diagnostics that is told.
-    pub fn push(&mut self, uri: &str, document: Document, told: Vec<u8>) -> Result<(), AllocError>
-        ensures { OnOk result (self.new ≡ self.old ++ record { uri = uri.now; text = document; told = told.items } ∷ []) }
+    /// Opens a text behind all others.
+    pub fn push(&mut self, uri: &str, document: Document) -> Result<(), AllocError>
+        ensures { OnOk result (self.new ≡ self.old ++ record { uri = uri.now; text = document } ∷ []) }
     {
         let uri = uri.to_string(self.alloc)?;
-        self.list.push(OpenText {
-            uri,
-            document,
-            told,
-        })?;
+        self.list.push(OpenText { uri, document })?;
         Ok(())
     }
 

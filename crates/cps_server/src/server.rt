@@ -1,5 +1,5 @@
 //! The server, and what it answers.
-ghost use Rattle.std.specs.Prelude.{◌≡◌, false, map, option_map, OnOk, IfOk};
+ghost use Rattle.std.specs.Prelude.{◌≡◌, false, map, OnOk, IfOk};
 ghost use Rattle.serde_json.specs.Data.{null};
 ghost use Rattle.serde_json.specs.View.{view};
 ghost use Rattle.serde_json.specs.Written.{has_float};
@@ -13,7 +13,7 @@ ghost use Rattle.cps_server.specs.Said.{Into, has_float_id};
 ghost use Rattle.cps_server.specs.Taking.{Changes, Takes};
 ghost use Rattle.cps_server.specs.Standing.{beginning, is_shut_down};
 
-use crate::diagnostics::{ToldText, list_of, say_closed, say_news};
+use crate::diagnostics::{ToldText, list_of, say_closed, say_list};
 use crate::introducing::introduction;
 use crate::notice::Notice;
 use crate::open_texts::OpenTexts;
@@ -234,10 +234,10 @@ impl Server {
             version: version_in(params),
         };
         let document = Document::open(self.alloc, self.hashing, opened.text.as_bytes())?;
-        self.keep(told, document, None, said)
+        self.keep(told, document, said)
     }
 
-    /// Changes a text, and tells its marks if they differ. Wrong parameters do nothing.
+    /// Changes a text, and tells its marks. Wrong parameters do nothing.
     fn change(&mut self, params: &Value, said: &mut Vec<u8>) -> Result<(), AllocError>
         ensures { OnOk result (Into (notices.ChangesBy (view params.now)) self.old self.new said.old.items said.new.items) }
     {
@@ -254,7 +254,7 @@ impl Server {
         self.change_text(told, &changes, said)
     }
 
-    /// Changes the text under a URI, if one is open there, and tells its marks if they differ.
+    /// Changes the text under a URI, if one is open there, and tells its marks.
     fn change_text(
         &mut self,
         told: ToldText<'_>,
@@ -266,9 +266,8 @@ impl Server {
         let Some(open) = self.texts.take(told.uri) else {
             return Ok(());
         };
-        let (document, last) = open.into_parts();
-        let document = changed_by(document, self.encoding, changes)?;
-        self.keep(told, document, Some(&last), said)
+        let document = changed_by(open.into_document(), self.encoding, changes)?;
+        self.keep(told, document, said)
     }
 
     /// Closes a text. Wrong parameters do nothing.
@@ -292,21 +291,19 @@ impl Server {
         say_closed(self.alloc, uri, said)
     }
 
-    /// Keeps a text open, in the place of another under its URI. Tells its marks, unless its last list of diagnostics was the same.
+    /// Keeps a text open, in the place of another under its URI, and tells its marks.
     fn keep(
         &mut self,
         told: ToldText<'_>,
         document: Document,
-        last: Option<&[u8]>,
         said: &mut Vec<u8>,
     ) -> Result<(), AllocError>
-        ensures { OnOk result (Into (Takes told.entry document (option_map (λ last. last.now) last.entry))
-            self.old self.new said.old.items said.new.items) }
+        ensures { OnOk result (Into (Takes told.entry document) self.old self.new said.old.items said.new.items) }
     {
         let list = list_of(self.alloc, self.encoding, &document)?;
-        say_news(self.alloc, told, last, &list, said)?;
+        say_list(self.alloc, told, &list, said)?;
         drop(self.texts.take(told.uri));
-        self.texts.push(told.uri, document, list)
+        self.texts.push(told.uri, document)
     }
 }
 

@@ -7,6 +7,7 @@
 //! - `hint_rows.rt`: what is shown behind lines
 //! - `hover_rows.rt`: what is shown of a place
 //! - `listing_rows.rt`: the listing of lines
+//! - `many_rows.rt`: texts with many marks
 //! - `outline_rows.rt`: the symbols of a text
 //! - `phase_rows.rt`: how conversations begin and end
 //! - `place_rows.rt`: where symbols are defined and read
@@ -20,6 +21,7 @@ mod device_rows;
 mod hint_rows;
 mod hover_rows;
 mod listing_rows;
+mod many_rows;
 mod outline_rows;
 mod phase_rows;
 mod place_rows;

@@ -141,7 +141,7 @@ fn refuses_requests(rt: HostRuntime) {
     }
 }
 
-/// Conversations about two texts, and about a text before a change and behind it, which tells nothing: no line has a flag.
+/// Conversations about two texts, and about a text before a change and behind it, which is told too: no line has a flag.
 const STATES: [Row; 2] = [
     (
         &[
@@ -183,6 +183,7 @@ const STATES: [Row; 2] = [
             TOLD_A,
             r#"{"id":11,"jsonrpc":"2.0","result":{"contents":{"language":"compass","value":"L        00000000000000000000 1\n         000000 00000000000000000001      1 L         CON    1\n"}}}"#,
             r#"{"id":15,"jsonrpc":"2.0","result":[{"label":"000000 00000000000000000001","paddingLeft":true,"position":{"character":18,"line":0}}]}"#,
+            TOLD_A,
             r#"{"id":11,"jsonrpc":"2.0","result":{"contents":{"language":"compass","value":"         000000 00000000000000000001      1           CON    L\n"}}}"#,
             r#"{"id":15,"jsonrpc":"2.0","result":[{"label":"000000 00000000000000000001","paddingLeft":true,"position":{"character":18,"line":0}},{"label":"000001 00000000000000000001","paddingLeft":true,"position":{"character":26,"line":1}}]}"#,
             r#"{"id":13,"jsonrpc":"2.0","result":[]}"#,

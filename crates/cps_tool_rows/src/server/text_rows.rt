@@ -47,8 +47,8 @@ const CONVERSATIONS: [Row; 8] = [
             "{\"jsonrpc\":\"2.0\",\"method\":\"textDocument/publishDiagnostics\",\"params\":{\"diagnostics\":[{\"code\":\"U\",\"message\":\"no line gives B a value; it counts as 0\",\"range\":{\"end\":{\"character\":19,\"line\":0},\"start\":{\"character\":18,\"line\":0}},\"severity\":1,\"source\":\"compass\"}],\"uri\":\"a\",\"version\":6}}",
         ],
     ),
-    // a change behind the operand tells nothing, since the flag stays; one that moves it, and one that mends it are told; a line without a flag tells nothing; a
-    // text that is opened again is told as at first, and its own text in its place tells nothing
+    // each change is told with its version: one behind the operand, where the flag stays; one that moves it, one that mends it, and a line without a flag; a
+    // text that is opened again is told as at first, and so is its own text in its place
     (
         &[
             INITIALIZE,
@@ -65,9 +65,12 @@ const CONVERSATIONS: [Row; 8] = [
         &[
             UTF16,
             FLAGGED,
+            "{\"jsonrpc\":\"2.0\",\"method\":\"textDocument/publishDiagnostics\",\"params\":{\"diagnostics\":[{\"code\":\"U\",\"message\":\"no line gives Q a value; it counts as 0\",\"range\":{\"end\":{\"character\":19,\"line\":0},\"start\":{\"character\":18,\"line\":0}},\"severity\":1,\"source\":\"compass\"}],\"uri\":\"a\",\"version\":2}}",
             "{\"jsonrpc\":\"2.0\",\"method\":\"textDocument/publishDiagnostics\",\"params\":{\"diagnostics\":[{\"code\":\"U\",\"message\":\"no line gives Q a value; it counts as 0\",\"range\":{\"end\":{\"character\":19,\"line\":1},\"start\":{\"character\":18,\"line\":1}},\"severity\":1,\"source\":\"compass\"}],\"uri\":\"a\",\"version\":3}}",
             "{\"jsonrpc\":\"2.0\",\"method\":\"textDocument/publishDiagnostics\",\"params\":{\"diagnostics\":[],\"uri\":\"a\",\"version\":4}}",
+            "{\"jsonrpc\":\"2.0\",\"method\":\"textDocument/publishDiagnostics\",\"params\":{\"diagnostics\":[],\"uri\":\"a\",\"version\":5}}",
             FLAGGED,
+            "{\"jsonrpc\":\"2.0\",\"method\":\"textDocument/publishDiagnostics\",\"params\":{\"diagnostics\":[{\"code\":\"U\",\"message\":\"no line gives Q a value; it counts as 0\",\"range\":{\"end\":{\"character\":19,\"line\":0},\"start\":{\"character\":18,\"line\":0}},\"severity\":1,\"source\":\"compass\"}],\"uri\":\"a\",\"version\":2}}",
         ],
     ),
     // no text is open under a URI; texts under two; each is closed once, and opened again in the place of itself

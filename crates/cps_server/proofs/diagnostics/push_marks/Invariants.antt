@@ -1,4 +1,4 @@
-use Rattle.std.proofs.Common.{◌≡◌, List, ◌++◌, drop, map}
+use Rattle.std.proofs.Common.{◌≡◌, ◌≤◌, List, ◌++◌, drop, length, map}
 use Rattle.std.specs.Prelude.{false, nat_lt}
 use Rattle.serde_json.specs.Data.{Data}
 use Rattle.serde_json.specs.View.{items_of}
@@ -8,9 +8,12 @@ use Rattle.cps_marks.specs.Marks.{place_of}
 use Rattle.cps_server.specs.Diagnostics.{TellsMarks}
 use Rattle.cps_server.proofs.diagnostics.push_marks.Given as goal
 
--- whatever tells the marks that are left stands behind what is written so far, and all of it tells all marks
+-- whatever tells the marks that are left, and more, stands behind what is written so far, and all of it tells all marks, and more
+pub record IsSoFar (l : goal.Live-loop-at) : Type 0 where
+  pub within : l.at ≤ length l.marks
+  pub tells : (rest : List Data) → TellsMarks l.encoding (source_lines l.document) (map place_of (drop l.at l.marks)) rest
+      → (told : List Data) × TellsMarks l.encoding (source_lines l.document) (map place_of l.marks) told
+      × ((more : List Data) → l.list.items ++ items_text (nat_lt 0 l.at) (items_of (rest ++ more)) ≡ l.fn.list.items ++ items_text false (items_of (told ++ more)))
+
 abbrev pub invariant-loop-at : goal.invariant-loop-at
-invariant-loop-at l =
-    (rest : List Data) → TellsMarks l.encoding (source_lines l.document) (map place_of (drop l.at l.marks)) rest
-    → (told : List Data) × TellsMarks l.encoding (source_lines l.document) (map place_of l.marks) told
-    × (l.list.items ++ items_text (nat_lt 0 l.at) (items_of rest) ≡ l.fn.list.items ++ items_text false (items_of told))
+invariant-loop-at l = IsSoFar l

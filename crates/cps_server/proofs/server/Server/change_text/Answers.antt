@@ -19,7 +19,6 @@ returns c =
     ap (λ (s : Standing). open_under uri s.texts) (sym c.self.view_is) ∙ sym c.take.ensures.open ∙ ap (option_map opened.value_of) c.in-Some.is in
     let moved : mid ≡ record c.args.self.now { texts = without uri c.args.self.now.texts } =
     ap (λ texts. record mid { texts = texts }) c.take.ensures.left ∙ ap (λ (s : Standing). record s { texts = without uri s.texts }) c.self.view_is in
-    let made = c.in_ok-document.ensures ∙ ap (λ parts. changed_by inside.encoding all parts.0) c.into_parts-document.ensures in
-    let last = c.deref.ensures.value ∙ ap (λ parts. parts.1.items) c.into_parts-document.ensures in
-    on_ok_weaker c.keep.result (changes c.args.self.now mid c.keep.new.self uri c.args.told.version all one c.in_ok-document.document c.deref.result.now
-    c.args.said.now.items c.keep.new.said.items there last moved made) c.keep.ensures
+    let made = c.in_ok-document.ensures ∙ ap (λ text. changed_by inside.encoding all text) c.into_document.ensures in
+    on_ok_weaker c.keep.result (changes c.args.self.now mid c.keep.new.self uri c.args.told.version all one c.in_ok-document.document
+    c.args.said.now.items c.keep.new.said.items there moved made) c.keep.ensures
