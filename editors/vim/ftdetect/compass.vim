@@ -1,2 +1,2 @@
-" Sources of COMPASS.
-autocmd BufNewFile,BufRead *.cps set filetype=compass
+" Sources of COMPASS. The type is set once, also where the user's own files set it.
+autocmd BufNewFile,BufRead *.cps if &filetype !=# 'compass' | set filetype=compass | endif
