@@ -1,4 +1,4 @@
-//! Readers that are slow, that fail, or that would go on.
+//! Readers that are slow, that fail, that would go on, or that never end.
 ghost use Rattle.std.specs.Prelude.{Some};
 
 use std::io;
@@ -42,5 +42,23 @@ impl Read for Resuming<'_> {
         }
         buf[..self.text.len()].copy_from_slice(self.text);
         Ok(self.text.len())
+    }
+}
+
+/// A reader that gives the same byte at each call, one at a time and without end.
+#[derive(Drop)]
+pub struct Endless {
+    pub byte: u8,
+}
+
+impl Read for Endless {
+    fn read(&mut self, buf: &mut [u8]) -> io::Result<usize> {
+        match buf {
+            [] => Ok(0),
+            [first, ..] => {
+                *first = self.byte;
+                Ok(1)
+            }
+        }
     }
 }

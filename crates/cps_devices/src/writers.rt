@@ -1,4 +1,4 @@
-//! Writers that are slow or full.
+//! Writers that are slow or full, and one that keeps nothing.
 ghost use Rattle.std.specs.Prelude.{Some};
 
 use std::io;
@@ -39,6 +39,29 @@ pub struct Idle;
 impl Write for Idle {
     fn write(&mut self, _buf: &[u8]) -> io::Result<usize> {
         Ok(0)
+    }
+
+    fn flush(&mut self) -> io::Result<()> {
+        Ok(())
+    }
+}
+
+/// A writer that takes all, and keeps how often it was this text, and how often another one.
+#[derive(Drop)]
+pub struct Tallying<'a> {
+    pub text: &'a [u8],
+    pub times: u64,
+    pub others: u64,
+}
+
+impl Write for Tallying<'_> {
+    fn write(&mut self, buf: &[u8]) -> io::Result<usize> {
+        if buf == self.text {
+            self.times = self.times.saturating_add(1);
+        } else {
+            self.others = self.others.saturating_add(1);
+        }
+        Ok(buf.len())
     }
 
     fn flush(&mut self) -> io::Result<()> {

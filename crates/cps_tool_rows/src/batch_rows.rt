@@ -19,20 +19,25 @@ fn assert_written(
     assert_bytes(rt, how, &got.text, text);
 }
 
-/// A failed read goes before a wrong line, and nothing is written.
+/// Assembles a source whose reader fails behind these bytes, and of which nothing is written.
+fn assert_failed_read(rt: &impl Abort, alloc: Global, rest: &[u8]) {
+    let calls = (rest.len() as u64).saturating_add(1);
+    let mut reader = Counted::new(SlowReader { rest, fails: true });
+    let mut writer = Counted::new(Vec::new(alloc));
+    let end = assemble_into(alloc, &mut reader, &mut writer, Part::All);
+    assert_same(rt, "the end", &end, &Err(BatchFault::ReadFault));
+    assert_same(rt, "calls", &reader.calls(), &calls);
+    assert_same(rt, "failures", &reader.failures(), &1);
+    assert_same(rt, "idle calls", &reader.idle(), &1);
+    assert_same(rt, "writes", &writer.calls(), &0);
+}
+
+/// A failed read goes before a wrong line: one with a wrong character, and one of 91 bytes.
 #[test]
 fn tells_a_failed_read(rt: HostRuntime) {
-    let mut reader = Counted::new(SlowReader {
-        rest: b"`\n",
-        fails: true,
-    });
-    let mut writer = Counted::new(Vec::new(rt.alloc()));
-    let end = assemble_into(rt.alloc(), &mut reader, &mut writer, Part::All);
-    assert_same(&rt, "the end", &end, &Err(BatchFault::ReadFault));
-    assert_same(&rt, "calls", &reader.calls(), &3);
-    assert_same(&rt, "failures", &reader.failures(), &1);
-    assert_same(&rt, "idle calls", &reader.idle(), &1);
-    assert_same(&rt, "writes", &writer.calls(), &0);
+    const LONG: [u8; 91] = [b'X'; 91];
+    assert_failed_read(&rt, rt.alloc(), b"`\n");
+    assert_failed_read(&rt, rt.alloc(), &LONG);
 }
 
 /// At the end of the input nothing more is read, whatever would come.
@@ -70,4 +75,23 @@ fn tells_a_failed_write(rt: HostRuntime) {
     for room in 0..20 {
         assert_failed_write(&rt, rt.alloc(), room, &whole[..room]);
     }
+}
+
+/// One byte a call, read and written, changes nothing.
+#[test]
+fn assembles_byte_by_byte(rt: HostRuntime) {
+    const SOURCE: &[u8] =
+        b"         IDENT   T1\n         ORG     100B\n         SA1     B1+3\n         END\n";
+    let mut reader = Counted::new(SlowReader {
+        rest: SOURCE,
+        fails: false,
+    });
+    let mut writer = Counted::new(SlowWriter {
+        taken: Vec::new(rt.alloc()),
+        room: 1_000,
+    });
+    let end = assemble_into(rt.alloc(), &mut reader, &mut writer, Part::Binary);
+    assert_same(&rt, "the end", &end, &Ok(0));
+    let text = "IDENT T1\n000100 51110000034600046000\n";
+    assert_bytes(&rt, "the text", &writer.into_inner().taken, text);
 }

@@ -4,6 +4,7 @@
 //! - `batch_rows.rt`: sources that are read whole
 //! - `call_rows.rt`: calls of the program whose devices fail, and of its server
 //! - `editor.rt`: what a server for editors stands on
+//! - `endless_rows.rt`: readers that never end
 //! - `run_rows.rt`: what is done with devices, and what is counted of them
 //! - `running.rt`: runs of scripts and of batch assembly
 //! - `server.rt`: conversations with a server
@@ -17,6 +18,8 @@ mod batch_rows;
 mod call_rows;
 #[cfg(test)]
 mod editor;
+#[cfg(test)]
+mod endless_rows;
 #[cfg(test)]
 mod run_rows;
 #[cfg(test)]

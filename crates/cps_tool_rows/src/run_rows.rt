@@ -108,9 +108,11 @@ fn assert_counts(rt: &impl Abort, counted: Counted<FailsAt<'_>>, want: Counts) {
 
 #[test]
 fn counts_what_the_devices_count(rt: HostRuntime) {
-    // The script, the failing read and write, the end, and of the reader and the writer what is counted.
-    const ROWS: [(&[u8], u64, u64, Result<u32, RunFault>, Counts, Counts); 5] = [
+    // The script, the failing read and write, the end, and of the reader and the writer what is counted. The read behind `quit` and its
+    // newline would fail, and isn't made.
+    const ROWS: [(&[u8], u64, u64, Result<u32, RunFault>, Counts, Counts); 6] = [
         (b"x\nquit\nx\n", 0, 0, Ok(0), (7, 0, 0, 1), (22, 0, 0, 1)),
+        (b"x\nquit\nx\n", 8, 0, Ok(0), (7, 0, 0, 1), (22, 0, 0, 1)),
         (b"x\n", 0, 0, Ok(0), (3, 0, 1, 0), (22, 0, 0, 1)),
         (
             b"x\nquit\nx\n",
@@ -161,4 +163,24 @@ fn reads_nothing_after_the_end(rt: HostRuntime) {
     assert_same(&rt, "idle calls", &reader.idle(), &1);
     let replies = "ok 1 lines\nok 2 lines\n";
     assert_bytes(&rt, "the replies", &writer.into_inner(), replies);
+}
+
+/// One byte a call, read and written, changes nothing.
+#[test]
+fn goes_byte_by_byte(rt: HostRuntime) {
+    const SCRIPT: &[u8] =
+        b"a          IDENT   T1\na          ORG     100B\na          SA1     B1+3\na          END\nbinary\n";
+    let mut reader = Counted::new(SlowReader {
+        rest: SCRIPT,
+        fails: false,
+    });
+    let mut writer = Counted::new(SlowWriter {
+        taken: Vec::new(rt.alloc()),
+        room: 1_000,
+    });
+    let ran = run(rt.alloc(), &mut reader, &mut writer);
+    assert_ran(&rt, &ran, Ok(0), 4, Some(b' '));
+    let replies =
+        "ok 1 lines\nok 2 lines\nok 3 lines\nok 4 lines\nIDENT T1\n000100 51110000034600046000\n";
+    assert_bytes(&rt, "the replies", &writer.into_inner().taken, replies);
 }
