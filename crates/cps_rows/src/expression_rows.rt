@@ -1,7 +1,7 @@
 //! Expressions and data items.
 use super::assertions::{assert_row, assert_row_text, assert_same};
 use super::same_value::{SameValue, UNDEFINED};
-use cps_expr::{Expr, ExprFault, Radix, Value};
+use cps_expr::{Expr, ExprFault, Machine, Radix, Value, read_item};
 use std::alloc::Global;
 use std::process::Abort;
 
@@ -169,4 +169,23 @@ fn adds_terms(rt: HostRuntime) {
     };
     let got = valued(&expression, &defined, Value::plain(3));
     assert_same(&rt, "the value", &got, &(Some(Value::plain(-1)), false));
+}
+
+/// The data item in base 10 that a text begins with: its word, and how many characters it takes.
+fn item(text: &[u8], machine: Machine) -> Option<(u64, usize)> {
+    read_item(text, Radix::Decimal, machine)
+}
+
+#[test]
+fn reads_items(rt: HostRuntime) {
+    const ROWS: [(&[u8], Machine, Option<(u64, usize)>); 5] = [
+        (b"3LABC,", Machine::Cp, Some((0o01020_30000_00000_00000, 5))),
+        (b"L*AB*", Machine::Cp, Some((0o01020_00000_00000_00000, 5))),
+        (b"-1,", Machine::Pp, Some((0o7776, 2))),
+        (b",1", Machine::Cp, None),
+        (b"18B", Machine::Cp, None),
+    ];
+    for (at, (text, machine, want)) in ROWS.iter().enumerate() {
+        assert_row(&rt, at, &item(text, *machine), want);
+    }
 }
