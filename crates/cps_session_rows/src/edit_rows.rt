@@ -97,27 +97,58 @@ fn assert_looks(rt: &impl Abort, alloc: Global, session: &mut Session, row: &Row
     assert_same(rt, "looks", &work.looked().max(most), &most);
 }
 
-/// Among 5,000 lines a comment takes the place of another: one step of each pass. Then it goes elsewhere, which takes no step. Then a
-/// symbol gets another value, which the first line and the last one name: two steps more. Each compares at most the lines of three
-/// chunks, in both passes.
+/// A session of a comment among 4,999 words: it is line 2,500.
+fn many_words(alloc: Global) -> Session {
+    let mut session = Session::new(alloc, Hashing::by(1));
+    enter_times(alloc, &mut session, 2_499, WORD);
+    enter_times(alloc, &mut session, 1, b"* one");
+    enter_times(alloc, &mut session, 2_500, WORD);
+    session
+}
+
+const WORD: &[u8] = b"   CON 1";
+
+/// Among 5,000 lines a comment takes the place of another: one step of each pass. Then it goes elsewhere, which takes no step. Then the
+/// first line and the last one come to name a symbol that a line between them gives a value, and another one: two steps more. Each
+/// compares at most the lines of three chunks, in both passes.
 #[test]
 fn steps_few_of_many_lines(rt: HostRuntime) {
     const USE: &[u8] = b"   CON A";
-    let mut session = Session::new(rt.alloc(), Hashing::by(1));
-    enter_times(rt.alloc(), &mut session, 1, USE);
-    enter_times(rt.alloc(), &mut session, 2_498, b"   CON 1");
-    enter_times(rt.alloc(), &mut session, 1, b"* one");
-    enter_times(rt.alloc(), &mut session, 1, b"A  EQU 1");
-    enter_times(rt.alloc(), &mut session, 2_498, b"   CON 1");
-    enter_times(rt.alloc(), &mut session, 1, USE);
-    let comment = Edit::Replace(2_500, b"* two");
-    let row = (comment, Ok(()), 5_000, Some(USE), [1, 1]);
-    assert_looks(&rt, rt.alloc(), &mut session, &row, 384);
-    let away = Edit::Move(2_500, 2_500, 10);
-    let row = (away, Ok(()), 5_000, Some(USE), [0, 0]);
-    assert_looks(&rt, rt.alloc(), &mut session, &row, 384);
-    let value = Edit::Replace(2_501, b"A  EQU 2");
-    let row = (value, Ok(()), 5_000, Some(USE), [1, 3]);
-    assert_looks(&rt, rt.alloc(), &mut session, &row, 384);
+    const ROWS: [Row; 6] = [
+        (
+            Edit::Replace(2_500, b"* two"),
+            Ok(()),
+            5_000,
+            Some(WORD),
+            [1, 1],
+        ),
+        (
+            Edit::Move(2_500, 2_500, 10),
+            Ok(()),
+            5_000,
+            Some(WORD),
+            [0, 0],
+        ),
+        (Edit::Replace(1, USE), Ok(()), 5_000, Some(USE), [1, 1]),
+        (Edit::Replace(5_000, USE), Ok(()), 5_000, Some(USE), [1, 1]),
+        (
+            Edit::Insert(2_500, b"A  EQU 1"),
+            Ok(()),
+            5_001,
+            Some(USE),
+            [1, 3],
+        ),
+        (
+            Edit::Replace(2_501, b"A  EQU 2"),
+            Ok(()),
+            5_001,
+            Some(USE),
+            [1, 3],
+        ),
+    ];
+    let mut session = many_words(rt.alloc());
+    for row in ROWS.iter() {
+        assert_looks(&rt, rt.alloc(), &mut session, row, 384);
+    }
     drop(session);
 }

@@ -1,7 +1,7 @@
 //! The texts of a session, one by one and all at once.
 use super::assertions::{assert_row, assert_same};
 use super::edit_rows::insert;
-use cps_devices::SlowWriter;
+use cps_devices::{Idle, SlowWriter};
 use cps_list::{
     ListFault, Part, View, write_all_parts, write_binary, write_flags, write_listing, write_symbols,
 };
@@ -105,13 +105,13 @@ fn writes_parts(rt: HostRuntime) -> Result<(), AllocError> {
     Ok(())
 }
 
-/// Writes all parts of a session where a writer has that much room.
+/// Writes all texts of the program where a writer takes one byte a call and has that much room.
 fn assert_failed_write(rt: &impl Abort, alloc: Global, room: usize, whole: &str) {
     let mut writer = Counted::new(SlowWriter {
         taken: Vec::new(alloc),
         room,
     });
-    let done = write_session(alloc, "  PERIPH\nA STD 1", Part::All, &mut writer);
+    let done = write_session(alloc, PROGRAM, Part::All, &mut writer);
     let fails = room < whole.len();
     let want = if fails {
         Err(ListFault::WriteFault)
@@ -132,15 +132,20 @@ fn front(whole: &str, room: usize) -> &[u8] {
 
 /// A failure at each call in turn: what was taken is a front of the texts, and nothing is written after it.
 #[test]
-fn stops_at_a_failed_write(rt: HostRuntime) {
-    let whole = "                                          1   PERIPH
-         000000 3401                      2 A STD 1
-IDENT
-0000 3401
-A        00000000000000000000 2
-0 flagged lines
-";
+fn stops_at_a_failed_write(rt: HostRuntime) -> Result<(), AllocError> {
+    let whole = whole_text(rt.alloc())?;
     for room in 0..=whole.len() {
-        assert_failed_write(&rt, rt.alloc(), room, whole);
+        assert_failed_write(&rt, rt.alloc(), room, &whole);
     }
+    Ok(())
+}
+
+/// A writer that takes nothing counts as one that fails, at its first call.
+#[test]
+fn stops_where_nothing_is_taken(rt: HostRuntime) {
+    let mut writer = Counted::new(Idle);
+    let done = write_session(rt.alloc(), PROGRAM, Part::All, &mut writer);
+    assert_same(&rt, "the answer", &done, &Err(ListFault::WriteFault));
+    assert_same(&rt, "calls", &writer.calls(), &1);
+    assert_same(&rt, "failures", &writer.failures(), &1);
 }
