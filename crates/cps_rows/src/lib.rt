@@ -1,5 +1,6 @@
 //! Tests of the calls of the crates up to `cps_peripheral`, and of what is told of words, by rows of worked examples.
 //!
+//! - `again_rows.rt`: calls that are made once more where memory was refused
 //! - `assertions.rt`: assertions that are proved once
 //! - `code_rows.rt`: codes of the central processor, and words
 //! - `expression_rows.rt`: expressions and data items
@@ -11,6 +12,8 @@
 //! - `text_rows.rt`: the text of macros, characters and fields
 #![tactic(auto)]
 
+#[cfg(test)]
+mod again_rows;
 #[cfg(test)]
 mod assertions;
 #[cfg(test)]
