@@ -209,11 +209,24 @@ FILES = [
 
 # sessions that begin with the lines of a file
 TABBED = os.path.join(EXAMPLES, "tabbed")
+
+
+def tells_more(name, line, what):
+    """What is told of a line of a file that no source may have."""
+    name = name.encode()
+    return b"%s:%d: %s (compass check %s tells more)\n" % (name, line, what, name)
+
+
+BAD_LINES = [
+    (["batch", TABBED], b"", 2, b"", tells_more(TABBED, 2, b"bad character")),
+    (["batch", "--part", "flags", TABBED], b"A\n", 2, b"", tells_more(TABBED, 2, b"bad character")),
+    (["batch", "-"], b"A\n\t\n", 2, b"", b"line 2: bad character\n"),
+]
 SOURCES = [
     (["session", "--source", DECK], b"flags\ni 0 *\nwork\n", 0, b"0 flagged lines\nok 7 lines\nones 1 twos 1\n", b""),
     (["session", "--source=" + DECK], b"work\nbinary\n", 0, b"ones 0 twos 0\nIDENT FIRST\n000000 71600000017276000002\n000001 00000000004600046000\n", b""),
     (["session", "--source", os.path.join(EXAMPLES, "flags.cps")], b"", 1, b"", b""),
-    (["session", "--source", TABBED], b"flags\n", 2, b"", b"line 2: bad character\n"),
+    (["session", "--source", TABBED], b"flags\n", 2, b"", tells_more(TABBED, 2, b"bad character")),
     (["session", "--source", os.path.join(EXAMPLES, "none.cps")], b"flags\n", 2, b"", b"cannot read " + os.path.join(EXAMPLES, "none.cps").encode() + b": No such file or directory\n"),
 ]
 
@@ -255,7 +268,7 @@ WORDS = [
     refused(["session", "name"], b"unexpected argument 'name' found\n\nUsage: compass session [OPTIONS]"),
 ]
 
-CALLS = TEXTS + LONG + LINES + WRONG_LINES + SCRIPTS + LIMITS + REPEATED + MANY + FILES + SOURCES + EXPLAINED + EDITORS + WORDS
+CALLS = TEXTS + LONG + LINES + WRONG_LINES + SCRIPTS + LIMITS + REPEATED + MANY + FILES + BAD_LINES + SOURCES + EXPLAINED + EDITORS + WORDS
 
 # words that ask for help or the version, and what is written among other lines, none of which has more than 80 columns
 HELPS = [

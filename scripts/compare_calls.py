@@ -1,7 +1,7 @@
 """Calls of `compass compare`, for `run-examples`, in the form of those of `calls.py`: sources beside octal texts."""
 import os
 
-from calls import EXAMPLES, refused
+from calls import EXAMPLES, TABBED, refused, tells_more
 
 
 def example(name):
@@ -132,6 +132,8 @@ FAILING = [
     failed([example("parcels.octal"), example("none")], unopened(example("none"))),
     failed([example("parcels.octal")], b"line 2: bad character\n", b"\n~\n"),
     failed([example("parcels.octal"), "-"], b"line 1: line too long\n", b"*" * 91),
+    failed([example("parcels.octal"), TABBED], tells_more(TABBED, 2, b"bad character")),
+    failed(["-", TABBED], tells_more(TABBED, 2, b"bad character"), WORDS),
     refused(["compare", "-"], b"OCTAL and FILE can't both be standard input"),
     refused(["compare", "-", "-"], b"OCTAL and FILE can't both be standard input"),
     refused(["compare", "--from", "9", "-", example("parcels.cps")], b"invalid value '9' for '--from <A>': an address is 1 to 6 octal digits"),

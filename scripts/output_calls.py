@@ -1,7 +1,7 @@
 """Calls of `compass batch` that write texts into files, for `run-examples`, which makes each in a folder of its own: the words, what stands on
 standard input, the status, what is written and what is told, as in `calls.py`, and then the folder before the call and after it, as
 `folders.py` has it. In the place of the words a line for a shell may stand."""
-from calls import ALL, BINARY, FLAGS, HELP, LISTING, PARTS, PROGRAM, SYMBOLS
+from calls import ALL, BINARY, FLAGS, HELP, LISTING, PARTS, PROGRAM, SYMBOLS, tells_more
 from folders import Hard
 
 OLD = b"OLD\n"
@@ -152,6 +152,10 @@ SHARED = [
 UNREAD = [
     failed(["--flags", "it", "--part", "flags"], b"line 2: bad character\n", {"it": OLD}, b"A\n~\n"),
     failed(["--flags", "it"], b"line 1: line too long\n", given=b"*" * 91),
+    failed(["--flags", "it", "t2.cps"], tells_more("t2.cps", 2, b"bad character"), {"it": OLD, "t2.cps": b"A\n~\n"}),
+    failed(["--flags", "it", "in/t2.cps"], tells_more("in/t2.cps", 1, b"line too long"), {"in": None, "in/t2.cps": b"*" * 91}),
+    failed(["--flags", "it", "t2.cps"], tells_more("t2.cps", 100_000, b"too many lines"), {"t2.cps": b"\n" * 100_000}),
+    failed(["--flags", "it", "\x1b.cps"], tells_more("?.cps", 1, b"bad character"), {"\x1b.cps": b"\x1b"}),
     failed(["--flags", "it", "none.cps"], b"cannot read none.cps: No such file or directory\n", {"it": OLD}),
 ]
 

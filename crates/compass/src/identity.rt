@@ -1,5 +1,6 @@
 //! Where names of the machine's files lead.
-use std::fs::{self, Metadata};
+use std::fs;
+use std::fs::Metadata;
 use std::io::ErrorKind;
 use std::os::unix::fs::MetadataExt;
 
@@ -47,9 +48,12 @@ fn identity<'a>(found: &Metadata, last: Option<&'a str>) -> Identity<'a> {
 
 /// The folder of a name, and the last name in it.
 fn split(name: &str) -> (&str, &str) {
-    match name.rsplit_once('/') {
-        Some(("", last)) => ("/", last),
-        Some((folder, last)) => (folder, last),
-        None => (".", name),
+    let Some((folder, last)) = name.rsplit_once('/') else {
+        return (".", name);
+    };
+    if folder.is_empty() {
+        ("/", last)
+    } else {
+        (folder, last)
     }
 }

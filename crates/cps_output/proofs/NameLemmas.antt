@@ -41,9 +41,12 @@ clashed-later same names (Some pair) clashes =
 pub clash-first : (same : Sameness) (names : List (Option (Bor (List ℕ)))) (one : Bor (List ℕ)) (other : List ℕ)
     → names ≡ Some one ∷ drop 1 names → MayMeet same one.now (map name_of (take (length names - 1) (drop 1 names))) other
     → MayClash same (map name_of names) one.now other
-clash-first same names one other is meets =
-    ([], map name_of (drop 1 names), ap (map name_of) is,
-     subst (λ (l : List (Option (Bor (List ℕ)))). MayMeet same one.now (map name_of l) other) (take_all (length names - 1) (drop 1 names) (omega (arith, length-drop 1 names))) meets)
+clash-first same names one other is meets = (
+  [],
+  map name_of (drop 1 names),
+  ap (map name_of) is,
+  subst (λ (l : List (Option (Bor (List ℕ)))). MayMeet same one.now (map name_of l) other) (take_all (length names - 1) (drop 1 names) (omega (arith, length-drop 1 names))) meets,
+)
 
 -- the name of the source
 pub source-is : (source : Option (Bor (List ℕ))) (default found : Bor (List ℕ)) → found ≡ unwrap_or source default → found.now ≡ unwrap_or (name_of source) default.now

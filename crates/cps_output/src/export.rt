@@ -8,6 +8,8 @@ use cps_source::Hashing;
 #[derive(Clone, Copy)]
 pub struct Export<'a> {
     pub hashing: Hashing,
+    /// The name of the source's file, None for standard input.
+    pub source: Option<&'a str>,
     pub outputs: Outputs<'a>,
     pub part: Option<Part>,
 }

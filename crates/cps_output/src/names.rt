@@ -30,7 +30,9 @@ impl Clash<'_> {
                 format!(in alloc; "cannot write {other}: it is the same file as {one}, the source")
             }
             Clash::Texts(one, other) => {
-                format!(in alloc; "cannot write {other}: it is the same file as {one}, where another text goes")
+                format!(in alloc;
+                    "cannot write {other}: it is the same file as {one}, where another text goes"
+                )
             }
         }
     }
@@ -38,15 +40,11 @@ impl Clash<'_> {
 
 /// Two names of an export that lead to one file, None where each text has a file of its own that isn't the source. Standard output
 /// is one of them where a part is wanted, and standard input where the source has no file.
-pub fn find_clash<'a, T: Targets>(
-    targets: &T,
-    source: Option<&'a str>,
-    export: Export<'a>,
-) -> Option<Clash<'a>>
-    ensures apart { IfNone result (same.KeepsAll (T.same targets.now) (name_of source.entry) (wanted_of export.entry)) }
-    ensures clash { IfSome result (same.Clashes (T.same targets.now) (name_of source.entry) (wanted_of export.entry)) }
+pub fn find_clash<'a, T: Targets>(targets: &T, export: Export<'a>) -> Option<Clash<'a>>
+    ensures apart { IfNone result (same.KeepsAll (T.same targets.now) (name_of export.entry.source) (wanted_of export.entry)) }
+    ensures clash { IfSome result (same.Clashes (T.same targets.now) (name_of export.entry.source) (wanted_of export.entry)) }
 {
-    let source = source.unwrap_or(STANDARD_INPUT);
+    let source = export.source.unwrap_or(STANDARD_INPUT);
     let texts = text_names(export);
     if let Some(text) = find_same(targets, source, &texts) {
         return Some(Clash::Source(source, text));
@@ -76,11 +74,7 @@ fn text_names<'a>(export: Export<'a>) -> [Option<&'a str>; 5]
 }
 
 /// The first of the names that are given that leads where a name does.
-fn find_same<'a, T: Targets>(
-    targets: &T,
-    name: &str,
-    names: &[Option<&'a str>],
-) -> Option<&'a str>
+fn find_same<'a, T: Targets>(targets: &T, name: &str, names: &[Option<&'a str>]) -> Option<&'a str>
     ensures apart { IfNone result (All (same.IsApart (T.same targets.now) name.now) (map name_of names.now)) }
     ensures meets { IfSome result (λ other. same.MayMeet (T.same targets.now) name.now (map name_of names.now) other.now) }
 {

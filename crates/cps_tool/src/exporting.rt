@@ -3,6 +3,7 @@ ghost use Rattle.std.specs.Prelude.{◌≡◌};
 ghost use Rattle.cps_tool.specs.Calling.{DoesExport};
 ghost use Rattle.cps_tool.specs.CommandLine.{IsQuiet};
 
+use super::faults::complain_of_source;
 use super::host::Host;
 use super::telling::{NO_MEMORY, complain, status_of_count};
 use cps_output::{Clash, Export, ExportFault, Targets, export_source};
@@ -26,19 +27,11 @@ pub fn run_export<'a, S: Targets, R: Read, W: Write, E: Write>(
 {
     match export_source(host.alloc, export, &mut host.files, reader, writer) {
         Ok(count) => status_of_count(count),
-        Err(fault) => complain_of_export(host.alloc, &fault, errors),
+        Err(ExportFault::Source(fault)) => {
+            complain_of_source(host.alloc, export.source, fault, errors)
+        }
+        Err(fault) => complain_by(host.alloc, fault.text(host.alloc), errors),
     }
-}
-
-/// Tells why not all is made that is wanted.
-fn complain_of_export<E: Write>(
-    alloc: Global,
-    fault: &ExportFault<'_>,
-    errors: &mut Counted<E>,
-) -> u8
-    ensures { result ≡ 2 }
-{
-    complain_by(alloc, fault.text(alloc), errors)
 }
 
 /// Tells that two names of an export lead to one file.

@@ -3,6 +3,7 @@
 //! - `command.rt`: a line of a script, read
 //! - `comparing.rt`: a comparison of an octal text with a source
 //! - `exporting.rt`: a source, written into files
+//! - `faults.rt`: what is told of a source that isn't assembled
 //! - `host.rt`: what a call runs on
 //! - `reply.rt`: replies
 //! - `replying.rt`: obeying a command, and writing the reply
@@ -18,6 +19,7 @@
 mod command;
 mod comparing;
 mod exporting;
+mod faults;
 mod host;
 mod reply;
 mod replying;

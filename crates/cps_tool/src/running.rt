@@ -4,6 +4,7 @@ ghost use Rattle.cps_tool.specs.Calling.{DoesRequest, UndoneOr};
 ghost use Rattle.cps_tool.specs.CommandLine.{Calls, ChecksAs, Explains, IsIdle, IsQuiet, TellsText};
 ghost use Rattle.cps_words.specs.Task as tasks;
 
+use super::faults::complain_of_batch;
 use super::host::Host;
 use super::sessions::run_script_over;
 use super::telling::{
@@ -36,7 +37,13 @@ pub fn run_request<'a, S, R: Read, W: Write, E: Write>(
     ensures quiet { IsQuiet result errors.old errors.new }
 {
     match call.request {
-        Request::Batch(part) => run_batch(host, part, reader, writer, errors),
+        Request::Batch(part) => {
+            let asked = BatchCall {
+                part,
+                file: call.file,
+            };
+            run_batch(host, asked, reader, writer, errors)
+        }
         Request::Session => run_session(host, reader, writer, errors),
         Request::Check => match shown(host.alloc, call.file.unwrap_or(STANDARD_INPUT)) {
             Ok(name) => run_check(host, name.as_bytes(), reader, writer, errors),
@@ -48,19 +55,26 @@ pub fn run_request<'a, S, R: Read, W: Write, E: Write>(
     }
 }
 
-fn run_batch<S, R: Read, W: Write, E: Write>(
-    host: &Host<S>,
+/// A batch that is asked: the part that is written, and the name of the source's file, None for standard input.
+#[derive(Clone, Copy)]
+struct BatchCall<'a> {
     part: Part,
+    file: Option<&'a str>,
+}
+
+fn run_batch<'a, S, R: Read, W: Write, E: Write>(
+    host: &Host<S>,
+    asked: BatchCall<'a>,
     reader: &mut Counted<R>,
     writer: &mut Counted<W>,
     errors: &mut Counted<E>,
 ) -> u8
-    ensures calls { Calls R.remaining W.contents (tasks.batch part) None result reader.old reader.new writer.old writer.new }
+    ensures calls { Calls R.remaining W.contents (tasks.batch asked.entry.part) None result reader.old reader.new writer.old writer.new }
     ensures quiet { IsQuiet result errors.old errors.new }
 {
-    match batch(host.alloc, host.hashing, reader, writer, part) {
+    match batch(host.alloc, host.hashing, reader, writer, asked.part) {
         Ok(count) => status_of_count(count),
-        Err(fault) => complain_of(errors, fault),
+        Err(fault) => complain_of_batch(host.alloc, asked.file, fault, errors),
     }
 }
 

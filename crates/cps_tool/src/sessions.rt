@@ -3,6 +3,7 @@ ghost use Rattle.std.specs.Prelude.{length, ◌≤◌};
 ghost use Rattle.cps_tool.specs.Calling.{DoesSession, UndoneOr};
 ghost use Rattle.cps_tool.specs.CommandLine.{IsQuiet, RunsFrom};
 
+use super::faults::complain_of_source;
 use super::host::Host;
 use super::script::run_script;
 use super::sources::{Sources, open_input};
@@ -33,7 +34,7 @@ pub fn run_session_from<S: Sources, R: Read, W: Write, E: Write>(
             let mut file = file;
             match read_lines(host.alloc, &mut file) {
                 Ok(lines) => run_session_of(host, lines, reader, writer, errors),
-                Err(fault) => complain_of(errors, fault),
+                Err(fault) => complain_of_source(host.alloc, Some(name), fault, errors),
             }
         }
         None => FAULTY,

@@ -7,11 +7,12 @@ ghost use Rattle.cps_words.specs.Request.{answer_of, asked_by};
 
 use super::comparing::{compare_files, open_files};
 use super::exporting::{complain_of_clash, run_export};
+use super::faults::complain_of_comparison;
 use super::host::Host;
 use super::running::run_request;
 use super::sessions::run_session_from;
 use super::sources::{Sources, open_input};
-use super::telling::{FAULTY, NO_FILES, complain, complain_of, status_of_count, tell_unread};
+use super::telling::{FAULTY, NO_FILES, complain, status_of_count, tell_unread};
 use cps_output::{Export, Targets, find_clash};
 use cps_text::Counted;
 use cps_words::{Call, Request, read_words};
@@ -82,10 +83,11 @@ fn serve_call<'a, S: Sources + Targets, R: Read, W: Write, E: Write>(
     };
     let export = Export {
         hashing: host.hashing,
+        source: call.file,
         outputs,
         part,
     };
-    if let Some(clash) = find_clash(&host.files, call.file, export) {
+    if let Some(clash) = find_clash(&host.files, export) {
         return complain_of_clash(host.alloc, &clash, errors);
     }
     let Some(name) = call.file else {
@@ -117,7 +119,7 @@ fn serve<'a, S: Sources, R: Read, W: Write, E: Write>(
             match open_files(host.alloc, &host.files, comparand.octal, source, errors) {
                 Some(files) => match compare_files(host, comparand, files, reader, writer) {
                     Ok(count) => status_of_count(count),
-                    Err(fault) => complain_of(errors, fault),
+                    Err(fault) => complain_of_comparison(host.alloc, source, fault, errors),
                 },
                 None => FAULTY,
             }

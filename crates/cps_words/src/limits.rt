@@ -23,7 +23,12 @@ pub fn read_limits(alloc: Global, values: &ArgMatches) -> Result<Limits, Unread>
     let columns = read_columns_limit(alloc, word_in(values, "columns"))?;
     if !are_rising(from, to) {
         let last = word_in(values, "to").unwrap_or("");
-        return Err(say_wrong_value(alloc, "--to <B>", last, "it is below the address of '--from'"));
+        return Err(say_wrong_value(
+            alloc,
+            "--to <B>",
+            last,
+            "it is below the address of '--from'",
+        ));
     }
     Ok(Limits { from, to, columns })
 }

@@ -52,6 +52,7 @@ fn assert_row(rt: &impl Abort, alloc: Global, row: &Row) {
     let shelf = Shelf::new(alloc, &calls);
     let export = Export {
         hashing: Hashing::by(1),
+        source,
         outputs: Outputs {
             listing,
             flags,
@@ -59,7 +60,7 @@ fn assert_row(rt: &impl Abort, alloc: Global, row: &Row) {
         },
         part: None,
     };
-    let clash = find_clash(&shelf, source, export);
+    let clash = find_clash(&shelf, export);
     let got = clash.map(|clash| clash.text(alloc).expect(rt, "memory"));
     assert_eq!(rt; got.as_deref(), told, "{listing:?} and {flags:?}");
     drop(got);

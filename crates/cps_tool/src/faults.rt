@@ -1,0 +1,92 @@
+//! What a call tells of a source that isn't assembled.
+ghost use Rattle.std.specs.Prelude.{◌≡◌};
+
+use super::telling::{NO_MEMORY, complain, complain_of};
+use cps_batch::BatchFault;
+use cps_input::InputFault;
+use cps_octal::OctalFault;
+use cps_text::Counted;
+use cps_text::limits::MOST_LINES;
+use cps_words::shown;
+use std::alloc::{AllocError, Global};
+use std::io::Write;
+
+/// Tells why batch assembly ends without its texts, with the name of the source's file where that has one.
+pub fn complain_of_batch<E: Write>(
+    alloc: Global,
+    file: Option<&str>,
+    fault: BatchFault,
+    errors: &mut Counted<E>,
+) -> u8
+    ensures { result ≡ 2 }
+{
+    match fault {
+        BatchFault::LineTooLong(number) => {
+            complain_of_source(alloc, file, InputFault::LineTooLong(number), errors)
+        }
+        BatchFault::BadCharacter(number) => {
+            complain_of_source(alloc, file, InputFault::BadCharacter(number), errors)
+        }
+        BatchFault::TooManyLines => {
+            complain_of_source(alloc, file, InputFault::TooManyLines, errors)
+        }
+        _ => complain_of(errors, fault),
+    }
+}
+
+/// Tells why a comparison ends without its text, with the name of the source's file where that has one.
+pub fn complain_of_comparison<E: Write>(
+    alloc: Global,
+    file: Option<&str>,
+    fault: OctalFault,
+    errors: &mut Counted<E>,
+) -> u8
+    ensures { result ≡ 2 }
+{
+    match fault {
+        OctalFault::Source(fault) => complain_of_source(alloc, file, fault, errors),
+        _ => complain_of(errors, fault),
+    }
+}
+
+/// Tells why the lines of a source aren't given, with the name of its file where that has one.
+pub fn complain_of_source<E: Write>(
+    alloc: Global,
+    file: Option<&str>,
+    fault: InputFault,
+    errors: &mut Counted<E>,
+) -> u8
+    ensures { result ≡ 2 }
+{
+    match (file, wrong_line(fault)) {
+        (Some(name), Some(wrong)) => match line_text(alloc, name, wrong) {
+            Ok(text) => complain(errors, text.as_str()),
+            Err(_) => complain(errors, NO_MEMORY),
+        },
+        _ => complain_of(errors, fault),
+    }
+}
+
+/// The first line that no source may have.
+#[derive(Clone, Copy)]
+struct WrongLine {
+    number: u32,
+    what: &'static str,
+}
+
+fn wrong_line(fault: InputFault) -> Option<WrongLine> {
+    let (number, what) = match fault {
+        InputFault::LineTooLong(number) => (number, "line too long"),
+        InputFault::BadCharacter(number) => (number, "bad character"),
+        InputFault::TooManyLines => (MOST_LINES as u32 + 1, "too many lines"),
+        InputFault::ReadFault | InputFault::Memory => return None,
+    };
+    Some(WrongLine { number, what })
+}
+
+/// What is told of a wrong line of a file, in the form in which a check tells places.
+fn line_text(alloc: Global, name: &str, line: WrongLine) -> Result<String, AllocError> {
+    let WrongLine { number, what } = line;
+    let text = format!(in alloc; "{name}:{number}: {what} (compass check {name} tells more)\n")?;
+    shown(alloc, &text)
+}
