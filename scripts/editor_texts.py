@@ -84,8 +84,8 @@ def by_line(items, key):
 class Shown:
     """What a batch and a check write of the lines of a text, and where a plain search finds its symbols. `texts` runs these."""
 
-    def __init__(self, texts, text, is_utf8):
-        self.lines, self.is_utf8, self.texts, self.reports = source_lines(text), is_utf8, texts, None
+    def __init__(self, texts, text, is_utf8, form):
+        self.lines, self.is_utf8, self.form, self.texts, self.reports = source_lines(text), is_utf8, form, texts, None
         self.source = text if takes(text) else cards_of(text)
         self.rows = []
         for row in texts.part("listing", self.source):
@@ -148,6 +148,16 @@ class Shown:
         first, last = len(line) - len(line.lstrip(b" ")), len(line.rstrip(b" "))
         return {"start": self.position(number, first if last else 0), "end": self.position(number, last or 1)}
 
+    def around(self, position):
+        """The range of the word around a position, or none at that place."""
+        number = position["line"]
+        if number >= len(self.lines):
+            return {"start": {"line": number, "character": 0}, "end": {"line": number, "character": 0}}
+        line = self.lines[number]
+        at = place(line + b"\r", 0, position["character"], self.is_utf8)
+        first, last = next((one.span() for one in WORD.finditer(line) if one.start() <= at <= one.end()), (at, at))
+        return {"start": self.position(number, first), "end": self.position(number, last)}
+
     def word(self, number, name):
         """The first word of a line that is a symbol, else the line."""
         for one in WORD.finditer(self.lines[number]):
@@ -162,7 +172,8 @@ class Shown:
             return None
         name, rows = self.pointed(position), self.rows[position["line"]]
         shown = ([self.symbols[name]] if name else []) + rows[:MOST_ROWS] + ([".."] if len(rows) > MOST_ROWS else []) + self.causes(position["line"])
-        return {"contents": {"language": "compass", "value": "".join(row + "\n" for row in shown)}}
+        text = "".join(row + "\n" for row in shown)
+        return {"contents": {"kind": self.form, "value": "```compass\n" + text + "```" if self.form == "markdown" else text}}
 
     def definition(self, uri, position):
         name = self.pointed(position)
@@ -194,10 +205,10 @@ class Shown:
     def listings(self, first, last):
         return ["".join(row + "\n" for row in self.rows[number]) for number in range(first, min(last + 1, len(self.rows)))]
 
-    def completions(self):
-        """The symbols alone."""
-        names = dict.fromkeys(name for names in self.defined.values() for name in sorted(names))
-        return [{"detail": self.value(name), "kind": 21, "label": name} for name in names]
+    def completions(self, position):
+        """The symbols alone, in the place of the word around a position."""
+        names, around = dict.fromkeys(name for names in self.defined.values() for name in sorted(names)), self.around(position)
+        return [{"detail": self.value(name), "kind": 21, "label": name, "textEdit": {"newText": name, "range": around}} for name in names]
 
     def answer(self, uri, method, more):
         """The answer to a request that has this beside the text's URI."""
@@ -213,9 +224,14 @@ class Shown:
             return self.hints(more["range"]["start"]["line"], more["range"]["end"]["line"])
         if method == "compass/rows":
             return self.listings(more["range"]["start"]["line"], more["range"]["end"]["line"])
-        return self.completions()
+        return self.completions(more["position"])
 
-    def in_order(self, method, answer):
+    def offered(self, one, around):
+        """What is offered with the label, the kind and the detail of another, in the place of a range."""
+        label, kind, detail = one.get("label"), one.get("kind"), one.get("detail")
+        return {"label": label, "kind": kind, "detail": detail, "textEdit": {"newText": label, "range": around}} if isinstance(label, str) else None
+
+    def in_order(self, method, more, answer):
         """An answer with the symbols of one line in the order of their names; of completions the symbols alone, if other words stand behind them."""
         if method == "documentSymbol" and isinstance(answer, list):
             return by_line(answer, lambda one: (one["range"]["start"]["line"], one["name"]))
@@ -225,13 +241,14 @@ class Shown:
                 for name in names:
                     lines.setdefault(name, number)
             symbols, others = answer[: len(lines)], answer[len(lines) :]
-            if others and all(isinstance(one.get("label"), str) and one.get("kind") != 21 for one in others):
+            around = self.around(more["position"])
+            if others and all(one.get("kind") != 21 and one == self.offered(one, around) for one in others):
                 return by_line(symbols, lambda one: (lines.get(one.get("label"), -1), one.get("label")))
         return answer
 
     def questions(self, method):
         """What to ask about all places of a text: about each word, and about each line."""
-        if method in ("documentSymbol", "completion"):
+        if method == "documentSymbol":
             yield {}
         elif method in ("inlayHint", "compass/rows"):
             yield {"range": {"start": {"line": 0, "character": 0}, "end": {"line": len(self.lines), "character": 0}}}

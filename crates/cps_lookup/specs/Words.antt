@@ -10,9 +10,15 @@ use Rattle.cps_text.specs.Text.{capital}
 abbrev pub in_word : ℕ → Bool
 in_word character = continues_symbol (capital character)
 
--- the word around a place in a line: all characters of words directly in front of the place, and directly behind it
+-- where the word around a place in a line begins and ends: it is all characters of words directly in front of the place, and directly behind it
+abbrev pub word_start : List ℕ → ℕ → ℕ
+word_start line at = at - suffix_len in_word (take at line)
+
+abbrev pub word_end : List ℕ → ℕ → ℕ
+word_end line at = at + prefix_len in_word (drop at line)
+
 abbrev pub word_around : List ℕ → ℕ → List ℕ
-word_around line at = slice_range line (at - suffix_len in_word (take at line)) (at + prefix_len in_word (drop at line))
+word_around line at = slice_range line (word_start line at) (word_end line at)
 
 -- the symbol that this word writes
 abbrev pub symbol_at : List ℕ → ℕ → Option Name

@@ -21,4 +21,4 @@ pub use cps_finding::filled_columns;
 pub use hint::hint_of;
 pub use rows::{push_line_listing, shown_at};
 pub use symbols::{definitions_in, line_of, mentions_at};
-pub use words::symbol_at;
+pub use words::{symbol_at, word_end, word_start};

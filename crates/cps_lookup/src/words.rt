@@ -1,6 +1,5 @@
 //! The words of a line, in which symbols stand.
-ghost use Rattle.std.specs.Prelude.{◌≡◌, ◌≤◌, ◌+◌, ◌-◌, length, take, drop};
-ghost use Rattle.std.specs.List.{prefix_len, suffix_len};
+ghost use Rattle.std.specs.Prelude.{◌≡◌, ◌≤◌, length};
 ghost use Rattle.cps_lookup.specs.Words as words;
 
 use cps_text::{Name, capital};
@@ -29,9 +28,9 @@ fn word_around(line: &[u8], at: usize) -> &[u8]
 }
 
 /// Where a word begins that reaches to a place.
-fn word_start(line: &[u8], at: usize) -> usize
+pub fn word_start(line: &[u8], at: usize) -> usize
     requires { at ≤ length line.now }
-    ensures start { result ≡ at - suffix_len words.in_word (take at line.now) }
+    ensures start { result ≡ words.word_start line.now at }
     ensures within { result ≤ at }
 {
     let mut start = at;
@@ -42,9 +41,9 @@ fn word_start(line: &[u8], at: usize) -> usize
 }
 
 /// Where a word ends that begins at a place or reaches over it.
-fn word_end(line: &[u8], at: usize) -> usize
+pub fn word_end(line: &[u8], at: usize) -> usize
     requires { at ≤ length line.now }
-    ensures end { result ≡ at + prefix_len words.in_word (drop at line.now) }
+    ensures end { result ≡ words.word_end line.now at }
     ensures behind { at ≤ result }
     ensures within { result ≤ length line.now }
 {

@@ -8,6 +8,8 @@ use Rattle.cps_buffer.specs.declared.encoding.Encoding.TheVariants.{Utf8, Utf16}
 use Rattle.cps_buffer.specs.declared.position.Position.{Position}
 use Rattle.cps_buffer.specs.declared.position.Range.{Range}
 use Rattle.cps_params.specs.declared.change.Change as told_change
+use Rattle.cps_params.specs.declared.markup.Markup.{Markup}
+use Rattle.cps_params.specs.declared.markup.Markup.TheVariants.{Plain, Markdown}
 use Rattle.cps_params.specs.declared.opened_text.OpenedText as told_text
 
 -- a member of that name that is a text
@@ -150,6 +152,34 @@ encoding_among (Some names) = if list_any is_utf8 names then Utf8 else Utf16
 
 abbrev pub encoding_in : Data → Encoding
 encoding_in json = encoding_among (offered json)
+
+-- ---- forms of texts
+
+-- the form that a value names
+abbrev pub markup_named : List ℕ → Option Markup
+markup_named name =
+    if bytes_eq name (codes "plaintext") then Some Plain else (if bytes_eq name (codes "markdown") then Some Markdown else None)
+
+abbrev pub markup_of : Data → Option Markup
+markup_of json = option_and_then markup_named (as_str json)
+
+-- the first form that values name, else plain text
+abbrev pub first_markup : List Data → Markup
+first_markup [] = Plain
+first_markup (json ∷ jsons) = unwrap_or (markup_of json) (first_markup jsons)
+
+-- the forms in which an editor takes a hover
+abbrev pub hover_forms : Data → Option (List Data)
+hover_forms json =
+    option_and_then list_of (option_and_then (get (codes "contentFormat")) (option_and_then (get (codes "hover"))
+    (option_and_then (get (codes "textDocument")) (get (codes "capabilities") json))))
+
+abbrev pub markup_among : Option (List Data) → Markup
+markup_among None = Plain
+markup_among (Some names) = first_markup names
+
+abbrev pub markup_in : Data → Markup
+markup_in json = markup_among (hover_forms json)
 
 -- ---- what the code tells
 

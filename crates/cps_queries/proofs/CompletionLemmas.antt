@@ -6,18 +6,19 @@ use Rattle.serde_json.specs.Data.{Data}
 use Rattle.cps_queries.specs.Results.{IsCompletion}
 use Rattle.cps_queries.specs.Telling.{KeepsCompletions}
 
-none-yet : All IsCompletion []
-none-yet k d within = absurd (omega (arith, within))
+none-yet : (range : Data) → All (IsCompletion range) []
+none-yet range k d within = absurd (omega (arith, within))
 
-one : (json : Data) → IsCompletion json → All IsCompletion (json ∷ [])
-one json is zero d within = is
-one json is (suc k) d within = absurd (omega (arith, within))
+one : (range json : Data) → IsCompletion range json → All (IsCompletion range) (json ∷ [])
+one range json is zero d within = is
+one range json is (suc k) d within = absurd (omega (arith, within))
 
-pub one-more : (old new : List Data) (json : Data) → IsCompletion json → new ≡ old ++ json ∷ [] → KeepsCompletions old new
-one-more old new json is added = λ each. subst (All IsCompletion) (sym added) (All-append IsCompletion old (json ∷ []) each (one json is))
+pub one-more : (range : Data) (old new : List Data) (json : Data) → IsCompletion range json → new ≡ old ++ json ∷ [] → KeepsCompletions range old new
+one-more range old new json is added =
+    λ each. subst (All (IsCompletion range)) (sym added) (All-append (IsCompletion range) old (json ∷ []) each (one range json is))
 
-pub all-of : (old new : List Data) → old ≡ [] → KeepsCompletions old new → All IsCompletion new
-all-of old new none keeps = keeps (subst (All IsCompletion) (sym none) none-yet)
+pub all-of : (range : Data) (old new : List Data) → old ≡ [] → KeepsCompletions range old new → All (IsCompletion range) new
+all-of range old new none keeps = keeps (subst (All (IsCompletion range)) (sym none) (none-yet range))
 
-pub next : (old middle new : List Data) → KeepsCompletions old middle → KeepsCompletions middle new → KeepsCompletions old new
-next old middle new first second = λ each. second (first each)
+pub next : (range : Data) (old middle new : List Data) → KeepsCompletions range old middle → KeepsCompletions range middle new → KeepsCompletions range old new
+next range old middle new first second = λ each. second (first each)

@@ -12,13 +12,14 @@ use Rattle.cps_queries.specs.declared.query.Query.{Query}
 use Rattle.cps_queries.specs.declared.query.Query.TheVariants.{Hover, Definition, References, Symbols, Hints, Completions, Listing}
 use Rattle.cps_params.specs.Params.{position_at, range_at}
 use Rattle.cps_queries.specs.Queries.{Tells, TellsOf}
+use Rattle.cps_params.specs.declared.markup.Markup.{Markup}
 use Rattle.cps_queries.specs.Ranges.{IsInLine}
 use Rattle.cps_queries.specs.Results.{IsCompletion, TellsEach, TellsFirst, TellsMention, TellsSymbol, hint_at, hint_in, hover, lines_within, listing_json, text_beside}
 use Rattle.cps_queries.specs.Telling.{has_float_told}
 use Rattle.cps_assembly.specs.Assembly.{assembly_of}
 use Rattle.cps_document.specs.Document.{source_of_text}
 use Rattle.cps_lookup.specs.Symbols.{definitions, line_of, mentions_in}
-use Rattle.cps_queries.specs.Ranges.{told_units}
+use Rattle.cps_queries.specs.Ranges.{told_units, word_at}
 
 abbrev is_yes : Bool → Type 0
 is_yes true = Unit {0}
@@ -53,9 +54,9 @@ both-no-float (json ∷ front) back first second = at (λ none. both-no-float fr
 
 -- ---- what is told
 
-hover-no-float : (shown : Option (List ℕ)) → has_float (hover shown) ≡ false
-hover-no-float None = refl
-hover-no-float (Some text) = refl
+hover-no-float : (markup : Markup) (shown : Option (List ℕ)) → has_float (hover markup shown) ≡ false
+hover-no-float markup None = refl
+hover-no-float markup (Some text) = refl
 
 range-no-float : (line : ℕ) (range : Data) → IsInLine line range → has_float range ≡ false
 range-no-float line range is = ap has_float is.2
@@ -69,7 +70,7 @@ first-no-float uri (mention ∷ mentions) json tells = mention-no-float uri ment
 
 symbol-no-float : (finals : Finals) (mention : Mention) (json : Data) → TellsSymbol finals mention json → has_float json ≡ false
 symbol-no-float finals mention json tells =
-    ap has_float tells.4 ∙ (λ i. (range-no-float _ tells.0 tells.2 i) || ((range-no-float _ tells.1 tells.3 i) || false))
+    ap has_float tells.7
 
 symbols-no-float : (finals : Finals) (mentions : List Mention) (json : Data) → TellsEach (TellsSymbol finals) mentions json → has_float json ≡ false
 symbols-no-float finals mentions json each = list-no-float (TellsSymbol finals) (symbol-no-float finals) mentions json each
@@ -89,14 +90,14 @@ listings-no-float : (text : List ℕ) (numbers : List ℕ) → items_have_float 
 listings-no-float text [] = refl
 listings-no-float text (number ∷ numbers) = listings-no-float text numbers
 
-completion-no-float : (json : Data) → IsCompletion json → has_float json ≡ false
-completion-no-float json is = ap has_float is.3
+completion-no-float : (range json : Data) → has_float range ≡ false → IsCompletion range json → has_float json ≡ false
+completion-no-float range json none is = ap has_float is.3 ∙ ap (λ b. (b || false) || false) none
 
-completions-no-float : (told : List Data) → All IsCompletion told → items_have_float (items_of told) ≡ false
-completions-no-float [] each = refl
-completions-no-float (json ∷ told) each =
-    ap (λ b. b || items_have_float (items_of told)) (completion-no-float json (each 0 json (omega arith)))
-    ∙ completions-no-float told (λ k d within. each (suc k) d (omega (arith, within)))
+completions-no-float : (range : Data) (told : List Data) → has_float range ≡ false → All (IsCompletion range) told → items_have_float (items_of told) ≡ false
+completions-no-float range [] none each = refl
+completions-no-float range (json ∷ told) none each =
+    ap (λ b. b || items_have_float (items_of told)) (completion-no-float range json none (each 0 json (omega arith)))
+    ∙ completions-no-float range told none (λ k d within. each (suc k) d (omega (arith, within)))
 
 -- ---- queries
 
@@ -105,19 +106,21 @@ of-no-float : {A : Type 0} (asked : Option A) (tells : A → Data → Type 0) �
 of-no-float None tells none told is = ap has_float_told is
 of-no-float (Some asked) tells none told is = ap has_float_told is.1 ∙ none asked is.0 is.2
 
-pub tells-no-float : (query : Query) (params : Data) (encoding : Encoding) (uri text : List ℕ) (told : Option Data) → Tells query params encoding uri text told
+pub tells-no-float : (query : Query) (params : Data) (encoding : Encoding) (markup : Markup) (uri text : List ℕ) (told : Option Data)
+    → Tells query params encoding markup uri text told
     → has_float_told told ≡ false
-tells-no-float Hover params encoding uri text told tells =
-    of-no-float (position_at params) _ (λ position json is. ap has_float is.2 ∙ hover-no-float is.0) told tells
-tells-no-float Definition params encoding uri text told tells =
+tells-no-float Hover params encoding markup uri text told tells =
+    of-no-float (position_at params) _ (λ position json is. ap has_float is.2 ∙ hover-no-float markup is.0) told tells
+tells-no-float Definition params encoding markup uri text told tells =
     of-no-float (position_at params) _ (λ position json is. first-no-float uri _ json is) told tells
-tells-no-float References params encoding uri text told tells =
+tells-no-float References params encoding markup uri text told tells =
     of-no-float (position_at params) _ (λ position json is. list-no-float (TellsMention uri) (mention-no-float uri) _ json is) told tells
-tells-no-float Symbols params encoding uri text told tells =
+tells-no-float Symbols params encoding markup uri text told tells =
     ap has_float_told tells.1 ∙ symbols-no-float (assembly_of (source_of_text text)).finals (definitions (mentions_in text)) tells.0 tells.2
-tells-no-float Hints params encoding uri text told tells =
+tells-no-float Hints params encoding markup uri text told tells =
     of-no-float (range_at params) _ (λ range json is. ap has_float is ∙ hints-no-float encoding text _) told tells
-tells-no-float Completions params encoding uri text told tells =
-    ap has_float_told tells.1 ∙ ap has_float tells.2.2 ∙ completions-no-float tells.2.0 tells.2.1
-tells-no-float Listing params encoding uri text told tells =
+tells-no-float Completions params encoding markup uri text told tells =
+    of-no-float (position_at params) _
+    (λ position json is. ap has_float is.2 ∙ completions-no-float (word_at encoding text position) is.0 refl is.1) told tells
+tells-no-float Listing params encoding markup uri text told tells =
     of-no-float (range_at params) _ (λ range json is. ap has_float is ∙ listings-no-float text (range_with_len range.start.line (lines_within (length (source_of_text text)) range))) told tells

@@ -13,7 +13,7 @@ use Rattle.cps_list.specs.Symbols.{value_of}
 use Rattle.cps_assembly.specs.Assembly.{outcomes_of}
 use Rattle.cps_document.specs.Document.{source_of_text}
 use Rattle.cps_lookup.specs.Rows.{hint_of}
-use Rattle.cps_queries.specs.Ranges.{IsInLine, range_of}
+use Rattle.cps_queries.specs.Ranges.{range_of}
 use Rattle.cps_queries.specs.Results.{text_beside}
 
 -- what follows of what holds of a result
@@ -57,8 +57,8 @@ next-listing listing told next all number end within added rest =
     ∙ ap (λ count. told ++ map listing (range_with_len number count)) (sym one_less) ∙ rest
 
 -- a range in a line, by numbers of it that are the same
-pub in-line : (json : Data) (given number start end : ℕ) → json ≡ range_of given start end → given ≡ number → IsInLine number json
-in-line json given number start end is same = (start, end, is ∙ ap (λ line. range_of line start end) same)
+pub as-range : (json : Data) (given number start end : ℕ) → json ≡ range_of given start end → given ≡ number → json ≡ range_of number start end
+as-range json given number start end is same = is ∙ ap (λ line. range_of line start end) same
 
 -- the value of a symbol, by values that are the same
 pub valued : (value : Option Value) (given finals : Finals) (name : Name) → value ≡ value_of given name → given ≡ finals → value ≡ value_of finals name

@@ -4,11 +4,13 @@ use Rattle.serde_json.specs.Data.{Data, array}
 use Rattle.serde_json.specs.View.{items_of}
 use Rattle.cps_list.specs.declared.mention.Mention.{Mention}
 use Rattle.cps_buffer.specs.declared.encoding.Encoding.{Encoding}
+use Rattle.cps_params.specs.declared.markup.Markup.{Markup}
 use Rattle.cps_params.specs.Params.{position_at, range_at, wants_definitions}
 use Rattle.cps_lookup.specs.Symbols.{definitions, mentions_at}
 use Rattle.cps_queries.specs.declared.deck.Deck.{Deck}
 use Rattle.cps_queries.specs.declared.query.Query.{Query}
 use Rattle.cps_queries.specs.declared.query.Query.TheVariants.{Hover, Definition, References, Symbols, Hints, Completions, Listing}
+use Rattle.cps_queries.specs.Ranges.{word_at}
 use Rattle.cps_queries.specs.Results.{TellsCompletions, TellsEach, TellsFirst, TellsMention, TellsShown, TellsSymbols, hints_in, listings_in}
 
 -- the query of a method
@@ -32,17 +34,18 @@ TellsOf None tells told = told ≡ None
 TellsOf (Some asked) tells told = (json : Data) × (told ≡ Some json) × tells asked json
 
 -- what is told of the text under a URI, by the parameters of a query; nothing where they are wrong
-abbrev pub Tells : Query → Data → Encoding → List ℕ → List ℕ → Option Data → Type 0
-Tells Hover params encoding uri text told = TellsOf (position_at params) (λ position json. TellsShown encoding text position json) told
-Tells Definition params encoding uri text told =
+abbrev pub Tells : Query → Data → Encoding → Markup → List ℕ → List ℕ → Option Data → Type 0
+Tells Hover params encoding markup uri text told = TellsOf (position_at params) (λ position json. TellsShown encoding markup text position json) told
+Tells Definition params encoding markup uri text told =
     TellsOf (position_at params) (λ position json. TellsFirst uri (definitions (mentions_at encoding text position)) json) told
-Tells References params encoding uri text told =
+Tells References params encoding markup uri text told =
     TellsOf (position_at params) (λ position json. TellsEach (TellsMention uri) (wanted (wants_definitions params) (mentions_at encoding text position)) json) told
-Tells Symbols params encoding uri text told = (json : Data) × (told ≡ Some json) × TellsSymbols text json
-Tells Hints params encoding uri text told = TellsOf (range_at params) (λ range json. json ≡ array (items_of (hints_in encoding text range))) told
-Tells Completions params encoding uri text told = (json : Data) × (told ≡ Some json) × TellsCompletions json
-Tells Listing params encoding uri text told = TellsOf (range_at params) (λ range json. json ≡ array (items_of (listings_in text range))) told
+Tells Symbols params encoding markup uri text told = (json : Data) × (told ≡ Some json) × TellsSymbols text json
+Tells Hints params encoding markup uri text told = TellsOf (range_at params) (λ range json. json ≡ array (items_of (hints_in encoding text range))) told
+Tells Completions params encoding markup uri text told =
+    TellsOf (position_at params) (λ position json. TellsCompletions (word_at encoding text position) json) told
+Tells Listing params encoding markup uri text told = TellsOf (range_at params) (λ range json. json ≡ array (items_of (listings_in text range))) told
 
 -- what is told of a deck
 abbrev pub TellsOfDeck : Query → Data → Deck → Option Data → Type 0
-TellsOfDeck query params deck told = Tells query params deck.encoding deck.uri.now deck.document.now told
+TellsOfDeck query params deck told = Tells query params deck.encoding deck.markup deck.uri.now deck.document.now told

@@ -1,5 +1,5 @@
 -- What a server tells of a text that an editor has open, in JSON. From the Language Server Protocol 3.17; what is shown of a line is our own.
-use Rattle.std.specs.Prelude.{◌≡◌, ℕ, ◌+◌, ◌-◌, min, true, List, [], ◌∷◌, length, map, codes, flat_map, Option, Some, None, option_and_then, slice_get}
+use Rattle.std.specs.Prelude.{◌≡◌, ◌≤◌, ℕ, ◌+◌, ◌-◌, min, true, List, [], ◌∷◌, ◌++◌, length, map, codes, flat_map, Option, Some, None, option_and_then, slice_get}
 use Rattle.std.specs.List.{All, AllZip, range_with_len}
 use Rattle.std.specs.Str.Lossy.{utf8_lossy}
 use Rattle.serde_json.specs.Data.{Data, unsigned, null, boolean, number, string, array, object, no_members, member}
@@ -14,9 +14,11 @@ use Rattle.cps_buffer.specs.declared.encoding.Encoding.{Encoding}
 use Rattle.cps_buffer.specs.declared.position.Position.{Position}
 use Rattle.cps_buffer.specs.declared.position.Range.{Range}
 use Rattle.cps_document.specs.Document.{source_of_text}
+use Rattle.cps_params.specs.declared.markup.Markup.{Markup}
+use Rattle.cps_params.specs.declared.markup.Markup.TheVariants.{Plain, Markdown}
 use Rattle.cps_lookup.specs.Rows.{Shows, hint_of, line_listing}
 use Rattle.cps_lookup.specs.Symbols.{definitions, line_of, mentions_in}
-use Rattle.cps_queries.specs.Ranges.{IsInLine, location, position, told_units}
+use Rattle.cps_queries.specs.Ranges.{IsInLine, location, position, range_of, told_units}
 
 -- a text of characters; all of its bytes are ASCII, unless a line has others
 abbrev pub text_json : List ℕ → Data
@@ -28,14 +30,24 @@ TellsEach tells list json = (told : List Data) × AllZip tells list told × (jso
 
 -- ---- rows
 
--- rows of a text, shown as they stand; null where there are none
-abbrev pub hover : Option (List ℕ) → Data
-hover None = null
-hover (Some text) = object (member (codes "contents")
-    (object (member (codes "language") (string (codes "compass")) (member (codes "value") (text_json text) no_members))) no_members)
+-- the name of a form of texts
+abbrev pub markup_name : Markup → List ℕ
+markup_name Plain = codes "plaintext"
+markup_name Markdown = codes "markdown"
 
-abbrev pub TellsShown : Encoding → List ℕ → Position → Data → Type 0
-TellsShown encoding text position json = (shown : Option (List ℕ)) × Shows encoding text position shown × (json ≡ hover shown)
+-- rows in a form: as they stand, or fenced as a block of code
+abbrev pub marked : Markup → List ℕ → List ℕ
+marked Plain rows = rows
+marked Markdown rows = codes "```compass\n" ++ rows ++ codes "```"
+
+-- rows of a text, shown in a form; null where there are none
+abbrev pub hover : Markup → Option (List ℕ) → Data
+hover markup None = null
+hover markup (Some rows) = object (member (codes "contents")
+    (object (member (codes "kind") (string (markup_name markup)) (member (codes "value") (text_json (marked markup rows)) no_members))) no_members)
+
+abbrev pub TellsShown : Encoding → Markup → List ℕ → Position → Data → Type 0
+TellsShown encoding markup text position json = (shown : Option (List ℕ)) × Shows encoding text position shown × (json ≡ hover markup shown)
 
 -- ---- lines on which symbols stand
 
@@ -56,11 +68,12 @@ symbol value name range selection =
     object (member (codes "detail") (text_json value) (member (codes "kind") (number (unsigned 14)) (member (codes "name") (text_json name)
     (member (codes "range") range (member (codes "selectionRange") selection no_members)))))
 
--- a definition of a symbol
+-- a definition of a symbol; its name is within the range of its line
 abbrev pub TellsSymbol : Finals → Mention → Data → Type 0
 TellsSymbol finals mention json =
-    (range selection : Data) × IsInLine (mention.line - 1) range × IsInLine (mention.line - 1) selection
-    × (json ≡ symbol (value_text (value_of finals mention.name)) (name_text mention.name) range selection)
+    (start first last end : ℕ) × (start ≤ first) × (first ≤ last) × (last ≤ end)
+    × (json ≡ symbol (value_text (value_of finals mention.name)) (name_text mention.name)
+    (range_of (mention.line - 1) start end) (range_of (mention.line - 1) first last))
 
 -- what holds at the end of a text's assembly
 abbrev pub finals_in : List ℕ → Finals
@@ -111,15 +124,20 @@ listings_in text range = map (listing_json text) (range_with_len range.start.lin
 
 -- ---- what may be written next
 
--- what may be written: its kind, as the protocol counts kinds, its text, and what stands beside it
-abbrev pub completion : ℕ → List ℕ → List ℕ → Data
-completion kind label detail =
-    object (member (codes "detail") (text_json detail) (member (codes "kind") (number (unsigned kind)) (member (codes "label") (text_json label) no_members)))
+-- a text in the place of a range
+abbrev pub edit : Data → List ℕ → Data
+edit range text = object (member (codes "newText") (text_json text) (member (codes "range") range no_members))
+
+-- what may be written in the place of a range: its kind, as the protocol counts kinds, its text, and what stands beside it
+abbrev pub completion : Data → ℕ → List ℕ → List ℕ → Data
+completion range kind label detail =
+    object (member (codes "detail") (text_json detail) (member (codes "kind") (number (unsigned kind))
+    (member (codes "label") (text_json label) (member (codes "textEdit") (edit range label) no_members))))
 
 -- one is told; which is free
-abbrev pub IsCompletion : Data → Type 0
-IsCompletion json = (kind : ℕ) × (label detail : List ℕ) × (json ≡ completion kind label detail)
+abbrev pub IsCompletion : Data → Data → Type 0
+IsCompletion range json = (kind : ℕ) × (label detail : List ℕ) × (json ≡ completion range kind label detail)
 
--- some are
-abbrev pub TellsCompletions : Data → Type 0
-TellsCompletions json = (told : List Data) × All IsCompletion told × (json ≡ array (items_of told))
+-- some are, all in the place of one range
+abbrev pub TellsCompletions : Data → Data → Type 0
+TellsCompletions range json = (told : List Data) × All (IsCompletion range) told × (json ≡ array (items_of told))

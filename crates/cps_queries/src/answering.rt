@@ -104,7 +104,10 @@ fn answer_completions(
 ) -> Result<Option<Value>, AllocError>
     ensures { IfOk result (λ told. TellsOfDeck queries.Completions (view params.now) deck.entry (option_map view told)) }
 {
-    let told = tell_completions(alloc, deck)?;
+    let Some(position) = position_at(params) else {
+        return Ok(None);
+    };
+    let told = tell_completions(alloc, deck, position)?;
     Ok(Some(told))
 }
 

@@ -1,12 +1,15 @@
 //! What may be written next.
 ghost use Rattle.std.specs.Prelude.{◌≡◌, map, IfOk, OnOk};
 ghost use Rattle.serde_json.specs.View.{view};
+ghost use Rattle.cps_queries.specs.Ranges.{word_at};
 ghost use Rattle.cps_queries.specs.Results.{TellsCompletions, completion};
 ghost use Rattle.cps_queries.specs.Telling.{KeepsCompletions};
 
 use crate::deck::Deck;
 use crate::operations::{CENTRAL, CENTRAL_WITH_REGISTER, PERIPHERAL, STATEMENTS};
+use crate::ranges::word_range;
 use cps_assembly::View;
+use cps_buffer::Position;
 use cps_document::Document;
 use cps_list::{push_value, symbol_value};
 use cps_lookup::definitions_in;
@@ -23,23 +26,61 @@ const KEYWORD: u32 = 14;
 
 const CONSTANT: u32 = 21;
 
+/// What is told beside macros and operations.
+const MACRO: Sort<'static> = Sort {
+    kind: FUNCTION,
+    detail: b"macro",
+};
+
+const STATEMENT: Sort<'static> = Sort {
+    kind: KEYWORD,
+    detail: b"statement",
+};
+
+const INSTRUCTION: Sort<'static> = Sort {
+    kind: KEYWORD,
+    detail: b"central processor",
+};
+
+const PERIPHERAL_INSTRUCTION: Sort<'static> = Sort {
+    kind: KEYWORD,
+    detail: b"peripheral processor",
+};
+
 /// The registers of a kind.
 const REGISTERS: [&str; 8] = ["0", "1", "2", "3", "4", "5", "6", "7"];
 
-/// What may be written next in a deck: its symbols with their values, its macros, and the operations of both processors.
-pub fn tell_completions(alloc: Global, deck: Deck<'_>) -> Result<Value, AllocError>
-    ensures { IfOk result (λ json. TellsCompletions (view json)) }
+/// What is told beside a word that is offered.
+#[derive(Clone, Copy)]
+struct Sort<'a> {
+    kind: u32,
+    detail: &'a [u8],
+}
+
+/// What may be written in the place of the word around a position of a deck: its symbols with their values, its macros, and the operations of both processors.
+pub fn tell_completions(
+    alloc: Global,
+    deck: Deck<'_>,
+    position: Position,
+) -> Result<Value, AllocError>
+    ensures { IfOk result (λ json. TellsCompletions (word_at deck.entry.encoding deck.entry.document.now position) (view json)) }
 {
+    let range = word_range(alloc, deck, position)?;
     let mut told = Vec::new(alloc);
-    push_symbols(alloc, deck.document, &mut told)?;
-    push_macros(alloc, deck.document, &mut told)?;
-    push_operations(alloc, &mut told)?;
+    push_symbols(alloc, deck.document, &range, &mut told)?;
+    push_macros(alloc, deck.document, &range, &mut told)?;
+    push_operations(alloc, &range, &mut told)?;
     Ok(Value::from(told))
 }
 
 /// Appends the symbols that lines define, each once.
-fn push_symbols(alloc: Global, document: &Document, told: &mut Vec<Value>) -> Result<(), AllocError>
-    ensures { OnOk result (KeepsCompletions (map view told.old.items) (map view told.new.items)) }
+fn push_symbols(
+    alloc: Global,
+    document: &Document,
+    range: &Value,
+    told: &mut Vec<Value>,
+) -> Result<(), AllocError>
+    ensures { OnOk result (KeepsCompletions (view range.now) (map view told.old.items) (map view told.new.items)) }
 {
     let finals = document.session().finals();
     let definitions = definitions_in(alloc, document)?;
@@ -51,18 +92,27 @@ fn push_symbols(alloc: Global, document: &Document, told: &mut Vec<Value>) -> Re
     for name in names.as_slice() {
         value.clear();
         push_value(&mut value, symbol_value(finals, *name))?;
-        push_item(alloc, told, CONSTANT, name.text(), &value)?;
+        let sort = Sort {
+            kind: CONSTANT,
+            detail: &value,
+        };
+        push_item(alloc, range, told, name.text(), sort)?;
     }
     Ok(())
 }
 
 /// Appends the macros that lines define, each once.
-fn push_macros(alloc: Global, document: &Document, told: &mut Vec<Value>) -> Result<(), AllocError>
-    ensures { OnOk result (KeepsCompletions (map view told.old.items) (map view told.new.items)) }
+fn push_macros(
+    alloc: Global,
+    document: &Document,
+    range: &Value,
+    told: &mut Vec<Value>,
+) -> Result<(), AllocError>
+    ensures { OnOk result (KeepsCompletions (view range.now) (map view told.old.items) (map view told.new.items)) }
 {
     let names = macros_in(alloc, document)?;
     for name in names.as_slice() {
-        push_item(alloc, told, FUNCTION, name.text(), b"macro")?;
+        push_item(alloc, range, told, name.text(), MACRO)?;
     }
     Ok(())
 }
@@ -81,36 +131,41 @@ fn macros_in(alloc: Global, document: &Document) -> Result<IndexSet<Name, Hashin
 }
 
 /// Appends the operations.
-fn push_operations(alloc: Global, told: &mut Vec<Value>) -> Result<(), AllocError>
-    ensures { OnOk result (KeepsCompletions (map view told.old.items) (map view told.new.items)) }
+fn push_operations(alloc: Global, range: &Value, told: &mut Vec<Value>) -> Result<(), AllocError>
+    ensures { OnOk result (KeepsCompletions (view range.now) (map view told.old.items) (map view told.new.items)) }
 {
-    push_names(alloc, told, &STATEMENTS, b"statement")?;
-    push_names(alloc, told, &CENTRAL, b"central processor")?;
-    push_register_names(alloc, told)?;
-    push_names(alloc, told, &PERIPHERAL, b"peripheral processor")
+    push_names(alloc, range, told, &STATEMENTS, STATEMENT)?;
+    push_names(alloc, range, told, &CENTRAL, INSTRUCTION)?;
+    push_register_names(alloc, range, told)?;
+    push_names(alloc, range, told, &PERIPHERAL, PERIPHERAL_INSTRUCTION)
 }
 
 /// Appends names of operations.
 fn push_names(
     alloc: Global,
+    range: &Value,
     told: &mut Vec<Value>,
     names: &[&str],
-    detail: &[u8],
+    sort: Sort<'_>,
 ) -> Result<(), AllocError>
-    ensures { OnOk result (KeepsCompletions (map view told.old.items) (map view told.new.items)) }
+    ensures { OnOk result (KeepsCompletions (view range.now) (map view told.old.items) (map view told.new.items)) }
 {
     for name in names {
-        push_item(alloc, told, KEYWORD, name.as_bytes(), detail)?;
+        push_item(alloc, range, told, name.as_bytes(), sort)?;
     }
     Ok(())
 }
 
 /// Appends the names of instructions that have the digit of a register.
-fn push_register_names(alloc: Global, told: &mut Vec<Value>) -> Result<(), AllocError>
-    ensures { OnOk result (KeepsCompletions (map view told.old.items) (map view told.new.items)) }
+fn push_register_names(
+    alloc: Global,
+    range: &Value,
+    told: &mut Vec<Value>,
+) -> Result<(), AllocError>
+    ensures { OnOk result (KeepsCompletions (view range.now) (map view told.old.items) (map view told.new.items)) }
 {
     for letters in &CENTRAL_WITH_REGISTER {
-        push_with_registers(alloc, told, letters)?;
+        push_with_registers(alloc, range, told, letters)?;
     }
     Ok(())
 }
@@ -118,39 +173,41 @@ fn push_register_names(alloc: Global, told: &mut Vec<Value>) -> Result<(), Alloc
 /// Appends a name with the digit of each register.
 fn push_with_registers(
     alloc: Global,
+    range: &Value,
     told: &mut Vec<Value>,
     letters: &str,
 ) -> Result<(), AllocError>
-    ensures { OnOk result (KeepsCompletions (map view told.old.items) (map view told.new.items)) }
+    ensures { OnOk result (KeepsCompletions (view range.now) (map view told.old.items) (map view told.new.items)) }
 {
     let mut name = Vec::new(alloc);
     for register in &REGISTERS {
         name.clear();
         name.extend_from_slice(letters.as_bytes())?;
         name.extend_from_slice(register.as_bytes())?;
-        push_item(alloc, told, KEYWORD, &name, b"central processor")?;
+        push_item(alloc, range, told, &name, INSTRUCTION)?;
     }
     Ok(())
 }
 
-/// Appends what may be written: its kind, its text, and what stands beside it.
+/// Appends what may be written in the place of a range, and what is told beside it.
 fn push_item(
     alloc: Global,
+    range: &Value,
     told: &mut Vec<Value>,
-    kind: u32,
     label: &[u8],
-    detail: &[u8],
+    sort: Sort<'_>,
 ) -> Result<(), AllocError>
-    ensures { OnOk result (KeepsCompletions (map view told.old.items) (map view told.new.items)) }
+    ensures { OnOk result (KeepsCompletions (view range.now) (map view told.old.items) (map view told.new.items)) }
 {
-    told.push(item(alloc, kind, label, detail)?)?;
+    told.push(item(alloc, range, label, sort)?)?;
     Ok(())
 }
 
-fn item(alloc: Global, kind: u32, label: &[u8], detail: &[u8]) -> Result<Value, AllocError>
-    ensures { IfOk result (λ json. view json ≡ completion kind label.now detail.now) }
+fn item(alloc: Global, range: &Value, label: &[u8], sort: Sort<'_>) -> Result<Value, AllocError>
+    ensures { IfOk result (λ json. view json ≡ completion (view range.now) sort.entry.kind label.now sort.entry.detail.now) }
 {
+    let kind = sort.kind;
     let label = String::from_utf8_lossy(alloc, label)?;
-    let detail = String::from_utf8_lossy(alloc, detail)?;
-    json!(in alloc; {"detail": (&detail), "kind": kind, "label": (&label)})
+    let detail = String::from_utf8_lossy(alloc, sort.detail)?;
+    json!(in alloc; {"detail": (&detail), "kind": kind, "label": (&label), "textEdit": {"newText": (&label), "range": range}})
 }

@@ -2,6 +2,7 @@
 
 use cps_buffer::Encoding;
 use cps_document::Document;
+use cps_params::Markup;
 
 /// A text that an editor has open and asks of.
 #[derive(Clone, Copy)]
@@ -11,4 +12,6 @@ pub struct Deck<'a> {
     pub document: &'a Document,
     /// How its positions are counted.
     pub encoding: Encoding,
+    /// In which form a hover is taken.
+    pub markup: Markup,
 }

@@ -6,30 +6,58 @@ ghost use Rattle.cps_queries.specs.Results as results;
 use crate::deck::Deck;
 use cps_buffer::Position;
 use cps_lookup::shown_at;
+use cps_params::Markup;
 use serde_json::{Value, json};
 use std::alloc::{AllocError, Global};
 
 /// What is shown at a position of a deck: the row of the symbol there, the rows of the line, and why it is flagged. It is null where no such line is assembled.
 pub fn hover_at(alloc: Global, deck: Deck<'_>, position: Position) -> Result<Value, AllocError>
-    ensures { IfOk result (λ json. results.TellsShown deck.entry.encoding deck.entry.document.now position (view json)) }
+    ensures { IfOk result (λ json. results.TellsShown deck.entry.encoding deck.entry.markup deck.entry.document.now position (view json)) }
 {
     let shown = shown_at(alloc, deck.document, deck.encoding, position)?;
-    hover(alloc, shown)
+    hover(alloc, deck.markup, shown)
 }
 
-/// A text, shown as it stands; null where there is none.
-fn hover(alloc: Global, shown: Option<Vec<u8>>) -> Result<Value, AllocError>
-    ensures { IfOk result (λ json. view json ≡ results.hover (option_map (λ text. text.items) shown)) }
+/// Rows, shown in a form; null where there are none.
+fn hover(alloc: Global, markup: Markup, shown: Option<Vec<u8>>) -> Result<Value, AllocError>
+    ensures { IfOk result (λ json. view json ≡ results.hover markup (option_map (λ text. text.items) shown)) }
 {
     match shown {
-        Some(text) => hover_text(alloc, &text),
+        Some(rows) => hover_rows(alloc, markup, &rows),
         None => Ok(Value::Null),
     }
 }
 
-fn hover_text(alloc: Global, text: &[u8]) -> Result<Value, AllocError>
-    ensures { IfOk result (λ json. view json ≡ results.hover (Some text.now)) }
+fn hover_rows(alloc: Global, markup: Markup, rows: &[u8]) -> Result<Value, AllocError>
+    ensures { IfOk result (λ json. view json ≡ results.hover markup (Some rows.now)) }
 {
-    let value = String::from_utf8_lossy(alloc, text)?;
-    json!(in alloc; {"contents": {"language": "compass", "value": (&value)}})
+    let text = marked(alloc, markup, rows)?;
+    let name = markup_name(markup);
+    let value = String::from_utf8_lossy(alloc, &text)?;
+    json!(in alloc; {"contents": {"kind": name, "value": (&value)}})
+}
+
+/// Rows in a form: as they stand, or fenced as a block of code.
+fn marked(alloc: Global, markup: Markup, rows: &[u8]) -> Result<Vec<u8>, AllocError>
+    ensures { IfOk result (λ text. text.items ≡ results.marked markup rows.now) }
+{
+    let mut text = Vec::new(alloc);
+    match markup {
+        Markup::Plain => text.extend_from_slice(rows)?,
+        Markup::Markdown => {
+            text.extend_from_slice(b"```compass\n")?;
+            text.extend_from_slice(rows)?;
+            text.extend_from_slice(b"```")?;
+        }
+    }
+    Ok(text)
+}
+
+fn markup_name(markup: Markup) -> &'static str
+    ensures { result.now ≡ results.markup_name markup }
+{
+    match markup {
+        Markup::Plain => "plaintext",
+        Markup::Markdown => "markdown",
+    }
 }

@@ -5,7 +5,7 @@ ghost use Rattle.cps_list.specs.Symbols as texts;
 ghost use Rattle.cps_queries.specs.Results.{TellsEach, TellsSymbol, TellsSymbols, finals_in, symbol};
 
 use crate::deck::Deck;
-use crate::ranges::columns_range;
+use crate::ranges::{Units, range_of};
 use cps_assembly::View;
 use cps_document::Document;
 use cps_list::{Mention, push_value, symbol_value};
@@ -43,8 +43,10 @@ fn tell_symbol(alloc: Global, deck: Deck<'_>, definition: &Mention) -> Result<Va
     let name = definition.name;
     let number = definition.line.saturating_sub(1);
     let line = line_of(deck.document, number);
-    let range = columns_range(alloc, deck.encoding, line, number, filled_columns(line))?;
-    let selection = columns_range(alloc, deck.encoding, line, number, columns_of(line, name))?;
+    let whole = Units::of(deck.encoding, line, filled_columns(line)).forward();
+    let units = Units::of(deck.encoding, line, columns_of(line, name)).within(whole);
+    let range = range_of(alloc, number, whole)?;
+    let selection = range_of(alloc, number, units)?;
     let value = value_text(alloc, deck.document, name)?;
     symbol(alloc, &value, name.text(), range, selection)
 }

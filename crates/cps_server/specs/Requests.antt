@@ -3,7 +3,8 @@ use Rattle.std.specs.Prelude.{◌≡◌, ℕ, true, List, codes, bytes_eq, Optio
 use Rattle.serde_json.specs.Data.{Data, unsigned, null, boolean, number, string, object, no_members, member}
 use Rattle.cps_buffer.specs.declared.encoding.Encoding.{Encoding}
 use Rattle.cps_buffer.specs.declared.encoding.Encoding.TheVariants.{Utf8, Utf16}
-use Rattle.cps_params.specs.Params.{encoding_in, uri_in}
+use Rattle.cps_params.specs.declared.markup.Markup.{Markup}
+use Rattle.cps_params.specs.Params.{encoding_in, markup_in, uri_in}
 use Rattle.cps_rpc.specs.declared.error_code.ErrorCode.{ErrorCode}
 use Rattle.cps_rpc.specs.declared.error_code.ErrorCode.TheVariants.{InvalidRequest, MethodNotFound, InvalidParams, ServerNotInitialized}
 use Rattle.cps_rpc.specs.Outgoing.{response, refusal}
@@ -62,13 +63,14 @@ owed_by None = refused InvalidParams
 owed_by (Some told) = found told
 
 -- what is owed to a query of the text under a URI, if it is open
-abbrev pub OwesOf : Query → Data → Encoding → List ℕ → Option (List ℕ) → Owed → Type 0
-OwesOf query params encoding uri None owed = owed ≡ refused InvalidParams
-OwesOf query params encoding uri (Some text) owed = (told : Option Data) × Tells query params encoding uri text told × (owed ≡ owed_by told)
+abbrev pub OwesOf : Query → Data → Encoding → Markup → List ℕ → Option (List ℕ) → Owed → Type 0
+OwesOf query params encoding markup uri None owed = owed ≡ refused InvalidParams
+OwesOf query params encoding markup uri (Some text) owed =
+    (told : Option Data) × Tells query params encoding markup uri text told × (owed ≡ owed_by told)
 
 abbrev pub OwesUnder : Query → Data → Standing → Option (List ℕ) → Owed → Type 0
 OwesUnder query params old None owed = owed ≡ refused InvalidParams
-OwesUnder query params old (Some uri) owed = OwesOf query params old.encoding uri (text_under uri old.texts) owed
+OwesUnder query params old (Some uri) owed = OwesOf query params old.encoding old.markup uri (text_under uri old.texts) owed
 
 abbrev pub OwesQuery : Query → Data → Standing → Owed → Type 0
 OwesQuery query params old owed = OwesUnder query params old (uri_in params) owed
@@ -90,7 +92,7 @@ Owes request params old owed = OwesIn old.phase request params old owed
 
 -- where a server stands behind a request
 abbrev pub moved_by : Phase → Request → Data → Standing → Standing
-moved_by Uninitialized Initialize params old = record old { phase = Running; encoding = encoding_in params }
+moved_by Uninitialized Initialize params old = record old { phase = Running; encoding = encoding_in params; markup = markup_in params }
 moved_by Uninitialized Shutdown params old = old
 moved_by Uninitialized (Asks query) params old = old
 moved_by Uninitialized Unknown params old = old

@@ -1,7 +1,9 @@
--- Where a server stands. From the Language Server Protocol 3.17; the encoding before `initialize` is our own.
+-- Where a server stands. From the Language Server Protocol 3.17; what is agreed on before `initialize` is our own.
 use Rattle.std.specs.Prelude.{ℕ, Bool, true, false, not, List, [], ◌∷◌, ◌++◌, Option, Some, None, bytes_eq, filter, option_map, if◌then◌else◌}
 use Rattle.cps_buffer.specs.declared.encoding.Encoding.{Encoding}
 use Rattle.cps_buffer.specs.declared.encoding.Encoding.TheVariants.{Utf16}
+use Rattle.cps_params.specs.declared.markup.Markup.{Markup}
+use Rattle.cps_params.specs.declared.markup.Markup.TheVariants.{Plain}
 use Rattle.cps_server.specs.declared.phase.Phase.{Phase}
 use Rattle.cps_server.specs.declared.phase.Phase.TheVariants.{Uninitialized, Running, ShutDown}
 
@@ -34,16 +36,17 @@ with_text one texts = without one.uri texts ++ one ∷ []
 
 -- ---- the server
 
--- Where a server stands: its phase, whether `exit` has come, how positions are counted, and the open texts, those last that were opened or changed last.
+-- Where a server stands: its phase, whether `exit` has come, how positions are counted, in which form a hover is told, and the open texts, those last that were opened or changed last.
 pub record Standing : Type 0 where
   pub phase : Phase
   pub has_exited : Bool
   pub encoding : Encoding
+  pub markup : Markup
   pub texts : List OpenText
 
 -- before the first message
 abbrev pub beginning : Standing
-beginning = record { phase = Uninitialized; has_exited = false; encoding = Utf16; texts = [] }
+beginning = record { phase = Uninitialized; has_exited = false; encoding = Utf16; markup = Plain; texts = [] }
 
 -- whether `shutdown` has come
 abbrev pub is_shut_down : Phase → Bool

@@ -23,7 +23,9 @@ use crate::request::Request;
 use crate::saying::{push_answer, push_rejection};
 use cps_buffer::Encoding;
 use cps_document::Document;
-use cps_params::{Change, OpenedText, changes_in, encoding_in, uri_in, version_in};
+use cps_params::{
+    Change, Markup, OpenedText, changes_in, encoding_in, markup_in, uri_in, version_in,
+};
 use cps_pass::Hashing;
 use cps_queries::{Deck, Query, answer};
 use cps_rpc::{ErrorCode, JsonFault, Message, json_of};
@@ -39,6 +41,8 @@ pub struct Server {
     phase: Phase,
     has_exited: bool,
     encoding: Encoding,
+    /// In which form the editor takes a hover.
+    markup: Markup,
     texts: OpenTexts,
 }
 
@@ -51,6 +55,7 @@ impl Drop for Server {
             phase: _,
             has_exited: _,
             encoding: _,
+            markup: _,
             texts,
         } = self;
         drop(texts);
@@ -62,7 +67,7 @@ impl Model for Server {
 
     ghost Value = { Standing };
 
-    ghost view = { λ server. record { phase = server.phase; has_exited = server.has_exited; encoding = server.encoding; texts = server.texts } };
+    ghost view = { λ server. record { phase = server.phase; has_exited = server.has_exited; encoding = server.encoding; markup = server.markup; texts = server.texts } };
 }
 
 impl Service for Server {
@@ -96,6 +101,7 @@ impl Server {
             phase: Phase::Uninitialized,
             has_exited: false,
             encoding: Encoding::Utf16,
+            markup: Markup::Plain,
             texts: OpenTexts::new(alloc),
         }
     }
@@ -185,6 +191,7 @@ impl Server {
             uri,
             document,
             encoding: self.encoding,
+            markup: self.markup,
         };
         let told = answer(self.alloc, query, params, deck)?;
         Ok(Owed::by(told))
@@ -198,6 +205,7 @@ impl Server {
             (Phase::Uninitialized, Request::Initialize) => {
                 self.phase = Phase::Running;
                 self.encoding = encoding_in(params);
+                self.markup = markup_in(params);
             }
             (Phase::Running, Request::Shutdown) => self.phase = Phase::ShutDown,
             _ => {}

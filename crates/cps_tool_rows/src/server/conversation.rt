@@ -29,11 +29,28 @@ pub const INITIALIZE: &str =
 pub const INITIALIZE_UTF8: &str =
     "{\"jsonrpc\":\"2.0\",\"id\":1,\"method\":\"initialize\",\"params\":{\"capabilities\":{\"general\":{\"positionEncodings\":[\"utf-16\",\"utf-8\"]}}}}";
 
-/// The answer to the former.
+/// From editors that take a hover by Markdown: before plain text, and behind forms that none knows; and as plain text before that.
+pub const INITIALIZE_MARKDOWN: &str =
+    "{\"jsonrpc\":\"2.0\",\"id\":1,\"method\":\"initialize\",\"params\":{\"capabilities\":{\"textDocument\":{\"hover\":{\"contentFormat\":[\"markdown\",\"plaintext\"]}}}}}";
+
+pub const INITIALIZE_UNKNOWN: &str =
+    "{\"jsonrpc\":\"2.0\",\"id\":1,\"method\":\"initialize\",\"params\":{\"capabilities\":{\"textDocument\":{\"hover\":{\"contentFormat\":[\"html\",5,null,\"markdown\"]}}}}}";
+
+pub const INITIALIZE_PLAIN: &str =
+    "{\"jsonrpc\":\"2.0\",\"id\":1,\"method\":\"initialize\",\"params\":{\"capabilities\":{\"textDocument\":{\"hover\":{\"contentFormat\":[\"plaintext\",\"markdown\"]}}}}}";
+
+/// From editors that offer no known form, or no list of forms.
+pub const INITIALIZE_NONE: &str =
+    "{\"jsonrpc\":\"2.0\",\"id\":1,\"method\":\"initialize\",\"params\":{\"capabilities\":{\"textDocument\":{\"hover\":{\"contentFormat\":[\"Markdown\",\"md\"]}}}}}";
+
+pub const INITIALIZE_WRONG: &str =
+    "{\"jsonrpc\":\"2.0\",\"id\":1,\"method\":\"initialize\",\"params\":{\"capabilities\":{\"textDocument\":{\"hover\":{\"contentFormat\":\"markdown\"}}}}}";
+
+/// The answer to all but the one that offers UTF-8.
 pub const UTF16: &str =
     "{\"id\":1,\"jsonrpc\":\"2.0\",\"result\":{\"capabilities\":{\"completionProvider\":{},\"definitionProvider\":true,\"documentSymbolProvider\":true,\"hoverProvider\":true,\"inlayHintProvider\":true,\"positionEncoding\":\"utf-16\",\"referencesProvider\":true,\"textDocumentSync\":{\"change\":2,\"openClose\":true}},\"serverInfo\":{\"name\":\"compass\"}}}";
 
-/// The answer to the latter.
+/// The answer to that one.
 pub const UTF8: &str =
     "{\"id\":1,\"jsonrpc\":\"2.0\",\"result\":{\"capabilities\":{\"completionProvider\":{},\"definitionProvider\":true,\"documentSymbolProvider\":true,\"hoverProvider\":true,\"inlayHintProvider\":true,\"positionEncoding\":\"utf-8\",\"referencesProvider\":true,\"textDocumentSync\":{\"change\":2,\"openClose\":true}},\"serverInfo\":{\"name\":\"compass\"}}}";
 

@@ -1,5 +1,11 @@
 //! What an editor shows of a place: the row of the symbol there, the rows of the line, as the listing has them, and the causes of its flags.
-use super::asking::{BY_UTF8, BY_UTF16, Inquiry, assert_answers, assert_parts};
+use super::asking::{
+    BY_UTF8, BY_UTF16, Beginning, Inquiry, Question, assert_answers, assert_parts,
+};
+use super::conversation::{
+    INITIALIZE_MARKDOWN, INITIALIZE_NONE, INITIALIZE_PLAIN, INITIALIZE_UNKNOWN, INITIALIZE_WRONG,
+    UTF16,
+};
 use super::decks::{LETTERS, NAMES, PAIR, UNDEFINED, UNDEFINED_TOLD, WIDE, WIDE_UTF8, WIDE_UTF16};
 
 /// Symbols and other words of a program.
@@ -12,61 +18,61 @@ const WORDS: Inquiry = Inquiry {
         (
             "hover",
             r#","position":{"line":3,"character":2}"#,
-            r#"{"contents":{"language":"compass","value":"START    00000000000000000100 4 6\n         000100 7160000005                4 START     SX6    COUNT\n"}}"#,
+            r#"{"contents":{"kind":"plaintext","value":"START    00000000000000000100 4 6\n         000100 7160000005                4 START     SX6    COUNT\n"}}"#,
         ),
         // behind the last character of an operand
         (
             "hover",
             r#","position":{"line":3,"character":22}"#,
-            r#"{"contents":{"language":"compass","value":"COUNT    00000000000000000005 8 4\n         000100 7160000005                4 START     SX6    COUNT\n"}}"#,
+            r#"{"contents":{"kind":"plaintext","value":"COUNT    00000000000000000005 8 4\n         000100 7160000005                4 START     SX6    COUNT\n"}}"#,
         ),
         // between blanks
         (
             "hover",
             r#","position":{"line":3,"character":8}"#,
-            r#"{"contents":{"language":"compass","value":"         000100 7160000005                4 START     SX6    COUNT\n"}}"#,
+            r#"{"contents":{"kind":"plaintext","value":"         000100 7160000005                4 START     SX6    COUNT\n"}}"#,
         ),
         // an operation, which no line mentions as a symbol
         (
             "hover",
             r#","position":{"line":3,"character":11}"#,
-            r#"{"contents":{"language":"compass","value":"         000100 7160000005                4 START     SX6    COUNT\n"}}"#,
+            r#"{"contents":{"kind":"plaintext","value":"         000100 7160000005                4 START     SX6    COUNT\n"}}"#,
         ),
         // a register, before the comma
         (
             "hover",
             r#","position":{"line":5,"character":19}"#,
-            r#"{"contents":{"language":"compass","value":"         000101 0316000100                6           NZ     X6,START\n"}}"#,
+            r#"{"contents":{"kind":"plaintext","value":"         000101 0316000100                6           NZ     X6,START\n"}}"#,
         ),
         // a symbol, behind the comma
         (
             "hover",
             r#","position":{"line":5,"character":20}"#,
-            r#"{"contents":{"language":"compass","value":"START    00000000000000000100 4 6\n         000101 0316000100                6           NZ     X6,START\n"}}"#,
+            r#"{"contents":{"kind":"plaintext","value":"START    00000000000000000100 4 6\n         000101 0316000100                6           NZ     X6,START\n"}}"#,
         ),
         // the name of the program, which is no symbol of a line
         (
             "hover",
             r#","position":{"line":0,"character":17}"#,
-            r#"{"contents":{"language":"compass","value":"                                          1           IDENT  NAMES\n"}}"#,
+            r#"{"contents":{"kind":"plaintext","value":"                                          1           IDENT  NAMES\n"}}"#,
         ),
         // beyond the end of a line is its end, behind a symbol
         (
             "hover",
             r#","position":{"line":4,"character":99}"#,
-            r#"{"contents":{"language":"compass","value":"ANSWER   00000000000000000102 9 5\n         000100 5160000102                5           SA6    ANSWER\n"}}"#,
+            r#"{"contents":{"kind":"plaintext","value":"ANSWER   00000000000000000102 9 5\n         000100 5160000102                5           SA6    ANSWER\n"}}"#,
         ),
         // and behind a number
         (
             "hover",
             r#","position":{"line":7,"character":99}"#,
-            r#"{"contents":{"language":"compass","value":"                00000000000000000005      8 COUNT     EQU    5\n"}}"#,
+            r#"{"contents":{"kind":"plaintext","value":"                00000000000000000005      8 COUNT     EQU    5\n"}}"#,
         ),
         // the last line
         (
             "hover",
             r#","position":{"line":9,"character":0}"#,
-            r#"{"contents":{"language":"compass","value":"                                         10           END\n"}}"#,
+            r#"{"contents":{"kind":"plaintext","value":"                                         10           END\n"}}"#,
         ),
         // what stands behind its newline is no line
         ("hover", r#","position":{"line":10,"character":0}"#, "null"),
@@ -88,35 +94,35 @@ const COMMENT: Inquiry = Inquiry {
         (
             "hover",
             r#","position":{"line":0,"character":0}"#,
-            r#"{"contents":{"language":"compass","value":"                                          1 *         ADD one TO X6, NOT ONETOOMANY\n"}}"#,
+            r#"{"contents":{"kind":"plaintext","value":"                                          1 *         ADD one TO X6, NOT ONETOOMANY\n"}}"#,
         ),
         // a symbol in a comment
         (
             "hover",
             r#","position":{"line":0,"character":15}"#,
-            r#"{"contents":{"language":"compass","value":"ONE      00000000000000000001 2 3 4\n                                          1 *         ADD one TO X6, NOT ONETOOMANY\n"}}"#,
+            r#"{"contents":{"kind":"plaintext","value":"ONE      00000000000000000001 2 3 4\n                                          1 *         ADD one TO X6, NOT ONETOOMANY\n"}}"#,
         ),
         // a word of ten characters, which is no symbol
         (
             "hover",
             r#","position":{"line":0,"character":31}"#,
-            r#"{"contents":{"language":"compass","value":"                                          1 *         ADD one TO X6, NOT ONETOOMANY\n"}}"#,
+            r#"{"contents":{"kind":"plaintext","value":"                                          1 *         ADD one TO X6, NOT ONETOOMANY\n"}}"#,
         ),
         (
             "hover",
             r#","position":{"line":2,"character":22}"#,
-            r#"{"contents":{"language":"compass","value":"ONE      00000000000000000001 2 3 4\n         000000 7266000001                3           SX6    X6+One\n"}}"#,
+            r#"{"contents":{"kind":"plaintext","value":"ONE      00000000000000000001 2 3 4\n         000000 7266000001                3           SX6    X6+One\n"}}"#,
         ),
         // the label forces a word
         (
             "hover",
             r#","position":{"line":3,"character":4}"#,
-            r#"{"contents":{"language":"compass","value":"ONE1     00000000000000000001 4\n         000001 7150000001                4 ONE1      SX5    ONE\n"}}"#,
+            r#"{"contents":{"kind":"plaintext","value":"ONE1     00000000000000000001 4\n         000001 7150000001                4 ONE1      SX5    ONE\n"}}"#,
         ),
         (
             "hover",
             r#","position":{"line":4,"character":0}"#,
-            r#"{"contents":{"language":"compass","value":"                                          5\n"}}"#,
+            r#"{"contents":{"kind":"plaintext","value":"                                          5\n"}}"#,
         ),
         ("hover", r#","position":{"line":5,"character":0}"#, "null"),
     ],
@@ -132,25 +138,25 @@ const EXPANSION: Inquiry = Inquiry {
         (
             "hover",
             r#","position":{"line":4,"character":17}"#,
-            r#"{"contents":{"language":"compass","value":"FIRST    00000000000000000000 5 6\n                                          5           PAIR   FIRST\n         000000                           + FIRST         BSS    1\n         000001                           + SECOND    BSS    1\n"}}"#,
+            r#"{"contents":{"kind":"plaintext","value":"FIRST    00000000000000000000 5 6\n                                          5           PAIR   FIRST\n         000000                           + FIRST         BSS    1\n         000001                           + SECOND    BSS    1\n"}}"#,
         ),
         // the name of the macro, which is no symbol
         (
             "hover",
             r#","position":{"line":4,"character":12}"#,
-            r#"{"contents":{"language":"compass","value":"                                          5           PAIR   FIRST\n         000000                           + FIRST         BSS    1\n         000001                           + SECOND    BSS    1\n"}}"#,
+            r#"{"contents":{"kind":"plaintext","value":"                                          5           PAIR   FIRST\n         000000                           + FIRST         BSS    1\n         000001                           + SECOND    BSS    1\n"}}"#,
         ),
         // a line of the body
         (
             "hover",
             r#","position":{"line":2,"character":6}"#,
-            r#"{"contents":{"language":"compass","value":"SECOND   00000000000000000001 5 7\n                                          3 SECOND    BSS    1\n"}}"#,
+            r#"{"contents":{"kind":"plaintext","value":"SECOND   00000000000000000001 5 7\n                                          3 SECOND    BSS    1\n"}}"#,
         ),
         // the parameter, which no line mentions
         (
             "hover",
             r#","position":{"line":1,"character":0}"#,
-            r#"{"contents":{"language":"compass","value":"                                          2 N         BSS    1\n"}}"#,
+            r#"{"contents":{"kind":"plaintext","value":"                                          2 N         BSS    1\n"}}"#,
         ),
     ],
 };
@@ -163,7 +169,7 @@ const FLAGGED: Inquiry = Inquiry {
     questions: &[(
         "hover",
         r#","position":{"line":0,"character":17}"#,
-        r#"{"contents":{"language":"compass","value":"Q        undefined            0 1\nU        000000 7110000000                1           SX1    Q\nU: no line gives Q a value; it counts as 0\n"}}"#,
+        r#"{"contents":{"kind":"plaintext","value":"Q        undefined            0 1\nU        000000 7110000000                1           SX1    Q\nU: no line gives Q a value; it counts as 0\n"}}"#,
     )],
 };
 
@@ -180,7 +186,7 @@ const FLAGGED_CALL: Inquiry = Inquiry {
     questions: &[(
         "hover",
         r#","position":{"line":3,"character":19}"#,
-        r#"{"contents":{"language":"compass","value":"NONE     undefined            0 4\n                                          4           BAD    NONE\nU        000000 5110000000                +           SA1    NONE\nU: no line gives NONE a value; it counts as 0\n"}}"#,
+        r#"{"contents":{"kind":"plaintext","value":"NONE     undefined            0 4\n                                          4           BAD    NONE\nU        000000 5110000000                +           SA1    NONE\nU: no line gives NONE a value; it counts as 0\n"}}"#,
     )],
 };
 
@@ -192,7 +198,7 @@ const WRONG: Inquiry = Inquiry {
     questions: &[(
         "hover",
         r#","position":{"line":0,"character":17}"#,
-        r#"{"contents":{"language":"compass","value":"Q        undefined            0 1\nU        000000 7110000000                1           SX1     Q\nU: no line gives Q a value; it counts as 0\n"}}"#,
+        r#"{"contents":{"kind":"plaintext","value":"Q        undefined            0 1\nU        000000 7110000000                1           SX1     Q\nU: no line gives Q a value; it counts as 0\n"}}"#,
     )],
 };
 
@@ -205,30 +211,30 @@ const UNITS: Inquiry = Inquiry {
         (
             "hover",
             r#","position":{"line":0,"character":1}"#,
-            r#"{"contents":{"language":"compass","value":"LP       00000000000000000000 1 2\n         000000 7110000001                1 LP        SX1    1\n"}}"#,
+            r#"{"contents":{"kind":"plaintext","value":"LP       00000000000000000000 1 2\n         000000 7110000001                1 LP        SX1    1\n"}}"#,
         ),
         // before the symbol and behind it
         (
             "hover",
             r#","position":{"line":1,"character":19}"#,
-            r#"{"contents":{"language":"compass","value":"LP       00000000000000000000 1 2\n         000000 7120000000                2           SX2         LP\n"}}"#,
+            r#"{"contents":{"kind":"plaintext","value":"LP       00000000000000000000 1 2\n         000000 7120000000                2           SX2         LP\n"}}"#,
         ),
         (
             "hover",
             r#","position":{"line":1,"character":21}"#,
-            r#"{"contents":{"language":"compass","value":"LP       00000000000000000000 1 2\n         000000 7120000000                2           SX2         LP\n"}}"#,
+            r#"{"contents":{"kind":"plaintext","value":"LP       00000000000000000000 1 2\n         000000 7120000000                2           SX2         LP\n"}}"#,
         ),
         // between the units of a character
         (
             "hover",
             r#","position":{"line":1,"character":17}"#,
-            r#"{"contents":{"language":"compass","value":"         000000 7120000000                2           SX2         LP\n"}}"#,
+            r#"{"contents":{"kind":"plaintext","value":"         000000 7120000000                2           SX2         LP\n"}}"#,
         ),
         // behind that character
         (
             "hover",
             r#","position":{"line":1,"character":18}"#,
-            r#"{"contents":{"language":"compass","value":"         000000 7120000000                2           SX2         LP\n"}}"#,
+            r#"{"contents":{"kind":"plaintext","value":"         000000 7120000000                2           SX2         LP\n"}}"#,
         ),
     ],
 };
@@ -242,18 +248,18 @@ const BYTES: Inquiry = Inquiry {
         (
             "hover",
             r#","position":{"line":1,"character":22}"#,
-            r#"{"contents":{"language":"compass","value":"LP       00000000000000000000 1 2\n         000000 7120000000                2           SX2         LP\n"}}"#,
+            r#"{"contents":{"kind":"plaintext","value":"LP       00000000000000000000 1 2\n         000000 7120000000                2           SX2         LP\n"}}"#,
         ),
         (
             "hover",
             r#","position":{"line":1,"character":24}"#,
-            r#"{"contents":{"language":"compass","value":"LP       00000000000000000000 1 2\n         000000 7120000000                2           SX2         LP\n"}}"#,
+            r#"{"contents":{"kind":"plaintext","value":"LP       00000000000000000000 1 2\n         000000 7120000000                2           SX2         LP\n"}}"#,
         ),
         // behind the character of four bytes
         (
             "hover",
             r#","position":{"line":1,"character":21}"#,
-            r#"{"contents":{"language":"compass","value":"         000000 7120000000                2           SX2         LP\n"}}"#,
+            r#"{"contents":{"kind":"plaintext","value":"         000000 7120000000                2           SX2         LP\n"}}"#,
         ),
     ],
 };
@@ -276,6 +282,45 @@ fn shows_places(rt: HostRuntime) {
     }
 }
 
+/// A hover by Markdown, and as plain text.
+const FENCED: &[Question] = &[
+    (
+        "hover",
+        r#","position":{"line":3,"character":8}"#,
+        r#"{"contents":{"kind":"markdown","value":"```compass\n         000100 7160000005                4 START     SX6    COUNT\n```"}}"#,
+    ),
+    // no such line
+    ("hover", r#","position":{"line":10,"character":0}"#, "null"),
+];
+
+const UNFENCED: &[Question] = &[(
+    "hover",
+    r#","position":{"line":3,"character":8}"#,
+    r#"{"contents":{"kind":"plaintext","value":"         000100 7160000005                4 START     SX6    COUNT\n"}}"#,
+)];
+
+/// The first known form that an editor takes counts.
+const FORMS: [(Beginning, &[Question]); 5] = [
+    ((INITIALIZE_MARKDOWN, UTF16), FENCED),
+    ((INITIALIZE_UNKNOWN, UTF16), FENCED),
+    ((INITIALIZE_PLAIN, UTF16), UNFENCED),
+    ((INITIALIZE_NONE, UTF16), UNFENCED),
+    ((INITIALIZE_WRONG, UTF16), UNFENCED),
+];
+
+#[test]
+fn shows_as_editors_take_it(rt: HostRuntime) {
+    for (at, (begins, questions)) in FORMS.iter().enumerate() {
+        let inquiry = Inquiry {
+            begins: *begins,
+            lines: NAMES,
+            told: "[]",
+            questions: *questions,
+        };
+        assert_answers(&rt, rt.alloc(), at, &inquiry);
+    }
+}
+
 /// A comment, and forty repetitions of it: the last one isn't shown.
 const MORE: Inquiry = Inquiry {
     begins: BY_UTF16,
@@ -284,7 +329,7 @@ const MORE: Inquiry = Inquiry {
     questions: &[(
         "hover",
         r#","position":{"line":1,"character":1}"#,
-        "{\"contents\":{\"language\":\"compass\",\"value\":\"                                          2 *\
+        "{\"contents\":{\"kind\":\"plaintext\",\"value\":\"                                          2 *\
 \\n                                          + *\
 \\n                                          + *\
 \\n                                          + *\

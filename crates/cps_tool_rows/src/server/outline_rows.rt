@@ -114,7 +114,7 @@ fn outlines_texts(rt: HostRuntime) {
     }
 }
 
-/// A position is sent too, as editors do.
+/// Within a word.
 const TYPED: Inquiry = Inquiry {
     begins: BY_UTF16,
     lines: NAMES,
@@ -122,31 +122,111 @@ const TYPED: Inquiry = Inquiry {
     questions: &[("completion", r#","position":{"line":3,"character":18}"#, "")],
 };
 
-/// And none.
+/// The symbols come first; behind them, among others, an operation. Each takes the place of the word: of COUNT in columns 18 to 22.
+#[test]
+fn completes_words(rt: HostRuntime) {
+    let has = [
+        r#"{"id":5,"jsonrpc":"2.0","result":[{"detail":"00000000000000000100","kind":21,"label":"START","textEdit":{"newText":"START","range":{"end":{"character":22,"line":3},"start":{"character":17,"line":3}}}},{"detail":"00000000000000000005","kind":21,"label":"COUNT","textEdit":{"newText":"COUNT","range":{"end":{"character":22,"line":3},"start":{"character":17,"line":3}}}},{"detail":"00000000000000000102","kind":21,"label":"ANSWER","textEdit":{"newText":"ANSWER","range":{"end":{"character":22,"line":3},"start":{"character":17,"line":3}}}},{"#,
+        r#""kind":14,"label":"BSS","textEdit":{"newText":"BSS","range":{"end":{"character":22,"line":3},"start":{"character":17,"line":3}}}}"#,
+    ];
+    let lacks = [
+        r#""kind":21,"label":"ANSWER","textEdit":{"newText":"ANSWER","range":{"end":{"character":22,"line":3},"start":{"character":17,"line":3}}}},{"detail":"00000000000000000"#,
+    ];
+    assert_parts(&rt, rt.alloc(), &TYPED, &has, &lacks);
+}
+
+/// A symbol with a point, of which a part is typed behind a sign.
+const POINTED: &[&str] = &["F.STATUS  EQU    1", "          SX1    X1+f.STATU", ""];
+
+/// What is told of it: no line defines F.STATU.
+const POINTED_TOLD: &str =
+    r#"[{"code":"U","message":"no line gives F.STATU a value; it counts as 0","range":{"end":{"character":27,"line":1},"start":{"character":20,"line":1}},"severity":1,"source":"compass"}]"#;
+
+/// A place of a text, its first symbol, and the range in the place of which that is offered.
+const PLACES: [(Inquiry, &str, &str); 5] = [
+    // behind the word that is typed, of which the point is a part
+    (
+        Inquiry {
+            begins: BY_UTF16,
+            lines: POINTED,
+            told: POINTED_TOLD,
+            questions: &[("completion", r#","position":{"line":1,"character":27}"#, "")],
+        },
+        "F.STATUS",
+        r#"{"end":{"character":27,"line":1},"start":{"character":20,"line":1}}"#,
+    ),
+    // behind the point: all of the word
+    (
+        Inquiry {
+            begins: BY_UTF16,
+            lines: POINTED,
+            told: POINTED_TOLD,
+            questions: &[("completion", r#","position":{"line":1,"character":22}"#, "")],
+        },
+        "F.STATUS",
+        r#"{"end":{"character":27,"line":1},"start":{"character":20,"line":1}}"#,
+    ),
+    // between blanks: no word
+    (
+        Inquiry {
+            begins: BY_UTF16,
+            lines: POINTED,
+            told: POINTED_TOLD,
+            questions: &[("completion", r#","position":{"line":1,"character":4}"#, "")],
+        },
+        "F.STATUS",
+        r#"{"end":{"character":4,"line":1},"start":{"character":4,"line":1}}"#,
+    ),
+    // behind the last line
+    (
+        Inquiry {
+            begins: BY_UTF16,
+            lines: POINTED,
+            told: POINTED_TOLD,
+            questions: &[("completion", r#","position":{"line":3,"character":0}"#, "")],
+        },
+        "F.STATUS",
+        r#"{"end":{"character":0,"line":3},"start":{"character":0,"line":3}}"#,
+    ),
+    // behind characters of two and four bytes, by units of UTF-16
+    (
+        Inquiry {
+            begins: BY_UTF16,
+            lines: WIDE,
+            told: WIDE_UTF16,
+            questions: &[("completion", r#","position":{"line":1,"character":20}"#, "")],
+        },
+        "LP",
+        r#"{"end":{"character":21,"line":1},"start":{"character":19,"line":1}}"#,
+    ),
+];
+
+#[test]
+fn completes_the_word_at_a_place(rt: HostRuntime) {
+    let alloc = rt.alloc();
+    for (inquiry, name, range) in &PLACES {
+        let has = format!(in alloc;
+            "\"kind\":21,\"label\":\"{name}\",\"textEdit\":{{\"newText\":\"{name}\",\"range\":{range}}}}},{{"
+        ).expect(&rt, "memory");
+        assert_parts(&rt, alloc, inquiry, &[has.as_str()], &[]);
+        drop(has);
+    }
+}
+
+/// A text of settings.
 const SET_TYPED: Inquiry = Inquiry {
     begins: BY_UTF16,
     lines: SETTINGS,
     told: "[]",
-    questions: &[("completion", "", "")],
+    questions: &[("completion", r#","position":{"line":0,"character":0}"#, "")],
 };
-
-/// The symbols come first; behind them, among others, an operation.
-#[test]
-fn completes_words(rt: HostRuntime) {
-    let has = [
-        r#"{"id":5,"jsonrpc":"2.0","result":[{"detail":"00000000000000000100","kind":21,"label":"START"},{"detail":"00000000000000000005","kind":21,"label":"COUNT"},{"detail":"00000000000000000102","kind":21,"label":"ANSWER"},{"#,
-        r#""kind":14,"label":"BSS"}"#,
-    ];
-    let lacks = [r#""kind":21,"label":"ANSWER"},{"detail":"00000000000000000"#];
-    assert_parts(&rt, rt.alloc(), &TYPED, &has, &lacks);
-}
 
 /// A symbol that two lines define is offered once.
 #[test]
 fn completes_once(rt: HostRuntime) {
     let has = [
-        r#"{"id":5,"jsonrpc":"2.0","result":[{"detail":"00000000000000000002","kind":21,"label":"N"},{"#,
+        r#"{"id":5,"jsonrpc":"2.0","result":[{"detail":"00000000000000000002","kind":21,"label":"N","textEdit":{"newText":"N","range":{"end":{"character":1,"line":0},"start":{"character":0,"line":0}}}},{"#,
     ];
-    let lacks = [r#""kind":21,"label":"N"},{"detail":"00000000000000000002""#];
+    let lacks = [r#""start":{"character":0,"line":0}}}},{"detail":"00000000000000000002""#];
     assert_parts(&rt, rt.alloc(), &SET_TYPED, &has, &lacks);
 }

@@ -9,4 +9,4 @@ returns c =
     let item = c.in_ok-item.field-0 in
     let old = c.args.told.now.items in
     let added : c.push.new.self.items ≡ old ++ item ∷ [] = search rules in
-    one-more (map view old) _ (view item) (c.args.kind, c.args.label.now, c.args.detail.now, c.in_ok-item.ensures) (ap (map view) added ∙ map-append view old (item ∷ []))
+    one-more (view c.args.range.now) (map view old) _ (view item) (c.args.sort.kind, c.args.label.now, c.args.sort.detail.now, c.in_ok-item.ensures) (ap (map view) added ∙ map-append view old (item ∷ []))

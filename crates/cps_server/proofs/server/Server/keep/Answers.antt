@@ -16,8 +16,8 @@ returns c =
     let inside = c.self.inside in
     let lists = subst (λ (s : Standing). ListsText s.encoding c.args.document list) c.self.view_is c.in_ok-list.ensures in
     let added = c.in_ok-say_list.ensures ∙ ap (λ list. said ++ frame_of (published_text uri version list)) c.deref.ensures.value in
-    let left = ap (λ (texts : List OpenText). record { phase = inside.phase; has_exited = inside.has_exited; encoding = inside.encoding; texts = texts ++ one ∷ [] }) c.take.ensures.left in
+    let left = ap (λ (texts : List OpenText). record { phase = inside.phase; has_exited = inside.has_exited; encoding = inside.encoding; markup = inside.markup; texts = texts ++ one ∷ [] }) c.take.ensures.left in
     on_ok_weaker c.push.result
     (λ pushed. takes c.args.self.now _ uri version c.args.document list said c.say_list.new.said.items lists added
-    (ap (λ (texts : List OpenText). record { phase = inside.phase; has_exited = inside.has_exited; encoding = inside.encoding; texts = texts }) pushed ∙ left
+    (ap (λ (texts : List OpenText). record { phase = inside.phase; has_exited = inside.has_exited; encoding = inside.encoding; markup = inside.markup; texts = texts }) pushed ∙ left
     ∙ ap (λ (s : Standing). record s { texts = with_text one s.texts }) c.self.view_is)) c.push.ensures
