@@ -14,6 +14,16 @@ struct Identity<'a> {
     last: Option<&'a str>,
 }
 
+impl<'a> Identity<'a> {
+    fn new(found: &Metadata, last: Option<&'a str>) -> Identity<'a> {
+        Identity {
+            device: found.dev(),
+            number: found.ino(),
+            last,
+        }
+    }
+}
+
 /// Whether two names lead to one regular file, by whatever folders and links, or to one that isn't there yet.
 pub fn lead_to_one(rt: &HostRuntime, one: &str, other: &str) -> bool {
     match identity_of(rt, one) {
@@ -25,24 +35,16 @@ pub fn lead_to_one(rt: &HostRuntime, one: &str, other: &str) -> bool {
 /// The file that a name leads to. None: it leads to what is no regular file, or can't be followed.
 fn identity_of<'a>(rt: &HostRuntime, name: &'a str) -> Option<Identity<'a>> {
     match fs::metadata(rt, name) {
-        Ok(found) if found.is_file() => Some(identity(&found, None)),
+        Ok(found) if found.is_file() => Some(Identity::new(&found, None)),
         Ok(_) => None,
         Err(error) if error.kind() == ErrorKind::NotFound => {
             let (folder, last) = split(name);
             match fs::metadata(rt, folder) {
-                Ok(found) => Some(identity(&found, Some(last))),
+                Ok(found) => Some(Identity::new(&found, Some(last))),
                 Err(_) => None,
             }
         }
         Err(_) => None,
-    }
-}
-
-fn identity<'a>(found: &Metadata, last: Option<&'a str>) -> Identity<'a> {
-    Identity {
-        device: found.dev(),
-        number: found.ino(),
-        last,
     }
 }
 
