@@ -119,8 +119,8 @@ local function close(view)
 end
 
 local function open(source)
-  if not is_served(source) and vim.fn.executable('compass') == 0 then
-    vim.notify('CompassListing: there is no program compass in the PATH', vim.log.levels.ERROR)
+  if vim.bo[source].filetype ~= 'compass' or vim.fn.executable('compass') == 0 and not is_served(source) then
+    vim.notify('CompassListing: this is no source of COMPASS, or there is no program compass in the PATH', vim.log.levels.ERROR)
     return
   end
   local window, listing = vim.api.nvim_get_current_win(), vim.api.nvim_create_buf(false, true)
