@@ -91,7 +91,7 @@ class Room:
     def environment(self):
         kept = {name: os.environ[name] for name in ("LD_LIBRARY_PATH",) if name in os.environ}
         path = self.at("bin") + os.pathsep + os.environ.get("PATH", os.defpath)
-        return {**kept, "HOME": self.home, "PATH": path, "LC_ALL": "C.UTF-8", "SHELL": "/bin/sh"}
+        return {**kept, "HOME": self.home, "PATH": path, "LC_ALL": "C.UTF-8", "SHELL": "/bin/sh", "NVIM_LOG_FILE": self.at("log")}
 
     def close(self):
         shutil.rmtree(self.path, ignore_errors=True)
@@ -124,9 +124,9 @@ class Terminal:
         """The lines that are seen."""
         return self.call("capture-pane", "-p").splitlines()
 
-    def shows(self, text):
-        """Waits until the screen shows a text."""
-        until(lambda: any(text in line for line in self.screen()), lambda: f"the screen doesn't show {text!r}:\n" + "\n".join(self.screen()))
+    def shows(self, text, row=None):
+        """Waits until the screen, or a row of it, shows a text."""
+        until(lambda: any(text in line for line in self.screen()[row:row and row + 1]), lambda: f"the screen doesn't show {text!r}:\n" + "\n".join(self.screen()))
 
     def hides(self, text):
         if any(text in line for line in self.screen()):
