@@ -1,5 +1,5 @@
 -- Names that may lead to one file, among more names.
-use Rattle.std.proofs.Common.{◌≡◌, ap, ◌∙◌, ℕ, List, [], ◌∷◌, map, length, take, drop, ◌-◌, arith, refl, subst, sym}
+use Rattle.std.proofs.Common.{◌≡◌, ap, ◌∙◌, ℕ, List, [], ◌∷◌, map, length, take, drop, ◌-◌, ◌≤◌, slice_index_or, arith, refl, subst, sym}
 use Rattle.std.proofs.lemmas.List.{take_all, length-drop}
 use Rattle.std.proofs.lemmas.List.Elements.{Contains-append_right}
 use Rattle.std.specs.Prelude.{Option, Some, None, IfSome, unwrap_or}
@@ -39,13 +39,14 @@ clashed-later same names (Some pair) clashes =
 
 -- the first name clashes with one behind it
 pub clash-first : (same : Sameness) (names : List (Option (Bor (List ℕ)))) (one : Bor (List ℕ)) (other : List ℕ)
-    → names ≡ Some one ∷ drop 1 names → MayMeet same one.now (map name_of (take (length names - 1) (drop 1 names))) other
+    → 1 ≤ length names → slice_index_or names 0 (Some one) ≡ Some one → MayMeet same one.now (map name_of (take (length names - 1) (drop 1 names))) other
     → MayClash same (map name_of names) one.now other
-clash-first same names one other is meets = (
+clash-first same [] one other some is meets = let no : ⊥ = omega (arith, some) in absurd no
+clash-first same (first ∷ names) one other some is meets = (
   [],
-  map name_of (drop 1 names),
-  ap (map name_of) is,
-  subst (λ (l : List (Option (Bor (List ℕ)))). MayMeet same one.now (map name_of l) other) (take_all (length names - 1) (drop 1 names) (omega (arith, length-drop 1 names))) meets,
+  map name_of names,
+  ap (λ (f : Option (Bor (List ℕ))). name_of f ∷ map name_of names) is,
+  subst (λ (l : List (Option (List ℕ))). MayMeet same one.now l other) (names-rest (first ∷ names)) meets,
 )
 
 -- the name of the source

@@ -1,3 +1,4 @@
+use Rattle.std.proofs.Common.{rules}
 use Rattle.cps_output.specs.Same.{replaces}
 use Rattle.cps_output.proofs.NameLemmas.{clash-first, clashed-later}
 use Rattle.cps_output.proofs.names.+find_replaced.Goals as goal
@@ -8,7 +9,8 @@ returns-in-None-clause-clash g t c =
 
 pub returns-in-Some-find_replacing-clause-clash : goal.returns-in-Some-find_replacing-clause-clash
 returns-in-Some-find_replacing-clause-clash g t c =
-    clash-first (replaces (g.T.Targets.same c.args.targets.now)) c.args.names.now c.in-Some.name.now c.in-Some-find_replacing.other.now ? c.in-Some-find_replacing.ensures.meets
+    clash-first (replaces (g.T.Targets.same c.args.targets.now)) c.args.names.now c.in-Some.name c.in-Some-find_replacing.other.now
+    c.in-Some.len_at_least (search rules) c.in-Some-find_replacing.ensures.meets
 
 pub returns-in-None-find_replacing-clause-clash : goal.returns-in-None-find_replacing-clause-clash
 returns-in-None-find_replacing-clause-clash g t c =
