@@ -1,26 +1,26 @@
 -- Chunks that stay by their lengths are those whose lines are the counterparts of an old chunk's.
 use Rattle.std.proofs.Common.{◌≡◌, ◌⊎◌, inl, inr, ℕ, zero, suc, ◌+◌, ◌-◌, ◌<◌, ◌≤◌, refl, sym, ap, subst, ◌∙◌, List, [], ◌∷◌, ◌++◌, length, get_or, take, drop, map, reverse, Option, None, Some, arith}
-use Rattle.std.specs.Prelude.{replicate, sum, ◌↔◌}
+use Rattle.std.specs.Prelude.{replicate, sum}
 use Rattle.std.proofs.lemmas.Bool.{cases_lt}
-use Rattle.std.proofs.lemmas.List.{drop-drop, drop_all, drop_more, take-append-drop, length-take-le, length-drop, length-map, length-append, length-replicate, length-reverse, reverse-append, reverse-reverse, get_or-take, get_or-drop, get_or-map, get_or-replicate, get_or-append-add, get_or_append_left, ext_get_or, take_at}
+use Rattle.std.proofs.lemmas.List.{drop-drop, drop_more, take-append-drop, length-take-le, length-drop, length-map, length-append, length-replicate, length-reverse, reverse-append, reverse-reverse, get_or-take, get_or-drop, get_or-map, get_or-replicate, get_or-append-add, get_or_append_left, ext_get_or, take_at}
 use Rattle.std.proofs.lemmas.List.Sums.{sum_by-append, sum_by-take-drop}
 use Rattle.cps_exchange.specs.Numbers.{numbers}
-use Rattle.cps_division.specs.Division.{AreChunks, IsDivision, Insertions}
+use Rattle.cps_division.specs.Division.{IsDivision, Insertions}
 use Rattle.cps_division.specs.Exchange.{numbers_of}
-use Rattle.cps_division.specs.Put.{put_at, Puts}
+use Rattle.cps_division.specs.Put.{Puts}
 use Rattle.cps_division.specs.Staying.{same_front}
 use Rattle.cps_division.proofs.StayingLemmas.{AreSome, chunks-some, front-past, front-same, front-olds, front-news, front-lines}
-use Rattle.cps_laws.specs.ChunkLaws.{counterparts, counterparts_in, Stays, StaysByCounterparts}
-use Rattle.cps_laws.proofs.ChunkEnds.{total, total-sum, total-append, total-take, total-drop, same-fronts, KeepsFront, MeetsBehind}
+use Rattle.cps_laws.specs.ChunkLaws.{counterparts, Stays, StaysByCounterparts}
+use Rattle.cps_laws.proofs.ChunkEnds.{total, total-sum, same-fronts, KeepsFront, MeetsBehind}
 use Rattle.cps_laws.proofs.PutChunks.{put-front, put-meets}
 
 -- ---- numbers one behind another
 
-length-numbers : (at n : ℕ) → length (numbers at n) ≡ n
+pub length-numbers : (at n : ℕ) → length (numbers at n) ≡ n
 length-numbers at zero = refl
 length-numbers at (suc n) = ap suc (length-numbers (at + 1) n)
 
-get-numbers : (at n k : ℕ) → k < n → get_or (numbers at n) k 0 ≡ at + k
+pub get-numbers : (at n k : ℕ) → k < n → get_or (numbers at n) k 0 ≡ at + k
 get-numbers at zero k lt = absurd (omega (arith, lt))
 get-numbers at (suc n) zero lt = omega arith
 get-numbers at (suc n) (suc k) lt = omega (arith, get-numbers (at + 1) n k (omega (arith, lt)))
@@ -28,14 +28,14 @@ get-numbers at (suc n) (suc k) lt = omega (arith, get-numbers (at + 1) n k (omeg
 length-some : (at n : ℕ) → length (map Some (numbers at n)) ≡ n
 length-some at n = length-map (numbers at n) Some ∙ length-numbers at n
 
-get-some : (at n k : ℕ) → k < n → get_or (map Some (numbers at n)) k None ≡ Some (at + k)
+pub get-some : (at n k : ℕ) → k < n → get_or (map Some (numbers at n)) k None ≡ Some (at + k)
 get-some at n k lt = get_or-map Some (numbers at n) k 0 None (omega (arith, lt, length-numbers at n)) ∙ ap Some (get-numbers at n k lt)
 
 abbrev code : Option ℕ → ℕ
 code None = 0
 code (Some n) = n + 1
 
-same-number : (n m : ℕ) → Some n ≡ Some m → n ≡ m
+pub same-number : (n m : ℕ) → Some n ≡ Some m → n ≡ m
 same-number n m e = omega (arith, ap code e)
 
 no-number : (n : ℕ) → None ≡ Some n → ⊥
@@ -103,13 +103,13 @@ module _ (count keep from come : ℕ) (order : keep ≤ from) (within : from ≤
 
 -- ---- lists from their ends
 
-sum-reverse : (ns : List ℕ) → sum (reverse ns) ≡ sum ns
+pub sum-reverse : (ns : List ℕ) → sum (reverse ns) ≡ sum ns
 sum-reverse [] = refl
 sum-reverse (n ∷ ns) =
     let one = sum_by-append (λ x. x) (n ∷ []) ns in
     omega (arith, ap sum (reverse-append (n ∷ []) ns), sum_by-append (λ x. x) (reverse ns) (n ∷ []), sum-reverse ns, one)
 
-last-ones : (k : ℕ) (xs : List ℕ) → k ≤ length xs → take k (reverse xs) ≡ reverse (drop (length xs - k) xs)
+pub last-ones : (k : ℕ) (xs : List ℕ) → k ≤ length xs → take k (reverse xs) ≡ reverse (drop (length xs - k) xs)
 last-ones k xs le =
     let front = take (length xs - k) xs in
     let back = drop (length xs - k) xs in
@@ -118,7 +118,7 @@ last-ones k xs le =
 
 -- ---- chunks that stay
 
-take-shorter : (i j : ℕ) (ns : List ℕ) → i ≤ j → take i (take j ns) ≡ take i ns
+pub take-shorter : (i j : ℕ) (ns : List ℕ) → i ≤ j → take i (take j ns) ≡ take i ns
 take-shorter zero j ns le = refl
 take-shorter (suc i) zero ns le = absurd (omega (arith, le))
 take-shorter (suc i) (suc j) [] le = refl
@@ -126,6 +126,11 @@ take-shorter (suc i) (suc j) (n ∷ ns) le = ap (λ xs. n ∷ xs) (take-shorter 
 
 front-take : (i j : ℕ) (olds news : List ℕ) → i ≤ j → take j olds ≡ take j news → take i olds ≡ take i news
 front-take i j olds news le e = sym (take-shorter i j olds le) ∙ ap (take i) e ∙ take-shorter i j news le
+
+pub next-sum : (k : ℕ) (ns : List ℕ) → k < length ns → sum (drop k ns) ≡ get_or ns k 0 + sum (drop (k + 1) ns)
+next-sum k ns lt =
+    let e = drop_more ns k 0 lt in
+    omega (arith, ap total e, total-sum (drop k ns), total-sum (drop (k + 1) ns))
 
 first-of : (i : ℕ) (ns : List ℕ) → get_or (drop i ns) 0 0 ≡ get_or ns i 0
 first-of zero ns = refl
@@ -144,7 +149,7 @@ take-next (suc i) (n ∷ ns) lt =
     let one : suc i + 1 ≡ suc (i + 1) = omega arith in
     ap (λ k. take k (n ∷ ns)) one ∙ ap (λ xs. n ∷ xs) (take-next i ns (omega (arith, lt)))
 
-sum-split : (i : ℕ) (ns : List ℕ) → sum (take i ns) + sum (drop i ns) ≡ sum ns
+pub sum-split : (i : ℕ) (ns : List ℕ) → sum (take i ns) + sum (drop i ns) ≡ sum ns
 sum-split i ns = sum_by-take-drop (λ x. x) ns i
 
 -- chunks that are the same and lie within so many lines count
@@ -177,11 +182,6 @@ module _ (keep from come count : ℕ) (olds news : List ℕ) (d : IsDivision cou
   some-at k [] s lt = absurd (omega (arith, lt))
   some-at zero (m ∷ ms) s lt = s.0
   some-at (suc k) (m ∷ ms) s lt = some-at k ms s.1 (omega (arith, lt))
-
-  next-sum : (k : ℕ) (ns : List ℕ) → k < length ns → sum (drop k ns) ≡ get_or ns k 0 + sum (drop (k + 1) ns)
-  next-sum k ns lt =
-      let e = drop_more ns k 0 lt in
-      omega (arith, ap total e, total-sum (drop k ns), total-sum (drop (k + 1) ns))
 
   next-front : (k : ℕ) (ns : List ℕ) → k < length ns → sum (take (k + 1) ns) ≡ sum (take k ns) + get_or ns k 0
   next-front k ns lt = omega (arith, sum-split k ns, sum-split (k + 1) ns, next-sum k ns lt)

@@ -3,9 +3,9 @@ use Rattle.std.proofs.Common.{◌≡◌, ◌⊎◌, inl, inr, ℕ, zero, suc, �
 use Rattle.std.specs.Prelude.{if◌then◌else◌, nat_lt}
 use Rattle.std.proofs.lemmas.Bool.{lt-ltb, le-ltb}
 use Rattle.std.proofs.lemmas.List.{drop-drop, drop_all, take-append-drop}
-use Rattle.cps_division.specs.Division.{full, IsApart, AreChunks, joined, grown, inserted_at, chunk_of}
+use Rattle.cps_division.specs.Division.{full, AreChunks, joined, grown, inserted_at, chunk_of}
 use Rattle.cps_division.specs.Put.{inserted_each}
-use Rattle.cps_laws.proofs.ChunkEnds.{total, total-append, total-drop, lt-true, lt-false}
+use Rattle.cps_laws.proofs.ChunkEnds.{total, total-append, lt-true, lt-false}
 
 -- ---- what stands behind the chunk that the next line comes into
 

@@ -10,3 +10,4 @@ mod ChunkEnds
 mod ChunkFillings
 mod PutChunks
 mod ChunkCounterparts
+mod TouchedCounterparts

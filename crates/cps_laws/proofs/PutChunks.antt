@@ -3,7 +3,7 @@ use Rattle.std.proofs.Common.{◌≡◌, ◌⊎◌, inl, inr, ℕ, zero, suc, �
 use Rattle.std.specs.Prelude.{if◌then◌else◌, nat_lt, sum}
 use Rattle.std.proofs.lemmas.Bool.{lt-ltb, le-ltb}
 use Rattle.std.proofs.lemmas.List.{drop-drop, drop_all, take-append-drop}
-use Rattle.cps_division.specs.Division.{full, IsApart, AreChunks, IsDivision, StayAround, chunk_of, inserted_at, deleted_at, Insertions, Deletions}
+use Rattle.cps_division.specs.Division.{full, AreChunks, IsDivision, chunk_of, inserted_at, deleted_at, Insertions, Deletions}
 use Rattle.cps_division.specs.Put.{inserted_each, put_at, Puts}
 use Rattle.cps_division.proofs.StayingLemmas.{AreSome, chunks-some}
 use Rattle.cps_laws.proofs.ChunkEnds.{total, total-sum, total-drop, lt-true, lt-false, IsEnd, ends-meet, end-next, end-of-end, KeepsFront, MeetsBehind, front-less, inserted-front, deleted-front, deleted-end, ends-meet-behind}

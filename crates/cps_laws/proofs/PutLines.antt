@@ -1,8 +1,7 @@
 -- Lines in the place of others, as single edits.
-use Rattle.std.proofs.Common.{◌≡◌, ℕ, ◌+◌, ◌-◌, ◌≤◌, sym, ap, ◌∙◌, List, [], ◌∷◌, ◌++◌, append_assoc, length, take, drop, arith}
+use Rattle.std.proofs.Common.{◌≡◌, ◌+◌, ◌-◌, sym, ap, ◌∙◌, [], ◌∷◌, ◌++◌, append_assoc, length, take, drop, arith}
 use Rattle.std.proofs.lemmas.List.{length-append, length-take-le}
 use Rattle.cps_exchange.proofs.ListLemmas.{take-here, drop-here}
-use Rattle.cps_edit.specs.Splice.{splice_at, spliced, insertion, deletion}
 use Rattle.cps_laws.specs.EditLaws.{PutsAreOneByOne}
 
 pub puts-one-by-one : PutsAreOneByOne

@@ -4,3 +4,4 @@ pub mod LineLaws
 pub mod Standing
 pub mod EditLaws
 pub mod ChunkLaws
+pub mod TouchedLaws

@@ -1,5 +1,6 @@
 //! What the definitions of the division say of an edit: which chunks stay, and what a put is.
 ghost use Rattle.cps_laws.specs.ChunkLaws.{StaysByCounterparts, PutsStay, PutsAreEdits};
+ghost use Rattle.cps_laws.specs.TouchedLaws.{TouchedByCounterparts};
 
 use cps_division::laws::{
     a_deletion_divides_again, a_put_divides_again, an_insertion_divides_again,
@@ -10,6 +11,14 @@ pub fn chunks_stay_by_counterparts()
     ensures { StaysByCounterparts }
 {
     an_insertion_divides_again();
+    a_put_divides_again();
+}
+
+/// The chunks that an edit touches by their lengths are those that it touches by the counterparts of their lines.
+pub fn touched_chunks_are_by_counterparts()
+    ensures { TouchedByCounterparts }
+{
+    chunks_stay_by_counterparts();
     a_put_divides_again();
 }
 
