@@ -1,6 +1,6 @@
 -- Names that may lead to one file, among more names.
-use Rattle.std.proofs.Common.{◌≡◌, ap, ◌∙◌, ℕ, List, [], ◌∷◌, map, length, take, drop, ◌-◌, ◌≤◌, slice_index_or, arith, refl, subst, sym}
-use Rattle.std.proofs.lemmas.List.{take_all, length-drop}
+use Rattle.std.proofs.Common.{◌≡◌, ap, ℕ, List, [], ◌∷◌, map, length, take, drop, ◌-◌, ◌≤◌, slice_index_or, arith, refl, subst}
+use Rattle.std.proofs.lemmas.List.{take_all}
 use Rattle.std.proofs.lemmas.List.Elements.{Contains-append_right}
 use Rattle.std.specs.Prelude.{Option, Some, None, IfSome, unwrap_or}
 use Rattle.std.specs.Borrow.{Bor}
