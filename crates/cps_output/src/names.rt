@@ -91,7 +91,7 @@ fn find_replaced<'a, T: Targets>(
     names: &[Option<&'a str>],
 ) -> Option<(&'a str, &'a str)>
     ensures apart { IfNone result (same.AreApart (same.replaces (T.same targets.now)) (map name_of names.now)) }
-    ensures clash { IfSome result (λ pair. same.MayClash (same.replaces (T.same targets.now)) (map name_of names.now) pair.0.now pair.1.now) }
+    ensures clash { IfSome result (λ two. same.MayClash (same.replaces (T.same targets.now)) (map name_of names.now) two.0.now two.1.now) }
 {
     match names {
         [] => None,
