@@ -124,15 +124,15 @@ listings_in text range = map (listing_json text) (range_with_len range.start.lin
 
 -- ---- what may be written next
 
--- a text in the place of a range
-abbrev pub edit : Data → List ℕ → Data
-edit range text = object (member (codes "newText") (text_json text) (member (codes "range") range no_members))
+-- a text that comes in the place of a range
+abbrev pub edit : Data → Data → Data
+edit range text = object (member (codes "newText") text (member (codes "range") range no_members))
 
 -- what may be written in the place of a range: its kind, as the protocol counts kinds, its text, and what stands beside it
 abbrev pub completion : Data → ℕ → List ℕ → List ℕ → Data
 completion range kind label detail =
     object (member (codes "detail") (text_json detail) (member (codes "kind") (number (unsigned kind))
-    (member (codes "label") (text_json label) (member (codes "textEdit") (edit range label) no_members))))
+    (member (codes "label") (text_json label) (member (codes "textEdit") (edit range (text_json label)) no_members))))
 
 -- one is told; which is free
 abbrev pub IsCompletion : Data → Data → Type 0

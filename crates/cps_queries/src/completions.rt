@@ -1,8 +1,9 @@
 //! What may be written next.
 ghost use Rattle.std.specs.Prelude.{◌≡◌, map, IfOk, OnOk};
+ghost use Rattle.serde_json.specs.Data.{string};
 ghost use Rattle.serde_json.specs.View.{view};
 ghost use Rattle.cps_queries.specs.Ranges.{word_at};
-ghost use Rattle.cps_queries.specs.Results.{TellsCompletions, completion};
+ghost use Rattle.cps_queries.specs.Results.{TellsCompletions, completion, edit};
 ghost use Rattle.cps_queries.specs.Telling.{KeepsCompletions};
 
 use crate::deck::Deck;
@@ -209,5 +210,13 @@ fn item(alloc: Global, range: &Value, label: &[u8], sort: Sort<'_>) -> Result<Va
     let kind = sort.kind;
     let label = String::from_utf8_lossy(alloc, label)?;
     let detail = String::from_utf8_lossy(alloc, sort.detail)?;
-    json!(in alloc; {"detail": (&detail), "kind": kind, "label": (&label), "textEdit": {"newText": (&label), "range": range}})
+    let edit = edit_of(alloc, range, &label)?;
+    json!(in alloc; {"detail": (&detail), "kind": kind, "label": (&label), "textEdit": edit})
+}
+
+/// A text that comes in the place of a range.
+fn edit_of(alloc: Global, range: &Value, text: &str) -> Result<Value, AllocError>
+    ensures { IfOk result (λ json. view json ≡ edit (view range.now) (string text.now)) }
+{
+    json!(in alloc; {"newText": text, "range": range})
 }
