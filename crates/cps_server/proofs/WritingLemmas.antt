@@ -1,5 +1,5 @@
 -- Diagnostics as they are written.
-use Rattle.std.proofs.Common.{rules, ◌≡◌, refl, ap, subst, sym, ◌∙◌, append_assoc, arith, ℕ, ◌+◌, ◌-◌, ℤ, Bool, true, false, List, [], ◌∷◌, ◌++◌, map, drop, Option, Some, None}
+use Rattle.std.proofs.Common.{rules, ◌≡◌, refl, ap, subst, sym, ◌∙◌, append_assoc, arith, ℕ, ◌+◌, ◌-◌, ◌<◌, ℤ, Bool, true, false, List, [], ◌∷◌, ◌++◌, map, drop, Option, Some, None}
 use Rattle.std.specs.Prelude.{codes, decimal, length, nat_lt, slice_get, slice_index_or, take, unwrap_or}
 use Rattle.std.proofs.lemmas.Bool.Decides.{nat_tests}
 use Rattle.std.proofs.lemmas.List.{append-nil, drop-map, length-drop, length-map, length-take, take-map}
@@ -19,7 +19,7 @@ use Rattle.cps_marks.specs.Marks.{Mark, Marks, place_of}
 use Rattle.cps_queries.specs.Ranges.{position, range_of, told_units}
 use Rattle.cps_server.specs.declared.diagnostic.Stretch.{Stretch}
 use Rattle.cps_server.specs.Diagnostics.{TellsMark, TellsMarks, diagnostic, letter_name, more_message, most_told, published, range_among, report, told_of_more}
-use Rattle.cps_server.specs.Writing.{AddsMark, AddsMarks, ListsText, behind_text, diagnostic_text, document_text, information_text, list_text, more_text, position_text, published_text, range_text, report_text, version_text}
+use Rattle.cps_server.specs.Writing.{AddsMark, AddsMarks, ListsText, diagnostic_text, document_text, information_text, list_text, more_text, position_text, published_text, range_text, report_text, version_text}
 
 -- ---- a diagnostic
 
@@ -96,8 +96,12 @@ more-told : (encoding : Encoding) (lines : List (List ℕ)) (mark : made.Mark) (
 more-told encoding lines mark marks line stretch message old mid new there shows counts comma added =
     added ∙ (λ i. comma i ++ information_text (shows i) (counts i))
     ∙ (λ i. old ++ codes "," ++ information_text (stretch_of encoding (there i) mark) (more_message (same i)))
-    ∙ ap (λ text. old ++ codes "," ++ text) (sym (information-written mark.line _ _ _)) ∙ append_assoc old (codes ",") _
+    ∙ ap (λ text. old ++ codes "," ++ text) (sym (information-written mark.line at.start at.end (more_message (length (map place_of (mark ∷ marks))))))
+    ∙ append_assoc old (codes ",") _
   where
+    at : Stretch
+    at = stretch_of encoding (slice_index_or lines mark.line []) mark
+
     same : length (mark ∷ marks) ≡ length (map place_of (mark ∷ marks))
     same = sym (length-map (mark ∷ marks) place_of)
 

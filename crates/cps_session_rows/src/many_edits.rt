@@ -147,8 +147,8 @@ struct Course {
 impl Course {
     /// A line to be entered.
     fn line(&mut self) -> &'static [u8] {
-        let few = self.lines.len();
-        let at = self.numbers.below((few as u32).saturating_add(7)) as usize;
+        let few = self.lines.len().min(1_000);
+        let at = self.numbers.below(few as u32 + 7) as usize;
         match self.lines.get(at) {
             Some(line) => *line,
             None => self.instruction(at.saturating_sub(few)),
