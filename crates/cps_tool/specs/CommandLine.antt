@@ -78,6 +78,10 @@ pub record Explains (word text : List ℕ) : Type 0 where
   pub some : manual.is_told word ≡ true
   pub rows : manual.is_told_by_sentences word ≡ false → text ≡ manual.instruction_text word
 
+-- what a word means is told
+abbrev pub TellsWord : {W : Type 0} → (W → Option (List ℕ)) → List ℕ → ℕ → Counted W → Counted W → Type 0
+TellsWord contents word status writer writer' = (text : List ℕ) × Explains word text × TellsText contents status text writer writer'
+
 -- the name under which a check tells: that of the file, as a message shows it
 abbrev pub told_name : Option Text → List ℕ
 told_name named = shown (unwrap_or named (codes "<stdin>"))
@@ -96,8 +100,7 @@ Calls remaining contents (batch part) named status reader reader' writer writer'
     (result : Result ℕ BatchFault) × (status ≡ status_of result) × RunsBatch remaining contents part result reader reader' writer writer'
 Calls remaining contents session named status reader reader' writer writer' = RunsFrom remaining contents [] status reader reader' writer writer'
 Calls remaining contents check named status reader reader' writer writer' = ChecksAs remaining contents (told_name named) status reader reader' writer writer'
-Calls remaining contents (explain word) named status reader reader' writer writer' =
-    (reader' ≡ reader) × ((text : List ℕ) × Explains word text × TellsText contents status text writer writer')
+Calls remaining contents (explain word) named status reader reader' writer writer' = (reader' ≡ reader) × TellsWord contents word status writer writer'
 Calls remaining contents server named status reader reader' writer writer' =
     (result : Result Bool ServerFault) × (status ≡ status_of_server result) × RunsServer remaining contents result reader reader' writer writer'
 Calls remaining contents (export names part) named status reader reader' writer writer' = ⊥

@@ -1,7 +1,7 @@
 //! What is asked of one input, done with it.
 ghost use Rattle.std.specs.Prelude.{◌≡◌, ◌⊎◌, ℕ, List, None};
 ghost use Rattle.cps_tool.specs.Calling.{DoesRequest, UndoneOr};
-ghost use Rattle.cps_tool.specs.CommandLine.{Calls, ChecksAs, Explains, IsIdle, IsQuiet, TellsText};
+ghost use Rattle.cps_tool.specs.CommandLine.{Calls, ChecksAs, IsIdle, IsQuiet, TellsWord};
 ghost use Rattle.cps_words.specs.Task as tasks;
 
 use super::faults::complain_of_batch;
@@ -135,7 +135,7 @@ fn run_explanation<S, W: Write, E: Write>(
     writer: &mut Counted<W>,
     errors: &mut Counted<E>,
 ) -> u8
-    ensures tells { IsIdle result writer.old writer.new ⊎ ((text : List ℕ) × Explains word.now text × TellsText W.contents result text writer.old writer.new) }
+    ensures tells { IsIdle result writer.old writer.new ⊎ TellsWord W.contents word.now result writer.old writer.new }
     ensures quiet { IsQuiet result errors.old errors.new }
 {
     match manual_text(host.alloc, word.as_bytes()) {
