@@ -1,6 +1,7 @@
 //! Why a line is flagged.
-ghost use Rattle.std.specs.Prelude.{◌≡◌};
+ghost use Rattle.std.specs.Prelude.{◌≡◌, IfOk};
 ghost use Rattle.cps_cause.specs.Letters.{letter_of};
+ghost use Rattle.cps_cause.specs.Sentence.{IsSentence};
 
 use crate::cut_fault::CutFault;
 use crate::definition_fault::DefinitionFault;
@@ -15,7 +16,8 @@ use crate::structure_fault::StructureFault;
 use crate::symbol_fault::SymbolFault;
 use crate::value_fault::ValueFault;
 use crate::width_fault::WidthFault;
-use std::alloc::AllocError;
+use crate::words::Words;
+use std::alloc::{AllocError, Global};
 
 /// Why a statement has a flag. No cause names another line, so that an edit far above doesn't change it.
 #[derive(Clone, Copy, PartialEq, Eq)]
@@ -62,10 +64,27 @@ impl Cause {
         }
     }
 
-    /// Appends why there is such a flag, as a sentence without its point. What is quoted is of the statement where it shows.
-    pub fn push_words<P: Places>(
+    /// Why there is such a flag, as a sentence without its point. What is quoted is of the statement where it shows. Where a cause had nothing to say, the
+    /// meaning of its letter would stand.
+    pub fn words<P: Places>(
         &self,
-        text: &mut Vec<u8>,
+        alloc: Global,
+        quotation: Quotation<'_>,
+        places: &P,
+    ) -> Result<Words, AllocError>
+        ensures { IfOk result (λ words. IsSentence words) }
+    {
+        let mut words = Words::new(alloc);
+        self.push_words(&mut words, quotation, places)?;
+        if words.as_slice().is_empty() {
+            words.push(self.letter().meaning())?;
+        }
+        Ok(words)
+    }
+
+    fn push_words<P: Places>(
+        &self,
+        text: &mut Words,
         quotation: Quotation<'_>,
         places: &P,
     ) -> Result<(), AllocError> {
@@ -80,7 +99,7 @@ impl Cause {
             Cause::Value(fault) => fault.push_words(text, quotation),
             Cause::Structure(fault) => fault.push_words(text, quotation, places),
             Cause::Limit(fault) => fault.push_words(text, quotation),
-            Cause::General(letter) => text.extend_from_slice(letter.meaning()),
+            Cause::General(letter) => text.push(letter.meaning()),
         }
     }
 }

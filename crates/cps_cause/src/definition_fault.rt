@@ -1,6 +1,6 @@
 //! Why a symbol has flag D.
 use crate::places::Places;
-use crate::words::{push_line, push_quoted};
+use crate::words::{Words, push_line, push_quoted};
 use cps_text::Name;
 use std::alloc::AllocError;
 
@@ -19,7 +19,7 @@ impl DefinitionFault {
     /// Appends the words.
     pub(crate) fn push_words<P: Places>(
         self,
-        text: &mut Vec<u8>,
+        text: &mut Words,
         places: &P,
     ) -> Result<(), AllocError> {
         match self {
@@ -43,12 +43,12 @@ impl DefinitionFault {
 
 /// Appends that a symbol keeps its value, and from which line it has it.
 fn push_kept<P: Places>(
-    text: &mut Vec<u8>,
+    text: &mut Words,
     name: Name,
     value: &[u8],
     places: &P,
 ) -> Result<(), AllocError> {
     push_quoted(text, b"", name.text(), value)?;
     push_line(text, b", from line ", places.line_of_symbol(name))?;
-    text.extend_from_slice(b", and keeps it")
+    text.push(b", and keeps it")
 }

@@ -1,10 +1,14 @@
 //! A cause, and where it shows.
+ghost use Rattle.std.specs.Prelude.{IfOk};
+ghost use Rattle.cps_cause.specs.Sentence.{IsSentence};
+
 use crate::cause::Cause;
 use crate::columns::Columns;
 use crate::places::Places;
 use crate::quotation::Quotation;
+use crate::words::Words;
 use cps_state::Shared;
-use std::alloc::AllocError;
+use std::alloc::{AllocError, Global};
 
 /// A cause of a line's flag, and where it shows.
 pub struct Diagnostic {
@@ -34,13 +38,15 @@ impl Drop for Diagnostic {
 }
 
 impl Diagnostic {
-    /// Appends why there is the flag, as a sentence without its point, with what it quotes of the statement or of its source line.
-    pub fn push_words<P: Places>(
+    /// Why there is the flag, as a sentence without its point, with what it quotes of the statement or of its source line.
+    pub fn words<P: Places>(
         &self,
+        alloc: Global,
         line: &[u8],
         places: &P,
-        text: &mut Vec<u8>,
-    ) -> Result<(), AllocError> {
+    ) -> Result<Words, AllocError>
+        ensures { IfOk result (λ words. IsSentence words) }
+    {
         let statement = self.statement.as_slice();
         let written = if statement.is_empty() {
             line
@@ -48,6 +54,6 @@ impl Diagnostic {
             statement
         };
         let quotation = Quotation::of(written, self.within);
-        self.cause.push_words(text, quotation, places)
+        self.cause.words(alloc, quotation, places)
     }
 }

@@ -1,5 +1,5 @@
 //! The letters of flags.
-ghost use Rattle.std.specs.Prelude.{◌≡◌, true};
+ghost use Rattle.std.specs.Prelude.{◌≡◌, ◌<◌, true, length};
 ghost use Rattle.cps_state.specs.Flags.{joined};
 ghost use Rattle.cps_cause.specs.Letters.{has, only};
 
@@ -81,7 +81,9 @@ impl Letter {
     }
 
     /// What a flag of this letter says, where no more is known.
-    pub fn meaning(self) -> &'static [u8] {
+    pub fn meaning(self) -> &'static [u8]
+        ensures { 0 < length result.now }
+    {
         match self {
             Letter::A => b"an operand is wrong",
             Letter::D => b"a symbol has a value already, and keeps it",

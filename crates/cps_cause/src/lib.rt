@@ -18,7 +18,7 @@
 //! - `symbol_fault.rt`: U
 //! - `value_fault.rt`: A, values
 //! - `width_fault.rt`: V
-//! - `words.rt`: words, appended to a text
+//! - `words.rt`: words that tell something, in one row
 #![tactic(auto)]
 
 mod cause;
@@ -52,9 +52,10 @@ pub use location_fault::LocationFault;
 pub use misreading::Misreading;
 pub use operand_fault::OperandFault;
 pub use operation_fault::OperationFault;
-pub use places::{NoPlaces, Places};
+pub use places::Places;
 pub use quotation::Quotation;
 pub use structure_fault::{OpenSpan, StructureFault};
 pub use symbol_fault::SymbolFault;
 pub use value_fault::{Bounds, ValueFault};
 pub use width_fault::WidthFault;
+pub use words::{Words, push_cleaned};

@@ -2,7 +2,7 @@
 
 use crate::no_symbol::push_no_symbol;
 use crate::quotation::Quotation;
-use crate::words::push_quoted;
+use crate::words::{Words, push_quoted};
 use std::alloc::AllocError;
 
 /// What is wrong with a location field.
@@ -26,7 +26,7 @@ impl LocationFault {
     /// Appends the words.
     pub(crate) fn push_words(
         self,
-        text: &mut Vec<u8>,
+        text: &mut Words,
         quotation: Quotation<'_>,
     ) -> Result<(), AllocError> {
         let operation = quotation.operation;
@@ -50,7 +50,7 @@ impl LocationFault {
                 push_instead(text, quotation.location)
             }
             LocationFault::NeedsMacroName => {
-                text.extend_from_slice(b"MACRO needs its name, a symbol, in the location field")?;
+                text.push(b"MACRO needs its name, a symbol, in the location field")?;
                 push_instead(text, quotation.location)
             }
             LocationFault::NameTaken => push_quoted(
@@ -60,7 +60,7 @@ impl LocationFault {
                 b" is an operation, and no macro can have its name",
             ),
             LocationFault::OfCall => {
-                text.extend_from_slice(b"a call takes a symbol or nothing in the location field")?;
+                text.push(b"a call takes a symbol or nothing in the location field")?;
                 push_instead(text, quotation.location)
             }
         }
@@ -68,12 +68,12 @@ impl LocationFault {
 }
 
 /// Appends what stands in the place of a symbol, if something does.
-fn push_instead(text: &mut Vec<u8>, location: &[u8]) -> Result<(), AllocError> {
+fn push_instead(text: &mut Words, location: &[u8]) -> Result<(), AllocError> {
     match location {
         [] => Ok(()),
         [b'+' | b'-'] => push_quoted(text, b", and not ", location, b""),
         _ => {
-            text.extend_from_slice(b"; ")?;
+            text.push(b"; ")?;
             push_no_symbol(text, location)
         }
     }

@@ -1,6 +1,6 @@
 //! Why a text is no expression.
 
-use crate::words::push_quoted;
+use crate::words::{Words, push_quoted};
 use std::alloc::AllocError;
 
 /// What makes a text no expression.
@@ -26,9 +26,9 @@ pub enum Misreading {
 
 impl Misreading {
     /// Appends the words.
-    pub(crate) fn push_words(self, text: &mut Vec<u8>, shown: &[u8]) -> Result<(), AllocError> {
+    pub(crate) fn push_words(self, text: &mut Words, shown: &[u8]) -> Result<(), AllocError> {
         if let Misreading::Empty = self {
-            return text.extend_from_slice(b"an operand is empty");
+            return text.push(b"an operand is empty");
         }
         push_quoted(text, b"", shown, self.reason())
     }

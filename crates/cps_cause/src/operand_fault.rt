@@ -2,7 +2,7 @@
 use crate::misreading::Misreading;
 use crate::no_symbol::push_no_symbol;
 use crate::quotation::Quotation;
-use crate::words::{push_number, push_quoted};
+use crate::words::{Words, push_number, push_quoted};
 use cps_expr::Operation;
 use std::alloc::AllocError;
 
@@ -53,7 +53,7 @@ impl OperandFault {
     /// Appends the words.
     pub(crate) fn push_words(
         self,
-        text: &mut Vec<u8>,
+        text: &mut Words,
         quotation: Quotation<'_>,
     ) -> Result<(), AllocError> {
         let shown = quotation.shown;
@@ -64,7 +64,7 @@ impl OperandFault {
             OperandFault::NoName => push_no_symbol(text, shown),
             OperandFault::Form => {
                 push_quoted(text, b"no form of ", quotation.operation, b" takes ")?;
-                text.extend_from_slice(shown)
+                text.push(shown)
             }
             OperandFault::Literal => {
                 push_quoted(text, b"", shown, b" is no literal that ")?;
@@ -104,7 +104,7 @@ impl OperandFault {
 }
 
 /// Appends that an operand is missing.
-fn push_missing(text: &mut Vec<u8>, quotation: Quotation<'_>) -> Result<(), AllocError> {
+fn push_missing(text: &mut Words, quotation: Quotation<'_>) -> Result<(), AllocError> {
     let missing: &[u8] = if quotation.shown == quotation.operation {
         b", and none stands here"
     } else {
@@ -112,13 +112,13 @@ fn push_missing(text: &mut Vec<u8>, quotation: Quotation<'_>) -> Result<(), Allo
     };
     push_rule(text, quotation.operation, missing)?;
     if quotation.has_comment_alone {
-        text.extend_from_slice(b"; what begins in column 30 or later is a comment")?;
+        text.push(b"; what begins in column 30 or later is a comment")?;
     }
     Ok(())
 }
 
 /// Appends that there are more operands than an operation has.
-fn push_too_many(text: &mut Vec<u8>, operation: &[u8]) -> Result<(), AllocError> {
+fn push_too_many(text: &mut Words, operation: &[u8]) -> Result<(), AllocError> {
     match Operation::named(operation) {
         Some(_) => push_rule(text, operation, b", and no more"),
         None => push_quoted(text, b"", operation, b" takes fewer operands"),
@@ -126,7 +126,7 @@ fn push_too_many(text: &mut Vec<u8>, operation: &[u8]) -> Result<(), AllocError>
 }
 
 /// Appends what operands an operation takes.
-fn push_rule(text: &mut Vec<u8>, operation: &[u8], behind: &[u8]) -> Result<(), AllocError> {
+fn push_rule(text: &mut Words, operation: &[u8], behind: &[u8]) -> Result<(), AllocError> {
     push_quoted(text, b"", operation, b" takes ")?;
     push_quoted(text, b"", rule_of(operation), behind)
 }
@@ -150,7 +150,7 @@ fn rule_of(operation: &[u8]) -> &'static [u8] {
 }
 
 /// Appends that a call has too many arguments for so many parameters.
-fn push_arguments(text: &mut Vec<u8>, count: usize) -> Result<(), AllocError> {
+fn push_arguments(text: &mut Words, count: usize) -> Result<(), AllocError> {
     let number = i64::try_from(count).unwrap_or(0);
     let behind: &[u8] = if count == 1 {
         b" parameter, and arguments are too many from here on"

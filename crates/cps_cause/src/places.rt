@@ -15,25 +15,3 @@ pub trait Places {
     /// Which line ended the head of the program.
     fn line_of_body(&self) -> Option<u32>;
 }
-
-/// No line is known.
-#[derive(Clone, Copy, PartialEq, Eq)]
-pub struct NoPlaces;
-
-impl Places for NoPlaces {
-    fn line_of_symbol(&self, _name: Name) -> Option<u32> {
-        None
-    }
-
-    fn line_of_opening(&self) -> Option<u32> {
-        None
-    }
-
-    fn line_of_end(&self) -> Option<u32> {
-        None
-    }
-
-    fn line_of_body(&self) -> Option<u32> {
-        None
-    }
-}

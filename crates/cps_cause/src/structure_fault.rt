@@ -2,7 +2,7 @@
 
 use crate::places::Places;
 use crate::quotation::Quotation;
-use crate::words::{push_line, push_quoted};
+use crate::words::{Words, push_line, push_quoted};
 use std::alloc::AllocError;
 
 /// What is wrong with where a statement stands.
@@ -61,7 +61,7 @@ impl StructureFault {
     /// Appends the words.
     pub(crate) fn push_words<P: Places>(
         self,
-        text: &mut Vec<u8>,
+        text: &mut Words,
         quotation: Quotation<'_>,
         places: &P,
     ) -> Result<(), AllocError> {
@@ -77,9 +77,9 @@ impl StructureFault {
                 push_line(text, b" at line ", places.line_of_body())
             }
             StructureFault::AfterEnd => {
-                text.extend_from_slice(b"the program has ended")?;
+                text.push(b"the program has ended")?;
                 push_line(text, b" in line ", places.line_of_end())?;
-                text.extend_from_slice(b"; only comments may follow")
+                text.push(b"; only comments may follow")
             }
             StructureFault::NoRange => push_quoted(text, b"no range is open for ", operation, b""),
             StructureFault::EndOpen(open) => {
@@ -99,7 +99,7 @@ impl StructureFault {
             StructureFault::InExpansion => {
                 push_quoted(text, b"", operation, b" can't stand in an expansion")
             }
-            _ => text.extend_from_slice(self.sentence()),
+            _ => text.push(self.sentence()),
         }
     }
 

@@ -1,6 +1,6 @@
 //! Why a field of VFD has flag V.
 use crate::quotation::Quotation;
-use crate::words::{push_number, push_quoted};
+use crate::words::{Words, push_number, push_quoted};
 use cps_text::Name;
 use std::alloc::AllocError;
 
@@ -17,7 +17,7 @@ impl WidthFault {
     /// Appends the words.
     pub(crate) fn push_words(
         self,
-        text: &mut Vec<u8>,
+        text: &mut Words,
         quotation: Quotation<'_>,
     ) -> Result<(), AllocError> {
         match self {
@@ -31,7 +31,7 @@ impl WidthFault {
                     quotation.shown,
                     b" is an address in block ",
                 )?;
-                text.extend_from_slice(name.text())
+                text.push(name.text())
             }
         }
     }

@@ -1,6 +1,6 @@
 -- No error is told of a source exactly where a source may have its lines and none is flagged.
 use Rattle.std.proofs.Common.{◌≡◌, ℕ, suc, ◌+◌, ◌≤◌, Bool, true, false, List, [], ◌∷◌, ◌++◌, length, map, take, refl, sym, ap, subst, ◌∙◌, arith, length-take}
-use Rattle.std.specs.Prelude.{◌||◌, All}
+use Rattle.std.specs.Prelude.{All}
 use Rattle.std.proofs.lemmas.List.{length-map, take_all}
 use Rattle.std.proofs.lemmas.List.Elements.{All-nil, All-cons, All-head, All-tail}
 use Rattle.cps_text.specs.Line.{IsLine}
@@ -18,8 +18,7 @@ use Rattle.cps_source.specs.Limits.{most_lines}
 use Rattle.cps_source.specs.Assembly.{ends_open, outcomes_of, traces_of}
 use Rattle.cps_source.specs.Flagged.{flagged_lines}
 use Rattle.cps_check.specs.Agreement.{Agrees}
-use Rattle.cps_check.specs.declared.kind.Kind.{Kind}
-use Rattle.cps_check.specs.Reports.{Report, ReportsLine, ReportsLines, ReportsEnd, Reports, flag_report, has_errors, is_error}
+use Rattle.cps_check.specs.Reports.{Report, ReportsLine, ReportsLines, ReportsEnd, Reports, flag_report, has_errors}
 use Rattle.cps_check.proofs.ErrorLemmas.{no-flags, none-back, none-both, none-front, with-notes}
 use Rattle.cps_check.proofs.FlagLemmas.{no-flag, none-told, true-false}
 
@@ -107,13 +106,13 @@ length-cards lines = length-outcomes (cards_of lines) ∙ length-map (take most_
 
 -- ---- the end
 
-end-clean : (is_open : Bool) (reports : List Report) → ReportsEnd is_open reports → has_errors reports ≡ false → is_open ≡ false
-end-clean false reports told is = refl
-end-clean true reports (report, one, kind) is =
-    let error : has_errors (report ∷ []) ≡ true = ap (λ (k : Kind). is_error k || false) kind in absurd (true-false (sym error ∙ ap has_errors (sym one) ∙ is))
+end-clean : (is_open : Bool) (cards : List (List ℕ)) (reports : List Report) → ReportsEnd is_open cards reports → has_errors reports ≡ false → is_open ≡ false
+end-clean false cards reports told is = refl
+end-clean true cards reports (report, one, told) is =
+    let error : has_errors (report ∷ []) ≡ true = ap (λ (r : Report). has_errors (r ∷ [])) told.all in absurd (true-false (sym error ∙ ap has_errors (sym one) ∙ is))
 
-end-silent : (is_open : Bool) (reports : List Report) → ReportsEnd is_open reports → is_open ≡ false → has_errors reports ≡ false
-end-silent is_open reports told closed = ap has_errors (subst (λ b. ReportsEnd b reports) closed told)
+end-silent : (is_open : Bool) (cards : List (List ℕ)) (reports : List Report) → ReportsEnd is_open cards reports → is_open ≡ false → has_errors reports ≡ false
+end-silent is_open cards reports told closed = ap has_errors (subst (λ b. ReportsEnd b cards reports) closed told)
 
 -- ---- a source
 
@@ -125,7 +124,7 @@ clean lines reports told is =
     let short : length (outcomes_of (cards_of lines)) ≤ length lines = omega arith in
     let all = lines-clean 1 lines (outcomes_of (cards_of lines)) told.of_lines told.each (none-front told.of_lines told.of_end nothing) short in
     let source : IsSource lines = record { each = all.each; few = let e = length-take most_lines lines in let s = all.same in omega arith } in
-    let closed = end-clean (ends_open (cards_of lines)) told.of_end told.end (none-back told.of_lines told.of_end nothing) in
+    let closed = end-clean (ends_open (cards_of lines)) (cards_of lines) told.of_end told.end (none-back told.of_lines told.of_end nothing) in
     let none : flagged_lines (cards_of lines) ≡ 0 = ap (λ b. flagged_in (outcomes_of (cards_of lines)) + count_if b) closed ∙ ap (λ n. n + 0) all.none in
     (source, subst (λ (ls : List (List ℕ)). flagged_lines ls ≡ 0) (cards_of-source lines source) none)
 
@@ -136,7 +135,7 @@ silent lines reports told (source, none) =
     let both = uncounted_end (ends_open (cards_of lines)) (flagged_in (outcomes_of (cards_of lines))) none_here in
     let long : length lines ≡ length (outcomes_of (cards_of lines)) = ap length (sym same) ∙ sym (length-outcomes (cards_of lines)) in
     let front = lines-silent 1 lines (outcomes_of (cards_of lines)) told.of_lines told.each source.each long both.1 in
-    let back = end-silent (ends_open (cards_of lines)) told.of_end told.end both.0 in
+    let back = end-silent (ends_open (cards_of lines)) (cards_of lines) told.of_end told.end both.0 in
     ap has_errors told.all ∙ none-both told.of_lines told.of_end front back
 
 pub agrees : Agrees

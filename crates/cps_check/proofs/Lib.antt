@@ -5,4 +5,5 @@ pub mod CheckLemmas
 pub mod FlagLemmas
 pub mod AgreementLemmas
 pub mod WholeLemmas
+pub mod EndLemmas
 pub mod ErrorLemmas

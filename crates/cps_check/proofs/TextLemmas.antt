@@ -1,6 +1,7 @@
 -- What is told, as text: one report, and one behind the other.
 use Rattle.std.proofs.Common.{◌≡◌, ℕ, ◌+◌, ◌<◌, List, [], ◌∷◌, ◌++◌, length, get_or, map, take, codes, refl, sym, ap, subst, ◌∙◌, append_assoc, append-nil}
 use Rattle.std.proofs.lemmas.List.{map_more}
+use Rattle.cps_cause.specs.Sentence.{IsSentence}
 use Rattle.cps_check.specs.Reports.{Report}
 use Rattle.cps_check.specs.Texts.{head_of, Tells}
 use Rattle.cps_check.specs.Adding.{Adds}
@@ -32,11 +33,11 @@ Adds-next name report xs at d a b c within before here =
 
 -- ---- one report
 
-pub Adds-one : (name : List ℕ) (report : Report) (words old new : List ℕ)
+pub Adds-one : (name : List ℕ) (report : Report) (words old new : List ℕ) → IsSentence words
     → new ≡ old ++ (head_of name report.number report.column report.kind ++ words ++ codes "\n" ++ report.rows) → Adds name (report ∷ []) old new
-Adds-one name report words old new is =
+Adds-one name report words old new sentence is =
     let piece = head_of name report.number report.column report.kind ++ words ++ codes "\n" ++ report.rows in
-    record { piece = piece; added = is; tells = (piece, [], sym (append-nil piece), record { words = words; whole = refl }, refl) }
+    record { piece = piece; added = is; tells = (piece, [], sym (append-nil piece), record { words = words; sentence = sentence; whole = refl }, refl) }
 
 -- pieces of a text, one behind the other
 pub three-pieces : (t a b c r1 r2 r3 : List ℕ) → r1 ≡ t ++ a → r2 ≡ r1 ++ b → r3 ≡ r2 ++ c → r3 ≡ t ++ (a ++ b ++ c)

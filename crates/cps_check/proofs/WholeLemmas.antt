@@ -4,12 +4,12 @@ use Rattle.std.specs.Prelude.{◌||◌, nat_lt}
 use Rattle.std.proofs.lemmas.List.{length-map}
 use Rattle.cps_state.specs.Keys.{first_state}
 use Rattle.cps_state.specs.Course.{Trace}
-use Rattle.cps_final.specs.Finals.{Finals, finals_of, final_value, is_open_at_end}
+use Rattle.cps_final.specs.Finals.{Finals, finals_of, final_value}
 use Rattle.cps_final.specs.Outcome.{Outcome, outcome_of}
 use Rattle.cps_card.specs.Card.{card_of, cards_of}
 use Rattle.cps_source.proofs.SpliceLemmas.{length-traces_from}
 use Rattle.cps_source.specs.Limits.{most_lines}
-use Rattle.cps_source.specs.Assembly.{outcomes_of, outcomes_under, traces_of}
+use Rattle.cps_source.specs.Assembly.{ends_open, outcomes_of, outcomes_under, traces_of}
 use Rattle.cps_check.specs.Adding.{Adds, AddsLines, AddsEnd, TellsSource, excess_of}
 use Rattle.cps_check.specs.Reports.{ReportsEnd, ReportsLines, has_errors}
 use Rattle.cps_check.specs.Texts.{Tells}
@@ -21,7 +21,7 @@ pub whole : (name : List ℕ) (lines cards : List (List ℕ)) (traces : List Tra
     (t0 t1 t2 t3 : List ℕ)
     → cards ≡ cards_of lines → traces ≡ traces_of cards → finals ≡ finals_of traces → count ≡ length lines → t0 ≡ []
     → AddsLines name (take most_lines lines) (outcomes_under finals traces) is_wrong t0 t1 → Adds name (excess_of count) t1 t2
-    → AddsEnd name (is_open_at_end finals) is_open t2 t3 → TellsSource name lines t3 ((is_wrong || nat_lt most_lines count) || is_open)
+    → AddsEnd name cards is_open t2 t3 → TellsSource name lines t3 ((is_wrong || nat_lt most_lines count) || is_open)
 whole name lines cards traces finals count is_wrong is_open t0 t1 t2 t3 cards_is traces_are finals_are count_is empty told excess ended =
     let all : traces ≡ traces_of (cards_of lines) = traces_are ∙ ap traces_of cards_is in
     let last : finals ≡ finals_of (traces_of (cards_of lines)) = finals_are ∙ ap finals_of all in
@@ -47,7 +47,7 @@ whole name lines cards traces finals count is_wrong is_open t0 t1 t2 t3 cards_is
         of_end = ended.reports;
         all = refl;
         each = ReportsLines-all lines (outcomes_of (cards_of lines)) told.reports long front;
-        end = subst (λ b. ReportsEnd b ended.reports) (ap is_open_at_end last) ended.told;
+        end = subst (λ (cs : List (List ℕ)). ReportsEnd (ends_open cs) cs ended.reports) cards_is ended.told;
       };
       tells = subst (λ (t : List ℕ). Tells name (of_lines ++ ended.reports) t) (sym text) added.tells;
       wrong = both-wrong (is_wrong || nat_lt most_lines count) is_open of_lines ended.reports lines_wrong ended.wrong;

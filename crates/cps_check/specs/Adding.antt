@@ -1,5 +1,6 @@
 -- For the code, not part of what a reader believes: a text to which more is added.
 use Rattle.std.specs.Prelude.{◌≡◌, ℕ, ◌+◌, Bool, nat_lt, List, [], ◌∷◌, ◌++◌, if◌then◌else◌}
+use Rattle.cps_source.specs.Assembly.{ends_open}
 use Rattle.cps_source.specs.Limits.{most_lines}
 use Rattle.cps_final.specs.Outcome.{Outcome}
 use Rattle.cps_check.specs.Reports.{Report, ReportsLine, ReportsLines, ReportsEnd, Reports, excess_report, has_errors}
@@ -26,10 +27,10 @@ pub record AddsLines (name : List ℕ) (lines : List (List ℕ)) (outcomes : Lis
   pub wrong : is_wrong ≡ has_errors reports
   pub added : Adds name reports old new
 
--- the same of a source's end
-pub record AddsEnd (name : List ℕ) (is_open : Bool) (is_wrong : Bool) (old new : List ℕ) : Type 0 where
+-- the same of the end of a source with these cards
+pub record AddsEnd (name : List ℕ) (cards : List (List ℕ)) (is_wrong : Bool) (old new : List ℕ) : Type 0 where
   pub reports : List Report
-  pub told : ReportsEnd is_open reports
+  pub told : ReportsEnd (ends_open cards) cards reports
   pub wrong : is_wrong ≡ has_errors reports
   pub added : Adds name reports old new
 

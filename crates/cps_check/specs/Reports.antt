@@ -1,16 +1,18 @@
 -- What is told of a source: each flag, each byte that no line may have, and notes. Our own.
-use Rattle.std.specs.Prelude.{◌≡◌, ℕ, ◌+◌, Bool, true, false, List, [], ◌∷◌, ◌++◌, map}
+use Rattle.std.specs.Prelude.{◌≡◌, ℕ, ◌+◌, Bool, true, false, List, [], ◌∷◌, ◌++◌, length, map, slice_get, Some}
 use Rattle.std.specs.List.{list_any}
 use Rattle.cps_text.specs.Line.{IsLine}
 use Rattle.cps_final.specs.Outcome.{Outcome}
 use Rattle.cps_cause.specs.declared.letter.Letter.TheVariants.{E}
 use Rattle.cps_cause.specs.declared.diagnostic.Diagnostic.{Diagnostic}
 use Rattle.cps_cause.specs.Letters.{letter_of}
+use Rattle.cps_cause.specs.Range.{IsRange}
 use Rattle.cps_explain.specs.Explaining.{Explains}
+use Rattle.cps_explain.specs.Opener.{IsOpener}
 use Rattle.cps_card.specs.declared.fault.CharacterFault.{CharacterFault}
 use Rattle.cps_card.specs.Card.{cards_of}
 use Rattle.cps_card.specs.Faults.{AreFaults}
-use Rattle.cps_source.specs.Assembly.{outcomes_of, ends_open}
+use Rattle.cps_source.specs.Assembly.{outcomes_of, ends_open, traces_of}
 use Rattle.cps_check.specs.declared.kind.Kind.{Kind}
 use Rattle.cps_check.specs.declared.kind.Kind.TheVariants as kinds
 use Rattle.cps_check.specs.declared.notes.Note.{Note}
@@ -78,10 +80,21 @@ ReportsLines number (line ∷ lines) [] reports = reports ≡ excess_report numb
 ReportsLines number (line ∷ lines) (outcome ∷ outcomes) reports =
     (here back : List Report) × (reports ≡ here ++ back) × ReportsLine number line outcome here × ReportsLines (number + 1) lines outcomes back
 
--- what is told where a source ends: a range that is open, in the line that opened it
-abbrev pub ReportsEnd : Bool → List Report → Type 0
-ReportsEnd false reports = reports ≡ []
-ReportsEnd true reports = (report : Report) × (reports ≡ report ∷ []) × (report.kind ≡ kinds.Flag E)
+-- what is open where a source with these cards ends is told as a flag of the line that opened it
+pub record IsOpenTold (cards : List (List ℕ)) (report : Report) : Type 0 where
+  pub above : ℕ
+  pub card : List ℕ
+  pub told : Diagnostic
+  pub opener : IsOpener (traces_of cards) above
+  pub there : slice_get cards above ≡ Some card
+  pub columns : IsRange (length card) told.columns
+  pub letter : letter_of told.cause ≡ E
+  pub all : report ≡ flag_report (above + 1) card told
+
+-- what is told where it ends, by whether something is open there
+abbrev pub ReportsEnd : Bool → List (List ℕ) → List Report → Type 0
+ReportsEnd false cards reports = reports ≡ []
+ReportsEnd true cards reports = (report : Report) × (reports ≡ report ∷ []) × IsOpenTold cards report
 
 -- what is told of a text with these lines
 pub record Reports (lines : List (List ℕ)) (reports : List Report) : Type 0 where
@@ -89,4 +102,4 @@ pub record Reports (lines : List (List ℕ)) (reports : List Report) : Type 0 wh
   pub of_end : List Report
   pub all : reports ≡ of_lines ++ of_end
   pub each : ReportsLines 1 lines (outcomes_of (cards_of lines)) of_lines
-  pub end : ReportsEnd (ends_open (cards_of lines)) of_end
+  pub end : ReportsEnd (ends_open (cards_of lines)) (cards_of lines) of_end

@@ -3,6 +3,7 @@ use Prim.Native.Char.{code}
 use Rattle.std.specs.Prelude.{ℕ, ◌-◌, ◌==◌, nat_le, List, [], ◌∷◌, ◌++◌, length, take, codes, decimal, replicate, if◌then◌else◌}
 use Rattle.cps_listing.specs.Columns.{at_right, blanks}
 use Rattle.cps_cause.specs.declared.diagnostic.Diagnostic.{Diagnostic}
+use Rattle.cps_cause.specs.Sentence.{cleaned}
 use Rattle.cps_card.specs.declared.fault.CharacterFault.{CharacterFault}
 use Rattle.cps_card.specs.Shown.{shown, shown_width}
 use Rattle.cps_check.specs.declared.limits.TheConstants.{MOST_SHOWN}
@@ -29,7 +30,7 @@ unindented (c ∷ text) = if c == code " " then unindented text else c ∷ text
 
 -- the row of a statement; none where no text stands, which is the line's own statement
 abbrev pub stated_row : List ℕ → ℕ → List ℕ
-stated_row statement times = codes "      = in its expansion: " ++ unindented statement ++ times_text times ++ codes "\n"
+stated_row statement times = codes "      = in its expansion: " ++ cleaned (unindented statement) ++ times_text times ++ codes "\n"
 
 abbrev pub statement_row : List ℕ → ℕ → List ℕ
 statement_row statement times = if length statement == 0 then [] else stated_row statement times

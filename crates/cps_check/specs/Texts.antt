@@ -3,6 +3,7 @@ use Rattle.std.specs.Prelude.{◌≡◌, ℕ, true, List, [], ◌∷◌, ◌++�
 use Rattle.cps_state.specs.Flags.{letters}
 use Rattle.cps_cause.specs.declared.letter.Letter.{Letter}
 use Rattle.cps_cause.specs.Letters.{only}
+use Rattle.cps_cause.specs.Sentence.{IsSentence}
 use Rattle.cps_check.specs.declared.kind.Kind.{Kind}
 use Rattle.cps_check.specs.declared.kind.Kind.TheVariants as kinds
 use Rattle.cps_check.specs.Reports.{Report}
@@ -19,9 +20,10 @@ kind_text kinds.Note = codes "note: "
 abbrev pub head_of : List ℕ → ℕ → ℕ → Kind → List ℕ
 head_of name number column kind = name ++ codes ":" ++ decimal number ++ codes ":" ++ decimal column ++ codes ": " ++ kind_text kind
 
--- the text of a report: behind its head stand words that no definition fixes, and below them its rows
+-- the text of a report: behind its head stand words in one row, which no definition fixes, and below them its rows
 pub record IsTold (name : List ℕ) (report : Report) (text : List ℕ) : Type 0 where
   pub words : List ℕ
+  pub sentence : IsSentence words
   pub whole : text ≡ head_of name report.number report.column report.kind ++ words ++ codes "\n" ++ report.rows
 
 -- the texts of reports, one behind the other

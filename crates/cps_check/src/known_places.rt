@@ -1,7 +1,7 @@
 //! In which lines stands what words speak of.
 
-use crate::openings::Openings;
 use cps_cause::Places;
+use cps_explain::line_of_opener;
 use cps_final::LineSymbols;
 use cps_state::{Hashing, Key, Phase, Put, Trace, control_of};
 use cps_text::Name;
@@ -20,16 +20,19 @@ struct Known {
 /// In which lines of a source symbols have their values, and which are read; and, up to the line at hand, which lines opened what is open,
 /// ended the head and ended the program.
 #[derive(Drop)]
-pub struct KnownPlaces {
+pub struct KnownPlaces<'a> {
     symbols: HashMap<Name, Known, Hashing>,
-    openings: Openings,
+    /// What each line does.
+    traces: &'a [Trace],
+    /// How many lines were passed.
+    passed: usize,
     body: Option<u32>,
     end: Option<u32>,
     /// Whether `takes_end` told that the program has ended.
     is_end_taken: bool,
 }
 
-impl Places for KnownPlaces {
+impl Places for KnownPlaces<'_> {
     fn line_of_symbol(&self, name: Name) -> Option<u32> {
         match self.symbols.get(&name) {
             Some(known) => Some(known.line),
@@ -38,7 +41,8 @@ impl Places for KnownPlaces {
     }
 
     fn line_of_opening(&self) -> Option<u32> {
-        self.openings.newest()
+        let above = self.passed.min(self.traces.len());
+        line_of_opener(&self.traces[..above])
     }
 
     fn line_of_end(&self) -> Option<u32> {
@@ -50,13 +54,13 @@ impl Places for KnownPlaces {
     }
 }
 
-impl KnownPlaces {
+impl<'a> KnownPlaces<'a> {
     /// Before the first of the lines that do this.
     pub fn of(
         alloc: Global,
         hashing: Hashing,
-        traces: &[Trace],
-    ) -> Result<KnownPlaces, AllocError> {
+        traces: &'a [Trace],
+    ) -> Result<KnownPlaces<'a>, AllocError> {
         let mut symbols = HashMap::with_hasher(alloc, hashing);
         let mut number: u32 = 0;
         for trace in traces {
@@ -70,7 +74,8 @@ impl KnownPlaces {
         }
         Ok(KnownPlaces {
             symbols,
-            openings: Openings::new(alloc),
+            traces,
+            passed: 0,
             body: None,
             end: None,
             is_end_taken: false,
@@ -93,13 +98,13 @@ impl KnownPlaces {
     }
 
     /// Behind the line of this number, which does this.
-    pub fn pass(&mut self, number: u32, trace: &Trace) -> Result<(), AllocError> {
+    pub fn pass(&mut self, number: u32, trace: &Trace) {
         for put in trace.puts() {
             if let Key::Control = put.key {
                 self.pass_phase(number, control_of(Some(&put.answer)).phase);
             }
         }
-        self.openings.pass(number, trace.puts())
+        self.passed = number as usize;
     }
 
     fn pass_phase(&mut self, number: u32, phase: Phase) {

@@ -9,7 +9,6 @@
 //! - `limits.rt`: how much is shown
 //! - `line_telling.rt`: what is told of lines, one after another
 //! - `notes.rt`: notes: what may stand in a line and is often not meant so
-//! - `openings.rt`: which lines opened what is open
 //! - `rows.rt`: the rows that show where in a line something is
 //! - `telling.rt`: what is told of a text
 //! - `told_line.rt`: a line of which something is told
@@ -24,7 +23,6 @@ mod laws;
 mod limits;
 mod line_telling;
 mod notes;
-mod openings;
 mod rows;
 mod telling;
 mod told_line;

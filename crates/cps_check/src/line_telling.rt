@@ -1,6 +1,6 @@
 //! What is told of the lines of a source, one after another.
-ghost use Rattle.std.specs.Prelude.{◌≡◌, map, take, IfOk};
-ghost use Rattle.cps_final.specs.Finals.{final_value, is_open_at_end};
+ghost use Rattle.std.specs.Prelude.{◌≡◌, ◌≤◌, length, map, take, IfOk};
+ghost use Rattle.cps_final.specs.Finals.{final_value, finals_of};
 ghost use Rattle.cps_final.specs.Outcome.{outcome_of};
 ghost use Rattle.cps_card.specs.Card.{card_of, cards_of};
 ghost use Rattle.cps_source.specs.Assembly.{outcomes_under, traces_of};
@@ -10,8 +10,8 @@ use crate::known_places::KnownPlaces;
 use crate::notes::find_notes;
 use crate::told_line::ToldLine;
 use cps_card::faults_of;
-use cps_cause::{Diagnostic, Places};
-use cps_explain::{explain, explain_end};
+use cps_cause::Diagnostic;
+use cps_explain::{LinesAbove, explain, explain_end, opener_of};
 use cps_final::{Finals, Gathered};
 use cps_finding::Card;
 use cps_pass::Trace;
@@ -32,14 +32,6 @@ pub struct CheckedLine<'a> {
     pub trace: &'a Trace,
 }
 
-/// What is known behind the last line.
-#[derive(Drop)]
-pub struct Passed {
-    pub places: KnownPlaces,
-    /// Whether an error was told.
-    pub is_wrong: bool,
-}
-
 /// The telling of a source: its name, and its final values.
 #[derive(Clone, Copy)]
 pub struct LineTelling<'a> {
@@ -49,18 +41,18 @@ pub struct LineTelling<'a> {
 }
 
 impl LineTelling<'_> {
-    /// Appends what is told of lines for which cards stand that do this.
+    /// Appends what is told of lines for which cards stand that do this, and gives whether an error is.
     pub fn tell_lines(
         &self,
         lines: &[&[u8]],
         cards: &[Line],
         traces: &[Trace],
         text: &mut Vec<u8>,
-    ) -> Result<Passed, AllocError>
+    ) -> Result<bool, AllocError>
         requires cards { cards.now ≡ cards_of (map (λ line. line.now) lines.now) }
         requires traces { traces.now ≡ traces_of cards.now }
-        ensures { IfOk result (λ passed. AddsLines self.now.name.now (take MOST_LINES (map (λ line. line.now) lines.now))
-            (outcomes_under (⟦<Finals as Gathered>⟧.gathered self.now.finals.now) traces.now) passed.is_wrong text.old.items text.new.items) }
+        ensures { IfOk result (λ is_wrong. AddsLines self.now.name.now (take MOST_LINES (map (λ line. line.now) lines.now))
+            (outcomes_under (⟦<Finals as Gathered>⟧.gathered self.now.finals.now) traces.now) is_wrong text.old.items text.new.items) }
     {
         let mut places = KnownPlaces::of(self.alloc, self.finals.hashing(), traces)?;
         let mut is_wrong = false;
@@ -73,16 +65,16 @@ impl LineTelling<'_> {
             };
             let is_wrong_here = self.tell_line(&line, &mut places, text)?;
             is_wrong = is_wrong | is_wrong_here;
-            places.pass(line.number, trace)?;
+            places.pass(line.number, trace);
         }
-        Ok(Passed { places, is_wrong })
+        Ok(is_wrong)
     }
 
     /// Appends what is told of a line, and gives whether an error is.
     fn tell_line(
         &self,
         line: &CheckedLine<'_>,
-        places: &mut KnownPlaces,
+        places: &mut KnownPlaces<'_>,
         text: &mut Vec<u8>,
     ) -> Result<bool, AllocError>
         requires { line.now.card.now ≡ card_of line.now.line.now }
@@ -108,27 +100,31 @@ impl LineTelling<'_> {
         Ok(true)
     }
 
-    /// Appends what is told where the source ends, in the line that opened what is open there, and gives whether something is.
+    /// Appends what is told where a source ends for which these cards stand, in the line that opened what is open there, and gives whether something is.
     pub fn tell_end(
         &self,
         cards: &[Line],
-        places: &KnownPlaces,
+        traces: &[Trace],
         text: &mut Vec<u8>,
     ) -> Result<bool, AllocError>
-        ensures { IfOk result (λ is_wrong. AddsEnd self.now.name.now (is_open_at_end (⟦<Finals as Gathered>⟧.gathered self.now.finals.now))
-            is_wrong text.old.items text.new.items) }
+        requires few { length cards.now ≤ MOST_LINES }
+        requires traces { traces.now ≡ traces_of cards.now }
+        requires finals { ⟦<Finals as Gathered>⟧.gathered self.now.finals.now ≡ finals_of traces.now }
+        ensures { IfOk result (λ is_wrong. AddsEnd self.now.name.now cards.now is_wrong text.old.items text.new.items) }
     {
         let Some(cause) = explain_end(self.finals)? else {
             return Ok(false);
         };
-        let number = places.line_of_opening().unwrap_or(1);
-        let line = line_at(cards, number);
+        let Some(above) = opener_of(traces) else {
+            unreachable!();
+        };
+        let line = cards[above].bytes();
         let told = ToldLine {
             name: self.name,
-            number,
+            number: above as u32 + 1,
             line,
         };
-        let columns = Card::of(line).operation_or_all();
+        let columns = Card::of(line).operation_or_all().within(line.len());
         let end = Diagnostic {
             columns,
             cause,
@@ -136,15 +132,7 @@ impl LineTelling<'_> {
             statement: Shared::empty(),
             times: 1,
         };
-        told.push_flag(self.alloc, places, &end, text)?;
+        told.push_flag(self.alloc, &LinesAbove { traces }, &end, text)?;
         Ok(true)
-    }
-}
-
-/// A line, whose number counts from 1; no bytes where there is none.
-fn line_at(lines: &[Line], number: u32) -> &[u8] {
-    match lines.get((number as usize).saturating_sub(1)) {
-        Some(line) => line.bytes(),
-        None => &[],
     }
 }

@@ -1,8 +1,10 @@
 //! Notes: what may stand in a line and is often not meant so.
+ghost use Rattle.std.specs.Prelude.{◌<◌, length, IfOk};
+ghost use Rattle.cps_cause.specs.Sentence.{IsSentence};
 
 use crate::known_places::KnownPlaces;
 use crate::line_telling::CheckedLine;
-use cps_cause::Columns;
+use cps_cause::{Columns, Words};
 use cps_expr::Operation;
 use cps_finding::{Card, filled_len};
 use cps_state::{Answer, Asked, Key, Phase, macro_of};
@@ -33,22 +35,31 @@ pub struct Note {
 }
 
 impl Remark {
-    /// Appends what it says.
-    pub fn push_words(self, text: &mut Vec<u8>) -> Result<(), AllocError> {
+    /// What it says.
+    pub fn words(self, alloc: Global) -> Result<Words, AllocError>
+        ensures { IfOk result (λ words. IsSentence words) }
+    {
+        let mut words = Words::new(alloc);
+        words.push(self.front())?;
+        if let Remark::Unread(name) = self {
+            words.push(name.text())?;
+        }
+        Ok(words)
+    }
+
+    /// What it says, but for a name behind it.
+    fn front(self) -> &'static [u8]
+        ensures { 0 < length result.now }
+    {
         match self {
-            Remark::Call => {
-                text.extend_from_slice(b"*CALL is a comment here, and brings no text in")
+            Remark::Call => b"*CALL is a comment here, and brings no text in",
+            Remark::BehindEnd => {
+                b"nothing behind END is assembled; another program is a source of its own"
             }
-            Remark::BehindEnd => text.extend_from_slice(
-                b"nothing behind END is assembled; another program is a source of its own",
-            ),
-            Remark::Unread(name) => {
-                text.extend_from_slice(b"nothing reads ")?;
-                text.extend_from_slice(name.text())
+            Remark::Unread(_) => b"nothing reads ",
+            Remark::FarOperands => {
+                b"no operand stands here; what begins in column 30 or later is a comment"
             }
-            Remark::FarOperands => text.extend_from_slice(
-                b"no operand stands here; what begins in column 30 or later is a comment",
-            ),
         }
     }
 }
@@ -57,7 +68,7 @@ impl Remark {
 pub fn find_notes(
     alloc: Global,
     line: &CheckedLine<'_>,
-    places: &mut KnownPlaces,
+    places: &mut KnownPlaces<'_>,
 ) -> Result<Vec<Note>, AllocError> {
     let mut notes = Vec::new(alloc);
     let card = Card::of(line.line);
@@ -96,7 +107,7 @@ fn find_call(line: &[u8]) -> Option<Note> {
 }
 
 /// The first line that is no comment behind the end of the program.
-fn find_behind_end(card: &Card<'_>, places: &mut KnownPlaces) -> Option<Note> {
+fn find_behind_end(card: &Card<'_>, places: &mut KnownPlaces<'_>) -> Option<Note> {
     if let Fields::Comment = card.fields {
         return None;
     }
@@ -110,7 +121,7 @@ fn find_behind_end(card: &Card<'_>, places: &mut KnownPlaces) -> Option<Note> {
 }
 
 /// A location field with a symbol that the line is the first to define, and that no line reads.
-fn find_unread(number: u32, card: &Card<'_>, places: &KnownPlaces) -> Option<Note> {
+fn find_unread(number: u32, card: &Card<'_>, places: &KnownPlaces<'_>) -> Option<Note> {
     let columns = card.location?;
     let name = Name::read(columns.of(card.text))?;
     if !places.is_unread_of(name, number) {

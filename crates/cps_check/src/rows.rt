@@ -2,6 +2,7 @@
 ghost use Rattle.std.specs.Prelude.{◌≡◌, ◌++◌, OnOk, replicate};
 ghost use Rattle.cps_check.specs.Rows as rows;
 
+use cps_cause::push_cleaned;
 use cps_listing::push_decimal;
 use itoa::Buffer;
 use std::alloc::AllocError;
@@ -33,7 +34,7 @@ pub fn push_caret_row(text: &mut Vec<u8>, before: usize, last: usize) -> Result<
     text.extend_from_slice(b"\n")
 }
 
-/// Appends a statement of the line's expansion, and how often it comes; nothing where it is empty.
+/// Appends a statement of the line's expansion, without control characters, and how often it comes; nothing where it is empty.
 pub fn push_statement_row(
     text: &mut Vec<u8>,
     statement: &[u8],
@@ -51,7 +52,7 @@ fn push_stated_row(text: &mut Vec<u8>, statement: &[u8], times: u32) -> Result<(
     ensures { OnOk result (text.new.items ≡ text.old.items ++ rows.stated_row statement.now times) }
 {
     text.extend_from_slice(b"      = in its expansion: ")?;
-    text.extend_from_slice(unindented(statement))?;
+    push_cleaned(text, unindented(statement))?;
     push_times(text, times)?;
     text.extend_from_slice(b"\n")
 }

@@ -49,9 +49,9 @@ fn tell_source(
         finals: one.finals(),
     };
     let mut text = Vec::new(alloc);
-    let passed = telling.tell_lines(lines, &cards, one.traces(), &mut text)?;
+    let is_wrong_within = telling.tell_lines(lines, &cards, one.traces(), &mut text)?;
     push_excess(&mut text, name, lines.len())?;
-    let is_open = telling.tell_end(&cards, &passed.places, &mut text)?;
-    let is_wrong = passed.is_wrong | (lines.len() > MOST_LINES) | is_open;
+    let is_open = telling.tell_end(&cards, one.traces(), &mut text)?;
+    let is_wrong = is_wrong_within | (lines.len() > MOST_LINES) | is_open;
     Ok(Telling { text, is_wrong })
 }

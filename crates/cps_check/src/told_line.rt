@@ -1,17 +1,17 @@
 //! A line of which something is told.
-ghost use Rattle.std.specs.Prelude.{◌≡◌, ◌∷◌, ◌++◌, [], map, take, OnOk};
+ghost use Rattle.std.specs.Prelude.{◌≡◌, ◌∷◌, ◌++◌, [], map, take, IfOk, OnOk};
+ghost use Rattle.cps_cause.specs.Sentence.{IsSentence};
 ghost use Rattle.cps_check.specs.Adding.{Adds, excess_of};
 ghost use Rattle.cps_check.specs.Reports.{flag_report, fault_report, note_report};
 ghost use Rattle.cps_check.specs.Rows as rows;
 
 use crate::heads::push_head;
 use crate::kind::Kind;
-use crate::known_places::KnownPlaces;
 use crate::limits::MOST_SHOWN;
 use crate::notes::Note;
 use crate::rows::{push_caret_row, push_line_row, push_statement_row};
 use cps_card::{CharacterFault, push_shown, shown_width};
-use cps_cause::Diagnostic;
+use cps_cause::{Diagnostic, Places, Words};
 use cps_text::limits::MOST_LINES;
 use std::alloc::{AllocError, Global};
 
@@ -27,10 +27,10 @@ pub struct ToldLine<'a> {
 
 impl ToldLine<'_> {
     /// Appends causes of flags.
-    pub fn push_flags(
+    pub fn push_flags<P: Places>(
         &self,
         alloc: Global,
-        places: &KnownPlaces,
+        places: &P,
         told: &[Diagnostic],
         text: &mut Vec<u8>,
     ) -> Result<(), AllocError>
@@ -44,18 +44,17 @@ impl ToldLine<'_> {
     }
 
     /// Appends a cause of a flag.
-    pub fn push_flag(
+    pub fn push_flag<P: Places>(
         &self,
         alloc: Global,
-        places: &KnownPlaces,
+        places: &P,
         told: &Diagnostic,
         text: &mut Vec<u8>,
     ) -> Result<(), AllocError>
         ensures { OnOk result (Adds self.now.name.now (flag_report self.now.number self.now.line.now told.now ∷ [])
             text.old.items text.new.items) }
     {
-        let mut words = Vec::new(alloc);
-        told.push_words(self.line, places, &mut words)?;
+        let words = told.words(alloc, self.line, places)?;
         let letter = told.cause.letter();
         push_head(
             text,
@@ -64,7 +63,7 @@ impl ToldLine<'_> {
             told.columns.first,
             Kind::Flag(letter),
         )?;
-        text.extend_from_slice(&words)?;
+        text.extend_from_slice(words.as_slice())?;
         text.extend_from_slice(b"\n")?;
         push_flag_rows(text, self.number, self.line, told)?;
         Ok(())
@@ -95,10 +94,9 @@ impl ToldLine<'_> {
         ensures { OnOk result (Adds self.now.name.now (fault_report self.now.number self.now.line.now fault.now ∷ [])
             text.old.items text.new.items) }
     {
-        let mut words = Vec::new(alloc);
-        fault.push_words(self.line, &mut words)?;
+        let words = fault_words(alloc, self.line, fault)?;
         push_head(text, self.name, self.number, fault.first, Kind::Wrong)?;
-        text.extend_from_slice(&words)?;
+        text.extend_from_slice(words.as_slice())?;
         text.extend_from_slice(b"\n")?;
         push_fault_rows(alloc, self.number, self.line, fault, text)?;
         Ok(())
@@ -124,15 +122,25 @@ impl ToldLine<'_> {
         ensures { OnOk result (Adds self.now.name.now (note_report self.now.number self.now.line.now note.now ∷ [])
             text.old.items text.new.items) }
     {
-        let mut words = Vec::new(alloc);
-        note.remark.push_words(&mut words)?;
+        let words = note.remark.words(alloc)?;
         let first = note.columns.first;
         push_head(text, self.name, self.number, first, Kind::Note)?;
-        text.extend_from_slice(&words)?;
+        text.extend_from_slice(words.as_slice())?;
         text.extend_from_slice(b"\n")?;
         push_note_rows(text, self.number, self.line, note)?;
         Ok(())
     }
+}
+
+/// The words that tell what is wrong in a line that no source may have.
+fn fault_words(alloc: Global, line: &[u8], fault: &CharacterFault) -> Result<Words, AllocError>
+    ensures { IfOk result (λ words. IsSentence words) }
+{
+    let mut told = Vec::new(alloc);
+    fault.push_words(line, &mut told)?;
+    let mut words = Words::new(alloc);
+    words.push(&told)?;
+    Ok(words)
 }
 
 /// Appends the rows that show a cause of a flag.

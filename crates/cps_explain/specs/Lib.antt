@@ -1,3 +1,5 @@
 pub mod Explaining
 pub mod SymbolsNow
 pub mod Telling
+pub mod OpenNow
+pub mod Opener

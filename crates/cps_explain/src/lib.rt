@@ -6,6 +6,8 @@
 //! - `demands.rt`: what a statement takes of the values of its operands
 //! - `explaining.rt`: the causes of a line's flags
 //! - `locations.rt`: location fields and operation fields
+//! - `open_now.rt`: how much is open behind lines
+//! - `opener.rt`: which line opened what is open
 //! - `showing.rt`: where in a line shows what is found in the statements that it opens
 //! - `structure.rt`: where statements stand, and limits of what is open
 //! - `symbols_now.rt`: what symbols stand for where a statement is read
@@ -21,6 +23,8 @@ mod causes;
 mod demands;
 mod explaining;
 mod locations;
+mod open_now;
+mod opener;
 mod showing;
 mod structure;
 mod symbols_now;
@@ -31,7 +35,8 @@ mod walk;
 
 pub use cps_cause::{
     Bounds, Cause, Columns, CutFault, DefinitionFault, Diagnostic, FarAddress, Letter, LimitFault,
-    LocationFault, Misreading, NoPlaces, OpenSpan, OperandFault, OperationFault, Places, Quotation,
-    StructureFault, SymbolFault, ValueFault, WidthFault,
+    LocationFault, Misreading, OpenSpan, OperandFault, OperationFault, Places, Quotation,
+    StructureFault, SymbolFault, ValueFault, WidthFault, Words, push_cleaned,
 };
 pub use explaining::{explain, explain_end};
+pub use opener::{LinesAbove, line_of_opener, opener_of};

@@ -4,7 +4,7 @@ ghost use Rattle.cps_lookup.specs.Rows.{IsWhy};
 
 use cps_assembly::View;
 use cps_document::Document;
-use cps_explain::{Diagnostic, NoPlaces, explain};
+use cps_explain::{Diagnostic, LinesAbove, explain};
 use std::alloc::{AllocError, Global};
 
 /// The most causes that are told.
@@ -30,22 +30,31 @@ pub fn why_of(alloc: Global, document: &Document, number: u32) -> Result<Vec<u8>
 fn causes_of(alloc: Global, document: &Document, number: u32) -> Result<Vec<u8>, AllocError> {
     let session = document.session();
     let at = number.saturating_sub(1) as usize;
-    match (session.line(number), session.traces().get(at)) {
+    let traces = session.traces();
+    match (session.line(number), traces.get(at)) {
         (Some(card), Some(trace)) => {
             let told = explain(alloc, card, trace, session.finals())?;
-            causes_text(alloc, card.bytes(), &told)
+            let above = LinesAbove {
+                traces: &traces[..at],
+            };
+            causes_text(alloc, card.bytes(), above, &told)
         }
         _ => Ok(Vec::new(alloc)),
     }
 }
 
 /// Causes as they are told, of which the first 10 are. One that follows itself, as that of each statement of an expansion, is told once.
-fn causes_text(alloc: Global, line: &[u8], told: &[Diagnostic]) -> Result<Vec<u8>, AllocError> {
+fn causes_text(
+    alloc: Global,
+    line: &[u8],
+    above: LinesAbove<'_>,
+    told: &[Diagnostic],
+) -> Result<Vec<u8>, AllocError> {
     let mut text = Vec::new(alloc);
     let mut last = Vec::new(alloc);
     let mut left = MOST_CAUSES;
     for diagnostic in told {
-        let row = cause_row(alloc, line, diagnostic)?;
+        let row = cause_row(alloc, line, above, diagnostic)?;
         if row == last {
             continue;
         }
@@ -61,11 +70,17 @@ fn causes_text(alloc: Global, line: &[u8], told: &[Diagnostic]) -> Result<Vec<u8
 }
 
 /// A cause behind its letter.
-fn cause_row(alloc: Global, line: &[u8], told: &Diagnostic) -> Result<Vec<u8>, AllocError> {
+fn cause_row(
+    alloc: Global,
+    line: &[u8],
+    above: LinesAbove<'_>,
+    told: &Diagnostic,
+) -> Result<Vec<u8>, AllocError> {
     let mut row = Vec::new(alloc);
     row.push(told.cause.letter().byte())?;
     row.extend_from_slice(b": ")?;
-    told.push_words(line, &NoPlaces, &mut row)?;
+    let words = told.words(alloc, line, &above)?;
+    row.extend_from_slice(words.as_slice())?;
     row.push(b'\n')?;
     Ok(row)
 }

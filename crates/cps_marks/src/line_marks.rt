@@ -1,5 +1,5 @@
 //! The marks of a line.
-ghost use Rattle.std.specs.Prelude.{◌≡◌, ◌<◌, [], ◌∷◌, length, map, OnOk};
+ghost use Rattle.std.specs.Prelude.{◌≡◌, ◌<◌, [], ◌∷◌, length, map, IfOk, OnOk};
 ghost use Rattle.cps_document.specs.Document.{source_of_text};
 ghost use Rattle.cps_marks.specs.Adding.{Adds, AddsFlags, AddsLine};
 ghost use Rattle.cps_marks.specs.Marks.{flag_mark, fault_mark};
@@ -9,8 +9,17 @@ use crate::mark::Mark;
 use cps_assembly::View;
 use cps_card::{CharacterFault, faults_of};
 use cps_document::Document;
-use cps_explain::{Columns, Diagnostic, NoPlaces, explain};
+use cps_explain::{Columns, Diagnostic, LinesAbove, explain};
 use std::alloc::{AllocError, Global};
+
+/// A line with flags.
+#[derive(Clone, Copy)]
+struct FlaggedLine<'a> {
+    /// From 0.
+    number: u32,
+    line: &'a [u8],
+    above: LinesAbove<'a>,
+}
 
 /// Appends the marks of a line of a document, whose number counts from 0. One that a source may have takes no memory where it has no flag.
 pub fn push_marks(
@@ -58,8 +67,7 @@ fn push_fault(
 ) -> Result<(), AllocError>
     ensures { OnOk result (Adds (fault_mark number fault.now ∷ []) marks.old.items marks.new.items) }
 {
-    let mut message = Vec::new(alloc);
-    fault.push_words(line, &mut message)?;
+    let message = fault_message(alloc, line, fault)?;
     marks.push(Mark {
         line: number,
         columns: Columns {
@@ -70,6 +78,15 @@ fn push_fault(
         message,
     })?;
     Ok(())
+}
+
+/// What is wrong in a line that no source may have.
+fn fault_message(alloc: Global, line: &[u8], fault: &CharacterFault) -> Result<Vec<u8>, AllocError>
+    ensures { IfOk result (λ message. 0 < length message.items) }
+{
+    let mut message = Vec::new(alloc);
+    fault.push_words(line, &mut message)?;
+    Ok(message)
 }
 
 /// Appends the marks of the flags of a line of a document. Where it has none, no memory is taken, and no cause is looked for.
@@ -95,39 +112,44 @@ fn push_flags(
     let traces = session.traces();
     let trace = &traces[number as usize];
     let told = explain(alloc, card, trace, session.finals())?;
-    push_causes(alloc, number, card.bytes(), &told, marks)?;
+    let flagged = FlaggedLine {
+        number,
+        line: card.bytes(),
+        above: LinesAbove {
+            traces: &traces[..number as usize],
+        },
+    };
+    push_causes(alloc, &flagged, &told, marks)?;
     Ok(())
 }
 
 /// Appends the marks of causes of flags.
 fn push_causes(
     alloc: Global,
-    number: u32,
-    line: &[u8],
+    flagged: &FlaggedLine<'_>,
     told: &[Diagnostic],
     marks: &mut Vec<Mark>,
 ) -> Result<(), AllocError>
-    ensures { OnOk result (Adds (map (flag_mark number) told.now) marks.old.items marks.new.items) }
+    ensures { OnOk result (Adds (map (flag_mark flagged.now.number) told.now) marks.old.items marks.new.items) }
 {
     for diagnostic in told {
-        push_cause(alloc, number, line, diagnostic, marks)?;
+        push_cause(alloc, flagged, diagnostic, marks)?;
     }
     Ok(())
 }
 
 fn push_cause(
     alloc: Global,
-    number: u32,
-    line: &[u8],
+    flagged: &FlaggedLine<'_>,
     told: &Diagnostic,
     marks: &mut Vec<Mark>,
 ) -> Result<(), AllocError>
-    ensures { OnOk result (Adds (flag_mark number told.now ∷ []) marks.old.items marks.new.items) }
+    ensures { OnOk result (Adds (flag_mark flagged.now.number told.now ∷ []) marks.old.items marks.new.items) }
 {
-    let message = message_of(alloc, line, told)?;
+    let message = message_of(alloc, flagged, told)?;
     let letter = told.cause.letter();
     marks.push(Mark {
-        line: number,
+        line: flagged.number,
         columns: told.columns,
         kind: Kind::Flag(letter),
         message,
@@ -136,9 +158,15 @@ fn push_cause(
 }
 
 /// Why a line has a flag; and in a second row the statement of its expansion that has it, where it isn't the line's own.
-fn message_of(alloc: Global, line: &[u8], told: &Diagnostic) -> Result<Vec<u8>, AllocError> {
-    let mut message = Vec::new(alloc);
-    told.push_words(line, &NoPlaces, &mut message)?;
+fn message_of(
+    alloc: Global,
+    flagged: &FlaggedLine<'_>,
+    told: &Diagnostic,
+) -> Result<Vec<u8>, AllocError>
+    ensures { IfOk result (λ message. 0 < length message.items) }
+{
+    let words = told.words(alloc, flagged.line, &flagged.above)?;
+    let mut message = words.into_bytes();
     let statement = told.statement.as_slice();
     if !statement.is_empty() {
         message.extend_from_slice(b"\nin its expansion: ")?;

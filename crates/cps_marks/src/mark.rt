@@ -1,4 +1,5 @@
 //! A mark in a line of a text.
+ghost use Rattle.std.specs.Prelude.{◌<◌, length};
 
 use crate::kind::Kind;
 use cps_explain::Columns;
@@ -12,6 +13,7 @@ pub struct Mark {
     pub kind: Kind,
     /// Why it is wrong, as a sentence without its point. Where that stands in a statement of the line's expansion, this has a second row.
     pub message: Vec<u8>,
+    ghost some: { 0 < length message.items },
 }
 
 // Written out, so that it is proved once.

@@ -9,7 +9,7 @@ use crate::line_marks::{push_marks, unindented};
 use crate::mark::Mark;
 use cps_assembly::View;
 use cps_document::Document;
-use cps_explain::{Columns, NoPlaces, Quotation, explain_end};
+use cps_explain::{Columns, LinesAbove, Quotation, explain_end};
 use cps_text::limits::MOST_LINES;
 use std::alloc::{AllocError, Global};
 
@@ -59,7 +59,7 @@ fn push_excess(alloc: Global, count: usize, marks: &mut Vec<Mark>) -> Result<(),
     Ok(())
 }
 
-/// Appends the mark of what is open where a document's source ends, in its last line.
+/// Appends the mark of what is open where a document's source ends, in its last line. It names the line that opened it.
 fn push_end(alloc: Global, document: &Document, marks: &mut Vec<Mark>) -> Result<(), AllocError>
     ensures { OnOk result (AddsEnd (source_of_text document.now) marks.old.items marks.new.items) }
 {
@@ -71,15 +71,17 @@ fn push_end(alloc: Global, document: &Document, marks: &mut Vec<Mark>) -> Result
     let line = card_at(document, count);
     let width = unindented(line).len();
     let columns = Columns::behind(line.len().saturating_sub(width), width).within(line.len());
-    let mut message = Vec::new(alloc);
-    cause.push_words(&mut message, Quotation::of(line, columns), &NoPlaces)?;
+    let above = LinesAbove {
+        traces: session.traces(),
+    };
+    let words = cause.words(alloc, Quotation::of(line, columns), &above)?;
     let letter = cause.letter();
     let last = count.saturating_sub(1);
     marks.push(Mark {
         line: last,
         columns,
         kind: Kind::Flag(letter),
-        message,
+        message: words.into_bytes(),
     })?;
     Ok(())
 }

@@ -530,16 +530,45 @@ M         MACRO
 > 2:11-13 E
 
           IFEQ    1,1
-> end E
+> end E from line 1
 
 M         MACRO
-> end E
+> end E from line 1
 
           DUP     2
-> end E
+> end E from line 1
 
           IFEQ    1,2,3
-> end E
+> end E from line 1
+
+          IFEQ    1,1
+          IFEQ    1,1
+          ENDIF
+> end E from line 1
+
+          IFEQ    1,1
+          ENDIF
+          IFEQ    1,1
+> end E from line 3
+
+          IFEQ    1,2
+          ELSE
+> end E from line 1
+
+          IFEQ    1,1
+          IFEQ    1,2
+          IFEQ    1,1
+          ENDIF
+> end E from line 2
+
+          IFEQ    1,1
+          DUP     2
+> end E from line 2
+
+          IFEQ    1,1
+          DUP     2
+          ENDD
+> end E from line 1
 
           ENDD
 > 1:11-14 E

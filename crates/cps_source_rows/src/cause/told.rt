@@ -1,12 +1,20 @@
 //! What is told of the lines of a source.
-use cps_cause::{Diagnostic, NoPlaces};
-use cps_explain::{explain, explain_end};
-use cps_final::Finals;
+use cps_cause::Diagnostic;
+use cps_explain::{LinesAbove, explain, explain_end, line_of_opener};
 use cps_source::PassOne;
 use cps_state::Hashing;
 use cps_text::Line;
 use itoa::Buffer;
 use std::alloc::{AllocError, Global};
+
+/// A line of which it is told.
+#[derive(Clone, Copy)]
+struct ToldLine<'a> {
+    /// From 1.
+    number: usize,
+    line: &'a [u8],
+    above: LinesAbove<'a>,
+}
 
 /// Whether words are told beside columns and letters.
 #[derive(Clone, Copy)]
@@ -15,7 +23,8 @@ pub enum Telling {
     Words,
 }
 
-/// What is told of all lines, a row for each cause: `LINE:FIRST-LAST LETTER`, and the words behind a blank. Where the source is open at its end, `end E`.
+/// What is told of all lines, a row for each cause: `LINE:FIRST-LAST LETTER`, and the words behind a blank. Where the source is open at its end,
+/// `end E` and the number of the line that opened it.
 pub fn told_of(alloc: Global, telling: Telling, texts: &[&str]) -> Option<Vec<u8>> {
     let lines = lines_of(alloc, texts)?;
     let told = match PassOne::of(alloc, Hashing::by(1), &lines) {
@@ -45,35 +54,41 @@ fn told_by(
     for (at, trace) in one.traces().iter().enumerate() {
         if let Some(line) = lines.get(at) {
             let told = explain(alloc, line, trace, one.finals())?;
-            let number = at.saturating_add(1);
-            tell_all(&mut text, telling, number, line.bytes(), &told)?;
+            let line = ToldLine {
+                number: at.saturating_add(1),
+                line: line.bytes(),
+                above: LinesAbove {
+                    traces: &one.traces()[..at],
+                },
+            };
+            tell_all(alloc, &mut text, telling, line, &told)?;
         }
     }
-    tell_end(&mut text, one.finals())?;
+    tell_end(&mut text, one)?;
     Ok(text)
 }
 
 fn tell_all(
+    alloc: Global,
     text: &mut Vec<u8>,
     telling: Telling,
-    number: usize,
-    line: &[u8],
+    line: ToldLine<'_>,
     told: &[Diagnostic],
 ) -> Result<(), AllocError> {
     for diagnostic in told {
-        tell(text, telling, number, line, diagnostic)?;
+        tell(alloc, text, telling, line, diagnostic)?;
     }
     Ok(())
 }
 
 fn tell(
+    alloc: Global,
     text: &mut Vec<u8>,
     telling: Telling,
-    number: usize,
-    line: &[u8],
+    line: ToldLine<'_>,
     diagnostic: &Diagnostic,
 ) -> Result<(), AllocError> {
-    push_number(text, number)?;
+    push_number(text, line.number)?;
     text.push(b':')?;
     push_number(text, diagnostic.columns.first)?;
     text.push(b'-')?;
@@ -82,7 +97,8 @@ fn tell(
     text.push(diagnostic.cause.letter().byte())?;
     if let Telling::Words = telling {
         text.push(b' ')?;
-        diagnostic.push_words(line, &NoPlaces, text)?;
+        let words = diagnostic.words(alloc, line.line, &line.above)?;
+        text.extend_from_slice(words.as_slice())?;
     }
     text.push(b'\n')?;
     Ok(())
@@ -92,9 +108,15 @@ fn push_number(text: &mut Vec<u8>, number: usize) -> Result<(), AllocError> {
     text.extend_from_slice(Buffer::new().format(number).as_bytes())
 }
 
-fn tell_end(text: &mut Vec<u8>, finals: &Finals) -> Result<(), AllocError> {
-    match explain_end(finals)? {
-        Some(_) => text.extend_from_slice(b"end E\n"),
-        None => Ok(()),
+fn tell_end(text: &mut Vec<u8>, one: &PassOne) -> Result<(), AllocError> {
+    if explain_end(one.finals())?.is_none() {
+        return Ok(());
     }
+    text.extend_from_slice(b"end E")?;
+    if let Some(number) = line_of_opener(one.traces()) {
+        text.extend_from_slice(b" from line ")?;
+        push_number(text, number as usize)?;
+    }
+    text.push(b'\n')?;
+    Ok(())
 }

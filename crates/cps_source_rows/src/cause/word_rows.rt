@@ -260,7 +260,7 @@ A         BSS     1
 
 M         MACRO
           END
-> 2:11-13 E the program ends in the lines of a macro
+> 2:11-13 E the program ends in the lines of a macro from line 1
 
           DUP     1001,1
 *

@@ -132,7 +132,7 @@ const CONVERSATIONS: [Row; 8] = [
         Ok(false),
         &[
             UTF16,
-            "{\"jsonrpc\":\"2.0\",\"method\":\"textDocument/publishDiagnostics\",\"params\":{\"diagnostics\":[{\"code\":\"E\",\"message\":\"the source ends in a range that is open\",\"range\":{\"end\":{\"character\":19,\"line\":1},\"start\":{\"character\":10,\"line\":1}},\"severity\":1,\"source\":\"compass\"}],\"uri\":\"a\"}}",
+            "{\"jsonrpc\":\"2.0\",\"method\":\"textDocument/publishDiagnostics\",\"params\":{\"diagnostics\":[{\"code\":\"E\",\"message\":\"the source ends in a range that is open from line 1\",\"range\":{\"end\":{\"character\":19,\"line\":1},\"start\":{\"character\":10,\"line\":1}},\"severity\":1,\"source\":\"compass\"}],\"uri\":\"a\"}}",
             "{\"jsonrpc\":\"2.0\",\"method\":\"textDocument/publishDiagnostics\",\"params\":{\"diagnostics\":[],\"uri\":\"a\"}}",
         ],
     ),

@@ -1,7 +1,8 @@
-use Rattle.std.proofs.Common.{◌≡◌, ℕ, ◌+◌, ◌<◌, true, List, ◌++◌, codes, ap, sym, subst, ◌∙◌, arith, append-nil}
+use Rattle.std.proofs.Common.{◌≡◌, ℕ, ◌+◌, ◌<◌, true, List, ◌++◌, codes, refl, ap, sym, subst, ◌∙◌, arith, append-nil}
 use Rattle.std.specs.Prelude.{nat_lt}
 use Rattle.std.proofs.lemmas.Bool.{cond-true}
 use Rattle.std.proofs.lemmas.Bool.Decides.{nat_tests}
+use Rattle.cps_cause.specs.Sentence.{IsSentence}
 use Rattle.cps_source.specs.Limits.{most_lines}
 use Rattle.cps_check.specs.Adding.{Adds}
 use Rattle.cps_check.specs.declared.kind.Kind.TheVariants as kinds
@@ -18,9 +19,10 @@ returns c =
     let more : most_lines < c.args.count = c.if-count-le-MOST_LINES.false in
     let test : nat_lt most_lines c.args.count ≡ true = grind (arith, nat_tests) in
     let words = codes "a source has 99,999 lines at most; the lines from here on are not looked at" in
+    let sentence : IsSentence words = record { some = omega arith; row = refl } in
     let head = head_of name (most_lines + 1) 1 kinds.Wrong in
     subst (λ (reports : List Report). Adds name reports old new) (sym (cond-true _ _ _ test))
-    (Adds-one name (excess_report (most_lines + 1)) words old new
+    (Adds-one name (excess_report (most_lines + 1)) words old new sentence
     (three-pieces old head words (codes "\n") c.push_head.new.text.items c.extend_from_slice.new.self.items new
     c.in_ok-push_head.ensures c.in_ok-extend_from_slice.ensures.items c.in_ok-extend_from_slice-2.ensures.items
     ∙ ap (λ (piece : List ℕ). old ++ piece) (sym (append-nil (head ++ words ++ codes "\n")))))

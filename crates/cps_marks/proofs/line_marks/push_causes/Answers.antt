@@ -11,7 +11,7 @@ loop-diagnostic-init c = Adds-none c.args.marks.now.items
 
 pub loop-diagnostic-preserved : goal.loop-diagnostic-preserved
 loop-diagnostic-preserved c =
-    let mark = flag_mark c.args.number in
+    let mark = flag_mark c.args.flagged.now.number in
     let told = c.args.told.now in
     let at = c.loop-diagnostic.diagnostic-index in
     let d = c.diagnostic-item.result in
@@ -23,5 +23,5 @@ loop-diagnostic-preserved c =
 
 pub returns : goal.returns
 returns c =
-    subst (λ (ds : List Diagnostic). Adds (map (flag_mark c.args.number) ds) c.args.marks.now.items c.loop-diagnostic.marks.items)
+    subst (λ (ds : List Diagnostic). Adds (map (flag_mark c.args.flagged.now.number) ds) c.args.marks.now.items c.loop-diagnostic.marks.items)
     (take_all c.loop-diagnostic.diagnostic-index c.args.told.now c.loop-diagnostic-test.false) c.loop-diagnostic.invariant

@@ -13,11 +13,11 @@ returns c =
     let number = c.args.self.now.number in
     let line = c.args.self.now.line.now in
     let old = c.args.text.now.items in
-    let words = c.push_words.new.text.items in
-    Adds-one name (fault_report number line fault) words old c.push_fault_rows.new.text.items
+    let words = c.in_ok-words.words in
+    Adds-one name (fault_report number line fault) words old c.push_fault_rows.new.text.items c.in_ok-words.ensures
     (four-pieces old (head_of name number fault.first kinds.Wrong) words (codes "\n") (fault_rows number line fault)
     c.push_head.new.text.items c.extend_from_slice.new.self.items c.extend_from_slice-2.new.self.items c.push_fault_rows.new.text.items
     c.in_ok-push_head.ensures
-    (c.in_ok-extend_from_slice.ensures.items ∙ ap (λ w. c.push_head.new.text.items ++ w) c.deref.ensures.value)
+    (c.in_ok-extend_from_slice.ensures.items ∙ ap (λ w. c.push_head.new.text.items ++ w) c.as_slice.ensures)
     c.in_ok-extend_from_slice-2.ensures.items
     c.in_ok-push_fault_rows.ensures)

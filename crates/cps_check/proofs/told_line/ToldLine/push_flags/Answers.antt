@@ -7,10 +7,10 @@ use Rattle.cps_check.proofs.TextLemmas.{Adds-append, Adds-none}
 use Rattle.cps_check.proofs.told_line.ToldLine.push_flags.Goals as goal
 
 pub loop-diagnostic-init : goal.loop-diagnostic-init
-loop-diagnostic-init c = Adds-none c.args.self.now.name.now c.args.text.now.items
+loop-diagnostic-init g c = Adds-none c.args.self.now.name.now c.args.text.now.items
 
 pub loop-diagnostic-preserved : goal.loop-diagnostic-preserved
-loop-diagnostic-preserved c =
+loop-diagnostic-preserved g c =
     let name = c.args.self.now.name.now in
     let report = flag_report c.args.self.now.number c.args.self.now.line.now in
     let told = c.args.told.now in
@@ -23,7 +23,7 @@ loop-diagnostic-preserved c =
     c.loop-diagnostic.invariant c.in_ok-push_flag.ensures)
 
 pub returns : goal.returns
-returns c =
+returns g c =
     let report = flag_report c.args.self.now.number c.args.self.now.line.now in
     subst (λ (ds : List Diagnostic). Adds c.args.self.now.name.now (map report ds) c.args.text.now.items c.loop-diagnostic.text.items)
     (take_all c.loop-diagnostic.diagnostic-index c.args.told.now c.loop-diagnostic-test.false) c.loop-diagnostic.invariant
