@@ -1,8 +1,8 @@
 //! The files of the machine.
 use super::draft::Draft;
 use super::identity::lead_to_one;
-use cps_output::Targets;
 use cps_tool::Sources;
+use cps_words::Targets;
 use std::fs::File;
 use std::io::ErrorKind;
 use std::{fs, io};

@@ -1,6 +1,6 @@
 //! Files of the machine that aren't in their places yet.
 use super::successor::Successor;
-use cps_output::is_open_already;
+use cps_words::is_open_already;
 use std::fs::{File, OpenOptions};
 use std::io::{ErrorKind, Write};
 use std::{fs, io};

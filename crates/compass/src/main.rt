@@ -16,8 +16,9 @@ mod draft;
 mod identity;
 mod successor;
 
+use cps_state::Hashing;
 use cps_text::Counted;
-use cps_tool::{Hashing, Host, run_call};
+use cps_tool::{Host, run_call};
 use disk::Disk;
 use std::io::ErrorKind;
 use std::process::ExitCode;

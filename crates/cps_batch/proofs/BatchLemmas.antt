@@ -2,7 +2,7 @@
 use Rattle.std.proofs.Common.{ℕ, List}
 use Rattle.std.specs.Prelude.{Option, Result, Ok, Err}
 use Rattle.cps_text.specs.declared.counted.Counted.{Counted}
-use Rattle.cps_input.specs.declared.fault.InputFault.TheVariants as inputs
+use Rattle.cps_input.specs.declared.input_fault.InputFault.TheVariants as inputs
 use Rattle.cps_input.specs.Sources.{IsReadWhole}
 use Rattle.cps_list.specs.declared.part.Part.{Part}
 use Rattle.cps_batch.specs.declared.fault.BatchFault.{BatchFault}

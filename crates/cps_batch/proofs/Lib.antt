@@ -1,2 +1,3 @@
+pub mod SourceLemmas
 pub mod BatchLemmas
 pub mod PassLemmas

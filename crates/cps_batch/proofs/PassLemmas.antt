@@ -11,22 +11,22 @@ use Rattle.cps_state.specs.Sheet.{Sheet, blank_sheet, statements_on}
 use Rattle.cps_input.specs.Parts.{RisesTo}
 use Rattle.cps_input.proofs.PartLemmas.{count-parts, parts-more, rises-more}
 use Rattle.cps_pass.specs.Expansion.{trace_of}
-use Rattle.cps_gather.specs.Distinct.{distinct}
-use Rattle.cps_gather.specs.Layout.{layout_of, puts_of}
-use Rattle.cps_gather.specs.Pool.{literals_in}
+use Rattle.cps_final.specs.Distinct.{distinct}
+use Rattle.cps_final.specs.Layout.{layout_of, puts_of}
+use Rattle.cps_final.specs.Pool.{literals_in}
 use Rattle.cps_final.specs.Finals.{Finals, finals_of, first_program, program_of, Gathers, final_value}
-use Rattle.cps_final.specs.Names.{names_defined, names_read}
+use Rattle.cps_final.specs.LineNames.{names_defined, names_read}
 use Rattle.cps_final.specs.Outcome.{outcome_of}
 use Rattle.cps_list.specs.declared.mention.Mention.{Mention}
 use Rattle.cps_list.specs.Making.{Printout, IsPrintoutOf, shown}
 use Rattle.cps_list.specs.Symbols.{mentions_from, mentions_on}
 use Rattle.cps_list.proofs.PrintoutLemmas.{mentions-more, shown-more}
-use Rattle.cps_assembly.specs.Assembly.{after, state_after, traces_from, traces_of, outcomes_under}
+use Rattle.cps_edit.specs.Assembly.{after, state_after, traces_from, traces_of, outcomes_under}
 use Rattle.cps_batch.specs.declared.passes.PassOne.{PassOne}
 use Rattle.cps_batch.specs.declared.passes.PassTwo.{PassTwo}
-use Rattle.cps_gather.specs.contracts.finals.FinalsGathered.TheImpl.{gathered-value}
+use Rattle.cps_final.specs.contracts.finals.FinalsGathered.TheImpl.{gathered-value}
 use Rattle.cps_batch.specs.Passes.{statements_of, AreParts, IsNext, IsPassed, IsShown}
-use Rattle.cps_assembly.proofs.SpliceLemmas.{traces_from-append, length-traces_from, puts-state}
+use Rattle.cps_edit.proofs.SpliceLemmas.{traces_from-append, length-traces_from, puts-state}
 
 -- the trace of the line after those that were gathered
 pub step-next : (finals : Finals) (before : List (List ℕ)) (line : List ℕ) (trace : Trace) (state : State) → Gathers finals (traces_of before) → state ≡ finals.state

@@ -3,16 +3,16 @@ use Rattle.std.specs.Prelude.{◌≡◌, ℕ, List, ◌++◌, Option, Result, Ok
 use Rattle.std.specs.Io.KnownBytes.{Appends, Consumes}
 use Rattle.cps_text.specs.declared.counted.Counted.{Counted}
 use Rattle.cps_text.specs.Counted.{inner_of, failures_of, FailsOnce}
-use Rattle.cps_input.specs.declared.fault.InputFault.{InputFault}
-use Rattle.cps_input.specs.declared.fault.InputFault.TheVariants as inputs
+use Rattle.cps_input.specs.declared.input_fault.InputFault.{InputFault}
+use Rattle.cps_input.specs.declared.input_fault.InputFault.TheVariants as inputs
 use Rattle.cps_input.specs.Sources.{IsSource, Refuses, IsReadWhole}
 use Rattle.cps_input.specs.Reads.{EndsEarly}
 use Rattle.cps_list.specs.declared.part.Part.{Part}
 use Rattle.cps_list.specs.Texts.{text_of}
 use Rattle.cps_batch.specs.declared.fault.BatchFault.{BatchFault}
 use Rattle.cps_batch.specs.declared.fault.BatchFault.TheVariants as faults
-use Rattle.cps_assembly.specs.Assembly.{assembly_of}
-use Rattle.cps_assembly.specs.Flagged.{flagged_lines}
+use Rattle.cps_edit.specs.Assembly.{assembly_of}
+use Rattle.cps_edit.specs.Flagged.{flagged_lines}
 
 -- a fault of the input, as batch assembly answers it
 abbrev pub of_input : InputFault → BatchFault

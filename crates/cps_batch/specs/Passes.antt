@@ -5,17 +5,17 @@ use Rattle.cps_state.specs.declared.item.Item.{Item}
 use Rattle.cps_state.specs.Course.{Trace}
 use Rattle.cps_state.specs.Sheet.{Sheet, StandsOn, statements_on}
 use Rattle.cps_input.specs.Parts.{RisesTo, parts_at}
-use Rattle.cps_gather.specs.declared.gather.Gather.{Gather}
-use Rattle.cps_gather.specs.contracts.finals.FinalsGathered.TheImpl as finals
-use Rattle.cps_gather.specs.contracts.gather.GatherGathered.TheImpl as gather
+use Rattle.cps_final.specs.declared.gather.Gather.{Gather}
+use Rattle.cps_final.specs.contracts.finals.FinalsGathered.TheImpl as finals
+use Rattle.cps_final.specs.contracts.gather.GatherGathered.TheImpl as gather
 use Rattle.cps_final.specs.Finals.{Finals, Gathers}
 use Rattle.cps_list.specs.Making.{IsPrintoutOf, shown, shows_symbols}
 use Rattle.cps_list.specs.Symbols.{mentions_from, mentions_on}
 use Rattle.cps_list.specs.declared.mention.Mention.{Mention}
-use Rattle.cps_final.specs.Names.{names_defined, names_read}
+use Rattle.cps_final.specs.LineNames.{names_defined, names_read}
 use Rattle.cps_batch.specs.declared.passes.PassOne.{PassOne}
 use Rattle.cps_batch.specs.declared.passes.PassTwo.{PassTwo}
-use Rattle.cps_assembly.specs.Assembly.{traces_of, outcomes_under}
+use Rattle.cps_edit.specs.Assembly.{traces_of, outcomes_under}
 
 -- the statements of each line
 abbrev pub statements_of : List Trace → List (List Item)

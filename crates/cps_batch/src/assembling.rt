@@ -8,7 +8,7 @@ use super::fault::BatchFault;
 use super::passes::make_part;
 use cps_input::{LineText, read_text};
 use cps_list::{Part, write_text};
-use cps_pass::Hashing;
+use cps_state::Hashing;
 use cps_text::Counted;
 use cps_text::limits::MOST_READS;
 use std::alloc::Global;

@@ -1,14 +1,19 @@
-//! Batch assembly: a source is read to the end of its input, assembled, and shown in one of its
-//! texts.
+//! Batch assembly: a source is read to the end of its input, assembled whole, and shown in one of its texts.
 //!
 //! - `assembling.rt`: batch assembly as a whole
 //! - `fault.rt`: why a source is not assembled, or its texts not written
+//! - `pass_one.rt`: pass one of all lines
 //! - `passes.rt`: both passes over the lines
+//! - `source.rt`: the source
 #![tactic(auto)]
 
 mod assembling;
 mod fault;
+mod pass_one;
 mod passes;
+mod source;
 
 pub use assembling::batch;
 pub use fault::BatchFault;
+pub use pass_one::PassOne;
+pub use source::Source;

@@ -3,14 +3,15 @@ ghost use Rattle.std.specs.Prelude.{◌≡◌, ℕ, List, [], ◌∷◌, ◌++�
 ghost use Rattle.cps_state.specs.Sheet.{statements_on};
 ghost use Rattle.cps_list.specs.Making.{IsPrintoutOf, shows_symbols};
 ghost use Rattle.cps_list.specs.Texts.{text_of};
-ghost use Rattle.cps_assembly.specs.Assembly.{assembly_of, outcomes_under, traces_of};
-ghost use Rattle.cps_assembly.specs.Flagged.{flagged_lines};
+ghost use Rattle.cps_edit.specs.Assembly.{assembly_of, outcomes_under, traces_of};
+ghost use Rattle.cps_edit.specs.Flagged.{flagged_lines};
 ghost use Rattle.cps_batch.specs.Passes.{AreGathered, AreKeptParts, AreParts, AreStatements, IsNext, IsPassed, IsShown, KeepsOn, PassesOn, ShowsOn, noted, statements_of};
 
 use cps_final::{Finals, Gather, Gathered, LineSymbols, Output};
 use cps_input::{LineText, part_at};
 use cps_list::{Mention, Part, Printout, push_mentions};
-use cps_pass::{Hashing, Item, Sheet, Work, step_unasked};
+use cps_pass::step_unasked;
+use cps_state::{Hashing, Item, Sheet, Work};
 use cps_text::limits::MOST_LINES;
 use std::alloc::{AllocError, Global};
 use std::mem::replace;

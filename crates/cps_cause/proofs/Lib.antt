@@ -1,1 +1,2 @@
 pub mod SentenceLemmas
+pub mod OpenerLemmas

@@ -3,7 +3,7 @@ use Rattle.std.proofs.Common.{◌≡◌, ℕ, ◌+◌, ◌<◌, true, false, not
 use Rattle.std.proofs.lemmas.Bool.{cond-true, cond-false, and_from}
 use Rattle.std.proofs.lemmas.List.{map_more}
 use Rattle.std.proofs.lemmas.List.Folds.{list_all-append}
-use Rattle.cps_card.specs.Shown.{has_no_control, is_control}
+use Rattle.cps_input.specs.Shown.{has_no_control, is_control}
 use Rattle.cps_cause.specs.Sentence.{cleaned, cleaned_byte}
 
 safe-byte : (byte : ℕ) (is : Bool) → is_control byte ≡ is → not (is_control (cleaned_byte byte)) ≡ true

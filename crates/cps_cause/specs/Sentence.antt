@@ -1,7 +1,7 @@
 -- Words that tell something: in one row, so that nothing which stands in a source begins another. Our own.
 use Prim.Native.Char.{code}
 use Rattle.std.specs.Prelude.{◌≡◌, ℕ, ◌<◌, true, List, length, map, if◌then◌else◌}
-use Rattle.cps_card.specs.Shown.{is_control, has_no_control}
+use Rattle.cps_input.specs.Shown.{is_control, has_no_control}
 
 -- a text with `?` in the place of each control character
 abbrev pub cleaned_byte : ℕ → ℕ

@@ -1,61 +1,117 @@
-//! Why a line is flagged, and how that is told.
+//! Why a line is flagged: the causes of its flags, found from its trace and the final values, where each shows, and the words that tell it.
 //!
+//! - `asks.rt`: what a line asked, as what answers it again
+//! - `calls.rt`: arguments of calls
+//! - `card.rt`: the fields of a statement, and where they stand
 //! - `cause.rt`: a cause of a flag, and its letter
+//! - `causes.rt`: the causes of a statement's flags
+//! - `characters.rt`: operands of DIS that can't be read
 //! - `columns.rt`: columns of a text
 //! - `cut_fault.rt`: T
 //! - `definition_fault.rt`: D
+//! - `demands.rt`: what a statement takes of the values of its operands
 //! - `diagnostic.rt`: a cause, and where it shows
+//! - `explaining.rt`: the causes of a line's flags
+//! - `expressions.rt`: whether a text is an expression, and why it is none
+//! - `findings.rt`: causes as they are found, statement by statement
+//! - `forms.rt`: operands of instructions that can't be read
+//! - `items.rt`: data items that can't be read
 //! - `letter.rt`: the letters of flags
 //! - `limit_fault.rt`: E, limits
 //! - `location_fault.rt`: L
+//! - `locations.rt`: location fields and operation fields
 //! - `misreading.rt`: why a text is no expression
 //! - `no_symbol.rt`: why a text is no symbol
+//! - `open_now.rt`: how much is open behind lines
+//! - `opener.rt`: which line opened what is open
 //! - `operand_fault.rt`: A, operands that can't be read
+//! - `operands.rt`: the operands of a statement, and where they stand
 //! - `operation_fault.rt`: O
 //! - `places.rt`: what other lines say, when the words of a cause are made
 //! - `quotation.rt`: what words quote of a statement
+//! - `showing.rt`: where in a line shows what is found in the statements that it opens
+//! - `statement.rt`: a flagged statement, as causes are looked for in it
+//! - `structure.rt`: where statements stand, and limits of what is open
 //! - `structure_fault.rt`: E, where statements stand
 //! - `symbol_fault.rt`: U
+//! - `symbols_now.rt`: what symbols stand for where a statement is read
+//! - `teller.rt`: causes as they are told, none of another letter than the line has
+//! - `unreadable.rt`: operands of the statement table that can't be read
 //! - `value_fault.rt`: A, values
+//! - `values_later.rt`: values under the final values
+//! - `values_now.rt`: values that a statement takes as it is read
+//! - `walk.rt`: the statements of a line once more, over what the line asked
 //! - `width_fault.rt`: V
 //! - `words.rt`: words that tell something, in one row
 #![tactic(auto)]
 
+mod asks;
+mod calls;
+mod card;
 mod cause;
+mod causes;
+mod characters;
 mod columns;
 mod cut_fault;
 mod definition_fault;
+mod demands;
 mod diagnostic;
+mod explaining;
+mod expressions;
+mod findings;
+mod forms;
+mod items;
 mod letter;
 mod limit_fault;
 mod location_fault;
+mod locations;
 mod misreading;
 mod no_symbol;
+mod open_now;
+mod opener;
 mod operand_fault;
+mod operands;
 mod operation_fault;
 mod places;
 mod quotation;
+mod showing;
+mod statement;
+mod structure;
 mod structure_fault;
 mod symbol_fault;
+mod symbols_now;
+mod teller;
+mod unreadable;
 mod value_fault;
+mod values_later;
+mod values_now;
+mod walk;
 mod width_fault;
 mod words;
 
+pub use card::{Card, filled_columns, filled_len};
 pub use cause::Cause;
 pub use columns::Columns;
 pub use cut_fault::CutFault;
 pub use definition_fault::DefinitionFault;
 pub use diagnostic::Diagnostic;
+pub use explaining::{explain, explain_end};
+pub use findings::{Findings, Subject};
+pub use forms::{find_central, find_peripheral};
 pub use letter::Letter;
 pub use limit_fault::{FarAddress, LimitFault};
 pub use location_fault::LocationFault;
 pub use misreading::Misreading;
+pub use opener::{LinesAbove, line_of_opener, opener_of};
 pub use operand_fault::OperandFault;
+pub use operands::{PlacedText, list_operands};
 pub use operation_fault::OperationFault;
 pub use places::Places;
 pub use quotation::Quotation;
+pub use statement::FlaggedStatement;
 pub use structure_fault::{OpenSpan, StructureFault};
 pub use symbol_fault::SymbolFault;
+pub use unreadable::{MANY, find_count, find_parameters, find_unreadable};
 pub use value_fault::{Bounds, ValueFault};
 pub use width_fault::WidthFault;
 pub use words::{Words, push_cleaned};

@@ -1,6 +1,6 @@
 //! Words that tell something, in one row.
 ghost use Rattle.std.specs.Prelude.{◌≡◌, ◌++◌, [], true, OnOk};
-ghost use Rattle.cps_card.specs.Shown.{has_no_control};
+ghost use Rattle.cps_input.specs.Shown.{has_no_control};
 ghost use Rattle.cps_cause.specs.Sentence.{cleaned, cleaned_byte};
 
 use itoa::Buffer;
@@ -15,7 +15,7 @@ pub struct Words {
 
 impl Model for Words {
     ghost use Rattle.std.specs.Prelude.{◌≡◌, ℕ, List, true};
-    ghost use Rattle.cps_card.specs.Shown.{has_no_control};
+    ghost use Rattle.cps_input.specs.Shown.{has_no_control};
 
     ghost Value = { List ℕ };
 

@@ -10,13 +10,13 @@ use Rattle.cps_final.specs.Finals.{finals_of, final_value}
 use Rattle.cps_final.specs.Outcome.{Outcome, flags_of, outcome_of}
 use Rattle.cps_cause.specs.declared.diagnostic.Diagnostic.{Diagnostic}
 use Rattle.cps_input.specs.Sources.{IsSource}
-use Rattle.cps_card.specs.Card.{card_of, cards_of}
-use Rattle.cps_card.proofs.CardLemmas.{card_of-line}
+use Rattle.cps_input.specs.Card.{card_of, cards_of}
+use Rattle.cps_input.proofs.CardLemmas.{card_of-line}
 use Rattle.cps_list.specs.Flagged.{count_if, flagged_in}
-use Rattle.cps_source.proofs.SpliceLemmas.{length-traces_from}
-use Rattle.cps_source.specs.Limits.{most_lines}
-use Rattle.cps_source.specs.Assembly.{ends_open, outcomes_of, traces_of}
-use Rattle.cps_source.specs.Flagged.{flagged_lines}
+use Rattle.cps_edit.proofs.SpliceLemmas.{length-traces_from}
+use Rattle.cps_edit.specs.Limits.{most_lines}
+use Rattle.cps_edit.specs.Assembly.{ends_open, outcomes_of, traces_of}
+use Rattle.cps_edit.specs.Flagged.{flagged_lines}
 use Rattle.cps_check.specs.Agreement.{Agrees}
 use Rattle.cps_check.specs.Reports.{Report, ReportsLine, ReportsLines, ReportsEnd, Reports, flag_report, has_errors}
 use Rattle.cps_check.proofs.ErrorLemmas.{no-flags, none-back, none-both, none-front, with-notes}

@@ -3,9 +3,9 @@ use Rattle.std.proofs.Common.{◌≡◌, ℕ, Bool, List, refl, subst}
 use Rattle.std.specs.Prelude.{Option, Result, Ok, Err}
 use Rattle.cps_text.specs.declared.counted.Counted.{Counted}
 use Rattle.cps_input.specs.Reads.{IsAllRead}
-use Rattle.cps_writing.specs.declared.writing.ListFault.{ListFault}
-use Rattle.cps_writing.specs.declared.writing.ListFault.TheVariants as lists
-use Rattle.cps_writing.specs.Writing.{Writes}
+use Rattle.cps_list.specs.declared.writing.ListFault.{ListFault}
+use Rattle.cps_list.specs.declared.writing.ListFault.TheVariants as lists
+use Rattle.cps_list.specs.Writing.{Writes}
 use Rattle.cps_check.specs.declared.fault.CheckFault.{CheckFault}
 use Rattle.cps_check.specs.declared.fault.CheckFault.TheVariants as faults
 use Rattle.cps_check.specs.Adding.{TellsBytes}

@@ -2,12 +2,12 @@
 use Rattle.std.proofs.Common.{◌≡◌, ℕ, ◌<◌, ◌≤◌, min, Bool, List, length, take, ap, ◌∙◌, arith, length-take}
 use Rattle.std.proofs.lemmas.List.{length-map}
 use Rattle.cps_text.specs.declared.limits.TheConstants.{MOST_LINES}
-use Rattle.cps_card.specs.Card.{card_of, cards_of}
+use Rattle.cps_input.specs.Card.{card_of, cards_of}
 use Rattle.cps_state.specs.Course.{Trace}
 use Rattle.cps_state.specs.Keys.{first_state}
 use Rattle.cps_final.specs.Finals.{Finals, finals_of, is_open_at_end}
-use Rattle.cps_source.proofs.SpliceLemmas.{length-traces_from}
-use Rattle.cps_source.specs.Assembly.{ends_open, traces_of}
+use Rattle.cps_edit.proofs.SpliceLemmas.{length-traces_from}
+use Rattle.cps_edit.specs.Assembly.{ends_open, traces_of}
 
 -- whether something is open is told by what was gathered
 pub end-open : (cards : List (List ℕ)) (traces : List Trace) (finals : Finals) (is : Bool) → traces ≡ traces_of cards → finals ≡ finals_of traces

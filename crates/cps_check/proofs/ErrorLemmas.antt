@@ -4,7 +4,7 @@ use Rattle.std.specs.Prelude.{◌||◌, not, nat_eq, if◌then◌else◌}
 use Rattle.std.proofs.lemmas.Bool.Decides.{nat_tests}
 use Rattle.std.proofs.lemmas.List.Folds.{list_any-append}
 use Rattle.cps_cause.specs.declared.diagnostic.Diagnostic.{Diagnostic}
-use Rattle.cps_card.specs.declared.fault.CharacterFault.{CharacterFault}
+use Rattle.cps_input.specs.declared.character_fault.CharacterFault.{CharacterFault}
 use Rattle.cps_check.specs.declared.notes.Note.{Note}
 use Rattle.cps_check.specs.Reports.{Report, excess_report, fault_report, flag_report, has_errors, is_error, note_report}
 use Rattle.cps_check.proofs.FlagLemmas.{true-false}

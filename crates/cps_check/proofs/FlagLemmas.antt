@@ -9,7 +9,7 @@ use Rattle.cps_cause.specs.declared.letter.Letter.{Letter}
 use Rattle.cps_cause.specs.declared.letter.Letter.TheVariants.{A, D, E, L, O, T, U, V}
 use Rattle.cps_cause.specs.declared.diagnostic.Diagnostic.{Diagnostic}
 use Rattle.cps_cause.specs.Letters.{has, letter_of, only}
-use Rattle.cps_explain.specs.Explaining.{flags_told}
+use Rattle.cps_cause.specs.Explaining.{flags_told}
 
 or_right : (a b : Bool) → b ≡ true → (a || b) ≡ true
 or_right true b is = refl

@@ -7,3 +7,5 @@ pub mod AgreementLemmas
 pub mod WholeLemmas
 pub mod EndLemmas
 pub mod ErrorLemmas
+pub mod Commas
+pub mod Zero

@@ -4,7 +4,7 @@ use Rattle.std.specs.Prelude.{nat_lt}
 use Rattle.std.proofs.lemmas.Bool.{cond-true, cond-false}
 use Rattle.std.proofs.lemmas.Bool.Decides.{nat_tests}
 use Rattle.std.proofs.lemmas.List.{take-append-drop}
-use Rattle.cps_source.specs.Limits.{most_lines}
+use Rattle.cps_edit.specs.Limits.{most_lines}
 use Rattle.cps_final.specs.Outcome.{Outcome}
 use Rattle.cps_check.specs.Adding.{excess_of}
 use Rattle.cps_check.specs.Reports.{Report, ReportsLine, ReportsLines, excess_report}

@@ -10,14 +10,14 @@ use Rattle.cps_state.specs.Course.{Trace}
 use Rattle.cps_final.specs.Finals.{Finals, final_value}
 use Rattle.cps_final.specs.Outcome.{Outcome, outcome_of}
 use Rattle.cps_cause.specs.declared.diagnostic.Diagnostic.{Diagnostic}
-use Rattle.cps_explain.specs.Explaining.{Explains}
-use Rattle.cps_card.specs.declared.fault.CharacterFault.{CharacterFault}
-use Rattle.cps_card.specs.Card.{card_of, cards_of}
-use Rattle.cps_card.specs.Faults.{AreFaults}
-use Rattle.cps_card.proofs.CardLemmas.{card_of-line}
+use Rattle.cps_cause.specs.Explaining.{Explains}
+use Rattle.cps_input.specs.declared.character_fault.CharacterFault.{CharacterFault}
+use Rattle.cps_input.specs.Card.{card_of, cards_of}
+use Rattle.cps_input.specs.Faults.{AreFaults}
+use Rattle.cps_input.proofs.CardLemmas.{card_of-line}
 use Rattle.cps_state.specs.Keys.{first_state}
-use Rattle.cps_source.proofs.SpliceLemmas.{length-traces_from}
-use Rattle.cps_source.specs.Assembly.{outcomes_under, traces_of}
+use Rattle.cps_edit.proofs.SpliceLemmas.{length-traces_from}
+use Rattle.cps_edit.specs.Assembly.{outcomes_under, traces_of}
 use Rattle.cps_check.specs.Adding.{Adds, AddsLine, AddsLines}
 use Rattle.cps_check.specs.declared.notes.Note.{Note}
 use Rattle.cps_check.specs.Reports.{ReportsLine, ReportsLines, flag_report, fault_report, note_report}

@@ -6,10 +6,10 @@ use Rattle.cps_state.specs.Keys.{first_state}
 use Rattle.cps_state.specs.Course.{Trace}
 use Rattle.cps_final.specs.Finals.{Finals, finals_of, final_value}
 use Rattle.cps_final.specs.Outcome.{Outcome, outcome_of}
-use Rattle.cps_card.specs.Card.{card_of, cards_of}
-use Rattle.cps_source.proofs.SpliceLemmas.{length-traces_from}
-use Rattle.cps_source.specs.Limits.{most_lines}
-use Rattle.cps_source.specs.Assembly.{ends_open, outcomes_of, outcomes_under, traces_of}
+use Rattle.cps_input.specs.Card.{card_of, cards_of}
+use Rattle.cps_edit.proofs.SpliceLemmas.{length-traces_from}
+use Rattle.cps_edit.specs.Limits.{most_lines}
+use Rattle.cps_edit.specs.Assembly.{ends_open, outcomes_of, outcomes_under, traces_of}
 use Rattle.cps_check.specs.Adding.{Adds, AddsLines, AddsEnd, TellsSource, excess_of}
 use Rattle.cps_check.specs.Reports.{ReportsEnd, ReportsLines, has_errors}
 use Rattle.cps_check.specs.Texts.{Tells}

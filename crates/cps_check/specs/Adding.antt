@@ -1,7 +1,7 @@
 -- For the code, not part of what a reader believes: a text to which more is added.
 use Rattle.std.specs.Prelude.{◌≡◌, ℕ, ◌+◌, Bool, nat_lt, List, [], ◌∷◌, ◌++◌, if◌then◌else◌}
-use Rattle.cps_source.specs.Assembly.{ends_open}
-use Rattle.cps_source.specs.Limits.{most_lines}
+use Rattle.cps_edit.specs.Assembly.{ends_open}
+use Rattle.cps_edit.specs.Limits.{most_lines}
 use Rattle.cps_final.specs.Outcome.{Outcome}
 use Rattle.cps_check.specs.Reports.{Report, ReportsLine, ReportsLines, ReportsEnd, Reports, excess_report, has_errors}
 use Rattle.cps_check.specs.Check.{IsCheckOf}

@@ -1,7 +1,7 @@
 -- A check says of a source what batch assembly says. Our own.
 use Rattle.std.specs.Prelude.{◌≡◌, ◌↔◌, ℕ, false, List}
 use Rattle.cps_input.specs.Sources.{IsSource}
-use Rattle.cps_source.specs.Flagged.{flagged_lines}
+use Rattle.cps_edit.specs.Flagged.{flagged_lines}
 use Rattle.cps_check.specs.Reports.{Report, Reports, has_errors}
 
 -- no error is told of lines exactly where a source may have them and none is flagged

@@ -3,8 +3,8 @@ use Rattle.std.specs.Prelude.{◌≡◌, ℕ, Bool, List, ◌++◌, Option, Resu
 use Rattle.std.specs.Io.KnownBytes.{Appends}
 use Rattle.cps_text.specs.declared.counted.Counted.{Counted}
 use Rattle.cps_text.specs.Counted.{inner_of, failures_of, FailsOnce}
-use Rattle.cps_input.specs.declared.fault.InputFault.{InputFault}
-use Rattle.cps_input.specs.declared.fault.InputFault.TheVariants as inputs
+use Rattle.cps_input.specs.declared.input_fault.InputFault.{InputFault}
+use Rattle.cps_input.specs.declared.input_fault.InputFault.TheVariants as inputs
 use Rattle.cps_input.specs.Lines.{HasText}
 use Rattle.cps_input.specs.Reads.{IsAllRead, IsCutShort}
 use Rattle.cps_check.specs.declared.fault.CheckFault.{CheckFault}

@@ -7,12 +7,12 @@ use Rattle.cps_cause.specs.declared.letter.Letter.TheVariants.{E}
 use Rattle.cps_cause.specs.declared.diagnostic.Diagnostic.{Diagnostic}
 use Rattle.cps_cause.specs.Letters.{letter_of}
 use Rattle.cps_cause.specs.Range.{IsRange}
-use Rattle.cps_explain.specs.Explaining.{Explains}
-use Rattle.cps_explain.specs.Opener.{IsOpener}
-use Rattle.cps_card.specs.declared.fault.CharacterFault.{CharacterFault}
-use Rattle.cps_card.specs.Card.{cards_of}
-use Rattle.cps_card.specs.Faults.{AreFaults}
-use Rattle.cps_source.specs.Assembly.{outcomes_of, ends_open, traces_of}
+use Rattle.cps_cause.specs.Explaining.{Explains}
+use Rattle.cps_cause.specs.Opener.{IsOpener}
+use Rattle.cps_input.specs.declared.character_fault.CharacterFault.{CharacterFault}
+use Rattle.cps_input.specs.Card.{cards_of}
+use Rattle.cps_input.specs.Faults.{AreFaults}
+use Rattle.cps_edit.specs.Assembly.{outcomes_of, ends_open, traces_of}
 use Rattle.cps_check.specs.declared.kind.Kind.{Kind}
 use Rattle.cps_check.specs.declared.kind.Kind.TheVariants as kinds
 use Rattle.cps_check.specs.declared.notes.Note.{Note}

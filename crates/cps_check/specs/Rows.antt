@@ -1,11 +1,11 @@
 -- The rows that show where in a line something is. Our own.
 use Prim.Native.Char.{code}
 use Rattle.std.specs.Prelude.{ℕ, ◌-◌, ◌==◌, nat_le, List, [], ◌∷◌, ◌++◌, length, take, codes, decimal, replicate, if◌then◌else◌}
-use Rattle.cps_listing.specs.Columns.{at_right, blanks}
+use Rattle.cps_list.specs.Columns.{at_right, blanks}
 use Rattle.cps_cause.specs.declared.diagnostic.Diagnostic.{Diagnostic}
 use Rattle.cps_cause.specs.Sentence.{cleaned}
-use Rattle.cps_card.specs.declared.fault.CharacterFault.{CharacterFault}
-use Rattle.cps_card.specs.Shown.{shown, shown_width}
+use Rattle.cps_input.specs.declared.character_fault.CharacterFault.{CharacterFault}
+use Rattle.cps_input.specs.Shown.{shown, shown_width}
 use Rattle.cps_check.specs.declared.limits.TheConstants.{MOST_SHOWN}
 use Rattle.cps_check.specs.declared.notes.Note.{Note}
 

@@ -6,10 +6,10 @@ ghost use Rattle.cps_check.specs.Check.{Checks, RunsCheck};
 use crate::fault::CheckFault;
 use crate::telling::tell_bytes;
 use cps_input::read_bytes;
-use cps_pass::Hashing;
+use cps_list::write_text;
+use cps_state::Hashing;
 use cps_text::Counted;
 use cps_text::limits::MOST_READS;
-use cps_writing::write_text;
 use std::alloc::Global;
 use std::io::{Read, Write};
 

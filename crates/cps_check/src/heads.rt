@@ -4,7 +4,7 @@ ghost use Rattle.cps_check.specs.Texts as texts;
 
 use crate::kind::Kind;
 use cps_cause::Letter;
-use cps_listing::push_decimal;
+use cps_list::push_decimal;
 use cps_state::Flags;
 use std::alloc::AllocError;
 

@@ -1,7 +1,6 @@
 //! In which lines stands what words speak of.
 
-use cps_cause::Places;
-use cps_explain::line_of_opener;
+use cps_cause::{Places, line_of_opener};
 use cps_final::LineSymbols;
 use cps_state::{Hashing, Key, Phase, Put, Trace, control_of};
 use cps_text::Name;

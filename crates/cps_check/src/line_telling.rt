@@ -2,20 +2,17 @@
 ghost use Rattle.std.specs.Prelude.{◌≡◌, ◌≤◌, length, map, take, IfOk};
 ghost use Rattle.cps_final.specs.Finals.{final_value, finals_of};
 ghost use Rattle.cps_final.specs.Outcome.{outcome_of};
-ghost use Rattle.cps_card.specs.Card.{card_of, cards_of};
-ghost use Rattle.cps_source.specs.Assembly.{outcomes_under, traces_of};
+ghost use Rattle.cps_input.specs.Card.{card_of, cards_of};
+ghost use Rattle.cps_edit.specs.Assembly.{outcomes_under, traces_of};
 ghost use Rattle.cps_check.specs.Adding.{AddsLine, AddsLines, AddsEnd};
 
 use crate::known_places::KnownPlaces;
 use crate::notes::find_notes;
 use crate::told_line::ToldLine;
-use cps_card::faults_of;
-use cps_cause::Diagnostic;
-use cps_explain::{LinesAbove, explain, explain_end, opener_of};
+use cps_cause::{Card, Diagnostic, LinesAbove, explain, explain_end, opener_of};
 use cps_final::{Finals, Gathered};
-use cps_finding::Card;
-use cps_pass::Trace;
-use cps_state::Shared;
+use cps_input::faults_of;
+use cps_state::{Shared, Trace};
 use cps_text::Line;
 use cps_text::limits::MOST_LINES;
 use std::alloc::{AllocError, Global};

@@ -4,9 +4,8 @@ ghost use Rattle.cps_cause.specs.Sentence.{IsSentence};
 
 use crate::known_places::KnownPlaces;
 use crate::line_telling::CheckedLine;
-use cps_cause::{Columns, Words};
+use cps_cause::{Card, Columns, Words, filled_len};
 use cps_expr::Operation;
-use cps_finding::{Card, filled_len};
 use cps_state::{Answer, Asked, Key, Phase, macro_of};
 use cps_text::{Fields, Name, capital};
 use std::alloc::{AllocError, Global};

@@ -3,7 +3,7 @@ ghost use Rattle.std.specs.Prelude.{◌≡◌, ◌++◌, OnOk, replicate};
 ghost use Rattle.cps_check.specs.Rows as rows;
 
 use cps_cause::push_cleaned;
-use cps_listing::push_decimal;
+use cps_list::push_decimal;
 use itoa::Buffer;
 use std::alloc::AllocError;
 

@@ -4,9 +4,9 @@ ghost use Rattle.cps_check.specs.Adding.{TellsSource, TellsBytes};
 
 use crate::line_telling::LineTelling;
 use crate::told_line::push_excess;
-use cps_card::{cut_lines, make_cards};
-use cps_pass::Hashing;
-use cps_source::PassOne;
+use cps_batch::PassOne;
+use cps_input::{cut_lines, make_cards};
+use cps_state::Hashing;
 use cps_text::limits::MOST_LINES;
 use std::alloc::{AllocError, Global};
 

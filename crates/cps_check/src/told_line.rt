@@ -10,8 +10,8 @@ use crate::kind::Kind;
 use crate::limits::MOST_SHOWN;
 use crate::notes::Note;
 use crate::rows::{push_caret_row, push_line_row, push_statement_row};
-use cps_card::{CharacterFault, push_shown, shown_width};
 use cps_cause::{Diagnostic, Places, Words};
+use cps_input::{CharacterFault, push_shown, shown_width};
 use cps_text::limits::MOST_LINES;
 use std::alloc::{AllocError, Global};
 

@@ -21,11 +21,11 @@ use Rattle.cps_state.specs.Made.{content_names}
 use Rattle.cps_state.proofs.KnownLemmas.{same_key-true}
 use Rattle.cps_final.specs.Distinct.{distinct}
 use Rattle.cps_final.specs.Layout.{puts_of}
-use Rattle.cps_final.specs.Names.{later_names}
+use Rattle.cps_final.specs.LineNames.{later_names}
 use Rattle.cps_final.specs.Outcome.{labels_read}
-use Rattle.cps_holding.specs.Names.{statements_of, names_in}
-use Rattle.cps_holding.proofs.NamingLemmas.{flat-all}
-use Rattle.cps_holding.proofs.NamesLemmas.{flat-flat}
+use Rattle.cps_final.specs.Names.{statements_of, names_in}
+use Rattle.cps_final.proofs.NamingLemmas.{flat-all}
+use Rattle.cps_final.proofs.NamesLemmas.{flat-flat}
 use Rattle.cps_chunk.specs.declared.marks.Marks.{Marks}
 use Rattle.cps_chunk.specs.Marks.{mark_of, has, AreMarked, asks_at, names_at, keys_put, keys_asked, keys_named}
 

@@ -13,7 +13,7 @@ use Rattle.cps_state.specs.Course.{Trace, last_put}
 use Rattle.cps_state.specs.Keys.{State, same_key, first_state, overwritten}
 use Rattle.cps_state.proofs.KnownLemmas.{same_key_is, last_put-push}
 use Rattle.cps_final.specs.Layout.{puts_of}
-use Rattle.cps_holding.proofs.PutLemmas.{overwritten-last}
+use Rattle.cps_final.proofs.PutLemmas.{overwritten-last}
 use Rattle.cps_chunk.specs.declared.chunk.Chunk.{Chunk}
 use Rattle.cps_chunk.specs.declared.past.Past.{Past}
 use Rattle.cps_chunk.specs.Marks.{mark_of, has}

@@ -2,8 +2,8 @@
 use Rattle.std.specs.Prelude.{◌≡◌, ℕ, ◌≤◌, List, [], ◌∷◌, length, take, drop, map, None, IfSome}
 use Rattle.cps_state.specs.declared.hashing.Hashing.{Hashing}
 use Rattle.cps_state.specs.Course.{Trace}
-use Rattle.cps_holding.specs.RunGathering.{kept_run}
-use Rattle.cps_holding.specs.Names.{names_in}
+use Rattle.cps_final.specs.RunGathering.{kept_run}
+use Rattle.cps_final.specs.Names.{names_in}
 use Rattle.cps_chunk.specs.declared.chunk.Chunk.{Chunk}
 use Rattle.cps_chunk.specs.Marks.{AreMarked, HasAll, keys_put, keys_asked, keys_named}
 

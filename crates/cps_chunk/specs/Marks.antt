@@ -8,7 +8,7 @@ use Rattle.cps_state.specs.declared.key.Key.{Key}
 use Rattle.cps_state.specs.declared.key.Key.TheVariants as key
 use Rattle.cps_state.specs.contracts.key.KeyHash.TheImpl.{hash_input-value}
 use Rattle.cps_state.specs.Course.{Trace}
-use Rattle.cps_final.specs.Names.{later_names}
+use Rattle.cps_final.specs.LineNames.{later_names}
 use Rattle.cps_chunk.specs.declared.marks.Marks.{Marks}
 
 -- the number of a key's mark: the first 11 bits of its hash

@@ -4,7 +4,7 @@ ghost use Rattle.cps_state.specs.Course.{Trace as Did};
 ghost use Rattle.cps_chunk.specs.Chunk.{IsChunkOf, WasMarked};
 
 use crate::marks::Marks;
-use cps_holding::{Names, Run};
+use cps_final::{Names, Run};
 use cps_state::{Hashing, Trace};
 use std::alloc::{AllocError, Global};
 

@@ -2,10 +2,9 @@
 use Rattle.std.proofs.Common.{◌≡◌, ◌≢◌, ℕ, ◌+◌, ◌-◌, ◌<◌, ◌≤◌, ◌^◌, Bool, cond, ◌&&◌, ◌||◌, ltb, leb, List, Option, None, Some, is_some, unwrap_or, length, set, ap, ◌∙◌, arith, ⊎_elim, get_or-set_same, get_or-set_other}
 use Rattle.std.proofs.lemmas.Bool.{cases_eq}
 use Rattle.std.proofs.lemmas.Bool.Decides.{nat_tests}
-use Rattle.cps_code.specs.Image.{Piece}
-use Rattle.cps_place.specs.Bits.{bit_from_left}
+use Rattle.cps_code.specs.Image.{Piece, word_at, bit_at_place, covers_word, covers_bit, Deposits}
+use Rattle.cps_code.specs.Bits.{bit_from_left}
 use Rattle.cps_code.specs.Slots.{AreWords}
-use Rattle.cps_code.specs.Image.{word_at, bit_at_place, covers_word, covers_bit, Deposits}
 
 abbrev is_reached : Piece → ℕ → ℕ → Bool
 is_reached piece end address = leb piece.address address && ltb address end

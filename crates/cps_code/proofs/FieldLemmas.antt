@@ -6,14 +6,14 @@ use Prim.Native.Char.{code}
 use Rattle.std.specs.Prelude.{map, is_some, option_map, option_and_then}
 use Rattle.cps_expr.specs.declared.radix.Radix.{Radix}
 use Rattle.cps_text.specs.Operands.{operands_of}
-use Rattle.cps_table.specs.declared.digits.Digits.{Digits}
-use Rattle.cps_table.specs.declared.operation.FieldForm.{FieldForm}
-use Rattle.cps_table.specs.declared.operation.FieldForm.TheVariants as field
+use Rattle.cps_code.specs.declared.digits.Digits.{Digits}
+use Rattle.cps_code.specs.declared.operation.FieldForm.{FieldForm}
+use Rattle.cps_code.specs.declared.operation.FieldForm.TheVariants as field
 use Rattle.cps_code.specs.Form.{Form}
 use Rattle.cps_code.specs.RowForms.{Found, turned, registers_in, found_behind, found_in_fields, operands_in, form_in_row, form_in, form_of_rows}
 use Rattle.cps_code.specs.Sum.{Summed}
-use Rattle.cps_code.specs.Operations.{no_sum, with_none_left, registers_alone, constant_in}
-use Rattle.cps_table.specs.Operations.{row_of_fields}
+use Rattle.cps_code.specs.FoundForms.{no_sum, with_none_left, registers_alone, constant_in}
+use Rattle.cps_code.specs.Operations.{row_of_fields}
 use Rattle.cps_code.specs.declared.fields.Found as kept
 use Rattle.cps_code.specs.declared.hole.Operand.{Operand}
 use Rattle.cps_expr.specs.declared.machine.Machine.TheVariants.{Cp}

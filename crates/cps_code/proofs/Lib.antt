@@ -1,3 +1,9 @@
+pub mod NumberLemmas
+pub mod FillingLemmas
+pub mod LeastLemmas
+pub mod BothTrue
+pub mod DigitsLemmas
+pub mod NameLemmas
 pub mod BitLemmas
 pub mod DepositLemmas
 pub mod PackedLemmas
@@ -9,3 +15,7 @@ pub mod FieldLemmas
 pub mod WorkedRows
 pub mod PairLemmas
 pub mod OneRow
+pub mod RowLemmas
+pub mod ReadLemmas
+pub mod PeripheralWorkedRows
+pub mod PeripheralOneRow

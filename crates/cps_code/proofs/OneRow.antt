@@ -8,20 +8,20 @@ use Rattle.std.specs.Prelude.{◌==◌, codes, option_map, option_and_then, is_s
 use Rattle.std.specs.List.{list_all, AllZip}
 use Rattle.cps_text.specs.Text.{among, capital, is_digit}
 use Rattle.cps_expr.specs.declared.radix.Radix.{Radix}
-use Rattle.cps_table.specs.declared.digits.Digits.{Digits}
-use Rattle.cps_table.specs.declared.register.Letter.{Letter}
-use Rattle.cps_table.specs.declared.register.Letter.TheVariants.{A, B, X}
-use Rattle.cps_table.specs.declared.register.RegisterTerm.{RegisterTerm}
-use Rattle.cps_table.specs.Digits.{with_digit, with_character, digits_in}
+use Rattle.cps_code.specs.declared.digits.Digits.{Digits}
+use Rattle.cps_code.specs.declared.register.Letter.{Letter}
+use Rattle.cps_code.specs.declared.register.Letter.TheVariants.{A, B, X}
+use Rattle.cps_code.specs.declared.register.RegisterTerm.{RegisterTerm}
+use Rattle.cps_code.specs.Digits.{with_digit, with_character, digits_in}
 use Rattle.cps_code.specs.OneRow.{Fits, Names, OneRowFits, OneIsNamed, RowsStandTogether}
-use Rattle.cps_table.specs.Register.{digit_value}
-use Rattle.cps_table.specs.Rows.{Pattern, RowTerm, Shape, unread, fields, summed, RowForm, Operation}
+use Rattle.cps_code.specs.Register.{digit_value}
+use Rattle.cps_code.specs.Rows.{Pattern, RowTerm, Shape, unread, fields, summed, RowForm, Operation}
 use Rattle.cps_code.specs.RowForms.{Found, Operands, turned_sum, turned, registers_in, found_behind, found_in_fields, same_bool, same_letter, is_of, digits_of_terms, is_constant, only_for, found_in_sum, found_in, form_found}
 use Rattle.cps_code.specs.declared.hole.Operand.{Operand}
 use Rattle.cps_code.specs.Sum.{Summed}
-use Rattle.cps_table.specs.Table.{cp_operations}
+use Rattle.cps_code.specs.Table.{cp_operations}
 use Rattle.cps_code.proofs.PairLemmas.{no_clash, pairs_apart}
-use Rattle.cps_table.proofs.BothTrue.{left_true, right_true}
+use Rattle.cps_code.proofs.BothTrue.{left_true, right_true}
 
 -- ---- what is found
 

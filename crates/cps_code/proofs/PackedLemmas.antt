@@ -5,11 +5,10 @@ use Rattle.std.specs.Option.{option_map_or}
 use Rattle.std.proofs.lemmas.List.{reverse-append}
 use Rattle.std.proofs.lemmas.List.Folds.{list_any-append}
 use Rattle.std.proofs.lemmas.Nat.Bits.{bit_at-zero}
-use Rattle.cps_code.specs.Image.{Piece}
-use Rattle.cps_place.specs.Bits.{bit_from_left, number_of_bits}
+use Rattle.cps_code.specs.Image.{Piece, word_at, covers_word, covers_bit, packed_bit, packed_word, Deposits, ArePacked}
+use Rattle.cps_code.specs.Bits.{bit_from_left, number_of_bits}
 use Rattle.cps_code.specs.Slots.{AreWords}
-use Rattle.cps_place.proofs.NumberLemmas.{number_of_bits-same, number_of_bits-whole}
-use Rattle.cps_code.specs.Image.{word_at, covers_word, covers_bit, packed_bit, packed_word, Deposits, ArePacked}
+use Rattle.cps_code.proofs.NumberLemmas.{number_of_bits-same, number_of_bits-whole}
 
 word_of : (stands : Option ℕ) (test : Bool) (bit : ℕ → ℕ) → IfSome stands (λ word. word < 2 ^ 60) → is_some stands ≡ test
     → ((at : ℕ) → at < 60 → bit_from_left 60 (unwrap_or stands 0) at ≡ bit at) → stands ≡ cond test (Some (number_of_bits bit 60)) None

@@ -3,7 +3,7 @@ use Rattle.std.proofs.Common.{◌≡◌, Bool, true, false, not, ◌&&◌, List,
 use Rattle.std.proofs.lemmas.List.Kept.{AllPairs-cons}
 use Rattle.std.proofs.lemmas.List.Sums.{AllPass-from_list_all}
 use Rattle.std.specs.List.{list_all}
-use Rattle.cps_table.proofs.BothTrue.{left_true, right_true}
+use Rattle.cps_code.proofs.BothTrue.{left_true, right_true}
 
 module _ {T : Type 0} (clash : T → T → Bool) where
   -- no element clashes with a later one

@@ -7,17 +7,17 @@ use Rattle.std.specs.Prelude.{All, option_map, is_some}
 use Rattle.std.specs.List.{list_all}
 use Rattle.cps_code.specs.declared.sum.Registers.{Registers}
 use Rattle.cps_code.specs.declared.sum.Registers.TheVariants.{Absent, One, Two}
-use Rattle.cps_table.specs.declared.register.RegisterTerm.{RegisterTerm}
+use Rattle.cps_code.specs.declared.register.RegisterTerm.{RegisterTerm}
 use Rattle.cps_code.specs.declared.forms.SumForms.{SumForms}
 use Rattle.cps_code.specs.declared.forms.SumForms.TheVariants.{Set, Jump}
-use Rattle.cps_code.specs.Operations.{sum_rows, sum_form}
+use Rattle.cps_code.specs.FoundForms.{sum_rows, sum_form}
 use Rattle.cps_code.specs.Sum.{Summed}
 use Rattle.cps_code.specs.Terms.{IsRegister, AreRegisters, register_list}
 use Rattle.cps_expr.specs.declared.radix.Radix.{Radix}
-use Rattle.cps_table.specs.declared.digits.Digits.{Digits}
-use Rattle.cps_table.specs.Digits.{with_digit}
-use Rattle.cps_table.proofs.BothTrue.{left_true, right_true}
-use Rattle.cps_table.specs.Rows.{Shape, unread, fields, summed, RowForm, RowTerm}
+use Rattle.cps_code.specs.declared.digits.Digits.{Digits}
+use Rattle.cps_code.specs.Digits.{with_digit}
+use Rattle.cps_code.proofs.BothTrue.{left_true, right_true}
+use Rattle.cps_code.specs.Rows.{Shape, unread, fields, summed, RowForm, RowTerm}
 use Rattle.cps_code.specs.RowForms.{Operands, turned_sum, is_of, same_bool, digits_of_terms, form_found, found_in, form_in, form_of_rows}
 
 pub registers_kept : (registers : Registers) (list : List RegisterTerm) → register_list registers ≡ list → All IsRegister list → AreRegisters registers

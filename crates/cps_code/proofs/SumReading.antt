@@ -3,12 +3,12 @@ use Rattle.std.proofs.Common.{◌≡◌, ℕ, zero, suc, ◌<◌, ◌≤◌, Boo
 use Rattle.std.specs.Prelude.{option_map, option_and_then, is_some, IfSome, IsSomeAnd, MatchBool}
 use Rattle.std.proofs.lemmas.Bool.Decides.{nat_tests}
 use Rattle.cps_expr.specs.declared.radix.Radix.{Radix}
-use Rattle.cps_table.specs.declared.register.RegisterTerm.{RegisterTerm}
+use Rattle.cps_code.specs.declared.register.RegisterTerm.{RegisterTerm}
 use Rattle.cps_code.specs.Sum.{SumTerm, register, other, Sum, no_terms, with_term, register_or_other, term_with, sum_of_texts, sum_of}
 use Rattle.cps_expr.specs.Expression.{is_sign, is_minus, onto_first, cut_at_signs, with_first_sign}
 use Rattle.cps_expr.specs.Term.{Term, term_of}
 use Rattle.cps_code.specs.declared.sum.Registers.{Registers}
-use Rattle.cps_table.specs.Register.{register_of}
+use Rattle.cps_code.specs.Register.{register_of}
 use Rattle.cps_expr.specs.TermsLeft.{sign_of}
 use Rattle.cps_expr.proofs.TermsReading.{later_texts, IsSignAt, cut-at}
 use Rattle.cps_code.specs.Terms.{pushed, is_some_list, IsKept}

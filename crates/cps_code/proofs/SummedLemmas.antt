@@ -6,7 +6,7 @@ use Rattle.cps_expr.specs.Term.{Term}
 use Rattle.cps_code.specs.declared.forms.FormFault.{FormFault}
 use Rattle.cps_code.specs.declared.hole.Operand.{Operand}
 use Rattle.cps_code.specs.declared.hole.Operand.TheVariants.{Literal}
-use Rattle.cps_table.specs.declared.register.RegisterTerm.{RegisterTerm}
+use Rattle.cps_code.specs.declared.register.RegisterTerm.{RegisterTerm}
 use Rattle.cps_code.specs.declared.sum.KeptSum.{KeptSum}
 use Rattle.cps_code.specs.declared.sum.Registers.TheVariants.{Absent}
 use Rattle.cps_code.specs.declared.summed.KeptSummed.{KeptSummed}

@@ -13,7 +13,7 @@ use Rattle.cps_code.specs.declared.hole.Operand.{Operand}
 use Rattle.cps_code.specs.declared.hole.Operand.TheVariants as operand
 use Rattle.cps_code.specs.Form.{filled}
 use Rattle.cps_code.specs.Operand.{operand_literals}
-use Rattle.cps_table.specs.Table.{cp_operations}
+use Rattle.cps_code.specs.Table.{cp_operations}
 use Rattle.cps_code.specs.RowForms.{form_of}
 
 -- the number of an expression where no name is defined and `*` is 3; that of a literal as if its address were 0

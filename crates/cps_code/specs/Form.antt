@@ -2,7 +2,7 @@
 -- From the machines' reference manuals (the formats of 15 and 30 bits, and of 12 and 24) and the manual's rule for values; what doesn't fit is our profile's.
 use Rattle.std.specs.Prelude.{◌≡◌, ◌⊎◌, ℕ, ◌+◌, ◌-◌, ◌*◌, ◌%◌, ◌^◌, ◌<◌, ◌≤◌, Bool, true, false, ◌||◌, not, nat_lt, ◌&&◌, List, [], ◌∷◌, length, All, ℤ, pos, negsuc, if◌then◌else◌}
 use Rattle.cps_expr.specs.declared.machine.Machine.TheVariants.{Cp}
-use Rattle.cps_place.specs.Bits.{word_bits, parcel_bits}
+use Rattle.cps_code.specs.Bits.{word_bits, parcel_bits}
 use Rattle.cps_code.specs.Operand.{IsOperand}
 use Rattle.cps_code.specs.declared.hole.Hole.{Hole}
 use Rattle.cps_code.specs.declared.hole.HoleKind.{HoleKind}

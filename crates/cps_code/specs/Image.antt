@@ -3,7 +3,7 @@
 use Rattle.std.specs.Prelude.{◌≡◌, ℕ, ◌+◌, ◌-◌, ◌<◌, Bool, ◌&&◌, ◌||◌, nat_le, nat_lt, List, reverse, find, Option, None, Some, if◌then◌else◌, is_some, slice_index_or, unwrap_or}
 use Rattle.std.specs.List.{list_any}
 use Rattle.std.specs.Option.{option_map_or}
-use Rattle.cps_place.specs.Bits.{word_bits, bit_from_left, number_of_bits}
+use Rattle.cps_code.specs.Bits.{word_bits, bit_from_left, number_of_bits}
 use Rattle.cps_code.specs.declared.piece.Piece as code
 
 -- `width` bits of a number, from bit `first` of a word on, the same in `times` words from an address on

@@ -1,11 +1,11 @@
 -- A law of the table: for any statement at most one of its rows fits. So the first row that fits is the only one; where it fits in both orders of its registers, they count as they are written.
 use Rattle.std.specs.Prelude.{◌≢◌, ◌⊎◌, ℕ, List, All, AllPairs, IsSome}
 use Rattle.cps_expr.specs.declared.radix.Radix.{Radix}
-use Rattle.cps_table.specs.declared.digits.Digits.{Digits}
-use Rattle.cps_table.specs.Digits.{first_digit, digits_in}
-use Rattle.cps_table.specs.Rows.{RowForm, Operation}
+use Rattle.cps_code.specs.declared.digits.Digits.{Digits}
+use Rattle.cps_code.specs.Digits.{first_digit, digits_in}
+use Rattle.cps_code.specs.Rows.{RowForm, Operation}
 use Rattle.cps_code.specs.RowForms.{Operands, turned, form_in_row}
-use Rattle.cps_table.specs.Table.{cp_operations}
+use Rattle.cps_code.specs.Table.{cp_operations}
 
 -- of two elements at different places, one at most is such
 abbrev pub AtMostOne : {T : Type 0} → (T → Type 0) → List T → Type 0

@@ -6,19 +6,19 @@ use Rattle.cps_expr.specs.declared.radix.Radix.{Radix}
 use Rattle.cps_expr.specs.declared.machine.Machine.TheVariants.{Cp}
 use Rattle.cps_expr.specs.Expression.{expression_of}
 use Rattle.cps_expr.specs.OperandList.{only_one}
-use Rattle.cps_table.specs.declared.digits.Digits.{Digits}
+use Rattle.cps_code.specs.declared.digits.Digits.{Digits}
 use Rattle.cps_code.specs.declared.hole.Hole.{Hole}
 use Rattle.cps_code.specs.declared.hole.HoleKind.TheVariants.{Value, Count}
 use Rattle.cps_code.specs.declared.hole.Operand.{Operand}
 use Rattle.cps_code.specs.declared.hole.Operand.TheVariants.{Expression}
-use Rattle.cps_table.specs.declared.register.Letter.{Letter}
-use Rattle.cps_table.specs.declared.register.Letter.TheVariants.{A, B, X}
-use Rattle.cps_table.specs.declared.register.RegisterTerm.{RegisterTerm}
+use Rattle.cps_code.specs.declared.register.Letter.{Letter}
+use Rattle.cps_code.specs.declared.register.Letter.TheVariants.{A, B, X}
+use Rattle.cps_code.specs.declared.register.RegisterTerm.{RegisterTerm}
 use Rattle.cps_text.specs.Operands.{operands_of}
-use Rattle.cps_place.specs.Bits.{constant_bits, count_bits}
-use Rattle.cps_table.specs.Digits.{with_digit, digits_in, octal}
-use Rattle.cps_table.specs.Rows.{Pattern, RowTerm, Shape, unread, fields, summed, RowForm}
-use Rattle.cps_table.specs.Table.{instruction_named}
+use Rattle.cps_code.specs.Bits.{constant_bits, count_bits}
+use Rattle.cps_code.specs.Digits.{with_digit, digits_in, octal}
+use Rattle.cps_code.specs.Rows.{Pattern, RowTerm, Shape, unread, fields, summed, RowForm}
+use Rattle.cps_code.specs.Table.{instruction_named}
 use Rattle.cps_code.specs.Operand.{operand_of}
 use Rattle.cps_code.specs.Sum.{Summed, summed_of}
 use Rattle.cps_code.specs.Form.{Form}

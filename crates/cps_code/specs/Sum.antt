@@ -3,14 +3,14 @@
 use Rattle.std.specs.Prelude.{ℕ, Bool, List, [], ◌∷◌, Option, None, Some, option_map, option_and_then}
 use Rattle.std.specs.Option.{option_or}
 use Rattle.cps_expr.specs.declared.radix.Radix.{Radix}
-use Rattle.cps_table.specs.declared.register.RegisterTerm.{RegisterTerm}
+use Rattle.cps_code.specs.declared.register.RegisterTerm.{RegisterTerm}
 use Rattle.cps_expr.specs.Expression.{is_minus, signed_texts}
 use Rattle.cps_expr.specs.Term.{Term, term_of}
 use Rattle.cps_expr.specs.declared.machine.Machine.TheVariants.{Cp}
 use Rattle.cps_code.specs.declared.hole.Operand.{Operand}
 use Rattle.cps_code.specs.declared.hole.Operand.TheVariants.{Expression, Literal}
 use Rattle.cps_code.specs.Operand.{literal_of}
-use Rattle.cps_table.specs.Register.{register_of}
+use Rattle.cps_code.specs.Register.{register_of}
 
 -- ---- terms
 

@@ -1,6 +1,6 @@
 -- For the loop over the terms of a sum, not part of what a reader believes: sums of the code, as sums.
 use Rattle.std.specs.Prelude.{◌≡◌, ◌<◌, Bool, true, false, List, [], ◌∷◌, ◌++◌, All, Some, is_some, IfSome}
-use Rattle.cps_table.specs.declared.register.RegisterTerm.{RegisterTerm}
+use Rattle.cps_code.specs.declared.register.RegisterTerm.{RegisterTerm}
 use Rattle.cps_code.specs.declared.sum.Registers.{Registers}
 use Rattle.cps_code.specs.declared.sum.Registers.TheVariants.{Absent, One, Two}
 use Rattle.cps_code.specs.declared.sum.KeptSum.{KeptSum}

@@ -3,17 +3,18 @@ ghost use Rattle.cps_expr.specs.Reads.{Reads};
 ghost use Rattle.cps_text.specs.Operands.{operands_of};
 ghost use Rattle.cps_text.specs.OperandsLeft.{operands_left};
 ghost use Rattle.cps_code.specs.RowForms.{registers_in, form_in_row, form_of_rows, operands_in};
-ghost use Rattle.cps_table.specs.Operations.{texts, row_of_fields};
-ghost use Rattle.cps_code.specs.Operations.{no_sum, registers_alone, constant_in};
-ghost use Rattle.cps_table.specs.Digits.{AreDigits};
+ghost use Rattle.cps_code.specs.Operations.{texts, row_of_fields};
+ghost use Rattle.cps_code.specs.FoundForms.{no_sum, registers_alone, constant_in};
+ghost use Rattle.cps_code.specs.Digits.{AreDigits};
 ghost use Rattle.cps_code.specs.Operand.{IsOperand};
 ghost use Rattle.cps_expr.specs.declared.machine.Machine.TheVariants.{Cp};
 
 use super::form::CpForm;
 use super::hole::Operand;
 use super::literal::read_operand;
+use crate::digits::{Digits, octal, read_digits};
+use crate::operation::FieldForm;
 use cps_expr::{ExprFault, Machine, Radix, read_only};
-use cps_table::{Digits, FieldForm, octal, read_digits};
 use cps_text::{Operands, operands};
 use std::alloc::Global;
 

@@ -1,10 +1,10 @@
 ghost use Rattle.std.specs.Prelude.{◌≡◌, ◌<◌, ◌≤◌, ◌^◌, ◌+◌, ◌-◌, ◌*◌, ◌||◌, length, All};
-ghost use Rattle.cps_place.specs.Bits.{word_bits, parcel_bits};
+ghost use Rattle.cps_code.specs.Bits.{word_bits, parcel_bits};
 ghost use Rattle.cps_code.specs.Form.{IsHole, fits_width, complemented, put_value, put_in, put_values, is_cut, is_cut_in, is_out, is_out_in, room_of};
 
 use super::filled::Filled;
 use super::hole::{Hole, HoleKind};
-use cps_place::WORD;
+use crate::widths::WORD;
 
 /// All ones in the bits of a word.
 const ALL_ONES: u64 = (1 << WORD) - 1;

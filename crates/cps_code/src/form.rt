@@ -1,15 +1,15 @@
 ghost use Rattle.std.specs.Prelude.{◌≡◌, ◌<◌, ◌^◌, ◌≤◌, length};
-ghost use Rattle.cps_place.specs.Bits.{parcel_bits};
+ghost use Rattle.cps_code.specs.Bits.{parcel_bits};
 ghost use Rattle.cps_code.specs.Form.{IsForm, filled};
 ghost use Rattle.cps_code.specs.Operand.{IsOperand};
 ghost use Rattle.cps_expr.specs.declared.machine.Machine.TheVariants.{Cp};
-ghost use Rattle.cps_code.specs.Operations.{short_form, long_form, bare_form, count_form};
+ghost use Rattle.cps_code.specs.FoundForms.{short_form, long_form, bare_form, count_form};
 
 use super::filled::Filled;
 use super::filling_holes::fill_holes;
 use super::hole::{Hole, HoleKind, Operand};
+use crate::widths::{CONSTANT, COUNT, PARCEL};
 use cps_expr::Expr;
-use cps_place::{CONSTANT, COUNT, PARCEL};
 use std::marker::Model;
 
 /// The form of a statement of the central processor: a code of 15 or 30 bits with holes.

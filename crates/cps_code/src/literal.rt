@@ -5,8 +5,8 @@ ghost use Rattle.cps_expr.specs.Reads.{Reads};
 ghost use Rattle.cps_code.specs.Operand.{IsOperand, literal_of, operand_of, whole_item};
 
 use super::hole::Operand;
+use crate::digits::first_and_rest;
 use cps_expr::{ExprFault, Machine, Radix, read_expression, read_item};
-use cps_table::first_and_rest;
 use std::alloc::Global;
 
 /// A text as an operand of an instruction: a literal of the machine, or an expression.

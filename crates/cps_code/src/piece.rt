@@ -1,5 +1,5 @@
 ghost use Rattle.std.specs.Prelude.{◌+◌, ◌^◌, ◌<◌, ◌≤◌};
-ghost use Rattle.cps_place.specs.Bits.{word_bits};
+ghost use Rattle.cps_code.specs.Bits.{word_bits};
 
 /// Bits to be put into words: the `width` low bits of `number`, from bit `first` of a word on (the leftmost bit
 /// is 0), the same in `times` words from `address` on.

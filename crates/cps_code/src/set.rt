@@ -1,11 +1,12 @@
 ghost use Rattle.std.specs.Prelude.{◌≡◌, ◌<◌, ◌+◌, ◌*◌, [], ◌∷◌, Some, None, false, IfSome, option_map};
 ghost use Rattle.cps_code.specs.declared.hole.Operand.{Operand};
 ghost use Rattle.cps_code.specs.Terms.{IsRegister, AreRegisters, register_list};
-ghost use Rattle.cps_table.specs.Digits.{AreDigits};
-ghost use Rattle.cps_code.specs.Operations.{set_form, set_form_as_it_stands, long_form, short_form};
+ghost use Rattle.cps_code.specs.Digits.{AreDigits};
+ghost use Rattle.cps_code.specs.FoundForms.{set_form, set_form_as_it_stands, long_form, short_form};
 
 use super::sum::Registers;
-use cps_table::{Digits, Letter, RegisterTerm};
+use crate::digits::Digits;
+use crate::register::{Letter, RegisterTerm};
 
 /// The four digits of a set instruction before its constant.
 pub fn code_with_constant(digits: Digits, registers: Registers) -> Option<u16>

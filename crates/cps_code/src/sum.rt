@@ -1,11 +1,12 @@
 ghost use Rattle.std.specs.Prelude.{◌≡◌, true, false, ◌<◌, [], ◌∷◌, MatchOption, length, ◌++◌, IfSome, IsSomeAnd, MatchBool, is_some, Some};
 ghost use Rattle.cps_code.specs.Sum.{Sum, SumTerm, register, term_with, sum_of};
 ghost use Rattle.cps_code.specs.Terms.{pushed, register_list, IsKept, AreRegisters, IsRegister};
-ghost use Rattle.cps_table.specs.Register.{register_of, letter_of};
+ghost use Rattle.cps_code.specs.Register.{register_of, letter_of};
 ghost use Rattle.cps_expr.specs.Term.{Term, term_of};
 
+use crate::digits::first_and_rest;
+use crate::register::{Letter, RegisterTerm};
 use cps_expr::{Expr, ExprFault, Radix, leading_sign, sign_at};
-use cps_table::{Letter, RegisterTerm, first_and_rest};
 use cps_text::capital;
 use std::alloc::Global;
 

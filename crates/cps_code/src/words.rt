@@ -2,10 +2,10 @@ ghost use Rattle.std.specs.Prelude.{◌≡◌, ◌+◌, ◌-◌, ◌^◌, ◌<�
 ghost use Rattle.cps_code.specs.Image.{piece_of, word_at, packed_word, Deposits, ArePacked};
 ghost use Rattle.cps_code.specs.Image as image;
 ghost use Rattle.cps_code.specs.Slots.{AreWords};
-ghost use Rattle.cps_place.specs.Bits.{word_bits, bit_from_left};
+ghost use Rattle.cps_code.specs.Bits.{word_bits, bit_from_left};
 
 use super::piece::Piece;
-use cps_place::WORD;
+use crate::widths::WORD;
 use std::alloc::{AllocError, Global};
 use std::marker::Model;
 

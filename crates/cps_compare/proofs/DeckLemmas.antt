@@ -5,9 +5,8 @@ use Rattle.std.specs.List.{flat_map}
 use Rattle.std.proofs.lemmas.List.{map-append, map_push, take_more}
 use Rattle.std.proofs.lemmas.Grind.{flat_map-append}
 use Rattle.cps_code.specs.declared.piece.Piece as code
-use Rattle.cps_code.specs.Image.{piece_of}
-use Rattle.cps_compare.specs.Reading.{AreMade}
-use Rattle.cps_code.specs.Image.{Piece, ArePacked}
+use Rattle.cps_code.specs.Image.{piece_of, Piece, ArePacked}
+use Rattle.cps_compare.specs.Reading.{AreMade, IsDeck}
 use Rattle.cps_final.specs.Outcome.{Outcome}
 use Rattle.cps_list.specs.Assembly.{Assembly}
 use Rattle.cps_list.specs.Binary.{pieces_in, pieces_of, pool_pieces}
@@ -15,7 +14,6 @@ use Rattle.cps_list.proofs.ViewLemmas.{take-next, number-next}
 use Rattle.cps_compare.specs.declared.maker.Maker.{Maker}
 use Rattle.cps_compare.specs.declared.maker.Maker.TheVariants.{Line, Literal}
 use Rattle.cps_compare.specs.Makers.{Signed, signed_by, signed_from, signed_of}
-use Rattle.cps_compare.specs.Reading.{IsDeck}
 
 -- the bits alone
 pub pieces-signed : (maker : Maker) (pieces : List Piece) → map (λ (s : Signed). s.piece) (map (signed_by maker) pieces) ≡ pieces

@@ -7,3 +7,4 @@ pub mod DeckLemmas
 pub mod ToldLemmas
 pub mod TextLemmas
 mod WorkedRows
+pub mod OctalLemmas

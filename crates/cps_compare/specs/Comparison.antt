@@ -4,8 +4,8 @@ use Rattle.cps_final.specs.Finals.{machine_of}
 use Rattle.cps_list.specs.Assembly.{Assembly}
 use Rattle.cps_compare.specs.declared.limits.Limits.{Limits}
 use Rattle.cps_compare.specs.declared.comparison.Comparison.{Comparison}
-use Rattle.cps_compare.specs.declared.fault.CompareFault.{CompareFault}
-use Rattle.cps_compare.specs.declared.fault.CompareFault.TheVariants as faults
+use Rattle.cps_compare.specs.declared.compare_fault.CompareFault.{CompareFault}
+use Rattle.cps_compare.specs.declared.compare_fault.CompareFault.TheVariants as faults
 use Rattle.cps_compare.specs.Given.{given_in}
 use Rattle.cps_compare.specs.Makers.{signed_of, maker_of}
 use Rattle.cps_compare.specs.Differences.{size_of, deck_of, GivesNone, IsLow, IsHigh}

@@ -6,3 +6,4 @@ pub mod Told
 pub mod Comparison
 pub mod Reading
 pub mod Shown
+pub mod Octal

@@ -3,7 +3,7 @@ use Rattle.std.specs.Prelude.{ℕ, zero, suc, ◌+◌, ◌-◌, Bool, true, fals
 use Rattle.std.specs.List.{range_with_len, count_by, position_or_len}
 use Rattle.cps_text.specs.Octal.{octal}
 use Rattle.cps_text.specs.Text.{is_filled}
-use Rattle.cps_listing.specs.Columns.{Column, laid_out}
+use Rattle.cps_list.specs.Columns.{Column, laid_out}
 use Rattle.cps_compare.specs.declared.maker.Maker.{Maker}
 use Rattle.cps_compare.specs.declared.maker.Maker.TheVariants.{Nobody, Line, Literal}
 use Rattle.cps_compare.specs.Differences.{differs, is_compared, has_digits, places}

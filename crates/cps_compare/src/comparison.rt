@@ -6,8 +6,8 @@ ghost use Rattle.cps_compare.specs.Differences.{GivesNone};
 ghost use Rattle.cps_compare.specs.Reading.{digits_at};
 ghost use Rattle.cps_compare.specs.Shown.{IsSpan};
 
+use super::compare_fault::CompareFault;
 use super::deck::Deck;
-use super::fault::CompareFault;
 use super::limits::Limits;
 use super::octal_text::read_octal;
 use super::octal_words::OctalWords;

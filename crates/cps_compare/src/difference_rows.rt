@@ -8,8 +8,7 @@ ghost use Rattle.cps_compare.specs.Reading.{maker_at};
 
 use super::maker::Maker;
 use super::makers::Makers;
-use cps_list::View;
-use cps_listing::{fill_columns, push_decimal};
+use cps_list::{View, fill_columns, push_decimal};
 use cps_text::push_octal;
 use std::alloc::AllocError;
 

@@ -3,7 +3,7 @@ ghost use Rattle.std.specs.Prelude.{◌≡◌, [], ◌++◌, ◌+◌, ◌<◌, �
 ghost use Rattle.cps_compare.specs.Told as told;
 
 use super::difference::differs;
-use cps_listing::push_decimal;
+use cps_list::push_decimal;
 use cps_text::push_octal;
 use std::alloc::{AllocError, Global};
 

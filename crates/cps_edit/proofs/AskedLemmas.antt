@@ -1,11 +1,10 @@
 -- What a line asked holds where it asked it; and a line whose asks hold does the same.
 use Rattle.std.proofs.Common.{◌≡◌, refl, sym, subst, ◌∙◌, Bool, true, false, List, [], ◌∷◌, ◌++◌, ℕ}
-use Rattle.std.specs.Prelude.{if◌then◌else◌, is_some}
+use Rattle.std.specs.Prelude.{if◌then◌else◌, is_some, length}
 use Rattle.cps_state.specs.declared.key.Key.{Key}
 use Rattle.cps_state.specs.declared.key.Asked.{Asked}
 use Rattle.cps_state.specs.Keys.{State}
 use Rattle.cps_state.specs.Course.{Course, stop, ask, put, stand, fill, mark, tell, settle, begin, Running, Trace, run, started, known_at, answer_at, with_ask, with_put_made, stood, filled, marked, with_read, settled_by, begun, too_much, Holds}
-use Rattle.std.specs.Prelude.{length}
 use Rattle.cps_pass.specs.Expansion.{line_part, trace_of}
 use Rattle.cps_pass.proofs.StepLemmas.{same-asks, trace-same}
 use Rattle.cps_edit.specs.Renewed.{WasMeant}

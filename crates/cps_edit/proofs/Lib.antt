@@ -1,3 +1,5 @@
+pub mod ListLemmas
+pub mod NumberLemmas
 pub mod AskedLemmas
 pub mod ReplayLemmas
 pub mod PassOneLemmas

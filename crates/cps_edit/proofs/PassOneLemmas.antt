@@ -5,7 +5,7 @@ use Rattle.cps_state.specs.Keys.{State}
 use Rattle.cps_state.specs.Course.{Trace}
 use Rattle.cps_state.specs.Work.{counted_on}
 use Rattle.cps_pass.specs.Expansion.{trace_of}
-use Rattle.cps_holding.specs.Finals.{Finals, finals_of}
+use Rattle.cps_final.specs.Finals.{Finals, finals_of}
 use Rattle.cps_edit.specs.Passes.{after, traces_from, GathersMore}
 use Rattle.cps_edit.proofs.TakenLemmas.{drop_at}
 

@@ -1,7 +1,7 @@
 -- What pass two makes of a part of some lines, and of as many.
 use Rattle.std.proofs.Common.{◌≡◌, ℕ, zero, suc, refl, ap, List, [], ◌∷◌, ◌++◌, length, take, drop}
 use Rattle.cps_state.specs.Course.{Trace}
-use Rattle.cps_holding.specs.Outcome.{Resolved, outcome_of}
+use Rattle.cps_final.specs.Outcome.{Resolved, outcome_of}
 use Rattle.cps_edit.specs.Passes.{outcomes_by}
 
 pub drop-outcomes : (n : ℕ) (e : Resolved) (ts : List Trace) → drop n (outcomes_by e ts) ≡ outcomes_by e (drop n ts)

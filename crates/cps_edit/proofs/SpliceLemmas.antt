@@ -5,13 +5,13 @@ use Rattle.cps_state.specs.declared.key.Put.{Put}
 use Rattle.cps_state.specs.Keys.{State, first_state, with_put, overwritten}
 use Rattle.cps_state.specs.Course.{Trace}
 use Rattle.cps_pass.specs.Expansion.{trace_of}
-use Rattle.cps_holding.specs.Layout.{puts_of}
-use Rattle.cps_holding.specs.Finals.{Finals, finals_of}
+use Rattle.cps_final.specs.Layout.{puts_of}
+use Rattle.cps_final.specs.Finals.{Finals, finals_of}
 use Rattle.cps_edit.specs.Passes.{after, state_after, traces_from, traces_of}
 use Rattle.cps_edit.specs.Splice.{splice_at, spliced}
 use Rattle.cps_edit.specs.Disturbed.{Placed, kept, all_kept, fresh, is_disturbed, disturbed_from, ones_of}
 use Rattle.cps_edit.specs.Renewed.{AllWereMeant}
-use Rattle.cps_holding.proofs.AnswerLemmas.{asks-decide}
+use Rattle.cps_final.proofs.AnswerLemmas.{asks-decide}
 use Rattle.cps_edit.proofs.AskedLemmas.{asked-here}
 
 pub length-traces_from : (f : State) (ls : List (List ℕ)) → length (traces_from f ls) ≡ length ls

@@ -4,13 +4,13 @@
 use Rattle.std.specs.Prelude.{ℕ, ◌+◌, Bool, true, not, ◌||◌, List, [], ◌∷◌, ◌++◌, take, drop, map, Option, None, Some, if◌then◌else◌}
 use Rattle.cps_state.specs.Keys.{State, first_state}
 use Rattle.cps_state.specs.Course.{Trace}
-use Rattle.cps_holding.specs.Finals.{finals_of, final_value}
-use Rattle.cps_holding.specs.Outcome.{Resolved}
+use Rattle.cps_final.specs.Finals.{finals_of, final_value}
+use Rattle.cps_final.specs.Outcome.{Resolved}
 use Rattle.cps_edit.specs.Passes.{after, traces_of}
-use Rattle.cps_holding.specs.Holds.{holds}
-use Rattle.cps_holding.specs.Agreeing.{same_named}
-use Rattle.cps_exchange.specs.declared.exchange.Exchange.{Exchange}
-use Rattle.cps_exchange.specs.Exchange.{exchanged}
+use Rattle.cps_final.specs.Holds.{holds}
+use Rattle.cps_final.specs.Agreeing.{same_named}
+use Rattle.cps_edit.specs.declared.exchange.Exchange.{Exchange}
+use Rattle.cps_edit.specs.Exchange.{exchanged}
 use Rattle.cps_edit.specs.Splice.{Splice, spliced}
 
 -- ---- counterparts

@@ -1,7 +1,12 @@
+pub mod Exchange
+pub mod ExchangeLaws
+pub mod Numbers
 pub mod Passes
 pub mod PassOne
 pub mod Splice
 pub mod Compares
 pub mod Disturbed
 pub mod Renewed
-pub use Rattle.cps_pass.specs.Expansion
+pub mod Limits
+pub mod Assembly
+pub mod Flagged

@@ -4,8 +4,8 @@ use Rattle.std.specs.Prelude.{ℕ, List, [], ◌∷◌, ◌++◌, map}
 use Rattle.cps_state.specs.Keys.{State, first_state, overwritten}
 use Rattle.cps_state.specs.Course.{Trace}
 use Rattle.cps_pass.specs.Expansion.{trace_of}
-use Rattle.cps_holding.specs.Finals.{Finals, Gathers}
-use Rattle.cps_holding.specs.Outcome.{Resolved, Outcome, outcome_of}
+use Rattle.cps_final.specs.Finals.{Finals, Gathers}
+use Rattle.cps_final.specs.Outcome.{Resolved, Outcome, outcome_of}
 
 -- the state after a line
 abbrev pub after : State → List ℕ → State

@@ -3,7 +3,7 @@ use Rattle.std.specs.Prelude.{◌≡◌, ℕ, zero, suc, ◌+◌, Bool, List, []
 use Rattle.cps_state.specs.Keys.{State}
 use Rattle.cps_state.specs.Course.{Trace}
 use Rattle.cps_pass.specs.Expansion.{trace_of}
-use Rattle.cps_holding.specs.Outcome.{Resolved}
+use Rattle.cps_final.specs.Outcome.{Resolved}
 use Rattle.cps_edit.specs.Passes.{after}
 use Rattle.cps_edit.specs.Disturbed.{is_disturbed, is_redone}
 

@@ -1,10 +1,16 @@
-//! Lines and edits of a source, and which lines an edit disturbs; and lines that are gone through
-//! in pass one for the first time.
+//! What two-pass assembly makes of a source, and what an edit is: the lines that it puts, takes away or moves, and those that it disturbs.
 //!
+//! - `exchange.rt`: an exchange, the one that undoes it, and a list of which two runs change places
+//! - `flagged.rt`: how many lines are flagged
+//! - `laws.rt`: laws of exchanged lists
 //! - `pass_one.rt`: pass one so far, and how it goes over the next lines
 #![tactic(auto)]
 
+mod exchange;
+mod flagged;
+pub mod laws;
 mod pass_one;
 
-pub use cps_pass::{Hashing, Sheet, Trace, Work, step_over};
+pub use exchange::Exchange;
+pub use flagged::flagged_lines;
 pub use pass_one::PassOne;

@@ -2,12 +2,13 @@
 ghost use Rattle.std.specs.Prelude.{◌≡◌, [], ◌∷◌, IfOk, IsOk, OnErr, OnOk, length};
 ghost use Rattle.cps_state.specs.Work.{raised};
 ghost use Rattle.cps_state.specs.declared.work.Tally.TheVariants.{Ones};
-ghost use Rattle.cps_holding.specs.Finals.{Gathers};
+ghost use Rattle.cps_final.specs.Finals.{Gathers};
 ghost use Rattle.cps_edit.specs.PassOne.{GoesOver, gathered_in};
 ghost use Rattle.cps_edit.specs.Compares.{Steps};
 
-use cps_holding::{Finals, Gather, Gathered};
-use cps_pass::{Hashing, Sheet, Trace, Work, step_over};
+use cps_final::{Finals, Gather, Gathered};
+use cps_pass::step_over;
+use cps_state::{Hashing, Sheet, Trace, Work};
 use cps_text::Line;
 use std::alloc::{AllocError, Global};
 

@@ -19,4 +19,3 @@ pub mod Value
 pub mod ValuedSoFar
 pub mod Word
 pub mod WordsLeft
-pub use Rattle.cps_text.specs.Text

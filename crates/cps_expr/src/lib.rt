@@ -63,7 +63,6 @@ mod text;
 mod value;
 mod words;
 
-pub use cps_text::capital;
 pub use expr::{Expr, ExprFault, Valued};
 pub use item::read_item;
 pub use machine::Machine;

@@ -29,12 +29,12 @@ use Rattle.cps_state.specs.Flags.{joined}
 use Rattle.cps_state.specs.Machines.{limit, behind}
 use Rattle.cps_state.specs.Made.{no_flags, width_of, end_of, content_names, content_literals}
 use Rattle.cps_final.specs.declared.row.Row.{Row}
-use Rattle.cps_standing.specs.Finals.{block, label, literal}
+use Rattle.cps_final.specs.Finals.{block, label, literal}
 use Rattle.cps_final.specs.Values.{Resolved, address_of, address_in, final_of, values_in, Known, known_in, Standing, standing_of, plain_offset, value_at, number_at, expression_flags, operand_number, is_valueless, reads_undefined, number_for, form_number, form_flags, number_of, value_flags, first_address}
 use Rattle.cps_final.specs.Places.{with_places}
 use Rattle.cps_final.specs.Rows.{limit_flags, literal_flags, digits_for, first_digits, second_digits, blank_row, row_at, later_rows, content_rows, with_contents, statement_row, rows_with, rows_made, row_of, rows_of}
 use Rattle.cps_final.specs.Pieces.{pieces_at, last_word, zeros_at, placed, content_bits, contents_of, pieces_of}
-use Rattle.cps_final.specs.Names.{names_read, names_defined}
+use Rattle.cps_final.specs.LineNames.{names_read, names_defined}
 use Rattle.cps_final.specs.Outcome.{outcome_of, blocks_stood, blocks_shown, AgreeOnItem, AgreeOnNamed}
 
 all-head : {T : Type 0} (P : T → Type 0) (x : T) (xs : List T) → All P (x ∷ xs) → P x

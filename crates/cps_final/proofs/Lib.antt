@@ -1,6 +1,19 @@
+pub mod ChangedLemmas
+pub mod ExchangeLemmas
+pub mod KeptLemmas
+pub mod BlockLemmas
+pub mod GatherLemmas
+pub mod MendLemmas
+mod PlaceLemmas
 pub mod AloneLemmas
 pub mod OutcomeLemmas
 pub mod PieceLemmas
 pub mod ValueLemmas
-pub use Rattle.cps_standing.proofs.BlockLemmas
-pub use Rattle.cps_standing.proofs.GatherLemmas
+pub mod DecideLemmas
+pub mod NamingLemmas
+pub mod NamesLemmas
+pub mod AnswerLemmas
+pub mod AgreeLemmas
+pub mod PutLemmas
+pub mod AskLemmas
+pub mod RunGatherLemmas

@@ -21,10 +21,10 @@ use Rattle.cps_final.specs.declared.row.Row.{Row}
 use Rattle.cps_final.specs.Values.{Resolved, known_in, Standing, standing_of, first_address}
 use Rattle.cps_final.specs.Places.{with_places}
 use Rattle.cps_final.specs.Rows.{row_at, later_rows, content_rows, with_contents, blank_row, rows_with, rows_made, row_of, rows_of}
-use Rattle.cps_final.specs.Names.{defined_by, names_defined, names_later, names_read, read_by, symbol_put}
+use Rattle.cps_final.specs.LineNames.{defined_by, names_defined, names_later, names_read, read_by, symbol_put}
 use Rattle.cps_final.specs.Outcome.{Output, output_of, outcome_of, joined_with}
-use Rattle.cps_standing.proofs.BlockLemmas.{same_name-laws}
-use Rattle.cps_standing.proofs.GatherLemmas.{distinct-append}
+use Rattle.cps_final.proofs.BlockLemmas.{same_name-laws}
+use Rattle.cps_final.proofs.GatherLemmas.{distinct-append}
 use Rattle.cps_final.proofs.PieceLemmas.{room-given, room-low}
 
 -- ---- the walk over contents

@@ -1,43 +1,50 @@
--- The symbols that a line reads, and those that it defines. Our own.
-use Rattle.std.specs.Prelude.{List, [], ◌∷◌, ◌++◌, flat_map}
+-- What the statements of a run of lines name for pass two, each once. Our own.
+use Rattle.std.specs.Prelude.{◌≡◌, ℕ, nat_eq, Bool, ◌&&◌, List, flat_map, Option}
+use Rattle.std.specs.List.{list_all}
+use Rattle.std.specs.Option.{option_eq}
 use Rattle.cps_text.specs.declared.name.Name.{Name}
 use Rattle.cps_expr.specs.Value.{same_name}
 use Rattle.cps_state.specs.declared.item.Item.{Item}
-use Rattle.cps_state.specs.declared.key.Key.{Key}
-use Rattle.cps_state.specs.declared.key.Put.{Put}
-use Rattle.cps_state.specs.declared.key.Key.TheVariants as key
 use Rattle.cps_state.specs.Course.{Trace}
-use Rattle.cps_state.specs.Made.{content_names}
-use Rattle.cps_standing.specs.Distinct.{distinct}
+use Rattle.cps_final.specs.Distinct.{distinct}
+use Rattle.cps_final.specs.Finals.{Named, label, block, literal}
+use Rattle.cps_final.specs.Outcome.{labels_read, blocks_named}
+use Rattle.cps_final.specs.Pool.{literals_of}
+use Rattle.cps_final.specs.Naming.{all_named}
 
--- the names that the expressions of statements, or of a line, read later
-abbrev pub names_later : List Item → List Name
-names_later items = flat_map (λ item. flat_map content_names item.made.contents) items
+-- the statements of lines that did this
+abbrev pub statements_of : List Trace → List Item
+statements_of traces = flat_map (λ trace. trace.items) traces
 
-abbrev pub later_names : Trace → List Name
-later_names trace = names_later trace.items
+-- the labels that statements read, the blocks of their places and of their values, and their literals
+pub record Names : Type 0 where
+  pub labels : List Name
+  pub blocks : List (Option Name)
+  pub literals : List ℕ
 
--- the symbols that a line reads, now or later, each once
-abbrev pub read_by : List Name → List Item → List Name
-read_by reads items = distinct same_name (reads ++ names_later items)
+-- those of some statements, each in the order of first appearance
+abbrev pub labels_named : List Item → List Name
+labels_named items = distinct same_name (flat_map (λ item. labels_read item.made) items)
 
-abbrev pub names_read : Trace → List Name
-names_read trace = read_by trace.reads trace.items
+abbrev pub all_blocks_named : List Item → List (Option Name)
+all_blocks_named items = distinct (option_eq same_name) (flat_map blocks_named items)
 
--- the symbol whose value a key is
-abbrev pub symbol_put : Key → List Name
-symbol_put (key.Label name) = name ∷ []
-symbol_put (key.Setting name) = name ∷ []
-symbol_put _ = []
+abbrev pub literals_named : List Item → List ℕ
+literals_named items = distinct nat_eq (flat_map (λ item. literals_of item.made) items)
 
--- the symbols that a line defines, each once
-abbrev pub defined_by : List Put → List Name
-defined_by puts = distinct same_name (flat_map (λ p. symbol_put p.key) puts)
+-- those of lines that did this
+abbrev pub names_in : List Trace → Names
+names_in traces = record {
+  labels = labels_named (statements_of traces);
+  blocks = all_blocks_named (statements_of traces);
+  literals = literals_named (statements_of traces);
+}
 
-abbrev pub names_defined : Trace → List Name
-names_defined trace = defined_by trace.puts
+-- whether a test passes for all of them
+abbrev pub all_pass : (Named → Bool) → Names → Bool
+all_pass passes names =
+    list_all (λ name. passes (label name)) names.labels && (list_all (λ name. passes (block name)) names.blocks && list_all (λ word. passes (literal word)) names.literals)
 
--- both
-pub record LineSymbols : Type 0 where
-  pub defined : List Name
-  pub read : List Name
+-- a test passes for all of them exactly where it does for all that the statements name
+abbrev pub NamesLaw : Type 0
+NamesLaw = (passes : Named → Bool) (traces : List Trace) → all_pass passes (names_in traces) ≡ list_all (all_named passes) (statements_of traces)

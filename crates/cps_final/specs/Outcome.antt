@@ -14,11 +14,11 @@ use Rattle.cps_state.specs.Course.{Trace}
 use Rattle.cps_state.specs.Flags.{joined}
 use Rattle.cps_state.specs.Made.{Made, no_flags, content_names, content_literals}
 use Rattle.cps_final.specs.declared.row.Row.{Row}
-use Rattle.cps_standing.specs.Finals.{label, block, literal}
+use Rattle.cps_final.specs.Finals.{label, block, literal}
 pub use Rattle.cps_final.specs.Values.{Resolved}
 use Rattle.cps_final.specs.Rows.{rows_of}
 use Rattle.cps_final.specs.Pieces.{pieces_of}
-use Rattle.cps_final.specs.Names.{names_read, names_defined}
+use Rattle.cps_final.specs.LineNames.{names_read, names_defined}
 
 -- the rows and the bits of a line
 pub record Output : Type 0 where

@@ -1,8 +1,8 @@
 //! The symbols of one line after another.
 ghost use Rattle.std.specs.Prelude.{◌≡◌, [], OnOk};
-ghost use Rattle.cps_final.specs.Names.{defined_by, read_by};
+ghost use Rattle.cps_final.specs.LineNames.{defined_by, read_by};
 
-use crate::names::{insert_defined, insert_read};
+use crate::line_names::{insert_defined, insert_read};
 use cps_state::{Hashing, Item, Put};
 use cps_text::Name;
 use indexmap::IndexSet;
@@ -17,7 +17,7 @@ pub struct LineSymbols {
 }
 
 impl Model for LineSymbols {
-    ghost use Rattle.cps_final.specs.Names.{LineSymbols};
+    ghost use Rattle.cps_final.specs.LineNames.{LineSymbols};
 
     ghost Value = { LineSymbols };
 

@@ -2,10 +2,10 @@
 ghost use Rattle.std.specs.Prelude.{◌≡◌, [], IfOk};
 ghost use Rattle.std.specs.List.{list_any};
 ghost use Rattle.cps_expr.specs.Value.{same_name};
-ghost use Rattle.cps_final.specs.Names.{names_defined, names_read};
+ghost use Rattle.cps_final.specs.LineNames.{names_defined, names_read};
 
 use crate::kept_names::KeptNames;
-use crate::names::{NameSet, insert_defined, insert_read};
+use crate::line_names::{NameSet, insert_defined, insert_read};
 use cps_expr::is_same_name;
 use cps_state::{Hashing, Trace};
 use cps_text::Name;

@@ -1,14 +1,14 @@
 //! The rows and the bits of a line.
 ghost use Rattle.std.specs.Prelude.{◌≡◌, [], map, IfOk, OnOk};
 ghost use Rattle.cps_code.specs.Image.{piece_of};
-ghost use Rattle.cps_standing.specs.Finals.{final_value};
+ghost use Rattle.cps_final.specs.Finals.{final_value};
 ghost use Rattle.cps_final.specs.Outcome.{output_of};
 
+use crate::finals::{Finals, Gathered};
 use crate::room::{count_pieces, count_rows};
 use crate::row::Row;
 use crate::statement::push_statement;
 use cps_code::Piece;
-use cps_standing::{Finals, Gathered};
 use cps_state::Item;
 use std::alloc::{AllocError, Global};
 use std::marker::Model;

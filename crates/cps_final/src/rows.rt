@@ -4,16 +4,17 @@ ghost use Rattle.std.specs.List.{list_any};
 ghost use Rattle.cps_code.specs.Operand.{operand_literals};
 ghost use Rattle.cps_state.specs.Machines.{limit};
 ghost use Rattle.cps_state.specs.Made.{IsContent};
-ghost use Rattle.cps_standing.specs.Resolving.{resolved, view_of};
+ghost use Rattle.cps_final.specs.Resolving.{resolved, view_of};
 ghost use Rattle.cps_final.specs.Rows as shown;
 ghost use Rattle.cps_final.specs.Values as values;
 
 use crate::digits::{Code, Digits, ShortCode};
+use crate::finals::Finals;
 use crate::row::Row;
+use crate::standing::Standing;
 use crate::valued::{Placed, value_content};
 use cps_code::{Hole, Operand, complement};
 use cps_expr::Machine;
-use cps_standing::{Finals, Standing};
 use cps_state::{Content, Flags, Item, Shared, Shown, WORD, limit_of};
 use std::alloc::AllocError;
 

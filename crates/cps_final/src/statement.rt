@@ -3,15 +3,16 @@ ghost use Rattle.std.specs.Prelude.{◌≡◌, ◌++◌, false, map, flat_map, O
 ghost use Rattle.cps_code.specs.Image.{piece_of};
 ghost use Rattle.cps_final.specs.Pieces as bits;
 ghost use Rattle.cps_final.specs.Places.{with_places};
-ghost use Rattle.cps_standing.specs.Resolving.{resolved, view_of};
+ghost use Rattle.cps_final.specs.Resolving.{resolved, view_of};
 ghost use Rattle.cps_final.specs.Rows as shown;
 
+use crate::finals::Finals;
 use crate::pieces::{Run, push_last_word, push_run, push_skipped};
 use crate::row::Row;
 use crate::rows::{flags_row, push_row, row_at, statement_row};
+use crate::standing::Standing;
 use crate::valued::{Placed, value_content};
 use cps_code::Piece;
-use cps_standing::{Finals, Standing};
 use cps_state::{Flags, Item, behind};
 use std::alloc::AllocError;
 

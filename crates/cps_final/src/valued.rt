@@ -4,12 +4,12 @@ ghost use Rattle.cps_code.specs.Form.{put_value, fits_width};
 ghost use Rattle.cps_code.specs.Value.{IsInRange};
 ghost use Rattle.cps_expr.specs.Value as ranges;
 ghost use Rattle.cps_state.specs.Made.{width_of, IsContent};
-ghost use Rattle.cps_standing.specs.Resolving.{view_of};
+ghost use Rattle.cps_final.specs.Resolving.{view_of};
 ghost use Rattle.cps_final.specs.Values as values;
 
+use crate::standing::Standing;
 use cps_code::{Filled, Hole, HoleKind, Operand, bits_of_value, fits_width};
 use cps_expr::{Expr, Value};
-use cps_standing::Standing;
 use cps_state::{Content, Flags, InstructionForm};
 
 /// The number that a content makes, and the flags that its values give.

@@ -5,8 +5,8 @@ use Rattle.std.proofs.lemmas.List.Elements.{All-nil, All-push}
 use Rattle.std.specs.Prelude.{Option, Result, Ok, Err, MatchResult}
 use Rattle.cps_text.specs.declared.counted.Counted.{Counted}
 use Rattle.cps_text.specs.Line.{IsLine}
-use Rattle.cps_input.specs.declared.fault.InputFault.{InputFault}
-use Rattle.cps_input.specs.declared.fault.InputFault.TheVariants as faults
+use Rattle.cps_input.specs.declared.input_fault.InputFault.{InputFault}
+use Rattle.cps_input.specs.declared.input_fault.InputFault.TheVariants as faults
 use Rattle.cps_input.specs.declared.input.Input.{Input}
 use Rattle.cps_text.specs.declared.limits.TheConstants.{MOST_LINES}
 use Rattle.cps_input.specs.Sources.{IsSource, IsWrong, IsFirstWrong, IsReadWhole, Refuses, ReadsLines}

@@ -4,3 +4,9 @@ pub mod PartLemmas
 pub mod NewlineLemmas
 pub mod ReadLemmas
 pub mod SplitLemmas
+pub mod CardLemmas
+pub mod FaultLemmas
+pub mod HexLemmas
+pub mod LineLemmas
+pub mod ShownLemmas
+pub mod WordLemmas

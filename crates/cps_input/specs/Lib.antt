@@ -4,3 +4,8 @@ pub mod Reads
 pub mod BegunLine
 pub mod Sources
 pub mod Input
+pub mod Card
+pub mod Faults
+pub mod Hex
+pub mod Shown
+pub mod Words

@@ -5,8 +5,8 @@ use Rattle.std.specs.declared.vec.Vec.{Vec}
 use Rattle.cps_text.specs.declared.counted.Counted.{Counted}
 use Rattle.cps_text.specs.declared.limits.TheConstants.{MOST_READS}
 use Rattle.cps_text.specs.Counted.{inner_of, calls_of, failures_of, idle_of, raised_by, FailsOnce, LastReadGave}
-use Rattle.cps_input.specs.declared.fault.InputFault.{InputFault}
-use Rattle.cps_input.specs.declared.fault.InputFault.TheVariants as faults
+use Rattle.cps_input.specs.declared.input_fault.InputFault.{InputFault}
+use Rattle.cps_input.specs.declared.input_fault.InputFault.TheVariants as faults
 
 -- the most reads of an input
 abbrev pub most_reads : ℕ

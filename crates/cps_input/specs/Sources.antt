@@ -4,8 +4,8 @@ use Rattle.std.specs.List.{All}
 use Rattle.cps_text.specs.declared.counted.Counted.{Counted}
 use Rattle.cps_text.specs.declared.limits.TheConstants.{MOST_LINES}
 use Rattle.cps_text.specs.Line.{longest_line, IsLine, HasBadCharacter}
-use Rattle.cps_input.specs.declared.fault.InputFault.{InputFault}
-use Rattle.cps_input.specs.declared.fault.InputFault.TheVariants as faults
+use Rattle.cps_input.specs.declared.input_fault.InputFault.{InputFault}
+use Rattle.cps_input.specs.declared.input_fault.InputFault.TheVariants as faults
 use Rattle.cps_input.specs.Lines.{HasText}
 use Rattle.cps_input.specs.Reads.{IsAllRead, IsCutShort}
 

@@ -6,7 +6,7 @@ ghost use Rattle.cps_input.specs.Input.{HasCome};
 ghost use Rattle.cps_input.specs.Lines.{HasText, has_no_newline, newline};
 
 use super::begun_line::{BegunLine, kept_text};
-use super::fault::InputFault;
+use super::input_fault::InputFault;
 use super::intake::Intake;
 use super::line_end::newline_at;
 use super::line_text::LineText;

@@ -4,7 +4,7 @@ ghost use Rattle.cps_text.specs.Line.{IsLine};
 ghost use Rattle.cps_input.specs.Sources.{IsSource, IsWrong, Refuses};
 ghost use Rattle.cps_input.specs.Input.{IsGiven, IsIntake};
 
-use super::fault::InputFault;
+use super::input_fault::InputFault;
 use super::line_text::LineText;
 use cps_text::limits::{MOST_COMMAND_BYTES, MOST_LINES};
 use cps_text::{Line, LineFault};

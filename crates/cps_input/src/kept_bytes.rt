@@ -2,7 +2,7 @@
 ghost use Rattle.std.specs.Prelude.{◌≡◌, ℕ, List, [], ◌++◌, IfOk, IfErr};
 ghost use Rattle.cps_input.specs.Input.{HasBytes};
 
-use super::fault::InputFault;
+use super::input_fault::InputFault;
 use super::taker::Taker;
 use std::alloc::Global;
 use std::mem::replace;

@@ -4,8 +4,8 @@ ghost use Rattle.cps_text.specs.Counted.{calls_of};
 ghost use Rattle.cps_input.specs.Reads.{IsAllRead, IsCutShort, ReadsBytes};
 ghost use Rattle.cps_input.specs.Sources.{ReadsLines};
 
-use super::fault::InputFault;
 use super::input::Input;
+use super::input_fault::InputFault;
 use super::kept_bytes::KeptBytes;
 use super::line_text::LineText;
 use super::taker::Taker;

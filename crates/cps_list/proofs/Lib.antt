@@ -1,3 +1,5 @@
+pub mod FrontLemmas
+pub mod TextLemmas
 pub mod OrderLemmas
 pub mod SymbolLemmas
 pub mod RowLemmas

@@ -12,7 +12,7 @@ use Rattle.cps_list.specs.declared.mention.Mention.{Mention}
 use Rattle.cps_list.specs.declared.part.Part.{Part}
 use Rattle.cps_list.specs.declared.part.Part.TheVariants.{Listing, Binary, Symbols, Flags, All}
 use Rattle.cps_list.specs.Assembly.{Assembly}
-use Rattle.cps_list.specs.Listing.{listing_from, line_rows, open_row}
+use Rattle.cps_list.specs.ListingText.{listing_from, line_rows, open_row}
 use Rattle.cps_list.specs.Binary.{pieces_in, first_row, rows_below, pool_pieces}
 use Rattle.cps_list.specs.Symbols.{mentions_from, mentions_on, symbol_rows}
 use Rattle.cps_list.specs.Flagged.{flag_rows_from, flag_row, flagged_in, flagged_with, count_if, end_row, count_row}

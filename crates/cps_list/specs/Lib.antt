@@ -1,11 +1,11 @@
-pub mod Assembly
+pub mod Writing
+pub mod Columns
 pub mod Listing
+pub mod Front
+pub mod Assembly
+pub mod ListingText
 pub mod Binary
 pub mod Making
 pub mod Symbols
 pub mod Flagged
 pub mod Texts
-pub use Rattle.cps_writing.specs.Writing
-pub use Rattle.cps_listing.specs.Columns
-pub use Rattle.cps_final.specs.Finals
-pub use Rattle.cps_final.specs.Outcome

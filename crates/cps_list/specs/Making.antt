@@ -4,7 +4,7 @@ use Rattle.cps_code.specs.Image.{Piece, ArePacked}
 use Rattle.cps_final.specs.Outcome.{Outcome}
 use Rattle.cps_list.specs.declared.part.Part.{Part}
 use Rattle.cps_list.specs.declared.part.Part.TheVariants as part
-use Rattle.cps_list.specs.Listing.{listing_from}
+use Rattle.cps_list.specs.ListingText.{listing_from}
 use Rattle.cps_list.specs.Binary.{pieces_in}
 use Rattle.cps_list.specs.Flagged.{flag_rows_from, flagged_in}
 

@@ -17,7 +17,7 @@ use Rattle.cps_final.specs.Finals.{Finals, final_value, label, setting}
 use Rattle.cps_final.specs.Outcome.{Outcome}
 use Rattle.cps_list.specs.declared.mention.Mention.{Mention}
 use Rattle.cps_list.specs.Assembly.{Assembly}
-use Rattle.cps_listing.specs.Columns.{Column, laid_out}
+use Rattle.cps_list.specs.Columns.{Column, laid_out}
 
 -- ---- the lines on which symbols stand
 

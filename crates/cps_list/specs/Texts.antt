@@ -3,7 +3,7 @@ use Rattle.std.specs.Prelude.{ℕ, List, ◌++◌}
 use Rattle.cps_list.specs.declared.part.Part.{Part}
 use Rattle.cps_list.specs.declared.part.Part.TheVariants as part
 use Rattle.cps_list.specs.Assembly.{Assembly}
-use Rattle.cps_list.specs.Listing.{listing_text}
+use Rattle.cps_list.specs.ListingText.{listing_text}
 use Rattle.cps_list.specs.Binary.{binary_text}
 use Rattle.cps_list.specs.Symbols.{symbols_text}
 use Rattle.cps_list.specs.Flagged.{flags_text}

@@ -3,7 +3,7 @@ ghost use Rattle.std.specs.Prelude.{◌≡◌, ◌++◌, ◌+◌, ◌<◌, ◌�
 ghost use Rattle.cps_state.specs.Flags.{has_flag};
 ghost use Rattle.cps_list.specs.Flagged as texts;
 
-use cps_listing::push_decimal;
+use crate::columns::push_decimal;
 use cps_state::Flags;
 use std::alloc::AllocError;
 

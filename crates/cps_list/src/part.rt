@@ -3,13 +3,13 @@ ghost use Rattle.std.specs.Prelude.{◌≡◌, ◌<◌, ◌^◌, IfOk};
 ghost use Rattle.cps_list.specs.Making.{IsPrintoutOf, shown, shows_listing, shows_binary, shows_symbols, shows_flags};
 ghost use Rattle.cps_list.specs.Symbols.{mentions_from};
 ghost use Rattle.cps_list.specs.Texts.{text_of};
-ghost use Rattle.cps_writing.specs.Writing.{Writes};
+ghost use Rattle.cps_list.specs.Writing.{Writes};
 
 use crate::mention::{Mention, list_mentions};
 use crate::printout::Printout;
 use crate::view::View;
+use crate::writing::{ListFault, write_text};
 use cps_text::Counted;
-use cps_writing::{ListFault, write_text};
 use std::alloc::{AllocError, Global};
 use std::io::Write;
 

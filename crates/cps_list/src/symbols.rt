@@ -5,11 +5,11 @@ ghost use Rattle.std.specs.List.Sorted.{IsSortedByKey};
 ghost use Rattle.cps_expr.specs.Value.{same_name};
 ghost use Rattle.cps_list.specs.Symbols as texts;
 
+use crate::columns::{fill_columns, push_decimal};
 use crate::mention::Mention;
 use cps_code::complement;
 use cps_expr::Value;
 use cps_final::{Finals, Gathered};
-use cps_listing::{fill_columns, push_decimal};
 use cps_text::{Name, push_octal};
 use std::alloc::AllocError;
 

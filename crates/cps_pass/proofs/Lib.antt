@@ -1,3 +1,15 @@
+pub mod HoldingLemmas
+pub mod SiteLemmas
+pub mod UnsetLemmas
+pub mod CourseLemmas
+pub mod PartLemmas
+pub mod SizedLemmas
+pub mod WordLemmas
+pub mod LocalLemmas
+pub mod KeepingLemmas
+pub mod MacroLemmas
+pub mod ScopeLemmas
+pub mod StatementLemmas
 pub mod FewLemmas
 pub mod OnceLemmas
 pub mod StepLemmas

@@ -8,18 +8,18 @@ use Rattle.cps_state.specs.Line.{Line, runs, line_started, line_settled, goes_on
 use Rattle.cps_state.proofs.LineLemmas.{runs-before, runs-done}
 use Rattle.cps_state.specs.declared.item.Item.{Item}
 use Rattle.cps_state.specs.Keys.{State}
-use Rattle.cps_statement.specs.declared.opened.Opened.{Opened}
-use Rattle.cps_statement.specs.declared.scope.Scope.{Scope}
-use Rattle.cps_statement.specs.declared.scope.Scope.TheVariants.{Source, Expansion}
+use Rattle.cps_pass.specs.declared.opened.Opened.{Opened}
+use Rattle.cps_pass.specs.declared.scope.Scope.{Scope}
+use Rattle.cps_pass.specs.declared.scope.Scope.TheVariants.{Source, Expansion}
 use Rattle.cps_pass.specs.Expansion.{ended, walk, body, too_deep, line_part}
-use Rattle.cps_statement.specs.Treating.{repeated}
-use Rattle.cps_statement.specs.Meaning.{statement}
-use Rattle.cps_statement.specs.Locals.{naming_all}
-use Rattle.cps_statement.specs.Naming.{Names}
-use Rattle.cps_statement.specs.Opened.{opening_of}
-use Rattle.cps_statement.specs.Opening.{Opening, plain, naming, none_opened}
-use Rattle.cps_statement.specs.Own.{new_expansion}
-use Rattle.cps_statement.specs.Taking.{HandsOn, Walks}
+use Rattle.cps_pass.specs.Treating.{repeated}
+use Rattle.cps_pass.specs.Meaning.{statement}
+use Rattle.cps_pass.specs.Locals.{naming_all}
+use Rattle.cps_pass.specs.Naming.{Names}
+use Rattle.cps_pass.specs.Opened.{opening_of}
+use Rattle.cps_pass.specs.Opening.{Opening, plain, naming, none_opened}
+use Rattle.cps_pass.specs.Own.{new_expansion}
+use Rattle.cps_pass.specs.Taking.{HandsOn, Walks}
 
 -- a statement, and then those after it
 pub walked : {S : Type 0} (nested : ℕ → Opening → Part) (depth : ℕ) (texts : List (List ℕ)) (i : ℕ) (text : List ℕ) (scope later : Scope) (opened : Opening) (complete : Bool) (f : S → State) (s t u v : Line S)

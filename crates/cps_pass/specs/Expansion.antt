@@ -7,12 +7,12 @@ use Rattle.cps_state.specs.declared.key.Mode.TheVariants.{KeepDup}
 use Rattle.cps_state.specs.Course.{stop, begin, mark, settle, Part, ◌before◌, nothing, run, started, deepest, Trace, traced}
 use Rattle.cps_state.specs.Keys.{State}
 use Rattle.cps_state.specs.Made.{no_flags}
-use Rattle.cps_statement.specs.declared.scope.Scope.{Scope}
-use Rattle.cps_statement.specs.declared.scope.Scope.TheVariants.{Source, Expansion}
-use Rattle.cps_statement.specs.Locals.{naming_all}
-use Rattle.cps_statement.specs.Meaning.{statement}
-use Rattle.cps_statement.specs.Opening.{Opening, plain, naming}
-use Rattle.cps_statement.specs.Own.{new_expansion}
+use Rattle.cps_pass.specs.declared.scope.Scope.{Scope}
+use Rattle.cps_pass.specs.declared.scope.Scope.TheVariants.{Source, Expansion}
+use Rattle.cps_pass.specs.Locals.{naming_all}
+use Rattle.cps_pass.specs.Meaning.{statement}
+use Rattle.cps_pass.specs.Opening.{Opening, plain, naming}
+use Rattle.cps_pass.specs.Own.{new_expansion}
 
 -- ---- the end of an expansion
 

@@ -5,12 +5,16 @@ ghost use Rattle.cps_state.specs.Line.{Does, Goes, runs};
 ghost use Rattle.cps_state.specs.Sheet.{StandsOn, statements_on};
 ghost use Rattle.cps_pass.specs.Expansion.{ended, opened_at, too_deep, walk_at};
 ghost use Rattle.cps_pass.specs.Expansion as expansion;
-ghost use Rattle.cps_statement.specs.Taking.{Walks};
-ghost use Rattle.cps_statement.specs.Opened.{opening_of, body_opening, lines_of};
-ghost use Rattle.cps_statement.specs.Opening.{plain};
+ghost use Rattle.cps_pass.specs.Taking.{Walks};
+ghost use Rattle.cps_pass.specs.Opened.{opening_of, body_opening, lines_of};
+ghost use Rattle.cps_pass.specs.Opening.{plain};
 
+use crate::macros::insert_all;
+use crate::names::name_all;
+use crate::opened::{Body, Opened, Repeated};
+use crate::scope::{Own, Scope};
+use crate::statement::step_statement;
 use cps_state::{Flags, Lookup, Mode, Recorder, Shared, Sheet, Trace};
-use cps_statement::{Body, Opened, Own, Repeated, Scope, insert_all, name_all, step_statement};
 use cps_text::Substitutes;
 use std::alloc::{AllocError, Global};
 

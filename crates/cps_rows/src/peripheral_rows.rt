@@ -1,9 +1,8 @@
 //! The codes of a peripheral processor's statements.
 use super::assertions::assert_row;
 use super::code_rows::number_of;
-use cps_code::{Filled, FormFault};
+use cps_code::{Filled, FormFault, PpForm, pp_form};
 use cps_expr::Radix;
-use cps_peripheral::{PpForm, pp_form};
 use std::alloc::Global;
 use std::process::Abort;
 

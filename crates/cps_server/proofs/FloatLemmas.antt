@@ -4,10 +4,10 @@ use Rattle.std.specs.Prelude.{codes, not, if◌then◌else◌}
 use Rattle.serde_json.specs.Data.{Data, Num, unsigned, negative, float, null, boolean, number, string, array, object}
 use Rattle.serde_json.specs.Find.{get, is_float, of_integer}
 use Rattle.serde_json.specs.Written.{has_float}
-use Rattle.cps_buffer.specs.declared.encoding.Encoding.{Encoding}
-use Rattle.cps_buffer.specs.declared.encoding.Encoding.TheVariants.{Utf8, Utf16}
+use Rattle.cps_rpc.specs.declared.encoding.Encoding.{Encoding}
+use Rattle.cps_rpc.specs.declared.encoding.Encoding.TheVariants.{Utf8, Utf16}
 use Rattle.cps_rpc.specs.Message.{request, response, invalid, message_in, message_by, method_of, is_identifier, is_answer}
-use Rattle.cps_queries.specs.Telling.{has_float_told}
+use Rattle.cps_server.specs.Telling.{has_float_told}
 use Rattle.cps_server.specs.Owing.{has_float_owed}
 use Rattle.cps_server.specs.Requests.{introduction, owed_by}
 use Rattle.cps_server.specs.Said.{has_float_id}

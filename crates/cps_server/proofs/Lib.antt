@@ -1,3 +1,14 @@
+pub mod PutLemmas
+pub mod SourceLemmas
+pub mod FlagLemmas
+pub mod MarkLemmas
+pub mod LineLemmas
+pub mod TextMarksLemmas
+pub mod AgreementLemmas
+mod RowLemmas
+mod CompletionLemmas
+mod QueryFloatLemmas
+mod HintLemmas
 pub mod FloatLemmas
 pub mod SaidLemmas
 pub mod ServerLemmas

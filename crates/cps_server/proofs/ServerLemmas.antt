@@ -2,8 +2,8 @@
 use Rattle.std.proofs.Common.{◌≡◌, refl, sym, ap, subst, ◌∙◌, inr, ℕ, ℤ, List, [], ◌∷◌, ◌++◌, Option, Some, None}
 use Rattle.std.proofs.lemmas.List.{append-nil}
 use Rattle.serde_json.specs.Data.{Data, null}
-use Rattle.cps_frame.specs.Frame.{frame_of}
-use Rattle.cps_params.specs.Params.{Change, OpenedText, opened_in, version_in}
+use Rattle.cps_rpc.specs.Frame.{frame_of}
+use Rattle.cps_rpc.specs.Params.{Change, OpenedText, opened_in, version_in}
 use Rattle.cps_rpc.specs.declared.error_code.ErrorCode.TheVariants.{InvalidRequest, ParseError}
 use Rattle.cps_rpc.specs.Json.{IsNoJson}
 use Rattle.cps_rpc.specs.Message.{request, invalid}

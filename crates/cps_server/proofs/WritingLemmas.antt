@@ -8,15 +8,15 @@ use Rattle.serde_json.specs.Data.{Data, number, object, string}
 use Rattle.serde_json.specs.Find.{of_integer}
 use Rattle.serde_json.specs.View.{items_of}
 use Rattle.serde_json.specs.Written.{comma_if, compact_text, items_text, members_text}
-use Rattle.cps_buffer.specs.declared.encoding.Encoding.{Encoding}
-use Rattle.cps_buffer.specs.Lines.{source_lines}
+use Rattle.cps_rpc.specs.declared.encoding.Encoding.{Encoding}
+use Rattle.cps_rpc.specs.Lines.{source_lines}
 use Rattle.cps_cause.specs.declared.letter.Letter.{Letter}
 use Rattle.cps_cause.specs.declared.letter.Letter.TheVariants.{A, D, E, L, O, T, U, V}
-use Rattle.cps_marks.specs.declared.kind.Kind.{Kind}
-use Rattle.cps_marks.specs.declared.kind.Kind.TheVariants.{Flag, Wrong}
-use Rattle.cps_marks.specs.declared.mark.Mark as made
-use Rattle.cps_marks.specs.Marks.{Mark, Marks, place_of}
-use Rattle.cps_queries.specs.Ranges.{position, range_of, told_units}
+use Rattle.cps_server.specs.declared.kind.Kind.{Kind}
+use Rattle.cps_server.specs.declared.kind.Kind.TheVariants.{Flag, Wrong}
+use Rattle.cps_server.specs.declared.mark.Mark as made
+use Rattle.cps_server.specs.Marks.{Mark, Marks, place_of}
+use Rattle.cps_server.specs.Ranges.{position, range_of, told_units}
 use Rattle.cps_server.specs.declared.diagnostic.Stretch.{Stretch}
 use Rattle.cps_server.specs.Diagnostics.{TellsMark, TellsMarks, diagnostic, letter_name, more_message, most_told, published, range_among, report, told_of_more}
 use Rattle.cps_server.specs.Writing.{AddsMark, AddsMarks, ListsText, diagnostic_text, document_text, information_text, list_text, more_text, position_text, published_text, range_text, report_text, version_text}

@@ -4,15 +4,15 @@ use Rattle.std.specs.List.{AllZip}
 use Rattle.serde_json.specs.Data.{Data, unsigned, number, string, array, object, Members, no_members, member}
 use Rattle.serde_json.specs.Find.{of_integer}
 use Rattle.serde_json.specs.View.{items_of}
-use Rattle.cps_buffer.specs.declared.encoding.Encoding.{Encoding}
-use Rattle.cps_buffer.specs.Lines.{source_lines}
+use Rattle.cps_rpc.specs.declared.encoding.Encoding.{Encoding}
+use Rattle.cps_rpc.specs.Lines.{source_lines}
 use Rattle.cps_cause.specs.declared.letter.Letter.{Letter}
 use Rattle.cps_cause.specs.declared.letter.Letter.TheVariants.{A, D, E, L, O, T, U, V}
 use Rattle.cps_rpc.specs.Outgoing.{notification}
-use Rattle.cps_queries.specs.Ranges.{columns_range}
-use Rattle.cps_marks.specs.declared.kind.Kind.{Kind}
-use Rattle.cps_marks.specs.declared.kind.Kind.TheVariants.{Flag, Wrong}
-use Rattle.cps_marks.specs.Marks.{Mark, Marks}
+use Rattle.cps_server.specs.Ranges.{columns_range}
+use Rattle.cps_server.specs.declared.kind.Kind.{Kind}
+use Rattle.cps_server.specs.declared.kind.Kind.TheVariants.{Flag, Wrong}
+use Rattle.cps_server.specs.Marks.{Mark, Marks}
 
 -- ---- a diagnostic
 

@@ -3,7 +3,7 @@ use Rattle.std.specs.Prelude.{ℕ, List}
 use Rattle.std.specs.List.{flat_map}
 use Rattle.serde_json.specs.Data.{Data}
 use Rattle.serde_json.specs.Written.{compact_text}
-use Rattle.cps_frame.specs.Frame.{frame_of}
+use Rattle.cps_rpc.specs.Frame.{frame_of}
 
 -- a value in its frame, with no blank in it
 abbrev pub frame_of_json : Data → List ℕ

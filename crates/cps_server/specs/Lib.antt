@@ -1,3 +1,14 @@
+pub mod Document
+pub mod Marks
+pub mod Adding
+pub mod Laws
+pub mod Words
+pub mod Symbols
+pub mod Rows
+pub mod Ranges
+pub mod Results
+pub mod Queries
+pub mod Telling
 pub mod Frames
 pub mod Standing
 pub mod Requests

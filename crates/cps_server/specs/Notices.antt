@@ -1,9 +1,9 @@
 -- What a server does at notifications. From the Language Server Protocol 3.17.
 use Rattle.std.specs.Prelude.{◌≡◌, ℕ, ℤ, true, List, [], ◌∷◌, Option, Some, None, codes, bytes_eq, if◌then◌else◌}
 use Rattle.serde_json.specs.Data.{Data}
-use Rattle.cps_buffer.specs.declared.encoding.Encoding.{Encoding}
-use Rattle.cps_buffer.specs.Changes.{changed}
-use Rattle.cps_params.specs.Params.{Change, OpenedText, changes_in, opened_in, uri_in, version_in}
+use Rattle.cps_rpc.specs.declared.encoding.Encoding.{Encoding}
+use Rattle.cps_rpc.specs.Changes.{changed}
+use Rattle.cps_rpc.specs.Params.{Change, OpenedText, changes_in, opened_in, uri_in, version_in}
 use Rattle.cps_server.specs.declared.notice.Notice.{Notice}
 use Rattle.cps_server.specs.declared.notice.Notice.TheVariants.{Exit, Open, Change as ChangeNotice, Close, Unknown}
 use Rattle.cps_server.specs.declared.phase.Phase.{Phase}

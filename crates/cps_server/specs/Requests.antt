@@ -1,15 +1,15 @@
 -- What a server answers to requests. From the Language Server Protocol 3.17.
 use Rattle.std.specs.Prelude.{◌≡◌, ℕ, true, List, codes, bytes_eq, Option, Some, None, if◌then◌else◌}
 use Rattle.serde_json.specs.Data.{Data, unsigned, null, boolean, number, string, object, no_members, member}
-use Rattle.cps_buffer.specs.declared.encoding.Encoding.{Encoding}
-use Rattle.cps_buffer.specs.declared.encoding.Encoding.TheVariants.{Utf8, Utf16}
-use Rattle.cps_params.specs.declared.markup.Markup.{Markup}
-use Rattle.cps_params.specs.Params.{encoding_in, markup_in, uri_in}
+use Rattle.cps_rpc.specs.declared.encoding.Encoding.{Encoding}
+use Rattle.cps_rpc.specs.declared.encoding.Encoding.TheVariants.{Utf8, Utf16}
+use Rattle.cps_rpc.specs.declared.markup.Markup.{Markup}
+use Rattle.cps_rpc.specs.Params.{encoding_in, markup_in, uri_in}
 use Rattle.cps_rpc.specs.declared.error_code.ErrorCode.{ErrorCode}
 use Rattle.cps_rpc.specs.declared.error_code.ErrorCode.TheVariants.{InvalidRequest, MethodNotFound, InvalidParams, ServerNotInitialized}
 use Rattle.cps_rpc.specs.Outgoing.{response, refusal}
-use Rattle.cps_queries.specs.declared.query.Query.{Query}
-use Rattle.cps_queries.specs.Queries.{Tells, query_named}
+use Rattle.cps_server.specs.declared.query.Query.{Query}
+use Rattle.cps_server.specs.Queries.{Tells, query_named}
 use Rattle.cps_server.specs.declared.phase.Phase.{Phase}
 use Rattle.cps_server.specs.declared.phase.Phase.TheVariants.{Uninitialized, Running, ShutDown}
 use Rattle.cps_server.specs.declared.request.Request.{Request}

@@ -1,8 +1,8 @@
 -- What a run of a server does. Our own.
 use Rattle.std.specs.Prelude.{◌≡◌, ℕ, Bool, List, Option, Result, Ok, Err}
 use Rattle.cps_text.specs.declared.counted.Counted.{Counted}
-use Rattle.cps_serving.specs.declared.fault.ServerFault.{ServerFault}
-use Rattle.cps_serving.specs.Serving.{Serves}
+use Rattle.cps_rpc.specs.declared.fault.ServerFault.{ServerFault}
+use Rattle.cps_rpc.specs.Serving.{Serves}
 use Rattle.cps_server.specs.Answers.{IsAnswered}
 use Rattle.cps_server.specs.Standing.{Standing, beginning, is_shut_down}
 

@@ -1,9 +1,9 @@
 -- Where a server stands. From the Language Server Protocol 3.17; what is agreed on before `initialize` is our own.
 use Rattle.std.specs.Prelude.{ℕ, Bool, true, false, not, List, [], ◌∷◌, ◌++◌, Option, Some, None, bytes_eq, filter, option_map, if◌then◌else◌}
-use Rattle.cps_buffer.specs.declared.encoding.Encoding.{Encoding}
-use Rattle.cps_buffer.specs.declared.encoding.Encoding.TheVariants.{Utf16}
-use Rattle.cps_params.specs.declared.markup.Markup.{Markup}
-use Rattle.cps_params.specs.declared.markup.Markup.TheVariants.{Plain}
+use Rattle.cps_rpc.specs.declared.encoding.Encoding.{Encoding}
+use Rattle.cps_rpc.specs.declared.encoding.Encoding.TheVariants.{Utf16}
+use Rattle.cps_rpc.specs.declared.markup.Markup.{Markup}
+use Rattle.cps_rpc.specs.declared.markup.Markup.TheVariants.{Plain}
 use Rattle.cps_server.specs.declared.phase.Phase.{Phase}
 use Rattle.cps_server.specs.declared.phase.Phase.TheVariants.{Uninitialized, Running, ShutDown}
 

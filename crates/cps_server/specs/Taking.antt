@@ -1,7 +1,7 @@
 -- For the code, not part of what a reader believes: what is told of a text, by a name and a version.
 use Rattle.std.specs.Prelude.{ℕ, List}
 use Rattle.serde_json.specs.Data.{Data}
-use Rattle.cps_params.specs.Params.{Change}
+use Rattle.cps_rpc.specs.Params.{Change}
 use Rattle.cps_server.specs.declared.diagnostics.ToldText.{ToldText}
 use Rattle.cps_server.specs.Notices.{ChangesUnder, TakesText}
 use Rattle.cps_server.specs.Standing.{Standing}

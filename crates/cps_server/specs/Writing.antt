@@ -4,10 +4,10 @@ use Rattle.serde_json.specs.Data.{Data, number, string, array}
 use Rattle.serde_json.specs.Find.{of_integer}
 use Rattle.serde_json.specs.View.{items_of}
 use Rattle.serde_json.specs.Written.{compact_text, items_text}
-use Rattle.cps_buffer.specs.declared.encoding.Encoding.{Encoding}
-use Rattle.cps_marks.specs.declared.kind.Kind.{Kind}
-use Rattle.cps_marks.specs.declared.kind.Kind.TheVariants.{Flag, Wrong}
-use Rattle.cps_marks.specs.Marks.{Mark}
+use Rattle.cps_rpc.specs.declared.encoding.Encoding.{Encoding}
+use Rattle.cps_server.specs.declared.kind.Kind.{Kind}
+use Rattle.cps_server.specs.declared.kind.Kind.TheVariants.{Flag, Wrong}
+use Rattle.cps_server.specs.Marks.{Mark}
 use Rattle.cps_server.specs.declared.diagnostic.Stretch.{Stretch}
 use Rattle.cps_server.specs.Diagnostics.{TellsMark, TellsMarks, TellsText, letter_name, told_of_more}
 

@@ -1,15 +1,16 @@
 //! A diagnostic, as it is written.
 ghost use Rattle.std.specs.Prelude.{◌≡◌, ◌-◌, ◌++◌, OnOk};
-ghost use Rattle.cps_marks.specs.declared.kind.Kind.TheVariants.{Flag, Wrong};
-ghost use Rattle.cps_queries.specs.Ranges.{told_units};
+ghost use Rattle.cps_server.specs.declared.kind.Kind.TheVariants.{Flag, Wrong};
+ghost use Rattle.cps_server.specs.Ranges.{told_units};
 ghost use Rattle.cps_server.specs.Diagnostics as diagnostics;
 ghost use Rattle.cps_server.specs.Writing.{diagnostic_text, information_text, message_text, position_text, range_text, report_text};
 
+use crate::kind::Kind;
+use crate::mark::Mark;
 use crate::writing::push_string;
-use cps_buffer::{Encoding, units_before};
 use cps_cause::Letter;
-use cps_listing::push_decimal;
-use cps_marks::{Kind, Mark};
+use cps_list::push_decimal;
+use cps_rpc::{Encoding, units_before};
 use std::alloc::{AllocError, Global};
 
 /// How severe a diagnostic is, as the protocol counts.

@@ -1,20 +1,20 @@
 //! The diagnostics of a text, and how an editor is told them.
 ghost use Rattle.std.specs.Prelude.{◌≡◌, [], ◌++◌, map, IfOk, OnOk, None};
 ghost use Rattle.std.specs.String.{string_bytes};
-ghost use Rattle.cps_buffer.specs.Lines.{source_lines};
-ghost use Rattle.cps_frame.specs.Frame.{frame_of};
-ghost use Rattle.cps_marks.specs.Marks.{place_of};
+ghost use Rattle.cps_rpc.specs.Lines.{source_lines};
+ghost use Rattle.cps_rpc.specs.Frame.{frame_of};
+ghost use Rattle.cps_server.specs.Marks.{place_of};
 ghost use Rattle.cps_server.specs.Diagnostics.{more_message, published};
 ghost use Rattle.cps_server.specs.Frames.{frame_of_json};
 ghost use Rattle.cps_server.specs.Writing.{AddsMark, AddsMarks, ListsText, document_text, more_text, published_text};
 
 use crate::diagnostic::{Stretch, push_diagnostic, push_information};
+use crate::document::Document;
+use crate::mark::Mark;
+use crate::marking::marks_of;
+use crate::mentions::line_of;
 use crate::writing::{push_comma, push_string, push_version};
-use cps_buffer::Encoding;
-use cps_document::Document;
-use cps_frame::push_frame;
-use cps_lookup::line_of;
-use cps_marks::{Mark, marks_of};
+use cps_rpc::{Encoding, push_frame};
 use std::alloc::{AllocError, Global};
 use std::str;
 

@@ -3,7 +3,7 @@ ghost use Rattle.std.specs.Prelude.{◌≡◌, IfOk};
 ghost use Rattle.serde_json.specs.View.{view};
 ghost use Rattle.cps_server.specs.Requests as requests;
 
-use cps_buffer::Encoding;
+use cps_rpc::Encoding;
 use serde_json::{Value, json};
 use std::alloc::{AllocError, Global};
 

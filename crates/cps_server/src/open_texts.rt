@@ -3,7 +3,7 @@ ghost use Rattle.std.specs.Prelude.{◌≡◌, [], ◌∷◌, ◌++◌, map, opt
 ghost use Rattle.cps_server.specs.Opened.{IsFirst, value_of};
 ghost use Rattle.cps_server.specs.Standing.{open_under, text_under, without};
 
-use cps_document::Document;
+use crate::document::Document;
 use std::alloc::{AllocError, Global};
 use std::marker::Model;
 

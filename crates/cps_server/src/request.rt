@@ -2,7 +2,7 @@
 ghost use Rattle.std.specs.Prelude.{◌≡◌};
 ghost use Rattle.cps_server.specs.Requests.{request_named, request_of};
 
-use cps_queries::Query;
+use crate::query::Query;
 
 /// A request, by its method.
 #[derive(Clone, Copy)]

@@ -2,8 +2,8 @@
 ghost use Rattle.cps_server.specs.Running.{RunsServer};
 
 use crate::server::Server;
-use cps_pass::Hashing;
-use cps_serving::{ServerFault, serve};
+use cps_rpc::{ServerFault, serve};
+use cps_state::Hashing;
 use cps_text::Counted;
 use std::alloc::Global;
 use std::io::{Read, Write};

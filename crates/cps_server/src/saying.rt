@@ -9,8 +9,7 @@ ghost use Rattle.cps_server.specs.Owing.{has_float_owed, value_of};
 ghost use Rattle.cps_server.specs.Requests.{answer_with};
 
 use crate::owed::Owed;
-use cps_frame::push_frame;
-use cps_rpc::{ErrorCode, refusal, response};
+use cps_rpc::{ErrorCode, push_frame, refusal, response};
 use serde_json::Value;
 use std::alloc::{AllocError, Global};
 

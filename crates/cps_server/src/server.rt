@@ -3,7 +3,7 @@ ghost use Rattle.std.specs.Prelude.{◌≡◌, false, map, OnOk, IfOk};
 ghost use Rattle.serde_json.specs.Data.{null};
 ghost use Rattle.serde_json.specs.View.{view};
 ghost use Rattle.serde_json.specs.Written.{has_float};
-ghost use Rattle.cps_params.specs.Params.{value_of as change_of};
+ghost use Rattle.cps_rpc.specs.Params.{value_of as change_of};
 ghost use Rattle.cps_rpc.specs.Message.{request, value_of as asked_by};
 ghost use Rattle.cps_server.specs.Answers.{Hears, HearsJson, params_of};
 ghost use Rattle.cps_server.specs.Notices as notices;
@@ -13,23 +13,23 @@ ghost use Rattle.cps_server.specs.Said.{Into, has_float_id};
 ghost use Rattle.cps_server.specs.Taking.{Changes, Takes};
 ghost use Rattle.cps_server.specs.Standing.{beginning, is_shut_down};
 
+use crate::answering::answer;
+use crate::deck::Deck;
 use crate::diagnostics::{ToldText, list_of, say_closed, say_list};
+use crate::document::Document;
 use crate::introducing::introduction;
 use crate::notice::Notice;
 use crate::open_texts::OpenTexts;
 use crate::owed::Owed;
 use crate::phase::Phase;
+use crate::query::Query;
 use crate::request::Request;
 use crate::saying::{push_answer, push_rejection};
-use cps_buffer::Encoding;
-use cps_document::Document;
-use cps_params::{
-    Change, Markup, OpenedText, changes_in, encoding_in, markup_in, uri_in, version_in,
+use cps_rpc::{
+    Change, Encoding, ErrorCode, JsonFault, Markup, Message, OpenedText, Service, changes_in,
+    encoding_in, json_of, markup_in, uri_in, version_in,
 };
-use cps_pass::Hashing;
-use cps_queries::{Deck, Query, answer};
-use cps_rpc::{ErrorCode, JsonFault, Message, json_of};
-use cps_serving::Service;
+use cps_state::Hashing;
 use serde_json::Value;
 use std::alloc::{AllocError, Global};
 use std::marker::Model;

@@ -1,5 +1,5 @@
 -- The form of an instruction, whichever machine's it is. Our own.
-use Rattle.cps_peripheral.specs.Form.{Form}
+use Rattle.cps_code.specs.Form.{Form}
 use Rattle.cps_state.specs.declared.instruction.MachineForm.{MachineForm}
 use Rattle.cps_state.specs.declared.instruction.MachineForm.TheVariants.{Central, Peripheral}
 

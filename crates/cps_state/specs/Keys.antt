@@ -7,8 +7,8 @@ use Rattle.cps_expr.specs.declared.machine.Machine.TheVariants.{Cp, Pp}
 use Rattle.cps_expr.specs.declared.radix.Radix.TheVariants.{Decimal}
 use Rattle.cps_expr.specs.declared.value.Value.{Value}
 use Rattle.cps_expr.specs.Value.{limited, same_name, Values}
-use Rattle.cps_peripheral.specs.declared.Place.{Place}
-use Rattle.cps_peripheral.specs.Place.{position, place_at}
+use Rattle.cps_code.specs.declared.place.Place.{Place}
+use Rattle.cps_code.specs.Place.{position, place_at}
 use Rattle.cps_state.specs.declared.key.Key.{Key}
 use Rattle.cps_state.specs.declared.key.Key.TheVariants as key
 use Rattle.cps_state.specs.declared.key.Phase.TheVariants as phase

@@ -13,6 +13,3 @@ pub mod Made
 pub mod MadeKept
 pub mod Sheet
 pub mod Work
-pub use Rattle.cps_peripheral.specs.Bits
-pub use Rattle.cps_peripheral.specs.Operand
-pub use Rattle.cps_peripheral.specs.Place

@@ -6,8 +6,8 @@ use Rattle.cps_expr.specs.declared.machine.Machine.TheVariants.{Cp}
 use Rattle.cps_expr.specs.Expression.{names_of}
 use Rattle.cps_expr.specs.Item.{bits_of}
 use Rattle.cps_expr.specs.Value.{IsInRange}
-use Rattle.cps_peripheral.specs.Image.{Piece}
-use Rattle.cps_peripheral.specs.Operand.{operand_names, operand_literals}
+use Rattle.cps_code.specs.Image.{Piece}
+use Rattle.cps_code.specs.Operand.{operand_names, operand_literals}
 use Rattle.cps_state.specs.declared.flags.Flags.{Flags}
 use Rattle.cps_state.specs.declared.made.Content.{Content}
 use Rattle.cps_state.specs.declared.made.Content.TheVariants.{Instruction, Value, Number, Unsized}

@@ -1,7 +1,7 @@
 -- For the code, not part of what a reader believes: what a statement made, as it is kept.
 use Rattle.std.specs.Prelude.{Some, option_map}
 use Rattle.std.specs.Option.{option_to_list}
-use Rattle.cps_peripheral.specs.Image.{piece_of}
+use Rattle.cps_code.specs.Image.{piece_of}
 use Rattle.cps_state.specs.declared.flags.Flags.{Flags}
 use Rattle.cps_state.specs.declared.made.Making.{Making}
 use Rattle.cps_state.specs.declared.made.Making.TheVariants.{Naming, Leaving, Reserving, Placing}

@@ -1,7 +1,7 @@
 //! What answers say. One of another kind, or none, says what stands before the first line.
 ghost use Rattle.std.specs.Prelude.{◌≡◌, ◌*◌, ◌≤◌, IfOk, IfSome};
 ghost use Rattle.std.specs.Option.{option_copied};
-ghost use Rattle.cps_peripheral.specs.Place.{position};
+ghost use Rattle.cps_code.specs.Place.{position};
 ghost use Rattle.cps_expr.specs.Value.{IsInRange};
 ghost use Rattle.cps_state.specs.Keys.{first_control, first_place, control_of, mode_of, macro_of, text_of, place_of, within_limit, value_of, uses_of, ranges_of, count_of, is_place, is_normal, is_no_range, is_open};
 ghost use Rattle.cps_state.specs.Machines.{limit};
@@ -10,8 +10,8 @@ use crate::key::{Answer, Control, Head, Key, Macro, Mode, Phase, Range};
 use crate::lookup::Lookup;
 use crate::machines::{WORD, limit_of};
 use crate::shared::Shared;
+use cps_code::Place;
 use cps_expr::{Machine, Radix, Value};
-use cps_peripheral::Place;
 use cps_text::Name;
 use std::alloc::AllocError;
 

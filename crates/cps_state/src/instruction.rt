@@ -1,8 +1,8 @@
 //! Instructions, whichever machine's they are.
 ghost use Rattle.std.specs.Prelude.{◌≡◌, ◌<◌, ◌^◌, ◌≤◌, length};
-ghost use Rattle.cps_peripheral.specs.Form.{filled};
+ghost use Rattle.cps_code.specs.Form.{filled};
 
-use cps_peripheral::{CpForm, Filled, Hole, PpForm};
+use cps_code::{CpForm, Filled, Hole, PpForm};
 use std::marker::Model;
 
 /// The form of an instruction, by the machine that has it.
@@ -19,7 +19,7 @@ pub struct InstructionForm {
 }
 
 impl Model for InstructionForm {
-    ghost use Rattle.cps_peripheral.specs.Form.{Form};
+    ghost use Rattle.cps_code.specs.Form.{Form};
     ghost use Rattle.cps_state.specs.Instruction.{form_in};
 
     ghost Value = { Form };

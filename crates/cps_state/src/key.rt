@@ -5,8 +5,8 @@ ghost use Rattle.cps_state.specs.Keys.{same_block, same_key};
 use crate::shared::Shared;
 use crate::shared_macro::SharedMacro;
 use crate::shared_mode::SharedMode;
+use cps_code::Place;
 use cps_expr::{Machine, Radix, Value, is_same_name};
-use cps_peripheral::Place;
 use cps_text::Name;
 use std::alloc::AllocError;
 

@@ -49,7 +49,6 @@ pub use answers::{
     ranges_of, text_of, uses_of, value_of,
 };
 pub use contents::Contents;
-pub use cps_peripheral::{Hole, Operand, Place};
 pub use flags::Flags;
 pub use hashing::Hashing;
 pub use instruction::InstructionForm;

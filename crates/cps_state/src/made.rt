@@ -1,7 +1,7 @@
 //! What a statement made in pass one.
 ghost use Rattle.std.specs.Prelude.{◌≡◌, [], None, Some, true, false, All, nat_lt, option_map, ◌≤◌, ◌*◌, ◌<◌, ◌%◌, if◌then◌else◌};
 ghost use Rattle.std.specs.Option.{option_to_list};
-ghost use Rattle.cps_peripheral.specs.Image.{piece_of};
+ghost use Rattle.cps_code.specs.Image.{piece_of};
 ghost use Rattle.cps_expr.specs.Item.{bits_of};
 ghost use Rattle.cps_state.specs.Flags.{joined};
 ghost use Rattle.cps_state.specs.Machines.{limit};
@@ -11,8 +11,8 @@ use crate::contents::Contents;
 use crate::flags::Flags;
 use crate::instruction::InstructionForm;
 use crate::machines::{WORD, behind, limit_of};
+use cps_code::Piece;
 use cps_expr::{Expr, Machine, Value};
-use cps_peripheral::Piece;
 use cps_text::Name;
 use std::marker::Model;
 

@@ -3,9 +3,9 @@ use Rattle.std.proofs.Common.{◌≡◌, ℕ, subst, ◌∙◌, List, Err}
 use Rattle.cps_state.specs.Work.{Counts, no_work}
 use Rattle.cps_edit.specs.Splice.{Splice}
 use Rattle.cps_edit.specs.Disturbed.{ones_of, twos_of}
-use Rattle.cps_session.specs.declared.session.EditFault.{EditFault}
-use Rattle.cps_session.specs.declared.session.EditFault.TheVariants as faults
-use Rattle.cps_session.specs.Edits.{HaveStepped, HaveSteppedUpTo, WorkOfEdit}
+use Rattle.cps_live.specs.declared.session.EditFault.{EditFault}
+use Rattle.cps_live.specs.declared.session.EditFault.TheVariants as faults
+use Rattle.cps_live.specs.Edits.{HaveStepped, HaveSteppedUpTo, WorkOfEdit}
 use Rattle.cps_tool.specs.Reply.{refusal_of}
 use Rattle.cps_tool.specs.EditReplies.{StepsOf, StepsOfRefused}
 

@@ -5,18 +5,18 @@ use Rattle.clap.specs.Words.{Text}
 use Rattle.cps_words.specs.declared.unread.Unread.{Unread}
 use Rattle.cps_words.specs.declared.unread.Unread.TheVariants.{Told, Wrong, Memory}
 use Rattle.cps_compare.specs.declared.limits.Limits.{Limits}
-use Rattle.cps_octal.specs.declared.fault.OctalFault.{OctalFault}
-use Rattle.cps_octal.specs.Octal.{RunsComparison}
+use Rattle.cps_compare.specs.declared.octal_fault.OctalFault.{OctalFault}
+use Rattle.cps_compare.specs.Octal.{RunsComparison}
 use Rattle.cps_words.specs.Request.{Answer, IsAnswer, answer_of, asks, refuses, tells}
 use Rattle.cps_input.specs.Sources.{IsReadWhole, IsSource}
 use Rattle.cps_words.specs.declared.comparand.Comparand.{Comparand}
 use Rattle.cps_words.specs.declared.request.Request.{Request}
 use Rattle.cps_words.specs.declared.request.Request.TheVariants.{Check, Compare, Export}
 use Rattle.cps_list.specs.declared.part.Part.{Part}
-use Rattle.cps_output.specs.declared.outputs.Outputs.{Outputs}
-use Rattle.cps_output.specs.Outputs.{name_of, names_of}
-use Rattle.cps_output.specs.Placing.{Placed}
-use Rattle.cps_output.specs.Same.{KeepsAll, Sameness}
+use Rattle.cps_words.specs.declared.outputs.Outputs.{Outputs}
+use Rattle.cps_words.specs.Outputs.{name_of, names_of}
+use Rattle.cps_words.specs.Placing.{Placed}
+use Rattle.cps_words.specs.Same.{KeepsAll, Sameness}
 use Rattle.std.specs.Borrow.{Bor}
 use Rattle.std.specs.Prelude.{option_map, unwrap_or}
 use Rattle.cps_words.specs.Task.{task_of, Task, batch, export, check, compare, explain, server, session}

@@ -2,10 +2,10 @@
 use Rattle.std.specs.Prelude.{ℕ, List, Option, Some, ◌⊎◌}
 use Rattle.clap.specs.Words.{Text}
 use Rattle.cps_text.specs.declared.counted.Counted.{Counted}
-use Rattle.cps_output.specs.declared.export.Export.{Export}
-use Rattle.cps_output.specs.Export.{wanted_of}
-use Rattle.cps_output.specs.Outputs.{name_of}
-use Rattle.cps_output.specs.Placing.{Placed}
+use Rattle.cps_words.specs.declared.export.Export.{Export}
+use Rattle.cps_words.specs.Export.{wanted_of}
+use Rattle.cps_words.specs.Outputs.{name_of}
+use Rattle.cps_words.specs.Placing.{Placed}
 use Rattle.cps_words.specs.declared.request.Call.{Call}
 use Rattle.cps_words.specs.Request.{asked_by, asks}
 use Rattle.cps_words.specs.Task.{session, task_of}

@@ -7,17 +7,17 @@ use Rattle.cps_batch.specs.Batch.{RunsBatch}
 use Rattle.cps_check.specs.declared.fault.CheckFault.{CheckFault}
 use Rattle.cps_check.specs.Check.{RunsCheck}
 use Rattle.cps_compare.specs.declared.limits.Limits.{Limits}
-use Rattle.cps_octal.specs.declared.fault.OctalFault.{OctalFault}
-use Rattle.cps_octal.specs.Octal.{RunsComparison}
+use Rattle.cps_compare.specs.declared.octal_fault.OctalFault.{OctalFault}
+use Rattle.cps_compare.specs.Octal.{RunsComparison}
 use Rattle.clap.specs.Words.{Text}
 use Rattle.cps_input.specs.Sources.{IsSource, IsReadWhole}
-use Rattle.cps_manual.specs.Manual as manual
-use Rattle.cps_output.specs.declared.export_fault.ExportFault.{ExportFault}
-use Rattle.cps_output.specs.Export.{Exports, Wanted}
-use Rattle.cps_output.specs.Placing.{Placed}
-use Rattle.cps_output.specs.Same.{KeepsAll, Sameness}
+use Rattle.cps_check.specs.Manual as manual
+use Rattle.cps_words.specs.declared.export_fault.ExportFault.{ExportFault}
+use Rattle.cps_words.specs.Export.{Exports, Wanted}
+use Rattle.cps_words.specs.Placing.{Placed}
+use Rattle.cps_words.specs.Same.{KeepsAll, Sameness}
 use Rattle.cps_server.specs.Running.{RunsServer}
-use Rattle.cps_serving.specs.declared.fault.ServerFault.{ServerFault}
+use Rattle.cps_rpc.specs.declared.fault.ServerFault.{ServerFault}
 use Rattle.cps_words.specs.Task.{Task, batch, export, session, check, compare, explain, server}
 use Rattle.cps_words.specs.Shown.{shown}
 use Rattle.cps_words.specs.declared.unread.Unread.{Unread}

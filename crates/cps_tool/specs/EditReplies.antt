@@ -2,11 +2,11 @@
 use Rattle.std.specs.Prelude.{◌≡◌, ℕ, ◌-◌, ◌<◌, ◌≤◌, List, length, insert, slice_set}
 use Rattle.cps_text.specs.Line.{longest_line, IsLine, HasBadCharacter}
 use Rattle.cps_state.specs.Work.{Counts, no_work}
-use Rattle.cps_exchange.specs.Exchange.{exchanged, move}
+use Rattle.cps_edit.specs.Exchange.{exchanged, move}
 use Rattle.cps_edit.specs.Splice.{Splice, insertion, replacement, deletion}
 use Rattle.cps_edit.specs.Disturbed.{ones_of, twos_of, ones_of_exchange, twos_of_exchange}
-use Rattle.cps_session.specs.Limits.{most_lines}
-use Rattle.cps_session.specs.Edits.{HasLine, LacksLine, HasLines, LacksLines, HasMove, LacksMove, without_lines, HaveStepped, HaveSteppedUpTo}
+use Rattle.cps_edit.specs.Limits.{most_lines}
+use Rattle.cps_live.specs.Edits.{HasLine, LacksLine, HasLines, LacksLines, HasMove, LacksMove, without_lines, HaveStepped, HaveSteppedUpTo}
 use Rattle.cps_tool.specs.declared.reply.Refusal.{Refusal}
 use Rattle.cps_tool.specs.declared.reply.Refusal.TheVariants as refusals
 use Rattle.cps_tool.specs.Reply.{Response, accepted, refused, shown, worked}

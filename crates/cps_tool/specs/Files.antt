@@ -3,8 +3,8 @@ use Rattle.std.specs.Prelude.{◌≡◌, ℕ, List, Option, Some, None, Result}
 use Rattle.clap.specs.Words.{Text}
 use Rattle.cps_text.specs.declared.counted.Counted.{Counted}
 use Rattle.cps_compare.specs.declared.limits.Limits.{Limits}
-use Rattle.cps_octal.specs.declared.fault.OctalFault.{OctalFault}
-use Rattle.cps_octal.specs.Octal.{RunsComparison}
+use Rattle.cps_compare.specs.declared.octal_fault.OctalFault.{OctalFault}
+use Rattle.cps_compare.specs.Octal.{RunsComparison}
 use Rattle.cps_tool.specs.declared.comparing.Files.{Files}
 use Rattle.cps_tool.specs.declared.comparing.Files.TheVariants.{Octal, Source, Both}
 use Rattle.cps_tool.specs.CommandLine.{IsOpened}

@@ -4,7 +4,7 @@ use Rattle.std.specs.List.{list_all}
 use Rattle.std.specs.Io.KnownBytes.{Appends}
 use Rattle.cps_text.specs.declared.counted.Counted.{Counted}
 use Rattle.cps_text.specs.Counted.{inner_of}
-use Rattle.cps_session.specs.Edits.{Source}
+use Rattle.cps_live.specs.Edits.{Source}
 use Rattle.cps_tool.specs.declared.reply.Reply.{Reply}
 use Rattle.cps_tool.specs.declared.script.Interpreter.{Interpreter}
 use Rattle.cps_tool.specs.declared.script.Flow.{Flow}

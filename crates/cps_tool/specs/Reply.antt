@@ -1,7 +1,7 @@
 -- Replies, and their text. Our own.
 use Rattle.std.specs.Prelude.{ℕ, List, ◌++◌, codes, decimal}
-use Rattle.cps_session.specs.declared.session.EditFault.{EditFault}
-use Rattle.cps_session.specs.declared.session.EditFault.TheVariants as faults
+use Rattle.cps_live.specs.declared.session.EditFault.{EditFault}
+use Rattle.cps_live.specs.declared.session.EditFault.TheVariants as faults
 use Rattle.cps_tool.specs.declared.reply.Refusal.{Refusal}
 use Rattle.cps_tool.specs.declared.reply.Refusal.TheVariants as refusals
 use Rattle.cps_tool.specs.declared.reply.Reply.{Reply}

@@ -6,12 +6,12 @@ use Rattle.cps_text.specs.declared.counted.Counted.{Counted}
 use Rattle.cps_text.specs.Counted.{inner_of, failures_of, FailsOnce, LastReadGave}
 use Rattle.cps_state.specs.Work.{Counts}
 use Rattle.cps_tool.specs.declared.reply.Refusal.TheVariants as refusals
-use Rattle.cps_list.specs.Listing.{listing_text}
+use Rattle.cps_list.specs.ListingText.{listing_text}
 use Rattle.cps_list.specs.Binary.{binary_text}
 use Rattle.cps_list.specs.Symbols.{symbols_text}
 use Rattle.cps_list.specs.Flagged.{flags_text}
-use Rattle.cps_session.specs.Assembly.{assembly_of}
-use Rattle.cps_session.specs.Flagged.{flagged_lines}
+use Rattle.cps_edit.specs.Assembly.{assembly_of}
+use Rattle.cps_edit.specs.Flagged.{flagged_lines}
 use Rattle.cps_input.specs.Reads.{EndsEarly}
 use Rattle.cps_input.specs.Lines.{Splits, without_return, last_line, lines_of}
 use Rattle.cps_tool.specs.Command.{Order, append, insert, replace, delete, move, list, binary, symbols, flags, work, quit, Spells, is_quit}

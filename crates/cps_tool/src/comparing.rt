@@ -1,12 +1,12 @@
 //! A comparison of an octal text with a source, of which one at least is a file.
 ghost use Rattle.std.specs.Prelude.{◌≡◌, IfSome};
-ghost use Rattle.cps_output.specs.Outputs.{name_of};
+ghost use Rattle.cps_words.specs.Outputs.{name_of};
 ghost use Rattle.cps_tool.specs.Files.{AreFiles, ComparesFiles};
 
 use super::host::Host;
 use super::sources::{Sources, open_input};
 use super::telling::complain;
-use cps_octal::{OctalFault, Setup, compare_inputs};
+use cps_compare::{OctalFault, Setup, compare_inputs};
 use cps_text::Counted;
 use cps_words::Comparand;
 use std::alloc::Global;

@@ -6,9 +6,8 @@ ghost use Rattle.cps_tool.specs.CommandLine.{IsQuiet};
 use super::faults::complain_of_source;
 use super::host::Host;
 use super::telling::{NO_MEMORY, complain, status_of_count};
-use cps_output::{Clash, Export, ExportFault, Targets, export_source};
 use cps_text::Counted;
-use cps_words::shown;
+use cps_words::{Clash, Export, ExportFault, Targets, export_source, shown};
 use std::alloc::{AllocError, Global};
 use std::io::{Read, Write};
 

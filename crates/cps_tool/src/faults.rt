@@ -3,8 +3,8 @@ ghost use Rattle.std.specs.Prelude.{◌≡◌};
 
 use super::telling::{NO_MEMORY, complain, complain_of};
 use cps_batch::BatchFault;
+use cps_compare::OctalFault;
 use cps_input::InputFault;
-use cps_octal::OctalFault;
 use cps_text::Counted;
 use cps_text::limits::MOST_LINES;
 use cps_words::shown;

@@ -1,6 +1,6 @@
 //! What a call of the program runs on.
 
-use cps_pass::Hashing;
+use cps_state::Hashing;
 use std::alloc::Global;
 
 /// What a call runs on: its memory, how its maps hash, and the files that it may name.

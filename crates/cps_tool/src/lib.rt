@@ -32,10 +32,6 @@ mod words;
 mod writing;
 
 pub use command::{Command, ScriptFault};
-pub use cps_output::Targets;
-pub use cps_pass::Hashing;
-pub use cps_session::Session;
-pub use cps_words::{Call, Request, Unread, read_words};
 pub use host::Host;
 pub use script::run_script;
 pub use sources::Sources;

@@ -12,11 +12,10 @@ use super::telling::{
     tell,
 };
 use cps_batch::batch;
-use cps_check::check;
+use cps_check::{check, manual_text};
 use cps_list::Part;
-use cps_manual::manual_text;
+use cps_live::Session;
 use cps_server::run_server;
-use cps_session::Session;
 use cps_text::Counted;
 use cps_words::{Call, Request, shown};
 use std::alloc::{AllocError, Global};

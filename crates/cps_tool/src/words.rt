@@ -13,9 +13,8 @@ use super::running::run_request;
 use super::sessions::run_session_from;
 use super::sources::{Sources, open_input};
 use super::telling::{FAULTY, NO_FILES, complain, status_of_count, tell_unread};
-use cps_output::{Export, Targets, find_clash};
 use cps_text::Counted;
-use cps_words::{Call, Request, read_words};
+use cps_words::{Call, Export, Request, Targets, find_clash, read_words};
 use std::io::{Read, Write};
 
 /// Does what the words of a call ask, the first of which is the program's name: batch assembly of a source, its check, the script

@@ -1,5 +1,5 @@
 //! Assertions for whose proofs a caller doesn't pay again.
-use cps_devices::SlowWriter;
+use cps_rows::SlowWriter;
 use cps_text::Counted;
 use std::fmt::Debug;
 use std::process::Abort;

@@ -2,8 +2,8 @@
 use super::assertions::{assert_bytes, assert_same};
 use super::running::{Written, assemble_from, assemble_into};
 use cps_batch::BatchFault;
-use cps_devices::{Resuming, SlowReader, SlowWriter};
 use cps_list::Part;
+use cps_rows::{Resuming, SlowReader, SlowWriter};
 use cps_text::Counted;
 use std::alloc::Global;
 use std::process::Abort;

@@ -1,8 +1,9 @@
 //! Calls of the program whose devices fail, and of its server.
 use super::assertions::{assert_bytes, assert_same};
-use cps_devices::{SlowReader, SlowWriter};
+use cps_rows::{SlowReader, SlowWriter};
+use cps_state::Hashing;
 use cps_text::Counted;
-use cps_tool::{Hashing, Host, run_words};
+use cps_tool::{Host, run_words};
 use std::alloc::Global;
 use std::io::{Read, Write};
 use std::process::Abort;

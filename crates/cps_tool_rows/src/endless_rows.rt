@@ -3,8 +3,8 @@
 use super::assertions::assert_same;
 use super::running::{assemble_into, run};
 use cps_batch::BatchFault;
-use cps_devices::{Endless, Tallying};
 use cps_list::Part;
+use cps_rows::{Endless, Tallying};
 use cps_text::Counted;
 use cps_tool::RunFault;
 use std::alloc::Global;

@@ -1,7 +1,7 @@
 //! What is done with readers and writers that are slow or fail, and what is counted of them.
 use super::assertions::{assert_bytes, assert_same};
 use super::running::{Ran, run};
-use cps_devices::{FailsAt, Idle, Noting, Resuming, SlowReader, SlowWriter, Telling};
+use cps_rows::{FailsAt, Idle, Noting, Resuming, SlowReader, SlowWriter, Telling};
 use cps_text::Counted;
 use cps_tool::RunFault;
 use std::alloc::Global;

@@ -1,8 +1,10 @@
 //! Runs of scripts on a source without a line, and of batch assembly. Only here a session is held.
 use cps_batch::{BatchFault, batch};
 use cps_list::Part;
+use cps_live::Session;
+use cps_state::Hashing;
 use cps_text::Counted;
-use cps_tool::{Hashing, RunFault, Session, run_script};
+use cps_tool::{RunFault, run_script};
 use std::alloc::Global;
 use std::io::{Read, Write};
 

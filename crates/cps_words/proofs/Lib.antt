@@ -3,3 +3,5 @@ pub mod AlikeLemmas
 pub mod SimpleLemmas
 pub mod RequestLemmas
 pub mod RequestRows
+pub mod PlacingLemmas
+pub mod NameLemmas

@@ -5,7 +5,7 @@ use Rattle.clap.proofs.OnLiterals.{clap_on_literals}
 use Rattle.cps_compare.specs.declared.limits.Columns.{Columns}
 use Rattle.cps_compare.specs.declared.limits.Limits.{Limits}
 use Rattle.cps_list.specs.declared.part.Part.TheVariants.{Listing, Binary, Symbols, Flags, All}
-use Rattle.cps_output.specs.Outputs.{Names}
+use Rattle.cps_words.specs.Outputs.{Names}
 use Rattle.cps_words.specs.Request.{answer_of, asks, refuses, request_of, tells}
 use Rattle.cps_words.specs.Task.{batch, export, session, check, compare, explain, server}
 

@@ -4,3 +4,8 @@ pub mod Task
 pub mod Request
 pub mod Reading
 pub mod Shown
+pub mod Placing
+pub mod Outputs
+pub mod Steps
+pub mod Export
+pub mod Same

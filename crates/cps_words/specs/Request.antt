@@ -7,7 +7,7 @@ use Rattle.clap.specs.declared.error.kind.ErrorKind.TheVariants.{DisplayHelp, Di
 use Rattle.cps_compare.specs.declared.limits.Limits.{Limits}
 use Rattle.cps_list.specs.declared.part.Part.{Part}
 use Rattle.cps_list.specs.declared.part.Part.TheVariants.{All}
-use Rattle.cps_output.specs.Outputs.{Names}
+use Rattle.cps_words.specs.Outputs.{Names}
 use Rattle.cps_words.specs.Commands.{compass}
 use Rattle.cps_words.specs.Values.{are_apart, file_in, is_command, limits_in, names_in, octal_in, part_in, wants_no_file, word_explained}
 use Rattle.cps_words.specs.Task.{Task, batch, export, session, check, compare, explain, server, task_of}

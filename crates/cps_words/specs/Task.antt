@@ -4,7 +4,7 @@ use Rattle.std.specs.Borrow.{Bor}
 use Rattle.clap.specs.Words.{Text}
 use Rattle.cps_list.specs.declared.part.Part.{Part}
 use Rattle.cps_compare.specs.declared.limits.Limits.{Limits}
-use Rattle.cps_output.specs.Outputs.{Names, names_of}
+use Rattle.cps_words.specs.Outputs.{Names, names_of}
 use Rattle.cps_words.specs.declared.request.Request.{Request}
 use Rattle.cps_words.specs.declared.request.Request.TheVariants.{Batch, Export, Session, Check, Compare, Explain, Server}
 

@@ -9,7 +9,7 @@ use Rattle.cps_compare.specs.declared.limits.Columns.{Columns}
 use Rattle.cps_compare.specs.declared.limits.Limits.{Limits}
 use Rattle.cps_list.specs.declared.part.Part.{Part}
 use Rattle.cps_list.specs.declared.part.Part.TheVariants.{Listing, Binary, Symbols, Flags, All}
-use Rattle.cps_output.specs.Outputs.{Names}
+use Rattle.cps_words.specs.Outputs.{Names}
 
 -- the part that a word names
 abbrev pub part_named : Text → Option Part

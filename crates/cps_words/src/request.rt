@@ -10,12 +10,12 @@ use super::command_line::compass_command;
 use super::comparand::Comparand;
 use super::help::read_help;
 use super::limits::read_limits;
-use super::outputs::{are_apart, read_outputs, say_taken, wants_no_file};
+use super::output_options::{are_apart, read_outputs, say_taken, wants_no_file};
 use super::unread::{Unread, say, say_no_part, say_wrong_value, wrong};
 use super::values::{part_of_name, read_file, word_in};
+use crate::outputs::Outputs;
 use clap::ArgMatches;
 use cps_list::Part;
-use cps_output::Outputs;
 use std::alloc::Global;
 
 /// What a call of the program asks.

@@ -1,5 +1,5 @@
 //! Assertions for whose proofs a caller doesn't pay again.
-use cps_manual::manual_text;
+use cps_check::manual_text;
 use std::alloc::Global;
 use std::process::Abort;
 

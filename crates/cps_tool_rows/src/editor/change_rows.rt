@@ -1,7 +1,7 @@
 //! Changes of a text: by the Language Server Protocol, but for positions that stand nowhere.
 use super::assertions::assert_same;
 use super::line_rows::assert_lines;
-use cps_buffer::{Buffer, Encoding, Position, Range, Replacement};
+use cps_rpc::{Buffer, Encoding, Position, Range, Replacement};
 use std::alloc::Global;
 use std::process::Abort;
 

@@ -1,6 +1,6 @@
 //! Messages of a stream: by the base protocol of the Language Server Protocol.
 use super::assertions::{assert_row, push_ended};
-use cps_frame::{Stream, StreamFault, push_frame};
+use cps_rpc::{Stream, StreamFault, push_frame};
 use std::alloc::Global;
 use std::process::Abort;
 

@@ -1,6 +1,6 @@
 //! The lines of a text, and of the source that it stands for.
 use super::assertions::{assert_row, push_ended};
-use cps_buffer::Buffer;
+use cps_rpc::Buffer;
 use std::alloc::Global;
 use std::process::Abort;
 

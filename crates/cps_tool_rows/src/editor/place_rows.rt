@@ -1,6 +1,6 @@
 //! Places in a line, as bytes and as units.
 use super::assertions::assert_same;
-use cps_buffer::{Encoding, place_in, units_before};
+use cps_rpc::{Encoding, place_in, units_before};
 
 /// A character of one byte, one of two, one of four, which are two units of UTF-16, and one of one.
 const LINE: &[u8] = b"A\xC3\xA9\xF0\x9F\x98\x80B";

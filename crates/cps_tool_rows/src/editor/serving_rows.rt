@@ -1,9 +1,8 @@
 //! What a server says, however its input comes, and where a read or a write fails.
 use super::assertions::{assert_row, assert_same};
 use crate::assertions::assert_taken;
-use cps_devices::{FailsAt, SlowReader, SlowWriter};
-use cps_frame::push_frame;
-use cps_serving::{ServerFault, Service, serve};
+use cps_rows::{FailsAt, SlowReader, SlowWriter};
+use cps_rpc::{ServerFault, Service, push_frame, serve};
 use cps_text::Counted;
 use std::alloc::{AllocError, Global};
 use std::io::{Read, Write};

@@ -2,7 +2,7 @@
 use super::conversation::{
     INITIALIZE, INITIALIZE_UTF8, Outcome, UTF8, UTF16, assert_outcome, assert_same, framed, run,
 };
-use cps_frame::push_frame;
+use cps_rpc::push_frame;
 use cps_text::Counted;
 use std::alloc::Global;
 use std::process::Abort;

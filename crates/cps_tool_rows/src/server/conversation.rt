@@ -1,7 +1,7 @@
 //! Conversations with a server. Only here one is run, and what it says is compared.
-use cps_frame::push_frame;
-use cps_pass::Hashing;
-use cps_server::{ServerFault, run_server};
+use cps_rpc::{ServerFault, push_frame};
+use cps_server::run_server;
+use cps_state::Hashing;
 use cps_text::Counted;
 use std::alloc::Global;
 use std::fmt::Debug;

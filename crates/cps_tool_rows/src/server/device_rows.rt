@@ -1,8 +1,8 @@
 //! Where the bytes of a conversation come in pieces, and where a read or a write fails.
 use super::conversation::{Outcome, assert_outcome, assert_same, run};
 use crate::assertions::assert_taken;
-use cps_devices::{FailsAt, SlowReader, SlowWriter};
-use cps_server::ServerFault;
+use cps_rows::{FailsAt, SlowReader, SlowWriter};
+use cps_rpc::ServerFault;
 use cps_text::Counted;
 use std::alloc::Global;
 use std::io;

@@ -1,6 +1,6 @@
 //! Texts with as many marks as are told one by one, and with more.
 use super::conversation::{EXIT, INITIALIZE, Outcome, UTF16, assert_outcome};
-use cps_frame::push_frame;
+use cps_rpc::push_frame;
 use cps_text::Counted;
 use std::alloc::Global;
 use std::process::Abort;

@@ -3,7 +3,7 @@ use super::conversation::{
     EXIT, End, INITIALIZE, INITIALIZE_UTF8, Outcome, Row, SHUTDOWN, SHUTDOWN_SAID, UTF8, UTF16,
     assert_outcome, assert_row,
 };
-use cps_server::ServerFault;
+use cps_rpc::ServerFault;
 use cps_text::Counted;
 
 /// A request that no part of the introduction promises.

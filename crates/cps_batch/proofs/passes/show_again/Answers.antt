@@ -1,6 +1,6 @@
 use Rattle.std.proofs.Common.{◌<◌, ap, ◌∙◌, length, take, arith}
 use Rattle.cps_input.proofs.PartLemmas.{part-at}
-use Rattle.cps_gather.specs.contracts.finals.FinalsGathered.TheImpl.{gathered-value}
+use Rattle.cps_final.specs.contracts.finals.FinalsGathered.TheImpl.{gathered-value}
 use Rattle.cps_batch.proofs.PassLemmas.{gathers-more, two-more, two-all, number-taken}
 use Rattle.cps_batch.proofs.passes.show_again.Goals as goal
 

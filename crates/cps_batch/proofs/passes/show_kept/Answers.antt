@@ -1,7 +1,7 @@
 use Rattle.std.proofs.Common.{◌<◌, ap, ◌∙◌, length, take, arith}
 use Rattle.cps_input.specs.Parts.{parts_at}
 use Rattle.cps_input.proofs.PartLemmas.{count-parts, part-at}
-use Rattle.cps_gather.specs.contracts.finals.FinalsGathered.TheImpl.{gathered-value}
+use Rattle.cps_final.specs.contracts.finals.FinalsGathered.TheImpl.{gathered-value}
 use Rattle.cps_batch.proofs.PassLemmas.{kept-length, two-more, two-all, number-taken, trace-at}
 use Rattle.cps_batch.proofs.passes.show_kept.Goals as goal
 

@@ -1,5 +1,5 @@
 use Rattle.std.proofs.Common.{ℕ, List, take, ap, ◌∙◌}
-use Rattle.cps_card.specs.Shown.{has_no_control}
+use Rattle.cps_input.specs.Shown.{has_no_control}
 use Rattle.cps_cause.proofs.SentenceLemmas.{safe-behind}
 use Rattle.cps_cause.proofs.words.push_cleaned.Goals as goal
 

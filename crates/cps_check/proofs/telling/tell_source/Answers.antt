@@ -2,8 +2,8 @@ use Rattle.std.proofs.Common.{ℕ, ◌≤◌, List, length, sym, ap, subst, ◌�
 use Rattle.std.proofs.lemmas.List.{length-map}
 use Rattle.std.specs.Borrow.{Bor}
 use Rattle.cps_final.specs.Finals.{finals_of}
-use Rattle.cps_source.specs.Assembly.{traces_of}
-use Rattle.cps_gather.specs.contracts.finals.FinalsGathered.TheImpl.{gathered-value}
+use Rattle.cps_edit.specs.Assembly.{traces_of}
+use Rattle.cps_final.specs.contracts.finals.FinalsGathered.TheImpl.{gathered-value}
 use Rattle.cps_text.specs.declared.limits.TheConstants.{MOST_LINES}
 use Rattle.cps_check.proofs.EndLemmas.{few-cards}
 use Rattle.cps_check.proofs.SourceLemmas.{texts_of}

@@ -3,7 +3,7 @@ use Rattle.std.specs.Prelude.{nat_lt}
 use Rattle.std.proofs.lemmas.Bool.{cond-true}
 use Rattle.std.proofs.lemmas.Bool.Decides.{nat_tests}
 use Rattle.cps_cause.specs.Sentence.{IsSentence}
-use Rattle.cps_source.specs.Limits.{most_lines}
+use Rattle.cps_edit.specs.Limits.{most_lines}
 use Rattle.cps_check.specs.Adding.{Adds}
 use Rattle.cps_check.specs.declared.kind.Kind.TheVariants as kinds
 use Rattle.cps_check.specs.Reports.{Report, excess_report}

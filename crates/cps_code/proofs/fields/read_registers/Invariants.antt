@@ -1,8 +1,8 @@
 use Rattle.std.proofs.Common.{◌≡◌, drop}
 use Rattle.cps_text.specs.OperandsLeft.{operands_left}
 use Rattle.cps_code.specs.RowForms.{registers_in}
-use Rattle.cps_table.specs.Operations.{texts}
-use Rattle.cps_table.specs.Digits.{AreDigits}
+use Rattle.cps_code.specs.Operations.{texts}
+use Rattle.cps_code.specs.Digits.{AreDigits}
 use Rattle.cps_code.proofs.fields.read_registers.Given as goal
 
 abbrev pub invariant-loop-letters : goal.invariant-loop-letters

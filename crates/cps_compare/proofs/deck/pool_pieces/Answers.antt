@@ -1,6 +1,6 @@
 use Rattle.std.specs.Prelude.{map}
 use Rattle.cps_code.specs.Image.{piece_of}
-use Rattle.cps_gather.specs.contracts.finals.FinalsGathered.TheImpl.{gathered-value}
+use Rattle.cps_final.specs.contracts.finals.FinalsGathered.TheImpl.{gathered-value}
 use Rattle.cps_list.specs.Binary.{literal_piece}
 use Rattle.cps_compare.proofs.DeckLemmas.{pool-next}
 use Rattle.cps_compare.proofs.deck.pool_pieces.Goals as goal

@@ -1,7 +1,7 @@
 use Rattle.std.proofs.Common.{◌≡◌, take, flat_map}
 use Rattle.std.specs.Prelude.{map}
 use Rattle.cps_code.specs.Image.{piece_of}
-use Rattle.cps_gather.specs.contracts.finals.FinalsGathered.TheImpl.{gathered-value}
+use Rattle.cps_final.specs.contracts.finals.FinalsGathered.TheImpl.{gathered-value}
 use Rattle.cps_list.specs.Binary.{literal_piece}
 use Rattle.cps_compare.proofs.deck.pool_pieces.Given as goal
 

@@ -1,7 +1,7 @@
 use Rattle.std.proofs.Common.{◌≡◌, ◌/◌, ◌^◌, ◌++◌, length, ap, ◌∙◌, arith}
 use Rattle.std.proofs.lemmas.Result.{on_ok_weaker}
 use Rattle.cps_text.specs.Octal.{octal}
-use Rattle.cps_listing.proofs.FrontLemmas.{octal-length}
+use Rattle.cps_list.proofs.FrontLemmas.{octal-length}
 use Rattle.cps_compare.proofs.difference.show_word.Goals as goal
 
 pub returns-in-Cp-clause-few : goal.returns-in-Cp-clause-few

@@ -1,6 +1,6 @@
 use Rattle.std.proofs.Common.{◌≡◌, ◌++◌, [], take}
 use Rattle.std.specs.Prelude.{map}
-use Rattle.cps_listing.specs.Columns.{with_columns}
+use Rattle.cps_list.specs.Columns.{with_columns}
 use Rattle.cps_compare.specs.Told.{caret_at}
 use Rattle.cps_compare.proofs.difference_rows.push_carets.Given as goal
 

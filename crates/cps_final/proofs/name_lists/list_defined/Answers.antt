@@ -1,7 +1,7 @@
 use Rattle.std.proofs.Common.{◌≡◌, ap, ◌∙◌, true, rules}
 use Rattle.std.specs.Prelude.{is_ok}
 use Rattle.std.proofs.lemmas.Result.{IfOk-weaker}
-use Rattle.cps_final.specs.Names.{defined_by, names_defined}
+use Rattle.cps_final.specs.LineNames.{defined_by, names_defined}
 use Rattle.cps_final.proofs.OutcomeLemmas.{at_ok, defined-made}
 use Rattle.cps_final.proofs.name_lists.list_defined.Goals as goal
 

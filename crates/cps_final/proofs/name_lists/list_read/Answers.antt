@@ -1,7 +1,7 @@
 use Rattle.std.proofs.Common.{◌≡◌, ◌∙◌, true, rules}
 use Rattle.std.specs.Prelude.{is_ok}
 use Rattle.std.proofs.lemmas.Result.{IfOk-weaker}
-use Rattle.cps_final.specs.Names.{names_read, read_by}
+use Rattle.cps_final.specs.LineNames.{names_read, read_by}
 use Rattle.cps_final.proofs.OutcomeLemmas.{at_ok, read-made}
 use Rattle.cps_final.proofs.name_lists.list_read.Goals as goal
 

@@ -1,5 +1,5 @@
 use Rattle.std.proofs.Common.{sym, ◌∙◌}
-use Rattle.cps_standing.specs.Resolving.{resolved}
+use Rattle.cps_final.specs.Resolving.{resolved}
 use Rattle.cps_final.proofs.AloneLemmas.{outcome-alone}
 use Rattle.cps_final.proofs.OutcomeLemmas.{outcome-made}
 use Rattle.cps_final.proofs.outcome.make_outcome.Goals as goal

@@ -1,6 +1,6 @@
 use Rattle.std.proofs.Common.{◌≤◌, length, rules}
 use Rattle.cps_final.specs.Values.{standing_of}
-use Rattle.cps_standing.specs.Resolving.{resolved, view_of}
+use Rattle.cps_final.specs.Resolving.{resolved, view_of}
 use Rattle.cps_final.proofs.OutcomeLemmas.{flags-all}
 use Rattle.cps_final.proofs.rows.flags_with_contents.Goals as goal
 

@@ -1,6 +1,6 @@
 use Rattle.std.proofs.Common.{◌≡◌, take}
 use Rattle.cps_final.specs.Rows.{with_contents}
-use Rattle.cps_standing.specs.Resolving.{view_of}
+use Rattle.cps_final.specs.Resolving.{view_of}
 use Rattle.cps_final.proofs.rows.flags_with_contents.Given as goal
 
 abbrev pub invariant-loop-content : goal.invariant-loop-content

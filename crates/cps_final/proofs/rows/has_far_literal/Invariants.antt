@@ -3,7 +3,7 @@ use Rattle.std.specs.Prelude.{nat_le}
 use Rattle.std.specs.List.{list_any}
 use Rattle.cps_code.specs.Operand.{operand_literals}
 use Rattle.cps_state.specs.Machines.{limit}
-use Rattle.cps_standing.specs.Resolving.{view_of}
+use Rattle.cps_final.specs.Resolving.{view_of}
 use Rattle.cps_final.proofs.rows.has_far_literal.Given as goal
 
 abbrev pub invariant-loop-hole : goal.invariant-loop-hole

@@ -3,7 +3,7 @@ use Rattle.cps_code.specs.Image.{piece_of}
 use Rattle.cps_final.specs.declared.row.Row.{Row}
 use Rattle.cps_final.specs.Pieces.{placed, content_pieces}
 use Rattle.cps_final.specs.Rows.{row_of}
-use Rattle.cps_standing.specs.Resolving.{view_of}
+use Rattle.cps_final.specs.Resolving.{view_of}
 use Rattle.cps_final.proofs.OutcomeLemmas.{rows_from-given, step, rows-next}
 use Rattle.cps_final.proofs.PieceLemmas.{room-given, room-low, content-next}
 use Rattle.cps_final.proofs.statement.push_contents.Goals as goal

@@ -4,7 +4,7 @@ use Rattle.cps_state.specs.Made.{HaveRoom}
 use Rattle.cps_final.specs.Places.{with_places}
 use Rattle.cps_final.specs.Pieces.{placed, content_pieces}
 use Rattle.cps_final.specs.Rows.{content_rows, row_of}
-use Rattle.cps_standing.specs.Resolving.{view_of}
+use Rattle.cps_final.specs.Resolving.{view_of}
 use Rattle.cps_final.proofs.OutcomeLemmas.{rows_from}
 use Rattle.cps_final.proofs.statement.push_contents.Given as goal
 

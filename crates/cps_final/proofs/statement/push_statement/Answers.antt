@@ -2,7 +2,7 @@ use Rattle.std.proofs.Common.{◌≡◌, ◌<◌, ◌++◌, List, false, length,
 use Rattle.std.proofs.lemmas.Result.{on_ok_weaker}
 use Rattle.cps_code.specs.Image.{piece_of}
 use Rattle.cps_final.specs.declared.row.Row.{Row}
-use Rattle.cps_standing.specs.Resolving.{resolved, view_of}
+use Rattle.cps_final.specs.Resolving.{resolved, view_of}
 use Rattle.cps_final.specs.Rows.{row_of}
 use Rattle.cps_final.proofs.OutcomeLemmas.{contents-rows}
 use Rattle.cps_final.proofs.PieceLemmas.{statement-pieces}

@@ -2,7 +2,7 @@ use Rattle.std.proofs.Common.{◌≡◌, length, w64, SFits, rules, arith, sym, 
 use Rattle.std.proofs.lemmas.Bool.Decides.{nat_tests}
 use Rattle.std.proofs.lemmas.Int.{to_z-of_z}
 use Rattle.cps_code.proofs.HoleLemmas.{two_items}
-use Rattle.cps_standing.specs.Resolving.{view_of}
+use Rattle.cps_final.specs.Resolving.{view_of}
 use Rattle.cps_final.proofs.ValueLemmas.{number-two, flags-two}
 use Rattle.cps_final.proofs.valued.value_instruction.Goals as goal
 

@@ -1,5 +1,5 @@
 use Rattle.std.proofs.Common.{◌≤◌, ◌++◌, arith, refl, sym, ap, subst, ◌∙◌, append_assoc, append-nil, length, length-drop, drop, take}
-use Rattle.cps_gather.specs.contracts.finals.FinalsGathered.TheImpl.{gathered-value}
+use Rattle.cps_final.specs.contracts.finals.FinalsGathered.TheImpl.{gathered-value}
 use Rattle.cps_list.specs.Symbols.{row_of, symbol_rows}
 use Rattle.cps_list.proofs.OrderLemmas.{Rising, rising-sorted}
 use Rattle.cps_list.proofs.SymbolLemmas.{group-some, group-within, group-first, rising-drop, rows-none, all-cut}

@@ -1,5 +1,5 @@
 use Rattle.std.proofs.Common.{◌≡◌, ◌++◌, length}
-use Rattle.cps_gather.specs.contracts.finals.FinalsGathered.TheImpl.{gathered-value}
+use Rattle.cps_final.specs.contracts.finals.FinalsGathered.TheImpl.{gathered-value}
 use Rattle.cps_list.specs.Symbols.{symbol_rows}
 use Rattle.cps_list.proofs.OrderLemmas.{Rising}
 use Rattle.cps_list.proofs.symbols.push_rows.Given as goal

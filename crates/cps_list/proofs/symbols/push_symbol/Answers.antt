@@ -1,7 +1,7 @@
 use Rattle.std.proofs.Common.{◌≡◌, rules, ◌++◌, codes, ap, ◌∙◌, append_assoc}
 use Rattle.cps_text.specs.Name.{name_text}
-use Rattle.cps_gather.specs.contracts.finals.FinalsGathered.TheImpl.{gathered-value}
-use Rattle.cps_listing.specs.Columns.{at_left}
+use Rattle.cps_final.specs.contracts.finals.FinalsGathered.TheImpl.{gathered-value}
+use Rattle.cps_list.specs.Columns.{at_left}
 use Rattle.cps_list.specs.Symbols.{value_of, value_text, lines_text}
 use Rattle.cps_list.proofs.symbols.push_symbol.Goals as goal
 

@@ -1,11 +1,11 @@
 use Rattle.std.proofs.Common.{◌≡◌, ◌+◌, ◌-◌, ◌*◌, drop}
 use Rattle.cps_state.specs.Course.{Part, Course}
 use Rattle.cps_state.specs.Line.{runs}
-use Rattle.cps_statement.specs.declared.scope.Scope.{Scope}
-use Rattle.cps_statement.specs.declared.scope.Scope.TheVariants.{Expansion}
+use Rattle.cps_pass.specs.declared.scope.Scope.{Scope}
+use Rattle.cps_pass.specs.declared.scope.Scope.TheVariants.{Expansion}
 use Rattle.cps_pass.specs.Expansion.{walk, body, too_deep}
-use Rattle.cps_statement.specs.Treating.{repeated}
-use Rattle.cps_statement.specs.Own.{new_expansion}
+use Rattle.cps_pass.specs.Treating.{repeated}
+use Rattle.cps_pass.specs.Own.{new_expansion}
 use Rattle.cps_pass.proofs.expansion.+expansion.Given as goal
 
 abbrev pub decreases-expand : goal.decreases-expand

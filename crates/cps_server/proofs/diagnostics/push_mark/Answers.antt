@@ -1,5 +1,5 @@
 use Rattle.std.proofs.lemmas.Result.{on_ok_weaker}
-use Rattle.cps_buffer.specs.Lines.{source_lines}
+use Rattle.cps_rpc.specs.Lines.{source_lines}
 use Rattle.cps_server.proofs.WritingLemmas.{mark-added}
 use Rattle.cps_server.proofs.diagnostics.push_mark.Goals as goal
 

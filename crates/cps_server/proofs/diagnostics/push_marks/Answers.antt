@@ -3,8 +3,8 @@ use Rattle.std.specs.Prelude.{nat_lt}
 use Rattle.std.proofs.lemmas.List.{drop_all, drop_more, length-map}
 use Rattle.serde_json.specs.View.{items_of}
 use Rattle.serde_json.specs.Written.{items_text}
-use Rattle.cps_buffer.specs.Lines.{source_lines}
-use Rattle.cps_marks.specs.Marks.{place_of}
+use Rattle.cps_rpc.specs.Lines.{source_lines}
+use Rattle.cps_server.specs.Marks.{place_of}
 use Rattle.cps_server.specs.Diagnostics.{TellsMarks}
 use Rattle.cps_server.proofs.WritingLemmas.{item-added, mark-next}
 use Rattle.cps_server.proofs.diagnostics.push_marks.Goals as goal

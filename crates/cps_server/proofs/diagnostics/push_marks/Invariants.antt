@@ -3,8 +3,8 @@ use Rattle.std.specs.Prelude.{false, nat_lt}
 use Rattle.serde_json.specs.Data.{Data}
 use Rattle.serde_json.specs.View.{items_of}
 use Rattle.serde_json.specs.Written.{items_text}
-use Rattle.cps_buffer.specs.Lines.{source_lines}
-use Rattle.cps_marks.specs.Marks.{place_of}
+use Rattle.cps_rpc.specs.Lines.{source_lines}
+use Rattle.cps_server.specs.Marks.{place_of}
 use Rattle.cps_server.specs.Diagnostics.{TellsMarks}
 use Rattle.cps_server.proofs.diagnostics.push_marks.Given as goal
 

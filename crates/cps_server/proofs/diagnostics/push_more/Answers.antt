@@ -1,7 +1,7 @@
 use Rattle.std.proofs.Common.{sym, ap, ◌∙◌}
 use Rattle.std.specs.Prelude.{option_copied}
 use Rattle.std.proofs.lemmas.Result.{on_ok_weaker}
-use Rattle.cps_buffer.specs.Lines.{source_lines}
+use Rattle.cps_rpc.specs.Lines.{source_lines}
 use Rattle.cps_server.proofs.WritingLemmas.{more-added, none-more}
 use Rattle.cps_server.proofs.diagnostics.push_more.Goals as goal
 

@@ -1,6 +1,6 @@
 use Rattle.std.proofs.Common.{◌++◌, ap, ◌∙◌}
 use Rattle.std.proofs.lemmas.Result.{on_ok_weaker}
-use Rattle.cps_frame.specs.Frame.{frame_of}
+use Rattle.cps_rpc.specs.Frame.{frame_of}
 use Rattle.cps_server.proofs.WritingLemmas.{closed-written}
 use Rattle.cps_server.proofs.diagnostics.say_closed.Goals as goal
 

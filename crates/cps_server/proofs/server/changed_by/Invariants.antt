@@ -1,5 +1,5 @@
 use Rattle.std.proofs.Common.{◌≡◌, drop, map}
-use Rattle.cps_params.specs.Params as told_params
+use Rattle.cps_rpc.specs.Params as told_params
 use Rattle.cps_server.specs.Notices as notices
 use Rattle.cps_server.proofs.server.changed_by.Given as goal
 

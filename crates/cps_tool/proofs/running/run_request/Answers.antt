@@ -1,5 +1,5 @@
 use Rattle.std.proofs.Common.{ap, ◌∙◌}
-use Rattle.cps_output.specs.Outputs.{name_of}
+use Rattle.cps_words.specs.Outputs.{name_of}
 use Rattle.cps_words.specs.Shown.{shown}
 use Rattle.cps_tool.proofs.ServingLemmas.{checks_as, unwrapped}
 use Rattle.cps_tool.proofs.running.run_request.Goals as goal

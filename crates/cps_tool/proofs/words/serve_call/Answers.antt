@@ -1,8 +1,8 @@
 use Rattle.std.proofs.Common.{Option, ap, subst, sym}
 use Rattle.std.specs.Borrow.{Bor}
 use Rattle.clap.specs.Words.{Text}
-use Rattle.cps_output.specs.Outputs.{name_of, names_of}
-use Rattle.cps_output.specs.Same.{KeepsAll}
+use Rattle.cps_words.specs.Outputs.{name_of, names_of}
+use Rattle.cps_words.specs.Same.{KeepsAll}
 use Rattle.cps_words.specs.Request.{asks}
 use Rattle.cps_words.specs.Task.{task_of}
 use Rattle.cps_tool.specs.CommandLine.{ServesCall}

@@ -1,5 +1,5 @@
 use Rattle.std.proofs.Common.{ap}
-use Rattle.cps_output.specs.Outputs.{name_of}
+use Rattle.cps_words.specs.Outputs.{name_of}
 use Rattle.cps_words.specs.Task.{task_of}
 use Rattle.cps_tool.proofs.ServingLemmas.{serves_file}
 use Rattle.cps_tool.proofs.words.serve_one.Goals as goal

@@ -1,9 +1,9 @@
 use Rattle.std.proofs.Common.{ap, ◌∙◌}
 use Rattle.std.proofs.lemmas.Result.{on_ok_weaker}
-use Rattle.cps_gather.specs.contracts.finals.FinalsGathered.TheImpl.{gathered-value}
+use Rattle.cps_final.specs.contracts.finals.FinalsGathered.TheImpl.{gathered-value}
 use Rattle.cps_final.specs.Finals.{final_value}
 use Rattle.cps_final.specs.Outcome.{Output, output_of, outcome_of}
-use Rattle.cps_assembly.specs.Assembly.{outcomes_under, traces_of}
+use Rattle.cps_edit.specs.Assembly.{outcomes_under, traces_of}
 use Rattle.cps_batch.proofs.PassLemmas.{shown-next}
 use Rattle.cps_batch.proofs.passes.PassTwo.add.Goals as goal
 

@@ -1,10 +1,10 @@
 use Rattle.std.proofs.Common.{◌≡◌, ◌+◌, true, List, [], ◌∷◌, refl, sym, subst, ap, ◌∙◌, arith}
 use Rattle.std.specs.Prelude.{Option, IfSome, is_some, slice_get, Some}
 use Rattle.std.proofs.lemmas.Option.{slice_get-get_or}
-use Rattle.cps_gather.specs.contracts.finals.FinalsGathered.TheImpl.{gathered-value}
-use Rattle.cps_source.specs.Assembly.{ends_open}
+use Rattle.cps_final.specs.contracts.finals.FinalsGathered.TheImpl.{gathered-value}
+use Rattle.cps_edit.specs.Assembly.{ends_open}
 use Rattle.cps_state.specs.Course.{Trace}
-use Rattle.cps_explain.specs.Opener.{IsOpener}
+use Rattle.cps_cause.specs.Opener.{IsOpener}
 use Rattle.cps_cause.specs.declared.cause.Cause.{Cause}
 use Rattle.cps_cause.specs.declared.letter.Letter.TheVariants.{E}
 use Rattle.cps_cause.specs.declared.diagnostic.Diagnostic.{Diagnostic}

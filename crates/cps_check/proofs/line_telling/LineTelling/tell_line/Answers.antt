@@ -1,9 +1,9 @@
 use Rattle.std.proofs.Common.{ℕ, List, length, ap, sym, ◌∙◌}
 use Rattle.std.specs.Prelude.{nat_eq}
-use Rattle.cps_gather.specs.contracts.finals.FinalsGathered.TheImpl.{gathered-value}
+use Rattle.cps_final.specs.contracts.finals.FinalsGathered.TheImpl.{gathered-value}
 use Rattle.cps_final.specs.Finals.{final_value}
 use Rattle.cps_final.specs.Outcome.{outcome_of}
-use Rattle.cps_card.specs.declared.fault.CharacterFault.{CharacterFault}
+use Rattle.cps_input.specs.declared.character_fault.CharacterFault.{CharacterFault}
 use Rattle.cps_check.proofs.SourceLemmas.{AddsLine-faults, AddsLine-flags}
 use Rattle.cps_check.proofs.line_telling.LineTelling.tell_line.Goals as goal
 

@@ -1,5 +1,5 @@
 use Rattle.std.proofs.Common.{arith}
-use Rattle.cps_gather.specs.contracts.finals.FinalsGathered.TheImpl.{gathered-value}
+use Rattle.cps_final.specs.contracts.finals.FinalsGathered.TheImpl.{gathered-value}
 use Rattle.cps_check.proofs.SourceLemmas.{AddsLines-all, AddsLines-more, AddsLines-none, card-of, trace-within}
 use Rattle.cps_check.proofs.line_telling.LineTelling.tell_lines.Goals as goal
 

@@ -1,6 +1,6 @@
 use Rattle.std.proofs.Common.{List, map, subst}
 use Rattle.std.proofs.lemmas.List.{take_all}
-use Rattle.cps_card.specs.declared.fault.CharacterFault.{CharacterFault}
+use Rattle.cps_input.specs.declared.character_fault.CharacterFault.{CharacterFault}
 use Rattle.cps_check.specs.Adding.{Adds}
 use Rattle.cps_check.specs.Reports.{fault_report}
 use Rattle.cps_check.proofs.TextLemmas.{Adds-next, Adds-none}

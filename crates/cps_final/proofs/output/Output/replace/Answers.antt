@@ -1,7 +1,7 @@
 use Rattle.std.proofs.Common.{◌<◌, length, rules}
 use Rattle.cps_final.specs.Pieces.{pieces_of}
 use Rattle.cps_final.specs.Rows.{rows_of}
-use Rattle.cps_standing.specs.Resolving.{resolved}
+use Rattle.cps_final.specs.Resolving.{resolved}
 use Rattle.cps_final.proofs.OutcomeLemmas.{appends-more}
 use Rattle.cps_final.proofs.output.Output.replace.Goals as goal
 

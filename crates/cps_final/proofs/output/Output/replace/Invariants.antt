@@ -2,7 +2,7 @@ use Rattle.std.proofs.Common.{◌≡◌, take, map, flat_map}
 use Rattle.cps_code.specs.Image.{piece_of}
 use Rattle.cps_final.specs.Pieces.{pieces_of}
 use Rattle.cps_final.specs.Rows.{rows_of}
-use Rattle.cps_standing.specs.Resolving.{resolved}
+use Rattle.cps_final.specs.Resolving.{resolved}
 use Rattle.cps_final.proofs.output.Output.replace.Given as goal
 
 abbrev pub invariant-loop-item : goal.invariant-loop-item

@@ -2,11 +2,11 @@ use Rattle.std.proofs.Common.{◌≡◌, ◌+◌, ◌++◌, List, ap, sym, subst
 use Rattle.cps_code.specs.Image.{Piece, ArePacked}
 use Rattle.cps_state.specs.Machines.{limit}
 use Rattle.cps_final.specs.Finals.{machine_of}
-use Rattle.cps_gather.specs.contracts.finals.FinalsGathered.TheImpl.{gathered-value}
+use Rattle.cps_final.specs.contracts.finals.FinalsGathered.TheImpl.{gathered-value}
 use Rattle.cps_list.specs.Assembly.{Assembly}
 use Rattle.cps_list.specs.Binary.{first_row, rows_below, pool_pieces}
 use Rattle.cps_list.specs.Flagged.{count_if, end_row, count_row}
-use Rattle.cps_list.specs.Listing.{open_row}
+use Rattle.cps_list.specs.ListingText.{open_row}
 use Rattle.cps_list.specs.Making.{Printout, IsPrintoutOf, shown, shows_binary, shows_symbols}
 use Rattle.cps_list.specs.Symbols.{mentions_from, symbol_rows}
 use Rattle.cps_list.specs.Texts.{text_of}

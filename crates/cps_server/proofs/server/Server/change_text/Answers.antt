@@ -1,6 +1,6 @@
 use Rattle.std.proofs.Common.{◌≡◌, Some, map, sym, ap, ◌∙◌}
 use Rattle.std.proofs.lemmas.Result.{on_ok_weaker}
-use Rattle.cps_params.specs.Params.{value_of}
+use Rattle.cps_rpc.specs.Params.{value_of}
 use Rattle.std.specs.Prelude.{option_map}
 use Rattle.cps_server.specs.Opened as opened
 use Rattle.cps_server.specs.Notices.{changed_by}

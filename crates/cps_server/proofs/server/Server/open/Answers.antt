@@ -2,7 +2,7 @@ use Rattle.std.proofs.Common.{sym, ap, ◌∙◌}
 use Rattle.std.specs.Prelude.{option_map}
 use Rattle.std.proofs.lemmas.Result.{on_ok_weaker}
 use Rattle.serde_json.specs.View.{view}
-use Rattle.cps_params.specs.Params.{opened_of}
+use Rattle.cps_rpc.specs.Params.{opened_of}
 use Rattle.cps_server.proofs.ServerLemmas.{opens}
 use Rattle.cps_server.proofs.server.Server.open.Goals as goal
 

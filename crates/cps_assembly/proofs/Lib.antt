@@ -1,1 +1,0 @@
-pub use Rattle.cps_edit.proofs.SpliceLemmas

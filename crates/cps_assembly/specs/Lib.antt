@@ -1,4 +1,0 @@
-pub mod Limits
-pub mod Assembly
-pub mod Flagged
-pub use Rattle.cps_edit.specs.Expansion

@@ -1,5 +1,0 @@
-pub mod Positions
-pub mod Lines
-pub mod Changes
-pub mod Spots
-pub mod Laws

@@ -1,0 +1,115 @@
+//! Location fields and operation fields: L, D, O.
+
+use crate::asks::Asks;
+use crate::cause::Cause;
+use crate::definition_fault::DefinitionFault;
+use crate::findings::Findings;
+use crate::letter::Letter;
+use crate::location_fault::LocationFault;
+use crate::operation_fault::OperationFault;
+use crate::statement::FlaggedStatement;
+use cps_code::is_builtin;
+use cps_expr::{Machine, Operation};
+use cps_pass::{Location, Stating, ask_value};
+use cps_state::{Key, Lookup, Recorder};
+use cps_text::Name;
+use std::alloc::AllocError;
+
+/// What is wrong with the location field of a statement that is assembled.
+pub fn find_location(
+    findings: &mut Findings,
+    statement: &FlaggedStatement<'_>,
+    stating: &Stating,
+) -> Result<(), AllocError> {
+    let fault = match stating {
+        Stating::Missing => return Ok(()),
+        Stating::Unknown(_) => LocationFault::OfCall,
+        Stating::Instruction(_) | Stating::Peripheral(_) => LocationFault::NoSymbol,
+        Stating::Stated(_) | Stating::Unreadable(_) => {
+            fault_of(Operation::named(statement.card.operation_text()), statement)
+        }
+    };
+    findings.add(
+        Cause::Location(fault),
+        statement.card.location_or_operation(),
+    )
+}
+
+/// What is wrong with the location field of an operation of the statement table, if something is.
+fn fault_of(operation: Option<Operation>, statement: &FlaggedStatement<'_>) -> LocationFault {
+    match operation {
+        Some(Operation::Equate | Operation::Set) => LocationFault::NeedsSymbol,
+        Some(Operation::Macro) => match statement.location() {
+            Location::Symbol(_) => LocationFault::NameTaken,
+            _ => LocationFault::NeedsMacroName,
+        },
+        Some(
+            Operation::Bss
+            | Operation::Bssz
+            | Operation::Con
+            | Operation::Data
+            | Operation::Vfd
+            | Operation::Dis,
+        ) => LocationFault::NoSymbol,
+        _ => LocationFault::NotTaken,
+    }
+}
+
+/// The symbol of a location field that has a value already.
+pub fn find_definition(
+    recorder: &mut Recorder<'_, Asks>,
+    findings: &mut Findings,
+    statement: &FlaggedStatement<'_>,
+) -> Result<(), AllocError> {
+    let Location::Symbol(name) = statement.location() else {
+        return Ok(());
+    };
+    if !findings.wants(Letter::D) {
+        return Ok(());
+    }
+    let label = ask_value(recorder, Key::Label(name))?;
+    let fault = match Operation::named(statement.card.operation_text()) {
+        Some(Operation::Set) => DefinitionFault::NotFromSet(name),
+        _ if label.is_some() => DefinitionFault::HasValue(name),
+        _ => DefinitionFault::HasSetting(name),
+    };
+    findings.add(
+        Cause::Definition(fault),
+        statement.card.location_or_operation(),
+    )
+}
+
+/// What is wrong with an operation field.
+pub fn find_operation(
+    findings: &mut Findings,
+    statement: &FlaggedStatement<'_>,
+    stating: &Stating,
+) -> Result<(), AllocError> {
+    match stating {
+        Stating::Missing => findings.add(
+            Cause::Operation(OperationFault::Missing),
+            statement.card.location_or_operation(),
+        ),
+        Stating::Unknown(name) => findings.add(
+            Cause::Operation(unknown_operation(statement, *name)),
+            statement.card.operation_or_all(),
+        ),
+        _ => Ok(()),
+    }
+}
+
+fn unknown_operation(statement: &FlaggedStatement<'_>, name: Option<Name>) -> OperationFault {
+    if is_builtin(statement.card.operation_text()) {
+        return match statement.control.machine {
+            Machine::Cp => OperationFault::Peripheral,
+            Machine::Pp => OperationFault::Central,
+        };
+    }
+    match name {
+        None => OperationFault::NoName,
+        Some(name) if statement.finals.state().ask(&Key::Macro(name)).is_some() => {
+            OperationFault::DefinedBelow
+        }
+        Some(_) => OperationFault::Unknown,
+    }
+}

@@ -1,0 +1,289 @@
+//! Values under the final values: U, T, A, and limits.
+
+use crate::cause::Cause;
+use crate::columns::Columns;
+use crate::cut_fault::CutFault;
+use crate::findings::Findings;
+use crate::limit_fault::{FarAddress, LimitFault};
+use crate::operands::{PlacedText, list_operands};
+use crate::statement::FlaggedStatement;
+use crate::symbol_fault::SymbolFault;
+use crate::value_fault::ValueFault;
+use cps_code::{Hole, HoleKind, Operand, fits_width};
+use cps_expr::{Expr, Machine, Operation, Value, is_same_name};
+use cps_final::Standing;
+use cps_state::{Content, InstructionForm, Shown, limit_of};
+use cps_text::Name;
+use std::alloc::{AllocError, Global};
+
+/// The bits of a central processor's word.
+const WORD_BITS: u8 = 60;
+
+/// The words that a jump of a peripheral processor goes at most, either way.
+const FARTHEST: u64 = 31;
+
+/// What goes into bits.
+#[derive(Clone, Copy)]
+struct FieldValue<'a> {
+    expression: &'a Expr,
+    /// None: the field has no bits.
+    width: Option<u8>,
+    kind: HoleKind,
+    columns: Columns,
+    /// None: the operand isn't there.
+    part: Option<PlacedText<'a>>,
+}
+
+/// What is wrong with what a statement makes, under the final values.
+pub fn find_later(
+    alloc: Global,
+    findings: &mut Findings,
+    statement: &FlaggedStatement<'_>,
+) -> Result<(), AllocError> {
+    find_far_rows(findings, statement)?;
+    let operands = list_operands(alloc, &statement.card)?;
+    let standing = Standing::of(statement.item, statement.finals);
+    for (at, content) in statement.item.made.contents().iter().enumerate() {
+        let part = operands.get(at).copied();
+        match content {
+            Content::Instruction(form) => {
+                find_in_instruction(findings, statement, &standing, form, &operands)?;
+            }
+            Content::Value(width, expression) => {
+                let part = value_part(statement, part);
+                let field = field_of(statement, expression, Some(*width), part);
+                find_in_field(findings, statement, &standing, field)?;
+            }
+            Content::Number(..) => {}
+            Content::Unsized(expression) => {
+                let part = value_part(statement, part);
+                let field = field_of(statement, expression, None, part);
+                find_in_field(findings, statement, &standing, field)?;
+            }
+        }
+    }
+    Ok(())
+}
+
+/// The value in an operand: of VFD what stands behind the first `/`.
+fn value_part<'a>(
+    statement: &FlaggedStatement<'_>,
+    part: Option<PlacedText<'a>>,
+) -> Option<PlacedText<'a>> {
+    let part = part?;
+    match Operation::named(statement.card.operation_text()) {
+        Some(Operation::Vfd) => match part.parted(b'/') {
+            Some((_, value)) => Some(value),
+            None => Some(part),
+        },
+        _ => Some(part),
+    }
+}
+
+fn field_of<'a>(
+    statement: &FlaggedStatement<'_>,
+    expression: &'a Expr,
+    width: Option<u8>,
+    part: Option<PlacedText<'a>>,
+) -> FieldValue<'a> {
+    FieldValue {
+        expression,
+        width,
+        kind: HoleKind::Value,
+        columns: columns_of(statement, part),
+        part,
+    }
+}
+
+fn columns_of(statement: &FlaggedStatement<'_>, part: Option<PlacedText<'_>>) -> Columns {
+    match part {
+        Some(part) => part.columns(),
+        None => statement.card.statement(),
+    }
+}
+
+fn find_in_instruction(
+    findings: &mut Findings,
+    statement: &FlaggedStatement<'_>,
+    standing: &Standing<'_>,
+    form: &InstructionForm,
+    operands: &[PlacedText<'_>],
+) -> Result<(), AllocError> {
+    for (at, hole) in form.holes().iter().enumerate() {
+        // The K of a central processor's instruction stands last, the holes of a peripheral one in the order of their operands.
+        let part = match statement.item.made.machine() {
+            Machine::Cp => operands.last().copied(),
+            Machine::Pp => operands.get(at).copied(),
+        };
+        find_in_hole(findings, statement, standing, hole, part)?;
+    }
+    Ok(())
+}
+
+fn find_in_hole(
+    findings: &mut Findings,
+    statement: &FlaggedStatement<'_>,
+    standing: &Standing<'_>,
+    hole: &Hole,
+    part: Option<PlacedText<'_>>,
+) -> Result<(), AllocError> {
+    match &hole.operand {
+        Operand::Expression(expression) => {
+            let mut field = field_of(statement, expression, Some(hole.width), part);
+            field.kind = hole.kind;
+            find_in_field(findings, statement, standing, field)
+        }
+        Operand::Literal(word) => {
+            let columns = columns_of(statement, part);
+            find_in_literal(findings, standing, *word, hole.width, columns)
+        }
+    }
+}
+
+fn find_in_literal(
+    findings: &mut Findings,
+    standing: &Standing<'_>,
+    word: u64,
+    width: u8,
+    columns: Columns,
+) -> Result<(), AllocError> {
+    let address = standing.literal_address(word);
+    if standing.is_far_literal(word) {
+        let words = limit_of(standing.machine());
+        let place = FarAddress { address, words };
+        findings.add(Cause::Limit(LimitFault::Literal(place)), columns)?;
+    }
+    let number = i64::try_from(address).unwrap_or(0);
+    find_cut(findings, number, width, columns)
+}
+
+fn find_in_field(
+    findings: &mut Findings,
+    statement: &FlaggedStatement<'_>,
+    standing: &Standing<'_>,
+    field: FieldValue<'_>,
+) -> Result<(), AllocError> {
+    let valued = standing.value(field.expression);
+    if valued.undefined {
+        find_undefined(findings, statement, field)?;
+    }
+    let number = match valued.value {
+        Some(
+            Value {
+                block: None,
+                offset,
+            },
+        ) => offset,
+        _ => {
+            findings.add(Cause::Value(ValueFault::NoneLater), field.columns)?;
+            0
+        }
+    };
+    let Some(width) = field.width else {
+        return Ok(());
+    };
+    match field.kind {
+        HoleKind::Value => find_cut(findings, number, width, field.columns),
+        HoleKind::Count if number < 0 => findings.add(
+            Cause::Value(ValueFault::NegativeCount(number)),
+            field.columns,
+        ),
+        HoleKind::Count => find_cut(findings, number, width, field.columns),
+        HoleKind::Target => {
+            let here = i64::try_from(standing.here()).unwrap_or(0);
+            find_far(findings, number.saturating_sub(here), field.columns)
+        }
+    }
+}
+
+/// A value that its bits don't hold.
+fn find_cut(
+    findings: &mut Findings,
+    value: i64,
+    width: u8,
+    columns: Columns,
+) -> Result<(), AllocError> {
+    if width == 0 || width > WORD_BITS || fits_width(value, width) {
+        return Ok(());
+    }
+    findings.add(Cause::Cut(CutFault { value, width }), columns)
+}
+
+/// A target that is too far away.
+fn find_far(findings: &mut Findings, distance: i64, columns: Columns) -> Result<(), AllocError> {
+    if distance.unsigned_abs() <= FARTHEST {
+        return Ok(());
+    }
+    findings.add(Cause::Value(ValueFault::TooFar(distance)), columns)
+}
+
+/// The symbols of an expression that have no value.
+fn find_undefined(
+    findings: &mut Findings,
+    statement: &FlaggedStatement<'_>,
+    field: FieldValue<'_>,
+) -> Result<(), AllocError> {
+    for name in field.expression.names() {
+        if !is_known(statement, *name) {
+            let columns = match field.part {
+                Some(part) => part.columns_of(*name),
+                None => field.columns,
+            };
+            findings.add(undefined_later(statement, *name), columns)?;
+        }
+    }
+    Ok(())
+}
+
+/// Whether a symbol has a final value in a statement: one that SET had given it, or its label's.
+fn is_known(statement: &FlaggedStatement<'_>, name: Name) -> bool {
+    for held in statement.item.made.held() {
+        if is_same_name(held.name, name) {
+            return true;
+        }
+    }
+    statement.finals.label(name).is_some()
+}
+
+fn undefined_later(statement: &FlaggedStatement<'_>, name: Name) -> Cause {
+    if statement.finals.setting(name).is_some() {
+        Cause::Symbol(SymbolFault::SetBelow(name))
+    } else {
+        Cause::Symbol(SymbolFault::Undefined(name))
+    }
+}
+
+/// Rows of a statement that stand past the machine's words, and statements that would pass them.
+fn find_far_rows(
+    findings: &mut Findings,
+    statement: &FlaggedStatement<'_>,
+) -> Result<(), AllocError> {
+    let made = &statement.item.made;
+    if made.only_flags() {
+        if made.flags().structure {
+            let words = limit_of(made.machine());
+            findings.add_to_all(Cause::Limit(LimitFault::Words(words)))?;
+        }
+        return Ok(());
+    }
+    if made.contents().is_empty() && !is_start(made.shown()) {
+        return Ok(());
+    }
+    let words = limit_of(made.machine());
+    for row in statement.rows {
+        if let Some(address) = row.location {
+            if address >= u64::from(words) {
+                let place = FarAddress { address, words };
+                return findings.add_to_all(Cause::Limit(LimitFault::Address(place)));
+            }
+        }
+    }
+    Ok(())
+}
+
+fn is_start(shown: Shown) -> bool {
+    match shown {
+        Shown::Start => true,
+        _ => false,
+    }
+}

@@ -1,0 +1,228 @@
+//! Values that a statement takes as it is read: U, A, V, and limits.
+
+use crate::asks::Asks;
+use crate::cause::Cause;
+use crate::demands::{Demand, DemandedValue, list_demands};
+use crate::findings::Findings;
+use crate::limit_fault::LimitFault;
+use crate::operands::{PlacedText, list_operands};
+use crate::statement::FlaggedStatement;
+use crate::symbol_fault::SymbolFault;
+use crate::symbols_now::SymbolsNow;
+use crate::value_fault::{Bounds, ValueFault};
+use crate::width_fault::WidthFault;
+use cps_expr::{Comparison, Expr, Row, Value};
+use cps_final::Finals;
+use cps_pass::{Location, ValueNow, stand, value_here};
+use cps_state::{Recorder, is_same_block, limit_of};
+use cps_text::Name;
+use cps_text::limits::MOST_TIMES;
+use std::alloc::AllocError;
+
+/// The greatest width of a field.
+const MOST_BITS: i64 = 60;
+
+/// What is wrong with values that a statement takes as it is read.
+pub fn find_now(
+    recorder: &mut Recorder<'_, Asks>,
+    findings: &mut Findings,
+    statement: &FlaggedStatement<'_>,
+    row: &Row,
+) -> Result<(), AllocError> {
+    let operands = list_operands(recorder.alloc(), &statement.card)?;
+    let demands = list_demands(recorder.alloc(), row, &operands)?;
+    for demanded in &demands {
+        let here = here_for(recorder, statement, row, demanded)?;
+        find_in_demanded(recorder, findings, statement, demanded, here)?;
+    }
+    if let Row::Compare(test) = row {
+        let operands = Sides {
+            left: operands.first().copied(),
+            right: operands.get(1).copied(),
+        };
+        find_incomparable(recorder, findings, statement, test, operands)?;
+    }
+    Ok(())
+}
+
+/// What `*` stands for in an expression of a statement. The counter is asked only where `*` stands in it.
+fn here_for(
+    recorder: &mut Recorder<'_, Asks>,
+    statement: &FlaggedStatement<'_>,
+    row: &Row,
+    demanded: &DemandedValue<'_>,
+) -> Result<Value, AllocError> {
+    if !demanded.expression.has_counter() {
+        return Ok(Value::plain(0));
+    }
+    let place = stand(recorder, statement.control)?;
+    let leaves = match row {
+        Row::Org(_) | Row::Bss(_) | Row::Bssz(_) | Row::Dis(_) => true,
+        Row::Vfd(_) => forces(statement.location(), place.is_pending),
+        _ => false,
+    };
+    let words = if leaves && place.used > 0 { 1 } else { 0 };
+    Ok(Value {
+        block: statement.control.block,
+        offset: i64::from(place.word) + words,
+    })
+}
+
+/// Whether a field of VFD begins a word, by its location field and by whether a forcing is pending.
+fn forces(location: Location, is_pending: bool) -> bool {
+    match location {
+        Location::Plus | Location::Symbol(_) => true,
+        Location::Minus => false,
+        Location::Absent | Location::NoSymbol => is_pending,
+    }
+}
+
+fn find_in_demanded(
+    recorder: &mut Recorder<'_, Asks>,
+    findings: &mut Findings,
+    statement: &FlaggedStatement<'_>,
+    demanded: &DemandedValue<'_>,
+    here: Value,
+) -> Result<(), AllocError> {
+    let symbols = SymbolsNow::of(recorder, demanded.expression)?;
+    let valued = symbols.value(demanded.expression, here);
+    if valued.undefined {
+        for symbol in symbols.as_slice() {
+            if symbol.value.is_none() {
+                let cause = undefined_now(statement.finals, symbol.name);
+                findings.add(cause, demanded.part.columns_of(symbol.name))?;
+            }
+        }
+        return Ok(());
+    }
+    let cause = match valued.value {
+        None => Some(Cause::Value(ValueFault::None)),
+        Some(value) => unfit(demanded.demand, value, statement),
+    };
+    match cause {
+        Some(cause) => findings.add(cause, demanded.part.columns()),
+        None => Ok(()),
+    }
+}
+
+/// A symbol that has no value yet.
+fn undefined_now(finals: &Finals, name: Name) -> Cause {
+    if finals.label(name).is_some() || finals.setting(name).is_some() {
+        Cause::Symbol(SymbolFault::DefinedBelow(name))
+    } else {
+        Cause::Symbol(SymbolFault::UndefinedNow(name))
+    }
+}
+
+/// Why a statement doesn't take a value, None where it does.
+fn unfit(demand: Demand, value: Value, statement: &FlaggedStatement<'_>) -> Option<Cause> {
+    let words = limit_of(statement.control.machine);
+    match demand {
+        Demand::Any => None,
+        Demand::Address => unfit_address(value.offset, words),
+        Demand::Words => match plain(value) {
+            Err(cause) => Some(cause),
+            Ok(_) => None,
+        },
+        Demand::Between(least, most) => match plain(value) {
+            Err(cause) => Some(cause),
+            Ok(number) => outside(number, least, most),
+        },
+        Demand::Times => match plain(value) {
+            Err(cause) => Some(cause),
+            Ok(number) => too_often(number),
+        },
+        Demand::Width => unfit_width(value),
+    }
+}
+
+/// A number that is in no block and not below 0.
+fn plain(value: Value) -> Result<i64, Cause> {
+    match value.block {
+        Some(block) => Err(Cause::Value(ValueFault::InBlock(block))),
+        None if value.offset < 0 => Err(Cause::Value(ValueFault::Negative(value.offset))),
+        None => Ok(value.offset),
+    }
+}
+
+fn unfit_address(offset: i64, words: u32) -> Option<Cause> {
+    if offset < 0 {
+        Some(Cause::Value(ValueFault::Negative(offset)))
+    } else if offset > i64::from(words) {
+        Some(Cause::Limit(LimitFault::Origin(words)))
+    } else {
+        None
+    }
+}
+
+fn outside(number: i64, least: u32, most: u32) -> Option<Cause> {
+    if i64::from(least) <= number && number <= i64::from(most) {
+        return None;
+    }
+    Some(Cause::Value(ValueFault::OutOfRange(Bounds {
+        value: number,
+        least,
+        most,
+    })))
+}
+
+fn too_often(number: i64) -> Option<Cause> {
+    if number.unsigned_abs() <= MOST_TIMES {
+        return None;
+    }
+    Some(Cause::Limit(LimitFault::Times(number)))
+}
+
+/// Why a value is no width of a field.
+fn unfit_width(value: Value) -> Option<Cause> {
+    match value.block {
+        Some(block) => Some(Cause::Width(WidthFault::InBlock(block))),
+        None if (1..=MOST_BITS).contains(&value.offset) => None,
+        None => Some(Cause::Width(WidthFault::OutOfRange(value.offset))),
+    }
+}
+
+/// The two operands that an IF compares.
+#[derive(Clone, Copy)]
+struct Sides<'a> {
+    left: Option<PlacedText<'a>>,
+    right: Option<PlacedText<'a>>,
+}
+
+/// Two values that aren't in one block.
+fn find_incomparable(
+    recorder: &mut Recorder<'_, Asks>,
+    findings: &mut Findings,
+    statement: &FlaggedStatement<'_>,
+    test: &Comparison,
+    sides: Sides<'_>,
+) -> Result<(), AllocError> {
+    let (Some(left), Some(right)) = (sides.left, sides.right) else {
+        return Ok(());
+    };
+    let (Some(one), Some(other)) = (
+        known_here(recorder, statement, &test.left)?,
+        known_here(recorder, statement, &test.right)?,
+    ) else {
+        return Ok(());
+    };
+    if is_same_block(one.block, other.block) {
+        return Ok(());
+    }
+    findings.add(
+        Cause::Value(ValueFault::NotComparable),
+        left.columns().through(right.columns()),
+    )
+}
+
+/// The value of an expression, None where it has none or a symbol has none.
+fn known_here(
+    recorder: &mut Recorder<'_, Asks>,
+    statement: &FlaggedStatement<'_>,
+    expression: &Expr,
+) -> Result<Option<Value>, AllocError> {
+    match value_here(recorder, statement.control, expression)? {
+        ValueNow::Known(value) => Ok(Some(value)),
+        _ => Ok(None),
+    }
+}

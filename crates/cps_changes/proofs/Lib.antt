@@ -1,3 +1,0 @@
-pub mod ChangedLemmas
-pub mod ExchangeLemmas
-pub mod KeptLemmas

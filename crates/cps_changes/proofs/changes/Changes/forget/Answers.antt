@@ -1,5 +1,0 @@
-use Rattle.cps_changes.proofs.KeptLemmas.{changed-forgotten}
-use Rattle.cps_changes.proofs.changes.Changes.forget.Goals as goal
-
-pub returns : goal.returns
-returns c = changed-forgotten _ _ c.args.key.now c.swap_remove.ensures.updates.0

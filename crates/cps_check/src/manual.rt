@@ -1,0 +1,42 @@
+//! What is told of a word.
+ghost use Rattle.std.specs.Prelude.{◌≡◌, false, IfOk, IfSome, is_some};
+ghost use Rattle.cps_check.specs.Manual as told;
+
+use crate::flags::flag_text;
+use crate::instruction::instruction_text;
+use crate::statements::statement_text;
+use cps_expr::Operation;
+use std::alloc::{AllocError, Global};
+
+/// What is told of a word: of the letter of a flag, of a statement, or of an instruction of either machine, whose name may lack the digit
+/// of a register. Lower-case letters stand for capitals. None where the word is nothing of that. Each row ends with a newline.
+pub fn manual_text(alloc: Global, word: &[u8]) -> Result<Option<Vec<u8>>, AllocError>
+    ensures told { IfOk result (λ text. is_some text ≡ told.is_told word.now) }
+    // Of an instruction, the rows of the tables.
+    ensures rows { IfOk result (λ text. IfSome text (λ text.
+        told.is_told_by_sentences word.now ≡ false → text.items ≡ told.instruction_text word.now)) }
+{
+    match sentences(word) {
+        Some(text) => Ok(Some(copied(alloc, text)?)),
+        None => instruction_text(alloc, word),
+    }
+}
+
+/// What is told of the letter of a flag, or of a statement.
+fn sentences(word: &[u8]) -> Option<&'static str>
+    ensures { is_some result ≡ told.is_told_by_sentences word.now }
+{
+    match flag_text(word) {
+        Some(text) => Some(text),
+        None => match Operation::named(word) {
+            Some(operation) => Some(statement_text(operation)),
+            None => None,
+        },
+    }
+}
+
+fn copied(alloc: Global, text: &str) -> Result<Vec<u8>, AllocError> {
+    let mut copy = Vec::new(alloc);
+    copy.extend_from_slice(text.as_bytes())?;
+    Ok(copy)
+}

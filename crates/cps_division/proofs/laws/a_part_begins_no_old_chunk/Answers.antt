@@ -1,5 +1,0 @@
-use Rattle.cps_division.proofs.PieceLemmas.{part-new}
-use Rattle.cps_division.proofs.laws.a_part_begins_no_old_chunk.Goals as goal
-
-pub returns : goal.returns
-returns c = part-new

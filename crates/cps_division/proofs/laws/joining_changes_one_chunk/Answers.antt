@@ -1,5 +1,0 @@
-use Rattle.cps_division.proofs.DivisionLemmas.{joined-stay, joined-again}
-use Rattle.cps_division.proofs.laws.joining_changes_one_chunk.Goals as goal
-
-pub returns : goal.returns
-returns c = λ n next lengths. (joined-stay n next lengths, joined-again n next lengths)

@@ -1,8 +1,0 @@
-use Rattle.std.proofs.Common.{◌≡◌, map}
-use Rattle.std.specs.Prelude.{slice_range}
-use Rattle.cps_buffer.specs.Lines.{source_lines}
-use Rattle.cps_card.specs.Card.{card_of}
-use Rattle.cps_document.proofs.cards.cards_from.Given as goal
-
-abbrev pub invariant-loop-at : goal.invariant-loop-at
-invariant-loop-at l = l.cards.items ≡ map card_of (slice_range (source_lines l.buffer) l.first l.at)

@@ -1,8 +1,0 @@
-use Rattle.std.proofs.Common.{take}
-use Rattle.cps_changes.specs.Kept.{keys_in}
-use Rattle.cps_editing.proofs.DifferenceLemmas.{AreListedOf}
-use Rattle.cps_editing.proofs.differences.list_labels.Given as goal
-
--- those of the keys so far
-abbrev pub invariant-loop-i : goal.invariant-loop-i
-invariant-loop-i l = AreListedOf l.ends (take l.i (keys_in l.ends.mend.now.changes)) l.labels.items

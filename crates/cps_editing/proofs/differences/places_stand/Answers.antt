@@ -1,5 +1,0 @@
-use Rattle.cps_editing.proofs.DifferenceLemmas.{places-in}
-use Rattle.cps_editing.proofs.differences.places_stand.Goals as goal
-
-pub returns-in-Some : goal.returns-in-Some
-returns-in-Some c = λ yes. places-in c.args.ends c.in-Some.storage c.storage.result.now c.in-Some.is (c.places_stand.ensures yes) c.storage.ensures

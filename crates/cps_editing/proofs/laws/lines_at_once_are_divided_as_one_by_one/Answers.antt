@@ -1,6 +1,0 @@
-use Rattle.std.proofs.Common.{refl}
-use Rattle.cps_editing.proofs.EnteringLemmas.{divides, appended}
-use Rattle.cps_editing.proofs.laws.lines_at_once_are_divided_as_one_by_one.Goals as goal
-
-pub returns : goal.returns
-returns c = (refl, λ count. (divides count, appended count))

@@ -1,7 +1,0 @@
-use Rattle.std.proofs.Common.{◌≡◌, take}
-use Rattle.cps_replay.specs.Sparse.{renewed}
-use Rattle.cps_editing.specs.Storing.{left_by_each}
-use Rattle.cps_editing.proofs.storage.leave_same_each.Given as goal
-
-abbrev pub invariant-loop-new : goal.invariant-loop-new
-invariant-loop-new l = left_by_each (renewed 0 (take l.new-index l.news) l.olds) ≡ left_by_each l.olds

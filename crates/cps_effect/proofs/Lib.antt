@@ -1,4 +1,0 @@
-pub mod CourseLemmas
-pub mod PartLemmas
-pub mod SizedLemmas
-pub mod WordLemmas

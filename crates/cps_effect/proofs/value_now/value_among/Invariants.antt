@@ -1,6 +1,0 @@
-use Rattle.std.proofs.Common.{◌≡◌, drop}
-use Rattle.cps_effect.specs.NamesNow.{values_in}
-use Rattle.cps_effect.proofs.value_now.value_among.Given as goal
-
-abbrev pub invariant-loop-now : goal.invariant-loop-now
-invariant-loop-now l = values_in (drop l.now-index l.names) l.name ≡ values_in l.names l.name

@@ -1,5 +1,0 @@
-use Rattle.cps_exchange.proofs.NumberLemmas.{exchanged-picks}
-use Rattle.cps_exchange.proofs.laws.an_exchange_picks_numbers.Goals as goal
-
-pub returns : goal.returns
-returns row c = exchanged-picks

@@ -1,5 +1,0 @@
-use Rattle.cps_exchange.proofs.ListLemmas.{turns-back}
-use Rattle.cps_exchange.proofs.laws.an_exchange_turns_back.Goals as goal
-
-pub returns : goal.returns
-returns row c = turns-back

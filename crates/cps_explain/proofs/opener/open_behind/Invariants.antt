@@ -1,8 +1,0 @@
-use Rattle.std.proofs.Common.{take}
-use Rattle.cps_state.specs.Keys.{first_state, overwritten}
-use Rattle.cps_gather.specs.Layout.{puts_of}
-use Rattle.cps_explain.specs.OpenNow.{IsOpenNow}
-use Rattle.cps_explain.proofs.opener.open_behind.Given as goal
-
-abbrev pub invariant-loop-trace : goal.invariant-loop-trace
-invariant-loop-trace l = IsOpenNow (overwritten first_state (puts_of (take l.trace-index l.traces))) l.opened

@@ -1,0 +1,6 @@
+use Rattle.std.proofs.Common.{◌≡◌, ◌++◌, take, flat_map}
+use Rattle.cps_state.specs.Made.{content_literals}
+use Rattle.cps_final.proofs.literals.push_contents_literals.Given as goal
+
+abbrev pub invariant-loop-content : goal.invariant-loop-content
+invariant-loop-content l = l.literals.items ≡ l.fn.literals.items ++ flat_map content_literals (take l.content-index l.contents)

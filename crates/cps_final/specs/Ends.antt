@@ -1,0 +1,11 @@
+-- The final values before an edit and after it. Our own.
+use Rattle.cps_final.specs.Outcome.{Resolved}
+use Rattle.cps_final.specs.Resolving.{resolved}
+use Rattle.cps_final.specs.FormerFinals.{values_before}
+use Rattle.cps_final.specs.declared.ends.Ends.{Ends}
+
+abbrev pub was_of : Ends → Resolved
+was_of ends = values_before (record { finals = ends.finals; mend = ends.mend })
+
+abbrev pub now_of : Ends → Resolved
+now_of ends = resolved ends.finals.now

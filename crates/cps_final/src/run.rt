@@ -1,0 +1,48 @@
+//! What is kept of a run of lines, so that it is gone through as one line is.
+ghost use Rattle.std.specs.Prelude.{◌≡◌, IfOk};
+ghost use Rattle.cps_final.specs.Holds.{holds};
+ghost use Rattle.cps_final.specs.RunGathering.{kept_run};
+
+use crate::holding::asks_hold;
+use crate::outside::outside_asks;
+use cps_state::{Asked, Hashing, Lookup, Trace};
+use std::alloc::{AllocError, Global};
+use std::marker::Model;
+
+/// What a run of lines asks of the state in front of it, in a list without room for more.
+#[derive(Drop)]
+pub struct Run {
+    asks: Vec<Asked>,
+}
+
+impl Model for Run {
+    ghost use Rattle.cps_final.specs.RunGathering.{KeptRun};
+
+    ghost Value = { KeptRun };
+
+    ghost view = { λ run. record { asks = run.asks.items } };
+}
+
+impl Run {
+    /// Of lines that did this.
+    pub fn of(alloc: Global, hashing: Hashing, traces: &[Trace]) -> Result<Run, AllocError>
+        ensures { IfOk result (λ run. run ≡ kept_run traces.now) }
+    {
+        let asks = outside_asks(alloc, hashing, traces)?;
+        Ok(Run { asks })
+    }
+
+    /// What it asks, each key once.
+    pub fn asks(&self) -> &[Asked]
+        ensures { result.now ≡ self.now.asks }
+    {
+        self.asks.as_slice()
+    }
+
+    /// Whether all that it asks has the same answers in a state, so that its lines do the same there. It is counted nowhere, and takes no memory.
+    pub fn stands_in<L: Lookup>(&self, state: &L) -> bool
+        ensures { result ≡ holds self.now.asks (L.answer state.now) }
+    {
+        asks_hold(&self.asks, state)
+    }
+}

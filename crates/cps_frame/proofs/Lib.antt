@@ -1,4 +1,0 @@
-pub mod FrontLemmas
-pub mod LengthLemmas
-pub mod MessageLemmas
-pub mod SplittingLemmas

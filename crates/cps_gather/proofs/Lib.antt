@@ -1,4 +1,0 @@
-pub mod BlockLemmas
-pub mod GatherLemmas
-pub mod MendLemmas
-mod PlaceLemmas

@@ -1,7 +1,0 @@
-use Rattle.std.proofs.Common.{[]}
-use Rattle.cps_gather.specs.Finals.{finals_of}
-use Rattle.cps_gather.proofs.GatherLemmas.{same-but-state}
-use Rattle.cps_gather.proofs.finals.Finals.new.Goals as goal
-
-pub returns : goal.returns
-returns c = same-but-state _ (finals_of []) _ _ c.new.ensures c.first.ensures

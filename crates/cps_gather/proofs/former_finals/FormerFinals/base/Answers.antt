@@ -1,6 +1,0 @@
-use Rattle.std.proofs.Common.{ap, ◌∙◌}
-use Rattle.cps_gather.specs.Finals.{Finals, final_value, block}
-use Rattle.cps_gather.proofs.former_finals.FormerFinals.base.Goals as goal
-
-pub returns : goal.returns
-returns c = c.base.ensures.base ∙ ap (λ (f : Finals). final_value f (block c.args.block)) c.storage.ensures

@@ -1,6 +1,0 @@
-use Rattle.std.proofs.Common.{ap, ◌∙◌}
-use Rattle.cps_gather.specs.Finals.{Finals, final_value, literal}
-use Rattle.cps_gather.proofs.former_finals.FormerFinals.literal.Goals as goal
-
-pub returns : goal.returns
-returns c = c.literal.ensures.literal ∙ ap (λ (f : Finals). final_value f (literal c.args.word)) c.storage.ensures

@@ -1,6 +1,0 @@
-use Rattle.std.proofs.Common.{◌≡◌, take, flat_map}
-use Rattle.cps_gather.specs.Pool.{literals_of}
-use Rattle.cps_gather.proofs.literals.list_literals.Given as goal
-
-abbrev pub invariant-loop-item : goal.invariant-loop-item
-invariant-loop-item l = l.literals.items ≡ flat_map (λ item. literals_of item.made) (take l.item-index l.items)

@@ -1,6 +1,0 @@
-use Rattle.std.proofs.Common.{refl}
-use Rattle.cps_gather.proofs.GatherLemmas.{same-finals}
-use Rattle.cps_gather.proofs.storage.Storage.new.Goals as goal
-
-pub returns : goal.returns
-returns c = same-finals _ _ refl c.new.ensures c.with_hasher.ensures.empty refl

@@ -1,6 +1,0 @@
-use Rattle.std.proofs.Common.{◌≡◌, drop}
-use Rattle.cps_gather.specs.Finals.{first_program}
-use Rattle.cps_gather.proofs.storage.first_program.Given as goal
-
-abbrev pub invariant-loop-item : goal.invariant-loop-item
-invariant-loop-item l = first_program (drop l.item-index l.items) ≡ first_program l.items

@@ -1,7 +1,0 @@
-use Rattle.std.proofs.Common.{◌++◌, take}
-use Rattle.cps_holding.specs.Run.{Run}
-use Rattle.cps_holding.specs.RunGathering.{IsOutside}
-use Rattle.cps_holding.proofs.outside.OutsideAsks.add_puts.Given as goal
-
-abbrev pub invariant-loop-put : goal.invariant-loop-put
-invariant-loop-put l = (run : Run) → IsOutside l.fn.self run → IsOutside l.self (record run { puts = run.puts ++ take l.put-index l.puts })

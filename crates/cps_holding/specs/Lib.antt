@@ -1,9 +1,0 @@
-pub mod Holds
-pub mod Agreeing
-pub mod Ends
-pub mod Run
-pub mod RunGathering
-pub use Rattle.cps_naming.specs.Names
-pub use Rattle.cps_naming.specs.Finals
-pub use Rattle.cps_naming.specs.Layout
-pub use Rattle.cps_naming.specs.Outcome

@@ -1,5 +1,0 @@
-use Rattle.cps_laws.proofs.PutChunks.{puts-are-edits}
-use Rattle.cps_laws.proofs.chunks.a_put_is_single_edits.Goals as goal
-
-pub returns : goal.returns
-returns c = puts-are-edits

@@ -1,5 +1,0 @@
-use Rattle.cps_laws.proofs.PutLines.{puts-one-by-one}
-use Rattle.cps_laws.proofs.edits.a_put_is_edits_one_by_one.Goals as goal
-
-pub returns : goal.returns
-returns c = puts-one-by-one

@@ -1,5 +1,0 @@
-use Rattle.cps_pass.proofs.OnceLemmas.{asks-once}
-use Rattle.cps_laws.proofs.laws.asks_each_key_once.Goals as goal
-
-pub returns : goal.returns
-returns c = asks-once

@@ -1,5 +1,0 @@
-use Rattle.cps_pass.proofs.StepLemmas.{trace-same}
-use Rattle.cps_laws.proofs.laws.depends_on_asks_alone.Goals as goal
-
-pub returns : goal.returns
-returns c = trace-same

@@ -1,5 +1,0 @@
-use Rattle.cps_pass.proofs.FewLemmas.{items-few}
-use Rattle.cps_laws.proofs.laws.items_are_few.Goals as goal
-
-pub returns : goal.returns
-returns c = items-few

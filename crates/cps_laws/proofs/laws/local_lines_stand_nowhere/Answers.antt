@@ -1,5 +1,0 @@
-use Rattle.cps_laws.proofs.LocalStands.{local-lines-stand-nowhere}
-use Rattle.cps_laws.proofs.laws.local_lines_stand_nowhere.Goals as goal
-
-pub returns : goal.returns
-returns c = local-lines-stand-nowhere

@@ -1,5 +1,0 @@
-use Rattle.cps_laws.proofs.LineStands.{stands-where-it-asks}
-use Rattle.cps_laws.proofs.laws.stands_where_it_asks.Goals as goal
-
-pub returns : goal.returns
-returns c = stands-where-it-asks

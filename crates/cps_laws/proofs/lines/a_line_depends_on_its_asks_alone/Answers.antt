@@ -1,6 +1,0 @@
-use Rattle.cps_laws.specs.LineLaws.{line_course}
-use Rattle.cps_pass.proofs.StepLemmas.{trace-same}
-use Rattle.cps_laws.proofs.lines.a_line_depends_on_its_asks_alone.Goals as goal
-
-pub returns : goal.returns
-returns c = λ line state. trace-same (line_course line) state

@@ -1,6 +1,0 @@
-use Rattle.cps_laws.specs.LineLaws.{line_course}
-use Rattle.cps_pass.proofs.FewLemmas.{items-few}
-use Rattle.cps_laws.proofs.lines.items_of_a_line_are_few.Goals as goal
-
-pub returns : goal.returns
-returns c = λ line state. items-few (line_course line) state

@@ -1,6 +1,0 @@
-use Rattle.std.proofs.Common.{◌≡◌, ◌-◌, take, length}
-use Rattle.cps_listing.specs.Listing.{trimmed}
-use Rattle.cps_listing.proofs.listing.trimmed_length.Given as goal
-
-abbrev pub invariant-loop-cut : goal.invariant-loop-cut
-invariant-loop-cut l = trimmed l.text ≡ trimmed (take (length l.text - l.cut) l.text)

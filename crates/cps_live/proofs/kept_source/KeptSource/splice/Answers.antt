@@ -1,0 +1,198 @@
+use Rattle.std.proofs.Common.{arith, rules, ◌≡◌, ℕ, List, Ok, length, sym, ap, subst, ◌∙◌}
+use Rattle.cps_state.specs.Course.{Trace}
+use Rattle.cps_state.specs.Keys.{first_state}
+use Rattle.cps_final.specs.Kept.{changes_in}
+use Rattle.cps_final.specs.Finals.{Finals, final_value, finals_of}
+use Rattle.cps_final.specs.Storage.{IsStored}
+use Rattle.cps_final.specs.Mend.{mended}
+use Rattle.cps_final.specs.contracts.finals.FinalsGathered.TheImpl.{gathered-value}
+use Rattle.cps_edit.specs.Disturbed.{finals_in}
+use Rattle.cps_edit.specs.Passes.{traces_of}
+use Rattle.cps_edit.specs.Splice.{spliced}
+use Rattle.cps_chunk.specs.Chunk.{lengths_of}
+use Rattle.cps_chunk.specs.Sparse.{AreWithin}
+use Rattle.cps_chunk.proofs.ReplayedLemmas.{replayed_behind-within}
+use Rattle.cps_live.specs.Editing.{AreEnds, AreNewOutcomes, LooksOfSecond, StepsOfSecond, splice_of}
+use Rattle.cps_live.specs.declared.news.News.{News}
+use Rattle.cps_final.specs.declared.outcome.Outcome.{Outcome}
+use Rattle.std.specs.declared.alloc.AllocError.{AllocError}
+use Rattle.cps_edit.proofs.SpliceLemmas.{length-traces_from}
+use Rattle.cps_live.specs.Storing.{IsStoredBehind}
+use Rattle.cps_live.proofs.EditLemmas.{looked-both, looked-first, room-still}
+use Rattle.cps_live.proofs.MendedLemmas.{are-ends, edited-is, finals-mended, may-stand}
+use Rattle.cps_live.proofs.kept_source.KeptSource.splice.Goals as goal
+
+pub returns-in_err-pass-clause-looked : goal.returns-in_err-pass-clause-looked
+returns-in_err-pass-clause-looked c = looked-first c.args.self.now.lines.items (lengths_of c.args.self.now.chunks.items) c.args.cut c.requires.cut _ _ c.pass_one.ensures.looked
+
+-- ---- where blocks and literals stand
+
+pub storage_behind-requires-clause-stored : goal.storage_behind-requires-clause-stored
+storage_behind-requires-clause-stored c =
+    let kept = c.pass_one.ensures.kept in
+    let there = ap (λ (finals : Finals). record finals { state = first_state }) kept.finals in
+    let same : traces_of c.pass_one.new.self.lines.items ≡ c.baseline.result.traces.now = sym (c.baseline.ensures.traces ∙ kept.lines.did) in
+    let stored = ap (λ (finals : Finals). record finals { state = first_state }) c.storage.ensures in
+    subst (IsStored c.storage.result.now) same (stored ∙ there)
+
+pub storage_behind-requires-clause-within : goal.storage_behind-requires-clause-within
+storage_behind-requires-clause-within c =
+    let still = c.pass_one.ensures.still in
+    let did = c.requires.kept.lines.did in
+    omega (
+      arith,
+      c.requires.cut.recuts.within,
+      ap length c.baseline.ensures.traces,
+      ap length still.traces,
+      ap length did,
+      length-traces_from first_state c.args.self.now.lines.items,
+    )
+
+pub storage_behind-requires-clause-places : goal.storage_behind-requires-clause-places
+storage_behind-requires-clause-places c =
+    let still = c.pass_one.ensures.still in
+    let did = c.requires.kept.lines.did in
+    let size : length c.args.self.now.lines.items ≡ length c.baseline.result.traces.now =
+    sym (ap length c.baseline.ensures.traces ∙ ap length still.traces ∙ ap length did ∙ length-traces_from first_state c.args.self.now.lines.items) in
+    let within = replayed_behind-within c.args.self.now.lines.items (splice_of c.args.cut) c.requires.cut.recuts.within in
+    subst (λ (n : ℕ). AreWithin c.args.cut.from n c.in_ok-pass.pass.traces.renewed.items) size
+    (subst (λ news. AreWithin c.args.cut.from (length c.args.self.now.lines.items) news) (sym c.in_ok-pass.ensures.pass.traces.renewed) within)
+
+pub returns-in_err-storage-clause-looked : goal.returns-in_err-storage-clause-looked
+returns-in_err-storage-clause-looked c = looked-first c.args.self.now.lines.items (lengths_of c.args.self.now.chunks.items) c.args.cut c.requires.cut _ _ c.pass_one.ensures.looked
+
+pub returns-in_err-chunks-clause-looked : goal.returns-in_err-chunks-clause-looked
+returns-in_err-chunks-clause-looked c = looked-first c.args.self.now.lines.items (lengths_of c.args.self.now.chunks.items) c.args.cut c.requires.cut _ _ c.pass_one.ensures.looked
+
+-- ---- what stands behind the last line
+
+pub exchange-requires-clause-stands : goal.exchange-requires-clause-stands
+exchange-requires-clause-stands c =
+    may-stand (changes_in c.in_ok-pass.pass.changes) c.args.self.now.lines.items (spliced c.args.self.now.lines.items (splice_of c.args.cut)) c.in_ok-pass.ensures.pass.state
+
+pub pass_two-requires-clause-ends : goal.pass_two-requires-clause-ends
+pass_two-requires-clause-ends c =
+    let lines = c.args.self.now.lines.items in
+    let cut = c.args.cut in
+    let pass = c.in_ok-pass.ensures.pass in
+    let one = c.pass_one.ensures.still in
+    let two = c.make_room.ensures.still in
+    let did : c.baseline.result.traces.now ≡ traces_of lines = c.baseline.ensures.traces ∙ one.traces ∙ c.requires.kept.lines.did in
+    let kept : gathered-value.it c.make_room.new.self.finals ≡ finals_of (traces_of lines) =
+    c.make_room.ensures.kept.finals ∙ ap (λ ls. finals_of (traces_of ls)) (two.lines ∙ one.lines) in
+    let stored = subst (λ (ts : List Trace). IsStoredBehind ts c.in_ok-storage.storage (traces_of (spliced lines (splice_of cut)))) did
+    (subst (λ (ts : List Trace). IsStoredBehind c.baseline.result.traces.now c.in_ok-storage.storage ts) (edited-is lines cut c.in_ok-pass.pass.traces pass.traces c.baseline.result.traces.now did) c.in_ok-storage.ensures) in
+    let there : gathered-value.it c.exchange.new.self ≡ finals_of (traces_of (spliced lines (splice_of cut))) =
+    c.exchange.ensures.now ∙ ap (mended (record { changes = c.in_ok-pass.pass.changes; storage = c.in_ok-storage.storage })) kept
+    ∙ finals-mended lines (spliced lines (splice_of cut)) c.in_ok-storage.storage (changes_in c.in_ok-pass.pass.changes) stored pass.state in
+    subst (λ (ls : List (List ℕ)). AreEnds ls (splice_of cut) (final_value (mended c.exchange.new.mend (gathered-value.it c.exchange.new.self))) (final_value (gathered-value.it c.exchange.new.self))) (sym (two.lines ∙ one.lines))
+    (are-ends lines (splice_of cut) (mended c.exchange.new.mend (gathered-value.it c.exchange.new.self)) (gathered-value.it c.exchange.new.self) (gathered-value.it c.make_room.new.self.finals)
+    c.exchange.ensures.back kept there)
+
+-- ---- it is put in its place
+
+pub commit-requires-clause-outcomes : goal.commit-requires-clause-outcomes
+commit-requires-clause-outcomes c =
+    subst (λ (ls : List (List ℕ)). AreNewOutcomes (finals_in ls) (finals_in (spliced ls (splice_of c.args.cut))) ls (splice_of c.args.cut) c.in-Ok.outcomes)
+    (sym c.pass_two.ensures.still.still.lines) c.in-Ok.ensures.made
+
+pub commit-requires-clause-room : goal.commit-requires-clause-room
+commit-requires-clause-room c =
+    let room = c.in_ok-chunks.ensures.room in
+    room-still _ _ c.args.cut c.in_ok-chunks.chunks c.pass_two.ensures.still.still c.pass_two.ensures.still.room
+    (record { lines = room.lines; traces = room.traces; outcomes = room.outcomes; chunks = room.chunks; empty = room.empty; list = room.list })
+
+pub returns-in-Ok-clause-kept : goal.returns-in-Ok-clause-kept
+returns-in-Ok-clause-kept c =
+    let lines = c.args.self.now.lines.items in
+    let cut = c.args.cut in
+    let pass = c.in_ok-pass.ensures.pass in
+    let one = c.pass_one.ensures.still in
+    let two = c.make_room.ensures.still in
+    let did : c.baseline.result.traces.now ≡ traces_of lines = c.baseline.ensures.traces ∙ one.traces ∙ c.requires.kept.lines.did in
+    let kept : gathered-value.it c.make_room.new.self.finals ≡ finals_of (traces_of lines) =
+    c.make_room.ensures.kept.finals ∙ ap (λ ls. finals_of (traces_of ls)) (two.lines ∙ one.lines) in
+    let stored = subst (λ (ts : List Trace). IsStoredBehind ts c.in_ok-storage.storage (traces_of (spliced lines (splice_of cut)))) did
+    (subst (λ (ts : List Trace). IsStoredBehind c.baseline.result.traces.now c.in_ok-storage.storage ts) (edited-is lines cut c.in_ok-pass.pass.traces pass.traces c.baseline.result.traces.now did) c.in_ok-storage.ensures) in
+    let there : gathered-value.it c.exchange.new.self ≡ finals_of (traces_of (spliced lines (splice_of cut))) =
+    c.exchange.ensures.now ∙ ap (mended (record { changes = c.in_ok-pass.pass.changes; storage = c.in_ok-storage.storage })) kept
+    ∙ finals-mended lines (spliced lines (splice_of cut)) c.in_ok-storage.storage (changes_in c.in_ok-pass.pass.changes) stored pass.state in
+    let three = c.pass_two.ensures.still in
+    let behind = c.commit.ensures.edited.lines ∙ ap (λ ls. spliced ls (splice_of cut)) (three.still.lines ∙ two.lines ∙ one.lines) in
+    record {
+      lines = c.commit.ensures.kept;
+      finals = ap (λ finals. gathered-value.it finals) (c.commit.ensures.finals ∙ three.finals) ∙ there ∙ ap (λ ls. finals_of (traces_of ls)) (sym behind);
+    }
+
+pub returns-in-Ok-clause-steps : goal.returns-in-Ok-clause-steps
+returns-in-Ok-clause-steps c =
+    let lines = c.args.self.now.lines.items in
+    let one = c.pass_one.ensures.still in
+    let two = c.make_room.ensures.still in
+    let s = c.in_ok-pass.ensures.steps in
+    let t = subst (λ (ls : List (List ℕ)). StepsOfSecond c.pass_two.result ls c.args.cut c.pass_one.new.work c.pass_two.new.work) (two.lines ∙ one.lines) c.pass_two.ensures.work.steps in
+    let exact = (subst (λ (ls : List (List ℕ)). StepsOfSecond {T = News Outcome} {E = AllocError} (Ok c.in-Ok.outcomes) ls c.args.cut c.pass_one.new.work c.pass_two.new.work) (two.lines ∙ one.lines) c.in-Ok.ensures.work.steps).twos in
+    record {
+      ones = omega (arith, s.ones, t.ones_least, t.ones_most);
+      twos = omega (arith, s.twos, exact);
+      ones_least = omega (arith, s.ones_least, t.ones_least);
+      twos_least = omega (arith, s.twos_least, t.twos_least);
+      ones_most = omega (arith, s.ones_most, t.ones_most);
+      twos_most = omega (arith, s.twos_most, t.twos_most);
+    }
+
+pub returns-in-Ok-clause-looked : goal.returns-in-Ok-clause-looked
+returns-in-Ok-clause-looked c =
+    let one = c.pass_one.ensures.still in
+    let two = c.make_room.ensures.still in
+    let t = subst (λ (ls : List (List ℕ)). LooksOfSecond ls (lengths_of c.make_room.new.self.chunks.items) c.args.cut c.pass_one.new.work c.pass_two.new.work) (two.lines ∙ one.lines) c.pass_two.ensures.work.looked in
+    let u = subst (λ (ns : List ℕ). LooksOfSecond c.args.self.now.lines.items ns c.args.cut c.pass_one.new.work c.pass_two.new.work) (two.lengths ∙ one.lengths) t in
+    looked-both c.args.self.now.lines.items (lengths_of c.args.self.now.chunks.items) c.args.cut c.requires.cut _ _ _ c.pass_one.ensures.looked u
+
+-- ---- there was no memory for pass two
+
+pub returns-in-Err-clause-kept : goal.returns-in-Err-clause-kept
+returns-in-Err-clause-kept c =
+    let lines = c.args.self.now.lines.items in
+    let cut = c.args.cut in
+    let pass = c.in_ok-pass.ensures.pass in
+    let one = c.pass_one.ensures.still in
+    let two = c.make_room.ensures.still in
+    let did : c.baseline.result.traces.now ≡ traces_of lines = c.baseline.ensures.traces ∙ one.traces ∙ c.requires.kept.lines.did in
+    let kept : gathered-value.it c.make_room.new.self.finals ≡ finals_of (traces_of lines) =
+    c.make_room.ensures.kept.finals ∙ ap (λ ls. finals_of (traces_of ls)) (two.lines ∙ one.lines) in
+    let stored = subst (λ (ts : List Trace). IsStoredBehind ts c.in_ok-storage.storage (traces_of (spliced lines (splice_of cut)))) did
+    (subst (λ (ts : List Trace). IsStoredBehind c.baseline.result.traces.now c.in_ok-storage.storage ts) (edited-is lines cut c.in_ok-pass.pass.traces pass.traces c.baseline.result.traces.now did) c.in_ok-storage.ensures) in
+    let there : gathered-value.it c.exchange.new.self ≡ finals_of (traces_of (spliced lines (splice_of cut))) =
+    c.exchange.ensures.now ∙ ap (mended (record { changes = c.in_ok-pass.pass.changes; storage = c.in_ok-storage.storage })) kept
+    ∙ finals-mended lines (spliced lines (splice_of cut)) c.in_ok-storage.storage (changes_in c.in_ok-pass.pass.changes) stored pass.state in
+    let all = c.pass_two.ensures.kept in
+    record {
+      lines = record { first = all.first; did = all.did; made = all.made; chunks = all.chunks; divided = all.divided; read = all.read };
+      finals = c.exchange-in-Err.ensures.now ∙ ap (λ finals. mended c.exchange.new.mend (gathered-value.it finals)) c.pass_two.ensures.still.finals ∙ c.exchange.ensures.back ∙ kept
+          ∙ ap (λ ls. finals_of (traces_of ls)) (sym (c.pass_two.ensures.still.still.lines ∙ two.lines ∙ one.lines));
+    }
+
+pub returns-in-Err-clause-steps : goal.returns-in-Err-clause-steps
+returns-in-Err-clause-steps c =
+    let lines = c.args.self.now.lines.items in
+    let one = c.pass_one.ensures.still in
+    let two = c.make_room.ensures.still in
+    let s = c.in_ok-pass.ensures.steps in
+    let t = subst (λ (ls : List (List ℕ)). StepsOfSecond c.pass_two.result ls c.args.cut c.pass_one.new.work c.pass_two.new.work) (two.lines ∙ one.lines) c.pass_two.ensures.work.steps in
+    record {
+      ones = search rules;
+      twos = search rules;
+      ones_least = omega (arith, s.ones_least, t.ones_least);
+      twos_least = omega (arith, s.twos_least, t.twos_least);
+      ones_most = omega (arith, s.ones_most, t.ones_most);
+      twos_most = omega (arith, s.twos_most, t.twos_most);
+    }
+
+pub returns-in-Err-clause-looked : goal.returns-in-Err-clause-looked
+returns-in-Err-clause-looked c =
+    let one = c.pass_one.ensures.still in
+    let two = c.make_room.ensures.still in
+    let t = subst (λ (ls : List (List ℕ)). LooksOfSecond ls (lengths_of c.make_room.new.self.chunks.items) c.args.cut c.pass_one.new.work c.pass_two.new.work) (two.lines ∙ one.lines) c.pass_two.ensures.work.looked in
+    let u = subst (λ (ns : List ℕ). LooksOfSecond c.args.self.now.lines.items ns c.args.cut c.pass_one.new.work c.pass_two.new.work) (two.lengths ∙ one.lengths) t in
+    looked-both c.args.self.now.lines.items (lengths_of c.args.self.now.chunks.items) c.args.cut c.requires.cut _ _ _ c.pass_one.ensures.looked u

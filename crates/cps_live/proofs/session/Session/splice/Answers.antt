@@ -1,0 +1,43 @@
+use Rattle.std.proofs.Common.{◌≤◌, length, sym, subst}
+use Rattle.cps_chunk.specs.Recut.{recut as recut_by}
+use Rattle.cps_edit.specs.Splice.{spliced}
+use Rattle.cps_edit.specs.Disturbed.{ones_of, twos_of}
+use Rattle.cps_live.specs.Editing.{splice_of}
+use Rattle.cps_edit.specs.Limits.{most_lines}
+use Rattle.cps_live.specs.Edits.{Source, HaveStepped, HaveSteppedUpTo, LooksOfEdit}
+use Rattle.cps_live.proofs.SessionLemmas.{held}
+use Rattle.cps_live.proofs.session.Session.splice.Goals as goal
+
+pub invariant_of-self : goal.invariant_of-self
+invariant_of-self c = held c.splice-made.new.self c.self.inside.kept.lines.items c.splice-made.ensures.kept c.in_default.ensures.err.lines c.self.invariant.few
+
+pub returns-in_default-clause-work : goal.returns-in_default-clause-work
+returns-in_default-clause-work c =
+    let splice = splice_of c.args.cut in
+    let steps = c.in_default.ensures.steps in
+    subst (λ (s : Source). HaveSteppedUpTo (ones_of s.lines splice) (twos_of s.lines splice) c.args.work.now c.splice-made.new.work) c.self.view_is
+    (record { first = steps.ones_most; second = steps.twos_most; first_kept = steps.ones_least; second_kept = steps.twos_least })
+
+pub returns-in_default-clause-looked : goal.returns-in_default-clause-looked
+returns-in_default-clause-looked c =
+    let cut = c.args.cut in
+    subst (λ (s : Source). LooksOfEdit s (splice_of cut) (recut_by cut.start cut.end cut.lengths.items s.lengths) c.args.work.now c.splice-made.new.work) c.self.view_is c.splice-made.ensures.looked
+
+pub invariant_of-self-2 : goal.invariant_of-self-2
+invariant_of-self-2 c =
+    let lines = c.self.inside.kept.lines.items in
+    let splice = splice_of c.args.cut in
+    let few = subst (λ (s : Source). length (spliced s.lines splice) ≤ most_lines) (sym c.self.view_is) c.requires.few in
+    held c.splice-made.new.self (spliced lines splice) c.splice-made.ensures.kept c.in-Ok.ensures.ok.lines few
+
+pub returns-clause-work : goal.returns-clause-work
+returns-clause-work c =
+    let splice = splice_of c.args.cut in
+    let steps = c.in-Ok.ensures.steps in
+    subst (λ (s : Source). HaveStepped (ones_of s.lines splice) (twos_of s.lines splice) c.args.work.now c.splice-made.new.work) c.self.view_is
+    (record { first = steps.ones; second = steps.twos })
+
+pub returns-clause-looked : goal.returns-clause-looked
+returns-clause-looked c =
+    let cut = c.args.cut in
+    subst (λ (s : Source). LooksOfEdit s (splice_of cut) (recut_by cut.start cut.end cut.lengths.items s.lengths) c.args.work.now c.splice-made.new.work) c.self.view_is c.splice-made.ensures.looked

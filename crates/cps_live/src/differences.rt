@@ -1,0 +1,160 @@
+//! Which labels have other final values.
+ghost use Rattle.std.specs.Prelude.{◌≡◌, false, true, List, IfOk, IsTrue};
+ghost use Rattle.std.specs.List.{list_any};
+ghost use Rattle.cps_expr.specs.Value.{same_name};
+ghost use Rattle.cps_state.specs.Course.{Trace as Did};
+ghost use Rattle.cps_state.specs.declared.key.Key.TheVariants as key;
+ghost use Rattle.cps_chunk.specs.Marks.{AreMarked, has, keys_named, mark_of};
+ghost use Rattle.cps_final.specs.Names.{names_in, all_pass};
+ghost use Rattle.cps_live.specs.NamesRead.{has_name};
+ghost use Rattle.cps_live.specs.Differences.{passes, AreExact, AreKnown, PlacesStandIn, IsListed};
+
+use crate::names_read::NamesRead;
+use cps_chunk::{Marks, mark_of};
+use cps_expr::is_same_name;
+use cps_final::{Ends, Naming};
+use cps_state::{Hashing, Key};
+use cps_text::Name;
+use std::alloc::{AllocError, Global};
+
+/// The most changed keys of which each is looked at.
+const FEW: usize = 64;
+
+/// Which labels have other final values behind an edit, where all blocks and literals stand where they stood; else no more is known than the final values.
+pub struct Differences<'a> {
+    ends: Ends<'a>,
+    labels: Option<Vec<Name>>,
+    /// Whether no line reads one of these labels.
+    unread: bool,
+}
+
+// Written out: what holds them drops them by a call.
+impl Drop for Differences<'_> {
+    fn drop(self) {
+        let Differences {
+            ends: _,
+            labels,
+            unread: _,
+        } = self;
+        drop(labels);
+    }
+}
+
+impl<'a> Naming for Differences<'a> {
+    ghost use Rattle.cps_live.specs.Differences.{passes};
+
+    ghost passes = { passes };
+
+    fn label(&self, name: Name) -> bool {
+        match &self.labels {
+            Some(labels) => !is_among(labels, name),
+            None => self.ends.label(name),
+        }
+    }
+
+    fn block(&self, name: Option<Name>) -> bool {
+        match &self.labels {
+            Some(_) => true,
+            None => self.ends.block(name),
+        }
+    }
+
+    fn literal(&self, word: u64) -> bool {
+        match &self.labels {
+            Some(_) => true,
+            None => self.ends.literal(word),
+        }
+    }
+}
+
+impl<'a> Differences<'a> {
+    /// Between the final values before an edit and after it, for lines that read none but these symbols.
+    pub fn of(
+        alloc: Global,
+        ends: Ends<'a>,
+        read: &NamesRead,
+    ) -> Result<Differences<'a>, AllocError>
+        ensures ends { IfOk result (λ differences. differences.ends ≡ ends.entry) }
+        ensures exact { IfOk result AreExact }
+        ensures known { IfOk result (AreKnown read.now) }
+    {
+        if ends.mend.changes.count() > FEW || !places_stand(ends) {
+            return Ok(Differences {
+                ends,
+                labels: None,
+                unread: false,
+            });
+        }
+        let labels = list_labels(alloc, ends)?;
+        let unread = !has_read(read, &labels);
+        Ok(Differences {
+            ends,
+            labels: Some(labels),
+            unread,
+        })
+    }
+
+    /// Whether all that the lines name is known to have the same final values.
+    pub fn is_none(&self) -> bool
+        ensures { result ≡ self.now.unread }
+    {
+        self.unread
+    }
+
+    /// Whether what lines name may have another final value, of whose labels these have all marks.
+    pub fn may_have(&self, hashing: Hashing, marks: &Marks) -> bool
+        ensures { result ≡ false → (ts : List Did) → AreMarked hashing marks.now (keys_named ts) → all_pass (passes self.now) (names_in ts) ≡ true }
+    {
+        match &self.labels {
+            Some(labels) => has_label(hashing, marks, labels),
+            None => true,
+        }
+    }
+}
+
+/// Whether one of some labels has its mark.
+fn has_label(hashing: Hashing, marks: &Marks, labels: &[Name]) -> bool
+    ensures { result ≡ list_any (λ name. has marks.now (mark_of hashing (key.Label name))) labels.now }
+{
+    labels
+        .iter()
+        .any(|name| marks.has(mark_of(hashing, Key::Label(*name))))
+}
+
+/// Whether one of some labels is read.
+fn has_read(read: &NamesRead, labels: &[Name]) -> bool
+    ensures { result ≡ list_any (λ name. has_name read.now name) labels.now }
+{
+    labels.iter().any(|name| read.has(*name))
+}
+
+fn is_among(labels: &[Name], name: Name) -> bool
+    ensures { result ≡ list_any (λ other. same_name other name) labels.now }
+{
+    labels.iter().any(|other| is_same_name(*other, name))
+}
+
+/// Whether each block and each literal stands where it stood, by a test that may say no where they do.
+fn places_stand(ends: Ends) -> bool
+    ensures { IsTrue result → PlacesStandIn ends.entry }
+{
+    match &ends.mend.storage {
+        Some(storage) => storage.places_stand(ends.finals.storage()),
+        None => true,
+    }
+}
+
+/// The changed labels that have another final value.
+fn list_labels(alloc: Global, ends: Ends) -> Result<Vec<Name>, AllocError>
+    ensures { IfOk result (λ labels. IsListed ends.entry labels.items) }
+{
+    let mut labels = Vec::new(alloc);
+    for i in 0..ends.mend.changes.count() {
+        if let Key::Label(name) = ends.mend.changes.key(i) {
+            if !ends.label(name) {
+                labels.push(name)?;
+            }
+        }
+    }
+    Ok(labels)
+}

@@ -1,0 +1,176 @@
+//! Two runs of lines that change places.
+ghost use Rattle.std.specs.Prelude.{◌≡◌, ◌<◌, ◌^◌, IfOk, OnOk, OnErr, length, vec_len};
+ghost use Rattle.cps_chunk.specs.Chunk.{lengths_of};
+ghost use Rattle.cps_edit.specs.Compares.{ComparesUpTo, Steps};
+ghost use Rattle.cps_chunk.specs.Sparse.{AreWithin};
+ghost use Rattle.cps_live.specs.Editing.{AreKept, HasRoomToMend, IsKept, IsStill, IsStillWith};
+ghost use Rattle.cps_live.specs.NamesRead.{HasRead, items_of};
+ghost use Rattle.cps_live.specs.Exchanged.{AreMovedParts, HasPassedMoved, HasRuns, IsExchanged, IsMovedPass, IsRecutMoved, LooksOfExchange, StepsOfExchange, looks_by, redone_by};
+
+use crate::chunk_list::mark_all;
+use crate::first_pass::FirstPass;
+use crate::kept_source::KeptSource;
+use crate::second_pass::SecondPass;
+use crate::storage::storage_moved;
+use cps_chunk::{Baseline, Chunk, Piece, SparseItem, chunks_moved, put_all, recut_exchange};
+use cps_edit::Exchange;
+use cps_final::{Ends, Mend, Outcome};
+use cps_state::{Trace, Work};
+use std::alloc::AllocError;
+use std::mem::replace;
+
+/// What the passes make of a move, which chunks come, and a list for them.
+#[derive(Drop)]
+struct MovedParts {
+    traces: Vec<SparseItem<Trace>>,
+    outcomes: Vec<SparseItem<Outcome>>,
+    pieces: Vec<Piece>,
+    chunks: Vec<Chunk>,
+}
+
+impl KeptSource {
+    /// Puts each of two runs of lines in the place of the other, and makes both passes. Where there is no memory, the lines stay as they are, and so does what is
+    /// kept of them.
+    pub fn exchange(&mut self, exchange: Exchange, work: &mut Work) -> Result<(), AllocError>
+        requires kept { IsKept self.old }
+        requires few { vec_len self.old.lines < 2 ^ 63 }
+        requires runs { HasRuns (vec_len self.old.lines) exchange }
+        ensures kept { IsKept self.new }
+        ensures moved { OnOk result (IsExchanged exchange self.old self.new) }
+        ensures err { OnErr result (IsStill self.old self.new) }
+        ensures steps { StepsOfExchange result exchange self.old work.old work.new }
+        ensures looked { LooksOfExchange exchange self.old work.old work.new }
+    {
+        let pieces = self.pieces_of(exchange)?;
+        let chunks = Vec::with_capacity(self.alloc, pieces.len())?;
+        let pass = self.pass_one_moved(exchange, work)?;
+        let FirstPass { traces, changes } = pass;
+        let traces = traces.into_renewed();
+        let storage = storage_moved(self.baseline(), exchange, &traces)?;
+        let mut mend = Mend { changes, storage };
+        self.make_room_to_mend(&mend)?;
+        self.finals.exchange(&mut mend);
+        match self.pass_again(&traces, &mend, work) {
+            Ok(outcomes) => {
+                drop(mend);
+                let parts = MovedParts {
+                    traces,
+                    outcomes,
+                    pieces,
+                    chunks,
+                };
+                self.commit_moved(exchange, parts);
+                Ok(())
+            }
+            Err(refused) => {
+                self.finals.exchange(&mut mend);
+                Err(refused)
+            }
+        }
+    }
+
+    /// The chunks of an exchange, and which of the old ones each is.
+    fn pieces_of(&self, exchange: Exchange) -> Result<Vec<Piece>, AllocError>
+        requires kept { IsKept self.now }
+        requires few { vec_len self.now.lines < 2 ^ 63 }
+        requires runs { HasRuns (vec_len self.now.lines) exchange }
+        ensures { IfOk result (λ pieces. IsRecutMoved self.now exchange pieces.items) }
+    {
+        let lengths = self.lengths()?;
+        recut_exchange(self.alloc, &lengths, exchange)
+    }
+
+    /// Pass one of a move.
+    fn pass_one_moved(
+        &mut self,
+        exchange: Exchange,
+        work: &mut Work,
+    ) -> Result<FirstPass, AllocError>
+        requires kept { IsKept self.old }
+        requires runs { HasRuns (vec_len self.old.lines) exchange }
+        ensures kept { IsKept self.new }
+        ensures still { IsStill self.old self.new }
+        ensures pass { IfOk result (IsMovedPass self.old.lines.items exchange) }
+        ensures passed { HasPassedMoved result self.old.lines.items exchange (lengths_of self.old.chunks.items) work.old work.new }
+    {
+        let base = Baseline {
+            alloc: self.alloc,
+            hashing: self.hashing,
+            first: &self.first,
+            lines: &self.lines,
+            traces: &self.traces,
+        };
+        FirstPass::of_exchange(base, &mut self.chunks, exchange, work)
+    }
+
+    /// Room for what a move changes behind the last line, once and back.
+    fn make_room_to_mend(&mut self, mend: &Mend) -> Result<(), AllocError>
+        requires { IsKept self.old }
+        ensures kept { IsKept self.new }
+        ensures still { IsStill self.old self.new }
+        ensures room { OnOk result (HasRoomToMend self.new mend.now) }
+    {
+        self.finals.make_room(mend)
+    }
+
+    /// Pass two over all lines, of which these do something new, under the final values that are kept.
+    pub(crate) fn pass_again(
+        &mut self,
+        traces: &[SparseItem<Trace>],
+        mend: &Mend,
+        work: &mut Work,
+    ) -> Result<Vec<SparseItem<Outcome>>, AllocError>
+        requires kept { AreKept self.old }
+        requires few { vec_len self.old.lines < 2 ^ 63 }
+        requires news { AreWithin 0 (vec_len self.old.lines) traces.now }
+        ensures kept { AreKept self.new }
+        ensures still { IsStillWith self.old self.new }
+        ensures made { IfOk result (λ made. made.items ≡ redone_by self.old mend.now traces.now) }
+        ensures read { IfOk result (λ made. HasRead self.new.read (items_of made.items)) }
+        ensures steps { Steps result work.old work.new 0 (length (redone_by self.old mend.now traces.now)) }
+        ensures looked { ComparesUpTo work.old work.new (looks_by self.old mend.now traces.now) }
+    {
+        let base = Baseline {
+            alloc: self.alloc,
+            hashing: self.hashing,
+            first: &self.first,
+            lines: &self.lines,
+            traces: &self.traces,
+        };
+        let ends = Ends {
+            finals: &self.finals,
+            mend,
+        };
+        let mut pass = SecondPass::new(base, ends, &self.read)?;
+        pass.go_over_chunks(0, &mut self.chunks, traces, work)?;
+        let renewed = pass.into_news();
+        self.read.add_renewed(&renewed)?;
+        Ok(renewed)
+    }
+
+    /// Puts all that comes with a move in its place. Takes no memory.
+    fn commit_moved(&mut self, exchange: Exchange, parts: MovedParts)
+        requires kept { AreKept self.old }
+        requires runs { HasRuns (vec_len self.old.lines) exchange }
+        requires parts { AreMovedParts self.old exchange parts }
+        requires read { HasRead self.old.read (items_of parts.outcomes.items) }
+        ensures kept { AreKept self.new }
+        ensures moved { IsExchanged exchange self.old self.new }
+        ensures finals { self.new.finals ≡ self.old.finals }
+    {
+        let MovedParts {
+            traces,
+            outcomes,
+            pieces,
+            chunks,
+        } = parts;
+        mark_all(&mut self.chunks, self.hashing, &traces);
+        put_all(&mut self.traces, traces);
+        put_all(&mut self.outcomes, outcomes);
+        exchange.turn(&mut self.lines);
+        exchange.turn(&mut self.traces);
+        exchange.turn(&mut self.outcomes);
+        let olds = replace(&mut self.chunks, Vec::new(self.alloc));
+        self.chunks = chunks_moved(self.hashing, olds, &pieces, &self.traces, chunks);
+    }
+}

@@ -1,6 +1,0 @@
-use Rattle.std.proofs.Common.{◌≡◌, ◌+◌, drop}
-use Rattle.cps_local.specs.Locals.{local_count}
-use Rattle.cps_local.proofs.lines.local_count.Given as goal
-
-abbrev pub invariant-loop-count : goal.invariant-loop-count
-invariant-loop-count l = l.count + local_count (drop l.count l.lines) ≡ local_count l.lines

@@ -1,3 +1,0 @@
-pub mod Cards
-pub mod Locals
-pub mod Naming

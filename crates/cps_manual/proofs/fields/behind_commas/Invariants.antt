@@ -1,8 +1,0 @@
-use Rattle.std.proofs.Common.{◌≡◌, take}
-use Rattle.std.specs.Prelude.{flat_map}
-use Rattle.cps_table.specs.Operations.{texts}
-use Rattle.cps_manual.specs.Kept.{after_comma}
-use Rattle.cps_manual.proofs.fields.behind_commas.Given as goal
-
-abbrev pub invariant-loop-letters : goal.invariant-loop-letters
-invariant-loop-letters l = l.text.items ≡ flat_map after_comma (texts (take l.letters-index l.registers))

@@ -1,7 +1,0 @@
-use Rattle.std.proofs.Common.{map, take}
-use Rattle.cps_marks.specs.Adding.{Adds}
-use Rattle.cps_marks.specs.Marks.{fault_mark}
-use Rattle.cps_marks.proofs.line_marks.push_faults.Given as goal
-
-abbrev pub invariant-loop-fault : goal.invariant-loop-fault
-invariant-loop-fault l = Adds (map (fault_mark l.number) (take l.fault-index l.faults)) l.fn.marks.items l.marks.items

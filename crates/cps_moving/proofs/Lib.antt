@@ -1,2 +1,0 @@
-mod NamedLemmas
-pub mod MovedLemmas

@@ -1,4 +1,0 @@
-pub mod DecideLemmas
-pub mod NamingLemmas
-pub mod NamesLemmas
-pub use Rattle.cps_final.proofs.AloneLemmas

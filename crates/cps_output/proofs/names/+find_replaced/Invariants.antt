@@ -1,5 +1,0 @@
-use Rattle.std.proofs.Common.{length}
-use Rattle.cps_output.proofs.names.+find_replaced.Given as goal
-
-abbrev pub decreases-find_replaced : goal.decreases-find_replaced
-decreases-find_replaced g l = length l.names.now

@@ -1,5 +1,0 @@
-use Rattle.std.proofs.Common.{length}
-use Rattle.cps_output.proofs.names.+find_replacing.Given as goal
-
-abbrev pub decreases-find_replacing : goal.decreases-find_replacing
-decreases-find_replacing g l = length l.names.now

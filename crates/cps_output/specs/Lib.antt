@@ -1,5 +1,0 @@
-pub mod Placing
-pub mod Outputs
-pub mod Steps
-pub mod Export
-pub mod Same

@@ -1,0 +1,8 @@
+use Rattle.cps_pass.specs.Ranges.{asking_defined, hanging}
+use Rattle.cps_pass.proofs.ScopeLemmas.{handed-on}
+use Rattle.cps_pass.proofs.ranges.if_defined.Goals as goal
+
+pub returns : goal.returns
+returns g c =
+    handed-on (asking_defined c.args.test.now) c.in_ok-tested.tested (hanging c.args.front.control c.args.scope.now c.args.front.location c.args.test.now.lines) c.hang.new.scope
+    g.L.Lookup.answer c.args.recorder.now c.ask_defined.new.recorder c.hang.new.recorder c.hang.result c.in_ok-tested.ensures c.hang.ensures

@@ -1,0 +1,138 @@
+//! Location fields, and the symbols that they define.
+ghost use Rattle.std.specs.Prelude.{◌≡◌, OnOk, IfOk};
+ghost use Rattle.cps_state.specs.Course.{telling_if};
+ghost use Rattle.cps_state.specs.Line.{Does, Hands};
+ghost use Rattle.cps_pass.specs.Located as located;
+
+use crate::asking::ask_value;
+use crate::reading::Location;
+use cps_expr::Value;
+use cps_state::{Answer, Flags, Key, Lookup, Recorder};
+use cps_text::Name;
+use std::alloc::AllocError;
+
+/// Whether a location field isn't empty.
+fn is_present(location: Location) -> bool
+    ensures { result ≡ located.is_present location }
+{
+    match location {
+        Location::Absent => false,
+        _ => true,
+    }
+}
+
+/// The flags of a location field of a statement that takes none.
+pub fn present_flags(location: Location) -> Flags
+    ensures { result ≡ located.present_flags location }
+{
+    let mut flags = Flags::none();
+    flags.location = is_present(location);
+    flags
+}
+
+/// The symbol of a location field.
+pub fn symbol_in(location: Location) -> Option<Name>
+    ensures { result ≡ located.symbol_in location }
+{
+    match location {
+        Location::Symbol(name) => Some(name),
+        _ => None,
+    }
+}
+
+/// What a symbol stands for already.
+#[derive(Clone, Copy, PartialEq, Eq)]
+pub enum Standing {
+    Free,
+    /// It is a label.
+    Labelled,
+    /// SET gave it a value.
+    Set,
+}
+
+pub fn has_value(standing: Standing) -> bool
+    ensures { result ≡ located.has_value standing }
+{
+    match standing {
+        Standing::Free => false,
+        Standing::Labelled | Standing::Set => true,
+    }
+}
+
+pub fn is_labelled(standing: Standing) -> bool
+    ensures { result ≡ located.is_labelled standing }
+{
+    match standing {
+        Standing::Labelled => true,
+        Standing::Free | Standing::Set => false,
+    }
+}
+
+fn standing_by(label: Option<Value>, setting: Option<Value>) -> Standing
+    ensures { result ≡ located.standing_by label setting }
+{
+    match (label, setting) {
+        (Some(_), _) => Standing::Labelled,
+        (None, Some(_)) => Standing::Set,
+        (None, None) => Standing::Free,
+    }
+}
+
+/// What a symbol stands for already.
+pub fn ask_standing<L: Lookup>(
+    recorder: &mut Recorder<'_, L>,
+    name: Name,
+) -> Result<Standing, AllocError>
+    ensures { IfOk result (λ standing. Hands (located.asking_standing name) standing L.answer recorder.old recorder.new) }
+{
+    let label = ask_value(recorder, Key::Label(name))?;
+    let setting = ask_value(recorder, Key::Setting(name))?;
+    Ok(standing_by(label, setting))
+}
+
+/// Tells a symbol where something holds.
+pub fn tell_if<L: Lookup>(
+    recorder: &mut Recorder<'_, L>,
+    holds: bool,
+    name: Name,
+) -> Result<(), AllocError>
+    ensures { OnOk result (Does (telling_if holds name) L.answer recorder.old recorder.new) }
+{
+    if holds {
+        recorder.tell(name)?;
+    }
+    Ok(())
+}
+
+/// Whether the symbol of a location field has a value already; then it counts as read.
+pub fn is_taken<L: Lookup>(
+    recorder: &mut Recorder<'_, L>,
+    location: Location,
+) -> Result<bool, AllocError>
+    ensures { IfOk result (λ is_taken. Hands (located.asking_taken (located.symbol_in location)) is_taken L.answer recorder.old recorder.new) }
+{
+    match symbol_in(location) {
+        Some(name) => {
+            let standing = ask_standing(recorder, name)?;
+            let is_taken = has_value(standing);
+            tell_if(recorder, is_taken, name)?;
+            Ok(is_taken)
+        }
+        None => Ok(false),
+    }
+}
+
+/// The symbol of a location field gets a value; one that has a value keeps it.
+pub fn define<L: Lookup>(
+    recorder: &mut Recorder<'_, L>,
+    location: Location,
+    is_taken: bool,
+    value: Value,
+) -> Result<(), AllocError>
+    ensures { OnOk result (Does (located.defining (located.symbol_in location) is_taken value) L.answer recorder.old recorder.new) }
+{
+    match symbol_in(location) {
+        Some(name) if !is_taken => recorder.put(Key::Label(name), Answer::Value(value)),
+        _ => Ok(()),
+    }
+}

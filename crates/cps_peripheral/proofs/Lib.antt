@@ -1,4 +1,0 @@
-pub mod RowLemmas
-pub mod ReadLemmas
-pub mod WorkedRows
-pub mod OneRow

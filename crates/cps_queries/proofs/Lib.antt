@@ -1,3 +1,0 @@
-mod CompletionLemmas
-mod FloatLemmas
-mod HintLemmas

@@ -1,4 +1,0 @@
-pub mod Ranges
-pub mod Results
-pub mod Queries
-pub mod Telling

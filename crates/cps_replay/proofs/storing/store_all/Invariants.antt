@@ -1,6 +1,0 @@
-use Rattle.std.proofs.Common.{take}
-use Rattle.cps_replay.specs.Storing.{StoresAlso}
-use Rattle.cps_replay.proofs.storing.store_all.Given as goal
-
-abbrev pub invariant-loop-trace : goal.invariant-loop-trace
-invariant-loop-trace l = StoresAlso l.initial.storage l.storage (take l.trace-index l.traces)

@@ -1,5 +1,0 @@
-use Rattle.cps_replay.proofs.WalkLemmas.{stretch-part}
-use Rattle.cps_replay.proofs.walk.part.Goals as goal
-
-pub returns : goal.returns
-returns c = stretch-part c.args.from c.args.to c.requires.ordered c.args.traces.now

@@ -1,0 +1,7 @@
+use Rattle.std.proofs.Common.{map}
+use Rattle.serde_json.specs.View.{view}
+use Rattle.cps_server.specs.Telling.{KeepsCompletions}
+use Rattle.cps_server.proofs.completions.push_macros.Given as goal
+
+abbrev pub invariant-loop-name : goal.invariant-loop-name
+invariant-loop-name l = KeepsCompletions (view l.range) (map view l.fn.told.items) (map view l.told.items)

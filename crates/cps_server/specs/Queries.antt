@@ -1,0 +1,51 @@
+-- What is told an editor that asks of a text which it has open. From the Language Server Protocol 3.17; `compass/rows` is our own.
+use Rattle.std.specs.Prelude.{◌≡◌, ℕ, Bool, not, ◌||◌, List, filter, bytes_eq, codes, Option, Some, None, if◌then◌else◌}
+use Rattle.serde_json.specs.Data.{Data, array}
+use Rattle.serde_json.specs.View.{items_of}
+use Rattle.cps_list.specs.declared.mention.Mention.{Mention}
+use Rattle.cps_rpc.specs.declared.encoding.Encoding.{Encoding}
+use Rattle.cps_rpc.specs.declared.markup.Markup.{Markup}
+use Rattle.cps_rpc.specs.Params.{position_at, range_at, wants_definitions}
+use Rattle.cps_server.specs.Symbols.{definitions, mentions_at}
+use Rattle.cps_server.specs.declared.deck.Deck.{Deck}
+use Rattle.cps_server.specs.declared.query.Query.{Query}
+use Rattle.cps_server.specs.declared.query.Query.TheVariants.{Hover, Definition, References, Symbols, Hints, Completions, Listing}
+use Rattle.cps_server.specs.Ranges.{word_at}
+use Rattle.cps_server.specs.Results.{TellsCompletions, TellsEach, TellsFirst, TellsMention, TellsShown, TellsSymbols, hints_in, listings_in}
+
+-- the query of a method
+abbrev pub query_named : List ℕ → Option Query
+query_named method =
+    if bytes_eq method (codes "textDocument/hover") then Some Hover
+    else (if bytes_eq method (codes "textDocument/definition") then Some Definition
+    else (if bytes_eq method (codes "textDocument/references") then Some References
+    else (if bytes_eq method (codes "textDocument/documentSymbol") then Some Symbols
+    else (if bytes_eq method (codes "textDocument/inlayHint") then Some Hints
+    else (if bytes_eq method (codes "textDocument/completion") then Some Completions
+    else (if bytes_eq method (codes "compass/rows") then Some Listing else None))))))
+
+-- the mentions that are wanted: those that read a symbol, or all
+abbrev pub wanted : Bool → List Mention → List Mention
+wanted definitions_too mentions = filter (λ mention. definitions_too || not mention.is_definition) mentions
+
+-- a result is told where the parameters have what it is asked of, and nothing where they are wrong
+abbrev pub TellsOf : {A : Type 0} → Option A → (A → Data → Type 0) → Option Data → Type 0
+TellsOf None tells told = told ≡ None
+TellsOf (Some asked) tells told = (json : Data) × (told ≡ Some json) × tells asked json
+
+-- what is told of the text under a URI, by the parameters of a query; nothing where they are wrong
+abbrev pub Tells : Query → Data → Encoding → Markup → List ℕ → List ℕ → Option Data → Type 0
+Tells Hover params encoding markup uri text told = TellsOf (position_at params) (λ position json. TellsShown encoding markup text position json) told
+Tells Definition params encoding markup uri text told =
+    TellsOf (position_at params) (λ position json. TellsFirst uri (definitions (mentions_at encoding text position)) json) told
+Tells References params encoding markup uri text told =
+    TellsOf (position_at params) (λ position json. TellsEach (TellsMention uri) (wanted (wants_definitions params) (mentions_at encoding text position)) json) told
+Tells Symbols params encoding markup uri text told = (json : Data) × (told ≡ Some json) × TellsSymbols text json
+Tells Hints params encoding markup uri text told = TellsOf (range_at params) (λ range json. json ≡ array (items_of (hints_in encoding text range))) told
+Tells Completions params encoding markup uri text told =
+    TellsOf (position_at params) (λ position json. TellsCompletions (word_at encoding text position) json) told
+Tells Listing params encoding markup uri text told = TellsOf (range_at params) (λ range json. json ≡ array (items_of (listings_in text range))) told
+
+-- what is told of a deck
+abbrev pub TellsOfDeck : Query → Data → Deck → Option Data → Type 0
+TellsOfDeck query params deck told = Tells query params deck.encoding deck.markup deck.uri.now deck.document.now told

@@ -1,0 +1,143 @@
+-- What a server tells of a text that an editor has open, in JSON. From the Language Server Protocol 3.17; what is shown of a line is our own.
+use Rattle.std.specs.Prelude.{◌≡◌, ◌≤◌, ℕ, ◌+◌, ◌-◌, min, true, List, [], ◌∷◌, ◌++◌, length, map, codes, flat_map, Option, Some, None, option_and_then, slice_get}
+use Rattle.std.specs.List.{All, AllZip, range_with_len}
+use Rattle.std.specs.Str.Lossy.{utf8_lossy}
+use Rattle.serde_json.specs.Data.{Data, unsigned, null, boolean, number, string, array, object, no_members, member}
+use Rattle.serde_json.specs.View.{items_of}
+use Rattle.cps_text.specs.Name.{name_text}
+use Rattle.cps_list.specs.declared.mention.Mention.{Mention}
+use Rattle.cps_final.specs.Finals.{Finals}
+use Rattle.cps_final.specs.Outcome.{Outcome}
+use Rattle.cps_list.specs.Symbols.{value_of, value_text}
+use Rattle.cps_edit.specs.Assembly.{assembly_of, outcomes_of}
+use Rattle.cps_rpc.specs.declared.encoding.Encoding.{Encoding}
+use Rattle.cps_rpc.specs.declared.position.Position.{Position}
+use Rattle.cps_rpc.specs.declared.position.Range.{Range}
+use Rattle.cps_server.specs.Document.{source_of_text}
+use Rattle.cps_rpc.specs.declared.markup.Markup.{Markup}
+use Rattle.cps_rpc.specs.declared.markup.Markup.TheVariants.{Plain, Markdown}
+use Rattle.cps_server.specs.Rows.{Shows, hint_of, line_listing}
+use Rattle.cps_server.specs.Symbols.{definitions, line_of, mentions_in}
+use Rattle.cps_server.specs.Ranges.{IsInLine, location, position, range_of, told_units}
+
+-- a text of characters; all of its bytes are ASCII, unless a line has others
+abbrev pub text_json : List ℕ → Data
+text_json text = string (utf8_lossy text)
+
+-- each of a list is told, in its order, and nothing else
+abbrev pub TellsEach : {A : Type 0} → (A → Data → Type 0) → List A → Data → Type 0
+TellsEach tells list json = (told : List Data) × AllZip tells list told × (json ≡ array (items_of told))
+
+-- ---- rows
+
+-- the name of a form of texts
+abbrev pub markup_name : Markup → List ℕ
+markup_name Plain = codes "plaintext"
+markup_name Markdown = codes "markdown"
+
+-- rows in a form: as they stand, or fenced as a block of code
+abbrev pub marked : Markup → List ℕ → List ℕ
+marked Plain rows = rows
+marked Markdown rows = codes "```compass\n" ++ rows ++ codes "```"
+
+-- rows of a text, shown in a form; null where there are none
+abbrev pub hover : Markup → Option (List ℕ) → Data
+hover markup None = null
+hover markup (Some rows) = object (member (codes "contents")
+    (object (member (codes "kind") (string (markup_name markup)) (member (codes "value") (text_json (marked markup rows)) no_members))) no_members)
+
+abbrev pub TellsShown : Encoding → Markup → List ℕ → Position → Data → Type 0
+TellsShown encoding markup text position json = (shown : Option (List ℕ)) × Shows encoding text position shown × (json ≡ hover markup shown)
+
+-- ---- lines on which symbols stand
+
+-- the line of a mention, in the document of a URI
+abbrev pub TellsMention : List ℕ → Mention → Data → Type 0
+TellsMention uri mention json = (range : Data) × IsInLine (mention.line - 1) range × (json ≡ location uri range)
+
+-- the first of some; null where there is none
+abbrev pub TellsFirst : List ℕ → List Mention → Data → Type 0
+TellsFirst uri [] json = json ≡ null
+TellsFirst uri (mention ∷ mentions) json = TellsMention uri mention json
+
+-- ---- the symbols of a text
+
+-- a symbol with its value, the range of its line, and that of its name in the line
+abbrev pub symbol : List ℕ → List ℕ → Data → Data → Data
+symbol value name range selection =
+    object (member (codes "detail") (text_json value) (member (codes "kind") (number (unsigned 14)) (member (codes "name") (text_json name)
+    (member (codes "range") range (member (codes "selectionRange") selection no_members)))))
+
+-- a definition of a symbol; its name is within the range of its line
+abbrev pub TellsSymbol : Finals → Mention → Data → Type 0
+TellsSymbol finals mention json =
+    (start first last end : ℕ) × (start ≤ first) × (first ≤ last) × (last ≤ end)
+    × (json ≡ symbol (value_text (value_of finals mention.name)) (name_text mention.name)
+    (range_of (mention.line - 1) start end) (range_of (mention.line - 1) first last))
+
+-- what holds at the end of a text's assembly
+abbrev pub finals_in : List ℕ → Finals
+finals_in text = (assembly_of (source_of_text text)).finals
+
+-- the definitions of a text
+abbrev pub TellsSymbols : List ℕ → Data → Type 0
+TellsSymbols text json = TellsEach (TellsSymbol (finals_in text)) (definitions (mentions_in text)) json
+
+-- ---- beside lines
+
+-- what is shown at the end of a line, behind so many units
+abbrev pub hint : ℕ → ℕ → List ℕ → Data
+hint line character text =
+    object (member (codes "label") (text_json text) (member (codes "paddingLeft") (boolean true) (member (codes "position") (position line character) no_members)))
+
+abbrev pub hint_in : ℕ → ℕ → Option (List ℕ) → List Data
+hint_in line character None = []
+hint_in line character (Some text) = hint line character text ∷ []
+
+-- what is shown beside a line of a text, from 0
+abbrev pub text_beside : List ℕ → ℕ → Option (List ℕ)
+text_beside text line = option_and_then (λ (outcome : Outcome). hint_of outcome.rows) (slice_get (outcomes_of (source_of_text text)) line)
+
+-- that at the end of the line, if there is something
+abbrev pub hint_at : Encoding → List ℕ → ℕ → List Data
+hint_at encoding text line =
+    hint_in line (told_units encoding (line_of text line) (length (line_of text line))) (text_beside text line)
+
+-- how many lines of a source a range has, from its first line through its last
+abbrev pub lines_within : ℕ → Range → ℕ
+lines_within count range = min count (range.end.line + 1) - range.start.line
+
+-- those of the lines of a range
+abbrev pub hints_in : Encoding → List ℕ → Range → List Data
+hints_in encoding text range =
+    flat_map (hint_at encoding text) (range_with_len range.start.line (lines_within (length (source_of_text text)) range))
+
+-- ---- the listing
+
+-- the rows of a line, from 0, as the listing has them
+abbrev pub listing_json : List ℕ → ℕ → Data
+listing_json text line = text_json (line_listing text line)
+
+-- those of each line of a range
+abbrev pub listings_in : List ℕ → Range → List Data
+listings_in text range = map (listing_json text) (range_with_len range.start.line (lines_within (length (source_of_text text)) range))
+
+-- ---- what may be written next
+
+-- a text that comes in the place of a range
+abbrev pub edit : Data → Data → Data
+edit range text = object (member (codes "newText") text (member (codes "range") range no_members))
+
+-- what may be written in the place of a range: its kind, as the protocol counts kinds, its text, and what stands beside it
+abbrev pub completion : Data → ℕ → List ℕ → List ℕ → Data
+completion range kind label detail =
+    object (member (codes "detail") (text_json detail) (member (codes "kind") (number (unsigned kind))
+    (member (codes "label") (text_json label) (member (codes "textEdit") (edit range (text_json label)) no_members))))
+
+-- one is told; which is free
+abbrev pub IsCompletion : Data → Data → Type 0
+IsCompletion range json = (kind : ℕ) × (label detail : List ℕ) × (json ≡ completion range kind label detail)
+
+-- some are, all in the place of one range
+abbrev pub TellsCompletions : Data → Data → Type 0
+TellsCompletions range json = (told : List Data) × All (IsCompletion range) told × (json ≡ array (items_of told))

@@ -1,0 +1,126 @@
+//! What is told to a query.
+ghost use Rattle.std.specs.Prelude.{◌≡◌, false, option_map, IfOk};
+ghost use Rattle.serde_json.specs.View.{view};
+ghost use Rattle.cps_server.specs.Queries.{TellsOfDeck};
+ghost use Rattle.cps_server.specs.Telling.{has_float_told};
+ghost use Rattle.cps_server.specs.declared.query.Query.TheVariants as queries;
+
+use crate::completions::tell_completions;
+use crate::deck::Deck;
+use crate::hints::hints_in;
+use crate::hovering::hover_at;
+use crate::listing::listings_in;
+use crate::locations::{definition_at, references_at};
+use crate::query::Query;
+use crate::symbols::tell_symbols;
+use cps_rpc::{position_at, range_at, wants_definitions};
+use serde_json::Value;
+use std::alloc::{AllocError, Global};
+
+/// What is told to a query of a deck, by its parameters. None: these are wrong.
+pub fn answer(
+    alloc: Global,
+    query: Query,
+    params: &Value,
+    deck: Deck<'_>,
+) -> Result<Option<Value>, AllocError>
+    ensures told { IfOk result (λ told. TellsOfDeck query (view params.now) deck.entry (option_map view told)) }
+    ensures floats { IfOk result (λ told. has_float_told (option_map view told) ≡ false) }
+{
+    match query {
+        Query::Hover => answer_hover(alloc, params, deck),
+        Query::Definition => answer_definition(alloc, params, deck),
+        Query::References => answer_references(alloc, params, deck),
+        Query::Symbols => answer_symbols(alloc, params, deck),
+        Query::Hints => answer_hints(alloc, params, deck),
+        Query::Completions => answer_completions(alloc, params, deck),
+        Query::Listing => answer_listing(alloc, params, deck),
+    }
+}
+
+fn answer_hover(alloc: Global, params: &Value, deck: Deck<'_>) -> Result<Option<Value>, AllocError>
+    ensures { IfOk result (λ told. TellsOfDeck queries.Hover (view params.now) deck.entry (option_map view told)) }
+{
+    let Some(position) = position_at(params) else {
+        return Ok(None);
+    };
+    let told = hover_at(alloc, deck, position)?;
+    Ok(Some(told))
+}
+
+fn answer_definition(
+    alloc: Global,
+    params: &Value,
+    deck: Deck<'_>,
+) -> Result<Option<Value>, AllocError>
+    ensures { IfOk result (λ told. TellsOfDeck queries.Definition (view params.now) deck.entry (option_map view told)) }
+{
+    let Some(position) = position_at(params) else {
+        return Ok(None);
+    };
+    let told = definition_at(alloc, deck, position)?;
+    Ok(Some(told))
+}
+
+fn answer_references(
+    alloc: Global,
+    params: &Value,
+    deck: Deck<'_>,
+) -> Result<Option<Value>, AllocError>
+    ensures { IfOk result (λ told. TellsOfDeck queries.References (view params.now) deck.entry (option_map view told)) }
+{
+    let Some(position) = position_at(params) else {
+        return Ok(None);
+    };
+    let told = references_at(alloc, deck, position, wants_definitions(params))?;
+    Ok(Some(told))
+}
+
+fn answer_symbols(
+    alloc: Global,
+    params: &Value,
+    deck: Deck<'_>,
+) -> Result<Option<Value>, AllocError>
+    ensures { IfOk result (λ told. TellsOfDeck queries.Symbols (view params.now) deck.entry (option_map view told)) }
+{
+    let told = tell_symbols(alloc, deck)?;
+    Ok(Some(told))
+}
+
+fn answer_hints(alloc: Global, params: &Value, deck: Deck<'_>) -> Result<Option<Value>, AllocError>
+    ensures { IfOk result (λ told. TellsOfDeck queries.Hints (view params.now) deck.entry (option_map view told)) }
+{
+    let Some(range) = range_at(params) else {
+        return Ok(None);
+    };
+    let told = hints_in(alloc, deck, range)?;
+    Ok(Some(told))
+}
+
+fn answer_completions(
+    alloc: Global,
+    params: &Value,
+    deck: Deck<'_>,
+) -> Result<Option<Value>, AllocError>
+    ensures { IfOk result (λ told. TellsOfDeck queries.Completions (view params.now) deck.entry (option_map view told)) }
+{
+    let Some(position) = position_at(params) else {
+        return Ok(None);
+    };
+    let told = tell_completions(alloc, deck, position)?;
+    Ok(Some(told))
+}
+
+fn answer_listing(
+    alloc: Global,
+    params: &Value,
+    deck: Deck<'_>,
+) -> Result<Option<Value>, AllocError>
+    ensures { IfOk result (λ told. TellsOfDeck queries.Listing (view params.now) deck.entry (option_map view told)) }
+{
+    let Some(range) = range_at(params) else {
+        return Ok(None);
+    };
+    let told = listings_in(alloc, deck, range)?;
+    Ok(Some(told))
+}

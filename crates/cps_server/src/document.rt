@@ -1,0 +1,161 @@
+//! A document that an editor has open.
+ghost use Rattle.std.specs.Prelude.{◌≡◌, ◌<◌, ◌≤◌, length, map, slice_get, Some, IfOk};
+ghost use Rattle.std.specs.List.{splice};
+ghost use Rattle.cps_text.specs.declared.limits.TheConstants.{MOST_LINES};
+ghost use Rattle.cps_rpc.specs.Changes.{changed};
+ghost use Rattle.cps_rpc.specs.Lines.{text_lines, source_lines};
+ghost use Rattle.cps_server.specs.Document.{source_of_text};
+
+use crate::cards::cards_from;
+use cps_live::{EditFault, Session};
+use cps_rpc::{Buffer, Encoding, Range, Replacement, source_is_replaced};
+use cps_state::{Hashing, Work};
+use cps_text::Line;
+use cps_text::limits::MOST_LINES;
+use std::alloc::{AllocError, Global};
+use std::marker::Model;
+
+/// A document that an editor has open: its text, and the session over the cards of its lines.
+pub struct Document {
+    alloc: Global,
+    hashing: Hashing,
+    buffer: Buffer,
+    session: Session,
+}
+
+// Written out, as that of the session.
+impl Drop for Document {
+    fn drop(self) {
+        let Document {
+            alloc: _,
+            hashing: _,
+            buffer,
+            session,
+        } = self;
+        drop(buffer);
+        drop(session);
+    }
+}
+
+impl Model for Document {
+    ghost use Rattle.std.specs.Prelude.{List, ℕ, ◌≡◌};
+    ghost use Rattle.cps_server.specs.Document.{source_of_text};
+
+    ghost Value = { List ℕ };
+
+    ghost view = { λ document. document.buffer };
+
+    ghost invariant = { λ document. document.session.lines ≡ source_of_text document.buffer };
+}
+
+impl Document {
+    /// The document of a text. Both passes are made of each of its lines, once.
+    pub fn open(alloc: Global, hashing: Hashing, text: &[u8]) -> Result<Document, AllocError>
+        ensures { IfOk result (λ document. document ≡ text.now) }
+    {
+        let buffer = Buffer::of(alloc, text)?;
+        Document::of(alloc, hashing, buffer)
+    }
+
+    /// The document with new text in the place of a range, or, where no range is told, of all of its text. The source's lines that gave way are put anew by one
+    /// edit of the session; where the source has more than 99,999 lines, before or after, the document is opened anew. An error: there was no memory, and the
+    /// document is gone.
+    pub fn change(
+        self,
+        encoding: Encoding,
+        range: Option<Range>,
+        new: &[u8],
+    ) -> Result<Document, AllocError>
+        ensures { IfOk result (λ document. document ≡ changed encoding self range new.now) }
+    {
+        let Document {
+            alloc,
+            hashing,
+            mut buffer,
+            session,
+        } = self;
+        source_is_replaced();
+        let old_len = buffer.source_len();
+        let Replacement { first, end, count } = buffer.change(encoding, range, new)?;
+        if old_len > MOST_LINES || buffer.source_len() > MOST_LINES {
+            return Document::of(alloc, hashing, buffer);
+        }
+        let cards = cards_from(alloc, &buffer, first, count)?;
+        let session = put_cards(session, first, end.min(old_len), cards)?;
+        Ok(Document {
+            alloc,
+            hashing,
+            buffer,
+            session,
+        })
+    }
+
+    /// The lines of the text, without their newlines. The last is what stands behind the last newline, so there is one at least.
+    pub fn lines(&self) -> &[Vec<u8>]
+        ensures { map (λ line. line.items) result.now ≡ text_lines self.now }
+    {
+        self.buffer.lines()
+    }
+
+    /// How many lines batch assembly reads of the text: as many as the text has, but the last one counts only if it has a byte. Of these the first 99,999 are
+    /// assembled.
+    pub fn source_len(&self) -> usize
+        ensures { result ≡ length (source_lines self.now) }
+    {
+        self.buffer.source_len()
+    }
+
+    /// A line that batch assembly reads of the text, from 0: one of the text without the carriage return at its end.
+    pub fn source_line(&self, at: usize) -> &[u8]
+        requires { at < length (source_lines self.now) }
+        ensures { slice_get (source_lines self.now) at ≡ Some result.now }
+    {
+        self.buffer.source_line(at)
+    }
+
+    /// The session over the source that the text stands for.
+    pub fn session(&self) -> &Session
+        ensures { result.now.lines ≡ source_of_text self.now }
+    {
+        &self.session
+    }
+
+    /// The document of a text that is kept as its lines.
+    fn of(alloc: Global, hashing: Hashing, buffer: Buffer) -> Result<Document, AllocError>
+        ensures { IfOk result (λ document. document ≡ buffer) }
+    {
+        let cards = cards_from(alloc, &buffer, 0, MOST_LINES)?;
+        let session = Session::enter(alloc, hashing, cards, &mut Work::new())?;
+        Ok(Document {
+            alloc,
+            hashing,
+            buffer,
+            session,
+        })
+    }
+}
+
+/// Puts cards in the place of those of a source from `first` up to `end`, from 0.
+fn put_cards(
+    session: Session,
+    first: usize,
+    end: usize,
+    cards: Vec<Line>,
+) -> Result<Session, AllocError>
+    requires ordered { first ≤ end }
+    requires within { end ≤ length session.lines }
+    requires few { length session.lines ≤ MOST_LINES }
+    requires still_few { length (splice session.lines first end cards.items) ≤ MOST_LINES }
+    ensures { IfOk result (λ put. put.lines ≡ splice session.lines first end cards.items) }
+{
+    if first == end && cards.is_empty() {
+        return Ok(session);
+    }
+    let mut session = session;
+    match session.put(first as u32 + 1, end as u32, cards, &mut Work::new()) {
+        Ok(()) => Ok(session),
+        Err(EditFault::Memory) => Err(AllocError),
+        Err(EditFault::NoSuchLine) => unreachable!(),
+        Err(EditFault::TooManyLines) => unreachable!(),
+    }
+}

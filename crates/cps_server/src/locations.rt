@@ -1,0 +1,80 @@
+//! The lines on which a symbol stands.
+ghost use Rattle.std.specs.Prelude.{◌≡◌, IfOk};
+ghost use Rattle.serde_json.specs.View.{view};
+ghost use Rattle.cps_server.specs.Symbols.{definitions};
+ghost use Rattle.cps_server.specs.Queries.{wanted};
+ghost use Rattle.cps_server.specs.Ranges as ranges;
+ghost use Rattle.cps_server.specs.Results.{TellsEach, TellsFirst, TellsMention};
+ghost use Rattle.cps_server.specs.Telling.{mentions_of_deck};
+
+use crate::columns::columns_of;
+use crate::deck::Deck;
+use crate::mentions::{line_of, mentions_at};
+use crate::ranges::columns_range;
+use cps_list::Mention;
+use cps_rpc::Position;
+use serde_json::{Value, json};
+use std::alloc::{AllocError, Global};
+
+/// Where the symbol around a position is defined: the first line that does. It is null where no symbol stands there, or no line defines it.
+pub fn definition_at(alloc: Global, deck: Deck<'_>, position: Position) -> Result<Value, AllocError>
+    ensures { IfOk result (λ json. TellsFirst deck.entry.uri.now (definitions (mentions_of_deck deck.entry position)) (view json)) }
+{
+    let mut mentions = mentions_at(alloc, deck.document, deck.encoding, position)?;
+    mentions.retain(|mention| mention.is_definition);
+    tell_first(alloc, deck, &mentions)
+}
+
+/// Where the symbol around a position is read, and, if those are wanted, where it is defined.
+pub fn references_at(
+    alloc: Global,
+    deck: Deck<'_>,
+    position: Position,
+    definitions_too: bool,
+) -> Result<Value, AllocError>
+    ensures { IfOk result (λ json. TellsEach (TellsMention deck.entry.uri.now)
+        (wanted definitions_too (mentions_of_deck deck.entry position)) (view json)) }
+{
+    let mut mentions = mentions_at(alloc, deck.document, deck.encoding, position)?;
+    mentions.retain(|mention| definitions_too || !mention.is_definition);
+    tell_mentions(alloc, deck, &mentions)
+}
+
+/// The line of the first mention; null where there is none.
+fn tell_first(alloc: Global, deck: Deck<'_>, mentions: &[Mention]) -> Result<Value, AllocError>
+    ensures { IfOk result (λ json. TellsFirst deck.entry.uri.now mentions.now (view json)) }
+{
+    match mentions.first() {
+        Some(mention) => tell_mention(alloc, deck, mention),
+        None => Ok(Value::Null),
+    }
+}
+
+/// The lines of mentions.
+fn tell_mentions(alloc: Global, deck: Deck<'_>, mentions: &[Mention]) -> Result<Value, AllocError>
+    ensures { IfOk result (λ json. TellsEach (TellsMention deck.entry.uri.now) mentions.now (view json)) }
+{
+    let mut told = Vec::new(alloc);
+    for mention in mentions {
+        told.push(tell_mention(alloc, deck, mention)?)?;
+    }
+    Ok(Value::from(told))
+}
+
+/// The line of a mention.
+fn tell_mention(alloc: Global, deck: Deck<'_>, mention: &Mention) -> Result<Value, AllocError>
+    ensures { IfOk result (λ json. TellsMention deck.entry.uri.now mention.now (view json)) }
+{
+    let number = mention.line.saturating_sub(1);
+    let line = line_of(deck.document, number);
+    let columns = columns_of(line, mention.name);
+    let range = columns_range(alloc, deck.encoding, line, number, columns)?;
+    location(alloc, deck.uri, range)
+}
+
+/// A range in a document.
+fn location(alloc: Global, uri: &str, range: Value) -> Result<Value, AllocError>
+    ensures { IfOk result (λ json. view json ≡ ranges.location uri.now (view range)) }
+{
+    json!(in alloc; {"range": range, "uri": uri})
+}

@@ -1,0 +1,95 @@
+//! The marks of a text.
+ghost use Rattle.std.specs.Prelude.{length, map, IfOk, OnOk};
+ghost use Rattle.cps_server.specs.Document.{source_of_text};
+ghost use Rattle.cps_server.specs.Adding.{Adds, AddsEnd, AddsLines, excess_of};
+ghost use Rattle.cps_server.specs.Marks.{Marks, place_of};
+
+use crate::document::Document;
+use crate::kind::Kind;
+use crate::line_marks::{push_marks, unindented};
+use crate::mark::Mark;
+use cps_cause::{Columns, LinesAbove, Quotation, explain_end};
+use cps_list::View;
+use cps_text::limits::MOST_LINES;
+use std::alloc::{AllocError, Global};
+
+/// The marks of a document's text, line by line: each flag with its cause, and each byte that no line may have. The first 99,999 lines are looked at. It
+/// takes time for each of them, and memory where something is wrong.
+pub fn marks_of(alloc: Global, document: &Document) -> Result<Vec<Mark>, AllocError>
+    ensures { IfOk result (λ marks. Marks document.now (map place_of marks.items)) }
+{
+    let mut marks = Vec::new(alloc);
+    push_line_marks(alloc, document, &mut marks)?;
+    push_excess(alloc, document.source_len(), &mut marks)?;
+    push_end(alloc, document, &mut marks)?;
+    Ok(marks)
+}
+
+/// Appends the marks of the lines of a document that are looked at.
+fn push_line_marks(
+    alloc: Global,
+    document: &Document,
+    marks: &mut Vec<Mark>,
+) -> Result<(), AllocError>
+    ensures { OnOk result (AddsLines document.now (length (source_of_text document.now)) marks.old.items marks.new.items) }
+{
+    for number in 0..document.session().count() {
+        push_marks(alloc, document, number, marks)?;
+    }
+    Ok(())
+}
+
+/// Appends the mark of the first line that is too many, where a text has so many lines.
+fn push_excess(alloc: Global, count: usize, marks: &mut Vec<Mark>) -> Result<(), AllocError>
+    ensures { OnOk result (Adds (excess_of count) marks.old.items marks.new.items) }
+{
+    if count <= MOST_LINES {
+        return Ok(());
+    }
+    let mut message = Vec::new(alloc);
+    message.extend_from_slice(
+        b"a source has 99,999 lines at most; the lines from here on are not looked at",
+    )?;
+    marks.push(Mark {
+        line: MOST_LINES as u32,
+        columns: Columns { first: 1, last: 1 },
+        kind: Kind::Wrong,
+        message,
+    })?;
+    Ok(())
+}
+
+/// Appends the mark of what is open where a document's source ends, in its last line. It names the line that opened it.
+fn push_end(alloc: Global, document: &Document, marks: &mut Vec<Mark>) -> Result<(), AllocError>
+    ensures { OnOk result (AddsEnd (source_of_text document.now) marks.old.items marks.new.items) }
+{
+    let session = document.session();
+    let Some(cause) = explain_end(session.finals())? else {
+        return Ok(());
+    };
+    let count = session.count();
+    let line = card_at(document, count);
+    let width = unindented(line).len();
+    let columns = Columns::behind(line.len().saturating_sub(width), width).within(line.len());
+    let above = LinesAbove {
+        traces: session.traces(),
+    };
+    let words = cause.words(alloc, Quotation::of(line, columns), &above)?;
+    let letter = cause.letter();
+    let last = count.saturating_sub(1);
+    marks.push(Mark {
+        line: last,
+        columns,
+        kind: Kind::Flag(letter),
+        message: words.into_bytes(),
+    })?;
+    Ok(())
+}
+
+/// The card of a line, whose number counts from 1; no bytes where there is none.
+fn card_at(document: &Document, number: u32) -> &[u8] {
+    match document.session().line(number) {
+        Some(card) => card.bytes(),
+        None => &[],
+    }
+}

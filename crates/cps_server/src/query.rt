@@ -1,0 +1,40 @@
+//! What an editor may ask of a text.
+ghost use Rattle.std.specs.Prelude.{◌≡◌};
+ghost use Rattle.cps_server.specs.Queries.{query_named};
+
+/// What an editor may ask of a text.
+#[derive(Clone, Copy)]
+pub enum Query {
+    /// What is shown at a position.
+    Hover,
+    /// Where the symbol at a position is defined.
+    Definition,
+    /// Where the symbol at a position stands.
+    References,
+    /// All symbols that lines define.
+    Symbols,
+    /// What is shown beside the lines of a range.
+    Hints,
+    /// What may be written next.
+    Completions,
+    /// The listing of the lines of a range.
+    Listing,
+}
+
+impl Query {
+    /// The query of a method.
+    pub fn named(method: &str) -> Option<Query>
+        ensures { result ≡ query_named method.now }
+    {
+        match method {
+            "textDocument/hover" => Some(Query::Hover),
+            "textDocument/definition" => Some(Query::Definition),
+            "textDocument/references" => Some(Query::References),
+            "textDocument/documentSymbol" => Some(Query::Symbols),
+            "textDocument/inlayHint" => Some(Query::Hints),
+            "textDocument/completion" => Some(Query::Completions),
+            "compass/rows" => Some(Query::Listing),
+            _ => None,
+        }
+    }
+}

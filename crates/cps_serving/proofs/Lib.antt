@@ -1,3 +1,0 @@
-pub mod ConversationLemmas
-pub mod AnsweringLemmas
-pub mod ServingLemmas

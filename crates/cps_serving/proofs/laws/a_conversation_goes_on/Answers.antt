@@ -1,5 +1,0 @@
-use Rattle.cps_serving.proofs.ConversationLemmas.{conversation-append}
-use Rattle.cps_serving.proofs.laws.a_conversation_goes_on.Goals as goal
-
-pub returns : goal.returns
-returns g c = conversation-append g.S.Service.answers g.S.Service.has_ended

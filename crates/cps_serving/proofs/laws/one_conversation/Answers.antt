@@ -1,5 +1,0 @@
-use Rattle.cps_serving.proofs.ConversationLemmas.{one-conversation}
-use Rattle.cps_serving.proofs.laws.one_conversation.Goals as goal
-
-pub returns : goal.returns
-returns g c = one-conversation g.S.Service.answers g.S.Service.has_ended

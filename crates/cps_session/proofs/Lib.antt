@@ -1,3 +1,0 @@
-mod CuttingLemmas
-mod IdleLemmas
-pub mod SessionLemmas

@@ -1,9 +1,0 @@
-use Rattle.std.proofs.Common.{arith, ◌≡◌, length, ap}
-use Rattle.cps_session.specs.Edits.{Source}
-use Rattle.cps_session.proofs.SessionLemmas.{length-outcomes}
-use Rattle.cps_session.proofs.session.SessionView.count.Goals as goal
-
-pub returns-clause-outcomes : goal.returns-clause-outcomes
-returns-clause-outcomes c =
-    let seen : length c.self.inside.kept.lines.items ≡ length c.args.self.now.lines = ap (λ (s : Source). length s.lines) c.self.view_is in
-    omega (arith, c.len.ensures, c.self.inside.kept.lines.ok.0, seen, length-outcomes c.args.self.now.lines)

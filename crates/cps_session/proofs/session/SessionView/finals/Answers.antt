@@ -1,8 +1,0 @@
-use Rattle.std.proofs.Common.{ap, ◌∙◌}
-use Rattle.cps_final.specs.Finals.{finals_of}
-use Rattle.cps_assembly.specs.Assembly.{traces_of}
-use Rattle.cps_session.specs.Edits.{Source}
-use Rattle.cps_session.proofs.session.SessionView.finals.Goals as goal
-
-pub returns : goal.returns
-returns c = c.self.invariant.kept.finals ∙ ap (λ (s : Source). finals_of (traces_of s.lines)) c.self.view_is

@@ -1,3 +1,0 @@
-pub mod HoldingLemmas
-pub mod SiteLemmas
-pub mod UnsetLemmas

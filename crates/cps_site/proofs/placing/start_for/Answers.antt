@@ -1,5 +1,0 @@
-use Rattle.cps_site.proofs.SiteLemmas.{starts}
-use Rattle.cps_site.proofs.placing.start_for.Goals as goal
-
-pub returns-clause-starts : goal.returns-clause-starts
-returns-clause-starts c = starts c.args.site c.begin.result.start c.requires.site c.begin.ensures.not_before c.begin.ensures.word

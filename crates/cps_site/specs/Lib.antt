@@ -1,9 +1,0 @@
-pub mod Holding
-pub mod Located
-pub mod Places
-pub mod Placing
-pub mod Sites
-pub use Rattle.cps_code.specs.Place
-pub use Rattle.cps_reading.specs.Reading
-pub use Rattle.cps_code.specs.Form
-pub use Rattle.cps_code.specs.Image

@@ -1,2 +1,0 @@
-pub mod SourceLemmas
-pub use Rattle.cps_assembly.proofs.SpliceLemmas

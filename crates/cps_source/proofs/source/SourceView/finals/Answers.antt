@@ -1,7 +1,0 @@
-use Rattle.std.proofs.Common.{ap, ◌∙◌, List, ℕ}
-use Rattle.cps_final.specs.Finals.{finals_of}
-use Rattle.cps_assembly.specs.Assembly.{traces_of}
-use Rattle.cps_source.proofs.source.SourceView.finals.Goals as goal
-
-pub returns : goal.returns
-returns c = c.finals.ensures ∙ c.self.invariant.gathered ∙ ap (λ (lines : List (List ℕ)). finals_of (traces_of lines)) c.self.view_is

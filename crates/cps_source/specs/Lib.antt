@@ -1,4 +1,0 @@
-pub mod Kept
-pub use Rattle.cps_assembly.specs.Assembly
-pub use Rattle.cps_assembly.specs.Flagged
-pub use Rattle.cps_assembly.specs.Limits

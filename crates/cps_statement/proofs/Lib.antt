@@ -1,4 +1,0 @@
-pub mod KeepingLemmas
-pub mod MacroLemmas
-pub mod ScopeLemmas
-pub mod StatementLemmas

@@ -1,8 +1,0 @@
-use Rattle.cps_statement.specs.Ranges.{asking_compared, hanging}
-use Rattle.cps_statement.proofs.ScopeLemmas.{handed-on}
-use Rattle.cps_statement.proofs.ranges.if_compared.Goals as goal
-
-pub returns : goal.returns
-returns g c =
-    handed-on (asking_compared c.args.front.control c.args.test.now) c.in_ok-tested.tested (hanging c.args.front.control c.args.scope.now c.args.front.location c.args.test.now.lines) c.hang.new.scope
-    g.L.Lookup.answer c.args.recorder.now c.ask_compared.new.recorder c.hang.new.recorder c.hang.result c.in_ok-tested.ensures c.hang.ensures

@@ -1,3 +1,0 @@
-pub mod BothTrue
-pub mod DigitsLemmas
-pub mod NameLemmas

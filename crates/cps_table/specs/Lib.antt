@@ -1,5 +1,0 @@
-pub mod Register
-pub mod Digits
-pub mod Rows
-pub mod Table
-pub mod Operations

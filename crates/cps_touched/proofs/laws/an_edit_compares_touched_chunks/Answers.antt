@@ -1,5 +1,0 @@
-use Rattle.cps_touched.proofs.TouchedLemmas.{looks-law}
-use Rattle.cps_touched.proofs.laws.an_edit_compares_touched_chunks.Goals as goal
-
-pub returns : goal.returns
-returns c = looks-law

@@ -1,5 +1,0 @@
-use Rattle.cps_touched.proofs.NamedLemmas.{named-same}
-use Rattle.cps_touched.proofs.runs.a_run_makes_what_it_names.Goals as goal
-
-pub returns : goal.returns
-returns c = named-same

@@ -1,5 +1,0 @@
-use Rattle.cps_touched.proofs.NamedLemmas.{named-no-more}
-use Rattle.cps_touched.proofs.runs.a_run_names_no_more.Goals as goal
-
-pub returns : goal.returns
-returns c = named-no-more

@@ -1,5 +1,0 @@
-use Rattle.cps_replay.proofs.RunLemmas.{run-law}
-use Rattle.cps_touched.proofs.runs.a_run_stands_by_what_it_asks.Goals as goal
-
-pub returns : goal.returns
-returns c = run-law

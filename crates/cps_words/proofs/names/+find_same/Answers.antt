@@ -1,0 +1,6 @@
+use Rattle.cps_words.proofs.NameLemmas.{met-later}
+use Rattle.cps_words.proofs.names.+find_same.Goals as goal
+
+pub returns-in-len1-up-clause-meets : goal.returns-in-len1-up-clause-meets
+returns-in-len1-up-clause-meets g t c =
+    met-later (g.T.Targets.same c.args.targets.now) c.args.name.now c.args.names.now c.find_same.result c.find_same.ensures.meets

@@ -1,0 +1,93 @@
+//! A source that is read whole, assembled, and written into files.
+ghost use Rattle.std.specs.Prelude.{◌≡◌, ◌≤◌, ◌+◌, IfOk, MatchResult, option_map};
+ghost use Rattle.cps_text.specs.Counted.{calls_of};
+ghost use Rattle.cps_input.specs.Sources.{IsSource};
+ghost use Rattle.cps_words.specs.Export.{Exports, Makes, WritesAll, WritesFront, part_text, wanted_of};
+
+use crate::export::Export;
+use crate::export_fault::ExportFault;
+use crate::targets::Targets;
+use crate::writing::write_outputs;
+use cps_batch::Source;
+use cps_input::read_lines;
+use cps_list::{ListFault, Part, make_text, write_text};
+use cps_text::limits::MOST_READS;
+use cps_text::{Counted, Line};
+use std::alloc::{AllocError, Global};
+use std::io::{Read, Write};
+
+/// Reads a source to the end of the input, assembles it, writes the texts that are wanted into their files, and then the part
+/// that is wanted. It gives the number of lines that have a flag, and one more if a range is open after the last.
+///
+/// All texts are made before the first file is placed, and nothing is written to `writer` before the last is.
+pub fn export_source<'a, T: Targets, R: Read, W: Write>(
+    alloc: Global,
+    export: Export<'a>,
+    targets: &mut T,
+    reader: &mut Counted<R>,
+    writer: &mut Counted<W>,
+) -> Result<u32, ExportFault<'a>>
+    ensures run { Exports T.placed R.remaining W.contents (wanted_of export.entry) result targets.old targets.new reader.old reader.new writer.old writer.new }
+    ensures waiting { T.waiting targets.new ≡ T.waiting targets.old }
+    ensures reads { calls_of reader.new ≤ calls_of reader.old + MOST_READS }
+{
+    match read_lines(alloc, reader) {
+        Ok(lines) => export_lines(alloc, export, targets, lines, writer),
+        Err(fault) => Err(ExportFault::Source(fault)),
+    }
+}
+
+/// Writes what is wanted of a source with these lines. It gives the number of flagged lines.
+fn export_lines<'a, T: Targets, W: Write>(
+    alloc: Global,
+    export: Export<'a>,
+    targets: &mut T,
+    lines: Vec<Line>,
+    writer: &mut Counted<W>,
+) -> Result<u32, ExportFault<'a>>
+    requires { IsSource lines.items }
+    ensures made { Makes W.contents (wanted_of export.entry) result lines.items (T.placed targets.old) (T.placed targets.new) writer.old writer.new }
+    ensures waiting { T.waiting targets.new ≡ T.waiting targets.old }
+{
+    let Ok(source) = Source::of(alloc, export.hashing, lines) else {
+        return Err(ExportFault::Memory);
+    };
+    let Ok(text) = wanted_text(alloc, &source, export.part) else {
+        return Err(ExportFault::Memory);
+    };
+    if let Err(fault) = write_outputs(alloc, targets, &source, export.outputs) {
+        return Err(ExportFault::Output(fault));
+    }
+    match write_wanted(writer, &text) {
+        Ok(()) => Ok(source.flagged_lines()),
+        Err(_) => Err(ExportFault::WriteFault),
+    }
+}
+
+/// The text of the part that is wanted, None where none is.
+fn wanted_text(
+    alloc: Global,
+    source: &Source,
+    part: Option<Part>,
+) -> Result<Option<Vec<u8>>, AllocError>
+    ensures { IfOk result (λ text. option_map (λ text. text.items) text ≡ part_text part source.now) }
+{
+    match part {
+        Some(part) => match make_text(alloc, source, part) {
+            Ok(text) => Ok(Some(text)),
+            Err(error) => Err(error),
+        },
+        None => Ok(None),
+    }
+}
+
+/// Writes all of a text, or a front of it where a write fails; nothing where there is none.
+fn write_wanted<W: Write>(writer: &mut Counted<W>, text: &Option<Vec<u8>>) -> Result<(), ListFault>
+    ensures { let text = option_map (λ text. text.items) text.now in MatchResult result
+        (λ _. WritesAll W.contents text writer.old writer.new) (λ _. WritesFront W.contents text writer.old writer.new) }
+{
+    match text {
+        Some(text) => write_text(writer, text),
+        None => Ok(()),
+    }
+}
