@@ -7,8 +7,8 @@ use Rattle.std.specs.Prelude.{flat_map, nat_eq}
 use Rattle.std.specs.Option.{option_or}
 use Rattle.cps_state.specs.declared.key.Put.{Put}
 use Rattle.cps_state.specs.Course.{Trace, unasked}
-use Rattle.cps_state.specs.Sheet.{Sheet, blank_sheet, statements_on}
-use Rattle.cps_input.specs.Parts.{RisesTo}
+use Rattle.cps_state.specs.Code.Sheet.{Sheet, blank_sheet, statements_on}
+use Rattle.cps_input.specs.Code.Parts.{RisesTo}
 use Rattle.cps_input.proofs.PartLemmas.{count-parts, parts-more, rises-more}
 use Rattle.cps_pass.specs.Expansion.{trace_of}
 use Rattle.cps_final.specs.Distinct.{distinct}
@@ -18,14 +18,14 @@ use Rattle.cps_final.specs.Finals.{Finals, finals_of, first_program, program_of,
 use Rattle.cps_final.specs.LineNames.{names_defined, names_read}
 use Rattle.cps_final.specs.Outcome.{outcome_of}
 use Rattle.cps_list.specs.declared.mention.Mention.{Mention}
-use Rattle.cps_list.specs.Making.{Printout, IsPrintoutOf, shown}
+use Rattle.cps_list.specs.Code.Making.{Printout, IsPrintoutOf, shown}
 use Rattle.cps_list.specs.Symbols.{mentions_from, mentions_on}
 use Rattle.cps_list.proofs.PrintoutLemmas.{mentions-more, shown-more}
 use Rattle.cps_edit.specs.Assembly.{after, state_after, traces_from, traces_of, outcomes_under}
 use Rattle.cps_batch.specs.declared.passes.PassOne.{PassOne}
 use Rattle.cps_batch.specs.declared.passes.PassTwo.{PassTwo}
 use Rattle.cps_final.specs.contracts.finals.FinalsGathered.TheImpl.{gathered-value}
-use Rattle.cps_batch.specs.Passes.{statements_of, AreParts, IsNext, IsPassed, IsShown}
+use Rattle.cps_batch.specs.Code.Passes.{statements_of, AreParts, IsNext, IsPassed, IsShown}
 use Rattle.cps_edit.proofs.SpliceLemmas.{traces_from-append, length-traces_from, puts-state}
 
 -- the trace of the line after those that were gathered

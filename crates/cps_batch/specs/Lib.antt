@@ -1,3 +1,2 @@
-pub mod Kept
 pub mod Batch
-pub mod Passes
+pub mod Code

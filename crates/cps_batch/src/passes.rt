@@ -1,11 +1,11 @@
 //! The two passes of batch assembly over the lines of a source.
 ghost use Rattle.std.specs.Prelude.{◌≡◌, ℕ, List, [], ◌∷◌, ◌++◌, ◌+◌, ◌≤◌, ◌<◌, length, IfOk, OnOk};
-ghost use Rattle.cps_state.specs.Sheet.{statements_on};
-ghost use Rattle.cps_list.specs.Making.{IsPrintoutOf, shows_symbols};
+ghost use Rattle.cps_state.specs.Code.Sheet.{statements_on};
+ghost use Rattle.cps_list.specs.Code.Making.{IsPrintoutOf, shows_symbols};
 ghost use Rattle.cps_list.specs.Texts.{text_of};
 ghost use Rattle.cps_edit.specs.Assembly.{assembly_of, outcomes_under, traces_of};
 ghost use Rattle.cps_edit.specs.Flagged.{flagged_lines};
-ghost use Rattle.cps_batch.specs.Passes.{AreGathered, AreKeptParts, AreParts, AreStatements, IsNext, IsPassed, IsShown, KeepsOn, PassesOn, ShowsOn, noted, statements_of};
+ghost use Rattle.cps_batch.specs.Code.Passes.{AreGathered, AreKeptParts, AreParts, AreStatements, IsNext, IsPassed, IsShown, KeepsOn, PassesOn, ShowsOn, noted, statements_of};
 
 use cps_final::{Finals, Gather, Gathered, LineSymbols, Output};
 use cps_input::{LineText, part_at};

@@ -35,7 +35,7 @@ impl Drop for Source {
 
 impl Model for Source {
     ghost use Rattle.std.specs.Prelude.{List, ℕ};
-    ghost use Rattle.cps_batch.specs.Kept.{IsKept};
+    ghost use Rattle.cps_batch.specs.Code.Kept.{IsKept};
 
     ghost Value = { List (List ℕ) };
 

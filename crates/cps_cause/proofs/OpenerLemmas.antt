@@ -13,7 +13,7 @@ use Rattle.cps_state.specs.Keys.{State, first_state, is_no_range, is_normal, is_
 use Rattle.cps_final.specs.Layout.{puts_of}
 use Rattle.cps_cause.specs.declared.open_now.OpenNow.{OpenNow}
 use Rattle.cps_cause.specs.Opener.{IsOpener, open_behind, open_count}
-use Rattle.cps_cause.specs.OpenNow.{IsLast, IsOpenNow, count_of}
+use Rattle.cps_cause.specs.Code.OpenNow.{IsLast, IsOpenNow, count_of}
 
 -- ---- states behind puts
 

@@ -1,7 +1,7 @@
 //! How much is open behind lines.
 ghost use Rattle.std.specs.Prelude.{◌≡◌, not, length, Some};
 ghost use Rattle.cps_state.specs.Keys.{State, first_state, is_normal, mode_of, overwritten, ranges_of, with_put};
-ghost use Rattle.cps_cause.specs.OpenNow.{IsOpenNow, count_of};
+ghost use Rattle.cps_cause.specs.Code.OpenNow.{IsOpenNow, count_of};
 
 use cps_state::{Answer, Key, Put};
 

@@ -3,7 +3,7 @@ ghost use Rattle.std.specs.Prelude.{◌≡◌, Some, IfSome, is_some, if◌then�
 ghost use Rattle.cps_state.specs.Keys.{first_state, is_open, overwritten};
 ghost use Rattle.cps_final.specs.Layout.{puts_of};
 ghost use Rattle.cps_cause.specs.Opener.{IsOpener};
-ghost use Rattle.cps_cause.specs.OpenNow.{IsOpenNow};
+ghost use Rattle.cps_cause.specs.Code.OpenNow.{IsOpenNow};
 
 use crate::open_now::OpenNow;
 use crate::places::Places;

@@ -1,6 +1,6 @@
 //! What symbols stand for where a statement is read.
 ghost use Rattle.std.specs.Prelude.{◌≡◌};
-ghost use Rattle.cps_cause.specs.SymbolsNow.{value_among};
+ghost use Rattle.cps_cause.specs.Code.SymbolsNow.{value_among};
 
 use crate::asks::Asks;
 use cps_expr::{Expr, Names, Value, Valued, is_same_name};
@@ -23,7 +23,7 @@ pub struct SymbolsNow {
 }
 
 impl Names for SymbolsNow {
-    ghost use Rattle.cps_cause.specs.SymbolsNow.{value_among};
+    ghost use Rattle.cps_cause.specs.Code.SymbolsNow.{value_among};
 
     ghost value = { λ now. value_among now.symbols.items };
 

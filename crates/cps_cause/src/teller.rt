@@ -27,7 +27,7 @@ impl Model for Teller {
     ghost use Rattle.cps_state.specs.Flags.{joined};
     ghost use Rattle.cps_cause.specs.Range.{IsRange};
     ghost use Rattle.cps_cause.specs.Explaining.{flags_told};
-    ghost use Rattle.cps_cause.specs.Telling.{Telling};
+    ghost use Rattle.cps_cause.specs.Code.Telling.{Telling};
 
     ghost Value = { Telling };
 

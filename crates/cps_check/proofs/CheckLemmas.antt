@@ -8,7 +8,7 @@ use Rattle.cps_list.specs.declared.writing.ListFault.TheVariants as lists
 use Rattle.cps_list.specs.Writing.{Writes}
 use Rattle.cps_check.specs.declared.fault.CheckFault.{CheckFault}
 use Rattle.cps_check.specs.declared.fault.CheckFault.TheVariants as faults
-use Rattle.cps_check.specs.Adding.{TellsBytes}
+use Rattle.cps_check.specs.Code.Adding.{TellsBytes}
 use Rattle.cps_check.specs.Check.{Checks, IsCheckOf, RunsCheck}
 
 -- an input that was read to its end

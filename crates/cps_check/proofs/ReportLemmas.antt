@@ -6,7 +6,7 @@ use Rattle.std.proofs.lemmas.Bool.Decides.{nat_tests}
 use Rattle.std.proofs.lemmas.List.{take-append-drop}
 use Rattle.cps_edit.specs.Limits.{most_lines}
 use Rattle.cps_final.specs.Outcome.{Outcome}
-use Rattle.cps_check.specs.Adding.{excess_of}
+use Rattle.cps_check.specs.Code.Adding.{excess_of}
 use Rattle.cps_check.specs.Reports.{Report, ReportsLine, ReportsLines, excess_report}
 
 pub ReportsLines-append : (number : ℕ) (lines more : List (List ℕ)) (outcomes others : List Outcome) (here back : List Report) → length lines ≡ length outcomes

@@ -18,7 +18,7 @@ use Rattle.cps_input.proofs.CardLemmas.{card_of-line}
 use Rattle.cps_state.specs.Keys.{first_state}
 use Rattle.cps_edit.proofs.SpliceLemmas.{length-traces_from}
 use Rattle.cps_edit.specs.Assembly.{outcomes_under, traces_of}
-use Rattle.cps_check.specs.Adding.{Adds, AddsLine, AddsLines}
+use Rattle.cps_check.specs.Code.Adding.{Adds, AddsLine, AddsLines}
 use Rattle.cps_check.specs.declared.notes.Note.{Note}
 use Rattle.cps_check.specs.Reports.{ReportsLine, ReportsLines, flag_report, fault_report, note_report}
 use Rattle.cps_check.proofs.TextLemmas.{Adds-append, Adds-none}

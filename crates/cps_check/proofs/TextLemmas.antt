@@ -4,7 +4,7 @@ use Rattle.std.proofs.lemmas.List.{map_more}
 use Rattle.cps_cause.specs.Sentence.{IsSentence}
 use Rattle.cps_check.specs.Reports.{Report}
 use Rattle.cps_check.specs.Texts.{head_of, Tells}
-use Rattle.cps_check.specs.Adding.{Adds}
+use Rattle.cps_check.specs.Code.Adding.{Adds}
 
 -- ---- what is told in one text and in another behind it
 

@@ -10,7 +10,7 @@ use Rattle.cps_input.specs.Card.{card_of, cards_of}
 use Rattle.cps_edit.proofs.SpliceLemmas.{length-traces_from}
 use Rattle.cps_edit.specs.Limits.{most_lines}
 use Rattle.cps_edit.specs.Assembly.{ends_open, outcomes_of, outcomes_under, traces_of}
-use Rattle.cps_check.specs.Adding.{Adds, AddsLines, AddsEnd, TellsSource, excess_of}
+use Rattle.cps_check.specs.Code.Adding.{Adds, AddsLines, AddsEnd, TellsSource, excess_of}
 use Rattle.cps_check.specs.Reports.{ReportsEnd, ReportsLines, has_errors}
 use Rattle.cps_check.specs.Texts.{Tells}
 use Rattle.cps_check.proofs.ErrorLemmas.{both-wrong, excess-wrong}

@@ -10,7 +10,7 @@ use Rattle.cps_code.specs.declared.layout.Layout.{Layout}
 use Rattle.cps_code.specs.declared.layout.Layout.TheVariants.{Unread, Target, Short, Constant, Memory}
 use Rattle.cps_code.specs.PeripheralForms.{form_with}
 use Rattle.cps_code.specs.PeripheralTable.{Row, named, pp_table, is_operation, form_of}
-use Rattle.cps_check.specs.Kept.{zero_form}
+use Rattle.cps_check.specs.Code.Kept.{zero_form}
 use Rattle.cps_check.specs.Names.{row_name}
 use Rattle.cps_check.specs.Peripheral.{row_text, peripheral_text, peripheral_head, named_text}
 

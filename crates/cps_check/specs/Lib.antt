@@ -2,11 +2,10 @@ pub mod Rows
 pub mod Reports
 pub mod Texts
 pub mod Check
-pub mod Adding
 pub mod Agreement
 pub mod Front
 pub mod Names
 pub mod Central
 pub mod Peripheral
 pub mod Manual
-pub mod Kept
+pub mod Code

@@ -1,9 +1,9 @@
 //! What is told of an instruction of the central processor.
 ghost use Rattle.std.specs.Prelude.{◌≡◌, ◌++◌, ◌<◌, IfOk, OnOk};
-ghost use Rattle.cps_code.specs.Operations.{rows_of};
+ghost use Rattle.cps_code.specs.Code.Operations.{rows_of};
 ghost use Rattle.cps_code.specs.Table.{is_operation};
 ghost use Rattle.cps_check.specs.Central.{central_head, central_text, rows_text};
-ghost use Rattle.cps_check.specs.Kept.{kept_parts, unread_parts};
+ghost use Rattle.cps_check.specs.Code.Kept.{kept_parts, unread_parts};
 
 use crate::central_row::{RowParts, Told, push_row};
 use crate::fields::push_fields;

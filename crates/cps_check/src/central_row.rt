@@ -1,7 +1,7 @@
 //! A row of an instruction of the central processor.
 ghost use Rattle.std.specs.Prelude.{◌≡◌, ◌++◌, ◌<◌, OnOk, map};
 ghost use Rattle.cps_check.specs.Central.{code_character, forcing_text, hole_text, row_text};
-ghost use Rattle.cps_check.specs.Kept.{kept_parts};
+ghost use Rattle.cps_check.specs.Code.Kept.{kept_parts};
 
 use crate::front::push_front;
 use std::alloc::AllocError;

@@ -1,8 +1,8 @@
 //! The rows of operations whose operands stand between commas.
 ghost use Rattle.std.specs.Prelude.{◌≡◌, ◌++◌, ◌<◌, IfOk, OnOk, drop, flat_map, map};
-ghost use Rattle.cps_code.specs.Operations.{row_of_fields, texts};
+ghost use Rattle.cps_code.specs.Code.Operations.{row_of_fields, texts};
 ghost use Rattle.cps_check.specs.Central.{hole_texts, operands_text, parts_of, row_text, rows_text};
-ghost use Rattle.cps_check.specs.Kept.{after_comma, kept_parts};
+ghost use Rattle.cps_check.specs.Code.Kept.{after_comma, kept_parts};
 
 use crate::central_row::{RowParts, Told, push_row};
 use cps_code::FieldForm;

@@ -4,7 +4,7 @@ ghost use Rattle.cps_final.specs.Finals.{final_value, finals_of};
 ghost use Rattle.cps_final.specs.Outcome.{outcome_of};
 ghost use Rattle.cps_input.specs.Card.{card_of, cards_of};
 ghost use Rattle.cps_edit.specs.Assembly.{outcomes_under, traces_of};
-ghost use Rattle.cps_check.specs.Adding.{AddsLine, AddsLines, AddsEnd};
+ghost use Rattle.cps_check.specs.Code.Adding.{AddsLine, AddsLines, AddsEnd};
 
 use crate::known_places::KnownPlaces;
 use crate::notes::find_notes;

@@ -4,7 +4,7 @@ ghost use Rattle.cps_expr.specs.declared.radix.Radix.TheVariants.{Decimal};
 ghost use Rattle.cps_code.specs.declared.layout.Layout.{Layout};
 ghost use Rattle.cps_code.specs.PeripheralTable.{form_of, is_operation};
 ghost use Rattle.cps_check.specs.Peripheral.{peripheral_head, peripheral_text, row_text};
-ghost use Rattle.cps_check.specs.Kept.{IsShown, zero_form, zero_holes};
+ghost use Rattle.cps_check.specs.Code.Kept.{IsShown, zero_form, zero_holes};
 
 use crate::front::push_front;
 use crate::names::row_name;

@@ -1,9 +1,9 @@
 //! The rows of operations whose operand is a sum of registers and K.
 ghost use Rattle.std.specs.Prelude.{◌≡◌, ◌++◌, ◌<◌, OnOk, flat_map, map};
-ghost use Rattle.cps_code.specs.Operations.{jump_forms};
+ghost use Rattle.cps_code.specs.Code.Operations.{jump_forms};
 ghost use Rattle.cps_code.specs.Table.{set_forms};
 ghost use Rattle.cps_check.specs.Central.{parts_of, row_text};
-ghost use Rattle.cps_check.specs.Kept.{kept_parts, sum_parts};
+ghost use Rattle.cps_check.specs.Code.Kept.{kept_parts, sum_parts};
 
 use crate::central_row::{RowParts, Told, push_row};
 use std::alloc::AllocError;

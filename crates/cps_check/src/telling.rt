@@ -1,6 +1,6 @@
 //! What is told of a text.
 ghost use Rattle.std.specs.Prelude.{map, IfOk};
-ghost use Rattle.cps_check.specs.Adding.{TellsSource, TellsBytes};
+ghost use Rattle.cps_check.specs.Code.Adding.{TellsSource, TellsBytes};
 
 use crate::line_telling::LineTelling;
 use crate::told_line::push_excess;

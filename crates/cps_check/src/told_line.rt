@@ -1,7 +1,7 @@
 //! A line of which something is told.
 ghost use Rattle.std.specs.Prelude.{◌≡◌, ◌∷◌, ◌++◌, [], map, take, IfOk, OnOk};
 ghost use Rattle.cps_cause.specs.Sentence.{IsSentence};
-ghost use Rattle.cps_check.specs.Adding.{Adds, excess_of};
+ghost use Rattle.cps_check.specs.Code.Adding.{Adds, excess_of};
 ghost use Rattle.cps_check.specs.Reports.{flag_report, fault_report, note_report};
 ghost use Rattle.cps_check.specs.Rows as rows;
 

@@ -7,12 +7,12 @@ use Rattle.cps_state.specs.declared.key.Put.{Put}
 use Rattle.cps_state.specs.Course.{Trace}
 use Rattle.cps_state.specs.Keys.{State, overwritten}
 use Rattle.cps_final.specs.Changes.{Changed, changed}
-use Rattle.cps_final.specs.Kept.{changes_in}
+use Rattle.cps_final.specs.Code.Kept.{changes_in}
 use Rattle.cps_final.specs.Layout.{puts_of}
 use Rattle.cps_pass.specs.Expansion.{trace_of}
 use Rattle.cps_final.specs.Holds.{holds}
 use Rattle.cps_final.specs.Run.{run_of}
-use Rattle.cps_chunk.specs.Chunk.{lengths_of}
+use Rattle.cps_chunk.specs.Code.Chunk.{lengths_of}
 use Rattle.cps_chunk.specs.declared.chunk.Chunk.{Chunk}
 use Rattle.cps_edit.specs.Passes.{state_after, traces_from}
 use Rattle.cps_edit.specs.Disturbed.{kept, disturbed_from, is_disturbed}
@@ -23,11 +23,11 @@ use Rattle.cps_chunk.specs.declared.walk.Position.{Position}
 use Rattle.cps_chunk.specs.declared.walk.Position.TheVariants.{Same, Behind}
 use Rattle.cps_chunk.specs.declared.walk.Span.{Span}
 use Rattle.cps_chunk.specs.declared.walk.Walk.{Walk}
-use Rattle.cps_chunk.specs.Along.{GoesAlong, MayGo, Leaves, front_at, fronts_along, looks_along, looks_of, looks_of_part, reached, replayed_along, span}
-use Rattle.cps_chunk.specs.Compared.{with_puts}
-use Rattle.cps_chunk.specs.Replay.{PutsAlso, now_by, now_with}
+use Rattle.cps_chunk.specs.Code.Along.{GoesAlong, MayGo, Leaves, front_at, fronts_along, looks_along, looks_of, looks_of_part, reached, replayed_along, span}
+use Rattle.cps_chunk.specs.Code.Compared.{with_puts}
+use Rattle.cps_chunk.specs.Code.Replay.{PutsAlso, now_by, now_with}
 use Rattle.cps_chunk.specs.Replayed.{replayed}
-use Rattle.cps_chunk.specs.Walk.{GoesOver, IsBaseline, IsStillWalk, IsWalk, cursor, state_at, stood_at, stretch}
+use Rattle.cps_chunk.specs.Code.Walk.{GoesOver, IsBaseline, IsStillWalk, IsWalk, cursor, state_at, stood_at, stretch}
 use Rattle.cps_chunk.proofs.ComparedLemmas.{with_puts-append}
 use Rattle.cps_chunk.proofs.GoLemmas.{stretch-cons}
 use Rattle.cps_chunk.proofs.OverLemmas.{over-count, over-state, stretch-none, stretch-replayed, stretch-within}

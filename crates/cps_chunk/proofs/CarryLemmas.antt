@@ -6,18 +6,18 @@ use Rattle.cps_state.specs.Course.{Trace}
 use Rattle.cps_state.specs.Keys.{State}
 use Rattle.cps_state.specs.declared.key.Put.{Put}
 use Rattle.cps_final.specs.Changes.{Changed}
-use Rattle.cps_final.specs.Kept.{changes_in}
+use Rattle.cps_final.specs.Code.Kept.{changes_in}
 use Rattle.cps_final.specs.Layout.{puts_of}
 use Rattle.cps_final.specs.Holds.{holds}
-use Rattle.cps_final.specs.RunGathering.{KeptRun, kept_run}
+use Rattle.cps_final.specs.Code.RunGathering.{KeptRun, kept_run}
 use Rattle.cps_final.proofs.AnswerLemmas.{asks-decide}
 use Rattle.cps_pass.specs.Expansion.{trace_of}
 use Rattle.cps_edit.specs.Renewed.{WasMeant}
 use Rattle.cps_edit.proofs.AskedLemmas.{meant-here}
 use Rattle.cps_edit.proofs.TakenLemmas.{drop_at}
 use Rattle.cps_chunk.specs.declared.change_log.ChangeLog.{ChangeLog}
-use Rattle.cps_chunk.specs.Replay.{PutsAlso}
-use Rattle.cps_chunk.specs.Compared.{with_puts}
+use Rattle.cps_chunk.specs.Code.Replay.{PutsAlso}
+use Rattle.cps_chunk.specs.Code.Compared.{with_puts}
 use Rattle.cps_chunk.proofs.ComparedLemmas.{with_puts-append}
 
 -- one line more

@@ -8,12 +8,12 @@ use Rattle.std.proofs.Math.Seq.{take-set-lt}
 use Rattle.cps_state.specs.declared.hashing.Hashing.{Hashing}
 use Rattle.cps_state.specs.declared.key.Key.{Key}
 use Rattle.cps_state.specs.Course.{Trace}
-use Rattle.cps_final.specs.RunGathering.{KeptRun, kept_run}
+use Rattle.cps_final.specs.Code.RunGathering.{KeptRun, kept_run}
 use Rattle.cps_final.specs.Names.{Names, names_in}
 use Rattle.cps_chunk.specs.declared.chunk.Chunk.{Chunk}
 use Rattle.cps_chunk.specs.declared.marks.Marks.{Marks}
 use Rattle.cps_chunk.specs.Marks.{AreMarked, HasAll, puts_at, asks_at, names_at, keys_put, keys_asked, keys_named}
-use Rattle.cps_chunk.specs.Chunk.{IsChunkOf, WasMarked, lengths_of, AreChunksOf}
+use Rattle.cps_chunk.specs.Code.Chunk.{IsChunkOf, WasMarked, lengths_of, AreChunksOf}
 use Rattle.cps_chunk.proofs.MarkLemmas.{marked-still, marked-append, marked-parts}
 
 -- ---- line by line

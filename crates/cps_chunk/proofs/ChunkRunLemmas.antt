@@ -7,7 +7,7 @@ use Rattle.std.proofs.lemmas.Bool.{lt-ltb, le-ltb}
 use Rattle.cps_chunk.specs.Division.{AreChunks}
 use Rattle.cps_edit.specs.Exchange.{exchange_at}
 use Rattle.cps_chunk.specs.Exchange.{front_of, behind_of, part_of, rejoined, exchanged_at}
-use Rattle.cps_chunk.specs.Pieces.{cut_to}
+use Rattle.cps_chunk.specs.Code.Pieces.{cut_to}
 use Rattle.cps_chunk.proofs.DivisionLemmas.{lt-true, lt-false}
 use Rattle.cps_chunk.proofs.ExchangeLemmas.{chunks-drop, rejoined-append}
 

@@ -17,12 +17,12 @@ use Rattle.cps_state.specs.Keys.{State, same_key, with_put, overwritten}
 use Rattle.cps_state.proofs.KnownLemmas.{same_key_is, same_key-true}
 use Rattle.cps_final.specs.declared.changes.Changes.{Changes as KeptChanges}
 use Rattle.cps_final.specs.Changes.{Changed, changed, with_change, without}
-use Rattle.cps_final.specs.Kept.{changes_in, count_of, keys_in}
+use Rattle.cps_final.specs.Code.Kept.{changes_in, count_of, keys_in}
 use Rattle.cps_final.proofs.ChangedLemmas.{overwritten-last}
 use Rattle.cps_final.proofs.KeptLemmas.{eq, has-key}
 use Rattle.cps_final.specs.Layout.{puts_of}
 use Rattle.cps_final.specs.Holds.{same_answer}
-use Rattle.cps_chunk.specs.Compared.{compared, with_all_kept, with_difference, with_kept, with_puts}
+use Rattle.cps_chunk.specs.Code.Compared.{compared, with_all_kept, with_difference, with_kept, with_puts}
 use Rattle.cps_chunk.specs.Noted.{AreHeld, asked_or, difference, last_puts, noted}
 use Rattle.cps_chunk.proofs.NotedLemmas.{asked_or-at}
 

@@ -14,7 +14,7 @@ use Rattle.cps_edit.proofs.SpliceLemmas.{kept-drop}
 use Rattle.cps_chunk.specs.declared.sparse.SparseItem.{SparseItem}
 use Rattle.cps_chunk.specs.Sparse.{renewed, AreWithin}
 use Rattle.cps_chunk.specs.Replayed.{redone}
-use Rattle.cps_chunk.specs.Walk.{stretch}
+use Rattle.cps_chunk.specs.Code.Walk.{stretch}
 use Rattle.cps_chunk.proofs.SparseLemmas.{AreWithin-append, renewed-drop_front, renewed-drop_behind, renewed-behind_none, take-renewed, drop-renewed}
 use Rattle.cps_chunk.proofs.ReplayedLemmas.{redone-append}
 use Rattle.cps_chunk.proofs.WalkLemmas.{stretch-long}

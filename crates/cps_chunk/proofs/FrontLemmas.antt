@@ -12,13 +12,13 @@ use Rattle.cps_edit.specs.Disturbed.{is_disturbed}
 use Rattle.cps_chunk.specs.declared.sparse.SparseItem.{SparseItem}
 use Rattle.cps_chunk.specs.Sparse.{one_if, AreWithin}
 use Rattle.cps_chunk.specs.Replayed.{replayed}
-use Rattle.cps_chunk.specs.Walk.{stretch}
-use Rattle.cps_chunk.specs.Moved.{fronts, state_before, state_between, state_past, fronts_moved, replayed_moved}
+use Rattle.cps_chunk.specs.Code.Walk.{stretch}
+use Rattle.cps_chunk.specs.Code.Moved.{fronts, state_before, state_between, state_past, fronts_moved, replayed_moved}
 use Rattle.cps_chunk.proofs.SparseLemmas.{AreWithin-one, AreWithin-wider}
 use Rattle.cps_edit.proofs.SpliceLemmas.{length-traces_from, take-traces_from}
 use Rattle.cps_chunk.proofs.ReplayedLemmas.{replayed-still}
 use Rattle.cps_chunk.proofs.FrontsLemmas.{length-fronts}
-use Rattle.cps_chunk.specs.Looks.{items_before, items_from}
+use Rattle.cps_chunk.specs.Code.Looks.{items_before, items_from}
 use Rattle.cps_chunk.proofs.ItemLemmas.{before-first, from-second}
 
 -- ---- in front of lines that follow one another

@@ -5,8 +5,8 @@ use Rattle.cps_state.specs.Keys.{State, first_state}
 use Rattle.cps_edit.specs.declared.exchange.Exchange.{Exchange}
 use Rattle.cps_edit.specs.Exchange.{IsWithin, exchanged}
 use Rattle.cps_edit.specs.Passes.{after, state_after}
-use Rattle.cps_chunk.specs.Walk.{stretch}
-use Rattle.cps_chunk.specs.Moved.{fronts, state_before, state_between, state_past, fronts_moved}
+use Rattle.cps_chunk.specs.Code.Walk.{stretch}
+use Rattle.cps_chunk.specs.Code.Moved.{fronts, state_before, state_between, state_past, fronts_moved}
 use Rattle.cps_chunk.proofs.WalkLemmas.{stretch-part, stretch-long}
 use Rattle.cps_chunk.proofs.ExchangedLemmas.{exchanged-parts}
 

@@ -5,7 +5,7 @@ use Rattle.std.proofs.lemmas.List.{length-take, get_or-take}
 use Rattle.cps_state.specs.Course.{Trace}
 use Rattle.cps_state.specs.Keys.{State, first_state}
 use Rattle.cps_final.specs.Changes.{Changed, changed, no_change}
-use Rattle.cps_final.specs.Kept.{changes_in}
+use Rattle.cps_final.specs.Code.Kept.{changes_in}
 use Rattle.cps_pass.specs.Expansion.{trace_of}
 use Rattle.cps_edit.specs.Disturbed.{is_disturbed}
 use Rattle.cps_edit.specs.Passes.{after, state_after, traces_of}
@@ -14,10 +14,10 @@ use Rattle.cps_chunk.specs.declared.change_log.ChangeLog.{ChangeLog}
 use Rattle.cps_chunk.specs.declared.sparse.SparseItem.{SparseItem}
 use Rattle.cps_chunk.specs.declared.walk.Baseline.{Baseline}
 use Rattle.cps_chunk.specs.declared.walk.Walk.{Walk}
-use Rattle.cps_chunk.specs.Replay.{now_by}
+use Rattle.cps_chunk.specs.Code.Replay.{now_by}
 use Rattle.cps_chunk.specs.Replayed.{replayed}
 use Rattle.cps_chunk.specs.Sparse.{one_if}
-use Rattle.cps_chunk.specs.Walk.{IsBaseline, GoesOver, now_at, stood_at, stretch}
+use Rattle.cps_chunk.specs.Code.Walk.{IsBaseline, GoesOver, now_at, stood_at, stretch}
 use Rattle.cps_chunk.proofs.SparseLemmas.{length-one}
 use Rattle.cps_chunk.proofs.WalkLemmas.{as-long, state-next, stretch-state, stretch-still}
 

@@ -10,7 +10,7 @@ use Rattle.cps_chunk.specs.declared.sparse.SparseItem.{SparseItem}
 use Rattle.cps_chunk.specs.Sparse.{AreWithin}
 use Rattle.cps_chunk.specs.Replayed.{replayed}
 use Rattle.cps_chunk.proofs.ReplayedLemmas.{replayed-within, replayed-append}
-use Rattle.cps_chunk.specs.Looks.{items_before, items_from}
+use Rattle.cps_chunk.specs.Code.Looks.{items_before, items_from}
 
 module _ {X : Type 0} (place : ℕ) where
   before-none : (b : ℕ) (news : List (SparseItem X)) → AreWithin place b news → items_before place news ≡ []

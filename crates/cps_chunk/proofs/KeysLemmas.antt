@@ -14,7 +14,7 @@ use Rattle.cps_state.specs.Course.{Trace, last_put}
 use Rattle.cps_state.proofs.KnownLemmas.{same_key_is, same_key-true}
 use Rattle.cps_final.specs.declared.changes.Changes.{Changes as KeptChanges}
 use Rattle.cps_final.specs.Changes.{Changed, settled}
-use Rattle.cps_final.specs.Kept.{changes_in, count_of, keys_in}
+use Rattle.cps_final.specs.Code.Kept.{changes_in, count_of, keys_in}
 use Rattle.cps_final.proofs.KeptLemmas.{eq, has-key}
 use Rattle.cps_final.specs.Layout.{puts_of}
 use Rattle.cps_edit.proofs.TakenLemmas.{drop_at}

@@ -19,9 +19,9 @@ use Rattle.cps_final.specs.Pool.{literals_of}
 use Rattle.cps_final.specs.Outcome.{labels_read, blocks_named}
 use Rattle.cps_final.specs.Naming.{all_named}
 use Rattle.cps_final.proofs.AnswerLemmas.{answer-is}
-use Rattle.cps_chunk.specs.Leaving.{same_counter, leaves_counters_alone, leaves_nothing}
-use Rattle.cps_chunk.specs.NoLiteral.{is_no_literal}
-use Rattle.cps_chunk.specs.Storing.{is_counter, counters_in, left_by}
+use Rattle.cps_chunk.specs.Code.Leaving.{same_counter, leaves_counters_alone, leaves_nothing}
+use Rattle.cps_chunk.specs.Code.NoLiteral.{is_no_literal}
+use Rattle.cps_chunk.specs.Code.Storing.{is_counter, counters_in, left_by}
 use Rattle.cps_chunk.proofs.StoringLemmas.{joined, left-append}
 
 -- ---- puts

@@ -26,14 +26,14 @@ use Rattle.cps_final.specs.Run.{run_of}
 use Rattle.cps_edit.specs.Disturbed.{kept, disturbed_from, finals_in}
 use Rattle.cps_edit.specs.Passes.{state_after, traces_from, traces_of}
 use Rattle.cps_chunk.specs.declared.sparse.SparseItem.{SparseItem}
-use Rattle.cps_chunk.specs.Redo.{is_passed}
-use Rattle.cps_chunk.specs.Moved.{fronts, fronts_moved, replayed_moved}
+use Rattle.cps_chunk.specs.Code.Redo.{is_passed}
+use Rattle.cps_chunk.specs.Code.Moved.{fronts, fronts_moved, replayed_moved}
 use Rattle.cps_chunk.proofs.FrontsLemmas.{fronts-moved}
 use Rattle.cps_edit.proofs.SpliceLemmas.{length-traces_from, take-traces_from, drop-traces_from}
 use Rattle.cps_chunk.proofs.ReplayedLemmas.{replayed-none}
 use Rattle.cps_chunk.proofs.RunLemmas.{run-law}
-use Rattle.cps_chunk.specs.Looks.{looks_again}
-use Rattle.cps_chunk.specs.MoveLooks.{is_cut_by, looks_moved, stands_moved, MoveLooksLaw}
+use Rattle.cps_chunk.specs.Code.Looks.{looks_again}
+use Rattle.cps_chunk.specs.Code.MoveLooks.{is_cut_by, looks_moved, stands_moved, MoveLooksLaw}
 use Rattle.cps_chunk.specs.Touched.{cut, is_touched, touched_from, did_as_chunks}
 use Rattle.cps_chunk.proofs.CutLemmas.{sum-cons, sum-parts, AreShort, chunks-short}
 use Rattle.cps_chunk.proofs.SeamLemmas.{AreSeamless, seamless-take, seamless-drop, seamless-uncut, exchanged-seamless}

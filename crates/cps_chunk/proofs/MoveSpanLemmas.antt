@@ -7,9 +7,9 @@ use Rattle.cps_state.specs.Keys.{State}
 use Rattle.cps_edit.specs.declared.exchange.Exchange.{Exchange}
 use Rattle.cps_final.specs.Holds.{holds}
 use Rattle.cps_final.specs.Run.{run_of}
-use Rattle.cps_chunk.specs.Along.{span, reached, looks_of_part, looks_along}
+use Rattle.cps_chunk.specs.Code.Along.{span, reached, looks_of_part, looks_along}
 use Rattle.cps_chunk.proofs.SpanLemmas.{part-held, part-most}
-use Rattle.cps_chunk.specs.MoveLooks.{is_among, is_cut_by, looks_moved}
+use Rattle.cps_chunk.specs.Code.MoveLooks.{is_among, is_cut_by, looks_moved}
 use Rattle.cps_chunk.proofs.CutLemmas.{sum-cons}
 
 -- ---- places that are reached in a span

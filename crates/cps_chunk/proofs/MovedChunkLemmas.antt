@@ -11,11 +11,11 @@ use Rattle.cps_edit.specs.Numbers.{picked, exchanged_numbers}
 use Rattle.cps_edit.proofs.NumberLemmas.{exchanged-picks}
 use Rattle.cps_chunk.specs.declared.exchange.Piece.{Piece}
 use Rattle.cps_chunk.specs.Exchange.{numbers_of}
-use Rattle.cps_chunk.specs.Pieces.{AreNamed, ArePieces, lines_of}
+use Rattle.cps_chunk.specs.Code.Pieces.{AreNamed, ArePieces, lines_of}
 use Rattle.cps_chunk.specs.declared.chunk.Chunk.{Chunk}
-use Rattle.cps_chunk.specs.Chunk.{IsChunkOf, AreChunksOf, lengths_of}
+use Rattle.cps_chunk.specs.Code.Chunk.{IsChunkOf, AreChunksOf, lengths_of}
 use Rattle.cps_chunk.proofs.ChunkLemmas.{chunks-long}
-use Rattle.cps_chunk.specs.MovedChunks.{AreMoved, IsOldOf, StayBut}
+use Rattle.cps_chunk.specs.Code.MovedChunks.{AreMoved, IsOldOf, StayBut}
 use Rattle.cps_chunk.proofs.NamedOnceLemmas.{AreDistinct, NoneNames, distinct-drop, distinct-exchanged, others-named}
 
 -- ---- old chunks that are still there

@@ -14,8 +14,8 @@ use Rattle.cps_edit.proofs.SpliceLemmas.{length-traces_from, take-traces_from, t
 use Rattle.cps_chunk.specs.declared.sparse.SparseItem.{SparseItem}
 use Rattle.cps_chunk.specs.Sparse.{item_at, renewed, AreWithin, AgreeFor}
 use Rattle.cps_chunk.specs.Replayed.{replayed, redone}
-use Rattle.cps_chunk.specs.Walk.{stretch}
-use Rattle.cps_chunk.specs.Moved.{state_before, state_between, state_past, first_replayed, second_replayed, behind_replayed, replayed_moved}
+use Rattle.cps_chunk.specs.Code.Walk.{stretch}
+use Rattle.cps_chunk.specs.Code.Moved.{state_before, state_between, state_past, first_replayed, second_replayed, behind_replayed, replayed_moved}
 use Rattle.cps_chunk.proofs.SparseLemmas.{AreWithin-append, AgreeFor-drop_front, AgreeFor-behind_none}
 use Rattle.cps_chunk.proofs.ReplayedLemmas.{replayed-within, renewed-replayed, length-replayed, replayed-still, redone-within, renewed-redone, count-redone, count-redone_among}
 use Rattle.cps_chunk.proofs.WalkLemmas.{stretch-long, stretch-did}

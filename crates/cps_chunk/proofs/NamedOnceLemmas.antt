@@ -5,7 +5,7 @@ use Rattle.cps_edit.specs.declared.exchange.Exchange.{Exchange}
 use Rattle.cps_edit.specs.Exchange.{IsWithin}
 use Rattle.cps_edit.specs.Numbers.{numbers, exchanged_numbers}
 use Rattle.cps_chunk.specs.declared.exchange.Piece.{Piece}
-use Rattle.cps_chunk.specs.Pieces.{AreNamed, ArePieces}
+use Rattle.cps_chunk.specs.Code.Pieces.{AreNamed, ArePieces}
 
 -- ---- numbers of which none stands twice
 

@@ -7,7 +7,7 @@ use Rattle.cps_chunk.specs.Division.{AreChunks}
 use Rattle.cps_edit.specs.Numbers.{numbers}
 use Rattle.cps_chunk.specs.Exchange.{BeginsWithPart}
 use Rattle.cps_chunk.specs.declared.exchange.Piece.{Piece}
-use Rattle.cps_chunk.specs.Pieces.{cut_to, AreOfNone, AreNamed, ArePieces, MayStandBefore, GoesNotOn, part_numbers}
+use Rattle.cps_chunk.specs.Code.Pieces.{cut_to, AreOfNone, AreNamed, ArePieces, MayStandBefore, GoesNotOn, part_numbers}
 use Rattle.cps_chunk.proofs.DivisionLemmas.{lt-true}
 use Rattle.cps_chunk.proofs.PieceLemmas.{length-numbers, numbers-more, part-new}
 

@@ -8,11 +8,11 @@ use Rattle.cps_state.specs.Course.{Trace}
 use Rattle.cps_state.specs.Keys.{State, first_state}
 use Rattle.cps_state.specs.Work.{counted_on}
 use Rattle.cps_final.specs.Changes.{changed, no_change, settled}
-use Rattle.cps_final.specs.Kept.{changes_in}
+use Rattle.cps_final.specs.Code.Kept.{changes_in}
 use Rattle.cps_final.specs.Layout.{puts_of}
 use Rattle.cps_edit.specs.Passes.{state_after, traces_of}
 use Rattle.cps_edit.proofs.SpliceLemmas.{take-traces_from}
-use Rattle.cps_chunk.specs.Chunk.{AreChunksOf, lengths_of}
+use Rattle.cps_chunk.specs.Code.Chunk.{AreChunksOf, lengths_of}
 use Rattle.cps_chunk.specs.declared.chunk.Chunk.{Chunk}
 use Rattle.cps_final.specs.Holds.{holds}
 use Rattle.cps_final.specs.Run.{run_of}
@@ -20,9 +20,9 @@ use Rattle.cps_chunk.specs.declared.sparse.SparseItem.{SparseItem}
 use Rattle.cps_chunk.specs.declared.walk.Baseline.{Baseline}
 use Rattle.cps_chunk.specs.declared.walk.Walk.{Walk}
 use Rattle.cps_chunk.specs.Noted.{stands}
-use Rattle.cps_chunk.specs.Replay.{now_by}
+use Rattle.cps_chunk.specs.Code.Replay.{now_by}
 use Rattle.cps_chunk.specs.Replayed.{replayed}
-use Rattle.cps_chunk.specs.Walk.{GoesOver, IsBaseline, IsStillWalk, IsWalk, StandsAt, cursor, looks_at, looks_over, now_at, replayed_in, stood_at, stretch}
+use Rattle.cps_chunk.specs.Code.Walk.{GoesOver, IsBaseline, IsStillWalk, IsWalk, StandsAt, cursor, looks_at, looks_over, now_at, replayed_in, stood_at, stretch}
 use Rattle.cps_chunk.proofs.PassedLemmas.{part-left, part-none, part-stands}
 use Rattle.cps_chunk.proofs.WalkLemmas.{as-long, same-long, lengths-drop, lengths-next, lengths-within, part-replayed, part-state, part-count, part-looks}
 

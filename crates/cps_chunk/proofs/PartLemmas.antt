@@ -13,7 +13,7 @@ use Rattle.cps_edit.specs.Splice.{Splice, spliced}
 use Rattle.cps_edit.proofs.SpliceLemmas.{state_after-append}
 use Rattle.cps_edit.proofs.TakenLemmas.{length_nones}
 use Rattle.cps_chunk.specs.Replayed.{state_behind}
-use Rattle.cps_chunk.specs.Recuts.{Recuts}
+use Rattle.cps_chunk.specs.Code.Recuts.{Recuts}
 use Rattle.cps_chunk.specs.Touched.{cut, done_before, is_touched, touched_from}
 use Rattle.cps_chunk.proofs.CutLemmas.{sum-cons, take-more, take-past, drop-past, length-cut, take-cut, drop-cut}
 

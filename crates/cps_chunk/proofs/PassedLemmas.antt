@@ -23,7 +23,7 @@ use Rattle.cps_chunk.specs.Marks.{mark_of, has, AreMarked, asks_at, keys_asked}
 use Rattle.cps_chunk.proofs.MarkLemmas.{marked-append, marked-parts}
 use Rattle.cps_chunk.specs.Noted.{stands_at, stands}
 use Rattle.cps_chunk.specs.Replayed.{replayed}
-use Rattle.cps_chunk.specs.Walk.{stretch}
+use Rattle.cps_chunk.specs.Code.Walk.{stretch}
 use Rattle.cps_chunk.proofs.NotedLemmas.{stands-holds}
 use Rattle.cps_chunk.proofs.ReplayedLemmas.{replayed-none}
 use Rattle.cps_chunk.specs.RunLaws.{RunStands}

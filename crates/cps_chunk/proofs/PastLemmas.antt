@@ -17,8 +17,8 @@ use Rattle.cps_final.proofs.PutLemmas.{overwritten-last}
 use Rattle.cps_chunk.specs.declared.chunk.Chunk.{Chunk}
 use Rattle.cps_chunk.specs.declared.past.Past.{Past}
 use Rattle.cps_chunk.specs.Marks.{mark_of, has}
-use Rattle.cps_chunk.specs.Chunk.{IsChunkOf, AreChunksOf}
-use Rattle.cps_chunk.specs.Past.{sought_from, sought, found}
+use Rattle.cps_chunk.specs.Code.Chunk.{IsChunkOf, AreChunksOf}
+use Rattle.cps_chunk.specs.Code.Past.{sought_from, sought, found}
 use Rattle.cps_chunk.proofs.AbsentLemmas.{not-put}
 use Rattle.cps_chunk.proofs.ChunkLemmas.{chunks-last}
 

@@ -2,7 +2,7 @@
 use Rattle.std.proofs.Common.{◌≡◌, refl, sym, ap, ◌∙◌, List, [], ◌∷◌, ◌++◌, reverse}
 use Rattle.std.proofs.lemmas.List.{reverse-append, map-append}
 use Rattle.cps_chunk.specs.declared.exchange.Piece.{Piece}
-use Rattle.cps_chunk.specs.Pieces.{lines_of, lines_in}
+use Rattle.cps_chunk.specs.Code.Pieces.{lines_of, lines_in}
 
 pub lines-reverse : (ps : List Piece) → lines_of (reverse ps) ≡ lines_in ps
 lines-reverse [] = refl

@@ -5,7 +5,7 @@ use Rattle.cps_chunk.specs.Division.{AreChunks, IsDivision}
 use Rattle.cps_chunk.specs.Recut.{recut}
 use Rattle.cps_chunk.specs.Staying.{IsTight}
 use Rattle.cps_edit.specs.Splice.{Splice}
-use Rattle.cps_chunk.specs.Recuts.{Recuts}
+use Rattle.cps_chunk.specs.Code.Recuts.{Recuts}
 use Rattle.cps_chunk.proofs.CutLemmas.{sum-part}
 
 pub planned : (lines : List (List ℕ)) (splice : Splice) (start end before : ℕ) (ns olds : List ℕ) → splice.keep ≤ splice.from → splice.from ≤ length lines → IsDivision (length lines) olds

@@ -11,7 +11,7 @@ use Rattle.cps_edit.proofs.TakenLemmas.{drop_at}
 use Rattle.cps_chunk.specs.declared.sparse.SparseItem.{SparseItem}
 use Rattle.cps_chunk.specs.Sparse.{item_at, one_if, AreWithin, AgreeFor}
 use Rattle.cps_chunk.specs.Replayed.{redone}
-use Rattle.cps_chunk.specs.Redo.{new_at, first_at, behind}
+use Rattle.cps_chunk.specs.Code.Redo.{new_at, first_at, behind}
 use Rattle.cps_chunk.proofs.SparseLemmas.{AreWithin-wider, item_at-here, item_at-other, item_at-before, length-one}
 use Rattle.cps_chunk.proofs.ReplayedLemmas.{redone-agree}
 

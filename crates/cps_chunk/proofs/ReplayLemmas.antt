@@ -15,7 +15,7 @@ use Rattle.cps_edit.specs.Passes.{after}
 use Rattle.cps_edit.specs.Disturbed.{is_disturbed}
 use Rattle.cps_edit.proofs.PassOneLemmas.{none-more}
 use Rattle.cps_chunk.specs.declared.sparse.SparseItem.{SparseItem}
-use Rattle.cps_chunk.specs.Compared.{with_puts}
+use Rattle.cps_chunk.specs.Code.Compared.{with_puts}
 use Rattle.cps_chunk.specs.Noted.{AreHeld, asked_or, noted, stands}
 use Rattle.cps_chunk.specs.Replayed.{replayed}
 use Rattle.cps_chunk.proofs.ComparedLemmas.{changed-with_puts}

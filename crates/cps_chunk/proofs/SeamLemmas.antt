@@ -4,7 +4,7 @@ use Rattle.std.specs.Prelude.{nat_lt, ◌||◌}
 use Rattle.std.proofs.lemmas.Bool.{le-ltb, cases_lt, cases_eq, and_left, and_right}
 use Rattle.cps_edit.specs.declared.exchange.Exchange.{Exchange}
 use Rattle.cps_edit.specs.Numbers.{numbers, exchanged_numbers}
-use Rattle.cps_chunk.specs.MoveLooks.{is_among, is_cut_by}
+use Rattle.cps_chunk.specs.Code.MoveLooks.{is_among, is_cut_by}
 
 module _ (e : Exchange) where
   -- neither run begins at a place, nor what stands behind both

@@ -9,7 +9,7 @@ use Rattle.cps_state.specs.Keys.{State}
 use Rattle.cps_final.specs.Holds.{holds}
 use Rattle.cps_final.specs.Run.{run_of}
 use Rattle.cps_chunk.specs.declared.walk.Span.{Span}
-use Rattle.cps_chunk.specs.Along.{span, reached, looks_of_part, looks_along}
+use Rattle.cps_chunk.specs.Code.Along.{span, reached, looks_of_part, looks_along}
 
 -- of some chunks, and of those behind them
 pub looks-append : (lines : Span) (ms ns : List ℕ) (at : ℕ) (stands : ℕ → State) (traces : List Trace)

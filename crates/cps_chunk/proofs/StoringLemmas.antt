@@ -17,11 +17,11 @@ use Rattle.cps_final.specs.Distinct.{distinct}
 use Rattle.cps_final.specs.Layout.{layout_of, puts_of, size_in, words_put, words_before, named_by, names_put}
 use Rattle.cps_final.specs.Pool.{literals_in}
 use Rattle.cps_final.specs.Finals.{Finals, first_program, program_of}
-use Rattle.cps_final.specs.Storage.{IsStored, StoresMore}
+use Rattle.cps_final.specs.Code.Storage.{IsStored, StoresMore}
 use Rattle.cps_final.specs.declared.storage.Storage.{Storage}
 use Rattle.cps_chunk.specs.declared.sparse.SparseItem.{SparseItem}
 use Rattle.cps_chunk.specs.Sparse.{AreWithin, renewed}
-use Rattle.cps_chunk.specs.Storing.{is_counter, counters_in, Left, left_by, stored_by, LeftLaw, StoresAlso, StoresSome}
+use Rattle.cps_chunk.specs.Code.Storing.{is_counter, counters_in, Left, left_by, stored_by, LeftLaw, StoresAlso, StoresSome}
 use Rattle.cps_chunk.proofs.SparseLemmas.{item_at-here, item_at-other, renewed-agree, renewed-none, renewed-split}
 
 -- ---- layouts, by what is put at counters alone

@@ -16,13 +16,13 @@ use Rattle.cps_edit.specs.Passes.{state_after, traces_from, traces_of}
 use Rattle.cps_edit.specs.Splice.{Splice, spliced}
 use Rattle.cps_edit.proofs.SpliceLemmas.{length-traces_from, take-traces_from, drop-traces_from, none-disturbed}
 use Rattle.cps_chunk.specs.declared.sparse.SparseItem.{SparseItem}
-use Rattle.cps_chunk.specs.Redo.{is_passed}
-use Rattle.cps_chunk.specs.Walk.{looks_over}
+use Rattle.cps_chunk.specs.Code.Redo.{is_passed}
+use Rattle.cps_chunk.specs.Code.Walk.{looks_over}
 use Rattle.cps_chunk.specs.Replayed.{replayed, state_behind, replayed_behind}
 use Rattle.cps_chunk.proofs.ReplayedLemmas.{replayed-none}
 use Rattle.cps_chunk.proofs.RunLemmas.{run-law, asks-no-more}
-use Rattle.cps_chunk.specs.Looks.{items_from, looks_again, LooksLaw}
-use Rattle.cps_chunk.specs.Recuts.{Recuts}
+use Rattle.cps_chunk.specs.Code.Looks.{items_from, looks_again, LooksLaw}
+use Rattle.cps_chunk.specs.Code.Recuts.{Recuts}
 use Rattle.cps_chunk.specs.Touched.{cut, is_touched, touched_from, touched_of}
 use Rattle.cps_chunk.proofs.CutLemmas.{sum-cons, sum-parts, cut-within, AreShort, chunks-short, short-take, short-drop, short-first, short-second, short-sum}
 use Rattle.cps_chunk.proofs.ItemLemmas.{replayed-before, replayed-from}

@@ -14,14 +14,14 @@ use Rattle.cps_edit.specs.Passes.{after, state_after, traces_from, traces_of}
 use Rattle.cps_edit.proofs.SpliceLemmas.{puts-state, state_after-append, length-traces_from, take-traces_from, drop-traces_from}
 use Rattle.cps_edit.proofs.TakenLemmas.{drop_at}
 use Rattle.cps_edit.proofs.AskedLemmas.{asked-here}
-use Rattle.cps_chunk.specs.Chunk.{IsChunkOf, AreChunksOf, lengths_of}
+use Rattle.cps_chunk.specs.Code.Chunk.{IsChunkOf, AreChunksOf, lengths_of}
 use Rattle.cps_chunk.specs.declared.chunk.Chunk.{Chunk}
 use Rattle.cps_chunk.proofs.ChunkLemmas.{chunks-long, chunks-front, chunks-behind, chunks-within}
 use Rattle.cps_chunk.specs.declared.sparse.SparseItem.{SparseItem}
 use Rattle.cps_chunk.specs.Noted.{AreHeld}
 use Rattle.cps_chunk.specs.Replayed.{replayed}
 use Rattle.cps_chunk.specs.declared.walk.Cursor.{Cursor}
-use Rattle.cps_chunk.specs.Walk.{StandsAt, looks_over, stretch}
+use Rattle.cps_chunk.specs.Code.Walk.{StandsAt, looks_over, stretch}
 use Rattle.cps_chunk.proofs.ReplayedLemmas.{replayed-append, replayed-still}
 
 -- ---- stretches of a list

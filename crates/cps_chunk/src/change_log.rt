@@ -2,11 +2,11 @@
 ghost use Rattle.std.specs.Prelude.{◌≡◌, OnOk, IfOk, unwrap_or};
 ghost use Rattle.std.specs.Option.{option_copied};
 ghost use Rattle.cps_final.specs.Changes.{no_change, settled};
-ghost use Rattle.cps_final.specs.Kept.{changes_in};
+ghost use Rattle.cps_final.specs.Code.Kept.{changes_in};
 ghost use Rattle.cps_final.specs.Layout.{puts_of};
-ghost use Rattle.cps_chunk.specs.Compared.{with_puts};
+ghost use Rattle.cps_chunk.specs.Code.Compared.{with_puts};
 ghost use Rattle.cps_chunk.specs.Noted.{AreHeld, last_puts};
-ghost use Rattle.cps_chunk.specs.Replay.{Closes, Puts, all_compared, compared_at, former_in, present_at, present_in, present_with};
+ghost use Rattle.cps_chunk.specs.Code.Replay.{Closes, Puts, all_compared, compared_at, former_in, present_at, present_in, present_with};
 
 use crate::states::{ChangedState, FormerState};
 use cps_final::{Changes, is_same_answer};

@@ -1,7 +1,7 @@
 //! A chunk of a source: how many lines it has, and what is kept of them together.
 ghost use Rattle.std.specs.Prelude.{◌≡◌, ◌+◌, ◌<◌, ◌++◌, ◌∷◌, ℕ, [], List, OnOk, is_some, slice_set, true};
 ghost use Rattle.cps_state.specs.Course.{Trace as Did};
-ghost use Rattle.cps_chunk.specs.Chunk.{IsChunkOf, WasMarked};
+ghost use Rattle.cps_chunk.specs.Code.Chunk.{IsChunkOf, WasMarked};
 
 use crate::marks::Marks;
 use cps_final::{Names, Run};

@@ -3,7 +3,7 @@ ghost use Rattle.std.specs.Prelude.{◌≡◌, ◌<◌, ◌≤◌, ◌^◌, sum,
 ghost use Rattle.cps_chunk.specs.Division.{AreChunks, joined};
 ghost use Rattle.cps_edit.specs.Numbers.{exchanged_numbers};
 ghost use Rattle.cps_chunk.specs.Exchange.{part_of, rejoined, exchanged_at};
-ghost use Rattle.cps_chunk.specs.Pieces.{lines_in, lines_of as lines_of_pieces, cut_to, part_lines, ArePieces, SetsOne, SetsPart, SetsRun};
+ghost use Rattle.cps_chunk.specs.Code.Pieces.{lines_in, lines_of as lines_of_pieces, cut_to, part_lines, ArePieces, SetsOne, SetsPart, SetsRun};
 
 use crate::put::FULL;
 use crate::staying::lines_of;

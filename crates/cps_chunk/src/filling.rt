@@ -2,7 +2,7 @@
 ghost use Rattle.std.specs.Prelude.{◌≡◌, ℕ, suc, ◌+◌, ◌<◌, ◌≤◌, ◌^◌, IfOk, OnOk, reverse, sum};
 ghost use Rattle.cps_chunk.specs.Division.{AreChunks, inserted_at, joined};
 ghost use Rattle.cps_chunk.specs.Put.{inserted_each};
-ghost use Rattle.cps_chunk.specs.Filling.{IsFilling, filled};
+ghost use Rattle.cps_chunk.specs.Code.Filling.{IsFilling, filled};
 
 use crate::place::place_of;
 use crate::put::FULL;

@@ -1,8 +1,8 @@
 //! The chunks of a source of which two runs of lines have changed places, made from the old ones.
 ghost use Rattle.std.specs.Prelude.{◌≡◌, ◌≤◌, IfSome, length, vec_len, vec_capacity};
-ghost use Rattle.cps_chunk.specs.Pieces.{lines_of};
-ghost use Rattle.cps_chunk.specs.Chunk.{AreChunksOf, IsChunkOf, lengths_of};
-ghost use Rattle.cps_chunk.specs.MovedChunks.{AreMoved, IsOldOf, StayBut};
+ghost use Rattle.cps_chunk.specs.Code.Pieces.{lines_of};
+ghost use Rattle.cps_chunk.specs.Code.Chunk.{AreChunksOf, IsChunkOf, lengths_of};
+ghost use Rattle.cps_chunk.specs.Code.MovedChunks.{AreMoved, IsOldOf, StayBut};
 
 use crate::chunk::Chunk;
 use crate::exchange::Piece;

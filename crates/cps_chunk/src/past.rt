@@ -4,8 +4,8 @@ ghost use Rattle.std.specs.Option.{option_copied};
 ghost use Rattle.cps_state.specs.Course.{last_put as last_put_by};
 ghost use Rattle.cps_state.specs.Keys.{first_state, overwritten};
 ghost use Rattle.cps_final.specs.Layout.{puts_of};
-ghost use Rattle.cps_chunk.specs.Chunk.{AreChunksOf};
-ghost use Rattle.cps_chunk.specs.Past.{sought};
+ghost use Rattle.cps_chunk.specs.Code.Chunk.{AreChunksOf};
+ghost use Rattle.cps_chunk.specs.Code.Past.{sought};
 
 use crate::chunk::Chunk;
 use crate::marks::mark_of;
@@ -25,7 +25,7 @@ pub struct Past<'a> {
 }
 
 impl<'a> Lookup for Past<'a> {
-    ghost use Rattle.cps_chunk.specs.Past.{found};
+    ghost use Rattle.cps_chunk.specs.Code.Past.{found};
 
     ghost answer = { λ past. found (⟦<State as Lookup>⟧.answer past.first.now) past };
 

@@ -4,9 +4,9 @@ ghost use Rattle.std.specs.Option.{option_copied};
 ghost use Rattle.cps_state.specs.Work.{counted_on, raised};
 ghost use Rattle.cps_state.specs.declared.work.Tally.TheVariants.{Twos};
 ghost use Rattle.cps_final.specs.Outcome.{outcome_of};
-ghost use Rattle.cps_final.specs.Ends.{now_of};
+ghost use Rattle.cps_final.specs.Code.Ends.{now_of};
 ghost use Rattle.cps_edit.specs.Compares.{ComparesUpTo, Steps};
-ghost use Rattle.cps_chunk.specs.Redo.{MakesAlso, behind, first_at, is_redone_under, new_at, redone_at, redone_under, steps_under};
+ghost use Rattle.cps_chunk.specs.Code.Redo.{MakesAlso, behind, first_at, is_redone_under, new_at, redone_at, redone_under, steps_under};
 ghost use Rattle.cps_chunk.specs.Sparse.{AreWithin};
 
 use crate::sparse::SparseItem;

@@ -4,7 +4,7 @@ ghost use Rattle.cps_state.specs.Keys.{overwritten};
 ghost use Rattle.cps_state.specs.Work.{counted_on, raised};
 ghost use Rattle.cps_state.specs.declared.work.Tally.TheVariants.{Looked};
 ghost use Rattle.cps_final.specs.Changes.{no_change, settled};
-ghost use Rattle.cps_final.specs.Kept.{changes_in};
+ghost use Rattle.cps_final.specs.Code.Kept.{changes_in};
 ghost use Rattle.cps_final.specs.Layout.{puts_of};
 ghost use Rattle.cps_pass.specs.Expansion.{trace_of};
 ghost use Rattle.cps_final.specs.Holds.{holds};
@@ -12,7 +12,7 @@ ghost use Rattle.cps_edit.specs.Compares.{Steps};
 ghost use Rattle.cps_edit.specs.Passes.{after, traces_from};
 ghost use Rattle.cps_edit.specs.Renewed.{WasMeant};
 ghost use Rattle.cps_chunk.specs.Noted.{AreHeld, last_puts, stands};
-ghost use Rattle.cps_chunk.specs.Replay.{Closes, GoesBehind, Puts, PutsAlso, RenewsAlso, now_by, now_with, replayed_at};
+ghost use Rattle.cps_chunk.specs.Code.Replay.{Closes, GoesBehind, Puts, PutsAlso, RenewsAlso, now_by, now_with, replayed_at};
 ghost use Rattle.cps_chunk.specs.Replayed.{puts_at, steps_at};
 
 use crate::change_log::ChangeLog;

@@ -2,7 +2,7 @@
 ghost use Rattle.std.specs.Prelude.{◌≡◌};
 ghost use Rattle.cps_state.specs.Work.{raised};
 ghost use Rattle.cps_state.specs.declared.work.Tally.TheVariants.{Looked};
-ghost use Rattle.cps_final.specs.Kept.{changes_in};
+ghost use Rattle.cps_final.specs.Code.Kept.{changes_in};
 ghost use Rattle.cps_chunk.specs.Noted.{stands};
 
 use cps_final::{Changes, is_same_answer};

@@ -39,7 +39,7 @@ pub struct ChangedState<'a, L> {
 
 impl<'a, L: Lookup> Lookup for ChangedState<'a, L> {
     ghost use Rattle.cps_final.specs.Changes.{changed};
-    ghost use Rattle.cps_final.specs.Kept.{changes_in};
+    ghost use Rattle.cps_final.specs.Code.Kept.{changes_in};
 
     ghost answer = { λ now. changed (changes_in now.changes.now) (L.answer now.before.now) };
 

@@ -2,10 +2,10 @@
 ghost use Rattle.std.specs.Prelude.{◌≡◌, ◌+◌, ◌++◌, ◌∷◌, [], List, IsTrue, OnOk, is_some, length, not};
 ghost use Rattle.std.specs.List.{list_all};
 ghost use Rattle.cps_state.specs.Course.{Trace as Did};
-ghost use Rattle.cps_final.specs.Storage.{IsStored};
-ghost use Rattle.cps_chunk.specs.Leaving.{leaves_counters_alone, leaves_nothing, same_counter};
+ghost use Rattle.cps_final.specs.Code.Storage.{IsStored};
+ghost use Rattle.cps_chunk.specs.Code.Leaving.{leaves_counters_alone, leaves_nothing, same_counter};
 ghost use Rattle.cps_chunk.specs.Sparse.{AreWithin, renewed};
-ghost use Rattle.cps_chunk.specs.Storing.{counters_in, is_counter, left_by};
+ghost use Rattle.cps_chunk.specs.Code.Storing.{counters_in, is_counter, left_by};
 
 use crate::sparse::SparseItem;
 use cps_final::{Naming, Storage, all_pass};
@@ -100,7 +100,7 @@ fn are_nameless(items: &[Item]) -> bool
 struct NoLiteral;
 
 impl Naming for NoLiteral {
-    ghost use Rattle.cps_chunk.specs.NoLiteral.{is_no_literal};
+    ghost use Rattle.cps_chunk.specs.Code.NoLiteral.{is_no_literal};
 
     ghost passes = { λ _. is_no_literal };
 

@@ -1,6 +1,6 @@
 //! What both passes of an edit compare, and those of a move.
-ghost use Rattle.cps_chunk.specs.Looks.{LooksLaw};
-ghost use Rattle.cps_chunk.specs.MoveLooks.{MoveLooksLaw};
+ghost use Rattle.cps_chunk.specs.Code.Looks.{LooksLaw};
+ghost use Rattle.cps_chunk.specs.Code.MoveLooks.{MoveLooksLaw};
 
 /// Both passes together compare at most 128 lines for each chunk that an edit touches.
 pub fn an_edit_compares_touched_chunks()

@@ -4,7 +4,7 @@ use Rattle.std.proofs.lemmas.Bool.{cases_eq}
 use Rattle.std.proofs.lemmas.Bool.Decides.{nat_tests}
 use Rattle.cps_code.specs.Image.{Piece, word_at, bit_at_place, covers_word, covers_bit, Deposits}
 use Rattle.cps_code.specs.Bits.{bit_from_left}
-use Rattle.cps_code.specs.Slots.{AreWords}
+use Rattle.cps_code.specs.Code.Slots.{AreWords}
 
 abbrev is_reached : Piece → ℕ → ℕ → Bool
 is_reached piece end address = leb piece.address address && ltb address end

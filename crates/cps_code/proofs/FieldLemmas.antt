@@ -12,8 +12,8 @@ use Rattle.cps_code.specs.declared.operation.FieldForm.TheVariants as field
 use Rattle.cps_code.specs.Form.{Form}
 use Rattle.cps_code.specs.RowForms.{Found, turned, registers_in, found_behind, found_in_fields, operands_in, form_in_row, form_in, form_of_rows}
 use Rattle.cps_code.specs.Sum.{Summed}
-use Rattle.cps_code.specs.FoundForms.{no_sum, with_none_left, registers_alone, constant_in}
-use Rattle.cps_code.specs.Operations.{row_of_fields}
+use Rattle.cps_code.specs.Code.FoundForms.{no_sum, with_none_left, registers_alone, constant_in}
+use Rattle.cps_code.specs.Code.Operations.{row_of_fields}
 use Rattle.cps_code.specs.declared.fields.Found as kept
 use Rattle.cps_code.specs.declared.hole.Operand.{Operand}
 use Rattle.cps_expr.specs.declared.machine.Machine.TheVariants.{Cp}

@@ -9,7 +9,7 @@ use Rattle.cps_code.specs.Digits.{first_digit, with_digit, with_character, digit
 use Rattle.cps_code.specs.Register.{digit_value}
 use Rattle.cps_code.specs.Rows.{Operation, Named, named}
 use Rattle.cps_code.specs.Table.{cp_operations, instruction_named}
-use Rattle.cps_code.specs.Operations.{beginning_with}
+use Rattle.cps_code.specs.Code.Operations.{beginning_with}
 use Rattle.cps_code.proofs.BothTrue.{left_true, right_true}
 
 -- a name begins with no letter that stands for a digit

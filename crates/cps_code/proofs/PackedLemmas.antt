@@ -7,7 +7,7 @@ use Rattle.std.proofs.lemmas.List.Folds.{list_any-append}
 use Rattle.std.proofs.lemmas.Nat.Bits.{bit_at-zero}
 use Rattle.cps_code.specs.Image.{Piece, word_at, covers_word, covers_bit, packed_bit, packed_word, Deposits, ArePacked}
 use Rattle.cps_code.specs.Bits.{bit_from_left, number_of_bits}
-use Rattle.cps_code.specs.Slots.{AreWords}
+use Rattle.cps_code.specs.Code.Slots.{AreWords}
 use Rattle.cps_code.proofs.NumberLemmas.{number_of_bits-same, number_of_bits-whole}
 
 word_of : (stands : Option ℕ) (test : Bool) (bit : ℕ → ℕ) → IfSome stands (λ word. word < 2 ^ 60) → is_some stands ≡ test

@@ -6,7 +6,7 @@ use Rattle.std.specs.List.{list_all}
 use Rattle.cps_text.specs.Text.{capital, capitals}
 use Rattle.cps_code.specs.declared.layout.Layout.{Layout}
 use Rattle.cps_code.specs.PeripheralTable.{Row, named, pp_table}
-use Rattle.cps_code.specs.PeripheralRows.{beginning_with, layout_and_number}
+use Rattle.cps_code.specs.Code.PeripheralRows.{beginning_with, layout_and_number}
 
 pub none_read : {T : Type 0} (o : Option T) → is_some o ≡ false → o ≡ None
 none_read None is = refl

@@ -10,9 +10,9 @@ use Rattle.cps_code.specs.declared.sum.Registers.TheVariants.{Absent, One, Two}
 use Rattle.cps_code.specs.declared.register.RegisterTerm.{RegisterTerm}
 use Rattle.cps_code.specs.declared.forms.SumForms.{SumForms}
 use Rattle.cps_code.specs.declared.forms.SumForms.TheVariants.{Set, Jump}
-use Rattle.cps_code.specs.FoundForms.{sum_rows, sum_form}
+use Rattle.cps_code.specs.Code.FoundForms.{sum_rows, sum_form}
 use Rattle.cps_code.specs.Sum.{Summed}
-use Rattle.cps_code.specs.Terms.{IsRegister, AreRegisters, register_list}
+use Rattle.cps_code.specs.Code.Terms.{IsRegister, AreRegisters, register_list}
 use Rattle.cps_expr.specs.declared.radix.Radix.{Radix}
 use Rattle.cps_code.specs.declared.digits.Digits.{Digits}
 use Rattle.cps_code.specs.Digits.{with_digit}

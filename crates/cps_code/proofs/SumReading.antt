@@ -9,9 +9,9 @@ use Rattle.cps_expr.specs.Expression.{is_sign, is_minus, onto_first, cut_at_sign
 use Rattle.cps_expr.specs.Term.{Term, term_of}
 use Rattle.cps_code.specs.declared.sum.Registers.{Registers}
 use Rattle.cps_code.specs.Register.{register_of}
-use Rattle.cps_expr.specs.TermsLeft.{sign_of}
+use Rattle.cps_expr.specs.Code.TermsLeft.{sign_of}
 use Rattle.cps_expr.proofs.TermsReading.{later_texts, IsSignAt, cut-at}
-use Rattle.cps_code.specs.Terms.{pushed, is_some_list, IsKept}
+use Rattle.cps_code.specs.Code.Terms.{pushed, is_some_list, IsKept}
 
 -- a sum and what more of it comes
 abbrev pub joined : Sum → Option Sum → Option Sum

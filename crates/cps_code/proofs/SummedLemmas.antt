@@ -11,9 +11,9 @@ use Rattle.cps_code.specs.declared.sum.KeptSum.{KeptSum}
 use Rattle.cps_code.specs.declared.sum.Registers.TheVariants.{Absent}
 use Rattle.cps_code.specs.declared.summed.KeptSummed.{KeptSummed}
 use Rattle.cps_code.specs.Form.{Form}
-use Rattle.cps_code.specs.Outcome.{Answers}
+use Rattle.cps_code.specs.Code.Outcome.{Answers}
 use Rattle.cps_code.specs.Sum.{Sum, Summed, constant_of, of_terms, of_literal, sum_of}
-use Rattle.cps_code.specs.Terms.{IsKept, IsKeptSummed, is_some_list, register_list}
+use Rattle.cps_code.specs.Code.Terms.{IsKept, IsKeptSummed, is_some_list, register_list}
 
 abbrev registers_of : Option Summed → List RegisterTerm
 registers_of None = []

@@ -1,10 +1,10 @@
 ghost use Rattle.std.specs.Prelude.{◌≡◌, ◌<◌, Some, None, [], ◌∷◌, map, option_map, IfOk, IfSome, MatchOption};
 ghost use Rattle.cps_expr.specs.Reads.{Reads};
 ghost use Rattle.cps_text.specs.Operands.{operands_of};
-ghost use Rattle.cps_text.specs.OperandsLeft.{operands_left};
+ghost use Rattle.cps_text.specs.Code.OperandsLeft.{operands_left};
 ghost use Rattle.cps_code.specs.RowForms.{registers_in, form_in_row, form_of_rows, operands_in};
-ghost use Rattle.cps_code.specs.Operations.{texts, row_of_fields};
-ghost use Rattle.cps_code.specs.FoundForms.{no_sum, registers_alone, constant_in};
+ghost use Rattle.cps_code.specs.Code.Operations.{texts, row_of_fields};
+ghost use Rattle.cps_code.specs.Code.FoundForms.{no_sum, registers_alone, constant_in};
 ghost use Rattle.cps_code.specs.Digits.{AreDigits};
 ghost use Rattle.cps_code.specs.Operand.{IsOperand};
 ghost use Rattle.cps_expr.specs.declared.machine.Machine.TheVariants.{Cp};

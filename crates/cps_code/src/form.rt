@@ -3,7 +3,7 @@ ghost use Rattle.cps_code.specs.Bits.{parcel_bits};
 ghost use Rattle.cps_code.specs.Form.{IsForm, filled};
 ghost use Rattle.cps_code.specs.Operand.{IsOperand};
 ghost use Rattle.cps_expr.specs.declared.machine.Machine.TheVariants.{Cp};
-ghost use Rattle.cps_code.specs.FoundForms.{short_form, long_form, bare_form, count_form};
+ghost use Rattle.cps_code.specs.Code.FoundForms.{short_form, long_form, bare_form, count_form};
 
 use super::filled::Filled;
 use super::filling_holes::fill_holes;

@@ -1,14 +1,14 @@
 ghost use Rattle.std.specs.Prelude.{◌≡◌, ◌<◌, ◌^◌, true, map, option_map, if◌then◌else◌, ◌↔◌, Some, None, false, IfOk, IfSome, IsErrOf, IsSome, IsTrue};
 ghost use Rattle.cps_code.specs.Sum.{Summed};
 ghost use Rattle.cps_code.specs.Digits.{AreDigits};
-ghost use Rattle.cps_code.specs.Terms.{AreRegisters, IsKeptSummed, is_empty, register_list};
+ghost use Rattle.cps_code.specs.Code.Terms.{AreRegisters, IsKeptSummed, is_empty, register_list};
 ghost use Rattle.cps_expr.specs.declared.machine.Machine.TheVariants.{Cp};
 ghost use Rattle.cps_code.specs.Operand.{IsOperand};
 ghost use Rattle.cps_code.specs.RowForms.{operands_in, form_of_rows, form_of};
 ghost use Rattle.cps_code.specs.Table.{is_operation};
-ghost use Rattle.cps_code.specs.Outcome.{Answers};
-ghost use Rattle.cps_code.specs.Operations.{rows_of, row_of_fields};
-ghost use Rattle.cps_code.specs.FoundForms.{sum_rows, sum_form, set_form, jump_form, long_form, bare_form};
+ghost use Rattle.cps_code.specs.Code.Outcome.{Answers};
+ghost use Rattle.cps_code.specs.Code.Operations.{rows_of, row_of_fields};
+ghost use Rattle.cps_code.specs.Code.FoundForms.{sum_rows, sum_form, set_form, jump_form, long_form, bare_form};
 
 use super::fields::form_of_fields;
 use super::form::CpForm;

@@ -2,7 +2,7 @@ ghost use Rattle.std.specs.Prelude.{◌≡◌, ◌<◌, IfSome, option_map};
 ghost use Rattle.cps_code.specs.Digits.{first_digit, AreDigits};
 ghost use Rattle.cps_code.specs.Rows.{named};
 ghost use Rattle.cps_code.specs.Table.{instruction_named, is_operation};
-ghost use Rattle.cps_code.specs.Operations.{first_of, operation_values, named_value};
+ghost use Rattle.cps_code.specs.Code.Operations.{first_of, operation_values, named_value};
 
 use super::digits::{Digits, first_and_rest, read_digits};
 use super::operation_table::operations_with;

@@ -1,7 +1,7 @@
 //! The table of the operations of the central processor, by the first letters of their names.
 ghost use Rattle.std.specs.Prelude.{◌≡◌};
 ghost use Rattle.cps_code.specs.Table.{cp_operations};
-ghost use Rattle.cps_code.specs.Operations.{operation_values, beginning_with};
+ghost use Rattle.cps_code.specs.Code.Operations.{operation_values, beginning_with};
 
 use super::operation::{FieldForm, Forms};
 

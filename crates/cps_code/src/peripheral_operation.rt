@@ -1,7 +1,7 @@
 ghost use Rattle.std.specs.Prelude.{◌≡◌, ◌<◌, bytes_eq, option_map, IfSome};
 ghost use Rattle.cps_text.specs.Text.{capitals};
 ghost use Rattle.cps_code.specs.PeripheralTable.{named, pp_table};
-ghost use Rattle.cps_code.specs.PeripheralRows.{row_values, layout_and_number};
+ghost use Rattle.cps_code.specs.Code.PeripheralRows.{row_values, layout_and_number};
 
 use super::layout::Layout;
 use super::peripheral_table::operations_with;

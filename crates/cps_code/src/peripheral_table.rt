@@ -1,7 +1,7 @@
 //! The table of the operations of a peripheral processor, by the first letters of their names.
 ghost use Rattle.std.specs.Prelude.{◌≡◌};
 ghost use Rattle.cps_code.specs.PeripheralTable.{pp_table};
-ghost use Rattle.cps_code.specs.PeripheralRows.{row_values, beginning_with};
+ghost use Rattle.cps_code.specs.Code.PeripheralRows.{row_values, beginning_with};
 
 use super::layout::Layout;
 

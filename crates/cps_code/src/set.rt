@@ -1,8 +1,8 @@
 ghost use Rattle.std.specs.Prelude.{◌≡◌, ◌<◌, ◌+◌, ◌*◌, [], ◌∷◌, Some, None, false, IfSome, option_map};
 ghost use Rattle.cps_code.specs.declared.hole.Operand.{Operand};
-ghost use Rattle.cps_code.specs.Terms.{IsRegister, AreRegisters, register_list};
+ghost use Rattle.cps_code.specs.Code.Terms.{IsRegister, AreRegisters, register_list};
 ghost use Rattle.cps_code.specs.Digits.{AreDigits};
-ghost use Rattle.cps_code.specs.FoundForms.{set_form, set_form_as_it_stands, long_form, short_form};
+ghost use Rattle.cps_code.specs.Code.FoundForms.{set_form, set_form_as_it_stands, long_form, short_form};
 
 use super::sum::Registers;
 use crate::digits::Digits;

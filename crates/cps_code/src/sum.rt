@@ -1,6 +1,6 @@
 ghost use Rattle.std.specs.Prelude.{◌≡◌, true, false, ◌<◌, [], ◌∷◌, MatchOption, length, ◌++◌, IfSome, IsSomeAnd, MatchBool, is_some, Some};
 ghost use Rattle.cps_code.specs.Sum.{Sum, SumTerm, register, term_with, sum_of};
-ghost use Rattle.cps_code.specs.Terms.{pushed, register_list, IsKept, AreRegisters, IsRegister};
+ghost use Rattle.cps_code.specs.Code.Terms.{pushed, register_list, IsKept, AreRegisters, IsRegister};
 ghost use Rattle.cps_code.specs.Register.{register_of, letter_of};
 ghost use Rattle.cps_expr.specs.Term.{Term, term_of};
 

@@ -5,7 +5,7 @@ ghost use Rattle.cps_expr.specs.declared.machine.Machine.TheVariants.{Cp};
 ghost use Rattle.cps_code.specs.Operand.{IsOperand};
 ghost use Rattle.cps_code.specs.RowForms.{only_sum};
 ghost use Rattle.cps_code.specs.Sum.{Summed, constant_of, of_terms, sum_of};
-ghost use Rattle.cps_code.specs.Terms.{AreRegisters, IsKeptSummed, is_some_list};
+ghost use Rattle.cps_code.specs.Code.Terms.{AreRegisters, IsKeptSummed, is_some_list};
 
 use super::hole::Operand;
 use super::literal::read_literal;

@@ -1,7 +1,7 @@
 ghost use Rattle.std.specs.Prelude.{◌≡◌, ◌+◌, ◌-◌, ◌^◌, ◌<◌, ◌≤◌, [], ◌∷◌, ◌++◌, List, Option, ℕ, OnOk, OnErr, length, if◌then◌else◌, ◌&&◌, nat_le, nat_lt, vec_len};
 ghost use Rattle.cps_code.specs.Image.{piece_of, word_at, packed_word, Deposits, ArePacked};
 ghost use Rattle.cps_code.specs.Image as image;
-ghost use Rattle.cps_code.specs.Slots.{AreWords};
+ghost use Rattle.cps_code.specs.Code.Slots.{AreWords};
 ghost use Rattle.cps_code.specs.Bits.{word_bits, bit_from_left};
 
 use super::piece::Piece;
@@ -17,7 +17,7 @@ pub struct Words {
 
 impl Model for Words {
     ghost use Rattle.std.specs.Prelude.{List, Option, ℕ};
-    ghost use Rattle.cps_code.specs.Slots.{AreWords};
+    ghost use Rattle.cps_code.specs.Code.Slots.{AreWords};
 
     ghost Value = { List (Option ℕ) };
 

@@ -6,7 +6,7 @@ use Rattle.std.proofs.lemmas.List.{map-append, map_push, take_more}
 use Rattle.std.proofs.lemmas.Grind.{flat_map-append}
 use Rattle.cps_code.specs.declared.piece.Piece as code
 use Rattle.cps_code.specs.Image.{piece_of, Piece, ArePacked}
-use Rattle.cps_compare.specs.Reading.{AreMade, IsDeck}
+use Rattle.cps_compare.specs.Code.Reading.{AreMade, IsDeck}
 use Rattle.cps_final.specs.Outcome.{Outcome}
 use Rattle.cps_list.specs.Assembly.{Assembly}
 use Rattle.cps_list.specs.Binary.{pieces_in, pieces_of, pool_pieces}

@@ -7,7 +7,7 @@ use Rattle.std.proofs.lemmas.Bool.{cases_eq, cases_lt}
 use Rattle.std.proofs.lemmas.Bool.Decides.{nat_tests}
 use Rattle.std.proofs.lemmas.Nat.{mul-le}
 use Rattle.cps_compare.specs.Given.{begun, cut_word, joined, with_row, most_words}
-use Rattle.cps_compare.specs.Reading.{with_digit_below}
+use Rattle.cps_compare.specs.Code.Reading.{with_digit_below}
 
 -- ---- digits cut into words, one digit more
 

@@ -4,7 +4,7 @@ use Rattle.std.proofs.Math.Path.{fun_ext}
 use Rattle.std.proofs.lemmas.Bool.{cases_eq}
 use Rattle.std.proofs.lemmas.Bool.Decides.{nat_tests}
 use Rattle.cps_compare.specs.Given.{most_words}
-use Rattle.cps_compare.specs.Reading.{digits_at, with_digit, with_digit_below}
+use Rattle.cps_compare.specs.Code.Reading.{digits_at, with_digit, with_digit_below}
 
 -- a digit is put into a slot
 pub put-digit : (words : List (List ℕ)) (address place digit : ℕ) (word : List ℕ) → address < length words

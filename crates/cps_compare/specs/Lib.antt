@@ -4,6 +4,5 @@ pub mod Makers
 pub mod Differences
 pub mod Told
 pub mod Comparison
-pub mod Reading
-pub mod Shown
 pub mod Octal
+pub mod Code

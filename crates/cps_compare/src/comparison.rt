@@ -3,8 +3,8 @@ ghost use Rattle.std.specs.Prelude.{◌<◌, ◌^◌, IfSome, MatchOption};
 ghost use Rattle.std.specs.Option.{ForSome};
 ghost use Rattle.cps_compare.specs.Comparison.{Compares, sides_of};
 ghost use Rattle.cps_compare.specs.Differences.{GivesNone};
-ghost use Rattle.cps_compare.specs.Reading.{digits_at};
-ghost use Rattle.cps_compare.specs.Shown.{IsSpan};
+ghost use Rattle.cps_compare.specs.Code.Reading.{digits_at};
+ghost use Rattle.cps_compare.specs.Code.Shown.{IsSpan};
 
 use super::compare_fault::CompareFault;
 use super::deck::Deck;

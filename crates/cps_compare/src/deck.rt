@@ -5,7 +5,7 @@ ghost use Rattle.cps_code.specs.Image.{piece_of};
 ghost use Rattle.cps_state.specs.Machines.{limit};
 ghost use Rattle.cps_list.specs.Binary as texts;
 ghost use Rattle.cps_compare.specs.Makers.{signed_by, signed_of};
-ghost use Rattle.cps_compare.specs.Reading.{AddsPieces, IsDeck, PutsOver};
+ghost use Rattle.cps_compare.specs.Code.Reading.{AddsPieces, IsDeck, PutsOver};
 
 use super::maker::Maker;
 use super::makers::Makers;
@@ -25,7 +25,7 @@ pub struct Deck {
 
 impl Deck {
     ghost use Rattle.cps_compare.specs.Makers.{signed_of, signed_by};
-    ghost use Rattle.cps_compare.specs.Reading.{IsDeck, PutsOver};
+    ghost use Rattle.cps_compare.specs.Code.Reading.{IsDeck, PutsOver};
 
     /// Of an assembled source.
     pub fn of<V: View>(alloc: Global, view: &V) -> Result<Deck, AllocError>

@@ -4,7 +4,7 @@ ghost use Rattle.std.specs.List.{position};
 ghost use Rattle.std.specs.Option.{option_map};
 ghost use Rattle.cps_text.specs.Text.{is_filled};
 ghost use Rattle.cps_compare.specs.Told as told;
-ghost use Rattle.cps_compare.specs.Reading.{maker_at};
+ghost use Rattle.cps_compare.specs.Code.Reading.{maker_at};
 
 use super::maker::Maker;
 use super::makers::Makers;

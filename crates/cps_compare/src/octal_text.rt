@@ -5,7 +5,7 @@ ghost use Rattle.std.specs.Option.{option_map_or};
 ghost use Rattle.cps_compare.specs.Rows as rows;
 ghost use Rattle.cps_compare.specs.Given.{given_in};
 ghost use Rattle.cps_compare.specs.Differences.{size_of};
-ghost use Rattle.cps_compare.specs.Reading.{digits_at};
+ghost use Rattle.cps_compare.specs.Code.Reading.{digits_at};
 
 use super::limits::Columns;
 use super::octal_words::OctalWords;

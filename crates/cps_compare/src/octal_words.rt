@@ -3,7 +3,7 @@ ghost use Rattle.std.specs.Prelude.{◌≡◌, ℕ, List, [], ◌∷◌, ◌++�
 ghost use Rattle.cps_compare.specs.Given as spec;
 ghost use Rattle.cps_compare.specs.Given.{with_row};
 ghost use Rattle.cps_compare.specs.Differences.{IsFirst, IsLast, size_of};
-ghost use Rattle.cps_compare.specs.Reading.{digits_at, with_digit, with_digit_below};
+ghost use Rattle.cps_compare.specs.Code.Reading.{digits_at, with_digit, with_digit_below};
 
 use arrayvec::ArrayVec;
 use cps_expr::Machine;

@@ -2,7 +2,7 @@
 ghost use Rattle.std.specs.Prelude.{◌≡◌, ◌∷◌, ◌++◌, ◌<◌, ◌≤◌, ◌+◌, ◌^◌, true, length, IfOk, OnOk, IfSome, ◌&&◌, nat_lt};
 ghost use Rattle.std.specs.List.{position};
 ghost use Rattle.cps_compare.specs.Rows as rows;
-ghost use Rattle.cps_compare.specs.Reading.{parts_left, row_found};
+ghost use Rattle.cps_compare.specs.Code.Reading.{parts_left, row_found};
 
 use super::limits::{Columns, columns_read};
 use std::alloc::AllocError;

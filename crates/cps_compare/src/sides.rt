@@ -23,7 +23,7 @@ pub struct Sides {
 }
 
 impl Sides {
-    ghost use Rattle.cps_compare.specs.Shown.{CountsAt, ForSides, Shows, TellsAll, TellsAt, kept_digit_rows};
+    ghost use Rattle.cps_compare.specs.Code.Shown.{CountsAt, ForSides, Shows, TellsAll, TellsAt, kept_digit_rows};
 
     /// Tells the differences from one address to another.
     pub fn tell_all<V: View>(

@@ -21,7 +21,7 @@ pub struct Telling {
 }
 
 impl Telling {
-    ghost use Rattle.cps_compare.specs.Shown.{Counts};
+    ghost use Rattle.cps_compare.specs.Code.Shown.{Counts};
 
     /// Nothing is told. Takes no memory yet.
     pub fn new(alloc: Global) -> Telling

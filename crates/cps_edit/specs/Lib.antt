@@ -2,7 +2,6 @@ pub mod Exchange
 pub mod ExchangeLaws
 pub mod Numbers
 pub mod Passes
-pub mod PassOne
 pub mod Splice
 pub mod Compares
 pub mod Disturbed
@@ -10,3 +9,4 @@ pub mod Renewed
 pub mod Limits
 pub mod Assembly
 pub mod Flagged
+pub mod Code

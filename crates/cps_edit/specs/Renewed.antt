@@ -1,4 +1,4 @@
--- For the code that makes an edit, not part of what a reader believes: what was made anew beside what is kept.
+-- What was made anew beside what is kept. Our own.
 use Rattle.std.specs.Prelude.{◌≡◌, ℕ, zero, suc, ◌+◌, Bool, List, [], ◌∷◌, length, map, is_some, Option, None, Some, if◌then◌else◌}
 use Rattle.cps_state.specs.Keys.{State}
 use Rattle.cps_state.specs.Course.{Trace}

@@ -3,7 +3,7 @@ ghost use Rattle.std.specs.Prelude.{◌≡◌, [], ◌∷◌, IfOk, IsOk, OnErr,
 ghost use Rattle.cps_state.specs.Work.{raised};
 ghost use Rattle.cps_state.specs.declared.work.Tally.TheVariants.{Ones};
 ghost use Rattle.cps_final.specs.Finals.{Gathers};
-ghost use Rattle.cps_edit.specs.PassOne.{GoesOver, gathered_in};
+ghost use Rattle.cps_edit.specs.Code.PassOne.{GoesOver, gathered_in};
 ghost use Rattle.cps_edit.specs.Compares.{Steps};
 
 use cps_final::{Finals, Gather, Gathered};

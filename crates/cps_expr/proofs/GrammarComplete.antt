@@ -8,7 +8,7 @@ use Rattle.cps_expr.specs.declared.term.Operator.TheVariants.{Times, Over}
 use Rattle.cps_expr.specs.declared.term.Factor.{Factor}
 use Rattle.cps_expr.specs.Term.{Term, is_operator, onto_token, tokens_of, element_of, operator_of, factors_of, term_with, term_of_tokens, term_of}
 use Rattle.cps_expr.specs.Expression.{Expression, is_sign, is_minus, onto_first, cut_at_signs, with_first_sign, terms_of, signed_texts}
-use Rattle.cps_expr.specs.TermsLeft.{sign_of}
+use Rattle.cps_expr.specs.Code.TermsLeft.{sign_of}
 use Rattle.cps_expr.specs.Grammar.{operator_text, WriteFactors, WritesTerm, sign_text, WriteTerms, Writes}
 use Rattle.cps_expr.proofs.ElementTexts.{Plain, ElementText, element-complete}
 use Rattle.cps_expr.proofs.Choices.{chosen_first, chosen_second}

@@ -2,7 +2,7 @@
 use Rattle.std.proofs.Common.{◌≡◌, ℕ, true, false, List, [], ◌∷◌, ◌++◌, Option, None, Some, option_map, refl, sym, ap, ◌∙◌, append_assoc}
 use Rattle.std.specs.Prelude.{is_some}
 use Rattle.cps_expr.specs.OperandList.{with_first, all_some}
-use Rattle.cps_expr.specs.ReadSoFar.{Continues, IsAdded}
+use Rattle.cps_expr.specs.Code.ReadSoFar.{Continues, IsAdded}
 
 pub whole_of_left : {T : Type 0} (kept : Option (List T)) (left whole : Option (List T)) → Continues kept left whole → is_some left ≡ is_some whole
 whole_of_left (Some kept) None whole is = ap is_some is

@@ -5,7 +5,7 @@ use Rattle.cps_expr.specs.declared.radix.Radix.{Radix}
 use Rattle.cps_expr.specs.OperandList.{with_first}
 use Rattle.cps_expr.specs.Term.{Term, term_of}
 use Rattle.cps_expr.specs.Expression.{Expression, is_sign, onto_first, cut_at_signs, with_first_sign, terms_of, signed_texts}
-use Rattle.cps_expr.specs.TermsLeft.{sign_of, terms_left, terms_behind}
+use Rattle.cps_expr.specs.Code.TermsLeft.{sign_of, terms_left, terms_behind}
 use Rattle.cps_expr.proofs.JoinLemmas.{joined, joined-more, readable-more}
 use Rattle.cps_expr.proofs.Choices.{chosen_first, chosen_second}
 

@@ -9,7 +9,7 @@ use Rattle.cps_expr.specs.declared.term.Element.TheVariants.{Number, Symbol, Cou
 use Rattle.cps_expr.specs.Term.{elements, name_in, term_names}
 use Rattle.cps_expr.specs.Expression.{Expression, names_of}
 use Rattle.cps_expr.specs.Value.{Values, has_undefined}
-use Rattle.cps_expr.specs.ValuedSoFar.{is_undefined, term_has_undefined}
+use Rattle.cps_expr.specs.Code.ValuedSoFar.{is_undefined, term_has_undefined}
 
 module _ (values : Values) where
   abbrev lacks : Name → Bool

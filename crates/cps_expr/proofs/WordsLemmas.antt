@@ -4,7 +4,7 @@ use Rattle.std.specs.Prelude.{is_some, option_and_then}
 use Rattle.cps_expr.specs.declared.machine.Machine.{Machine}
 use Rattle.cps_expr.specs.declared.radix.Radix.{Radix}
 use Rattle.cps_expr.specs.Item.{item_of}
-use Rattle.cps_expr.specs.ReadSoFar.{Continues, IsAdded}
+use Rattle.cps_expr.specs.Code.ReadSoFar.{Continues, IsAdded}
 use Rattle.cps_expr.specs.Row.{words_behind, words_up_to}
 
 pub added_word : (kept after : Option (List ℕ)) (word : ℕ) (left whole : Option (List ℕ))

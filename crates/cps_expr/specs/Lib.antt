@@ -7,15 +7,11 @@ pub mod Limits
 pub mod Number
 pub mod OperandList
 pub mod Operation
-pub mod ReadSoFar
 pub mod Reads
 pub mod Row
 pub mod Same
 pub mod Statement
 pub mod Term
-pub mod TermsKept
-pub mod TermsLeft
 pub mod Value
-pub mod ValuedSoFar
 pub mod Word
-pub mod WordsLeft
+pub mod Code

@@ -6,7 +6,7 @@ ghost use Rattle.cps_expr.specs.Constant.{IsConstant};
 ghost use Rattle.cps_expr.specs.Expression.{Expression, expression_of, names_of, has_counter, terms_of, signed_texts};
 ghost use Rattle.cps_expr.specs.Grammar.{Writes};
 ghost use Rattle.cps_expr.specs.Term.{term_of};
-ghost use Rattle.cps_expr.specs.TermsKept.{element_term};
+ghost use Rattle.cps_expr.specs.Code.TermsKept.{element_term};
 ghost use Rattle.cps_expr.specs.Value.{value_in, has_undefined, AgreeOn, IsInRange};
 
 use crate::names::Names;
@@ -50,7 +50,7 @@ pub struct Expr {
 
 impl Model for Expr {
     ghost use Rattle.cps_expr.specs.Expression.{Expression};
-    ghost use Rattle.cps_expr.specs.TermsKept.{terms_in};
+    ghost use Rattle.cps_expr.specs.Code.TermsKept.{terms_in};
 
     ghost Value = { Expression };
 

@@ -1,11 +1,11 @@
 //! Readings of operands. A reading of several goes on to the end where memory is refused, so that its fault is exact.
 ghost use Rattle.std.specs.Prelude.{[], List, Option, option_map};
 ghost use Rattle.cps_text.specs.Operands.{operands_of};
-ghost use Rattle.cps_text.specs.OperandsLeft.{operands_left};
+ghost use Rattle.cps_text.specs.Code.OperandsLeft.{operands_left};
 ghost use Rattle.cps_expr.specs.Expression.{expression_of};
 ghost use Rattle.cps_expr.specs.OperandList.{paired, all_some, one_or_more, only_one, at_most_one};
 ghost use Rattle.cps_expr.specs.Reads.{Reads};
-ghost use Rattle.cps_expr.specs.ReadSoFar.{Continues, IsAdded};
+ghost use Rattle.cps_expr.specs.Code.ReadSoFar.{Continues, IsAdded};
 
 use crate::expr::{Expr, ExprFault};
 use crate::radix::Radix;

@@ -4,7 +4,7 @@ ghost use Rattle.cps_expr.specs.declared.radix.Radix.{Radix};
 ghost use Rattle.cps_expr.specs.OperandList.{with_first};
 ghost use Rattle.cps_expr.specs.Expression.{is_sign, with_first_sign};
 ghost use Rattle.cps_expr.specs.Term.{term_of};
-ghost use Rattle.cps_expr.specs.TermsLeft.{sign_of, terms_left, terms_behind};
+ghost use Rattle.cps_expr.specs.Code.TermsLeft.{sign_of, terms_left, terms_behind};
 
 /// Whether a text begins with `-`, and what follows its sign; `+` where it begins with none.
 pub fn leading_sign(text: &[u8]) -> (bool, &[u8])

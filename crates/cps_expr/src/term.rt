@@ -3,9 +3,9 @@ ghost use Rattle.std.specs.Prelude.{◌≡◌, [], ◌++◌, ◌∷◌, ◌||◌
 ghost use Rattle.std.specs.List.{list_any};
 ghost use Rattle.cps_expr.specs.Expression.{names_of, has_counter};
 ghost use Rattle.cps_expr.specs.Term.{name_in, is_counter, term_names, term_has_counter};
-ghost use Rattle.cps_expr.specs.TermsKept.{element_term};
+ghost use Rattle.cps_expr.specs.Code.TermsKept.{element_term};
 ghost use Rattle.cps_expr.specs.Value.{IsInRange, element_value, multiplied, added, both, term_value, value_in, has_undefined, limited, plain};
-ghost use Rattle.cps_expr.specs.ValuedSoFar.{is_undefined, term_has_undefined};
+ghost use Rattle.cps_expr.specs.Code.ValuedSoFar.{is_undefined, term_has_undefined};
 ghost use Rattle.cps_expr.specs.Constant.{IsConstant};
 
 use crate::expr::Valued;

@@ -2,7 +2,7 @@
 ghost use Rattle.std.specs.Prelude.{◌≡◌, ◌++◌, [], ◌∷◌, IfOk, IfSome, OnOk, OnErr};
 ghost use Rattle.cps_expr.specs.Constant.{IsConstant};
 ghost use Rattle.cps_expr.specs.Expression.{names_of, has_counter};
-ghost use Rattle.cps_expr.specs.TermsKept.{element_term, terms_in};
+ghost use Rattle.cps_expr.specs.Code.TermsKept.{element_term, terms_in};
 ghost use Rattle.cps_expr.specs.Value.{value_in, has_undefined, IsInRange};
 
 use crate::expr::Valued;

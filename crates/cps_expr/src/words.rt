@@ -2,7 +2,7 @@
 ghost use Rattle.std.specs.Prelude.{◌≡◌, ◌<◌, ℕ, List, Option, IfSome, length};
 ghost use Rattle.cps_expr.specs.Reads.{Reads};
 ghost use Rattle.cps_expr.specs.Row.{words_behind, words_of};
-ghost use Rattle.cps_expr.specs.WordsLeft.{words_left};
+ghost use Rattle.cps_expr.specs.Code.WordsLeft.{words_left};
 
 use crate::expr::ExprFault;
 use crate::item::read_item;

@@ -22,8 +22,8 @@ use Rattle.cps_state.specs.declared.key.Key.TheVariants as key
 use Rattle.cps_state.specs.Keys.{same_block, same_key, place_of}
 use Rattle.cps_final.specs.Layout.{Layout, words_before, named_by, names_put}
 use Rattle.cps_final.specs.Finals.{words_of_first}
-use Rattle.cps_final.specs.Gathering.{size_kept, layout_kept, grown, grown_by, grown_to}
-use Rattle.cps_final.specs.Storage.{AreSameNamed}
+use Rattle.cps_final.specs.Code.Gathering.{size_kept, layout_kept, grown, grown_by, grown_to}
+use Rattle.cps_final.specs.Code.Storage.{AreSameNamed}
 
 pub same_name-laws : IsEquivalence same_name
 same_name-laws = record {

@@ -12,13 +12,13 @@ use Rattle.cps_state.specs.declared.key.Key.{Key}
 use Rattle.cps_state.specs.declared.key.Answer.{Answer}
 use Rattle.cps_state.specs.contracts.key.KeyEq.TheImpl.Laws.{laws-law}
 use Rattle.cps_state.specs.declared.state.State.{State as KeptState}
-use Rattle.cps_state.specs.Exchange.{with_answer}
-use Rattle.cps_state.specs.KeptAnswers.{answers_in}
+use Rattle.cps_state.specs.Code.Exchange.{with_answer}
+use Rattle.cps_state.specs.Code.KeptAnswers.{answers_in}
 use Rattle.cps_state.specs.Keys.{State, same_key}
 use Rattle.cps_state.proofs.KnownLemmas.{same_key_is, same_key-true}
 use Rattle.cps_final.specs.declared.changes.Changes.{Changes as KeptChanges}
 use Rattle.cps_final.specs.Changes.{Changed, changed, with_change}
-use Rattle.cps_final.specs.Kept.{changes_in, count_of, keys_in}
+use Rattle.cps_final.specs.Code.Kept.{changes_in, count_of, keys_in}
 use Rattle.cps_final.proofs.KeptLemmas.{eq, has-key}
 
 -- what stands in a state

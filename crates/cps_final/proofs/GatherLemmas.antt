@@ -17,8 +17,8 @@ use Rattle.cps_final.specs.Distinct.{distinct}
 use Rattle.cps_final.specs.Layout.{Layout, puts_of, words_put, size_in, named_by, names_put, named_blocks, layout_of}
 use Rattle.cps_final.specs.Pool.{literals_in, pool_of}
 use Rattle.cps_final.specs.Finals.{Finals, first_program, program_of, finals_of}
-use Rattle.cps_final.specs.Gathering.{grown, grown_by}
-use Rattle.cps_final.specs.Storage.{HasGathered}
+use Rattle.cps_final.specs.Code.Gathering.{grown, grown_by}
+use Rattle.cps_final.specs.Code.Storage.{HasGathered}
 use Rattle.cps_final.proofs.BlockLemmas.{same_name-laws}
 
 -- ---- distinct elements

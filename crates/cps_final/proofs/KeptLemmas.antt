@@ -14,12 +14,12 @@ use Rattle.cps_state.specs.declared.key.Put.{Put}
 use Rattle.cps_state.specs.contracts.key.KeyEq.TheImpl.Laws.{laws-law}
 use Rattle.cps_state.specs.contracts.key.KeyPartialEq.TheImpl.{eq-value}
 use Rattle.cps_state.specs.Course.{last_put}
-use Rattle.cps_state.specs.Exchange.{with_answer, MayStand}
+use Rattle.cps_state.specs.Code.Exchange.{with_answer, MayStand}
 use Rattle.cps_state.specs.Keys.{State, same_key}
-use Rattle.cps_state.specs.KeptAnswers.{is_other, answers_in}
+use Rattle.cps_state.specs.Code.KeptAnswers.{is_other, answers_in}
 use Rattle.cps_state.proofs.KnownLemmas.{same_key_is, same_key-true}
 use Rattle.cps_final.specs.Changes.{Changed, changed, with_change, without, settled}
-use Rattle.cps_final.specs.Kept.{MayStandIn}
+use Rattle.cps_final.specs.Code.Kept.{MayStandIn}
 
 abbrev pub eq : Key → Key → Bool
 eq = eq-value.it

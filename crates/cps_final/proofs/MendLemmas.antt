@@ -3,8 +3,8 @@ use Rattle.std.proofs.Common.{◌≡◌, Option, None, Some, refl, sym, ap, ◌�
 use Rattle.cps_state.specs.Keys.{State, first_state}
 use Rattle.cps_final.specs.declared.storage.Storage.{Storage}
 use Rattle.cps_final.specs.Finals.{Finals}
-use Rattle.cps_final.specs.Storage.{stored}
-use Rattle.cps_final.specs.Mend.{with_storage}
+use Rattle.cps_final.specs.Code.Storage.{stored}
+use Rattle.cps_final.specs.Code.Mend.{with_storage}
 use Rattle.cps_final.proofs.GatherLemmas.{same-but-state}
 
 -- other blocks and literals, and another state

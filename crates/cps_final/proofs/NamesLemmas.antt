@@ -23,7 +23,7 @@ use Rattle.cps_final.proofs.GatherLemmas.{distinct-append}
 use Rattle.cps_final.proofs.NamingLemmas.{flat-all}
 use Rattle.cps_final.proofs.DecideLemmas.{name-decides, option-decides}
 use Rattle.cps_final.specs.Names.{statements_of, NamesLaw, labels_named, all_blocks_named, literals_named}
-use Rattle.cps_final.specs.NamesGathering.{label_of}
+use Rattle.cps_final.specs.Code.NamesGathering.{label_of}
 
 -- ---- a test of each once
 

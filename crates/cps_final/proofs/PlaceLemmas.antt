@@ -8,7 +8,7 @@ use Rattle.cps_expr.specs.declared.value.Value.{Value}
 use Rattle.cps_expr.specs.Value.{same_name, plain, limited}
 use Rattle.cps_final.specs.Layout.{Layout}
 use Rattle.cps_final.specs.Finals.{Finals, words_of_first, final_value, block}
-use Rattle.cps_final.specs.Storage.{AreSameNamed, PlacesStand}
+use Rattle.cps_final.specs.Code.Storage.{AreSameNamed, PlacesStand}
 
 -- the address of a named block, of those in a list
 block_among : Layout → List ℕ → Name → List Name → Option Value

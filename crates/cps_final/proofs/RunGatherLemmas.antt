@@ -13,7 +13,7 @@ use Rattle.cps_state.proofs.KnownLemmas.{same_key_is, same_key-true, known_in-pu
 use Rattle.cps_final.specs.Run.{Run, with_ask, with_asks, joined}
 use Rattle.std.specs.HashSet.{contains}
 use Rattle.cps_final.specs.declared.outside.OutsideAsks.{OutsideAsks}
-use Rattle.cps_final.specs.RunGathering.{IsOutside}
+use Rattle.cps_final.specs.Code.RunGathering.{IsOutside}
 
 -- one key more
 abbrev pub HasMore : (Key → Bool) → Key → (Key → Bool) → Type 0

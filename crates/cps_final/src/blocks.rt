@@ -7,8 +7,8 @@ ghost use Rattle.cps_expr.specs.Value.{same_name};
 ghost use Rattle.cps_state.specs.Machines.{limit};
 ghost use Rattle.cps_final.specs.Layout.{layout_of, named_by, names_put, words_before};
 ghost use Rattle.cps_final.specs.Finals.{words_of_first};
-ghost use Rattle.cps_final.specs.Gathering.{layout_kept, grown, grown_by, grown_to};
-ghost use Rattle.cps_final.specs.Storage.{AreSameNamed};
+ghost use Rattle.cps_final.specs.Code.Gathering.{layout_kept, grown, grown_by, grown_to};
+ghost use Rattle.cps_final.specs.Code.Storage.{AreSameNamed};
 ghost use Rattle.indexmap.specs.IndexMap.{spare, keys};
 
 use cps_code::Place;

@@ -2,10 +2,10 @@
 ghost use Rattle.std.specs.Prelude.{◌≡◌, ◌↔◌, ◌^◌, ◌+◌, ◌<◌, ◌≤◌, IsTrue, OnOk, OnErr, Some as Just, is_some, true, slice_get};
 ghost use Rattle.std.specs.Option.{option_copied};
 ghost use Rattle.cps_state.specs.declared.key.Key.{Key as AKey};
-ghost use Rattle.cps_state.specs.Exchange.{room_of};
+ghost use Rattle.cps_state.specs.Code.Exchange.{room_of};
 ghost use Rattle.cps_state.specs.Keys.{State as AState, overwritten};
 ghost use Rattle.cps_final.specs.Changes.{no_change, changed, with_change, without, settled};
-ghost use Rattle.cps_final.specs.Kept.{changes_in, count_of, keys_in, HasSameKeys, MayStandIn, taken_over};
+ghost use Rattle.cps_final.specs.Code.Kept.{changes_in, count_of, keys_in, HasSameKeys, MayStandIn, taken_over};
 
 use cps_state::{Answer, Hashing, Key, Lookup, Put, State};
 use indexmap::IndexMap;

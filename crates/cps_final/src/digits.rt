@@ -25,7 +25,7 @@ enum KeptCode {
 impl Model for Code {
     ghost use Rattle.std.specs.Prelude.{Option};
     ghost use Rattle.cps_final.specs.declared.digits.Digits.{Digits};
-    ghost use Rattle.cps_final.specs.DigitsKept.{code_in};
+    ghost use Rattle.cps_final.specs.Code.DigitsKept.{code_in};
 
     ghost Value = { Option Digits };
 
@@ -80,7 +80,7 @@ enum KeptShortCode {
 impl Model for ShortCode {
     ghost use Rattle.std.specs.Prelude.{Option};
     ghost use Rattle.cps_final.specs.declared.digits.Digits.{Digits};
-    ghost use Rattle.cps_final.specs.DigitsKept.{short_code_in};
+    ghost use Rattle.cps_final.specs.Code.DigitsKept.{short_code_in};
 
     ghost Value = { Option Digits };
 

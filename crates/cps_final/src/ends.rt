@@ -4,9 +4,9 @@ ghost use Rattle.std.specs.Option.{option_eq};
 ghost use Rattle.cps_state.specs.Work.{raised};
 ghost use Rattle.cps_state.specs.declared.work.Tally.TheVariants.{Looked};
 ghost use Rattle.cps_final.specs.Outcome.{AgreeOnNamed, outcome_of};
-ghost use Rattle.cps_final.specs.FormerFinals.{values_before};
+ghost use Rattle.cps_final.specs.Code.FormerFinals.{values_before};
 ghost use Rattle.cps_final.specs.Agreeing.{same_named, same_value};
-ghost use Rattle.cps_final.specs.Ends.{was_of, now_of};
+ghost use Rattle.cps_final.specs.Code.Ends.{was_of, now_of};
 
 use crate::finals::Finals;
 use crate::former_finals::FormerFinals;
@@ -25,7 +25,7 @@ pub struct Ends<'a> {
 
 impl<'a> Naming for Ends<'a> {
     ghost use Rattle.cps_final.specs.Agreeing.{same_at};
-    ghost use Rattle.cps_final.specs.Ends.{was_of, now_of};
+    ghost use Rattle.cps_final.specs.Code.Ends.{was_of, now_of};
 
     ghost passes = { λ ends. same_at (was_of ends) (now_of ends) };
 

@@ -1,13 +1,13 @@
 //! Final values.
 ghost use Rattle.std.specs.Prelude.{◌≡◌, ◌+◌, ◌<◌, ◌≤◌, ◌^◌, [], nat_le, OnOk, OnErr, IfSome};
 ghost use Rattle.cps_expr.specs.Value.{IsInRange};
-ghost use Rattle.cps_state.specs.Exchange.{room_of};
+ghost use Rattle.cps_state.specs.Code.Exchange.{room_of};
 ghost use Rattle.cps_state.specs.Machines.{limit};
-ghost use Rattle.cps_final.specs.Kept.{changes_in, count_of, MayStandIn};
+ghost use Rattle.cps_final.specs.Code.Kept.{changes_in, count_of, MayStandIn};
 ghost use Rattle.cps_final.specs.Finals.{Gathers, machine_of, is_open_at_end, final_value, label, setting, block as block_named, literal, address_of};
 ghost use Rattle.cps_final.specs.Addresses.{address_in, final_of};
-ghost use Rattle.cps_final.specs.Mend.{mended};
-ghost use Rattle.cps_final.specs.Storage.{HasGathered, stored};
+ghost use Rattle.cps_final.specs.Code.Mend.{mended};
+ghost use Rattle.cps_final.specs.Code.Storage.{HasGathered, stored};
 
 use crate::mend::Mend;
 use crate::storage::{Storage, magnitude};
@@ -34,7 +34,7 @@ pub trait Gathered {
 }
 
 impl Gathered for Finals {
-    ghost use Rattle.cps_final.specs.Storage.{HasGathered, stored};
+    ghost use Rattle.cps_final.specs.Code.Storage.{HasGathered, stored};
 
     ghost gathered = { λ finals. record (stored finals.storage) { state = ⟦<State as Lookup>⟧.answer finals.state } };
 }

@@ -1,9 +1,9 @@
 //! Final values as they were before a mend.
 ghost use Rattle.std.specs.Prelude.{◌≡◌};
 ghost use Rattle.cps_state.specs.Keys.{first_state, labels_of};
-ghost use Rattle.cps_final.specs.FormerFinals.{finals_before, values_before};
+ghost use Rattle.cps_final.specs.Code.FormerFinals.{finals_before, values_before};
 ghost use Rattle.cps_final.specs.Finals.{label, block as block_named, literal};
-ghost use Rattle.cps_final.specs.Storage.{stored};
+ghost use Rattle.cps_final.specs.Code.Storage.{stored};
 
 use crate::finals::Finals;
 use crate::mend::Mend;

@@ -19,7 +19,7 @@ enum KeptItems<T> {
 
 impl<T> Model for KeptList<T> {
     ghost use Rattle.std.specs.Prelude.{List};
-    ghost use Rattle.cps_final.specs.ItemsKept.{items_in};
+    ghost use Rattle.cps_final.specs.Code.ItemsKept.{items_in};
 
     ghost Value = { List T };
 

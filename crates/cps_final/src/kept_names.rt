@@ -23,7 +23,7 @@ enum Kept {
 impl Model for KeptNames {
     ghost use Rattle.std.specs.Prelude.{List};
     ghost use Rattle.cps_text.specs.declared.name.Name.{Name};
-    ghost use Rattle.cps_final.specs.NamesKept.{names_in};
+    ghost use Rattle.cps_final.specs.Code.NamesKept.{names_in};
 
     ghost Value = { List Name };
 

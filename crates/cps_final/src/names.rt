@@ -8,7 +8,7 @@ ghost use Rattle.cps_state.specs.Made.{content_names};
 ghost use Rattle.cps_final.specs.Finals.{label, block as block_named, literal};
 ghost use Rattle.cps_final.specs.Outcome.{labels_read, blocks_named, blocks_shown, blocks_stood};
 ghost use Rattle.cps_final.specs.Names.{statements_of, names_in, labels_named, all_blocks_named, literals_named, all_pass};
-ghost use Rattle.cps_final.specs.NamesGathering.{label_of};
+ghost use Rattle.cps_final.specs.Code.NamesGathering.{label_of};
 ghost use Rattle.indexmap.specs.IndexSet.{insert_all, insert_key};
 
 use crate::literals::list_literals;

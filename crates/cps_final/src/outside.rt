@@ -1,7 +1,7 @@
 //! What a run of lines asks of the state in front of it.
 ghost use Rattle.std.specs.Prelude.{◌≡◌, ◌++◌, OnOk, IfOk};
 ghost use Rattle.cps_final.specs.Run.{Run, empty_run, with_ask, with_asks, joined, run_of};
-ghost use Rattle.cps_final.specs.RunGathering.{IsOutside};
+ghost use Rattle.cps_final.specs.Code.RunGathering.{IsOutside};
 
 use cps_state::{Asked, Hashing, Key, Put, Trace};
 use std::alloc::{AllocError, Global};

@@ -1,7 +1,7 @@
 //! What is kept of a run of lines, so that it is gone through as one line is.
 ghost use Rattle.std.specs.Prelude.{◌≡◌, IfOk};
 ghost use Rattle.cps_final.specs.Holds.{holds};
-ghost use Rattle.cps_final.specs.RunGathering.{kept_run};
+ghost use Rattle.cps_final.specs.Code.RunGathering.{kept_run};
 
 use crate::holding::asks_hold;
 use crate::outside::outside_asks;
@@ -16,7 +16,7 @@ pub struct Run {
 }
 
 impl Model for Run {
-    ghost use Rattle.cps_final.specs.RunGathering.{KeptRun};
+    ghost use Rattle.cps_final.specs.Code.RunGathering.{KeptRun};
 
     ghost Value = { KeptRun };
 

@@ -3,10 +3,10 @@ ghost use Rattle.std.specs.Prelude.{◌≡◌, ◌+◌, ◌<◌, ◌≤◌, ◌^
 ghost use Rattle.std.specs.Option.{option_or};
 ghost use Rattle.cps_expr.specs.Value.{plain, limited, IsInRange};
 ghost use Rattle.cps_final.specs.Finals.{first_program, words_to_named, base_of, final_value, block as block_named, literal};
-ghost use Rattle.cps_final.specs.Gathering.{grown_by, layout_kept};
+ghost use Rattle.cps_final.specs.Code.Gathering.{grown_by, layout_kept};
 ghost use Rattle.cps_final.specs.Addresses.{base_in, final_of};
 ghost use Rattle.cps_final.specs.Pool.{literals_among};
-ghost use Rattle.cps_final.specs.Storage.{stored, IsStored, StoresMore, HasRoom, PlacesStand};
+ghost use Rattle.cps_final.specs.Code.Storage.{stored, IsStored, StoresMore, HasRoom, PlacesStand};
 ghost use Rattle.indexmap.specs.IndexSet.{insert_all, insert_key, spare};
 
 use crate::blocks::Blocks;

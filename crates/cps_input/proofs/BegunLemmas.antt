@@ -6,7 +6,7 @@ use Rattle.std.proofs.lemmas.List.{take_all, drop_all, take-append-le, drop-appe
 use Rattle.std.proofs.lemmas.Bool.Decides.{nat_tests}
 use Rattle.cps_input.specs.declared.begun_line.BegunLine.{BegunLine}
 use Rattle.cps_input.specs.declared.begun_line.Past.TheVariants.{Nothing, Return, More}
-use Rattle.cps_input.specs.BegunLine.{past_of, more_past, IsBegun}
+use Rattle.cps_input.specs.Code.BegunLine.{past_of, more_past, IsBegun}
 use Rattle.cps_input.specs.Lines.{without_return}
 
 pub of-ok : {T E P : Type 0} (result : Result T E) → is_ok result ≡ true → OnOk result P → P

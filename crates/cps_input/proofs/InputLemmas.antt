@@ -11,8 +11,8 @@ use Rattle.cps_input.specs.declared.input.Input.{Input}
 use Rattle.cps_text.specs.declared.limits.TheConstants.{MOST_LINES}
 use Rattle.cps_input.specs.Sources.{IsSource, IsWrong, IsFirstWrong, IsReadWhole, Refuses, ReadsLines}
 use Rattle.cps_input.specs.Reads.{IsAllRead}
-use Rattle.cps_input.specs.BegunLine.{IsBegun}
-use Rattle.cps_input.specs.Input.{IsIntake, HasCome}
+use Rattle.cps_input.specs.Code.BegunLine.{IsBegun}
+use Rattle.cps_input.specs.Code.Input.{IsIntake, HasCome}
 use Rattle.cps_input.specs.Lines.{HasText, Splits, has_no_newline, newline, without_return, last_line, lines_of}
 use Rattle.cps_input.proofs.SplitLemmas.{splits-none, splits-line, splits-piece}
 

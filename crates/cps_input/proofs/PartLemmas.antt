@@ -3,7 +3,7 @@ use Rattle.std.proofs.Common.{◌≡◌, ℕ, zero, suc, ◌-◌, ◌<◌, ◌�
 use Rattle.std.proofs.lemmas.List.{take_all, drop_all, drop-append-le, take-append-le}
 use Rattle.std.specs.Prelude.{slice_get, unwrap_or}
 use Rattle.std.proofs.lemmas.Option.{slice_get-get_or}
-use Rattle.cps_input.specs.Parts.{parts_at, RisesTo}
+use Rattle.cps_input.specs.Code.Parts.{parts_at, RisesTo}
 
 pub rises-within : (begin size : ℕ) (ends : List ℕ) → RisesTo begin ends size → begin ≤ size
 rises-within begin size [] rises = omega (arith, rises)

@@ -1,11 +1,9 @@
-pub mod Parts
 pub mod Lines
 pub mod Reads
-pub mod BegunLine
 pub mod Sources
-pub mod Input
 pub mod Card
 pub mod Faults
 pub mod Hex
 pub mod Shown
 pub mod Words
+pub mod Code

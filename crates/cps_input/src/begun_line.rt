@@ -1,7 +1,7 @@
 //! A line of a source or of a script, as its bytes come.
 ghost use Rattle.std.specs.Prelude.{◌≡◌, ℕ, List, [], ◌∷◌, ◌++◌, ◌<◌, length, MatchOption, IsTrue, ◌↔◌};
 ghost use Rattle.cps_input.specs.Lines.{without_return};
-ghost use Rattle.cps_input.specs.BegunLine.{IsBegun, more_past};
+ghost use Rattle.cps_input.specs.Code.BegunLine.{IsBegun, more_past};
 
 use super::line_end::without_return;
 use arrayvec::ArrayVec;

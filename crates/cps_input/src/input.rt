@@ -1,8 +1,8 @@
 //! A source, as its bytes come.
 ghost use Rattle.std.specs.Prelude.{◌≡◌, ℕ, List, [], ◌∷◌, ◌++◌, true, MatchResult};
 ghost use Rattle.cps_input.specs.Sources.{IsSource, Refuses};
-ghost use Rattle.cps_input.specs.BegunLine.{IsBegun};
-ghost use Rattle.cps_input.specs.Input.{HasCome};
+ghost use Rattle.cps_input.specs.Code.BegunLine.{IsBegun};
+ghost use Rattle.cps_input.specs.Code.Input.{HasCome};
 ghost use Rattle.cps_input.specs.Lines.{HasText, has_no_newline, newline};
 
 use super::begun_line::{BegunLine, kept_text};
@@ -82,7 +82,7 @@ impl Input {
 }
 
 impl Taker for Input {
-    ghost use Rattle.cps_input.specs.Input.{HasCome};
+    ghost use Rattle.cps_input.specs.Code.Input.{HasCome};
 
     ghost has_come = { λ input taken. HasCome input taken };
 

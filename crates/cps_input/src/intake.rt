@@ -2,7 +2,7 @@
 ghost use Rattle.std.specs.Prelude.{◌≡◌, ℕ, List, [], ◌∷◌, ◌++◌, ◌+◌, ◌≤◌, length, MatchOption, MatchResult};
 ghost use Rattle.cps_text.specs.Line.{IsLine};
 ghost use Rattle.cps_input.specs.Sources.{IsSource, IsWrong, Refuses};
-ghost use Rattle.cps_input.specs.Input.{IsGiven, IsIntake};
+ghost use Rattle.cps_input.specs.Code.Input.{IsGiven, IsIntake};
 
 use super::input_fault::InputFault;
 use super::line_text::LineText;

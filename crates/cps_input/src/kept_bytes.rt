@@ -1,6 +1,6 @@
 //! The bytes of an input, as they come.
 ghost use Rattle.std.specs.Prelude.{◌≡◌, ℕ, List, [], ◌++◌, IfOk, IfErr};
-ghost use Rattle.cps_input.specs.Input.{HasBytes};
+ghost use Rattle.cps_input.specs.Code.Input.{HasBytes};
 
 use super::input_fault::InputFault;
 use super::taker::Taker;
@@ -47,7 +47,7 @@ impl KeptBytes {
 }
 
 impl Taker for KeptBytes {
-    ghost use Rattle.cps_input.specs.Input.{HasBytes};
+    ghost use Rattle.cps_input.specs.Code.Input.{HasBytes};
 
     ghost has_come = { λ bytes taken. HasBytes bytes taken };
 

@@ -15,7 +15,7 @@ pub struct LineText {
 
 impl Model for LineText {
     ghost use Rattle.std.specs.Prelude.{ℕ, List, length};
-    ghost use Rattle.cps_input.specs.Parts.{parts_at, RisesTo};
+    ghost use Rattle.cps_input.specs.Code.Parts.{parts_at, RisesTo};
 
     ghost Value = { List (List ℕ) };
 

@@ -1,6 +1,6 @@
 //! Parts that stand one behind another in one list, by where each ends.
 ghost use Rattle.std.specs.Prelude.{◌≡◌, ◌<◌, Some, length, slice_get};
-ghost use Rattle.cps_input.specs.Parts.{RisesTo, parts_at};
+ghost use Rattle.cps_input.specs.Code.Parts.{RisesTo, parts_at};
 
 /// The part behind so many others. An end says how many items stand before it.
 pub fn part_at<'a, T>(items: &'a [T], ends: &[usize], before: usize) -> &'a [T]

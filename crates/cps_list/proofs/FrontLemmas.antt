@@ -7,7 +7,7 @@ use Rattle.std.proofs.Math.ListN.{drop_of_length-le}
 use Rattle.std.specs.Prelude.{if◌then◌else◌}
 use Rattle.cps_list.specs.Columns.{Column, at_left, at_right, blanks, laid_out, with_column}
 use Rattle.cps_state.specs.Flags.{letter, letters}
-use Rattle.cps_list.specs.Front.{IsFront, IsNarrow, front_columns, with_text}
+use Rattle.cps_list.specs.Code.Front.{IsFront, IsNarrow, front_columns, with_text}
 use Rattle.cps_list.specs.Listing.{address_text, code_text, number_text, row_columns, second_text, text_shown, trimmed}
 use Rattle.cps_final.specs.declared.row.Row.{Row}
 use Rattle.cps_list.proofs.TextLemmas.{trimmed-blanks}

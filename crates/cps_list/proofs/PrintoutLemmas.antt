@@ -16,7 +16,7 @@ use Rattle.cps_list.specs.ListingText.{listing_from, line_rows, open_row}
 use Rattle.cps_list.specs.Binary.{pieces_in, first_row, rows_below, pool_pieces}
 use Rattle.cps_list.specs.Symbols.{mentions_from, mentions_on, symbol_rows}
 use Rattle.cps_list.specs.Flagged.{flag_rows_from, flag_row, flagged_in, flagged_with, count_if, end_row, count_row}
-use Rattle.cps_list.specs.Making.{Adds, Printout, IsPrintoutOf, shown, shows_listing, shows_binary, shows_symbols, shows_flags}
+use Rattle.cps_list.specs.Code.Making.{Adds, Printout, IsPrintoutOf, shown, shows_listing, shows_binary, shows_symbols, shows_flags}
 use Rattle.cps_list.specs.Texts.{text_of}
 
 pub shown-more : {T : Type 0} (is_shown : Bool) (xs ys : List T) → shown is_shown xs ++ shown is_shown ys ≡ shown is_shown (xs ++ ys)

@@ -4,7 +4,7 @@ use Rattle.std.specs.Prelude.{slice_get, Some}
 use Rattle.std.proofs.lemmas.Option.{same_Some}
 use Rattle.cps_final.specs.Outcome.{Outcome}
 use Rattle.cps_list.specs.declared.mention.Mention.{Mention}
-use Rattle.cps_list.specs.Making.{Printout, IsPrintoutOf}
+use Rattle.cps_list.specs.Code.Making.{Printout, IsPrintoutOf}
 use Rattle.cps_list.specs.Symbols.{mentions_from, mentions_on}
 
 -- the element at a place, with those after it and those before

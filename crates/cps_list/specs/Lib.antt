@@ -1,11 +1,10 @@
 pub mod Writing
 pub mod Columns
 pub mod Listing
-pub mod Front
 pub mod Assembly
 pub mod ListingText
 pub mod Binary
-pub mod Making
 pub mod Symbols
 pub mod Flagged
 pub mod Texts
+pub mod Code

@@ -7,7 +7,7 @@ ghost use Rattle.cps_code.specs.Image.{piece_of, ArePacked};
 ghost use Rattle.cps_state.specs.Machines.{limit};
 ghost use Rattle.cps_final.specs.Finals.{final_value, literal, machine_of};
 ghost use Rattle.cps_final.specs.Values.{address_of};
-ghost use Rattle.cps_list.specs.Making.{Adds};
+ghost use Rattle.cps_list.specs.Code.Making.{Adds};
 ghost use Rattle.cps_list.specs.Binary as texts;
 
 use cps_code::{Piece, Words};

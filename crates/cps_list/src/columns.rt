@@ -1,7 +1,7 @@
 //! Rows of columns.
 ghost use Rattle.std.specs.Prelude.{◌≡◌, ◌++◌, ◌≤◌, OnOk, length, decimal};
 ghost use Rattle.cps_list.specs.Columns as laid;
-ghost use Rattle.cps_list.specs.Front.{RowBecomes};
+ghost use Rattle.cps_list.specs.Code.Front.{RowBecomes};
 
 use itoa::Buffer;
 use std::alloc::AllocError;

@@ -3,7 +3,7 @@ ghost use Rattle.std.specs.Prelude.{◌≡◌, ◌+◌, ◌≤◌, ℕ, List, le
 ghost use Rattle.cps_text.specs.Octal.{octal};
 ghost use Rattle.cps_state.specs.Flags.{letters};
 ghost use Rattle.cps_list.specs.Columns.{at_right, laid_out};
-ghost use Rattle.cps_list.specs.Front.{IsFront, IsNarrow, front_columns, with_text};
+ghost use Rattle.cps_list.specs.Code.Front.{IsFront, IsNarrow, front_columns, with_text};
 ghost use Rattle.cps_list.specs.Listing as texts;
 
 use crate::columns::{

@@ -1,7 +1,7 @@
 //! The listing.
 ghost use Rattle.std.specs.Prelude.{◌≡◌, ◌++◌, ◌+◌, ◌≤◌, ℕ, List, IsTrue, OnOk, true, length, take};
 ghost use Rattle.cps_list.specs.Columns.{with_columns, at_right, laid_out};
-ghost use Rattle.cps_list.specs.Front.{HasFront, HasRow, IsNarrow, RowBecomes, front_columns, with_text};
+ghost use Rattle.cps_list.specs.Code.Front.{HasFront, HasRow, IsNarrow, RowBecomes, front_columns, with_text};
 ghost use Rattle.cps_list.specs.Listing as texts;
 
 use crate::columns::{

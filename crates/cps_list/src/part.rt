@@ -1,6 +1,6 @@
 //! The four texts of an assembled source, and all of them.
 ghost use Rattle.std.specs.Prelude.{◌≡◌, ◌<◌, ◌^◌, IfOk};
-ghost use Rattle.cps_list.specs.Making.{IsPrintoutOf, shown, shows_listing, shows_binary, shows_symbols, shows_flags};
+ghost use Rattle.cps_list.specs.Code.Making.{IsPrintoutOf, shown, shows_listing, shows_binary, shows_symbols, shows_flags};
 ghost use Rattle.cps_list.specs.Symbols.{mentions_from};
 ghost use Rattle.cps_list.specs.Texts.{text_of};
 ghost use Rattle.cps_list.specs.Writing.{Writes};

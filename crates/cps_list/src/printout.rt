@@ -8,7 +8,7 @@ ghost use Rattle.cps_final.specs.Outcome.{Outcome};
 ghost use Rattle.cps_list.specs.Binary.{first_row, rows_below, pool_pieces};
 ghost use Rattle.cps_list.specs.Flagged.{flag_row, flagged_with, end_row, count_row};
 ghost use Rattle.cps_list.specs.ListingText.{line_rows, open_row};
-ghost use Rattle.cps_list.specs.Making.{Adds, IsPrintoutOf, shown, shows_symbols};
+ghost use Rattle.cps_list.specs.Code.Making.{Adds, IsPrintoutOf, shown, shows_symbols};
 ghost use Rattle.cps_list.specs.Symbols.{mentions_from, symbol_rows};
 ghost use Rattle.cps_list.specs.Texts.{text_of};
 
@@ -35,7 +35,7 @@ pub struct Printout {
 }
 
 impl Model for Printout {
-    ghost use Rattle.cps_list.specs.Making.{Printout};
+    ghost use Rattle.cps_list.specs.Code.Making.{Printout};
 
     ghost Value = { Printout };
 

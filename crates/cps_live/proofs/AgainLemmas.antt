@@ -13,20 +13,20 @@ use Rattle.cps_edit.specs.Disturbed.{finals_in, twos_of}
 use Rattle.cps_edit.specs.Passes.{traces_of}
 use Rattle.cps_edit.specs.Splice.{spliced}
 use Rattle.cps_chunk.specs.declared.chunk.Chunk.{Chunk}
-use Rattle.cps_chunk.specs.Chunk.{AreChunksOf, lengths_of}
+use Rattle.cps_chunk.specs.Code.Chunk.{AreChunksOf, lengths_of}
 use Rattle.cps_chunk.proofs.ChunkLemmas.{chunks-long}
 use Rattle.cps_chunk.specs.declared.sparse.SparseItem.{SparseItem}
-use Rattle.cps_final.specs.Ends.{was_of, now_of}
+use Rattle.cps_final.specs.Code.Ends.{was_of, now_of}
 use Rattle.cps_chunk.specs.Replayed.{redone, replayed_behind, redone_front, redone_behind}
-use Rattle.cps_chunk.specs.Walk.{stretch}
+use Rattle.cps_chunk.specs.Code.Walk.{stretch}
 use Rattle.cps_chunk.proofs.ReplayedLemmas.{twos-spliced}
 use Rattle.cps_chunk.proofs.WalkLemmas.{same-long, stretch-all}
-use Rattle.cps_chunk.specs.Looks.{items_from, looks_again, second_looks}
+use Rattle.cps_chunk.specs.Code.Looks.{items_from, looks_again, second_looks}
 use Rattle.cps_live.specs.declared.cut.Cut.{Cut}
 use Rattle.cps_live.specs.declared.kept_source.KeptSource.{KeptSource}
 use Rattle.cps_live.specs.declared.second_pass.SecondPass.{SecondPass}
-use Rattle.cps_live.specs.Editing.{HasPassedAgain, IsCut, LooksOfSecond, splice_of}
-use Rattle.cps_live.specs.SecondPass.{AreStillChunks, looks_around, redone_around}
+use Rattle.cps_live.specs.Code.Editing.{HasPassedAgain, IsCut, LooksOfSecond, splice_of}
+use Rattle.cps_live.specs.Code.SecondPass.{AreStillChunks, looks_around, redone_around}
 use Rattle.cps_live.proofs.CountLemmas.{StepsUpTo, steps-fail, steps-join}
 
 -- the chunks that were gone over have the same lines

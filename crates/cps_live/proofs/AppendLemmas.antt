@@ -7,11 +7,11 @@ use Rattle.cps_chunk.specs.Division.{full, joined, AreChunks, IsDivision, grown,
 use Rattle.cps_chunk.specs.Recut.{recut}
 use Rattle.cps_chunk.specs.Staying.{same_front}
 use Rattle.cps_chunk.proofs.StayingLemmas.{chunks-some, some-second, front-past, front-other, front-beyond}
-use Rattle.cps_chunk.specs.Chunk.{lengths_of}
+use Rattle.cps_chunk.specs.Code.Chunk.{lengths_of}
 use Rattle.cps_chunk.specs.declared.chunk.Chunk.{Chunk}
 use Rattle.cps_edit.proofs.TakenLemmas.{drop_at}
 use Rattle.cps_chunk.proofs.CutLemmas.{sum-append, sum-cons}
-use Rattle.cps_live.specs.ChunkList.{IsDivided}
+use Rattle.cps_live.specs.Code.ChunkList.{IsDivided}
 
 -- ---- the new lengths
 

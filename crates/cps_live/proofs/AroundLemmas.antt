@@ -11,19 +11,19 @@ use Rattle.cps_state.specs.Work.{Counts}
 use Rattle.cps_final.specs.Agreeing.{same_named}
 use Rattle.cps_edit.specs.Compares.{ComparesUpTo, Steps}
 use Rattle.cps_chunk.specs.declared.chunk.Chunk.{Chunk}
-use Rattle.cps_chunk.specs.Chunk.{AreChunksOf, lengths_of}
+use Rattle.cps_chunk.specs.Code.Chunk.{AreChunksOf, lengths_of}
 use Rattle.cps_chunk.proofs.ChunkLemmas.{chunks-long, chunks-append, chunks-behind}
 use Rattle.cps_final.specs.declared.ends.Ends.{Ends}
 use Rattle.cps_chunk.specs.declared.sparse.SparseItem.{SparseItem}
 use Rattle.cps_chunk.specs.declared.walk.Baseline.{Baseline}
-use Rattle.cps_final.specs.Ends.{was_of, now_of}
+use Rattle.cps_final.specs.Code.Ends.{was_of, now_of}
 use Rattle.cps_chunk.specs.Sparse.{AreWithin}
-use Rattle.cps_chunk.specs.Walk.{stretch}
+use Rattle.cps_chunk.specs.Code.Walk.{stretch}
 use Rattle.cps_chunk.proofs.WalkLemmas.{lengths-front, stretch-all, stretch-part}
-use Rattle.cps_chunk.specs.Looks.{items_before, items_from, looks_again}
+use Rattle.cps_chunk.specs.Code.Looks.{items_before, items_from, looks_again}
 use Rattle.cps_live.specs.declared.cut.Cut.{Cut}
 use Rattle.cps_live.specs.declared.second_pass.SecondPass.{SecondPass}
-use Rattle.cps_live.specs.SecondPass.{AreStillChunks, CutsAround, GoesAround, GoesOver, IsExactPass, NameTheSame, NoneDiffers, redone_around, redone_in, looks_around, looks_in}
+use Rattle.cps_live.specs.Code.SecondPass.{AreStillChunks, CutsAround, GoesAround, GoesOver, IsExactPass, NameTheSame, NoneDiffers, redone_around, redone_in, looks_around, looks_in}
 use Rattle.cps_live.proofs.CountLemmas.{StepsUpTo, steps-fail, steps-join, looks-join}
 use Rattle.cps_live.proofs.SecondPassLemmas.{before-within, from-within, stretch-join, same-redone, count-cut, goes-join}
 

@@ -11,8 +11,8 @@ use Rattle.cps_state.specs.Keys.{State, first_state, overwritten}
 use Rattle.cps_state.specs.Work.{Counts, raised}
 use Rattle.cps_state.specs.declared.work.Tally.TheVariants.{Ones, Twos}
 use Rattle.cps_final.specs.Changes.{changed}
-use Rattle.cps_final.specs.Kept.{changes_in}
-use Rattle.cps_final.specs.Mend.{mended}
+use Rattle.cps_final.specs.Code.Kept.{changes_in}
+use Rattle.cps_final.specs.Code.Mend.{mended}
 use Rattle.cps_final.specs.declared.mend.Mend.{Mend}
 use Rattle.cps_final.specs.contracts.finals.FinalsGathered.TheImpl.{gathered-value}
 use Rattle.cps_final.specs.Finals.{Finals, final_value, finals_of}
@@ -26,25 +26,25 @@ use Rattle.cps_edit.specs.Passes.{outcomes_by, state_after, traces_of}
 use Rattle.cps_edit.specs.Splice.{Splice, insertion, spliced}
 use Rattle.cps_edit.proofs.RedoLemmas.{append-outcomes}
 use Rattle.cps_edit.proofs.SpliceLemmas.{length-traces_from, state_after-append, traces_from-append}
-use Rattle.cps_chunk.specs.Chunk.{lengths_of}
-use Rattle.cps_chunk.specs.Redo.{is_passed}
+use Rattle.cps_chunk.specs.Code.Chunk.{lengths_of}
+use Rattle.cps_chunk.specs.Code.Redo.{is_passed}
 use Rattle.cps_chunk.specs.Replayed.{redone, redone_behind, replayed_behind}
 use Rattle.cps_chunk.specs.Sparse.{renewed}
 use Rattle.cps_chunk.proofs.ReplayedLemmas.{renewed-redone, twos-spliced}
 use Rattle.cps_chunk.proofs.SparseLemmas.{renewed-none}
 use Rattle.cps_chunk.proofs.WalkLemmas.{same-long}
-use Rattle.cps_chunk.specs.Looks.{looks_again}
-use Rattle.cps_chunk.specs.Recuts.{Recuts}
+use Rattle.cps_chunk.specs.Code.Looks.{looks_again}
+use Rattle.cps_chunk.specs.Code.Recuts.{Recuts}
 use Rattle.cps_chunk.specs.Touched.{touched_of}
 use Rattle.cps_chunk.proofs.CutLemmas.{sum-part, sum-parts}
 use Rattle.cps_chunk.proofs.PlanLemmas.{planned}
 use Rattle.cps_chunk.proofs.TouchedLemmas.{looks-law}
-use Rattle.cps_live.specs.Append.{HasRoomForOne, IsMendOf, trace_behind}
-use Rattle.cps_live.specs.Editing.{HasAsMuchRoom, IsKept, IsStill}
+use Rattle.cps_live.specs.Code.Append.{HasRoomForOne, IsMendOf, trace_behind}
+use Rattle.cps_live.specs.Code.Editing.{HasAsMuchRoom, IsKept, IsStill}
 use Rattle.cps_live.specs.declared.kept_source.KeptSource.{KeptSource}
 use Rattle.cps_live.proofs.AgainLemmas.{steps-of}
 use Rattle.cps_live.proofs.AppendLemmas.{IsAtEnd, begins, begins-first, grows}
-use Rattle.cps_live.specs.Storing.{IsStoredBehind}
+use Rattle.cps_live.specs.Code.Storing.{IsStoredBehind}
 use Rattle.cps_live.proofs.FirstPassLemmas.{ones-last}
 use Rattle.cps_live.proofs.MendedLemmas.{finals-mended}
 

@@ -9,13 +9,13 @@ use Rattle.cps_chunk.specs.Division.{AreChunks, full, inserted_at}
 use Rattle.cps_chunk.specs.Recut.{recut}
 use Rattle.cps_edit.proofs.TakenLemmas.{drop_at}
 use Rattle.cps_chunk.specs.declared.chunk.Chunk.{Chunk}
-use Rattle.cps_chunk.specs.Chunk.{IsChunkOf, AreChunksOf, lengths_of}
+use Rattle.cps_chunk.specs.Code.Chunk.{IsChunkOf, AreChunksOf, lengths_of}
 use Rattle.cps_chunk.proofs.ChunkLemmas.{chunks-append, chunks-one, chunks-last, chunks-set, chunks-behind}
 use Rattle.cps_chunk.specs.declared.sparse.SparseItem.{SparseItem}
 use Rattle.cps_chunk.specs.Sparse.{renewed, AreWithin}
 use Rattle.cps_chunk.proofs.WalkLemmas.{lengths-next, lengths-front, same-long}
 use Rattle.cps_live.specs.declared.cut.Cut.{Cut}
-use Rattle.cps_live.specs.ChunkList.{Fits}
+use Rattle.cps_live.specs.Code.ChunkList.{Fits}
 use Rattle.cps_live.proofs.AppendLemmas.{IsAtEnd, grows, length-at}
 use Rattle.cps_live.proofs.RenewedLemmas.{renewed-next}
 

@@ -3,18 +3,18 @@ use Rattle.std.proofs.Common.{arith, ◌≡◌, ℕ, ◌+◌, ◌-◌, ◌<◌, 
 use Rattle.std.specs.Prelude.{sum, if◌then◌else◌}
 use Rattle.cps_state.specs.Course.{Trace}
 use Rattle.cps_chunk.specs.declared.chunk.Chunk.{Chunk}
-use Rattle.cps_chunk.specs.Chunk.{AreChunksOf, IsChunkOf, lengths_of}
+use Rattle.cps_chunk.specs.Code.Chunk.{AreChunksOf, IsChunkOf, lengths_of}
 use Rattle.cps_final.specs.Names.{names_in}
 use Rattle.cps_final.specs.declared.ends.Ends.{Ends}
 use Rattle.cps_chunk.specs.declared.sparse.SparseItem.{SparseItem}
 use Rattle.cps_chunk.specs.declared.walk.Baseline.{Baseline}
-use Rattle.cps_final.specs.Ends.{was_of, now_of}
-use Rattle.cps_chunk.specs.Redo.{is_passed}
+use Rattle.cps_final.specs.Code.Ends.{was_of, now_of}
+use Rattle.cps_chunk.specs.Code.Redo.{is_passed}
 use Rattle.cps_chunk.specs.Sparse.{AreWithin}
-use Rattle.cps_chunk.specs.Walk.{stretch}
-use Rattle.cps_chunk.specs.Looks.{items_before, items_from}
+use Rattle.cps_chunk.specs.Code.Walk.{stretch}
+use Rattle.cps_chunk.specs.Code.Looks.{items_before, items_from}
 use Rattle.cps_live.specs.declared.second_pass.SecondPass.{SecondPass}
-use Rattle.cps_live.specs.SecondPass.{AreStillChunks, GoesOver, IsExactPass, IsStillChunk, redone_in, looks_at, looks_in}
+use Rattle.cps_live.specs.Code.SecondPass.{AreStillChunks, GoesOver, IsExactPass, IsStillChunk, redone_in, looks_at, looks_in}
 use Rattle.cps_live.proofs.SecondPassLemmas.{GoesOn, before-within, exact-still, count-cut, same-redone, goes-next, next-place, next-within, chunk-here, chunks-here, lengths-still, looks-here}
 
 -- of chunks, of which some were gone over, this is the next; so much is new of its lines, and so much of those behind it

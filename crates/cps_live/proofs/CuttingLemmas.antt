@@ -10,14 +10,14 @@ use Rattle.cps_chunk.specs.Recut.{recut}
 use Rattle.cps_chunk.specs.Put.{IsRecut, inserted_each, put_at}
 use Rattle.cps_chunk.specs.declared.put.Recut.{Recut}
 use Rattle.cps_edit.specs.Splice.{Splice, splice_at}
-use Rattle.cps_chunk.specs.Recuts.{Recuts}
+use Rattle.cps_chunk.specs.Code.Recuts.{Recuts}
 use Rattle.cps_chunk.proofs.CutLemmas.{sum-part, sum-parts}
 use Rattle.cps_chunk.proofs.PlanLemmas.{planned}
-use Rattle.cps_live.specs.Editing.{IsCut, splice_of}
+use Rattle.cps_live.specs.Code.Editing.{IsCut, splice_of}
 use Rattle.cps_live.specs.declared.cut.Cut.{Cut}
 use Rattle.cps_live.specs.Edits.{Source, LooksOfEdit}
-use Rattle.cps_live.specs.ChunkList.{IsDivided}
-use Rattle.cps_live.specs.Cutting.{IsCutFor}
+use Rattle.cps_live.specs.Code.ChunkList.{IsDivided}
+use Rattle.cps_live.specs.Code.Cutting.{IsCutFor}
 
 pub first-few : (i : ℕ) (ns : List ℕ) → sum (take i ns) ≤ sum ns
 first-few i ns = omega (arith, sum-parts i ns)

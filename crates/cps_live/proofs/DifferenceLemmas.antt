@@ -20,11 +20,11 @@ use Rattle.cps_state.specs.Made.{content_literals, content_names}
 use Rattle.cps_state.specs.declared.item.Item.{Item}
 use Rattle.cps_state.proofs.KnownLemmas.{same_key_is, same_key-true}
 use Rattle.cps_final.specs.Changes.{changed}
-use Rattle.cps_final.specs.Kept.{changes_in, count_of, keys_in}
+use Rattle.cps_final.specs.Code.Kept.{changes_in, count_of, keys_in}
 use Rattle.cps_final.proofs.KeptLemmas.{eq, has-key}
 use Rattle.cps_final.specs.Finals.{Finals, final_value, at_base, Named, label, setting, block, literal}
-use Rattle.cps_final.specs.Mend.{with_storage}
-use Rattle.cps_final.specs.Storage.{stored, PlacesStand}
+use Rattle.cps_final.specs.Code.Mend.{with_storage}
+use Rattle.cps_final.specs.Code.Storage.{stored, PlacesStand}
 use Rattle.cps_final.specs.declared.storage.Storage.{Storage}
 use Rattle.cps_final.specs.contracts.finals.FinalsGathered.TheImpl.{gathered-value}
 use Rattle.cps_final.specs.LineNames.{names_later, names_read}
@@ -39,11 +39,11 @@ use Rattle.cps_final.proofs.AnswerLemmas.{value-decides}
 use Rattle.cps_chunk.specs.declared.marks.Marks.{Marks}
 use Rattle.cps_chunk.specs.Marks.{AreMarked, has, mark_of, keys_named}
 use Rattle.cps_chunk.proofs.AbsentLemmas.{each-named}
-use Rattle.cps_final.specs.Ends.{was_of, now_of}
+use Rattle.cps_final.specs.Code.Ends.{was_of, now_of}
 use Rattle.cps_final.specs.declared.ends.Ends.{Ends}
 use Rattle.cps_chunk.proofs.KeysLemmas.{all-keys}
-use Rattle.cps_live.specs.Differences.{passes_by, PlacesStandIn, IsListed}
-use Rattle.cps_live.specs.NamesRead.{has_all, has_name, HasReadBy}
+use Rattle.cps_live.specs.Code.Differences.{passes_by, PlacesStandIn, IsListed}
+use Rattle.cps_live.specs.Code.NamesRead.{has_all, has_name, HasReadBy}
 use Rattle.cps_live.specs.declared.names_read.NamesRead.{NamesRead}
 use Rattle.cps_live.proofs.NamesReadLemmas.{all-filter, all-once, weaker}
 

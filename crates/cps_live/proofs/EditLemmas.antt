@@ -6,12 +6,12 @@ use Rattle.cps_chunk.specs.Recut.{recut}
 use Rattle.cps_edit.specs.Compares.{ComparesUpTo}
 use Rattle.cps_chunk.specs.declared.chunk.Chunk.{Chunk}
 use Rattle.cps_chunk.proofs.WalkLemmas.{same-long}
-use Rattle.cps_chunk.specs.Looks.{first_looks, second_looks}
+use Rattle.cps_chunk.specs.Code.Looks.{first_looks, second_looks}
 use Rattle.cps_chunk.specs.Touched.{touched_of}
 use Rattle.cps_chunk.proofs.TouchedLemmas.{looks-law}
 use Rattle.cps_live.specs.declared.cut.Cut.{Cut}
 use Rattle.cps_live.specs.declared.kept_source.KeptSource.{KeptSource}
-use Rattle.cps_live.specs.Editing.{HasAsMuchRoom, HasRoomFor, IsCut, IsStill, LooksOfFirst, LooksOfSecond, splice_of}
+use Rattle.cps_live.specs.Code.Editing.{HasAsMuchRoom, HasRoomFor, IsCut, IsStill, LooksOfFirst, LooksOfSecond, splice_of}
 
 -- ---- how many lines are compared
 

@@ -17,7 +17,7 @@ use Rattle.cps_final.specs.Outcome.{Outcome, Resolved}
 use Rattle.cps_final.specs.declared.storage.Storage.{Storage}
 use Rattle.cps_chunk.specs.Division.{AreChunks, IsDivision}
 use Rattle.cps_chunk.specs.Exchange.{exchanged_at}
-use Rattle.cps_chunk.specs.Pieces.{ArePieces}
+use Rattle.cps_chunk.specs.Code.Pieces.{ArePieces}
 use Rattle.cps_chunk.proofs.ExchangeLemmas.{exchanged-divides}
 use Rattle.cps_edit.specs.Compares.{ComparesUpTo, Steps}
 use Rattle.cps_edit.specs.Disturbed.{finals_in, twos_of_exchange}
@@ -25,29 +25,29 @@ use Rattle.cps_edit.specs.Passes.{outcomes_by, traces_of}
 use Rattle.cps_edit.proofs.RedoLemmas.{length-outcomes}
 use Rattle.cps_edit.proofs.SpliceLemmas.{length-traces_from}
 use Rattle.cps_chunk.specs.declared.chunk.Chunk.{Chunk}
-use Rattle.cps_chunk.specs.Chunk.{AreChunksOf, lengths_of}
+use Rattle.cps_chunk.specs.Code.Chunk.{AreChunksOf, lengths_of}
 use Rattle.cps_chunk.proofs.ChunkLemmas.{chunks-long}
 use Rattle.cps_chunk.specs.declared.sparse.SparseItem.{SparseItem}
-use Rattle.cps_final.specs.Ends.{was_of, now_of}
-use Rattle.cps_chunk.specs.Moved.{replayed_moved}
+use Rattle.cps_final.specs.Code.Ends.{was_of, now_of}
+use Rattle.cps_chunk.specs.Code.Moved.{replayed_moved}
 use Rattle.cps_chunk.specs.Replayed.{redone}
 use Rattle.cps_chunk.specs.Sparse.{AreWithin, renewed}
-use Rattle.cps_chunk.specs.Walk.{stretch}
+use Rattle.cps_chunk.specs.Code.Walk.{stretch}
 use Rattle.cps_chunk.proofs.MovedLemmas.{outcomes-moved, redone_moved-within, replayed_moved-within, traces-moved, twos-moved}
 use Rattle.cps_chunk.proofs.SparseLemmas.{AreWithin-wider, length-renewed}
-use Rattle.cps_chunk.specs.Looks.{looks_again}
-use Rattle.cps_chunk.specs.MoveLooks.{first_looks_moved, second_looks_moved}
+use Rattle.cps_chunk.specs.Code.Looks.{looks_again}
+use Rattle.cps_chunk.specs.Code.MoveLooks.{first_looks_moved, second_looks_moved}
 use Rattle.cps_chunk.specs.Touched.{touched_of_exchange}
 use Rattle.cps_chunk.proofs.MoveLooksLemmas.{move-looks-law}
-use Rattle.cps_chunk.specs.MovedChunks.{AreMoved}
+use Rattle.cps_chunk.specs.Code.MovedChunks.{AreMoved}
 use Rattle.cps_chunk.proofs.MovedChunkLemmas.{are-moved}
 use Rattle.cps_live.specs.declared.exchange.MovedParts.{MovedParts}
 use Rattle.cps_live.specs.declared.kept_source.KeptSource.{KeptSource}
 use Rattle.cps_live.specs.declared.second_pass.SecondPass.{SecondPass}
-use Rattle.cps_live.specs.Editing.{AreKept}
-use Rattle.cps_live.specs.Exchanged.{AreMovedParts, HasRuns, LooksOfExchange, redone_moved}
-use Rattle.cps_live.specs.SecondPass.{StandFrom, looks_in, redone_in}
-use Rattle.cps_live.specs.Storing.{IsStoredBehind}
+use Rattle.cps_live.specs.Code.Editing.{AreKept}
+use Rattle.cps_live.specs.Code.Exchanged.{AreMovedParts, HasRuns, LooksOfExchange, redone_moved}
+use Rattle.cps_live.specs.Code.SecondPass.{StandFrom, looks_in, redone_in}
+use Rattle.cps_live.specs.Code.Storing.{IsStoredBehind}
 use Rattle.cps_live.proofs.AgainLemmas.{steps-ok}
 
 pub runs-within : {n : ℕ} {e : Exchange} → HasRuns n e → IsWithin n e

@@ -5,27 +5,27 @@ use Rattle.std.proofs.lemmas.List.{length-map, take_all, drop_all, drop-drop}
 use Rattle.cps_state.specs.Course.{Trace}
 use Rattle.cps_state.specs.Keys.{State, first_state, overwritten}
 use Rattle.cps_final.specs.Changes.{Changed, changed, no_change}
-use Rattle.cps_final.specs.Kept.{changes_in}
+use Rattle.cps_final.specs.Code.Kept.{changes_in}
 use Rattle.cps_final.specs.Layout.{puts_of}
 use Rattle.cps_edit.specs.Disturbed.{ones_of}
 use Rattle.cps_edit.specs.Passes.{state_after, traces_from, traces_of}
 use Rattle.cps_edit.specs.Splice.{Splice, splice_at, spliced}
 use Rattle.cps_edit.proofs.SpliceLemmas.{puts-state, state_after-append}
-use Rattle.cps_chunk.specs.Chunk.{lengths_of}
+use Rattle.cps_chunk.specs.Code.Chunk.{lengths_of}
 use Rattle.cps_chunk.specs.declared.chunk.Chunk.{Chunk}
 use Rattle.cps_chunk.specs.declared.walk.Baseline.{Baseline}
 use Rattle.cps_chunk.specs.declared.walk.Walk.{Walk}
 use Rattle.cps_chunk.specs.Noted.{noted}
-use Rattle.cps_chunk.specs.Replay.{now_by}
+use Rattle.cps_chunk.specs.Code.Replay.{now_by}
 use Rattle.cps_chunk.specs.Replayed.{replayed, replayed_behind, state_behind, state_front}
-use Rattle.cps_chunk.specs.Walk.{GoesOver, IsStillWalk, IsWalk, cursor, looks_in, looks_over, now_at, replayed_in, stood_at, stretch}
+use Rattle.cps_chunk.specs.Code.Walk.{GoesOver, IsStillWalk, IsWalk, cursor, looks_in, looks_over, now_at, replayed_in, stood_at, stretch}
 use Rattle.cps_chunk.proofs.NotedLemmas.{noted-law}
 use Rattle.cps_chunk.proofs.OverLemmas.{over-count, over-news, over-state}
 use Rattle.cps_chunk.proofs.ReplayedLemmas.{ones-spliced}
 use Rattle.cps_chunk.proofs.WalkLemmas.{as-long, lengths-within, stretch-all, stretch-did, stretch-part, stretch-state}
 use Rattle.cps_live.specs.declared.cut.Cut.{Cut}
-use Rattle.cps_live.specs.Editing.{splice_of}
-use Rattle.cps_live.specs.FirstPass.{BeginsWalk, IsWalked}
+use Rattle.cps_live.specs.Code.Editing.{splice_of}
+use Rattle.cps_live.specs.Code.FirstPass.{BeginsWalk, IsWalked}
 
 -- where the chunks of some lines end
 pub ends-within : (old : Walk) (walk : IsWalk old) (behind end : ℕ) → behind ≡ sum (take end (lengths_of old.chunks.items)) → behind ≤ length old.base.lines.now

@@ -19,7 +19,7 @@ use Rattle.cps_edit.specs.Splice.{spliced}
 use Rattle.cps_edit.proofs.RedoLemmas.{length-outcomes}
 use Rattle.cps_edit.proofs.SpliceLemmas.{length-traces_from}
 use Rattle.cps_chunk.specs.declared.chunk.Chunk.{Chunk}
-use Rattle.cps_chunk.specs.Chunk.{AreChunksOf, lengths_of}
+use Rattle.cps_chunk.specs.Code.Chunk.{AreChunksOf, lengths_of}
 use Rattle.cps_chunk.specs.declared.sparse.SparseItem.{SparseItem}
 use Rattle.cps_chunk.specs.Sparse.{AreWithin, renewed}
 use Rattle.cps_chunk.specs.Replayed.{state_front, replayed_behind, redone_front, redone_behind}
@@ -29,9 +29,9 @@ use Rattle.cps_chunk.proofs.WalkLemmas.{same-long}
 use Rattle.cps_live.specs.declared.cut.Cut.{Cut}
 use Rattle.cps_live.specs.declared.kept_source.KeptSource.{KeptSource}
 use Rattle.cps_live.specs.declared.news.News.{News}
-use Rattle.cps_live.specs.ChunkList.{Fits, HasRoom}
-use Rattle.cps_live.specs.Editing.{AreKept, AreNewTraces, AreOutcomesOf, HasRoomFor, IsCut, IsKept, splice_of}
-use Rattle.cps_live.specs.NamesRead.{HasRead, HasReadBy, StillHas}
+use Rattle.cps_live.specs.Code.ChunkList.{Fits, HasRoom}
+use Rattle.cps_live.specs.Code.Editing.{AreKept, AreNewTraces, AreOutcomesOf, HasRoomFor, IsCut, IsKept, splice_of}
+use Rattle.cps_live.specs.Code.NamesRead.{HasRead, HasReadBy, StillHas}
 use Rattle.cps_live.proofs.NamesReadLemmas.{read-by, read-still}
 
 -- ---- the same is kept

@@ -5,14 +5,14 @@ use Rattle.std.specs.Option.{option_or}
 use Rattle.cps_state.specs.declared.key.Key.{Key}
 use Rattle.cps_state.specs.declared.key.Key.TheVariants as key
 use Rattle.cps_state.specs.declared.key.Answer.{Answer}
-use Rattle.cps_state.specs.KeptAnswers.{is_other}
+use Rattle.cps_state.specs.Code.KeptAnswers.{is_other}
 use Rattle.cps_state.specs.Course.{Trace, last_put}
 use Rattle.cps_state.specs.Keys.{State, first_state}
 use Rattle.cps_final.specs.Changes.{Changed, changed}
 use Rattle.cps_final.proofs.ChangedLemmas.{overwritten-last}
 use Rattle.cps_final.specs.Finals.{Finals, final_value, finals_of}
 use Rattle.cps_final.specs.Layout.{puts_of}
-use Rattle.cps_final.specs.Mend.{with_storage}
+use Rattle.cps_final.specs.Code.Mend.{with_storage}
 use Rattle.cps_final.specs.declared.storage.Storage.{Storage}
 use Rattle.cps_edit.specs.Passes.{state_after, traces_of}
 use Rattle.cps_edit.specs.Splice.{Splice, spliced}
@@ -21,8 +21,8 @@ use Rattle.cps_chunk.specs.Sparse.{renewed}
 use Rattle.cps_chunk.proofs.ReplayedLemmas.{traces-spliced}
 use Rattle.cps_live.specs.declared.cut.Cut.{Cut}
 use Rattle.cps_live.specs.declared.news.News.{News}
-use Rattle.cps_live.specs.Editing.{AreEnds, AreNewTraces, splice_of}
-use Rattle.cps_live.specs.Storing.{IsStoredBehind, edited}
+use Rattle.cps_live.specs.Code.Editing.{AreEnds, AreNewTraces, splice_of}
+use Rattle.cps_live.specs.Code.Storing.{IsStoredBehind, edited}
 
 -- ---- something always stands where always something stands
 

@@ -6,26 +6,26 @@ use Rattle.cps_state.specs.declared.key.Put.{Put}
 use Rattle.cps_state.specs.Course.{Trace}
 use Rattle.cps_state.specs.Keys.{State, first_state, overwritten}
 use Rattle.cps_final.specs.Changes.{Changed, changed, no_change}
-use Rattle.cps_final.specs.Kept.{changes_in}
+use Rattle.cps_final.specs.Code.Kept.{changes_in}
 use Rattle.cps_edit.specs.declared.exchange.Exchange.{Exchange}
 use Rattle.cps_edit.specs.Exchange.{IsWithin, exchanged}
 use Rattle.cps_final.specs.Layout.{puts_of}
 use Rattle.cps_edit.specs.Passes.{state_after, traces_from, traces_of}
 use Rattle.cps_edit.specs.Disturbed.{ones_of_exchange}
 use Rattle.cps_edit.proofs.SpliceLemmas.{length-traces_from, puts-state}
-use Rattle.cps_chunk.specs.Chunk.{lengths_of}
+use Rattle.cps_chunk.specs.Code.Chunk.{lengths_of}
 use Rattle.cps_chunk.proofs.ChunkLemmas.{chunks-long}
 use Rattle.cps_chunk.specs.declared.sparse.SparseItem.{SparseItem}
 use Rattle.cps_chunk.specs.declared.walk.Baseline.{Baseline}
 use Rattle.cps_chunk.specs.declared.walk.Position.{Position}
 use Rattle.cps_chunk.specs.declared.walk.Position.TheVariants.{Same, Behind}
 use Rattle.cps_chunk.specs.declared.walk.Walk.{Walk}
-use Rattle.cps_chunk.specs.Along.{GoesAlong, front_at, looks_along, looks_in_span, replayed_along, span}
-use Rattle.cps_chunk.specs.Compared.{with_puts}
-use Rattle.cps_chunk.specs.Moved.{behind_replayed, first_replayed, replayed_moved, second_replayed, state_before, state_between, state_past}
+use Rattle.cps_chunk.specs.Code.Along.{GoesAlong, front_at, looks_along, looks_in_span, replayed_along, span}
+use Rattle.cps_chunk.specs.Code.Compared.{with_puts}
+use Rattle.cps_chunk.specs.Code.Moved.{behind_replayed, first_replayed, replayed_moved, second_replayed, state_before, state_between, state_past}
 use Rattle.cps_chunk.specs.Noted.{last_puts, noted}
 use Rattle.cps_chunk.specs.Replayed.{replayed}
-use Rattle.cps_chunk.specs.Walk.{HasMadeNothing, IsStillWalk, IsWalk, now_at, puts_in, state_at, stood_at, stretch}
+use Rattle.cps_chunk.specs.Code.Walk.{HasMadeNothing, IsStillWalk, IsWalk, now_at, puts_in, state_at, stood_at, stretch}
 use Rattle.cps_chunk.proofs.ComparedLemmas.{last_puts-more}
 use Rattle.cps_chunk.proofs.ExchangedLemmas.{exchanged-parts}
 use Rattle.cps_chunk.proofs.FrontsLemmas.{stands_first-moved, stands_last-moved, stands_second-moved}
@@ -33,10 +33,10 @@ use Rattle.cps_chunk.proofs.NotedLemmas.{noted-law}
 use Rattle.cps_chunk.proofs.MovedLemmas.{ones-moved, state-moved}
 use Rattle.cps_chunk.proofs.SpanLemmas.{looks-agree}
 use Rattle.cps_chunk.proofs.WalkLemmas.{as-long, stretch-all}
-use Rattle.cps_chunk.specs.MoveLooks.{first_looks_moved, looks_moved, stands_moved}
+use Rattle.cps_chunk.specs.Code.MoveLooks.{first_looks_moved, looks_moved, stands_moved}
 use Rattle.cps_chunk.proofs.MoveSpanLemmas.{spans-moved}
-use Rattle.cps_live.specs.FirstPass.{BeginsWalk}
-use Rattle.cps_live.specs.MovedPass.{IsCrossed, IsMovedWalk, looks_of_runs, looks_of_span, order_of}
+use Rattle.cps_live.specs.Code.FirstPass.{BeginsWalk}
+use Rattle.cps_live.specs.Code.MovedPass.{IsCrossed, IsMovedWalk, looks_of_runs, looks_of_span, order_of}
 use Rattle.cps_live.proofs.FirstPassLemmas.{left-there}
 
 -- ---- one stretch of lines, gone along

@@ -7,12 +7,12 @@ use Rattle.cps_edit.specs.Exchange.{IsWithin, exchanged}
 use Rattle.cps_edit.proofs.ListLemmas.{whole}
 use Rattle.cps_chunk.specs.declared.sparse.SparseItem.{SparseItem}
 use Rattle.cps_chunk.specs.Sparse.{renewed, AreWithin}
-use Rattle.cps_chunk.specs.Storing.{left_by, stored_by}
-use Rattle.cps_chunk.specs.Walk.{stretch}
+use Rattle.cps_chunk.specs.Code.Storing.{left_by, stored_by}
+use Rattle.cps_chunk.specs.Code.Walk.{stretch}
 use Rattle.cps_chunk.proofs.ExchangedLemmas.{exchanged-renewed, map-exchanged}
 use Rattle.cps_chunk.proofs.WalkLemmas.{stretch-part}
-use Rattle.cps_chunk.specs.Looks.{items_before, items_from}
-use Rattle.cps_live.specs.Storing.{left_by_each}
+use Rattle.cps_chunk.specs.Code.Looks.{items_before, items_from}
+use Rattle.cps_live.specs.Code.Storing.{left_by_each}
 use Rattle.cps_live.proofs.SecondPassLemmas.{before-from, before-within, from-within}
 use Rattle.cps_live.proofs.StoredLemmas.{left-middle, left-same, stored-same}
 

@@ -16,10 +16,10 @@ use Rattle.cps_final.proofs.DecideLemmas.{name-decides}
 use Rattle.cps_edit.specs.Passes.{outcomes_by}
 use Rattle.cps_chunk.specs.declared.sparse.SparseItem.{SparseItem}
 use Rattle.cps_chunk.specs.Sparse.{item_at, renewed}
-use Rattle.cps_chunk.specs.Walk.{stretch}
+use Rattle.cps_chunk.specs.Code.Walk.{stretch}
 use Rattle.indexmap.specs.IndexSet.{insert_key}
-use Rattle.cps_live.specs.Editing.{put_between}
-use Rattle.cps_live.specs.NamesRead.{has_all, has_name, HasRead, HasReadBy, StillHas, items_of}
+use Rattle.cps_live.specs.Code.Editing.{put_between}
+use Rattle.cps_live.specs.Code.NamesRead.{has_all, has_name, HasRead, HasReadBy, StillHas, items_of}
 use Rattle.cps_live.specs.declared.names_read.NamesRead.{NamesRead}
 
 -- ---- lists of which all items pass

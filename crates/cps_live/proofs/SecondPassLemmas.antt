@@ -17,21 +17,21 @@ use Rattle.cps_final.proofs.NamesLemmas.{names-law}
 use Rattle.cps_final.proofs.NamingLemmas.{flat-all}
 use Rattle.cps_final.specs.Agreeing.{same_at, same_named}
 use Rattle.cps_chunk.specs.declared.chunk.Chunk.{Chunk}
-use Rattle.cps_chunk.specs.Chunk.{AreChunksOf, IsChunkOf, lengths_of}
+use Rattle.cps_chunk.specs.Code.Chunk.{AreChunksOf, IsChunkOf, lengths_of}
 use Rattle.cps_chunk.specs.Marks.{AreMarked, keys_named}
 use Rattle.cps_final.specs.declared.ends.Ends.{Ends}
 use Rattle.cps_chunk.specs.declared.sparse.SparseItem.{SparseItem}
-use Rattle.cps_final.specs.Ends.{was_of, now_of}
-use Rattle.cps_chunk.specs.Redo.{is_passed}
+use Rattle.cps_final.specs.Code.Ends.{was_of, now_of}
+use Rattle.cps_chunk.specs.Code.Redo.{is_passed}
 use Rattle.cps_chunk.specs.Replayed.{redone}
 use Rattle.cps_chunk.specs.Sparse.{AreWithin}
-use Rattle.cps_chunk.specs.Walk.{stretch}
+use Rattle.cps_chunk.specs.Code.Walk.{stretch}
 use Rattle.cps_chunk.proofs.ReplayedLemmas.{redone-all_same, redone-each_same, redone-append, redone-drop_front, redone-drop_behind}
 use Rattle.cps_chunk.proofs.WalkLemmas.{stretch-behind, stretch-long, lengths-next, lengths-drop, lengths-set, chunk-at, chunk-set}
-use Rattle.cps_chunk.specs.Looks.{items_before, items_from, looks_again}
-use Rattle.cps_live.specs.Differences.{passes, AreExact}
+use Rattle.cps_chunk.specs.Code.Looks.{items_before, items_from, looks_again}
+use Rattle.cps_live.specs.Code.Differences.{passes, AreExact}
 use Rattle.cps_live.specs.declared.second_pass.SecondPass.{SecondPass}
-use Rattle.cps_live.specs.SecondPass.{IsExactPass, IsStillChunk, GoesOver, redone_in, looks_at, looks_in}
+use Rattle.cps_live.specs.Code.SecondPass.{IsExactPass, IsStillChunk, GoesOver, redone_in, looks_at, looks_in}
 
 -- ---- items in front of a place, and from it on
 

@@ -9,16 +9,16 @@ use Rattle.cps_state.specs.Keys.{first_state}
 use Rattle.cps_final.specs.Finals.{finals_of, final_value}
 use Rattle.cps_final.specs.Outcome.{outcome_of}
 use Rattle.cps_chunk.specs.Division.{IsDivision}
-use Rattle.cps_chunk.specs.Chunk.{lengths_of}
+use Rattle.cps_chunk.specs.Code.Chunk.{lengths_of}
 use Rattle.cps_chunk.proofs.ChunkLemmas.{chunks-long}
 use Rattle.cps_edit.specs.Splice.{spliced, replacement}
 use Rattle.cps_edit.proofs.SpliceLemmas.{length-traces_from}
-use Rattle.cps_live.specs.Editing.{IsKept}
+use Rattle.cps_live.specs.Code.Editing.{IsKept}
 use Rattle.cps_live.specs.declared.kept_source.KeptSource.{KeptSource}
 use Rattle.cps_edit.specs.Assembly.{traces_of, outcomes_of}
 use Rattle.cps_edit.specs.Limits.{most_lines}
 use Rattle.cps_live.specs.Edits.{HasLine}
-use Rattle.cps_live.specs.Kept.{IsHeld}
+use Rattle.cps_live.specs.Code.Kept.{IsHeld}
 
 -- ---- what is kept
 

@@ -5,13 +5,13 @@ use lib.Seq.{map-set_same}
 use Rattle.cps_state.specs.Course.{Trace}
 use Rattle.cps_chunk.specs.declared.sparse.SparseItem.{SparseItem}
 use Rattle.cps_chunk.specs.Sparse.{renewed, AreWithin}
-use Rattle.cps_chunk.specs.Storing.{Left, left_by, stored_by}
+use Rattle.cps_chunk.specs.Code.Storing.{Left, left_by, stored_by}
 use Rattle.cps_chunk.proofs.SparseLemmas.{renewed-split}
 use Rattle.cps_chunk.proofs.StoringLemmas.{joined, left-append, left-law}
 use Rattle.cps_chunk.proofs.WalkLemmas.{stretch-part, stretch-front}
 use Rattle.cps_live.specs.declared.cut.Cut.{Cut}
 use Rattle.cps_live.specs.declared.news.News.{News}
-use Rattle.cps_live.specs.Storing.{edited, left_by_each}
+use Rattle.cps_live.specs.Code.Storing.{edited, left_by_each}
 use Rattle.cps_live.proofs.RenewedLemmas.{renewed-next, renewed-still}
 
 -- ---- each line leaves what it left

@@ -1,14 +1,3 @@
-pub mod Append
-pub mod ChunkList
-pub mod Differences
-pub mod Editing
 pub mod Entering
-pub mod Exchanged
-pub mod MovedPass
-pub mod FirstPass
-pub mod NamesRead
-pub mod SecondPass
-pub mod Storing
-pub mod Cutting
 pub mod Edits
-pub mod Kept
+pub mod Code

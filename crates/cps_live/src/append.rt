@@ -2,8 +2,8 @@
 ghost use Rattle.std.specs.Prelude.{◌≡◌, ◌+◌, ◌<◌, ◌^◌, IfOk, OnOk, OnErr, vec_len};
 ghost use Rattle.cps_state.specs.Work.{raised};
 ghost use Rattle.cps_state.specs.declared.work.Tally.TheVariants.{Ones};
-ghost use Rattle.cps_live.specs.Append.{AreOutcomesBy, AreOutcomesWith, HasPassedWith, HasReadWith, HasRoomForOne, IsAppended, IsMendOf, LooksOfAppend, StepsOfAppend, trace_behind};
-ghost use Rattle.cps_live.specs.Editing.{AreKept, HasRoomToMend, IsKept, IsStill, IsStillWith};
+ghost use Rattle.cps_live.specs.Code.Append.{AreOutcomesBy, AreOutcomesWith, HasPassedWith, HasReadWith, HasRoomForOne, IsAppended, IsMendOf, LooksOfAppend, StepsOfAppend, trace_behind};
+ghost use Rattle.cps_live.specs.Code.Editing.{AreKept, HasRoomToMend, IsKept, IsStill, IsStillWith};
 
 use crate::chunk_list::grow_last;
 use crate::kept_source::KeptSource;

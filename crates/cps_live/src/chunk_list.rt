@@ -3,9 +3,9 @@ ghost use Rattle.std.specs.Prelude.{◌≡◌, ◌≤◌, ◌<◌, ◌++◌, ◌
 ghost use Rattle.cps_state.specs.Course.{Trace as Did};
 ghost use Rattle.cps_chunk.specs.Division.{AreChunks, inserted_at};
 ghost use Rattle.cps_chunk.specs.Recut.{recut};
-ghost use Rattle.cps_chunk.specs.Chunk.{AreChunksOf, lengths_of};
+ghost use Rattle.cps_chunk.specs.Code.Chunk.{AreChunksOf, lengths_of};
 ghost use Rattle.cps_chunk.specs.Sparse.{AreWithin, renewed};
-ghost use Rattle.cps_live.specs.ChunkList.{Fits, HasRoom};
+ghost use Rattle.cps_live.specs.Code.ChunkList.{Fits, HasRoom};
 
 use crate::cut::Cut;
 use crate::lists::put_at;

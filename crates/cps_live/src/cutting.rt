@@ -1,7 +1,7 @@
 //! Where an edit comes, and what chunks come there.
 ghost use Rattle.std.specs.Prelude.{◌≡◌, ◌+◌, ◌<◌, ◌≤◌, ◌^◌, [], ◌∷◌, IfOk, sum, vec_len};
 ghost use Rattle.cps_chunk.specs.Division.{AreChunks};
-ghost use Rattle.cps_live.specs.Cutting.{IsCutFor, edit_of, lengths_with};
+ghost use Rattle.cps_live.specs.Code.Cutting.{IsCutFor, edit_of, lengths_with};
 
 use crate::cut::Cut;
 use cps_chunk::division_laws::a_put_divides_again;

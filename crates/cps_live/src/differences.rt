@@ -6,8 +6,8 @@ ghost use Rattle.cps_state.specs.Course.{Trace as Did};
 ghost use Rattle.cps_state.specs.declared.key.Key.TheVariants as key;
 ghost use Rattle.cps_chunk.specs.Marks.{AreMarked, has, keys_named, mark_of};
 ghost use Rattle.cps_final.specs.Names.{names_in, all_pass};
-ghost use Rattle.cps_live.specs.NamesRead.{has_name};
-ghost use Rattle.cps_live.specs.Differences.{passes, AreExact, AreKnown, PlacesStandIn, IsListed};
+ghost use Rattle.cps_live.specs.Code.NamesRead.{has_name};
+ghost use Rattle.cps_live.specs.Code.Differences.{passes, AreExact, AreKnown, PlacesStandIn, IsListed};
 
 use crate::names_read::NamesRead;
 use cps_chunk::{Marks, mark_of};
@@ -41,7 +41,7 @@ impl Drop for Differences<'_> {
 }
 
 impl<'a> Naming for Differences<'a> {
-    ghost use Rattle.cps_live.specs.Differences.{passes};
+    ghost use Rattle.cps_live.specs.Code.Differences.{passes};
 
     ghost passes = { passes };
 

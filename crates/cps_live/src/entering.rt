@@ -1,9 +1,9 @@
 //! The lines that a source begins with.
 ghost use Rattle.std.specs.Prelude.{◌≡◌, IfOk, length};
-ghost use Rattle.cps_chunk.specs.Chunk.{lengths_of};
+ghost use Rattle.cps_chunk.specs.Code.Chunk.{lengths_of};
 ghost use Rattle.cps_chunk.specs.Division.{AreChunks};
 ghost use Rattle.cps_edit.specs.Compares.{Steps};
-ghost use Rattle.cps_live.specs.Editing.{IsKept};
+ghost use Rattle.cps_live.specs.Code.Editing.{IsKept};
 ghost use Rattle.cps_live.specs.Entering.{full_chunks};
 
 use crate::chunk_list::chunks_of;

@@ -1,11 +1,11 @@
 //! Two runs of lines that change places.
 ghost use Rattle.std.specs.Prelude.{◌≡◌, ◌<◌, ◌^◌, IfOk, OnOk, OnErr, length, vec_len};
-ghost use Rattle.cps_chunk.specs.Chunk.{lengths_of};
+ghost use Rattle.cps_chunk.specs.Code.Chunk.{lengths_of};
 ghost use Rattle.cps_edit.specs.Compares.{ComparesUpTo, Steps};
 ghost use Rattle.cps_chunk.specs.Sparse.{AreWithin};
-ghost use Rattle.cps_live.specs.Editing.{AreKept, HasRoomToMend, IsKept, IsStill, IsStillWith};
-ghost use Rattle.cps_live.specs.NamesRead.{HasRead, items_of};
-ghost use Rattle.cps_live.specs.Exchanged.{AreMovedParts, HasPassedMoved, HasRuns, IsExchanged, IsMovedPass, IsRecutMoved, LooksOfExchange, StepsOfExchange, looks_by, redone_by};
+ghost use Rattle.cps_live.specs.Code.Editing.{AreKept, HasRoomToMend, IsKept, IsStill, IsStillWith};
+ghost use Rattle.cps_live.specs.Code.NamesRead.{HasRead, items_of};
+ghost use Rattle.cps_live.specs.Code.Exchanged.{AreMovedParts, HasPassedMoved, HasRuns, IsExchanged, IsMovedPass, IsRecutMoved, LooksOfExchange, StepsOfExchange, looks_by, redone_by};
 
 use crate::chunk_list::mark_all;
 use crate::first_pass::FirstPass;

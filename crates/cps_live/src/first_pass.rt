@@ -2,12 +2,12 @@
 ghost use Rattle.std.specs.Prelude.{◌≡◌, IfOk, OnOk, length};
 ghost use Rattle.cps_state.specs.Keys.{first_state};
 ghost use Rattle.cps_edit.specs.Passes.{state_after, traces_from};
-ghost use Rattle.cps_chunk.specs.Chunk.{AreChunksOf, lengths_of};
+ghost use Rattle.cps_chunk.specs.Code.Chunk.{AreChunksOf, lengths_of};
 ghost use Rattle.cps_chunk.specs.Replayed.{state_front};
-ghost use Rattle.cps_chunk.specs.Walk.{IsBaseline, IsStillWalk, IsWalk};
-ghost use Rattle.cps_live.specs.Editing.{IsCut, IsFirstPass, LooksOfFirst, StepsOfFirst, splice_of, traces_of_new};
-ghost use Rattle.cps_live.specs.Exchanged.{HasPassedMoved, HasRuns, IsMovedPass};
-ghost use Rattle.cps_live.specs.FirstPass.{BeginsWalk, IsWalked};
+ghost use Rattle.cps_chunk.specs.Code.Walk.{IsBaseline, IsStillWalk, IsWalk};
+ghost use Rattle.cps_live.specs.Code.Editing.{IsCut, IsFirstPass, LooksOfFirst, StepsOfFirst, splice_of, traces_of_new};
+ghost use Rattle.cps_live.specs.Code.Exchanged.{HasPassedMoved, HasRuns, IsMovedPass};
+ghost use Rattle.cps_live.specs.Code.FirstPass.{BeginsWalk, IsWalked};
 
 use crate::cut::Cut;
 use crate::moved_pass::go_over_moved;

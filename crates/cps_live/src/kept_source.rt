@@ -1,7 +1,7 @@
 //! What is kept of a source, and new lines in the place of others.
 ghost use Rattle.std.specs.Prelude.{◌≡◌, ◌+◌, ◌<◌, ◌^◌, [], IfOk, OnOk, OnErr, vec_len};
-ghost use Rattle.cps_chunk.specs.Chunk.{lengths_of};
-ghost use Rattle.cps_live.specs.Editing.{AreKept, AreMendedEnds, AreNewTraces, AreOutcomesOf, HasPassedAgain, HasReadNews, HasRoomFor, HasRoomToMend, IsCut, IsEdited, IsFirstPass, IsKept, IsStill, IsStillWith, LooksOfFirst, LooksOfSplice, StepsOfFirst, StepsOfSplice, splice_of};
+ghost use Rattle.cps_chunk.specs.Code.Chunk.{lengths_of};
+ghost use Rattle.cps_live.specs.Code.Editing.{AreKept, AreMendedEnds, AreNewTraces, AreOutcomesOf, HasPassedAgain, HasReadNews, HasRoomFor, HasRoomToMend, IsCut, IsEdited, IsFirstPass, IsKept, IsStill, IsStillWith, LooksOfFirst, LooksOfSplice, StepsOfFirst, StepsOfSplice, splice_of};
 
 use crate::chunk_list::{mark_all, put_chunks};
 use crate::cut::Cut;

@@ -1,6 +1,6 @@
 //! Items in the place of others, without memory, and room for more.
 ghost use Rattle.std.specs.Prelude.{◌≡◌, ◌+◌, ◌≤◌, ◌++◌, OnOk, take, drop, vec_len, vec_capacity};
-ghost use Rattle.cps_live.specs.Editing.{put_between};
+ghost use Rattle.cps_live.specs.Code.Editing.{put_between};
 
 use cps_edit::Exchange;
 use std::alloc::AllocError;

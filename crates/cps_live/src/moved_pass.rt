@@ -1,11 +1,11 @@
 //! Pass one of a move.
 ghost use Rattle.std.specs.Prelude.{◌≡◌, ◌+◌, ◌<◌, ◌≤◌, IfOk, OnOk, length};
-ghost use Rattle.cps_chunk.specs.Chunk.{lengths_of};
+ghost use Rattle.cps_chunk.specs.Code.Chunk.{lengths_of};
 ghost use Rattle.cps_edit.specs.Compares.{ComparesUpTo, Steps};
-ghost use Rattle.cps_chunk.specs.Walk.{IsStillWalk, IsWalk};
-ghost use Rattle.cps_live.specs.Exchanged.{HasPassedMoved, HasRuns};
-ghost use Rattle.cps_live.specs.FirstPass.{BeginsWalk};
-ghost use Rattle.cps_live.specs.MovedPass.{IsCrossed, IsMovedWalk, looks_of_runs, ones_of_runs, order_of};
+ghost use Rattle.cps_chunk.specs.Code.Walk.{IsStillWalk, IsWalk};
+ghost use Rattle.cps_live.specs.Code.Exchanged.{HasPassedMoved, HasRuns};
+ghost use Rattle.cps_live.specs.Code.FirstPass.{BeginsWalk};
+ghost use Rattle.cps_live.specs.Code.MovedPass.{IsCrossed, IsMovedWalk, looks_of_runs, ones_of_runs, order_of};
 
 use cps_chunk::{Position, Span, Walk};
 use cps_edit::Exchange;

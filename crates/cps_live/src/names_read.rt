@@ -1,6 +1,6 @@
 //! Which symbols lines read, in a set that only grows.
 ghost use Rattle.std.specs.Prelude.{◌≡◌, ◌∷◌, [], true, OnOk};
-ghost use Rattle.cps_live.specs.NamesRead.{HasRead, StillHas, has_all, has_name, items_of};
+ghost use Rattle.cps_live.specs.Code.NamesRead.{HasRead, StillHas, has_all, has_name, items_of};
 
 use cps_chunk::SparseItem;
 use cps_final::Outcome;

@@ -1,7 +1,7 @@
 //! What a pass makes anew.
 ghost use Rattle.std.specs.Prelude.{◌≡◌, ◌+◌, ◌≤◌, vec_len, vec_capacity};
 ghost use Rattle.cps_chunk.specs.Sparse.{AreWithin, renewed};
-ghost use Rattle.cps_live.specs.Editing.{put_between};
+ghost use Rattle.cps_live.specs.Code.Editing.{put_between};
 
 use crate::lists::put_at;
 use cps_chunk::{SparseItem, put_all};

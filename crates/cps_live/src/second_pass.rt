@@ -5,12 +5,12 @@ ghost use Rattle.cps_final.specs.Resolving.{resolved};
 ghost use Rattle.cps_final.specs.Names.{names_in, all_pass};
 ghost use Rattle.cps_edit.specs.Compares.{ComparesUpTo, Steps};
 ghost use Rattle.cps_edit.specs.Passes.{outcomes_by};
-ghost use Rattle.cps_chunk.specs.Chunk.{AreChunksOf, IsChunkOf, lengths_of};
-ghost use Rattle.cps_chunk.specs.Looks.{items_before, items_from};
+ghost use Rattle.cps_chunk.specs.Code.Chunk.{AreChunksOf, IsChunkOf, lengths_of};
+ghost use Rattle.cps_chunk.specs.Code.Looks.{items_before, items_from};
 ghost use Rattle.cps_chunk.specs.Sparse.{AreWithin};
-ghost use Rattle.cps_chunk.specs.Walk.{stretch};
-ghost use Rattle.cps_live.specs.NamesRead.{HasReadBy};
-ghost use Rattle.cps_live.specs.SecondPass.{AreStillChunks, CutsAround, GoesAround, GoesOver, IsExactPass, IsStillChunk, NameTheSame, NoneDiffers, StandFrom, StepsAround, is_same_in, looks_around, looks_at, looks_in, redone_in};
+ghost use Rattle.cps_chunk.specs.Code.Walk.{stretch};
+ghost use Rattle.cps_live.specs.Code.NamesRead.{HasReadBy};
+ghost use Rattle.cps_live.specs.Code.SecondPass.{AreStillChunks, CutsAround, GoesAround, GoesOver, IsExactPass, IsStillChunk, NameTheSame, NoneDiffers, StandFrom, StepsAround, is_same_in, looks_around, looks_at, looks_in, redone_in};
 
 use crate::cut::Cut;
 use crate::differences::Differences;

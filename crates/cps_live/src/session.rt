@@ -5,13 +5,13 @@ ghost use Rattle.cps_chunk.specs.Division.{IsDivision, inserted_at, deleted_at};
 ghost use Rattle.cps_chunk.specs.Recut.{recut as recut_by};
 ghost use Rattle.cps_edit.specs.Compares.{Steps};
 ghost use Rattle.cps_edit.specs.Splice.{splice_at, spliced, insertion, replacement, deletion};
-ghost use Rattle.cps_live.specs.Editing.{IsCut, splice_of};
+ghost use Rattle.cps_live.specs.Code.Editing.{IsCut, splice_of};
 ghost use Rattle.cps_live.specs.Entering.{full_chunks};
 ghost use Rattle.cps_edit.specs.Assembly.{assembly_of, traces_of};
 ghost use Rattle.cps_edit.specs.Flagged.{flagged_lines as flagged_in};
 ghost use Rattle.cps_edit.specs.Exchange.{exchanged, move};
 ghost use Rattle.cps_chunk.specs.Exchange.{exchanged_at, moved_at};
-ghost use Rattle.cps_live.specs.Cutting.{edit_of, lengths_with};
+ghost use Rattle.cps_live.specs.Code.Cutting.{edit_of, lengths_with};
 ghost use Rattle.cps_live.specs.Edits.{HasLine, LacksLine, HasLines, LacksLines, HasMove, LacksMove, LacksPlace, MayPut, MayNotPut, IsPut, put_of, without_lines, WorkOfEdit, WorkOfMove, LooksOfAppend, LooksOfEdit, LooksOfMove, LooksOfPut, LooksOfExchange};
 
 use crate::cut::Cut;
@@ -60,9 +60,9 @@ impl Drop for Session {
 }
 
 impl Model for Session {
-    ghost use Rattle.cps_chunk.specs.Chunk.{lengths_of};
+    ghost use Rattle.cps_chunk.specs.Code.Chunk.{lengths_of};
     ghost use Rattle.cps_live.specs.Edits.{Source};
-    ghost use Rattle.cps_live.specs.Kept.{IsHeld};
+    ghost use Rattle.cps_live.specs.Code.Kept.{IsHeld};
 
     ghost Value = { Source };
 

@@ -1,11 +1,11 @@
 //! Where blocks and literals stand behind an edit.
 ghost use Rattle.std.specs.Prelude.{◌≡◌, ◌≤◌, ◌++◌, ◌∷◌, [], IfOk, IsTrue, List, length};
 ghost use Rattle.cps_state.specs.Course.{Trace as Did};
-ghost use Rattle.cps_final.specs.Storage.{IsStored};
+ghost use Rattle.cps_final.specs.Code.Storage.{IsStored};
 ghost use Rattle.cps_chunk.specs.Sparse.{AreWithin, renewed};
 ghost use Rattle.cps_edit.specs.Exchange.{exchanged};
-ghost use Rattle.cps_live.specs.Exchanged.{HasRuns};
-ghost use Rattle.cps_live.specs.Storing.{IsStoredBehind, edited, left_by_each};
+ghost use Rattle.cps_live.specs.Code.Exchanged.{HasRuns};
+ghost use Rattle.cps_live.specs.Code.Storing.{IsStoredBehind, edited, left_by_each};
 
 use crate::cut::Cut;
 use crate::news::News;

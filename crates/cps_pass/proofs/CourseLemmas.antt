@@ -4,10 +4,10 @@ use Rattle.std.proofs.lemmas.List.{drop_more}
 use Rattle.cps_text.specs.declared.name.Name.{Name}
 use Rattle.cps_expr.specs.Value.{Values}
 use Rattle.cps_state.specs.Course.{Course, Part}
-use Rattle.cps_state.specs.Line.{Line, Hands, runs}
+use Rattle.cps_state.specs.Code.Line.{Line, Hands, runs}
 use Rattle.cps_state.specs.Keys.{State}
 use Rattle.cps_pass.specs.declared.value_now.NameNow.{NameNow}
-use Rattle.cps_pass.specs.NamesNow.{with_values, name_now}
+use Rattle.cps_pass.specs.Code.NamesNow.{with_values, name_now}
 use Rattle.cps_pass.specs.ValueNow.{with_value, names_now}
 
 with_values-more : (names : List NameNow) (v : NameNow) (values : Values) → with_values (names ++ v ∷ []) values ≡ with_values names (with_value v.name v.value values)

@@ -5,9 +5,9 @@ use Rattle.cps_text.specs.declared.name.Name.{Name}
 use Rattle.cps_expr.specs.declared.value.Value.{Value}
 use Rattle.cps_state.specs.declared.made.Held.{Held}
 use Rattle.cps_state.specs.Course.{Course, Part}
-use Rattle.cps_state.specs.Line.{Line, Hands, runs}
+use Rattle.cps_state.specs.Code.Line.{Line, Hands, runs}
 use Rattle.cps_state.specs.Keys.{State}
-use Rattle.cps_pass.specs.Holding.{holding_after}
+use Rattle.cps_pass.specs.Code.Holding.{holding_after}
 use Rattle.cps_pass.specs.Placing.{held_of, setting_now, settings_now}
 
 pub held-next : {S : Type 0} (names : List Name) (i : ℕ) (d : Name) (value : Option Value) (held more : List Held) (f : S → State) (s t : Line S) → i < length names

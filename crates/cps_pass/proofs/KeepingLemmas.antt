@@ -1,12 +1,12 @@
 -- Lines that were kept are opened.
 use Rattle.std.proofs.Common.{◌≡◌, sym, ap, ◌∙◌, List, ℕ}
 use Rattle.cps_state.specs.Course.{Part, ◌before◌, fill}
-use Rattle.cps_state.specs.Line.{Line, line_filled, runs}
+use Rattle.cps_state.specs.Code.Line.{Line, line_filled, runs}
 use Rattle.cps_state.specs.Keys.{State}
 use Rattle.cps_state.specs.Made.{Made}
 use Rattle.cps_pass.specs.declared.scope.Scope.{Scope}
 use Rattle.cps_pass.specs.Opening.{Opening}
-use Rattle.cps_pass.specs.Taking.{TakesBody, HandsOn}
+use Rattle.cps_pass.specs.Code.Taking.{TakesBody, HandsOn}
 
 -- lines that were taken are opened, after what the statement makes
 pub taken-filled : {S : Type 0} (part : (List (List ℕ) → Scope → Part) → Part) (lines : List (List ℕ)) (opened : Opening) (opens : List (List ℕ) → Opening) (scope : Scope) (made : Made)

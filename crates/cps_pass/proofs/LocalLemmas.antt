@@ -3,11 +3,11 @@ use Rattle.std.proofs.Common.{◌≡◌, sym, ap, ◌∙◌, ℕ, ◌+◌, ◌<�
 use Rattle.std.proofs.lemmas.List.{drop_more, drop_all}
 use Rattle.cps_text.specs.Insertion.{Pairs}
 use Rattle.cps_state.specs.Course.{Course, begin, Part}
-use Rattle.cps_state.specs.Line.{Line, runs, goes_on, Goes}
+use Rattle.cps_state.specs.Code.Line.{Line, runs, goes_on, Goes}
 use Rattle.cps_state.specs.Keys.{State}
 use Rattle.cps_pass.specs.Cards.{card_in}
 use Rattle.cps_pass.specs.Locals.{local_in, naming_all}
-use Rattle.cps_pass.specs.Naming.{Names}
+use Rattle.cps_pass.specs.Code.Naming.{Names}
 
 -- a line, and then those behind it
 pub named : {S : Type 0} (depth : ℕ) (texts : List (List ℕ)) (i : ℕ) (text : List ℕ) (pairs more : Pairs) (complete : Bool) (f : S → State) (s t u : Line S)

@@ -4,16 +4,16 @@ use Rattle.std.proofs.lemmas.Option.{none-some}
 use Rattle.std.specs.Prelude.{option_map, is_some}
 use Rattle.cps_text.specs.Insertion.{Pairs}
 use Rattle.cps_state.specs.Course.{Part}
-use Rattle.cps_state.specs.Line.{Line, Hands, line_filled, runs}
+use Rattle.cps_state.specs.Code.Line.{Line, Hands, line_filled, runs}
 use Rattle.cps_state.specs.Keys.{State}
 use Rattle.cps_state.specs.Made.{Made}
 use Rattle.cps_state.specs.declared.key.Macro.{Macro}
 use Rattle.cps_pass.specs.declared.opened.Opened.{Opened}
 use Rattle.cps_pass.specs.declared.scope.Scope.{Scope}
 use Rattle.cps_pass.specs.Macros.{call_made, calling_with, opening_with}
-use Rattle.cps_pass.specs.Opened.{opening_of}
+use Rattle.cps_pass.specs.Code.Opened.{opening_of}
 use Rattle.cps_pass.specs.Opening.{Opening, none_opened}
-use Rattle.cps_pass.specs.Taking.{HandsOn}
+use Rattle.cps_pass.specs.Code.Taking.{HandsOn}
 
 same-opening : (one other : Opening) → Some other ≡ Some one → other ≡ one
 same-opening one other same = search (same)

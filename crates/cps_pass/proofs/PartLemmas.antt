@@ -2,7 +2,7 @@
 use Rattle.std.proofs.Common.{◌≡◌, ◌∙◌, Result, Ok, Err}
 use Rattle.std.specs.Prelude.{OnOk}
 use Rattle.cps_state.specs.Course.{Part, ◌before◌}
-use Rattle.cps_state.specs.Line.{Line, Does, Hands}
+use Rattle.cps_state.specs.Code.Line.{Line, Does, Hands}
 use Rattle.cps_state.specs.Keys.{State}
 
 -- a value is handed on, and then something is done with it

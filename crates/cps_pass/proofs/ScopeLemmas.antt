@@ -4,7 +4,7 @@ use Rattle.std.specs.Prelude.{OnOk, if◌then◌else◌}
 use Rattle.cps_state.specs.declared.key.Key.TheVariants as key
 use Rattle.cps_state.specs.declared.flags.Flags.{Flags}
 use Rattle.cps_state.specs.Course.{Course, Part, ◌before◌, fill}
-use Rattle.cps_state.specs.Line.{Line, Hands, line_answer, line_asked, line_filled, runs}
+use Rattle.cps_state.specs.Code.Line.{Line, Hands, line_answer, line_asked, line_filled, runs}
 use Rattle.cps_state.specs.Keys.{State, text_of}
 use Rattle.cps_state.specs.Made.{nothing_made}
 use Rattle.cps_pass.specs.Scope.{asking_lines}

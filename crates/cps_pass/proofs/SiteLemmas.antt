@@ -7,7 +7,7 @@ use Rattle.cps_code.specs.declared.place.Place.{Place}
 use Rattle.cps_code.specs.Place.{position}
 use Rattle.cps_state.specs.Machines.{limit}
 use Rattle.cps_pass.specs.declared.placing.Site.{Site}
-use Rattle.cps_pass.specs.Sites.{IsSite, Starts}
+use Rattle.cps_pass.specs.Code.Sites.{IsSite, Starts}
 
 -- no statement starts past the beginning of the next word
 BeforeNext : Place → ℕ → Type 0

@@ -6,7 +6,7 @@ use Rattle.cps_expr.specs.Expression.{Expression}
 use Rattle.cps_state.specs.declared.flags.Flags.{Flags}
 use Rattle.cps_state.specs.declared.made.Content.{Content}
 use Rattle.cps_state.specs.Course.{Course, Part}
-use Rattle.cps_state.specs.Line.{Line, Hands, runs}
+use Rattle.cps_state.specs.Code.Line.{Line, Hands, runs}
 use Rattle.cps_state.specs.Flags.{joined}
 use Rattle.cps_state.specs.Keys.{State}
 use Rattle.cps_state.specs.Made.{no_flags}

@@ -6,7 +6,7 @@ use Rattle.cps_text.specs.Card.{StatementFields, StatementLine}
 use Rattle.cps_state.specs.declared.key.Control.{Control}
 use Rattle.cps_state.specs.Course.{Part}
 use Rattle.cps_state.specs.Keys.{State}
-use Rattle.cps_state.specs.Line.{Line, Hands}
+use Rattle.cps_state.specs.Code.Line.{Line, Hands}
 use Rattle.cps_code.specs.Builtin.{is_operation}
 use Rattle.cps_code.specs.PeripheralTable.{is_operation as is_peripheral_operation}
 use Rattle.cps_pass.specs.declared.reading.Location.{Location}
@@ -25,9 +25,9 @@ use Rattle.cps_pass.specs.Head.{leaving_head}
 use Rattle.cps_pass.specs.declared.opened.Opened.{Opened}
 use Rattle.cps_pass.specs.declared.scope.Scope.{Scope}
 use Rattle.cps_pass.specs.Meaning.{stays_in_head, stated, assembled_as, assembled}
-use Rattle.cps_pass.specs.Opened.{opening_of}
+use Rattle.cps_pass.specs.Code.Opened.{opening_of}
 use Rattle.cps_pass.specs.Scope.{Behind}
-use Rattle.cps_pass.specs.Taking.{HandsOn}
+use Rattle.cps_pass.specs.Code.Taking.{HandsOn}
 
 handed-opens : {T V S : Type 0} (part : (T → Part) → Part) (value : T) (next : T → Behind → Part) (later : Scope) (f : S → State) (s t u : Line S) (r : Result (Option Opened) V)
     → Hands part value f s t → IfOk r (λ opened. HandsOn (next value) later (opening_of opened) f t u)

@@ -9,9 +9,9 @@ use Rattle.cps_state.specs.declared.key.Key.TheVariants as key
 use Rattle.cps_state.specs.declared.key.Answer.{Answer}
 use Rattle.cps_state.specs.Keys.{State, same_key, value_of}
 use Rattle.cps_state.specs.Course.{Running, known_at, answer_at, with_ask}
-use Rattle.cps_state.specs.Line.{Line, line_answer, line_asked, runs}
+use Rattle.cps_state.specs.Code.Line.{Line, line_answer, line_asked, runs}
 use Rattle.cps_state.proofs.KnownLemmas.{known_in-ask}
-use Rattle.cps_pass.specs.Holding.{IsUnset}
+use Rattle.cps_pass.specs.Code.Holding.{IsUnset}
 
 -- an ask, where this is known of its key
 asking_with : State → Running → Key → Option (Option Answer) → Running

@@ -4,7 +4,7 @@ use Rattle.std.proofs.lemmas.List.{drop_more}
 use Rattle.std.specs.Prelude.{IfOk}
 use Rattle.cps_text.specs.Insertion.{Pairs, inserted}
 use Rattle.cps_state.specs.Course.{Course, stop, begin, settle, Part, ◌before◌, nothing, run, started}
-use Rattle.cps_state.specs.Line.{Line, runs, line_started, line_settled, goes_on, Goes}
+use Rattle.cps_state.specs.Code.Line.{Line, runs, line_started, line_settled, goes_on, Goes}
 use Rattle.cps_state.proofs.LineLemmas.{runs-before, runs-done}
 use Rattle.cps_state.specs.declared.item.Item.{Item}
 use Rattle.cps_state.specs.Keys.{State}
@@ -15,11 +15,11 @@ use Rattle.cps_pass.specs.Expansion.{ended, walk, body, too_deep, line_part}
 use Rattle.cps_pass.specs.Treating.{repeated}
 use Rattle.cps_pass.specs.Meaning.{statement}
 use Rattle.cps_pass.specs.Locals.{naming_all}
-use Rattle.cps_pass.specs.Naming.{Names}
-use Rattle.cps_pass.specs.Opened.{opening_of}
+use Rattle.cps_pass.specs.Code.Naming.{Names}
+use Rattle.cps_pass.specs.Code.Opened.{opening_of}
 use Rattle.cps_pass.specs.Opening.{Opening, plain, naming, none_opened}
 use Rattle.cps_pass.specs.Own.{new_expansion}
-use Rattle.cps_pass.specs.Taking.{HandsOn, Walks}
+use Rattle.cps_pass.specs.Code.Taking.{HandsOn, Walks}
 
 -- a statement, and then those after it
 pub walked : {S : Type 0} (nested : ℕ → Opening → Part) (depth : ℕ) (texts : List (List ℕ)) (i : ℕ) (text : List ℕ) (scope later : Scope) (opened : Opening) (complete : Bool) (f : S → State) (s t u v : Line S)

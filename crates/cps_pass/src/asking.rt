@@ -2,7 +2,7 @@
 ghost use Rattle.std.specs.Prelude.{◌≡◌, OnOk, IfOk, IfSome};
 ghost use Rattle.cps_expr.specs.Value.{IsInRange};
 ghost use Rattle.cps_state.specs.Keys.{value_of};
-ghost use Rattle.cps_state.specs.Line.{line_answer, line_asked};
+ghost use Rattle.cps_state.specs.Code.Line.{line_answer, line_asked};
 
 use cps_expr::Value;
 use cps_state::{Key, Lookup, Recorder, value_of};

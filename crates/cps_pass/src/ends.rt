@@ -1,6 +1,6 @@
 //! END on a source line.
 ghost use Rattle.std.specs.Prelude.{◌≡◌, OnOk};
-ghost use Rattle.cps_state.specs.Line.{Does};
+ghost use Rattle.cps_state.specs.Code.Line.{Does};
 ghost use Rattle.cps_pass.specs.End as meaning;
 
 use crate::front::Front;

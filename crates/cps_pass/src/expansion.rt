@@ -1,12 +1,12 @@
 //! The statements that a source line stands for: its own, and those that it opens.
 ghost use Rattle.std.specs.Prelude.{◌≡◌, ◌≤◌, ◌+◌, ◌-◌, IfOk, OnOk, Some};
 ghost use Rattle.cps_state.specs.Course.{stop};
-ghost use Rattle.cps_state.specs.Line.{Does, Goes, runs};
-ghost use Rattle.cps_state.specs.Sheet.{StandsOn, statements_on};
+ghost use Rattle.cps_state.specs.Code.Line.{Does, Goes, runs};
+ghost use Rattle.cps_state.specs.Code.Sheet.{StandsOn, statements_on};
 ghost use Rattle.cps_pass.specs.Expansion.{ended, opened_at, too_deep, walk_at};
 ghost use Rattle.cps_pass.specs.Expansion as expansion;
-ghost use Rattle.cps_pass.specs.Taking.{Walks};
-ghost use Rattle.cps_pass.specs.Opened.{opening_of, body_opening, lines_of};
+ghost use Rattle.cps_pass.specs.Code.Taking.{Walks};
+ghost use Rattle.cps_pass.specs.Code.Opened.{opening_of, body_opening, lines_of};
 ghost use Rattle.cps_pass.specs.Opening.{plain};
 
 use crate::macros::insert_all;

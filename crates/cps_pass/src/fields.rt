@@ -1,9 +1,9 @@
 //! VFD: fields of any width.
 ghost use Rattle.std.specs.Prelude.{◌≡◌, ◌<◌, ◌≤◌, All, IfOk, IfSome, OnOk};
-ghost use Rattle.cps_state.specs.Line.{Does, Hands};
+ghost use Rattle.cps_state.specs.Code.Line.{Does, Hands};
 ghost use Rattle.cps_state.specs.Made.{IsContent};
 ghost use Rattle.cps_pass.specs.Fields as meaning;
-ghost use Rattle.cps_pass.specs.Sites.{IsSite};
+ghost use Rattle.cps_pass.specs.Code.Sites.{IsSite};
 
 use crate::front::Front;
 use crate::numbers::{between, plain_number};

@@ -1,6 +1,6 @@
 //! Leaving the head of a program, and IDENT, ABS, PERIPH and BASE.
 ghost use Rattle.std.specs.Prelude.{◌≡◌, Option, Some, OnOk, IfOk};
-ghost use Rattle.cps_state.specs.Line.{Does, Hands, line_put};
+ghost use Rattle.cps_state.specs.Code.Line.{Does, Hands, line_put};
 ghost use Rattle.cps_pass.specs.Head as head;
 
 use crate::front::Front;

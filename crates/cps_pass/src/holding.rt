@@ -2,9 +2,9 @@
 ghost use Rattle.std.specs.Prelude.{◌≡◌, true, Some, ◌++◌, flat_map, All, OnOk, IfOk, IfSome};
 ghost use Rattle.cps_code.specs.Operand.{operand_names};
 ghost use Rattle.cps_expr.specs.Value.{IsInRange};
-ghost use Rattle.cps_state.specs.Line.{Hands};
+ghost use Rattle.cps_state.specs.Code.Line.{Hands};
 ghost use Rattle.cps_state.specs.Made.{IsHeld, content_names};
-ghost use Rattle.cps_pass.specs.Holding.{HoldsMore, IsUnset, IsHolding};
+ghost use Rattle.cps_pass.specs.Code.Holding.{HoldsMore, IsUnset, IsHolding};
 ghost use Rattle.cps_pass.specs.Placing as placing;
 
 use crate::asking::ask_value;

@@ -1,6 +1,6 @@
 //! Pass one of an instruction.
 ghost use Rattle.std.specs.Prelude.{OnOk};
-ghost use Rattle.cps_state.specs.Line.{Does};
+ghost use Rattle.cps_state.specs.Code.Line.{Does};
 ghost use Rattle.cps_pass.specs.Instruction as instructions;
 
 use crate::front::Front;

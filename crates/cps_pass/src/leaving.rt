@@ -1,6 +1,6 @@
 //! Using another block: what ORG and USE share.
 ghost use Rattle.std.specs.Prelude.{OnOk};
-ghost use Rattle.cps_state.specs.Line.{Does};
+ghost use Rattle.cps_state.specs.Code.Line.{Does};
 ghost use Rattle.cps_pass.specs.Leaving as meaning;
 
 use crate::head::put_control;

@@ -1,7 +1,7 @@
 //! Location fields, and the symbols that they define.
 ghost use Rattle.std.specs.Prelude.{◌≡◌, OnOk, IfOk};
 ghost use Rattle.cps_state.specs.Course.{telling_if};
-ghost use Rattle.cps_state.specs.Line.{Does, Hands};
+ghost use Rattle.cps_state.specs.Code.Line.{Does, Hands};
 ghost use Rattle.cps_pass.specs.Located as located;
 
 use crate::asking::ask_value;

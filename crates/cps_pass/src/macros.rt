@@ -2,11 +2,11 @@
 ghost use Rattle.std.specs.Prelude.{◌≡◌, Some, IfOk, map};
 ghost use Rattle.std.specs.Option.{option_copied as copied};
 ghost use Rattle.cps_text.specs.Insertion.{pairs_value, inserted};
-ghost use Rattle.cps_state.specs.Line.{Hands};
+ghost use Rattle.cps_state.specs.Code.Line.{Hands};
 ghost use Rattle.cps_pass.specs.Macros as macros;
 ghost use Rattle.cps_pass.specs.Macros.{macro_from};
-ghost use Rattle.cps_pass.specs.Opened.{opening_of};
-ghost use Rattle.cps_pass.specs.Taking.{Leads, Opens, OpensBody};
+ghost use Rattle.cps_pass.specs.Code.Opened.{opening_of};
+ghost use Rattle.cps_pass.specs.Code.Taking.{Leads, Opens, OpensBody};
 
 use crate::front::Front;
 use crate::keeping::no_lines;

@@ -1,6 +1,6 @@
 //! Statements that make nothing but flags.
 ghost use Rattle.std.specs.Prelude.{◌≡◌, true};
-ghost use Rattle.cps_state.specs.Line.{line_filled};
+ghost use Rattle.cps_state.specs.Code.Line.{line_filled};
 ghost use Rattle.cps_state.specs.Made.{nothing_made, no_flags};
 ghost use Rattle.cps_pass.specs.Located.{present_flags};
 

@@ -7,7 +7,7 @@ ghost use Rattle.cps_text.specs.Operands.{operands_of};
 ghost use Rattle.cps_expr.specs.Row.{locals_of};
 ghost use Rattle.cps_pass.specs.Cards.{card_in};
 ghost use Rattle.cps_pass.specs.Locals as locals;
-ghost use Rattle.cps_pass.specs.Naming.{Names};
+ghost use Rattle.cps_pass.specs.Code.Naming.{Names};
 
 use crate::columns::card_in;
 use crate::located::present_flags;

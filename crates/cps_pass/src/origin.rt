@@ -1,6 +1,6 @@
 //! ORG: goes on at an address, in the block of its value.
 ghost use Rattle.std.specs.Prelude.{◌<◌, ◌^◌, OnOk};
-ghost use Rattle.cps_state.specs.Line.{Does};
+ghost use Rattle.cps_state.specs.Code.Line.{Does};
 ghost use Rattle.cps_pass.specs.Origin as meaning;
 
 use crate::front::Front;

@@ -4,7 +4,7 @@ ghost use Rattle.std.specs.Option.{option_to_list};
 ghost use Rattle.cps_code.specs.Place.{position, start_of, is_forced};
 ghost use Rattle.cps_code.specs.Image.{piece_of};
 ghost use Rattle.cps_state.specs.Keys.{place_of};
-ghost use Rattle.cps_state.specs.Line.{line_answer, line_asked, line_put, line_stood};
+ghost use Rattle.cps_state.specs.Code.Line.{line_answer, line_asked, line_put, line_stood};
 ghost use Rattle.cps_state.specs.Machines.{limit};
 ghost use Rattle.cps_pass.specs.Places as places;
 

@@ -3,11 +3,11 @@ ghost use Rattle.std.specs.Prelude.{◌≡◌, ◌⊎◌, ◌<◌, [], All, OnOk
 ghost use Rattle.std.specs.Option.{option_to_list};
 ghost use Rattle.cps_code.specs.Image.{piece_of};
 ghost use Rattle.cps_code.specs.Place.{position};
-ghost use Rattle.cps_state.specs.Line.{Does, Hands, line_filled};
+ghost use Rattle.cps_state.specs.Code.Line.{Does, Hands, line_filled};
 ghost use Rattle.cps_state.specs.Made.{width_of, IsContent, IsHeld};
 ghost use Rattle.cps_pass.specs.Placing as placing;
 ghost use Rattle.cps_pass.specs.Places.{filling_between};
-ghost use Rattle.cps_pass.specs.Sites.{IsSite, Starts};
+ghost use Rattle.cps_pass.specs.Code.Sites.{IsSite, Starts};
 
 use crate::front::Front;
 use crate::holding::hold;

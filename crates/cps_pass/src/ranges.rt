@@ -1,8 +1,8 @@
 //! Conditional assembly: IFEQ and the like, IF, ELSE and ENDIF.
 ghost use Rattle.std.specs.Prelude.{◌≡◌, IfOk};
-ghost use Rattle.cps_state.specs.Line.{Hands};
+ghost use Rattle.cps_state.specs.Code.Line.{Hands};
 ghost use Rattle.cps_pass.specs.Ranges as meaning;
-ghost use Rattle.cps_pass.specs.Taking.{Leads};
+ghost use Rattle.cps_pass.specs.Code.Taking.{Leads};
 
 use crate::front::Front;
 use crate::located::{ask_standing, has_value, present_flags};

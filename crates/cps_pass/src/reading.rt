@@ -2,7 +2,7 @@
 ghost use Rattle.std.specs.Prelude.{◌≡◌, IfOk};
 ghost use Rattle.cps_expr.specs.Statement.{row_with};
 ghost use Rattle.cps_text.specs.Name.{name_of};
-ghost use Rattle.cps_pass.specs.Readings.{IsStating};
+ghost use Rattle.cps_pass.specs.Code.Readings.{IsStating};
 ghost use Rattle.cps_pass.specs.Reading.{symbol_or_none, location_in, row_or_none, instruction_in, stating_in};
 
 use cps_code::{CpForm, FormFault, PpForm, cp_form, pp_form};

@@ -2,7 +2,7 @@
 ghost use Rattle.std.specs.Prelude.{◌≡◌};
 ghost use Rattle.cps_pass.specs.Numbers.{plain_number};
 ghost use Rattle.cps_pass.specs.Repeating as meaning;
-ghost use Rattle.cps_pass.specs.Taking.{Leads, repeating_known};
+ghost use Rattle.cps_pass.specs.Code.Taking.{Leads, repeating_known};
 
 use crate::front::Front;
 use crate::keeping::no_lines;

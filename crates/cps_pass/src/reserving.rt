@@ -3,10 +3,10 @@ ghost use Rattle.std.specs.Prelude.{◌≡◌, OnOk, option_map};
 ghost use Rattle.std.specs.Option.{option_to_list};
 ghost use Rattle.cps_code.specs.Image.{piece_of};
 ghost use Rattle.cps_code.specs.Place.{position};
-ghost use Rattle.cps_state.specs.Line.{Does};
+ghost use Rattle.cps_state.specs.Code.Line.{Does};
 ghost use Rattle.cps_pass.specs.Places.{filling_between};
 ghost use Rattle.cps_pass.specs.Reserving as meaning;
-ghost use Rattle.cps_pass.specs.Sites.{IsSite, Starts};
+ghost use Rattle.cps_pass.specs.Code.Sites.{IsSite, Starts};
 
 use crate::front::Front;
 use crate::numbers::{no_number_flags, plain_number};

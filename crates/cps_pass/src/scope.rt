@@ -1,9 +1,9 @@
 //! Where a statement stands: a source line, or a statement of an expansion.
 ghost use Rattle.std.specs.Prelude.{◌≡◌, IfOk};
-ghost use Rattle.cps_state.specs.Line.{Hands};
+ghost use Rattle.cps_state.specs.Code.Line.{Hands};
 ghost use Rattle.cps_pass.specs.Own.{new_expansion};
 ghost use Rattle.cps_pass.specs.Scope as meaning;
-ghost use Rattle.cps_pass.specs.Taking.{Leads, TakesBody};
+ghost use Rattle.cps_pass.specs.Code.Taking.{Leads, TakesBody};
 
 use cps_state::{
     Answer, Control, Key, Lookup, Mode, Range, Recorder, Shared, SharedMode, ranges_of, text_of,

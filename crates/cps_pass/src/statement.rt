@@ -5,13 +5,13 @@ ghost use Rattle.cps_expr.specs.Bounds.{IsBounded};
 ghost use Rattle.cps_expr.specs.Operation.{operation_named};
 ghost use Rattle.cps_text.specs.Card.{StatementLine};
 ghost use Rattle.cps_text.specs.CardFields.{fields_value, statement_value};
-ghost use Rattle.cps_state.specs.Line.{Does};
+ghost use Rattle.cps_state.specs.Code.Line.{Does};
 ghost use Rattle.cps_pass.specs.Cards as cards;
 ghost use Rattle.cps_pass.specs.Meaning as meaning;
 ghost use Rattle.cps_pass.specs.Meaning.{assembled, macro};
-ghost use Rattle.cps_pass.specs.Opened.{opening_of};
-ghost use Rattle.cps_pass.specs.Taking as taking;
-ghost use Rattle.cps_pass.specs.Taking.{HandsOn, Leads, Opens, unnamed};
+ghost use Rattle.cps_pass.specs.Code.Opened.{opening_of};
+ghost use Rattle.cps_pass.specs.Code.Taking as taking;
+ghost use Rattle.cps_pass.specs.Code.Taking.{HandsOn, Leads, Opens, unnamed};
 
 use crate::columns::card_in;
 use crate::ends::end;

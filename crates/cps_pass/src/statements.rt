@@ -1,7 +1,7 @@
 //! Statements that neither skip lines nor keep nor open them, by what they say.
 ghost use Rattle.std.specs.Prelude.{OnOk};
 ghost use Rattle.cps_expr.specs.Bounds.{IsBounded};
-ghost use Rattle.cps_state.specs.Line.{Does};
+ghost use Rattle.cps_state.specs.Code.Line.{Does};
 ghost use Rattle.cps_pass.specs.Statements as statements;
 
 use crate::fields::{unread_vfd, vfd};

@@ -2,7 +2,7 @@
 ghost use Rattle.std.specs.Prelude.{◌≡◌, IfOk, OnOk};
 ghost use Rattle.cps_state.specs.Course.{Holds};
 ghost use Rattle.cps_state.specs.Keys as keys;
-ghost use Rattle.cps_state.specs.Sheet.{StandsOn, statements_on};
+ghost use Rattle.cps_state.specs.Code.Sheet.{StandsOn, statements_on};
 ghost use Rattle.cps_state.specs.Work.{raised};
 ghost use Rattle.cps_state.specs.declared.work.Tally.TheVariants as tally;
 ghost use Rattle.cps_pass.specs.Bounded.{AreFew, EachOnce};

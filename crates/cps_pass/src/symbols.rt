@@ -1,6 +1,6 @@
 //! EQU, `=` and SET.
 ghost use Rattle.std.specs.Prelude.{◌≡◌, OnOk, IfOk};
-ghost use Rattle.cps_state.specs.Line.{Does, Hands, line_filled};
+ghost use Rattle.cps_state.specs.Code.Line.{Does, Hands, line_filled};
 ghost use Rattle.cps_pass.specs.Symbols as symbols;
 ghost use Rattle.cps_pass.specs.Located.{symbol_in, defining};
 

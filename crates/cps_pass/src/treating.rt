@@ -1,8 +1,8 @@
 //! Lines that are not assembled: they are skipped or kept, and closing ones open what was kept.
 ghost use Rattle.std.specs.Prelude.{◌≡◌, ◌++◌, IfOk};
-ghost use Rattle.cps_pass.specs.Opened.{opening_of};
+ghost use Rattle.cps_pass.specs.Code.Opened.{opening_of};
 ghost use Rattle.cps_pass.specs.Opening.{plain};
-ghost use Rattle.cps_pass.specs.Taking.{Leads, Opens, with_passing};
+ghost use Rattle.cps_pass.specs.Code.Taking.{Leads, Opens, with_passing};
 ghost use Rattle.cps_pass.specs.Treating as treating;
 
 use crate::lines::macro_of_lines;

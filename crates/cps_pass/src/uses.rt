@@ -2,7 +2,7 @@
 ghost use Rattle.std.specs.Prelude.{◌≡◌, ◌<◌, ◌^◌, OnOk, IfOk};
 ghost use Rattle.std.specs.Option.{option_copied};
 ghost use Rattle.cps_state.specs.Keys.{uses_of};
-ghost use Rattle.cps_state.specs.Line.{Does, line_answer, line_asked};
+ghost use Rattle.cps_state.specs.Code.Line.{Does, line_answer, line_asked};
 ghost use Rattle.cps_pass.specs.Use as use_of;
 
 use crate::front::Front;

@@ -1,8 +1,8 @@
 //! Values in pass one, in which a name counts if it was defined before, and the value that SET gave it stands before its label.
 ghost use Rattle.std.specs.Prelude.{◌≡◌, IfOk};
-ghost use Rattle.cps_state.specs.Line.{Hands};
+ghost use Rattle.cps_state.specs.Code.Line.{Hands};
 ghost use Rattle.cps_pass.specs.ValueNow as now;
-ghost use Rattle.cps_pass.specs.NamesNow.{values_in, name_now};
+ghost use Rattle.cps_pass.specs.Code.NamesNow.{values_in, name_now};
 
 use crate::asking::ask_value;
 use crate::places::{here_at, stand};
@@ -35,7 +35,7 @@ struct NamesNow {
 }
 
 impl Names for NamesNow {
-    ghost use Rattle.cps_pass.specs.NamesNow.{values_in};
+    ghost use Rattle.cps_pass.specs.Code.NamesNow.{values_in};
 
     ghost value = { λ now. values_in now.names.items };
 

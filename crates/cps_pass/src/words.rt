@@ -1,9 +1,9 @@
 //! CON, DATA and DIS: words from the beginning of a word on.
 ghost use Rattle.std.specs.Prelude.{◌≡◌, ◌<◌, ◌^◌, ◌*◌, ◌/◌, ◌+◌, ◌-◌, take, drop, All, IfOk, OnOk};
 ghost use Rattle.cps_expr.specs.Item.{bits_of, characters_in_word, packed_characters};
-ghost use Rattle.cps_state.specs.Line.{Does};
+ghost use Rattle.cps_state.specs.Code.Line.{Does};
 ghost use Rattle.cps_state.specs.Made.{width_of, IsContent};
-ghost use Rattle.cps_pass.specs.Sites.{IsSite};
+ghost use Rattle.cps_pass.specs.Code.Sites.{IsSite};
 ghost use Rattle.cps_pass.specs.Words as meaning;
 
 use crate::front::Front;

@@ -7,7 +7,7 @@ use Rattle.cps_rpc.specs.declared.stream.StreamFault.{StreamFault}
 use Rattle.cps_rpc.specs.declared.stream.StreamFault.TheVariants as stream
 use Rattle.cps_rpc.specs.Conversation.{AnswerRelation}
 use Rattle.cps_rpc.specs.Faults.{of_stream}
-use Rattle.cps_rpc.specs.Answering.{AnswersMessage, WritesAnswers, AnswersStream}
+use Rattle.cps_rpc.specs.Code.Answering.{AnswersMessage, WritesAnswers, AnswersStream}
 use Rattle.cps_rpc.proofs.ConversationLemmas.{conversation-push, conversation-none}
 
 -- before the first message

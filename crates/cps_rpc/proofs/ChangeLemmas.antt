@@ -12,7 +12,7 @@ use Rattle.cps_rpc.specs.declared.spot.Spot.{Spot}
 use Rattle.cps_rpc.specs.Changes.{changed, first_touched, end_touched}
 use Rattle.cps_rpc.specs.Lines.{AreLines, text_lines, text_of}
 use Rattle.cps_rpc.specs.Positions.{place_of, line_of}
-use Rattle.cps_rpc.specs.Spots.{IsSpot, IsSpotOf, IsBehindBoth, text_place, between}
+use Rattle.cps_rpc.specs.Code.Spots.{IsSpot, IsSpotOf, IsBehindBoth, text_place, between}
 use Rattle.cps_rpc.proofs.LineLemmas.{texts, texts-splice}
 use Rattle.cps_rpc.proofs.TextLemmas.{ended, begun, text_of-front, text_of-back, text_of-middle, text_lines-text_of, all-front, all-back, all-both}
 

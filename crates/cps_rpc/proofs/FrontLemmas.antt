@@ -10,7 +10,7 @@ use Rattle.cps_rpc.specs.declared.front.Front.{Front}
 use Rattle.cps_rpc.specs.declared.front.Front.TheVariants.{Part, Message, Malformed}
 use Rattle.cps_rpc.specs.Header.{IsHeader, length_told, most_fields}
 use Rattle.cps_rpc.specs.Messages.{BeginsWithMessage, HasNoMessage, NeverHasMessage, IsPart}
-use Rattle.cps_rpc.specs.Front.{IfMessage, told_by}
+use Rattle.cps_rpc.specs.Code.Front.{IfMessage, told_by}
 
 -- a section whose headers tell the length of a message is its header
 section_header : (bytes : List ℕ) (headers : List HeaderSpan) (start count : ℕ) (section : IsSectionOf bytes 0 headers (start, count))

@@ -5,7 +5,7 @@ use Rattle.cps_rpc.specs.declared.encoding.Encoding.{Encoding}
 use Rattle.cps_rpc.specs.declared.position.Position.{Position}
 use Rattle.cps_rpc.specs.declared.spot.Spot.{Spot}
 use Rattle.cps_rpc.specs.Positions.{place_in, place_among}
-use Rattle.cps_rpc.specs.Spots.{IsSpot, IsSpotOf, IsBehindBoth, text_place}
+use Rattle.cps_rpc.specs.Code.Spots.{IsSpot, IsSpotOf, IsBehindBoth, text_place}
 use Rattle.cps_rpc.proofs.TextLemmas.{ended}
 
 -- ---- the place of a position

@@ -15,7 +15,7 @@ use Rattle.cps_rpc.specs.declared.fault.ServerFault.TheVariants as faults
 use Rattle.cps_rpc.specs.Conversation.{AnswerRelation, Conversation, WholeConversation, Waits}
 use Rattle.cps_rpc.specs.Reads.{Gave}
 use Rattle.cps_rpc.specs.Written.{IsWritten}
-use Rattle.cps_rpc.specs.Answering.{WritesAnswers, AnswersStream}
+use Rattle.cps_rpc.specs.Code.Answering.{WritesAnswers, AnswersStream}
 use Rattle.cps_rpc.specs.Serving.{HasAnswered, ServedToEnd, Serves}
 use Rattle.cps_rpc.proofs.ConversationLemmas.{conversation-none, conversation-append}
 

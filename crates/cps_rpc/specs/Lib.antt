@@ -1,6 +1,5 @@
 pub mod Header
 pub mod Messages
-pub mod Front
 pub mod Frame
 pub mod StreamLaws
 pub mod Json
@@ -10,13 +9,12 @@ pub mod Outgoing
 pub mod Written
 pub mod Reads
 pub mod Conversation
-pub mod Answering
 pub mod Serving
 pub mod Faults
 pub mod ConversationLaws
 pub mod Positions
 pub mod Lines
 pub mod Changes
-pub mod Spots
 pub mod TextLaws
 pub mod Params
+pub mod Code

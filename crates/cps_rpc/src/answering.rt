@@ -1,6 +1,6 @@
 //! The messages that have come, answered.
 ghost use Rattle.std.specs.Prelude.{◌≡◌, false};
-ghost use Rattle.cps_rpc.specs.Answering.{AnswersMessage, AnswersStream};
+ghost use Rattle.cps_rpc.specs.Code.Answering.{AnswersMessage, AnswersStream};
 
 use crate::fault::ServerFault;
 use crate::service::Service;

@@ -4,7 +4,7 @@ ghost use Rattle.std.specs.List.{splice};
 ghost use Rattle.cps_input.specs.Lines.{has_no_newline, newline};
 ghost use Rattle.cps_rpc.specs.Changes.{changed, IsReplacement};
 ghost use Rattle.cps_rpc.specs.Lines.{text_lines, source_lines};
-ghost use Rattle.cps_rpc.specs.Spots.{IsSpot, between};
+ghost use Rattle.cps_rpc.specs.Code.Spots.{IsSpot, between};
 
 use crate::encoding::Encoding;
 use crate::position::Range;

@@ -2,7 +2,7 @@
 ghost use Rattle.std.specs.Prelude.{◌≡◌, ◌+◌, ◌-◌, ◌<◌, ◌≤◌, All, IsSomeAnd, None, Some, drop, length, slice_range};
 ghost use Rattle.httparse.specs.Spans.{IsHeaderWithin};
 ghost use Rattle.cps_rpc.specs.Messages.{BeginsWithMessage, IsPart, NeverHasMessage};
-ghost use Rattle.cps_rpc.specs.Front.{IfMessage, told_by};
+ghost use Rattle.cps_rpc.specs.Code.Front.{IfMessage, told_by};
 
 use crate::length::length_told;
 use httparse::Status;

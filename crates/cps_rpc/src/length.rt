@@ -5,7 +5,7 @@ ghost use Rattle.std.specs.Char.{is_ascii_digit};
 ghost use Rattle.std.specs.Str.Parse.{digits_value};
 ghost use Rattle.httparse.specs.Spans.{IsHeaderWithin};
 ghost use Rattle.cps_rpc.specs.Header.{is_length, is_length_name, length_in};
-ghost use Rattle.cps_rpc.specs.Front.{told_by};
+ghost use Rattle.cps_rpc.specs.Code.Front.{told_by};
 
 use httparse::spans::HeaderSpan;
 

@@ -1,6 +1,6 @@
 //! A place among lines.
 ghost use Rattle.std.specs.Prelude.{ℕ, ◌<◌, List, map, length};
-ghost use Rattle.cps_rpc.specs.Spots.{IsBehindBoth, IsSpot, IsSpotOf};
+ghost use Rattle.cps_rpc.specs.Code.Spots.{IsBehindBoth, IsSpot, IsSpotOf};
 
 use crate::encoding::Encoding;
 use crate::place::place_in;

@@ -4,7 +4,7 @@ use Rattle.std.specs.List.{All}
 use Rattle.std.proofs.lemmas.List.Elements.{All-append}
 use Rattle.serde_json.specs.Data.{Data}
 use Rattle.cps_server.specs.Results.{IsCompletion}
-use Rattle.cps_server.specs.Telling.{KeepsCompletions}
+use Rattle.cps_server.specs.Code.Telling.{KeepsCompletions}
 
 none-yet : (range : Data) → All (IsCompletion range) []
 none-yet range k d within = absurd (omega (arith, within))

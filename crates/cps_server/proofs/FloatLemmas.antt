@@ -7,10 +7,10 @@ use Rattle.serde_json.specs.Written.{has_float}
 use Rattle.cps_rpc.specs.declared.encoding.Encoding.{Encoding}
 use Rattle.cps_rpc.specs.declared.encoding.Encoding.TheVariants.{Utf8, Utf16}
 use Rattle.cps_rpc.specs.Message.{request, response, invalid, message_in, message_by, method_of, is_identifier, is_answer}
-use Rattle.cps_server.specs.Telling.{has_float_told}
-use Rattle.cps_server.specs.Owing.{has_float_owed}
+use Rattle.cps_server.specs.Code.Telling.{has_float_told}
+use Rattle.cps_server.specs.Code.Owing.{has_float_owed}
 use Rattle.cps_server.specs.Requests.{introduction, owed_by}
-use Rattle.cps_server.specs.Said.{has_float_id}
+use Rattle.cps_server.specs.Code.Said.{has_float_id}
 
 -- ---- identifiers
 

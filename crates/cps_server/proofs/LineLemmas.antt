@@ -26,7 +26,7 @@ use Rattle.cps_rpc.specs.Lines.{source_lines}
 use Rattle.cps_server.specs.Document.{source_of_text}
 use Rattle.cps_server.proofs.SourceLemmas.{length-cards}
 use Rattle.cps_server.specs.declared.mark.Mark as made
-use Rattle.cps_server.specs.Adding.{Adds, AddsFlags, AddsLine}
+use Rattle.cps_server.specs.Code.Adding.{Adds, AddsFlags, AddsLine}
 use Rattle.cps_server.specs.Marks.{Mark, MarksLine, fault_mark, flag_mark}
 use Rattle.cps_server.proofs.FlagLemmas.{none-there, true-false}
 use Rattle.cps_server.proofs.MarkLemmas.{Adds-none}

@@ -7,7 +7,7 @@ use Rattle.std.proofs.lemmas.List.{map_more, map_push, take-append-drop}
 use Rattle.cps_edit.specs.Limits.{most_lines}
 use Rattle.cps_final.specs.Outcome.{Outcome}
 use Rattle.cps_server.specs.declared.mark.Mark as made
-use Rattle.cps_server.specs.Adding.{Adds, excess_of}
+use Rattle.cps_server.specs.Code.Adding.{Adds, excess_of}
 use Rattle.cps_server.specs.Marks.{Mark, MarksLine, MarksLines, excess_mark, place_of}
 
 -- ---- marks to which more are added

@@ -15,7 +15,7 @@ use Rattle.cps_server.specs.Queries.{Tells, TellsOf}
 use Rattle.cps_rpc.specs.declared.markup.Markup.{Markup}
 use Rattle.cps_server.specs.Ranges.{IsInLine, told_units, word_at}
 use Rattle.cps_server.specs.Results.{IsCompletion, TellsEach, TellsFirst, TellsMention, TellsSymbol, hint_at, hint_in, hover, lines_within, listing_json, text_beside}
-use Rattle.cps_server.specs.Telling.{has_float_told}
+use Rattle.cps_server.specs.Code.Telling.{has_float_told}
 use Rattle.cps_edit.specs.Assembly.{assembly_of}
 use Rattle.cps_server.specs.Document.{source_of_text}
 use Rattle.cps_server.specs.Symbols.{definitions, line_of, mentions_in}

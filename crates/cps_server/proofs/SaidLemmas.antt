@@ -4,7 +4,7 @@ use Rattle.std.specs.Prelude.{Result, Ok, Err, OnOk}
 use Rattle.std.proofs.lemmas.List.{append-nil}
 use Rattle.serde_json.specs.Data.{Data}
 use Rattle.cps_server.specs.Frames.{frame_of_json}
-use Rattle.cps_server.specs.Said.{Adds}
+use Rattle.cps_server.specs.Code.Said.{Adds}
 
 -- nothing
 pub adds-none : (says : List Data → Type 0) (old : List ℕ) → says [] → Adds says old old

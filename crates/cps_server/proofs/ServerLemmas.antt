@@ -13,9 +13,9 @@ use Rattle.cps_server.specs.Diagnostics.{published}
 use Rattle.cps_server.specs.Frames.{frame_of_json}
 use Rattle.cps_server.specs.Notices.{TakesText, Opens, OpensBy, ChangesText, ClosesText, changed_by}
 use Rattle.cps_server.specs.Requests.{Owed, Owes, after_request, answer_with, request_named}
-use Rattle.cps_server.specs.Said.{Adds}
+use Rattle.cps_server.specs.Code.Said.{Adds}
 use Rattle.cps_server.specs.Standing.{OpenText, Standing, open_under, with_text, without}
-use Rattle.cps_server.specs.Writing.{ListsText, published_text}
+use Rattle.cps_server.specs.Code.Writing.{ListsText, published_text}
 use Rattle.cps_server.proofs.SaidLemmas.{adds-one, adds-as}
 use Rattle.cps_server.proofs.TextLemmas.{without-twice}
 use Rattle.cps_server.proofs.WritingLemmas.{published-written}

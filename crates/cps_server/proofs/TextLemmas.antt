@@ -3,7 +3,7 @@ use Rattle.std.proofs.Common.{rules, ◌≡◌, refl, sym, ap, ◌∙◌, ℕ, z
 use Rattle.std.specs.Prelude.{filter, not, slice_get, unwrap_or, if◌then◌else◌}
 use Rattle.std.specs.List.{remove}
 use Rattle.cps_server.specs.declared.open_texts.OpenText as code
-use Rattle.cps_server.specs.Opened.{value_of}
+use Rattle.cps_server.specs.Code.Opened.{value_of}
 use Rattle.cps_server.specs.Standing.{OpenText, is_under, open_under, without}
 
 -- the first of some texts stands under a URI: it goes

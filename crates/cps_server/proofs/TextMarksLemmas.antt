@@ -12,7 +12,7 @@ use Rattle.cps_rpc.specs.Lines.{source_lines}
 use Rattle.cps_server.specs.Document.{source_of_text}
 use Rattle.cps_server.proofs.SourceLemmas.{length-cards}
 use Rattle.cps_server.specs.declared.mark.Mark as made
-use Rattle.cps_server.specs.Adding.{Adds, AddsEnd, AddsLine, AddsLines, excess_of}
+use Rattle.cps_server.specs.Code.Adding.{Adds, AddsEnd, AddsLine, AddsLines, excess_of}
 use Rattle.cps_server.specs.Marks.{Mark, Marks, MarksLines, place_of}
 use Rattle.cps_server.proofs.LineLemmas.{length-outcomes}
 use Rattle.cps_server.proofs.MarkLemmas.{Adds-append, Adds-none, MarksLines-all, MarksLines-next}

@@ -19,7 +19,7 @@ use Rattle.cps_server.specs.Marks.{Mark, Marks, place_of}
 use Rattle.cps_server.specs.Ranges.{position, range_of, told_units}
 use Rattle.cps_server.specs.declared.diagnostic.Stretch.{Stretch}
 use Rattle.cps_server.specs.Diagnostics.{TellsMark, TellsMarks, diagnostic, letter_name, more_message, most_told, published, range_among, report, told_of_more}
-use Rattle.cps_server.specs.Writing.{AddsMark, AddsMarks, ListsText, diagnostic_text, document_text, information_text, list_text, more_text, position_text, published_text, range_text, report_text, version_text}
+use Rattle.cps_server.specs.Code.Writing.{AddsMark, AddsMarks, ListsText, diagnostic_text, document_text, information_text, list_text, more_text, position_text, published_text, range_text, report_text, version_text}
 
 -- ---- a diagnostic
 

@@ -1,6 +1,5 @@
 pub mod Document
 pub mod Marks
-pub mod Adding
 pub mod Laws
 pub mod Words
 pub mod Symbols
@@ -8,7 +7,6 @@ pub mod Rows
 pub mod Ranges
 pub mod Results
 pub mod Queries
-pub mod Telling
 pub mod Frames
 pub mod Standing
 pub mod Requests
@@ -16,8 +14,4 @@ pub mod Diagnostics
 pub mod Notices
 pub mod Answers
 pub mod Running
-pub mod Opened
-pub mod Said
-pub mod Owing
-pub mod Taking
-pub mod Writing
+pub mod Code

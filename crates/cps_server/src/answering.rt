@@ -2,7 +2,7 @@
 ghost use Rattle.std.specs.Prelude.{◌≡◌, false, option_map, IfOk};
 ghost use Rattle.serde_json.specs.View.{view};
 ghost use Rattle.cps_server.specs.Queries.{TellsOfDeck};
-ghost use Rattle.cps_server.specs.Telling.{has_float_told};
+ghost use Rattle.cps_server.specs.Code.Telling.{has_float_told};
 ghost use Rattle.cps_server.specs.declared.query.Query.TheVariants as queries;
 
 use crate::completions::tell_completions;

@@ -4,7 +4,7 @@ ghost use Rattle.serde_json.specs.Data.{string};
 ghost use Rattle.serde_json.specs.View.{view};
 ghost use Rattle.cps_server.specs.Ranges.{word_at};
 ghost use Rattle.cps_server.specs.Results.{TellsCompletions, completion, edit};
-ghost use Rattle.cps_server.specs.Telling.{KeepsCompletions};
+ghost use Rattle.cps_server.specs.Code.Telling.{KeepsCompletions};
 
 use crate::deck::Deck;
 use crate::document::Document;

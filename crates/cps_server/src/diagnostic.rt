@@ -3,7 +3,7 @@ ghost use Rattle.std.specs.Prelude.{◌≡◌, ◌-◌, ◌++◌, OnOk};
 ghost use Rattle.cps_server.specs.declared.kind.Kind.TheVariants.{Flag, Wrong};
 ghost use Rattle.cps_server.specs.Ranges.{told_units};
 ghost use Rattle.cps_server.specs.Diagnostics as diagnostics;
-ghost use Rattle.cps_server.specs.Writing.{diagnostic_text, information_text, message_text, position_text, range_text, report_text};
+ghost use Rattle.cps_server.specs.Code.Writing.{diagnostic_text, information_text, message_text, position_text, range_text, report_text};
 
 use crate::kind::Kind;
 use crate::mark::Mark;

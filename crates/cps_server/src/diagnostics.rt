@@ -6,7 +6,7 @@ ghost use Rattle.cps_rpc.specs.Frame.{frame_of};
 ghost use Rattle.cps_server.specs.Marks.{place_of};
 ghost use Rattle.cps_server.specs.Diagnostics.{more_message, published};
 ghost use Rattle.cps_server.specs.Frames.{frame_of_json};
-ghost use Rattle.cps_server.specs.Writing.{AddsMark, AddsMarks, ListsText, document_text, more_text, published_text};
+ghost use Rattle.cps_server.specs.Code.Writing.{AddsMark, AddsMarks, ListsText, document_text, more_text, published_text};
 
 use crate::diagnostic::{Stretch, push_diagnostic, push_information};
 use crate::document::Document;

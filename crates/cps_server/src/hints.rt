@@ -5,7 +5,7 @@ ghost use Rattle.serde_json.specs.Data.{array};
 ghost use Rattle.serde_json.specs.View.{items_of, view};
 ghost use Rattle.cps_server.specs.Document.{source_of_text};
 ghost use Rattle.cps_server.specs.Results as results;
-ghost use Rattle.cps_server.specs.Telling.{AddsTold, hint_of_deck};
+ghost use Rattle.cps_server.specs.Code.Telling.{AddsTold, hint_of_deck};
 
 use crate::deck::Deck;
 use crate::document::Document;

@@ -1,7 +1,7 @@
 //! The marks of a line.
 ghost use Rattle.std.specs.Prelude.{◌≡◌, ◌<◌, [], ◌∷◌, length, map, IfOk, OnOk};
 ghost use Rattle.cps_server.specs.Document.{source_of_text};
-ghost use Rattle.cps_server.specs.Adding.{Adds, AddsFlags, AddsLine};
+ghost use Rattle.cps_server.specs.Code.Adding.{Adds, AddsFlags, AddsLine};
 ghost use Rattle.cps_server.specs.Marks.{flag_mark, fault_mark};
 
 use crate::document::Document;

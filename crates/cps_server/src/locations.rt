@@ -5,7 +5,7 @@ ghost use Rattle.cps_server.specs.Symbols.{definitions};
 ghost use Rattle.cps_server.specs.Queries.{wanted};
 ghost use Rattle.cps_server.specs.Ranges as ranges;
 ghost use Rattle.cps_server.specs.Results.{TellsEach, TellsFirst, TellsMention};
-ghost use Rattle.cps_server.specs.Telling.{mentions_of_deck};
+ghost use Rattle.cps_server.specs.Code.Telling.{mentions_of_deck};
 
 use crate::columns::columns_of;
 use crate::deck::Deck;

@@ -1,7 +1,7 @@
 //! The marks of a text.
 ghost use Rattle.std.specs.Prelude.{length, map, IfOk, OnOk};
 ghost use Rattle.cps_server.specs.Document.{source_of_text};
-ghost use Rattle.cps_server.specs.Adding.{Adds, AddsEnd, AddsLines, excess_of};
+ghost use Rattle.cps_server.specs.Code.Adding.{Adds, AddsEnd, AddsLines, excess_of};
 ghost use Rattle.cps_server.specs.Marks.{Marks, place_of};
 
 use crate::document::Document;

@@ -1,6 +1,6 @@
 //! The texts that are open.
 ghost use Rattle.std.specs.Prelude.{◌≡◌, [], ◌∷◌, ◌++◌, map, option_map, None, IfSome, OnOk};
-ghost use Rattle.cps_server.specs.Opened.{IsFirst, value_of};
+ghost use Rattle.cps_server.specs.Code.Opened.{IsFirst, value_of};
 ghost use Rattle.cps_server.specs.Standing.{open_under, text_under, without};
 
 use crate::document::Document;
@@ -50,7 +50,7 @@ impl Drop for OpenTexts {
 
 impl Model for OpenTexts {
     ghost use Rattle.std.specs.Prelude.{List, map};
-    ghost use Rattle.cps_server.specs.Opened.{value_of};
+    ghost use Rattle.cps_server.specs.Code.Opened.{value_of};
     ghost use Rattle.cps_server.specs.Standing.{OpenText};
 
     ghost Value = { List OpenText };

@@ -1,7 +1,7 @@
 //! What is owed to a request.
 ghost use Rattle.std.specs.Prelude.{◌≡◌, option_map};
 ghost use Rattle.serde_json.specs.View.{view};
-ghost use Rattle.cps_server.specs.Owing.{value_of};
+ghost use Rattle.cps_server.specs.Code.Owing.{value_of};
 ghost use Rattle.cps_server.specs.Requests as requests;
 
 use cps_rpc::ErrorCode;

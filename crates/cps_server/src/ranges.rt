@@ -2,7 +2,7 @@
 ghost use Rattle.std.specs.Prelude.{◌≡◌, ◌≤◌, ◌-◌, IfOk};
 ghost use Rattle.serde_json.specs.View.{view};
 ghost use Rattle.cps_server.specs.Ranges as ranges;
-ghost use Rattle.cps_server.specs.Telling.{IsWithin};
+ghost use Rattle.cps_server.specs.Code.Telling.{IsWithin};
 
 use crate::deck::Deck;
 use crate::mentions::line_of;

@@ -5,7 +5,7 @@ ghost use Rattle.serde_json.specs.View.{view};
 ghost use Rattle.serde_json.specs.Written.{has_float};
 ghost use Rattle.cps_rpc.specs.Outgoing as outgoing;
 ghost use Rattle.cps_server.specs.Frames.{frame_of_json};
-ghost use Rattle.cps_server.specs.Owing.{has_float_owed, value_of};
+ghost use Rattle.cps_server.specs.Code.Owing.{has_float_owed, value_of};
 ghost use Rattle.cps_server.specs.Requests.{answer_with};
 
 use crate::owed::Owed;

@@ -7,10 +7,10 @@ ghost use Rattle.cps_rpc.specs.Params.{value_of as change_of};
 ghost use Rattle.cps_rpc.specs.Message.{request, value_of as asked_by};
 ghost use Rattle.cps_server.specs.Answers.{Hears, HearsJson, params_of};
 ghost use Rattle.cps_server.specs.Notices as notices;
-ghost use Rattle.cps_server.specs.Owing.{has_float_owed, value_of};
+ghost use Rattle.cps_server.specs.Code.Owing.{has_float_owed, value_of};
 ghost use Rattle.cps_server.specs.Requests as requests;
-ghost use Rattle.cps_server.specs.Said.{Into, has_float_id};
-ghost use Rattle.cps_server.specs.Taking.{Changes, Takes};
+ghost use Rattle.cps_server.specs.Code.Said.{Into, has_float_id};
+ghost use Rattle.cps_server.specs.Code.Taking.{Changes, Takes};
 ghost use Rattle.cps_server.specs.Standing.{beginning, is_shut_down};
 
 use crate::answering::answer;

@@ -3,7 +3,7 @@ ghost use Rattle.std.specs.Prelude.{◌≡◌, ◌++◌, false, OnOk};
 ghost use Rattle.serde_json.specs.Data.{string};
 ghost use Rattle.serde_json.specs.View.{view};
 ghost use Rattle.serde_json.specs.Written.{comma_if, compact_text, has_float};
-ghost use Rattle.cps_server.specs.Writing.{version_text};
+ghost use Rattle.cps_server.specs.Code.Writing.{version_text};
 
 use serde_json::Value;
 use std::alloc::{AllocError, Global};

@@ -5,8 +5,8 @@ use Rattle.cps_state.specs.declared.key.Key.{Key}
 use Rattle.cps_state.specs.declared.key.Key.TheVariants as key
 use Rattle.cps_state.specs.declared.key.Answer.{Answer}
 use Rattle.cps_state.specs.contracts.key.KeyPartialEq.TheImpl.{eq-value}
-use Rattle.cps_state.specs.Exchange.{with_answer}
-use Rattle.cps_state.specs.KeptAnswers.{is_other, answers_in}
+use Rattle.cps_state.specs.Code.Exchange.{with_answer}
+use Rattle.cps_state.specs.Code.KeptAnswers.{is_other, answers_in}
 use Rattle.cps_state.specs.Keys.{State, same_key}
 use Rattle.cps_state.proofs.KnownLemmas.{same_key_is, same_key-true}
 

@@ -4,7 +4,7 @@ use Rattle.std.specs.Prelude.{if◌then◌else◌}
 use Rattle.cps_state.specs.Course.{Course, stop, ask, put, stand, fill, mark, tell, settle, begin, Running, run, answer_at, with_ask, with_put_made, stood, filled, marked, with_read, settled_by, begun, too_much}
 use Rattle.cps_state.specs.declared.item.Item.{Item}
 use Rattle.cps_state.specs.Keys.{State}
-use Rattle.cps_state.specs.Line.{Line, runs}
+use Rattle.cps_state.specs.Code.Line.{Line, runs}
 
 -- what was done, and whether all of it was
 abbrev ended : {S : Type 0} → Line S × Bool → Running × Bool

@@ -14,7 +14,7 @@ use Rattle.cps_state.specs.Course.{last_put, last_ask, known_in}
 use Rattle.cps_state.proofs.KnownLemmas.{last_put-push, last_ask-push, known_in-put, known_in-ask, same_key_is}
 use Rattle.cps_state.specs.declared.log.Known.{Known}
 use Rattle.cps_state.specs.declared.log.Known.TheVariants.{Asked, Put}
-use Rattle.cps_state.specs.Log.{asked_in, put_at, asked_at, found_in, StandsIn, Indexes}
+use Rattle.cps_state.specs.Code.Log.{asked_in, put_at, asked_at, found_in, StandsIn, Indexes}
 
 slice_get-last : {X : Type 0} (xs : List X) (x : X) → slice_get (xs ++ x ∷ []) (length xs) ≡ Some x
 slice_get-last [] x = refl

@@ -4,7 +4,7 @@ use Rattle.std.proofs.lemmas.List.{reverse-append}
 use Rattle.cps_state.specs.declared.key.Key.{Key}
 use Rattle.cps_state.specs.declared.key.Answer.{Answer}
 use Rattle.cps_state.specs.declared.key.Put.{Put}
-use Rattle.cps_state.specs.KeptAnswers.{answers_in}
+use Rattle.cps_state.specs.Code.KeptAnswers.{answers_in}
 use Rattle.cps_state.specs.Keys.{State, with_put, overwritten}
 
 -- one put of the list is made

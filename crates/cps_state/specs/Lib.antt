@@ -1,15 +1,9 @@
-pub mod ContentsKept
 pub mod Course
-pub mod Exchange
 pub mod Flags
 pub mod Instruction
 pub mod Item
-pub mod KeptAnswers
 pub mod Keys
-pub mod Line
-pub mod Log
 pub mod Machines
 pub mod Made
-pub mod MadeKept
-pub mod Sheet
 pub mod Work
+pub mod Code

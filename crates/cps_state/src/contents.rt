@@ -21,7 +21,7 @@ enum KeptContents {
 impl Model for Contents {
     ghost use Rattle.std.specs.Prelude.{List};
     ghost use Rattle.cps_state.specs.declared.made.Content.{Content};
-    ghost use Rattle.cps_state.specs.ContentsKept.{contents_in};
+    ghost use Rattle.cps_state.specs.Code.ContentsKept.{contents_in};
 
     ghost Value = { List Content };
 

@@ -4,7 +4,7 @@ ghost use Rattle.std.specs.Option.{option_copied};
 ghost use Rattle.std.specs.HashMap as hash;
 ghost use Rattle.cps_state.specs.Keys.{State};
 ghost use Rattle.cps_state.specs.Course.{last_put, last_ask};
-ghost use Rattle.cps_state.specs.Log.{IsIndex, Log, asked_in, known_of, put_at, asked_at, found_at};
+ghost use Rattle.cps_state.specs.Code.Log.{IsIndex, Log, asked_in, known_of, put_at, asked_at, found_at};
 
 use crate::hashing::Hashing;
 use crate::key::{Answer, Key, Put, is_same_key};
@@ -36,7 +36,7 @@ pub struct Log {
 impl Model for Log {
     ghost use Rattle.std.specs.Prelude.{IfSome};
     ghost use Rattle.std.specs.HashMap as hash;
-    ghost use Rattle.cps_state.specs.Log.{IsIndex, Log};
+    ghost use Rattle.cps_state.specs.Code.Log.{IsIndex, Log};
 
     ghost Value = { Log };
 

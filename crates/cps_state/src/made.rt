@@ -125,7 +125,7 @@ pub struct Made {
 impl Model for Made {
     ghost use Rattle.std.specs.Prelude.{◌≡◌, All, false};
     ghost use Rattle.cps_state.specs.Made.{Made, IsContent, IsHeld, HaveRoom};
-    ghost use Rattle.cps_state.specs.MadeKept.{made_in};
+    ghost use Rattle.cps_state.specs.Code.MadeKept.{made_in};
 
     ghost Value = { Made };
 

@@ -2,9 +2,9 @@
 ghost use Rattle.std.specs.Prelude.{◌≡◌, ◌≤◌, [], ◌∷◌, IsTrue, OnOk, IfOk, drop, length};
 ghost use Rattle.std.specs.Option.{option_copied};
 ghost use Rattle.cps_state.specs.Course.{begin, first_item, dropped_item, control_puts, traced, deepest};
-ghost use Rattle.cps_state.specs.Line.{Goes, known_answer, line_started, line_answer, line_asked, line_put, line_stood, line_filled, line_marked, line_told, line_settled};
-ghost use Rattle.cps_state.specs.Log.{asked_in};
-ghost use Rattle.cps_state.specs.Sheet.{StandsOn, statements_on, with_dropped};
+ghost use Rattle.cps_state.specs.Code.Line.{Goes, known_answer, line_started, line_answer, line_asked, line_put, line_stood, line_filled, line_marked, line_told, line_settled};
+ghost use Rattle.cps_state.specs.Code.Log.{asked_in};
+ghost use Rattle.cps_state.specs.Code.Sheet.{StandsOn, statements_on, with_dropped};
 
 use crate::flags::Flags;
 use crate::item::Item;
@@ -38,8 +38,8 @@ pub struct Recorder<'a, L: Lookup> {
 
 impl<'a, L: Lookup> Model for Recorder<'a, L> {
     ghost use Rattle.std.specs.Prelude.{◌≤◌, take, drop, length};
-    ghost use Rattle.cps_state.specs.Line.{Line};
-    ghost use Rattle.cps_state.specs.Log.{asked_in};
+    ghost use Rattle.cps_state.specs.Code.Line.{Line};
+    ghost use Rattle.cps_state.specs.Code.Log.{asked_in};
 
     ghost Value = { Line L };
 

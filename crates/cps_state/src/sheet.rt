@@ -1,8 +1,8 @@
 //! Lists that line after line uses.
 ghost use Rattle.std.specs.Prelude.{◌≡◌, ◌≤◌, [], take, drop, length, IfOk};
-ghost use Rattle.cps_state.specs.Exchange.{room_of};
+ghost use Rattle.cps_state.specs.Code.Exchange.{room_of};
 ghost use Rattle.cps_state.specs.Keys.{overwritten};
-ghost use Rattle.cps_state.specs.Sheet.{blank_sheet, statements_on};
+ghost use Rattle.cps_state.specs.Code.Sheet.{blank_sheet, statements_on};
 
 use crate::item::Item;
 use crate::key::{Asked, Key, Put};
@@ -29,7 +29,7 @@ pub struct Sheet {
 
 impl Model for Sheet {
     ghost use Rattle.std.specs.Prelude.{◌≤◌, [], take, drop, length};
-    ghost use Rattle.cps_state.specs.Sheet.{Sheet};
+    ghost use Rattle.cps_state.specs.Code.Sheet.{Sheet};
 
     ghost Value = { Sheet };
 

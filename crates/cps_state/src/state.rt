@@ -1,8 +1,8 @@
 //! The state of an assembly.
 ghost use Rattle.std.specs.Prelude.{◌≡◌, ◌<◌, ◌≤◌, ◌+◌, true, [], OnOk, OnErr, Some as Just, length, reverse};
 ghost use Rattle.std.specs.HashMap as hash;
-ghost use Rattle.cps_state.specs.Exchange.{MayStand, room_of, with_answer};
-ghost use Rattle.cps_state.specs.KeptAnswers.{is_other};
+ghost use Rattle.cps_state.specs.Code.Exchange.{MayStand, room_of, with_answer};
+ghost use Rattle.cps_state.specs.Code.KeptAnswers.{is_other};
 ghost use Rattle.cps_state.specs.Keys.{first_state, with_put, overwritten};
 ghost use Rattle.cps_state.specs.declared.key.Key.{Key};
 
@@ -36,7 +36,7 @@ pub struct State {
 
 impl Lookup for State {
     ghost use Rattle.std.specs.HashMap as hash;
-    ghost use Rattle.cps_state.specs.KeptAnswers.{answers_in};
+    ghost use Rattle.cps_state.specs.Code.KeptAnswers.{answers_in};
 
     ghost answer = { λ state. answers_in state.control state.nominal state.uses state.blocks state.ranges state.locals (hash.get ⟦<Key as PartialEq>⟧.eq state.others) };
 

@@ -6,7 +6,7 @@ use Rattle.std.proofs.Math.Seq.{take-append_seam}
 use Rattle.std.proofs.lemmas.Bool.Decides.{nat_tests}
 use Rattle.std.proofs.lemmas.List.{take-append-drop}
 use Rattle.cps_text.specs.Parts.{first_part, behind_comma, behind_first, parts_up_to, parts_from, with_commas}
-use Rattle.cps_text.specs.PartsLeft.{parts_left}
+use Rattle.cps_text.specs.Code.PartsLeft.{parts_left}
 
 shorter_than : (test : Bool) (text rest : List ℕ) → cond {A = Option (List ℕ)} test (Some text) None ≡ Some rest → length rest < length text + 1
 shorter_than true text rest is = let same : text ≡ rest = cc in omega (arith, ap length same)

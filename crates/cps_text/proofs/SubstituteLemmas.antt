@@ -9,7 +9,7 @@ use Rattle.cps_text.specs.declared.name.Name.{Name}
 use Rattle.cps_text.specs.declared.substitutes.Substitute.{Substitute}
 use Rattle.cps_text.specs.Insertion.{Pairs, text_of}
 use Rattle.cps_text.specs.Name.{is_one}
-use Rattle.cps_text.specs.Substitutes.{substitute_value, substitutes_value, name_order, Indexes}
+use Rattle.cps_text.specs.Code.Substitutes.{substitute_value, substitutes_value, name_order, Indexes}
 
 one-is : (a b : Name) → is_one a b ≡ true → a ≡ b
 one-is a b is = let same = (bytes_decides a.bytes b.bytes).0 is in λ i. record { bytes = same i }

@@ -13,10 +13,8 @@ pub mod Line
 pub mod Name
 pub mod Octal
 pub mod Operands
-pub mod OperandsLeft
 pub mod Parts
-pub mod PartsLeft
 pub mod Runs
-pub mod Substitutes
 pub mod Symbol
 pub mod Text
+pub mod Code

@@ -2,7 +2,7 @@
 ghost use Rattle.std.specs.Prelude.{◌≡◌, ◌∷◌, ◌↔◌, ℕ, List, map, IfOk, IsErrOf, IsTrue};
 ghost use Rattle.cps_text.specs.Arguments.{argument_len, has_unclosed, arguments_of};
 ghost use Rattle.cps_text.specs.Parts.{parts_from, parts_of};
-ghost use Rattle.cps_text.specs.PartsLeft.{parts_left};
+ghost use Rattle.cps_text.specs.Code.PartsLeft.{parts_left};
 
 use crate::argument::{argument_len, is_unclosed, without_pair};
 use crate::part::{begins_blank, behind_comma};

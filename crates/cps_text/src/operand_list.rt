@@ -2,7 +2,7 @@
 ghost use Rattle.std.specs.Prelude.{◌≡◌, ◌+◌, ◌^◌, ◌≤◌, length, take};
 ghost use Rattle.std.specs.Iterator.{YieldsFirstRef, item_count};
 ghost use Rattle.cps_text.specs.Operands.{operands_of};
-ghost use Rattle.cps_text.specs.OperandsLeft.{operands_left};
+ghost use Rattle.cps_text.specs.Code.OperandsLeft.{operands_left};
 ghost use Rattle.cps_text.specs.Parts.{with_commas};
 
 use crate::operand::operand_len;

@@ -1,7 +1,7 @@
 //! What stands for the names of a macro's body in a call: arguments, and generated names. Many are found by an index.
 ghost use Rattle.std.specs.Prelude.{◌≡◌, ◌++◌, ◌∷◌, [], IfOk, OnOk, OnErr, option_map};
 ghost use Rattle.cps_text.specs.Insertion.{Pairs, pairs_value, text_of};
-ghost use Rattle.cps_text.specs.Substitutes.{substitute_value, substitutes_value, Indexes};
+ghost use Rattle.cps_text.specs.Code.Substitutes.{substitute_value, substitutes_value, Indexes};
 
 use crate::insertion::Substitution;
 use crate::name::Name;
@@ -46,7 +46,7 @@ pub struct Substitutes<'a> {
 impl<'a> Model for Substitutes<'a> {
     ghost use Rattle.std.specs.Prelude.{IfSome};
     ghost use Rattle.cps_text.specs.Insertion.{Pairs};
-    ghost use Rattle.cps_text.specs.Substitutes.{substitutes_value, Indexes};
+    ghost use Rattle.cps_text.specs.Code.Substitutes.{substitutes_value, Indexes};
 
     ghost Value = { Pairs };
 

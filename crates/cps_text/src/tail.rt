@@ -1,7 +1,7 @@
 //! The operands of a tail.
 ghost use Rattle.std.specs.Prelude.{◌≡◌, ◌+◌, ◌^◌, ◌≤◌, length, take};
 ghost use Rattle.cps_text.specs.Operands.{operands_of};
-ghost use Rattle.cps_text.specs.OperandsLeft.{operands_left};
+ghost use Rattle.cps_text.specs.Code.OperandsLeft.{operands_left};
 ghost use Rattle.cps_text.specs.Parts.{with_commas};
 
 use crate::operand_list::Operands;

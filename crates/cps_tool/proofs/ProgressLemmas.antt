@@ -13,14 +13,14 @@ use Rattle.cps_tool.specs.declared.writing.RunFault.{RunFault}
 use Rattle.cps_tool.specs.declared.writing.RunFault.TheVariants as faults
 use Rattle.cps_tool.specs.declared.script.Flow.{Flow}
 use Rattle.cps_tool.specs.declared.script.Flow.TheVariants.{GoesOn, Ends}
-use Rattle.cps_input.specs.BegunLine.{IsBegun}
+use Rattle.cps_input.specs.Code.BegunLine.{IsBegun}
 use Rattle.cps_tool.specs.Command.{is_quit}
 use Rattle.cps_tool.specs.EditReplies.{Standing, at, beginning}
 use Rattle.cps_input.proofs.SplitLemmas.{left_true, right_true, splits-none, splits-line, splits-piece, split_of}
 use Rattle.cps_input.specs.Lines.{Splits, has_no_newline, without_return, last_line, newline}
 use Rattle.cps_tool.specs.Reply.{Response, reply_text}
 use Rattle.cps_tool.specs.Script.{Run, RunsScript, Script, FrontOfScript, LinesOfScript, IsAnswered, HasQuit, LacksQuit, IsReadToEnd, AreAnswered, goes_on, command_lines, before_quit}
-use Rattle.cps_tool.specs.Progress.{MatchFlow, IsReplied, IsPartlyReplied, IsLast, Progress, Takes, Finishes}
+use Rattle.cps_tool.specs.Code.Progress.{MatchFlow, IsReplied, IsPartlyReplied, IsLast, Progress, Takes, Finishes}
 
 -- ---- running lines
 

@@ -21,7 +21,7 @@ use Rattle.std.specs.Borrow.{Bor}
 use Rattle.std.specs.Prelude.{option_map, unwrap_or}
 use Rattle.cps_words.specs.Task.{task_of, Task, batch, export, check, compare, explain, server, session}
 use Rattle.cps_tool.specs.CommandLine.{Calls, ChecksAs, Compares, EditsFile, Exported, IsOpened, IsUndone, RunsFrom, Serves, ServesCall, ServesOne, ServesWith, TellsUnread, WithFile, status_of, told_name}
-use Rattle.cps_tool.specs.Files.{AreFiles, ComparesFiles}
+use Rattle.cps_tool.specs.Code.Files.{AreFiles, ComparesFiles}
 use Rattle.cps_tool.specs.declared.comparing.Files.{Files}
 use Rattle.cps_tool.specs.declared.comparing.Files.TheVariants.{Both, Octal, Source}
 

@@ -1,10 +1,7 @@
 pub mod EditReplies
 pub mod Command
-pub mod NoCommand
 pub mod Reply
 pub mod Written
 pub mod Script
-pub mod Progress
 pub mod CommandLine
-pub mod Calling
-pub mod Files
+pub mod Code

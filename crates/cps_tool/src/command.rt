@@ -2,7 +2,7 @@
 ghost use Rattle.std.specs.Prelude.{◌≡◌, ℕ, ◌<◌, ◌≤◌, List, false, length, IfOk, IfSome, IfNone, MatchResult, MatchOption};
 ghost use Rattle.std.specs.List.{before_first, after_first, position_from};
 ghost use Rattle.cps_tool.specs.Command.{Order, append, insert, replace, delete, move, list, binary, symbols, flags, work, Spells, IsNumber, IsNumbered, IsPair, IsRange, IsMove, is_quit, is_quit_order, order_of};
-ghost use Rattle.cps_tool.specs.NoCommand.{IsUnnumbered, IsNoMove};
+ghost use Rattle.cps_tool.specs.Code.NoCommand.{IsUnnumbered, IsNoMove};
 ghost use Rattle.cps_text.specs.Text.{is_blank};
 
 use cps_text::limits::MOST_COMMAND_BYTES;

@@ -1,7 +1,7 @@
 //! A comparison of an octal text with a source, of which one at least is a file.
 ghost use Rattle.std.specs.Prelude.{◌≡◌, IfSome};
 ghost use Rattle.cps_words.specs.Outputs.{name_of};
-ghost use Rattle.cps_tool.specs.Files.{AreFiles, ComparesFiles};
+ghost use Rattle.cps_tool.specs.Code.Files.{AreFiles, ComparesFiles};
 
 use super::host::Host;
 use super::sources::{Sources, open_input};

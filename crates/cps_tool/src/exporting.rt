@@ -1,6 +1,6 @@
 //! A source, written into files.
 ghost use Rattle.std.specs.Prelude.{◌≡◌};
-ghost use Rattle.cps_tool.specs.Calling.{DoesExport};
+ghost use Rattle.cps_tool.specs.Code.Calling.{DoesExport};
 ghost use Rattle.cps_tool.specs.CommandLine.{IsQuiet};
 
 use super::faults::complain_of_source;

@@ -5,7 +5,7 @@ ghost use Rattle.cps_text.specs.Line.{IsLine};
 ghost use Rattle.cps_tool.specs.EditReplies.{IsNoLine, Inserted, Replaced, Deleted, Moved, at};
 ghost use Rattle.cps_tool.specs.Reply.{meaning_of, shown, refused, worked, refusal_of, reply_text, refusal_text};
 ghost use Rattle.cps_tool.specs.declared.reply.Refusal.TheVariants.{NoMemory};
-ghost use Rattle.cps_tool.specs.Progress.{ObeysLine};
+ghost use Rattle.cps_tool.specs.Code.Progress.{ObeysLine};
 ghost use Rattle.cps_tool.specs.Written.{IsWritten, IsFrontWritten};
 
 use super::command::Command;

@@ -1,6 +1,6 @@
 //! What is asked of one input, done with it.
 ghost use Rattle.std.specs.Prelude.{◌≡◌, ◌⊎◌, ℕ, List, None};
-ghost use Rattle.cps_tool.specs.Calling.{DoesRequest, UndoneOr};
+ghost use Rattle.cps_tool.specs.Code.Calling.{DoesRequest, UndoneOr};
 ghost use Rattle.cps_tool.specs.CommandLine.{Calls, ChecksAs, IsIdle, IsQuiet, TellsWord};
 ghost use Rattle.cps_words.specs.Task as tasks;
 

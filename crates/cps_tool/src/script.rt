@@ -2,9 +2,9 @@
 ghost use Rattle.std.specs.Prelude.{◌≡◌, [], OnOk, OnErr, IsErrOf, ◌≤◌, ◌+◌};
 ghost use Rattle.cps_text.specs.Counted.{calls_of, failures_of, FailsOnce};
 ghost use Rattle.cps_state.specs.Work.{no_work};
-ghost use Rattle.cps_input.specs.BegunLine.{IsBegun};
+ghost use Rattle.cps_input.specs.Code.BegunLine.{IsBegun};
 ghost use Rattle.cps_tool.specs.EditReplies.{at};
-ghost use Rattle.cps_tool.specs.Progress.{AnswersLine, ObeysBegun, TakesBytes, TakesEnd};
+ghost use Rattle.cps_tool.specs.Code.Progress.{AnswersLine, ObeysBegun, TakesBytes, TakesEnd};
 ghost use Rattle.cps_tool.specs.Script.{RanWhole, RunsScript};
 
 use super::reply::{Refusal, Reply};

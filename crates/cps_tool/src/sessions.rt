@@ -1,6 +1,6 @@
 //! A session, with the lines that it begins with.
 ghost use Rattle.std.specs.Prelude.{length, ◌≤◌};
-ghost use Rattle.cps_tool.specs.Calling.{DoesSession, UndoneOr};
+ghost use Rattle.cps_tool.specs.Code.Calling.{DoesSession, UndoneOr};
 ghost use Rattle.cps_tool.specs.CommandLine.{IsQuiet, RunsFrom};
 
 use super::faults::complain_of_source;

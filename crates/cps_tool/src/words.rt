@@ -1,7 +1,7 @@
 //! A call of the program, by its words.
 ghost use Rattle.std.specs.Prelude.{◌≡◌};
 ghost use Rattle.clap.specs.Walk.{texts};
-ghost use Rattle.cps_tool.specs.Calling.{DoesOne, DoesWith};
+ghost use Rattle.cps_tool.specs.Code.Calling.{DoesOne, DoesWith};
 ghost use Rattle.cps_tool.specs.CommandLine.{IsQuiet, Serves, ServesCall};
 ghost use Rattle.cps_words.specs.Request.{answer_of, asked_by};
 

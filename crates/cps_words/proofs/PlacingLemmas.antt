@@ -9,7 +9,7 @@ use Rattle.cps_words.specs.declared.fault.OutputFault.TheVariants.{Memory, Uncre
 use Rattle.cps_words.specs.declared.outputs.Output.{Output}
 use Rattle.cps_words.specs.Outputs.{file_of, name_of, IsNext, Places}
 use Rattle.cps_words.specs.Placing.{Placed}
-use Rattle.cps_words.specs.Steps.{files_from}
+use Rattle.cps_words.specs.Code.Steps.{files_from}
 
 pub next-more : (front files more : List Placed) (name : List ℕ) → IsNext front name files → IsNext front name (files ++ more)
 next-more front files more name (file, back, is, named) = (file, back ++ more, ap (λ (fs : List Placed). fs ++ more) is ∙ append_assoc front (file ∷ back) more, named)

@@ -5,7 +5,7 @@ use Rattle.clap.specs.declared.error.kind.ErrorKind.{ErrorKind}
 use Rattle.clap.specs.declared.error.kind.ErrorKind.TheVariants.{OutOfMemory}
 use Rattle.cps_words.specs.Commands.{compass}
 use Rattle.cps_words.specs.Request.{IsAnswer, answer_at, answer_from, answer_of, answer_unless, asked_by, refuses, request_in, request_of, tells}
-use Rattle.cps_words.specs.Reading.{Reads, Says}
+use Rattle.cps_words.specs.Code.Reading.{Reads, Says}
 use Rattle.cps_words.specs.declared.request.Call.{Call}
 use Rattle.cps_words.specs.declared.unread.Unread.{Unread}
 use Rattle.cps_words.specs.declared.unread.Unread.TheVariants.{Told, Wrong, Memory}

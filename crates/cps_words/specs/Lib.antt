@@ -2,10 +2,9 @@ pub mod Commands
 pub mod Values
 pub mod Task
 pub mod Request
-pub mod Reading
 pub mod Shown
 pub mod Placing
 pub mod Outputs
-pub mod Steps
 pub mod Export
 pub mod Same
+pub mod Code

@@ -1,7 +1,7 @@
 //! The command `help`.
 ghost use Rattle.std.specs.Prelude.{◌≡◌};
 ghost use Rattle.cps_words.specs.Outputs.{name_of};
-ghost use Rattle.cps_words.specs.Reading.{IsTold, Reads};
+ghost use Rattle.cps_words.specs.Code.Reading.{IsTold, Reads};
 ghost use Rattle.cps_words.specs.Request.{answer_of_help};
 ghost use Rattle.cps_words.specs.Values as values;
 

@@ -4,7 +4,7 @@ ghost use Rattle.std.specs.Option.{ForSome};
 ghost use Rattle.clap.specs.Words.{found_of, rows_of};
 ghost use Rattle.cps_words.specs.Values.{address_named, columns_named, value_from, limits_in};
 ghost use Rattle.cps_words.specs.Values as values;
-ghost use Rattle.cps_words.specs.Reading.{ReadsValue};
+ghost use Rattle.cps_words.specs.Code.Reading.{ReadsValue};
 
 use super::numbers::{read_address, read_columns};
 use super::unread::{Unread, say_wrong_value};

@@ -3,7 +3,7 @@ ghost use Rattle.std.specs.Prelude.{◌≡◌, map};
 ghost use Rattle.std.specs.List.{list_any};
 ghost use Rattle.clap.specs.Words.{found_of, rows_of};
 ghost use Rattle.cps_words.specs.Outputs.{name_of, names_of};
-ghost use Rattle.cps_words.specs.Reading.{IsRefusal};
+ghost use Rattle.cps_words.specs.Code.Reading.{IsRefusal};
 ghost use Rattle.cps_words.specs.Values as values;
 
 use super::unread::{Unread, say_wrong_value, wrong};

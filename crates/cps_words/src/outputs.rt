@@ -1,6 +1,6 @@
 //! Which texts are wanted, and in which files.
 ghost use Rattle.std.specs.Prelude.{◌≡◌};
-ghost use Rattle.cps_words.specs.Steps.{last_first};
+ghost use Rattle.cps_words.specs.Code.Steps.{last_first};
 
 use cps_list::Part;
 

@@ -3,7 +3,7 @@ ghost use Rattle.std.specs.Prelude.{◌≡◌, ◌⊎◌, IfOk, IfErr, None, opt
 ghost use Rattle.clap.specs.Words.{found_of, rows_of, subcommand_rows_of};
 ghost use Rattle.clap.specs.Walk.{texts};
 ghost use Rattle.cps_words.specs.Request.{IsAnswer, answer_from, answer_named, answer_of, answer_of_batch, answer_of_compare, answer_of_session, asked_by, request_of};
-ghost use Rattle.cps_words.specs.Reading.{Reads, ReadsValue};
+ghost use Rattle.cps_words.specs.Code.Reading.{Reads, ReadsValue};
 ghost use Rattle.cps_words.specs.Values.{part_named, value_from};
 
 use super::command_line::compass_command;

@@ -1,7 +1,7 @@
 //! Why words ask nothing, and what is said of that.
 ghost use Rattle.std.specs.Prelude.{◌≡◌, ◌⊎◌};
 ghost use Rattle.clap.specs.Words.{kind_of};
-ghost use Rattle.cps_words.specs.Reading.{IsRefusal, IsWrong, Says};
+ghost use Rattle.cps_words.specs.Code.Reading.{IsRefusal, IsWrong, Says};
 
 use super::message::shown;
 use clap::Error;

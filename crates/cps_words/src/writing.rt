@@ -4,7 +4,7 @@ ghost use Rattle.std.specs.Io.KnownBytes.{Appends};
 ghost use Rattle.cps_list.specs.Texts.{text_of};
 ghost use Rattle.cps_words.specs.Outputs.{files_of, names_of, Places};
 ghost use Rattle.cps_words.specs.Placing.{one_less, one_more_on_ok, with_placed};
-ghost use Rattle.cps_words.specs.Steps.{files_from, IsUnplaced, IsUnwritten};
+ghost use Rattle.cps_words.specs.Code.Steps.{files_from, IsUnplaced, IsUnwritten};
 
 use super::fault::OutputFault;
 use super::outputs::{Output, Outputs};

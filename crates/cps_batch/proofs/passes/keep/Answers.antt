@@ -1,7 +1,7 @@
 use Rattle.std.proofs.Common.{List, length, ap, subst}
 use Rattle.std.specs.Prelude.{IfSome}
 use Rattle.cps_state.specs.declared.item.Item.{Item}
-use Rattle.cps_batch.specs.Passes.{AreParts}
+use Rattle.cps_batch.specs.Code.Passes.{AreParts}
 use Rattle.cps_batch.proofs.PassLemmas.{part-kept}
 use Rattle.cps_batch.proofs.passes.keep.Goals as goal
 

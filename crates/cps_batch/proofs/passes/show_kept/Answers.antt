@@ -1,5 +1,5 @@
 use Rattle.std.proofs.Common.{◌<◌, ap, ◌∙◌, length, take, arith}
-use Rattle.cps_input.specs.Parts.{parts_at}
+use Rattle.cps_input.specs.Code.Parts.{parts_at}
 use Rattle.cps_input.proofs.PartLemmas.{count-parts, part-at}
 use Rattle.cps_final.specs.contracts.finals.FinalsGathered.TheImpl.{gathered-value}
 use Rattle.cps_batch.proofs.PassLemmas.{kept-length, two-more, two-all, number-taken, trace-at}

@@ -1,5 +1,5 @@
 use Rattle.std.proofs.Common.{◌≡◌, ◌≤◌, take}
-use Rattle.cps_batch.specs.Passes.{IsShown}
+use Rattle.cps_batch.specs.Code.Passes.{IsShown}
 use Rattle.cps_batch.proofs.passes.show_kept.Given as goal
 
 abbrev pub invariant-loop-before : goal.invariant-loop-before

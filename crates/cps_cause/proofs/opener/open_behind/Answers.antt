@@ -3,7 +3,7 @@ use Rattle.cps_state.specs.Course.{Trace}
 use Rattle.cps_state.specs.declared.key.Put.{Put}
 use Rattle.cps_state.specs.Keys.{State, first_state, overwritten}
 use Rattle.cps_final.specs.Layout.{puts_of}
-use Rattle.cps_cause.specs.OpenNow.{IsOpenNow}
+use Rattle.cps_cause.specs.Code.OpenNow.{IsOpenNow}
 use Rattle.cps_cause.proofs.OpenerLemmas.{line-behind}
 use Rattle.cps_cause.proofs.opener.open_behind.Goals as goal
 

@@ -5,7 +5,7 @@ use Rattle.cps_state.specs.declared.key.Put.{Put}
 use Rattle.cps_state.specs.Keys.{State, first_state, overwritten}
 use Rattle.cps_final.specs.Layout.{puts_of}
 use Rattle.cps_cause.specs.Opener.{open_behind}
-use Rattle.cps_cause.specs.OpenNow.{IsLast, IsOpenNow}
+use Rattle.cps_cause.specs.Code.OpenNow.{IsLast, IsOpenNow}
 use Rattle.cps_cause.proofs.OpenerLemmas.{count-is, last-more, line-behind, much-is, open-found, opener-found}
 use Rattle.cps_cause.proofs.opener.opener_of.Goals as goal
 

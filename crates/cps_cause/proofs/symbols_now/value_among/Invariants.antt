@@ -1,5 +1,5 @@
 use Rattle.std.proofs.Common.{◌≡◌, drop}
-use Rattle.cps_cause.specs.SymbolsNow.{value_among}
+use Rattle.cps_cause.specs.Code.SymbolsNow.{value_among}
 use Rattle.cps_cause.proofs.symbols_now.value_among.Given as goal
 
 abbrev pub invariant-loop-symbol : goal.invariant-loop-symbol

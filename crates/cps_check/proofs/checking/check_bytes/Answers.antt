@@ -1,5 +1,5 @@
 use Rattle.std.proofs.Common.{ℕ, List, subst, sym}
-use Rattle.cps_check.specs.Adding.{TellsBytes}
+use Rattle.cps_check.specs.Code.Adding.{TellsBytes}
 use Rattle.cps_check.specs.Check.{IsCheckOf}
 use Rattle.cps_check.proofs.CheckLemmas.{all-written, front-written}
 use Rattle.cps_check.proofs.checking.check_bytes.Goals as goal

@@ -1,7 +1,7 @@
 use Rattle.std.proofs.Common.{◌≡◌, take}
 use Rattle.std.specs.Prelude.{flat_map}
-use Rattle.cps_code.specs.Operations.{texts}
-use Rattle.cps_check.specs.Kept.{after_comma}
+use Rattle.cps_code.specs.Code.Operations.{texts}
+use Rattle.cps_check.specs.Code.Kept.{after_comma}
 use Rattle.cps_check.proofs.fields.behind_commas.Given as goal
 
 abbrev pub invariant-loop-letters : goal.invariant-loop-letters

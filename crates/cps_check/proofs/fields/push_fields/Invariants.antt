@@ -1,6 +1,6 @@
 use Rattle.std.proofs.Common.{◌≡◌, ◌++◌, take}
 use Rattle.std.specs.Prelude.{map}
-use Rattle.cps_code.specs.Operations.{row_of_fields}
+use Rattle.cps_code.specs.Code.Operations.{row_of_fields}
 use Rattle.cps_check.specs.Central.{rows_text}
 use Rattle.cps_check.proofs.fields.push_fields.Given as goal
 

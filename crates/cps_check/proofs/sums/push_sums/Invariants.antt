@@ -1,7 +1,7 @@
 use Rattle.std.proofs.Common.{◌≡◌, ◌++◌, take}
 use Rattle.std.specs.Prelude.{flat_map, map}
 use Rattle.cps_check.specs.Central.{row_text}
-use Rattle.cps_check.specs.Kept.{sum_parts}
+use Rattle.cps_check.specs.Code.Kept.{sum_parts}
 use Rattle.cps_check.proofs.sums.push_sums.Given as goal
 
 abbrev pub invariant-loop-row : goal.invariant-loop-row

@@ -8,7 +8,7 @@ use Rattle.cps_text.specs.declared.limits.TheConstants.{MOST_LINES}
 use Rattle.cps_check.proofs.EndLemmas.{few-cards}
 use Rattle.cps_check.proofs.SourceLemmas.{texts_of}
 use Rattle.cps_check.proofs.WholeLemmas.{whole}
-use Rattle.cps_check.specs.Adding.{AddsEnd}
+use Rattle.cps_check.specs.Code.Adding.{AddsEnd}
 use Rattle.cps_check.proofs.telling.tell_source.Goals as goal
 
 pub tell_lines-requires-clause-cards : goal.tell_lines-requires-clause-cards

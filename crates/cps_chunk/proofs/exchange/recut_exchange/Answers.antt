@@ -1,7 +1,7 @@
 use Rattle.std.proofs.Common.{◌≡◌, ℕ, ◌-◌, ◌++◌, refl, sym, subst, ap, ◌∙◌, [], length, reverse, arith}
 use Rattle.std.specs.Prelude.{sum}
 use Rattle.cps_edit.specs.Numbers.{numbers}
-use Rattle.cps_chunk.specs.Pieces.{ArePieces, GoesNotOn, lines_in, lines_of}
+use Rattle.cps_chunk.specs.Code.Pieces.{ArePieces, GoesNotOn, lines_in, lines_of}
 use Rattle.cps_chunk.proofs.OldChunkLemmas.{head-goes, head-some}
 use Rattle.cps_chunk.proofs.ChunkRunLemmas.{four-runs}
 use Rattle.cps_chunk.proofs.PiecesLemmas.{lines-reverse}

@@ -1,5 +1,5 @@
 use Rattle.std.proofs.Common.{◌≡◌, ◌-◌, ◌<◌, inl, inr, refl, sym, ◌∙◌, arith}
-use Rattle.cps_chunk.specs.Pieces.{cut_to, part_numbers}
+use Rattle.cps_chunk.specs.Code.Pieces.{cut_to, part_numbers}
 use Rattle.cps_chunk.proofs.OldChunkLemmas.{part-may, on-ok, cut-is, cut-less}
 use Rattle.cps_chunk.proofs.exchange.set_part_before.Goals as goal
 use Rattle.cps_chunk.proofs.exchange.set_part_before.Goals.{then-to-lines, else-to-lines}

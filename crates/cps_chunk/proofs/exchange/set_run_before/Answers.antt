@@ -3,7 +3,7 @@ use Rattle.std.specs.Prelude.{if◌then◌else◌, nat_lt, sum}
 use Rattle.std.proofs.lemmas.List.Sums.{sum_by_more}
 use Rattle.cps_edit.specs.Numbers.{numbers}
 use Rattle.cps_chunk.specs.Exchange.{part_of, rejoined}
-use Rattle.cps_chunk.specs.Pieces.{lines_in, cut_to, ArePieces, GoesNotOn, part_numbers}
+use Rattle.cps_chunk.specs.Code.Pieces.{lines_in, cut_to, ArePieces, GoesNotOn, part_numbers}
 use Rattle.std.proofs.lemmas.List.{take_all}
 use Rattle.cps_chunk.proofs.ChunkRunLemmas.{run-step, run-none}
 use Rattle.cps_chunk.proofs.OldChunkLemmas.{run-numbers, run-seam, begin-pieces, end-pieces}

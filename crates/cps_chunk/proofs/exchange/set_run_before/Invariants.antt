@@ -2,7 +2,7 @@ use Rattle.std.proofs.Common.{◌≡◌, ◌+◌, ◌-◌, ◌≤◌, ◌++◌, 
 use Rattle.std.specs.Prelude.{sum}
 use Rattle.cps_edit.specs.Numbers.{numbers}
 use Rattle.cps_chunk.specs.Exchange.{part_of, rejoined}
-use Rattle.cps_chunk.specs.Pieces.{lines_in, ArePieces, GoesNotOn}
+use Rattle.cps_chunk.specs.Code.Pieces.{lines_in, ArePieces, GoesNotOn}
 use Rattle.cps_chunk.proofs.exchange.set_run_before.Given as goal
 
 abbrev pub invariant-loop-chunk : goal.invariant-loop-chunk

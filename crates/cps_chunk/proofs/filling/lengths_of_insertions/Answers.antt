@@ -1,5 +1,5 @@
 use Rattle.std.proofs.Common.{◌≡◌, ◌+◌, ◌-◌, suc, arith, ap, sym, ◌∙◌}
-use Rattle.cps_chunk.specs.Filling.{filled}
+use Rattle.cps_chunk.specs.Code.Filling.{filled}
 use Rattle.cps_chunk.proofs.filling.lengths_of_insertions.Goals as goal
 
 pub loop-preserved : goal.loop-preserved

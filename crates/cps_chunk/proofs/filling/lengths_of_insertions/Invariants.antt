@@ -1,6 +1,6 @@
 use Rattle.std.proofs.Common.{◌≡◌, ◌+◌, ◌-◌, ◌≤◌}
 use Rattle.cps_chunk.specs.Put.{inserted_each}
-use Rattle.cps_chunk.specs.Filling.{IsFilling, filled}
+use Rattle.cps_chunk.specs.Code.Filling.{IsFilling, filled}
 use Rattle.cps_chunk.proofs.filling.lengths_of_insertions.Given as goal
 
 abbrev pub invariant-loop : goal.invariant-loop

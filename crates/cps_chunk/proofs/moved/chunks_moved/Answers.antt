@@ -1,9 +1,9 @@
 use Rattle.std.proofs.Common.{arith, refl, ◌≡◌, ◌∙◌, List, [], length, take, drop, subst, sym, ap}
 use Rattle.std.proofs.lemmas.List.{nil_from_length, take_all, drop_all, length-map, length-take-le}
 use Rattle.cps_chunk.specs.declared.exchange.Piece.{Piece}
-use Rattle.cps_chunk.specs.Pieces.{lines_of}
+use Rattle.cps_chunk.specs.Code.Pieces.{lines_of}
 use Rattle.cps_chunk.specs.declared.chunk.Chunk.{Chunk}
-use Rattle.cps_chunk.specs.Chunk.{lengths_of}
+use Rattle.cps_chunk.specs.Code.Chunk.{lengths_of}
 use Rattle.cps_chunk.proofs.MovedChunkLemmas.{StandBefore, all-there, next-there, next-old, left-there, next-before, next-lengths, all-before}
 use Rattle.cps_chunk.proofs.moved.chunks_moved.Goals as goal
 

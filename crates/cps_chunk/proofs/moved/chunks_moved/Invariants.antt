@@ -1,6 +1,6 @@
 use Rattle.std.proofs.Common.{◌≡◌, take, drop, vec_capacity}
-use Rattle.cps_chunk.specs.Pieces.{lines_of}
-use Rattle.cps_chunk.specs.Chunk.{lengths_of}
+use Rattle.cps_chunk.specs.Code.Pieces.{lines_of}
+use Rattle.cps_chunk.specs.Code.Chunk.{lengths_of}
 use Rattle.cps_chunk.proofs.MovedChunkLemmas.{AreThere, StandBefore}
 use Rattle.cps_chunk.proofs.moved.chunks_moved.Given as goal
 

@@ -1,5 +1,5 @@
 use Rattle.std.proofs.Common.{◌≡◌, drop}
-use Rattle.cps_final.specs.Kept.{changes_in}
+use Rattle.cps_final.specs.Code.Kept.{changes_in}
 use Rattle.cps_chunk.specs.Noted.{stands}
 use Rattle.cps_chunk.proofs.standing.asks_stand.Given as goal
 

@@ -1,5 +1,5 @@
 use Rattle.std.proofs.Common.{ap, sym, ◌∙◌}
-use Rattle.cps_chunk.specs.Storing.{counters_in}
+use Rattle.cps_chunk.specs.Code.Storing.{counters_in}
 use Rattle.cps_chunk.proofs.LeavingLemmas.{left-pair}
 use Rattle.cps_chunk.proofs.storing.leaves_same.Goals as goal
 use Rattle.cps_chunk.proofs.storing.leaves_same.Goals.{then-same_counters, else-same_counters}

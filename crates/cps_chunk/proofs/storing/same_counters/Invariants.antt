@@ -1,5 +1,5 @@
 use Rattle.std.proofs.Common.{◌≡◌, take}
-use Rattle.cps_chunk.specs.Storing.{counters_in}
+use Rattle.cps_chunk.specs.Code.Storing.{counters_in}
 use Rattle.cps_chunk.proofs.storing.same_counters.Given as goal
 
 abbrev pub invariant-loop-i : goal.invariant-loop-i

@@ -1,6 +1,6 @@
 use Rattle.std.proofs.Common.{drop}
 use Rattle.cps_chunk.specs.Sparse.{renewed}
-use Rattle.cps_chunk.specs.Storing.{StoresSome}
+use Rattle.cps_chunk.specs.Code.Storing.{StoresSome}
 use Rattle.cps_chunk.proofs.storing.store_renewed.Given as goal
 
 abbrev pub invariant-loop-new : goal.invariant-loop-new

@@ -1,7 +1,7 @@
 use Rattle.std.proofs.Common.{◌≡◌, ◌≤◌, true, false, rules, arith, ap, sym, ◌∙◌}
 use Rattle.std.proofs.lemmas.Bool.Decides.{nat_tests}
 use Rattle.cps_state.specs.declared.key.Key.{Key}
-use Rattle.cps_final.specs.Kept.{count_of, keys_in}
+use Rattle.cps_final.specs.Code.Kept.{count_of, keys_in}
 use Rattle.cps_chunk.specs.Marks.{has, mark_of}
 use Rattle.cps_chunk.proofs.KeysLemmas.{any-at, any-next, any-all, all-keys}
 use Rattle.cps_chunk.proofs.walk.has_key.Goals as goal

@@ -1,6 +1,6 @@
 use Rattle.std.proofs.Common.{◌≡◌, false, take}
 use Rattle.std.specs.List.{list_any}
-use Rattle.cps_final.specs.Kept.{keys_in}
+use Rattle.cps_final.specs.Code.Kept.{keys_in}
 use Rattle.cps_chunk.specs.Marks.{has, mark_of}
 use Rattle.cps_chunk.proofs.walk.has_key.Given as goal
 

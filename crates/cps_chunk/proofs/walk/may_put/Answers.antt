@@ -3,7 +3,7 @@ use Rattle.std.specs.Prelude.{is_some}
 use Rattle.std.proofs.lemmas.Bool.Decides.{nat_tests}
 use Rattle.cps_state.specs.declared.key.Key.{Key}
 use Rattle.cps_state.specs.Course.{last_put}
-use Rattle.cps_final.specs.Kept.{changes_in, count_of, keys_in}
+use Rattle.cps_final.specs.Code.Kept.{changes_in, count_of, keys_in}
 use Rattle.cps_final.specs.Layout.{puts_of}
 use Rattle.cps_chunk.proofs.KeysLemmas.{any-next, any-all, all-keys, none-had, settled-none}
 use Rattle.cps_chunk.proofs.walk.may_put.Goals as goal

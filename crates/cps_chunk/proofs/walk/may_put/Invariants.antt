@@ -2,7 +2,7 @@ use Rattle.std.proofs.Common.{◌≡◌, false, take}
 use Rattle.std.specs.Prelude.{is_some}
 use Rattle.std.specs.List.{list_any}
 use Rattle.cps_state.specs.Course.{last_put}
-use Rattle.cps_final.specs.Kept.{keys_in}
+use Rattle.cps_final.specs.Code.Kept.{keys_in}
 use Rattle.cps_final.specs.Layout.{puts_of}
 use Rattle.cps_chunk.proofs.walk.may_put.Given as goal
 

@@ -1,7 +1,7 @@
 use Rattle.std.proofs.Common.{◌<◌, length, drop, length-drop, sym, ap, ◌∙◌, arith}
 use Rattle.std.proofs.lemmas.List.{length-map}
 use Rattle.cps_code.specs.RowForms.{registers_in}
-use Rattle.cps_code.specs.Operations.{texts}
+use Rattle.cps_code.specs.Code.Operations.{texts}
 use Rattle.cps_code.proofs.FieldLemmas.{registers_in-end}
 use Rattle.cps_code.proofs.fields.read_registers.Goals as goal
 

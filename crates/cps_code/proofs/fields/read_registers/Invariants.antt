@@ -1,7 +1,7 @@
 use Rattle.std.proofs.Common.{◌≡◌, drop}
-use Rattle.cps_text.specs.OperandsLeft.{operands_left}
+use Rattle.cps_text.specs.Code.OperandsLeft.{operands_left}
 use Rattle.cps_code.specs.RowForms.{registers_in}
-use Rattle.cps_code.specs.Operations.{texts}
+use Rattle.cps_code.specs.Code.Operations.{texts}
 use Rattle.cps_code.specs.Digits.{AreDigits}
 use Rattle.cps_code.proofs.fields.read_registers.Given as goal
 

@@ -1,5 +1,5 @@
 use Rattle.std.specs.Prelude.{true, false, option_map}
-use Rattle.cps_code.specs.FoundForms.{set_form, jump_form, long_form}
+use Rattle.cps_code.specs.Code.FoundForms.{set_form, jump_form, long_form}
 use Rattle.cps_code.proofs.SummedLemmas.{form_with_constant}
 use Rattle.cps_code.proofs.forms.form_of_sum.Goals as goal
 

@@ -1,5 +1,5 @@
 use Rattle.cps_text.specs.Operands.{operands_of}
-use Rattle.cps_code.specs.FoundForms.{sum_rows}
+use Rattle.cps_code.specs.Code.FoundForms.{sum_rows}
 use Rattle.cps_code.specs.RowForms.{only_sum}
 use Rattle.cps_code.proofs.SetLemmas.{sum_rows_short, form_of_summed, no_form}
 use Rattle.cps_code.proofs.forms.summed_form.Goals as goal

@@ -1,6 +1,6 @@
 use Rattle.std.proofs.Common.{◌≡◌, drop}
 use Rattle.cps_code.specs.Rows.{named}
-use Rattle.cps_code.specs.Operations.{operation_values}
+use Rattle.cps_code.specs.Code.Operations.{operation_values}
 use Rattle.cps_code.proofs.operation.find_operation.Given as goal
 
 abbrev pub invariant-loop-letters : goal.invariant-loop-letters

@@ -1,6 +1,6 @@
 use Rattle.std.proofs.Common.{◌≡◌, drop}
 use Rattle.cps_code.specs.PeripheralTable.{named}
-use Rattle.cps_code.specs.PeripheralRows.{row_values}
+use Rattle.cps_code.specs.Code.PeripheralRows.{row_values}
 use Rattle.cps_code.proofs.peripheral_operation.find_operation.Given as goal
 
 abbrev pub invariant-loop-letters : goal.invariant-loop-letters

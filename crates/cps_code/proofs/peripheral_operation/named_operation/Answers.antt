@@ -1,7 +1,7 @@
 use Rattle.std.proofs.Common.{sym, ap, ◌∙◌}
 use Rattle.std.specs.Prelude.{option_map}
 use Rattle.cps_code.specs.PeripheralTable.{named, pp_table}
-use Rattle.cps_code.specs.PeripheralRows.{layout_and_number}
+use Rattle.cps_code.specs.Code.PeripheralRows.{layout_and_number}
 use Rattle.cps_code.proofs.RowLemmas.{named_by_letter, no_empty_name, small_numbers}
 use Rattle.cps_code.proofs.peripheral_operation.named_operation.Goals as goal
 

@@ -1,4 +1,4 @@
-use Rattle.cps_code.specs.Terms.{IsKept}
+use Rattle.cps_code.specs.Code.Terms.{IsKept}
 use Rattle.cps_code.proofs.SumReading.{adds-register, adds-other}
 use Rattle.cps_code.proofs.sum.add_term.Goals as goal
 

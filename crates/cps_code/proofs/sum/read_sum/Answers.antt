@@ -1,7 +1,7 @@
 use Rattle.std.proofs.Common.{◌≡◌, Some, sym, ap, refl, ◌∙◌, arith}
 use Rattle.cps_code.specs.Sum.{no_terms, term_with}
 use Rattle.cps_expr.specs.Expression.{is_minus}
-use Rattle.cps_code.specs.Terms.{pushed}
+use Rattle.cps_code.specs.Code.Terms.{pushed}
 use Rattle.cps_expr.proofs.TermsReading.{IsSignAt}
 use Rattle.cps_code.proofs.SumReading.{joined, rest_sum, sum-start, joined-none, rest-bad, rest-end, rest-more, joined-one, joined-more}
 use Rattle.cps_code.proofs.SetLemmas.{registers_kept}

@@ -1,6 +1,6 @@
 use Rattle.std.proofs.Common.{◌≡◌, length}
 use Rattle.cps_code.specs.Sum.{Sum, sum_of}
-use Rattle.cps_code.specs.Terms.{IsKept}
+use Rattle.cps_code.specs.Code.Terms.{IsKept}
 use Rattle.cps_code.proofs.SumReading.{joined, rest_sum}
 use Rattle.cps_code.proofs.sum.read_sum.Given as goal
 

@@ -1,6 +1,6 @@
 use Rattle.std.proofs.Common.{◌≡◌}
 use Rattle.cps_code.specs.Image.{piece_of}
-use Rattle.cps_code.specs.Slots.{AreWords}
+use Rattle.cps_code.specs.Code.Slots.{AreWords}
 use Rattle.cps_code.proofs.DepositLemmas.{DepositsUpTo}
 use Rattle.cps_code.proofs.words.put_over.Given as goal
 

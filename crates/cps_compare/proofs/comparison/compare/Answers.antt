@@ -8,8 +8,8 @@ use Rattle.cps_compare.specs.Given.{given_in}
 use Rattle.cps_compare.specs.Makers.{signed_of, maker_of}
 use Rattle.cps_compare.specs.Differences.{size_of, digits_in, IsLow, IsHigh}
 use Rattle.cps_compare.specs.Told.{Sides, told_text, count_compared, count_differing}
-use Rattle.cps_compare.specs.Reading.{digits_at, maker_at}
-use Rattle.cps_compare.specs.Shown.{shown_sides}
+use Rattle.cps_compare.specs.Code.Reading.{digits_at, maker_at}
+use Rattle.cps_compare.specs.Code.Shown.{shown_sides}
 use Rattle.cps_compare.specs.Comparison.{sides_of}
 use Rattle.cps_compare.proofs.DeckLemmas.{pieces-of}
 use Rattle.cps_compare.proofs.comparison.compare.Goals as goal

@@ -2,7 +2,7 @@ use Rattle.std.proofs.Common.{◌≡◌, ◌++◌, drop}
 use Rattle.std.specs.Prelude.{map}
 use Rattle.cps_compare.specs.declared.maker.Maker.TheVariants.{Nobody}
 use Rattle.cps_compare.specs.Told.{maker_rows}
-use Rattle.cps_compare.specs.Reading.{maker_at}
+use Rattle.cps_compare.specs.Code.Reading.{maker_at}
 use Rattle.cps_compare.proofs.difference_rows.push_makers.Given as goal
 
 abbrev pub invariant-loop-place : goal.invariant-loop-place

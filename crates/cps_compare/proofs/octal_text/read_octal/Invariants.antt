@@ -5,7 +5,7 @@ use Rattle.std.specs.Option.{option_map_or}
 use Rattle.cps_compare.specs.Rows.{row_given, is_newline}
 use Rattle.cps_compare.specs.Given.{given_by, given_in}
 use Rattle.cps_compare.specs.Differences.{size_of}
-use Rattle.cps_compare.specs.Reading.{digits_at}
+use Rattle.cps_compare.specs.Code.Reading.{digits_at}
 use Rattle.cps_compare.proofs.octal_text.read_octal.Given as goal
 
 abbrev pub invariant-loop-rest : goal.invariant-loop-rest

@@ -1,5 +1,5 @@
 use Rattle.std.proofs.Common.{◌≡◌, ℕ, ◌-◌, ◌≤◌, max, vec_len}
-use Rattle.cps_compare.specs.Reading.{digits_at}
+use Rattle.cps_compare.specs.Code.Reading.{digits_at}
 use Rattle.cps_compare.proofs.octal_words.make_room.Given as goal
 
 abbrev pub invariant-loop-words : goal.invariant-loop-words

@@ -1,5 +1,5 @@
 use Rattle.std.proofs.Common.{sym, ap, ◌∙◌, ◌∷◌}
-use Rattle.cps_text.specs.OperandsLeft.{operands_left}
+use Rattle.cps_text.specs.Code.OperandsLeft.{operands_left}
 use Rattle.cps_expr.specs.Expression.{expression_of}
 use Rattle.cps_expr.specs.OperandList.{paired, at_most_one}
 use Rattle.cps_expr.specs.Row.{comparison_of}

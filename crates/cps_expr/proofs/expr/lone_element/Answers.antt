@@ -1,7 +1,7 @@
 use Rattle.std.proofs.Common.{◌≡◌, Bool, [], ◌∷◌, Some, sym, ap, ◌∙◌}
 use Rattle.cps_expr.specs.declared.term.Signed.{Signed}
 use Rattle.cps_expr.specs.Term.{element_of}
-use Rattle.cps_expr.specs.TermsKept.{element_term}
+use Rattle.cps_expr.specs.Code.TermsKept.{element_term}
 use Rattle.cps_expr.proofs.LoneElements.{lone, lone-term, lone-expression}
 use Rattle.cps_expr.proofs.expr.lone_element.Goals as goal
 

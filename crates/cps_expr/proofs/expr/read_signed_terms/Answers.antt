@@ -3,7 +3,7 @@ use Rattle.std.specs.Prelude.{option_map}
 use Rattle.cps_expr.specs.OperandList.{with_first}
 use Rattle.cps_expr.specs.Expression.{terms_of, signed_texts}
 use Rattle.cps_expr.specs.Term.{term_of}
-use Rattle.cps_expr.specs.TermsLeft.{terms_left, terms_behind}
+use Rattle.cps_expr.specs.Code.TermsLeft.{terms_left, terms_behind}
 use Rattle.cps_expr.proofs.FactorReading.{some_of}
 use Rattle.cps_expr.proofs.TermsReading.{next-term, not_none}
 use Rattle.cps_expr.proofs.expr.read_signed_terms.Goals as goal

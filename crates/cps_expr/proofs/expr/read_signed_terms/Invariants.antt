@@ -1,7 +1,7 @@
 use Rattle.std.proofs.Common.{◌≡◌, false, length}
 use Rattle.std.specs.Prelude.{is_none}
 use Rattle.cps_expr.specs.Expression.{terms_of, signed_texts}
-use Rattle.cps_expr.specs.TermsLeft.{terms_left}
+use Rattle.cps_expr.specs.Code.TermsLeft.{terms_left}
 use Rattle.cps_expr.proofs.JoinLemmas.{joined}
 use Rattle.cps_expr.proofs.expr.read_signed_terms.Given as goal
 

@@ -1,7 +1,7 @@
 use Rattle.std.proofs.Common.{◌≡◌}
 use Rattle.std.specs.List.{list_any}
 use Rattle.cps_text.specs.Operands.{operands_of}
-use Rattle.cps_text.specs.OperandsLeft.{operands_left}
+use Rattle.cps_text.specs.Code.OperandsLeft.{operands_left}
 use Rattle.cps_expr.specs.Row.{stands_twice}
 use Rattle.cps_expr.proofs.parameters.some_stands_twice.Given as goal
 

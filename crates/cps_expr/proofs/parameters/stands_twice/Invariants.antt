@@ -1,7 +1,7 @@
 use Rattle.std.proofs.Common.{◌≡◌, ◌+◌, cond}
 use Rattle.std.specs.Prelude.{count_by}
 use Rattle.cps_text.specs.Operands.{operands_of}
-use Rattle.cps_text.specs.OperandsLeft.{operands_left}
+use Rattle.cps_text.specs.Code.OperandsLeft.{operands_left}
 use Rattle.cps_expr.specs.Same.{is_same}
 use Rattle.cps_expr.proofs.parameters.stands_twice.Given as goal
 

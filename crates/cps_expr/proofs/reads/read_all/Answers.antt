@@ -1,6 +1,6 @@
 use Rattle.std.proofs.Common.{option_map}
 use Rattle.cps_text.specs.Operands.{operands_of}
-use Rattle.cps_text.specs.OperandsLeft.{operands_left}
+use Rattle.cps_text.specs.Code.OperandsLeft.{operands_left}
 use Rattle.cps_expr.specs.OperandList.{all_some}
 use Rattle.cps_expr.proofs.ReadsLemmas.{read_item, lost_item, no_item, all_read}
 use Rattle.cps_expr.proofs.reads.read_all.Goals as goal

@@ -1,8 +1,8 @@
 use Rattle.std.proofs.Common.{option_map}
 use Rattle.cps_text.specs.Operands.{operands_of}
-use Rattle.cps_text.specs.OperandsLeft.{operands_left}
+use Rattle.cps_text.specs.Code.OperandsLeft.{operands_left}
 use Rattle.cps_expr.specs.OperandList.{all_some}
-use Rattle.cps_expr.specs.ReadSoFar.{Continues}
+use Rattle.cps_expr.specs.Code.ReadSoFar.{Continues}
 use Rattle.cps_expr.proofs.reads.read_all.Given as goal
 
 abbrev pub invariant-loop-operand : goal.invariant-loop-operand

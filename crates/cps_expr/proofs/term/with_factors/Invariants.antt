@@ -2,7 +2,7 @@ use Rattle.std.proofs.Common.{◌≡◌, ◌||◌, drop, map}
 use Rattle.std.specs.Prelude.{fold}
 use Rattle.std.specs.List.{list_any}
 use Rattle.cps_expr.specs.Value.{element_value, multiplied, both}
-use Rattle.cps_expr.specs.ValuedSoFar.{is_undefined}
+use Rattle.cps_expr.specs.Code.ValuedSoFar.{is_undefined}
 use Rattle.cps_expr.proofs.term.with_factors.Given as goal
 
 abbrev pub invariant-loop-factor : goal.invariant-loop-factor

@@ -2,7 +2,7 @@ use Rattle.std.proofs.Common.{◌≡◌, ◌||◌, drop}
 use Rattle.std.specs.Prelude.{fold, IfSome}
 use Rattle.std.specs.List.{list_any}
 use Rattle.cps_expr.specs.Value.{term_value, added, both, value_in, has_undefined, IsInRange}
-use Rattle.cps_expr.specs.ValuedSoFar.{term_has_undefined}
+use Rattle.cps_expr.specs.Code.ValuedSoFar.{term_has_undefined}
 use Rattle.cps_expr.proofs.terms.value_of_terms.Given as goal
 
 abbrev pub invariant-loop-term : goal.invariant-loop-term

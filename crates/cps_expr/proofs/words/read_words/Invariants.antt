@@ -1,5 +1,5 @@
 use Rattle.std.proofs.Common.{ℕ, ◌≤◌, length, option_map}
-use Rattle.cps_expr.specs.ReadSoFar.{Continues}
+use Rattle.cps_expr.specs.Code.ReadSoFar.{Continues}
 use Rattle.cps_expr.specs.Row.{words_up_to, words_of}
 use Rattle.cps_expr.proofs.words.read_words.Given as goal
 

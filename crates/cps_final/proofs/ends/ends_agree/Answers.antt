@@ -3,7 +3,7 @@ use Rattle.std.specs.Bool.{Decides}
 use Rattle.cps_final.specs.Outcome.{AgreeOnNamed}
 use Rattle.cps_final.specs.Agreeing.{same_named}
 use Rattle.cps_final.proofs.AgreeLemmas.{named-alone, named-decides}
-use Rattle.cps_final.specs.Ends.{was_of, now_of}
+use Rattle.cps_final.specs.Code.Ends.{was_of, now_of}
 use Rattle.cps_final.proofs.ends.ends_agree.Goals as goal
 
 pub returns-clause-decides : goal.returns-clause-decides

@@ -8,7 +8,7 @@ use Rattle.cps_code.specs.declared.hole.Hole.{Hole}
 use Rattle.cps_code.specs.Operand.{operand_names}
 use Rattle.cps_state.specs.declared.made.Content.{Content}
 use Rattle.cps_state.specs.Made.{content_names}
-use Rattle.cps_final.specs.NamesGathering.{label_of}
+use Rattle.cps_final.specs.Code.NamesGathering.{label_of}
 use Rattle.cps_final.proofs.NamesLemmas.{flat-flat}
 use Rattle.cps_final.proofs.names.insert_content_labels.Goals as goal
 

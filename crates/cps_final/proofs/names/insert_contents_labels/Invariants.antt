@@ -2,7 +2,7 @@ use Rattle.std.proofs.Common.{◌≡◌, take, flat_map}
 use Rattle.indexmap.specs.IndexSet.{insert_all}
 use Rattle.cps_expr.specs.Value.{same_name}
 use Rattle.cps_state.specs.Made.{content_names}
-use Rattle.cps_final.specs.NamesGathering.{label_of}
+use Rattle.cps_final.specs.Code.NamesGathering.{label_of}
 use Rattle.cps_final.proofs.names.insert_contents_labels.Given as goal
 
 abbrev pub invariant-loop-content : goal.invariant-loop-content

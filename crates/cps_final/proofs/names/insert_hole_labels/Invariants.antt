@@ -2,7 +2,7 @@ use Rattle.std.proofs.Common.{◌≡◌, take, flat_map}
 use Rattle.indexmap.specs.IndexSet.{insert_all}
 use Rattle.cps_expr.specs.Value.{same_name}
 use Rattle.cps_code.specs.Operand.{operand_names}
-use Rattle.cps_final.specs.NamesGathering.{label_of}
+use Rattle.cps_final.specs.Code.NamesGathering.{label_of}
 use Rattle.cps_final.proofs.names.insert_hole_labels.Given as goal
 
 abbrev pub invariant-loop-hole : goal.invariant-loop-hole

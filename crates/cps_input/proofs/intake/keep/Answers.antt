@@ -1,5 +1,5 @@
 use Rattle.std.proofs.Common.{◌≡◌, ◌+◌, ◌∷◌, [], ◌++◌, ap, subst, arith}
-use Rattle.cps_input.specs.Input.{IsIntake}
+use Rattle.cps_input.specs.Code.Input.{IsIntake}
 use Rattle.cps_input.proofs.InputLemmas.{source-more}
 use Rattle.cps_input.proofs.intake.keep.Goals as goal
 

@@ -1,7 +1,7 @@
 use Rattle.std.proofs.Common.{arith, ◌-◌, ◌<◌, List, Some, get_or, sym, ◌∙◌, ap, length, length-drop, take}
 use Rattle.std.proofs.lemmas.List.{get_or_default}
 use Rattle.std.specs.Prelude.{slice_get}
-use Rattle.cps_input.specs.Parts.{parts_at}
+use Rattle.cps_input.specs.Code.Parts.{parts_at}
 use Rattle.cps_input.proofs.PartLemmas.{end-within, end-behind, first-part, later-part, place-behind}
 use Rattle.cps_input.proofs.parts.part_at.Goals as goal
 

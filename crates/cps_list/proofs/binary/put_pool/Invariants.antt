@@ -1,6 +1,6 @@
 use Rattle.std.proofs.Common.{take, flat_map}
 use Rattle.cps_final.specs.contracts.finals.FinalsGathered.TheImpl.{gathered-value}
-use Rattle.cps_list.specs.Making.{Adds}
+use Rattle.cps_list.specs.Code.Making.{Adds}
 use Rattle.cps_list.specs.Binary.{literal_piece}
 use Rattle.cps_list.proofs.binary.put_pool.Given as goal
 

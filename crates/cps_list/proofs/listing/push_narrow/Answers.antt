@@ -1,7 +1,7 @@
 use Rattle.std.proofs.Common.{rules, ◌≡◌, ◌+◌, ◌++◌, ap, ◌∙◌, append_assoc, length, take}
 use Rattle.std.proofs.Math.Seq.{take-append-add}
 use Rattle.cps_list.specs.Columns.{at_left, laid_out}
-use Rattle.cps_list.specs.Front.{front_columns}
+use Rattle.cps_list.specs.Code.Front.{front_columns}
 use Rattle.cps_list.specs.Listing.{text_shown, trimmed}
 use Rattle.cps_list.proofs.FrontLemmas.{front-first, front-later, front-taken, trimmed-left}
 use Rattle.cps_list.proofs.listing.push_narrow.Goals as goal

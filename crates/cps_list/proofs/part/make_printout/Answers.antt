@@ -1,6 +1,6 @@
 use Rattle.std.proofs.Common.{◌≤◌, rules, arith, subst, ◌∙◌, take, length}
 use Rattle.std.proofs.lemmas.List.{take_all}
-use Rattle.cps_list.specs.Making.{IsPrintoutOf}
+use Rattle.cps_list.specs.Code.Making.{IsPrintoutOf}
 use Rattle.cps_list.proofs.ViewLemmas.{number-next, printout-next}
 use Rattle.cps_list.proofs.part.make_printout.Goals as goal
 

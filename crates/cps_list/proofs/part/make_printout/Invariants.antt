@@ -1,5 +1,5 @@
 use Rattle.std.proofs.Common.{◌≡◌, ◌≤◌, take}
-use Rattle.cps_list.specs.Making.{IsPrintoutOf}
+use Rattle.cps_list.specs.Code.Making.{IsPrintoutOf}
 use Rattle.cps_list.proofs.part.make_printout.Given as goal
 
 abbrev pub invariant-loop-before : goal.invariant-loop-before

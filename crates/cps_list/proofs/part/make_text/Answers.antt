@@ -1,5 +1,5 @@
 use Rattle.std.proofs.Common.{sym, ap, ◌∙◌}
-use Rattle.cps_list.specs.Making.{shown, shows_symbols}
+use Rattle.cps_list.specs.Code.Making.{shown, shows_symbols}
 use Rattle.cps_list.specs.Symbols.{mentions_from}
 use Rattle.cps_list.specs.Texts.{text_of}
 use Rattle.cps_list.proofs.part.make_text.Goals as goal

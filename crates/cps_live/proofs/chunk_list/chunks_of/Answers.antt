@@ -2,7 +2,7 @@ use Rattle.std.proofs.Common.{arith, refl, ◌≡◌, ℕ, ◌+◌, ◌∙◌, L
 use Rattle.std.specs.Prelude.{sum}
 use Rattle.std.proofs.lemmas.List.{nil_from_length, take_all, length-map, length-take-le}
 use Rattle.cps_chunk.specs.declared.chunk.Chunk.{Chunk}
-use Rattle.cps_chunk.specs.Chunk.{AreChunksOf, lengths_of}
+use Rattle.cps_chunk.specs.Code.Chunk.{AreChunksOf, lengths_of}
 use Rattle.cps_live.proofs.ChunkListLemmas.{next-within, left-behind, chunks-next, lengths-push}
 use Rattle.cps_live.proofs.chunk_list.chunks_of.Goals as goal
 

@@ -1,6 +1,6 @@
 use Rattle.std.proofs.Common.{◌≡◌, take, drop, vec_capacity}
 use Rattle.std.specs.Prelude.{sum}
-use Rattle.cps_chunk.specs.Chunk.{AreChunksOf, lengths_of}
+use Rattle.cps_chunk.specs.Code.Chunk.{AreChunksOf, lengths_of}
 use Rattle.cps_live.proofs.chunk_list.chunks_of.Given as goal
 
 abbrev pub invariant-loop-lines : goal.invariant-loop-lines

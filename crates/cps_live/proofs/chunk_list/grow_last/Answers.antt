@@ -3,7 +3,7 @@ use Rattle.std.specs.Prelude.{sum}
 use Rattle.std.proofs.lemmas.List.{length-map}
 use Rattle.cps_state.specs.Course.{Trace}
 use Rattle.cps_chunk.specs.Division.{IsDivision, full}
-use Rattle.cps_chunk.specs.Chunk.{AreChunksOf, IsChunkOf, lengths_of}
+use Rattle.cps_chunk.specs.Code.Chunk.{AreChunksOf, IsChunkOf, lengths_of}
 use Rattle.cps_chunk.specs.declared.chunk.Chunk.{Chunk}
 use Rattle.cps_live.proofs.AppendLemmas.{IsAtEnd, begins, begins-first, length-at}
 use Rattle.cps_live.proofs.ChunkListLemmas.{chunks-begun, chunks-grown, lengths-begun, lengths-grown, same-read}

@@ -1,7 +1,7 @@
 use Rattle.std.proofs.Common.{◌≡◌, ◌≤◌, ◌-◌, List, take, drop, vec_len, vec_capacity}
 use Rattle.std.specs.Prelude.{sum}
 use Rattle.cps_state.specs.Course.{Trace}
-use Rattle.cps_chunk.specs.Chunk.{AreChunksOf, lengths_of}
+use Rattle.cps_chunk.specs.Code.Chunk.{AreChunksOf, lengths_of}
 use Rattle.cps_chunk.specs.Sparse.{AreWithin, renewed}
 use Rattle.cps_live.proofs.chunk_list.mark_all.Given as goal
 

@@ -3,7 +3,7 @@ use Rattle.std.specs.Prelude.{sum}
 use Rattle.std.proofs.lemmas.List.{take_rest}
 use Rattle.cps_state.specs.Course.{Trace}
 use Rattle.cps_chunk.specs.declared.chunk.Chunk.{Chunk}
-use Rattle.cps_chunk.specs.Chunk.{AreChunksOf, lengths_of}
+use Rattle.cps_chunk.specs.Code.Chunk.{AreChunksOf, lengths_of}
 use Rattle.cps_live.proofs.ChunkListLemmas.{chunks-recut, lengths-recut}
 use Rattle.cps_live.proofs.chunk_list.put_chunks.Goals as goal
 

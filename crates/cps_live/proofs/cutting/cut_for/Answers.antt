@@ -2,7 +2,7 @@ use Rattle.std.proofs.Common.{arith, refl, subst, ◌≡◌, ◌-◌, length, �
 use Rattle.std.specs.Prelude.{sum}
 use Rattle.cps_chunk.specs.Put.{put_at}
 use Rattle.cps_live.specs.declared.cut.Cut.{Cut}
-use Rattle.cps_live.specs.Cutting.{IsCutFor, edit_of}
+use Rattle.cps_live.specs.Code.Cutting.{IsCutFor, edit_of}
 use Rattle.cps_live.proofs.CuttingLemmas.{cut-put}
 use Rattle.cps_live.proofs.cutting.cut_for.Goals as goal
 

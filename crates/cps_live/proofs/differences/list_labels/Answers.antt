@@ -1,6 +1,6 @@
 use Rattle.std.proofs.Common.{◌≡◌, ◌+◌, ◌≤◌, ◌++◌, ◌∷◌, [], List, Vec, Global, take, sym, subst, ap, ◌∙◌, arith}
 use Rattle.cps_text.specs.declared.name.Name.{Name}
-use Rattle.cps_final.specs.Kept.{count_of, keys_in}
+use Rattle.cps_final.specs.Code.Kept.{count_of, keys_in}
 use Rattle.cps_live.proofs.DifferenceLemmas.{AreListedOf, listed-none, listed-label, listed-same, listed-other, listed-all}
 use Rattle.cps_live.proofs.differences.list_labels.Goals as goal
 use Rattle.cps_live.proofs.differences.list_labels.Goals.{in-Label+then-not-label+in_ok-push, in-Label+else-not-label, in_default}

@@ -1,5 +1,5 @@
 use Rattle.std.proofs.Common.{take}
-use Rattle.cps_final.specs.Kept.{keys_in}
+use Rattle.cps_final.specs.Code.Kept.{keys_in}
 use Rattle.cps_live.proofs.DifferenceLemmas.{AreListedOf}
 use Rattle.cps_live.proofs.differences.list_labels.Given as goal
 

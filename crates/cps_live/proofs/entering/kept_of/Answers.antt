@@ -10,10 +10,10 @@ use Rattle.cps_chunk.specs.Division.{AreChunks}
 use Rattle.cps_final.specs.Outcome.{Outcome}
 use Rattle.cps_edit.specs.Passes.{traces_from, traces_of, outcomes_by}
 use Rattle.cps_edit.specs.Disturbed.{finals_in}
-use Rattle.cps_edit.specs.PassOne.{gathered_in}
+use Rattle.cps_edit.specs.Code.PassOne.{gathered_in}
 use Rattle.cps_edit.proofs.SpliceLemmas.{gathered-state, length-traces_from}
-use Rattle.cps_chunk.specs.Chunk.{AreChunksOf}
-use Rattle.cps_live.specs.NamesRead.{HasRead}
+use Rattle.cps_chunk.specs.Code.Chunk.{AreChunksOf}
+use Rattle.cps_live.specs.Code.NamesRead.{HasRead}
 use Rattle.cps_live.specs.Entering.{full_chunks}
 use Rattle.cps_live.proofs.EnteringLemmas.{divides}
 use Rattle.cps_live.proofs.entering.kept_of.Goals as goal

@@ -1,11 +1,11 @@
 use Rattle.std.proofs.Common.{arith, rules, ◌≡◌, ◌≤◌, ℕ, length, refl, ap, subst, ◌∙◌}
-use Rattle.cps_final.specs.Kept.{changes_in}
+use Rattle.cps_final.specs.Code.Kept.{changes_in}
 use Rattle.cps_final.specs.Layout.{puts_of}
 use Rattle.cps_edit.specs.Passes.{traces_from}
-use Rattle.cps_chunk.specs.Walk.{GoesOver, cursor, looks_in, now_at, replayed_in}
+use Rattle.cps_chunk.specs.Code.Walk.{GoesOver, cursor, looks_in, now_at, replayed_in}
 use Rattle.cps_chunk.proofs.OverLemmas.{still-still, still-walk}
 use Rattle.cps_chunk.proofs.ReplayedLemmas.{ones-spliced}
-use Rattle.cps_live.specs.Editing.{splice_of}
+use Rattle.cps_live.specs.Code.Editing.{splice_of}
 use Rattle.cps_live.proofs.FirstPassLemmas.{Entered, ends-within, entered-does, entered-state, looks-are, steps-are, steps-first, walked}
 use Rattle.cps_live.proofs.first_pass.go_over.Goals as goal
 

@@ -5,8 +5,8 @@ use Rattle.cps_edit.specs.Exchange.{IsWithin, exchange_at}
 use Rattle.cps_chunk.specs.declared.walk.Baseline.{Baseline}
 use Rattle.cps_chunk.proofs.CountingLemmas.{looks-then, looks-wider, steps-as, steps-stop, steps-then}
 use Rattle.cps_chunk.proofs.OverLemmas.{still-still, still-walk}
-use Rattle.cps_chunk.specs.Moved.{first_replayed, second_replayed, state_between}
-use Rattle.cps_chunk.specs.Walk.{stretch}
+use Rattle.cps_chunk.specs.Code.Moved.{first_replayed, second_replayed, state_between}
+use Rattle.cps_chunk.specs.Code.Walk.{stretch}
 use Rattle.cps_live.proofs.MovedPassLemmas.{both-news, carried-count, carried-looks, carried-present, first-crossed, over-count, over-looks, second-news}
 use Rattle.cps_live.proofs.moved_pass.carry_first.Goals as goal
 

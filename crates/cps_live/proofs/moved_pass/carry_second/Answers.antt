@@ -5,8 +5,8 @@ use Rattle.cps_edit.specs.Exchange.{IsWithin, exchange_at}
 use Rattle.cps_chunk.specs.declared.walk.Baseline.{Baseline}
 use Rattle.cps_chunk.proofs.CountingLemmas.{looks-then, looks-wider, steps-as, steps-stop, steps-then}
 use Rattle.cps_chunk.proofs.OverLemmas.{still-still, still-walk}
-use Rattle.cps_chunk.specs.Moved.{first_replayed, second_replayed, state_before}
-use Rattle.cps_chunk.specs.Walk.{stretch}
+use Rattle.cps_chunk.specs.Code.Moved.{first_replayed, second_replayed, state_before}
+use Rattle.cps_chunk.specs.Code.Walk.{stretch}
 use Rattle.cps_live.proofs.MovedPassLemmas.{all-news, came-count, came-looks, came-news, came-present, gone-count, gone-looks, second-crossed}
 use Rattle.cps_live.proofs.moved_pass.carry_second.Goals as goal
 

@@ -1,5 +1,5 @@
 use Rattle.std.proofs.Common.{◌≡◌, ◌++◌, take, drop}
-use Rattle.cps_chunk.specs.Looks.{items_before, items_from}
+use Rattle.cps_chunk.specs.Code.Looks.{items_before, items_from}
 use Rattle.cps_live.proofs.second_pass.split_before.Given as goal
 
 -- all so far stand in front of the place

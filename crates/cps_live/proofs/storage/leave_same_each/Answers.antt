@@ -1,7 +1,7 @@
 use Rattle.std.proofs.Common.{rules, ◌≡◌, ◌<◌, ◌∙◌, ◌∷◌, [], ap, sym, true, length}
-use Rattle.cps_chunk.specs.Storing.{left_by}
+use Rattle.cps_chunk.specs.Code.Storing.{left_by}
 use Rattle.cps_chunk.proofs.SparseLemmas.{renewed-none}
-use Rattle.cps_live.specs.Storing.{left_by_each}
+use Rattle.cps_live.specs.Code.Storing.{left_by_each}
 use Rattle.cps_live.proofs.RenewedLemmas.{place-within}
 use Rattle.cps_live.proofs.StoredLemmas.{each-next, each-all}
 use Rattle.cps_live.proofs.storage.leave_same_each.Goals as goal

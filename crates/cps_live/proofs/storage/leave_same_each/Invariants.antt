@@ -1,6 +1,6 @@
 use Rattle.std.proofs.Common.{◌≡◌, take}
 use Rattle.cps_chunk.specs.Sparse.{renewed}
-use Rattle.cps_live.specs.Storing.{left_by_each}
+use Rattle.cps_live.specs.Code.Storing.{left_by_each}
 use Rattle.cps_live.proofs.storage.leave_same_each.Given as goal
 
 abbrev pub invariant-loop-new : goal.invariant-loop-new

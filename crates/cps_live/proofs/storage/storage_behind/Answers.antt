@@ -1,10 +1,10 @@
 use Rattle.std.proofs.Common.{arith, refl, ◌≡◌, ◌-◌, ◌∙◌, ◌++◌, ap, sym, subst, length, take, drop, List, []}
 use Rattle.std.proofs.lemmas.List.{take_rest}
 use Rattle.cps_state.specs.Course.{Trace}
-use Rattle.cps_final.specs.Storage.{IsStored}
+use Rattle.cps_final.specs.Code.Storage.{IsStored}
 use Rattle.cps_chunk.specs.declared.sparse.SparseItem.{SparseItem}
 use Rattle.cps_chunk.specs.Sparse.{AreWithin, renewed}
-use Rattle.cps_chunk.specs.Storing.{left_by}
+use Rattle.cps_chunk.specs.Code.Storing.{left_by}
 use Rattle.cps_chunk.proofs.SparseLemmas.{AreWithin-wider}
 use Rattle.cps_live.proofs.StoredLemmas.{append-edited, left-same, parts-edited, stored-edited}
 use Rattle.cps_live.proofs.storage.storage_behind.Goals as goal

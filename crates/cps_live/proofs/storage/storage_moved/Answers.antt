@@ -1,7 +1,7 @@
 use Rattle.std.proofs.Common.{arith, ◌-◌, sym, subst, ◌∙◌, ◌++◌, [], List, length, take, drop}
 use Rattle.std.proofs.lemmas.List.{take_rest}
 use Rattle.cps_state.specs.Course.{Trace}
-use Rattle.cps_final.specs.Storage.{IsStored}
+use Rattle.cps_final.specs.Code.Storage.{IsStored}
 use Rattle.cps_chunk.specs.Sparse.{renewed}
 use Rattle.cps_chunk.proofs.SparseLemmas.{AreWithin-wider}
 use Rattle.cps_live.proofs.ExchangeLemmas.{runs-within}

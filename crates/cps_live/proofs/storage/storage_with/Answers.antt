@@ -1,5 +1,5 @@
 use Rattle.std.proofs.Common.{◌≡◌, ◌∙◌, ◌++◌, ◌∷◌, [], ap, append-nil, sym}
-use Rattle.cps_chunk.specs.Storing.{left_by}
+use Rattle.cps_chunk.specs.Code.Storing.{left_by}
 use Rattle.cps_live.proofs.StoredLemmas.{left-middle, stored-same}
 use Rattle.cps_live.proofs.storage.storage_with.Goals as goal
 

@@ -1,14 +1,14 @@
 use Rattle.std.proofs.Common.{rules, arith, ◌+◌, ◌-◌, sym, ap, ◌∙◌, map, true, false}
 use Rattle.cps_text.specs.Insertion.{pairs_value, inserted}
 use Rattle.cps_state.specs.Course.{begin}
-use Rattle.cps_state.specs.Line.{Goes}
+use Rattle.cps_state.specs.Code.Line.{Goes}
 use Rattle.cps_pass.specs.Locals.{naming_all}
-use Rattle.cps_pass.specs.Naming.{Names}
+use Rattle.cps_pass.specs.Code.Naming.{Names}
 use Rattle.cps_pass.specs.Expansion.{walk, body, ended, too_deep}
 use Rattle.cps_pass.specs.Treating.{repeated}
 use Rattle.cps_pass.specs.Meaning.{statement}
-use Rattle.cps_pass.specs.Opened.{opening_of}
-use Rattle.cps_pass.specs.Taking.{HandsOn, Walks}
+use Rattle.cps_pass.specs.Code.Opened.{opening_of}
+use Rattle.cps_pass.specs.Code.Taking.{HandsOn, Walks}
 use Rattle.cps_pass.proofs.WalkLemmas.{walked, cut, begins-as, obeys-as, walks-as, opened-some, opened-none, one-turn, body-as, no-turn, names-as, called-if, called-cut}
 use Rattle.cps_pass.proofs.expansion.+expansion.Goals as goal
 use Rattle.cps_pass.proofs.expansion.+expansion.Goals.{go_through-in-Some+in_ok-expand+else-not-branch-2, go_through-in_default}

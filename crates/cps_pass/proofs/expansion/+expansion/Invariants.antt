@@ -1,6 +1,6 @@
 use Rattle.std.proofs.Common.{◌≡◌, ◌+◌, ◌-◌, ◌*◌, drop}
 use Rattle.cps_state.specs.Course.{Part, Course}
-use Rattle.cps_state.specs.Line.{runs}
+use Rattle.cps_state.specs.Code.Line.{runs}
 use Rattle.cps_pass.specs.declared.scope.Scope.{Scope}
 use Rattle.cps_pass.specs.declared.scope.Scope.TheVariants.{Expansion}
 use Rattle.cps_pass.specs.Expansion.{walk, body, too_deep}

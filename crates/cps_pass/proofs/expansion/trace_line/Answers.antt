@@ -1,8 +1,8 @@
 use Rattle.std.proofs.Common.{◌≡◌, Bool, subst}
 use Rattle.std.specs.Prelude.{IfOk}
 use Rattle.cps_state.specs.Course.{Running, stop, traced}
-use Rattle.cps_state.specs.Line.{runs}
-use Rattle.cps_state.specs.Sheet.{statements_on}
+use Rattle.cps_state.specs.Code.Line.{runs}
+use Rattle.cps_state.specs.Code.Sheet.{statements_on}
 use Rattle.cps_pass.specs.Expansion.{line_part}
 use Rattle.cps_pass.proofs.WalkLemmas.{done-is}
 use Rattle.cps_pass.proofs.expansion.trace_line.Goals as goal

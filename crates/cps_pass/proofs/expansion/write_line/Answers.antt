@@ -1,8 +1,8 @@
 use Rattle.std.proofs.Common.{◌≡◌, Bool, ap, subst, ◌∙◌}
 use Rattle.std.proofs.lemmas.Result.{on_ok_weaker}
 use Rattle.cps_state.specs.Course.{Running, stop, traced, unasked}
-use Rattle.cps_state.specs.Line.{runs}
-use Rattle.cps_state.specs.Sheet.{statements_on}
+use Rattle.cps_state.specs.Code.Line.{runs}
+use Rattle.cps_state.specs.Code.Sheet.{statements_on}
 use Rattle.cps_pass.specs.Expansion.{line_part}
 use Rattle.cps_pass.proofs.WalkLemmas.{before-stays, done-is}
 use Rattle.cps_pass.proofs.expansion.write_line.Goals as goal

@@ -1,7 +1,7 @@
 use Rattle.std.proofs.Common.{◌≡◌, All}
 use Rattle.std.specs.Vec.Iter.{into_iter_items}
 use Rattle.cps_state.specs.Course.{Course, Part}
-use Rattle.cps_state.specs.Line.{runs}
+use Rattle.cps_state.specs.Code.Line.{runs}
 use Rattle.cps_state.specs.Made.{IsContent}
 use Rattle.cps_pass.specs.Fields.{Sized, sizing}
 use Rattle.cps_pass.proofs.SizedLemmas.{behind_sized}

@@ -1,9 +1,9 @@
 use Rattle.std.proofs.Common.{◌≡◌, drop, flat_map, List}
 use Rattle.cps_state.specs.declared.made.Held.{Held}
 use Rattle.cps_state.specs.Course.{Course, Part}
-use Rattle.cps_state.specs.Line.{runs}
+use Rattle.cps_state.specs.Code.Line.{runs}
 use Rattle.cps_state.specs.Made.{content_names}
-use Rattle.cps_pass.specs.Holding.{holding_after, IsHolding}
+use Rattle.cps_pass.specs.Code.Holding.{holding_after, IsHolding}
 use Rattle.cps_pass.specs.Placing.{holding}
 use Rattle.cps_pass.proofs.holding.hold.Given as goal
 

@@ -1,7 +1,7 @@
 use Rattle.std.proofs.Common.{◌≡◌, drop}
 use Rattle.cps_text.specs.Insertion.{Pairs}
 use Rattle.cps_state.specs.Course.{Part, Course}
-use Rattle.cps_state.specs.Line.{runs}
+use Rattle.cps_state.specs.Code.Line.{runs}
 use Rattle.cps_pass.specs.Locals.{naming_all}
 use Rattle.cps_pass.proofs.names.name_all.Given as goal
 

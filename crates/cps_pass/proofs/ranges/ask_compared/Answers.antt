@@ -1,5 +1,5 @@
 use Rattle.std.proofs.Common.{sym, ap, ◌∙◌}
-use Rattle.cps_state.specs.Line.{runs}
+use Rattle.cps_state.specs.Code.Line.{runs}
 use Rattle.cps_pass.specs.ValueNow.{now_here}
 use Rattle.cps_pass.specs.declared.ranges.Tested.{Tested}
 use Rattle.cps_pass.specs.Ranges.{compared}

@@ -1,6 +1,6 @@
 use Rattle.std.proofs.Common.{sym, ap, ◌∙◌}
 use Rattle.cps_state.specs.Course.{◌before◌, tell}
-use Rattle.cps_state.specs.Line.{runs}
+use Rattle.cps_state.specs.Code.Line.{runs}
 use Rattle.cps_pass.specs.declared.ranges.Tested.{Tested}
 use Rattle.cps_pass.specs.Located.{has_value}
 use Rattle.cps_pass.specs.Ranges.{defined}

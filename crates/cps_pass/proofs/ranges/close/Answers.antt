@@ -2,7 +2,7 @@ use Rattle.std.proofs.Common.{◌≡◌, ◌-◌, ◌≤◌, arith, ap, subst, �
 use Rattle.std.proofs.lemmas.List.{take_all}
 use Rattle.cps_state.specs.declared.key.Range.{Range}
 use Rattle.cps_state.specs.Course.{Part, ◌before◌, fill}
-use Rattle.cps_state.specs.Line.{Hands}
+use Rattle.cps_state.specs.Code.Line.{Hands}
 use Rattle.cps_state.specs.Made.{nothing_made}
 use Rattle.cps_pass.specs.declared.reading.Location.{Location}
 use Rattle.cps_pass.specs.Located.{present_flags}

@@ -1,7 +1,7 @@
 use Rattle.std.proofs.Common.{List, subst}
 use Rattle.std.specs.Prelude.{OnOk}
 use Rattle.cps_state.specs.declared.key.Range.{Range}
-use Rattle.cps_state.specs.Line.{Hands}
+use Rattle.cps_state.specs.Code.Line.{Hands}
 use Rattle.cps_pass.specs.Ranges.{closed}
 use Rattle.cps_pass.specs.Scope.{asking_ranges}
 use Rattle.cps_pass.proofs.ScopeLemmas.{handed-on}

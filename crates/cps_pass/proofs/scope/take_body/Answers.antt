@@ -3,11 +3,11 @@ use Rattle.cps_state.specs.declared.key.Key.TheVariants as key
 use Rattle.cps_state.specs.declared.key.Answer.TheVariants as answer
 use Rattle.cps_state.specs.declared.key.Mode.TheVariants.{Normal}
 use Rattle.cps_state.specs.Course.{◌before◌, putting}
-use Rattle.cps_state.specs.Line.{runs}
+use Rattle.cps_state.specs.Code.Line.{runs}
 use Rattle.cps_pass.specs.declared.scope.Scope.{Scope}
 use Rattle.cps_pass.specs.declared.scope.Scope.TheVariants.{Source}
 use Rattle.cps_pass.specs.Scope.{taking_body}
-use Rattle.cps_pass.specs.Taking.{TakesBody}
+use Rattle.cps_pass.specs.Code.Taking.{TakesBody}
 use Rattle.cps_pass.proofs.scope.take_body.Goals as goal
 
 pub returns-in_ok-put-in-Source : goal.returns-in_ok-put-in-Source

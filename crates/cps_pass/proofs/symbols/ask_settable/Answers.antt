@@ -1,7 +1,7 @@
 use Rattle.std.proofs.Common.{◌≡◌, Bool, Option, Some, sym, ap, ◌∙◌}
 use Rattle.cps_text.specs.declared.name.Name.{Name}
 use Rattle.cps_state.specs.Course.{◌before◌, telling_if}
-use Rattle.cps_state.specs.Line.{runs}
+use Rattle.cps_state.specs.Code.Line.{runs}
 use Rattle.cps_pass.specs.Located.{symbol_in, is_labelled}
 use Rattle.cps_pass.specs.Symbols.{asking_settable}
 use Rattle.cps_pass.proofs.symbols.ask_settable.Goals as goal

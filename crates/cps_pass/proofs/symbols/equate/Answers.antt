@@ -1,7 +1,7 @@
 use Rattle.std.proofs.Common.{sym, ap, ◌∙◌}
 use Rattle.cps_state.specs.declared.flags.Flags.{Flags}
 use Rattle.cps_state.specs.Course.{fill}
-use Rattle.cps_state.specs.Line.{line_filled, runs}
+use Rattle.cps_state.specs.Code.Line.{line_filled, runs}
 use Rattle.cps_pass.specs.Symbols.{equate_flags, equate_to, listing_value}
 use Rattle.cps_pass.specs.ValueNow.{now_here}
 use Rattle.cps_pass.proofs.symbols.equate.Goals as goal

@@ -1,7 +1,7 @@
 use Rattle.std.proofs.Common.{Bool, sym, ap, ◌∙◌}
 use Rattle.cps_state.specs.declared.flags.Flags.{Flags}
 use Rattle.cps_state.specs.Course.{fill}
-use Rattle.cps_state.specs.Line.{line_filled, runs}
+use Rattle.cps_state.specs.Code.Line.{line_filled, runs}
 use Rattle.cps_pass.specs.Located.{is_labelled}
 use Rattle.cps_pass.specs.Symbols.{equate_flags, set_to, listing_value}
 use Rattle.cps_pass.specs.ValueNow.{now_here}

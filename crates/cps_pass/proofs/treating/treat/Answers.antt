@@ -1,9 +1,9 @@
 use Rattle.std.proofs.Common.{◌++◌, List, ℕ, sym, ap, ◌∙◌}
 use Rattle.cps_state.specs.declared.flags.Flags.{Flags}
-use Rattle.cps_state.specs.Line.{line_filled, runs}
+use Rattle.cps_state.specs.Code.Line.{line_filled, runs}
 use Rattle.cps_state.specs.Made.{nothing_made}
 use Rattle.cps_pass.specs.Located.{present_flags}
-use Rattle.cps_pass.specs.Opened.{opening_of}
+use Rattle.cps_pass.specs.Code.Opened.{opening_of}
 use Rattle.cps_pass.specs.Opening.{plain, none_opened}
 use Rattle.cps_pass.specs.Scope.{flagging, opens_nothing, taking_body}
 use Rattle.cps_pass.specs.Treating.{repeated, last_line}

@@ -1,8 +1,8 @@
 use Rattle.std.proofs.Common.{◌≡◌, drop}
 use Rattle.cps_expr.specs.Value.{Values}
 use Rattle.cps_state.specs.Course.{Course, Part}
-use Rattle.cps_state.specs.Line.{runs}
-use Rattle.cps_pass.specs.NamesNow.{with_values}
+use Rattle.cps_state.specs.Code.Line.{runs}
+use Rattle.cps_pass.specs.Code.NamesNow.{with_values}
 use Rattle.cps_pass.specs.ValueNow.{names_now}
 use Rattle.cps_pass.proofs.value_now.names_now.Given as goal
 

@@ -1,5 +1,5 @@
 use Rattle.std.proofs.Common.{◌≡◌, drop}
-use Rattle.cps_pass.specs.NamesNow.{values_in}
+use Rattle.cps_pass.specs.Code.NamesNow.{values_in}
 use Rattle.cps_pass.proofs.value_now.value_among.Given as goal
 
 abbrev pub invariant-loop-now : goal.invariant-loop-now

@@ -1,7 +1,7 @@
 use Rattle.std.proofs.Common.{sym, subst}
 use Rattle.std.specs.Prelude.{OnOk}
 use Rattle.cps_expr.specs.declared.row.DisText.{DisText}
-use Rattle.cps_state.specs.Line.{Does}
+use Rattle.cps_state.specs.Code.Line.{Does}
 use Rattle.cps_pass.specs.Placing.{asking_site}
 use Rattle.cps_pass.specs.Words.{displaying}
 use Rattle.cps_pass.proofs.PartLemmas.{handed-then}

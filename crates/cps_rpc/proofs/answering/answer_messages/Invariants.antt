@@ -1,5 +1,5 @@
 use Rattle.std.proofs.Common.{◌≡◌, false, length}
-use Rattle.cps_rpc.specs.Answering.{WritesAnswers}
+use Rattle.cps_rpc.specs.Code.Answering.{WritesAnswers}
 use Rattle.cps_rpc.proofs.answering.answer_messages.Given as goal
 
 abbrev pub invariant-loop-message : goal.invariant-loop-message

@@ -1,5 +1,5 @@
 use Rattle.std.proofs.Common.{◌≡◌, drop}
-use Rattle.cps_rpc.specs.Front.{told_by}
+use Rattle.cps_rpc.specs.Code.Front.{told_by}
 use Rattle.cps_rpc.proofs.length.length_told.Given as goal
 
 abbrev pub invariant-loop-header : goal.invariant-loop-header

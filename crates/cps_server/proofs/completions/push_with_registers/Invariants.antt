@@ -1,6 +1,6 @@
 use Rattle.std.proofs.Common.{map}
 use Rattle.serde_json.specs.View.{view}
-use Rattle.cps_server.specs.Telling.{KeepsCompletions}
+use Rattle.cps_server.specs.Code.Telling.{KeepsCompletions}
 use Rattle.cps_server.proofs.completions.push_with_registers.Given as goal
 
 abbrev pub invariant-loop-register : goal.invariant-loop-register

@@ -1,7 +1,7 @@
 use Rattle.std.proofs.Common.{List, [], ◌∷◌, ◌++◌, map, take, sym, ap, subst, ◌∙◌}
 use Rattle.std.proofs.lemmas.List.{map_more, take_all}
 use Rattle.cps_cause.specs.declared.diagnostic.Diagnostic.{Diagnostic}
-use Rattle.cps_server.specs.Adding.{Adds}
+use Rattle.cps_server.specs.Code.Adding.{Adds}
 use Rattle.cps_server.specs.Marks.{Mark, flag_mark}
 use Rattle.cps_server.proofs.MarkLemmas.{Adds-append, Adds-none}
 use Rattle.cps_server.proofs.line_marks.push_causes.Goals as goal

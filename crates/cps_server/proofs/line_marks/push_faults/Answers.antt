@@ -1,7 +1,7 @@
 use Rattle.std.proofs.Common.{List, map, subst}
 use Rattle.std.proofs.lemmas.List.{take_all}
 use Rattle.cps_input.specs.declared.character_fault.CharacterFault.{CharacterFault}
-use Rattle.cps_server.specs.Adding.{Adds}
+use Rattle.cps_server.specs.Code.Adding.{Adds}
 use Rattle.cps_server.specs.Marks.{fault_mark}
 use Rattle.cps_server.proofs.MarkLemmas.{Adds-next, Adds-none}
 use Rattle.cps_server.proofs.line_marks.push_faults.Goals as goal

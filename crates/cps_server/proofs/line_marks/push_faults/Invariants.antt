@@ -1,5 +1,5 @@
 use Rattle.std.proofs.Common.{map, take}
-use Rattle.cps_server.specs.Adding.{Adds}
+use Rattle.cps_server.specs.Code.Adding.{Adds}
 use Rattle.cps_server.specs.Marks.{fault_mark}
 use Rattle.cps_server.proofs.line_marks.push_faults.Given as goal
 

@@ -1,6 +1,6 @@
 use Rattle.std.proofs.Common.{◌≡◌, length, ap, subst, arith}
 use Rattle.cps_server.specs.Document.{source_of_text}
-use Rattle.cps_server.specs.Adding.{AddsLines}
+use Rattle.cps_server.specs.Code.Adding.{AddsLines}
 use Rattle.cps_server.proofs.TextMarksLemmas.{AddsLines-next}
 use Rattle.cps_server.proofs.marking.push_line_marks.Goals as goal
 

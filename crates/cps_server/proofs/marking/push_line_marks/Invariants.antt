@@ -1,4 +1,4 @@
-use Rattle.cps_server.specs.Adding.{AddsLines}
+use Rattle.cps_server.specs.Code.Adding.{AddsLines}
 use Rattle.cps_server.proofs.marking.push_line_marks.Given as goal
 
 abbrev pub invariant-loop-number : goal.invariant-loop-number

@@ -1,5 +1,5 @@
 use Rattle.std.proofs.Common.{◌≡◌, drop, map}
-use Rattle.cps_server.specs.Opened.{value_of}
+use Rattle.cps_server.specs.Code.Opened.{value_of}
 use Rattle.cps_server.specs.Standing.{open_under}
 use Rattle.cps_server.proofs.open_texts.place_of.Given as goal
 

@@ -2,7 +2,7 @@ use Rattle.std.proofs.Common.{[], List, subst, take_all}
 use Rattle.std.specs.HashMap as hash
 use Rattle.cps_state.specs.declared.key.Key.{Key}
 use Rattle.cps_state.specs.contracts.key.KeyPartialEq.TheImpl.{eq-value}
-use Rattle.cps_state.specs.Log.{asked_in, Indexes}
+use Rattle.cps_state.specs.Code.Log.{asked_in, Indexes}
 use Rattle.cps_state.proofs.LogLemmas.{indexes-next-key}
 use Rattle.cps_state.proofs.log.index_of_asks.Goals as goal
 

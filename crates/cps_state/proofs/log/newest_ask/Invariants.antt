@@ -1,7 +1,7 @@
 use Rattle.std.proofs.Common.{◌≡◌, ◌≤◌, length, take}
 use Rattle.cps_state.specs.Keys.{State}
 use Rattle.cps_state.specs.Course.{last_ask}
-use Rattle.cps_state.specs.Log.{asked_in}
+use Rattle.cps_state.specs.Code.Log.{asked_in}
 use Rattle.cps_state.proofs.log.newest_ask.Given as goal
 
 -- what comes after has other keys

@@ -3,7 +3,7 @@ use Rattle.std.specs.HashMap as hash
 use Rattle.cps_state.specs.declared.key.Key.{Key}
 use Rattle.cps_state.specs.contracts.key.KeyPartialEq.TheImpl.{eq-value}
 use Rattle.cps_state.specs.Keys.{State}
-use Rattle.cps_state.specs.Log.{asked_in, Indexes}
+use Rattle.cps_state.specs.Code.Log.{asked_in, Indexes}
 use Rattle.cps_state.proofs.log.with_puts.Given as goal
 
 abbrev pub invariant-loop-place : goal.invariant-loop-place

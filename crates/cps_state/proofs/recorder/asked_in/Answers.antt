@@ -1,6 +1,6 @@
 use Rattle.std.proofs.Common.{ap, ◌∙◌}
 use Rattle.std.proofs.lemmas.List.{take_all}
-use Rattle.cps_state.specs.Log.{asked_in}
+use Rattle.cps_state.specs.Code.Log.{asked_in}
 use Rattle.cps_state.proofs.LogLemmas.{asked-next}
 use Rattle.cps_state.proofs.recorder.asked_in.Goals as goal
 

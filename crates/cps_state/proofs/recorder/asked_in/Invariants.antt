@@ -1,5 +1,5 @@
 use Rattle.std.proofs.Common.{◌≡◌, take}
-use Rattle.cps_state.specs.Log.{asked_in}
+use Rattle.cps_state.specs.Code.Log.{asked_in}
 use Rattle.cps_state.proofs.recorder.asked_in.Given as goal
 
 abbrev pub invariant-loop-key : goal.invariant-loop-key

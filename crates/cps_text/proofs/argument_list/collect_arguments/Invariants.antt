@@ -1,6 +1,6 @@
 use Rattle.std.proofs.Common.{◌≡◌, ◌++◌, length, map}
 use Rattle.cps_text.specs.Arguments.{argument_len, without_pair, arguments_of}
-use Rattle.cps_text.specs.PartsLeft.{parts_left}
+use Rattle.cps_text.specs.Code.PartsLeft.{parts_left}
 use Rattle.cps_text.proofs.argument_list.collect_arguments.Given as goal
 
 abbrev pub invariant-loop-left : goal.invariant-loop-left

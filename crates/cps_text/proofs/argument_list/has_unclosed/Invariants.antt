@@ -1,7 +1,7 @@
 use Rattle.std.proofs.Common.{◌≡◌, length}
 use Rattle.std.specs.List.{list_any}
 use Rattle.cps_text.specs.Arguments.{argument_len, is_unclosed, has_unclosed}
-use Rattle.cps_text.specs.PartsLeft.{parts_left}
+use Rattle.cps_text.specs.Code.PartsLeft.{parts_left}
 use Rattle.cps_text.proofs.argument_list.has_unclosed.Given as goal
 
 abbrev pub invariant-loop-left : goal.invariant-loop-left

@@ -1,5 +1,5 @@
 use Rattle.std.proofs.Common.{take}
-use Rattle.cps_text.specs.Substitutes.{substitutes_value, Indexes}
+use Rattle.cps_text.specs.Code.Substitutes.{substitutes_value, Indexes}
 use Rattle.cps_text.proofs.substitutes.index_of.Given as goal
 
 abbrev pub invariant-loop-pair : goal.invariant-loop-pair

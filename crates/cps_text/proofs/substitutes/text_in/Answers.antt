@@ -1,6 +1,6 @@
 use Rattle.std.proofs.Common.{Some, ap, ◌∙◌}
 use Rattle.std.specs.Prelude.{option_map}
-use Rattle.cps_text.specs.Substitutes.{substitute_value}
+use Rattle.cps_text.specs.Code.Substitutes.{substitute_value}
 use Rattle.cps_text.proofs.substitutes.text_in.Goals as goal
 
 pub returns-in-Some : goal.returns-in-Some

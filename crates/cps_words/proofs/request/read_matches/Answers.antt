@@ -1,7 +1,7 @@
 use Rattle.std.proofs.Common.{subst, sym}
 use Rattle.clap.specs.Words.{found_of, rows_of}
 use Rattle.cps_words.specs.Request.{answer_from}
-use Rattle.cps_words.specs.Reading.{Reads}
+use Rattle.cps_words.specs.Code.Reading.{Reads}
 use Rattle.cps_words.proofs.RequestLemmas.{met_is}
 use Rattle.cps_words.proofs.request.read_matches.Goals as goal
 

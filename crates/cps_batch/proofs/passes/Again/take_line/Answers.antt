@@ -1,6 +1,6 @@
 use Rattle.std.proofs.Common.{ap, ◌∙◌}
 use Rattle.cps_state.specs.Course.{Trace}
-use Rattle.cps_state.specs.Sheet.{Sheet}
+use Rattle.cps_state.specs.Code.Sheet.{Sheet}
 use Rattle.cps_edit.specs.Assembly.{traces_of}
 use Rattle.cps_batch.proofs.PassLemmas.{gathered-next}
 use Rattle.cps_batch.proofs.passes.Again.take_line.Goals as goal

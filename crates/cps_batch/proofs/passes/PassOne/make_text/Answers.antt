@@ -2,7 +2,7 @@ use Rattle.std.proofs.Common.{◌≡◌, sym, ap, ◌∙◌, rules}
 use Rattle.cps_final.specs.contracts.gather.GatherGathered.TheImpl.{gathered-value}
 use Rattle.cps_final.specs.Finals.{is_open_at_end}
 use Rattle.cps_list.specs.Flagged.{flagged_with}
-use Rattle.cps_list.specs.Making.{shown, shows_symbols}
+use Rattle.cps_list.specs.Code.Making.{shown, shows_symbols}
 use Rattle.cps_list.specs.Symbols.{mentions_from}
 use Rattle.cps_list.specs.Texts.{text_of}
 use Rattle.cps_edit.specs.Assembly.{outcomes_under, traces_of}

@@ -1,5 +1,5 @@
 use Rattle.std.proofs.Common.{◌∙◌}
-use Rattle.cps_list.specs.Making.{shows_symbols}
+use Rattle.cps_list.specs.Code.Making.{shows_symbols}
 use Rattle.cps_batch.proofs.PassLemmas.{none-kept, none-noted}
 use Rattle.cps_batch.proofs.passes.PassOne.new.Goals as goal
 

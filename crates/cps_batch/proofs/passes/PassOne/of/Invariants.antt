@@ -1,5 +1,5 @@
 use Rattle.std.proofs.Common.{◌≡◌, take}
-use Rattle.cps_batch.specs.Passes.{IsPassed}
+use Rattle.cps_batch.specs.Code.Passes.{IsPassed}
 use Rattle.cps_batch.proofs.passes.PassOne.of.Given as goal
 
 abbrev pub invariant-loop-before : goal.invariant-loop-before

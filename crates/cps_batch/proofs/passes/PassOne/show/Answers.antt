@@ -1,7 +1,7 @@
 use Rattle.std.proofs.Common.{subst}
 use Rattle.std.specs.Prelude.{IfOk}
 use Rattle.cps_final.specs.Finals.{Finals}
-use Rattle.cps_list.specs.Making.{IsPrintoutOf}
+use Rattle.cps_list.specs.Code.Making.{IsPrintoutOf}
 use Rattle.cps_edit.specs.Assembly.{outcomes_under, traces_of}
 use Rattle.cps_batch.proofs.passes.PassOne.show.Goals as goal
 

@@ -2,12 +2,12 @@ use Rattle.std.proofs.Common.{List, [], ◌∷◌, ◌++◌, ap, subst, sym, ◌
 use Rattle.std.specs.Prelude.{IfSome}
 use Rattle.cps_state.specs.declared.item.Item.{Item}
 use Rattle.cps_state.specs.Course.{Trace}
-use Rattle.cps_state.specs.Sheet.{Sheet, statements_on}
+use Rattle.cps_state.specs.Code.Sheet.{Sheet, statements_on}
 use Rattle.cps_final.specs.LineNames.{names_defined, names_read}
-use Rattle.cps_list.specs.Making.{shown, shows_symbols}
+use Rattle.cps_list.specs.Code.Making.{shown, shows_symbols}
 use Rattle.cps_list.specs.Symbols.{mentions_on}
 use Rattle.cps_edit.specs.Assembly.{traces_of}
-use Rattle.cps_batch.specs.Passes.{AreParts, statements_of}
+use Rattle.cps_batch.specs.Code.Passes.{AreParts, statements_of}
 use Rattle.cps_batch.proofs.PassLemmas.{gathered-next, kept-more, noted-more}
 use Rattle.cps_batch.proofs.passes.PassOne.take_line.Goals as goal
 

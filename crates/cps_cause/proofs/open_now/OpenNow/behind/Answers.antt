@@ -1,7 +1,7 @@
 use Rattle.std.proofs.Common.{take, ap, subst, ◌∙◌}
 use Rattle.cps_state.specs.Keys.{State, overwritten, with_put}
 use Rattle.cps_state.specs.declared.key.Put.{Put}
-use Rattle.cps_cause.specs.OpenNow.{IsOpenNow}
+use Rattle.cps_cause.specs.Code.OpenNow.{IsOpenNow}
 use Rattle.cps_cause.proofs.OpenerLemmas.{put-behind}
 use Rattle.cps_cause.proofs.open_now.OpenNow.behind.Goals as goal
 

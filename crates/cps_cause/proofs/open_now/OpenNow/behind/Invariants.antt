@@ -1,6 +1,6 @@
 use Rattle.std.proofs.Common.{take}
 use Rattle.cps_state.specs.Keys.{State, overwritten}
-use Rattle.cps_cause.specs.OpenNow.{IsOpenNow}
+use Rattle.cps_cause.specs.Code.OpenNow.{IsOpenNow}
 use Rattle.cps_cause.proofs.open_now.OpenNow.behind.Given as goal
 
 abbrev pub invariant-loop-put : goal.invariant-loop-put

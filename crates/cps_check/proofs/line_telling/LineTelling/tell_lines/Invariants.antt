@@ -1,7 +1,7 @@
 use Rattle.std.proofs.Common.{map, take}
 use Rattle.cps_final.specs.contracts.finals.FinalsGathered.TheImpl.{gathered-value}
 use Rattle.cps_edit.specs.Assembly.{outcomes_under}
-use Rattle.cps_check.specs.Adding.{AddsLines}
+use Rattle.cps_check.specs.Code.Adding.{AddsLines}
 use Rattle.cps_check.proofs.line_telling.LineTelling.tell_lines.Given as goal
 
 abbrev pub invariant-loop-at : goal.invariant-loop-at

@@ -1,7 +1,7 @@
 use Rattle.std.proofs.Common.{List, [], ◌∷◌, ◌++◌, map, take, sym, ap, subst, ◌∙◌}
 use Rattle.std.proofs.lemmas.List.{map_more, take_all}
 use Rattle.cps_cause.specs.declared.diagnostic.Diagnostic.{Diagnostic}
-use Rattle.cps_check.specs.Adding.{Adds}
+use Rattle.cps_check.specs.Code.Adding.{Adds}
 use Rattle.cps_check.specs.Reports.{Report, flag_report}
 use Rattle.cps_check.proofs.TextLemmas.{Adds-append, Adds-none}
 use Rattle.cps_check.proofs.told_line.ToldLine.push_flags.Goals as goal

@@ -1,7 +1,7 @@
 use Rattle.std.proofs.Common.{List, map, subst}
 use Rattle.std.proofs.lemmas.List.{take_all}
 use Rattle.cps_check.specs.declared.notes.Note.{Note}
-use Rattle.cps_check.specs.Adding.{Adds}
+use Rattle.cps_check.specs.Code.Adding.{Adds}
 use Rattle.cps_check.specs.Reports.{note_report}
 use Rattle.cps_check.proofs.TextLemmas.{Adds-next, Adds-none}
 use Rattle.cps_check.proofs.told_line.ToldLine.push_notes.Goals as goal

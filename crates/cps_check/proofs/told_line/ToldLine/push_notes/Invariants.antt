@@ -1,5 +1,5 @@
 use Rattle.std.proofs.Common.{map, take}
-use Rattle.cps_check.specs.Adding.{Adds}
+use Rattle.cps_check.specs.Code.Adding.{Adds}
 use Rattle.cps_check.specs.Reports.{note_report}
 use Rattle.cps_check.proofs.told_line.ToldLine.push_notes.Given as goal
 

@@ -1,9 +1,9 @@
 use Rattle.std.proofs.Common.{ap, ◌∙◌}
 use Rattle.cps_final.specs.declared.changes.Changes.{Changes}
 use Rattle.cps_final.specs.Changes.{changed}
-use Rattle.cps_final.specs.Kept.{changes_in}
+use Rattle.cps_final.specs.Code.Kept.{changes_in}
 use Rattle.cps_final.specs.Layout.{puts_of}
-use Rattle.cps_chunk.specs.Compared.{compared}
+use Rattle.cps_chunk.specs.Code.Compared.{compared}
 use Rattle.cps_chunk.proofs.ComparedLemmas.{closed}
 use Rattle.cps_chunk.proofs.change_log.ChangeLog.close.Goals as goal
 

@@ -3,7 +3,7 @@ use Rattle.std.specs.Prelude.{unwrap_or}
 use Rattle.std.specs.Option.{option_eq}
 use Rattle.cps_state.specs.declared.key.Answer.{Answer}
 use Rattle.cps_final.specs.Changes.{changed}
-use Rattle.cps_final.specs.Kept.{changes_in}
+use Rattle.cps_final.specs.Code.Kept.{changes_in}
 use Rattle.cps_final.specs.Holds.{same_answer}
 use Rattle.cps_chunk.proofs.ComparedLemmas.{compared-same}
 use Rattle.cps_chunk.proofs.change_log.ChangeLog.compare.Goals as goal

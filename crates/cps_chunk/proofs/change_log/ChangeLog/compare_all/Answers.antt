@@ -4,8 +4,8 @@ use Rattle.std.specs.List.{slice_get}
 use Rattle.std.proofs.lemmas.Bool.Decides.{nat_tests}
 use Rattle.cps_final.specs.declared.changes.Changes.{Changes}
 use Rattle.cps_final.specs.Changes.{changed}
-use Rattle.cps_final.specs.Kept.{changes_in, count_of, keys_in}
-use Rattle.cps_chunk.specs.Compared.{with_difference}
+use Rattle.cps_final.specs.Code.Kept.{changes_in, count_of, keys_in}
+use Rattle.cps_chunk.specs.Code.Compared.{with_difference}
 use Rattle.cps_chunk.proofs.ComparedLemmas.{compared-next, compared-all}
 use Rattle.cps_chunk.proofs.change_log.ChangeLog.compare_all.Goals as goal
 

@@ -1,6 +1,6 @@
 use Rattle.std.proofs.Common.{◌≡◌, take}
 use Rattle.cps_final.specs.Changes.{changed}
-use Rattle.cps_final.specs.Kept.{changes_in, keys_in}
+use Rattle.cps_final.specs.Code.Kept.{changes_in, keys_in}
 use Rattle.cps_chunk.proofs.ComparedLemmas.{Compared}
 use Rattle.cps_chunk.proofs.change_log.ChangeLog.compare_all.Given as goal
 

@@ -1,7 +1,7 @@
 use Rattle.std.proofs.Common.{Some, ap, ◌∙◌}
 use Rattle.cps_state.specs.declared.key.Answer.{Answer}
 use Rattle.cps_final.specs.Changes.{with_change}
-use Rattle.cps_final.specs.Kept.{changes_in}
+use Rattle.cps_final.specs.Code.Kept.{changes_in}
 use Rattle.cps_chunk.proofs.ComparedLemmas.{puts-next, puts-all, last_puts-more}
 use Rattle.cps_chunk.proofs.change_log.ChangeLog.put.Goals as goal
 

@@ -2,8 +2,8 @@ use Rattle.std.proofs.Common.{Some, ap, ◌∙◌}
 use Rattle.cps_state.specs.declared.key.Answer.{Answer}
 use Rattle.cps_final.specs.declared.changes.Changes.{Changes}
 use Rattle.cps_final.specs.Changes.{changed, with_change}
-use Rattle.cps_final.specs.Kept.{changes_in}
-use Rattle.cps_chunk.specs.Compared.{with_all_kept, with_kept, with_puts}
+use Rattle.cps_final.specs.Code.Kept.{changes_in}
+use Rattle.cps_chunk.specs.Code.Compared.{with_all_kept, with_kept, with_puts}
 use Rattle.cps_chunk.proofs.ComparedLemmas.{kept-next, kept-all, puts-next, puts-all}
 use Rattle.cps_chunk.proofs.change_log.ChangeLog.take.Goals as goal
 

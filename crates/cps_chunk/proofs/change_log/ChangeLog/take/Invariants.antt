@@ -1,7 +1,7 @@
 use Rattle.std.proofs.Common.{◌≡◌, drop}
 use Rattle.cps_final.specs.Changes.{changed}
-use Rattle.cps_final.specs.Kept.{changes_in}
-use Rattle.cps_chunk.specs.Compared.{with_all_kept, with_puts}
+use Rattle.cps_final.specs.Code.Kept.{changes_in}
+use Rattle.cps_chunk.specs.Code.Compared.{with_all_kept, with_puts}
 use Rattle.cps_chunk.proofs.change_log.ChangeLog.take.Given as goal
 
 -- what is left makes the same of what is there

@@ -1,8 +1,8 @@
 use Rattle.std.proofs.Common.{List, refl, ap, ◌∙◌}
 use Rattle.cps_state.specs.declared.key.Put.{Put}
 use Rattle.cps_final.specs.Changes.{changed}
-use Rattle.cps_final.specs.Kept.{changes_in}
-use Rattle.cps_chunk.specs.Compared.{with_all_kept, with_puts}
+use Rattle.cps_final.specs.Code.Kept.{changes_in}
+use Rattle.cps_chunk.specs.Code.Compared.{with_all_kept, with_puts}
 use Rattle.cps_chunk.specs.Noted.{asked_or}
 use Rattle.cps_chunk.proofs.ComparedLemmas.{all-kept-none, taken-next, former-next, held-next}
 use Rattle.cps_chunk.proofs.change_log.ChangeLog.take_all.Goals as goal

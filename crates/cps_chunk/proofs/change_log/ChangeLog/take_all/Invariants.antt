@@ -1,9 +1,9 @@
 use Rattle.std.proofs.Common.{◌≡◌, drop, take}
 use Rattle.cps_state.specs.Keys.{overwritten}
 use Rattle.cps_final.specs.Changes.{changed}
-use Rattle.cps_final.specs.Kept.{changes_in}
+use Rattle.cps_final.specs.Code.Kept.{changes_in}
 use Rattle.cps_final.specs.Layout.{puts_of}
-use Rattle.cps_chunk.specs.Compared.{with_all_kept}
+use Rattle.cps_chunk.specs.Code.Compared.{with_all_kept}
 use Rattle.cps_chunk.specs.Noted.{AreHeld, last_puts}
 use Rattle.cps_chunk.proofs.change_log.ChangeLog.take_all.Given as goal
 

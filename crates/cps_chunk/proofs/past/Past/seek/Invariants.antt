@@ -1,5 +1,5 @@
 use Rattle.std.proofs.Common.{◌≡◌, length}
-use Rattle.cps_chunk.specs.Past.{sought}
+use Rattle.cps_chunk.specs.Code.Past.{sought}
 use Rattle.cps_chunk.proofs.past.Past.seek.Given as goal
 
 abbrev pub invariant-loop-chunk : goal.invariant-loop-chunk

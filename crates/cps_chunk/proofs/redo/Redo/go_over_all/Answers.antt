@@ -3,8 +3,8 @@ use Rattle.cps_state.specs.Work.{counted_on}
 use Rattle.cps_edit.proofs.ReplayLemmas.{counted-left, counted-before}
 use Rattle.cps_edit.specs.Disturbed.{is_redone}
 use Rattle.cps_final.specs.declared.ends.Ends.{Ends}
-use Rattle.cps_final.specs.Ends.{was_of, now_of}
-use Rattle.cps_chunk.specs.Redo.{new_at}
+use Rattle.cps_final.specs.Code.Ends.{was_of, now_of}
+use Rattle.cps_chunk.specs.Code.Redo.{new_at}
 use Rattle.cps_chunk.specs.Replayed.{redone}
 use Rattle.cps_chunk.specs.Sparse.{AreWithin}
 use Rattle.cps_chunk.proofs.RedoLemmas.{within-step, news-step, length-step, looked-next, looked-least}

@@ -1,5 +1,5 @@
 use Rattle.std.proofs.Common.{sym, ◌∙◌}
-use Rattle.cps_chunk.specs.Replay.{now_with}
+use Rattle.cps_chunk.specs.Code.Replay.{now_with}
 use Rattle.cps_chunk.proofs.CarryLemmas.{held-puts, put-also}
 use Rattle.cps_chunk.proofs.replay.Replay.carry.Goals as goal
 

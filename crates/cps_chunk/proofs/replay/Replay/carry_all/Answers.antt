@@ -1,7 +1,7 @@
 use Rattle.std.proofs.Common.{List, ap, ◌∙◌}
 use Rattle.cps_state.specs.declared.key.Put.{Put}
-use Rattle.cps_final.specs.Kept.{changes_in}
-use Rattle.cps_chunk.specs.Compared.{with_puts}
+use Rattle.cps_final.specs.Code.Kept.{changes_in}
+use Rattle.cps_chunk.specs.Code.Compared.{with_puts}
 use Rattle.cps_chunk.proofs.CarryLemmas.{carried-next, carried-done}
 use Rattle.cps_chunk.proofs.replay.Replay.carry_all.Goals as goal
 

@@ -1,7 +1,7 @@
 use Rattle.std.proofs.Common.{◌≡◌, drop}
-use Rattle.cps_final.specs.Kept.{changes_in}
+use Rattle.cps_final.specs.Code.Kept.{changes_in}
 use Rattle.cps_final.specs.Layout.{puts_of}
-use Rattle.cps_chunk.specs.Compared.{with_puts}
+use Rattle.cps_chunk.specs.Code.Compared.{with_puts}
 use Rattle.cps_chunk.proofs.replay.Replay.carry_all.Given as goal
 
 -- the lines that are left put more to the same end

@@ -3,11 +3,11 @@ use Rattle.cps_state.specs.declared.key.Put.{Put}
 use Rattle.cps_state.specs.Course.{Trace}
 use Rattle.cps_state.specs.Keys.{overwritten}
 use Rattle.cps_final.specs.Changes.{changed}
-use Rattle.cps_final.specs.Kept.{changes_in}
+use Rattle.cps_final.specs.Code.Kept.{changes_in}
 use Rattle.cps_chunk.specs.declared.change_log.ChangeLog.{ChangeLog}
-use Rattle.cps_chunk.specs.Compared.{with_puts}
+use Rattle.cps_chunk.specs.Code.Compared.{with_puts}
 use Rattle.cps_chunk.specs.Noted.{last_puts}
-use Rattle.cps_chunk.specs.Replay.{now_by, now_with}
+use Rattle.cps_chunk.specs.Code.Replay.{now_by, now_with}
 use Rattle.cps_chunk.proofs.ReplayLemmas.{entered}
 use Rattle.cps_chunk.proofs.replay.Replay.enter.Goals as goal
 

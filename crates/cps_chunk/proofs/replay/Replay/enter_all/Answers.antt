@@ -3,7 +3,7 @@ use Rattle.cps_final.specs.Changes.{changed}
 use Rattle.cps_final.specs.Layout.{puts_of}
 use Rattle.cps_edit.specs.Passes.{traces_from}
 use Rattle.cps_chunk.specs.Noted.{last_puts}
-use Rattle.cps_chunk.specs.Replay.{now_by, now_with}
+use Rattle.cps_chunk.specs.Code.Replay.{now_by, now_with}
 use Rattle.cps_chunk.proofs.EnterLemmas.{entered-next, entered-all, puts-push}
 use Rattle.cps_chunk.proofs.replay.Replay.enter_all.Goals as goal
 

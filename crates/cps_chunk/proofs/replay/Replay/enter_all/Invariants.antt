@@ -1,10 +1,10 @@
 use Rattle.std.proofs.Common.{◌≡◌, ◌++◌, drop}
 use Rattle.cps_state.specs.Work.{counted_on}
-use Rattle.cps_final.specs.Kept.{changes_in}
+use Rattle.cps_final.specs.Code.Kept.{changes_in}
 use Rattle.cps_final.specs.Layout.{puts_of}
 use Rattle.cps_edit.specs.Passes.{traces_from}
 use Rattle.cps_chunk.specs.Noted.{last_puts}
-use Rattle.cps_chunk.specs.Replay.{now_by, now_with}
+use Rattle.cps_chunk.specs.Code.Replay.{now_by, now_with}
 use Rattle.cps_chunk.proofs.replay.Replay.enter_all.Given as goal
 
 -- what the lines do that are left is what they do behind those so far

@@ -4,13 +4,13 @@ use Rattle.cps_state.specs.declared.trace.Trace.{Trace}
 use Rattle.cps_state.specs.Work.{Counts}
 use Rattle.cps_final.specs.declared.changes.Changes.{Changes}
 use Rattle.cps_final.specs.Changes.{Changed, changed, settled}
-use Rattle.cps_final.specs.Kept.{changes_in}
+use Rattle.cps_final.specs.Code.Kept.{changes_in}
 use Rattle.cps_final.specs.Layout.{puts_of}
 use Rattle.cps_pass.specs.Expansion.{trace_of}
 use Rattle.cps_edit.specs.Passes.{after}
 use Rattle.cps_chunk.specs.declared.change_log.ChangeLog.{ChangeLog}
 use Rattle.cps_chunk.specs.Noted.{AreHeld, asked_or, last_puts, noted, stands}
-use Rattle.cps_chunk.specs.Replay.{now_by}
+use Rattle.cps_chunk.specs.Code.Replay.{now_by}
 use Rattle.cps_chunk.proofs.NotedLemmas.{after-stands}
 use Rattle.cps_chunk.proofs.ReplayLemmas.{found-disturbed, held-one, redone-state, redone-trace, replayed-anew, replayed-same, steps-err, steps-none, steps-ok}
 use Rattle.cps_chunk.proofs.replay.Replay.go_over.Goals as goal

@@ -1,7 +1,7 @@
 use Rattle.std.proofs.Common.{List, ap, ◌∙◌}
 use Rattle.cps_state.specs.declared.key.Put.{Put}
 use Rattle.cps_final.specs.Changes.{settled}
-use Rattle.cps_final.specs.Kept.{changes_in}
+use Rattle.cps_final.specs.Code.Kept.{changes_in}
 use Rattle.cps_chunk.proofs.KeysLemmas.{settle-next, settle-done}
 use Rattle.cps_chunk.proofs.replay.Replay.settle_all.Goals as goal
 

@@ -7,9 +7,9 @@ use Rattle.cps_chunk.specs.declared.replay.Replay.{Replay}
 use Rattle.cps_chunk.specs.declared.walk.Baseline.{Baseline}
 use Rattle.cps_chunk.specs.declared.walk.Position.TheVariants.{Behind}
 use Rattle.cps_chunk.specs.declared.walk.Walk.{Walk}
-use Rattle.cps_chunk.specs.Along.{front_at}
-use Rattle.cps_chunk.specs.Replay.{PutsAlso}
-use Rattle.cps_chunk.specs.Walk.{stretch}
+use Rattle.cps_chunk.specs.Code.Along.{front_at}
+use Rattle.cps_chunk.specs.Code.Replay.{PutsAlso}
+use Rattle.cps_chunk.specs.Code.Walk.{stretch}
 use Rattle.cps_chunk.proofs.AlongLemmas.{held-along, held-none}
 use Rattle.cps_chunk.proofs.CountingLemmas.{on-map, steps-zero}
 use Rattle.cps_chunk.proofs.OverLemmas.{still-walk}

@@ -10,10 +10,10 @@ use Rattle.cps_chunk.specs.declared.walk.Baseline.{Baseline}
 use Rattle.cps_chunk.specs.contracts.past.PastLookup.TheImpl.{answer-value}
 use Rattle.cps_chunk.specs.declared.walk.Position.TheVariants.{Behind}
 use Rattle.cps_chunk.specs.declared.walk.Walk.{Walk}
-use Rattle.cps_chunk.specs.Along.{front_at}
-use Rattle.cps_chunk.specs.Replay.{PutsAlso, now_with}
+use Rattle.cps_chunk.specs.Code.Along.{front_at}
+use Rattle.cps_chunk.specs.Code.Replay.{PutsAlso, now_with}
 use Rattle.cps_chunk.specs.Replayed.{replayed}
-use Rattle.cps_chunk.specs.Walk.{IsBaseline}
+use Rattle.cps_chunk.specs.Code.Walk.{IsBaseline}
 use Rattle.cps_chunk.proofs.AlongLemmas.{along-count, along-join, carried-line, line-count, line-within}
 use Rattle.cps_chunk.proofs.CountingLemmas.{counted-most, counted-next, looked-next}
 use Rattle.cps_chunk.proofs.GoLemmas.{got}

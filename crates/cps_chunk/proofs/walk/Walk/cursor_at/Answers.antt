@@ -1,6 +1,6 @@
 use Rattle.std.proofs.Common.{arith, rules, ◌≡◌, ◌+◌, take}
 use Rattle.std.specs.Prelude.{sum}
-use Rattle.cps_chunk.specs.Chunk.{lengths_of}
+use Rattle.cps_chunk.specs.Code.Chunk.{lengths_of}
 use Rattle.cps_chunk.proofs.WalkLemmas.{lengths-next}
 use Rattle.cps_chunk.proofs.walk.Walk.cursor_at.Goals as goal
 

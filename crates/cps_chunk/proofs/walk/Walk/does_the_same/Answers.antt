@@ -1,9 +1,9 @@
 use Rattle.std.proofs.Common.{arith, rules, ◌≡◌, ◌+◌, List, false, refl, sym, subst}
 use Rattle.cps_state.specs.Course.{Trace}
 use Rattle.cps_final.specs.declared.changes.Changes.{Changes}
-use Rattle.cps_final.specs.Kept.{changes_in}
-use Rattle.cps_chunk.specs.Chunk.{IsChunkOf}
-use Rattle.cps_chunk.specs.Walk.{stretch}
+use Rattle.cps_final.specs.Code.Kept.{changes_in}
+use Rattle.cps_chunk.specs.Code.Chunk.{IsChunkOf}
+use Rattle.cps_chunk.specs.Code.Walk.{stretch}
 use Rattle.cps_chunk.proofs.WalkLemmas.{chunk-at, chunk-set, lengths-set, lengths-grow, lengths-within}
 use Rattle.cps_chunk.proofs.PassedLemmas.{AreUnmarked, unmarked-stands}
 use Rattle.cps_chunk.proofs.walk.Walk.does_the_same.Goals as goal

@@ -2,7 +2,7 @@ use Rattle.std.proofs.Common.{◌≡◌, subst}
 use Rattle.std.specs.Prelude.{IfOk}
 use Rattle.cps_state.specs.Keys.{State}
 use Rattle.cps_edit.specs.Passes.{traces_from}
-use Rattle.cps_chunk.specs.Replay.{now_by}
+use Rattle.cps_chunk.specs.Code.Replay.{now_by}
 use Rattle.cps_chunk.proofs.walk.Walk.enter_all.Goals as goal
 
 pub returns-clause-traces : goal.returns-clause-traces

@@ -1,6 +1,6 @@
 use Rattle.std.proofs.Common.{arith, ◌+◌, List, refl, sym, subst}
 use Rattle.cps_state.specs.Course.{Trace}
-use Rattle.cps_chunk.specs.Chunk.{IsChunkOf}
+use Rattle.cps_chunk.specs.Code.Chunk.{IsChunkOf}
 use Rattle.cps_chunk.proofs.WalkLemmas.{chunk-at, chunk-set, lengths-set, lengths-grow, lengths-within}
 use Rattle.cps_chunk.proofs.walk.Walk.gather_run.Goals as goal
 

@@ -1,10 +1,10 @@
 use Rattle.std.proofs.Common.{arith, rules, ◌≡◌, ◌+◌, ◌<◌, ◌≤◌, ℕ, length, take, refl, sym, ap, subst, ◌∙◌}
 use Rattle.std.specs.Prelude.{sum}
 use Rattle.cps_state.specs.Work.{counted_on}
-use Rattle.cps_chunk.specs.Chunk.{lengths_of}
+use Rattle.cps_chunk.specs.Code.Chunk.{lengths_of}
 use Rattle.cps_chunk.specs.declared.walk.Baseline.{Baseline}
-use Rattle.cps_chunk.specs.Along.{GoesAlong, fronts_along, looks_of, reached, replayed_along, span}
-use Rattle.cps_chunk.specs.Walk.{cursor}
+use Rattle.cps_chunk.specs.Code.Along.{GoesAlong, fronts_along, looks_of, reached, replayed_along, span}
+use Rattle.cps_chunk.specs.Code.Walk.{cursor}
 use Rattle.cps_chunk.proofs.AlongLemmas.{along-count, along-join, along-most, along-none, looks-more, may-still, mid-end, old-end, part-fits, part-inside, part-lt, replayed-empty}
 use Rattle.cps_chunk.proofs.CountingLemmas.{counted-most, counted-next, looked-more}
 use Rattle.cps_chunk.proofs.OverLemmas.{still-still}

@@ -1,9 +1,9 @@
 use Rattle.std.proofs.Common.{◌≡◌, ◌≤◌, length, take}
 use Rattle.std.specs.Prelude.{sum}
 use Rattle.cps_state.specs.Work.{counted_on}
-use Rattle.cps_chunk.specs.Chunk.{lengths_of}
-use Rattle.cps_chunk.specs.Along.{GoesAlong, fronts_along, looks_along, reached, replayed_along, span}
-use Rattle.cps_chunk.specs.Walk.{IsStillWalk}
+use Rattle.cps_chunk.specs.Code.Chunk.{lengths_of}
+use Rattle.cps_chunk.specs.Code.Along.{GoesAlong, fronts_along, looks_along, reached, replayed_along, span}
+use Rattle.cps_chunk.specs.Code.Walk.{IsStillWalk}
 use Rattle.cps_chunk.proofs.walk.Walk.go_along.Given as goal
 
 -- what the chunks so far have of the span was gone along

@@ -1,9 +1,9 @@
 use Rattle.std.proofs.Common.{arith, ◌≡◌, ◌+◌, ℕ, take, refl, sym, ap, subst}
 use Rattle.std.specs.Prelude.{sum}
 use Rattle.cps_edit.specs.Compares.{ComparesUpTo}
-use Rattle.cps_chunk.specs.Chunk.{lengths_of}
-use Rattle.cps_chunk.specs.Along.{MayGo, front_at}
-use Rattle.cps_chunk.specs.Walk.{stretch}
+use Rattle.cps_chunk.specs.Code.Chunk.{lengths_of}
+use Rattle.cps_chunk.specs.Code.Along.{MayGo, front_at}
+use Rattle.cps_chunk.specs.Code.Walk.{stretch}
 use Rattle.cps_chunk.specs.declared.walk.Position.{Position}
 use Rattle.cps_chunk.proofs.SpanLemmas.{part-some}
 use Rattle.cps_chunk.proofs.OverLemmas.{still-walk}

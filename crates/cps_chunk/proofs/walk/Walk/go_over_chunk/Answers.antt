@@ -1,10 +1,10 @@
 use Rattle.std.proofs.Common.{arith, ◌≡◌, ◌+◌, ◌-◌, ◌≤◌, ℕ, false, length, ap, subst, sym, ◌∙◌}
 use Rattle.std.specs.Prelude.{if◌then◌else◌}
 use Rattle.cps_final.specs.Changes.{settled}
-use Rattle.cps_final.specs.Kept.{changes_in}
+use Rattle.cps_final.specs.Code.Kept.{changes_in}
 use Rattle.cps_final.specs.Layout.{puts_of}
 use Rattle.cps_edit.specs.Compares.{ComparesUpTo}
-use Rattle.cps_chunk.specs.Walk.{looks_at, stretch}
+use Rattle.cps_chunk.specs.Code.Walk.{looks_at, stretch}
 use Rattle.cps_chunk.proofs.WalkLemmas.{as-long, lengths-grow, lengths-within}
 use Rattle.cps_chunk.proofs.OverLemmas.{none-here, same-over, stands-here, still-walk}
 use Rattle.cps_chunk.proofs.walk.Walk.go_over_chunk.Goals as goal

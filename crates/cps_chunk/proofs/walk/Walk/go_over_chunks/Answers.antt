@@ -2,12 +2,12 @@ use Rattle.std.proofs.Common.{arith, rules, ◌≡◌, ◌+◌, ◌<◌, ◌≤�
 use Rattle.std.specs.Prelude.{sum}
 use Rattle.cps_state.specs.Work.{counted_on}
 use Rattle.cps_final.specs.Changes.{no_change}
-use Rattle.cps_final.specs.Kept.{changes_in}
-use Rattle.cps_chunk.specs.Chunk.{lengths_of}
+use Rattle.cps_final.specs.Code.Kept.{changes_in}
+use Rattle.cps_chunk.specs.Code.Chunk.{lengths_of}
 use Rattle.cps_edit.proofs.ReplayLemmas.{counted-left, counted-before}
 use Rattle.cps_edit.proofs.PassOneLemmas.{none-more}
-use Rattle.cps_chunk.specs.Replay.{now_by}
-use Rattle.cps_chunk.specs.Walk.{stood_at}
+use Rattle.cps_chunk.specs.Code.Replay.{now_by}
+use Rattle.cps_chunk.specs.Code.Walk.{stood_at}
 use Rattle.cps_chunk.proofs.GoLemmas.{ended, no-more}
 use Rattle.cps_chunk.proofs.WalkLemmas.{lengths-next, same-long}
 use Rattle.cps_chunk.proofs.OverLemmas.{all-over, chunk-ends, count-all, lengths-upto, looked-over, looked-within, looks-all, next-count, next-looks, next-news, next-state, none-left, none-over, stands-there, still-still}

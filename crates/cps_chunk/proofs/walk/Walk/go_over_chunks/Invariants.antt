@@ -2,12 +2,12 @@ use Rattle.std.proofs.Common.{◌≡◌, ◌≤◌, ◌++◌, length, take}
 use Rattle.std.specs.Prelude.{sum}
 use Rattle.cps_state.specs.Work.{counted_on}
 use Rattle.cps_final.specs.Changes.{no_change}
-use Rattle.cps_final.specs.Kept.{changes_in}
-use Rattle.cps_chunk.specs.Chunk.{lengths_of}
+use Rattle.cps_final.specs.Code.Kept.{changes_in}
+use Rattle.cps_chunk.specs.Code.Chunk.{lengths_of}
 use Rattle.cps_edit.specs.Passes.{state_after}
-use Rattle.cps_chunk.specs.Replay.{now_by}
+use Rattle.cps_chunk.specs.Code.Replay.{now_by}
 use Rattle.cps_chunk.specs.Replayed.{replayed}
-use Rattle.cps_chunk.specs.Walk.{IsStillWalk, cursor, looks_in, looks_over, now_at, replayed_in, stood_at, stretch}
+use Rattle.cps_chunk.specs.Code.Walk.{IsStillWalk, cursor, looks_in, looks_over, now_at, replayed_in, stood_at, stretch}
 use Rattle.cps_chunk.proofs.walk.Walk.go_over_chunks.Given as goal
 
 -- what the lines do that are left is what they do behind those so far

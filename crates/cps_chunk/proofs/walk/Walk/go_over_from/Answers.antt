@@ -4,12 +4,12 @@ use Rattle.cps_state.specs.Keys.{State}
 use Rattle.cps_state.specs.Course.{Trace}
 use Rattle.cps_state.specs.Work.{counted_on}
 use Rattle.cps_final.specs.Changes.{no_change}
-use Rattle.cps_final.specs.Kept.{changes_in}
+use Rattle.cps_final.specs.Code.Kept.{changes_in}
 use Rattle.cps_pass.specs.Expansion.{trace_of}
 use Rattle.cps_edit.proofs.PassOneLemmas.{none-more}
 use Rattle.cps_edit.proofs.ReplayLemmas.{counted-left, counted-before}
 use Rattle.cps_chunk.specs.declared.walk.Baseline.{Baseline}
-use Rattle.cps_chunk.specs.Walk.{IsBaseline, stood_at}
+use Rattle.cps_chunk.specs.Code.Walk.{IsBaseline, stood_at}
 use Rattle.cps_chunk.proofs.WalkLemmas.{as-long, trace-at}
 use Rattle.cps_chunk.proofs.GoLemmas.{got, ended, no-more, count-here, next-news, next-state, next-count}
 use Rattle.cps_chunk.proofs.walk.Walk.go_over_from.Goals as goal

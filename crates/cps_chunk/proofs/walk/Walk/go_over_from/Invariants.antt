@@ -1,11 +1,11 @@
 use Rattle.std.proofs.Common.{◌≡◌, ◌≤◌, ◌-◌, ◌++◌, length}
 use Rattle.cps_state.specs.Work.{counted_on}
 use Rattle.cps_final.specs.Changes.{no_change}
-use Rattle.cps_final.specs.Kept.{changes_in}
+use Rattle.cps_final.specs.Code.Kept.{changes_in}
 use Rattle.cps_edit.specs.Passes.{state_after}
-use Rattle.cps_chunk.specs.Replay.{now_by}
+use Rattle.cps_chunk.specs.Code.Replay.{now_by}
 use Rattle.cps_chunk.specs.Replayed.{replayed}
-use Rattle.cps_chunk.specs.Walk.{now_at, stood_at, stretch}
+use Rattle.cps_chunk.specs.Code.Walk.{now_at, stood_at, stretch}
 use Rattle.cps_chunk.proofs.walk.Walk.go_over_from.Given as goal
 
 abbrev pub invariant-loop-at : goal.invariant-loop-at

@@ -2,8 +2,8 @@ use Rattle.std.proofs.Common.{◌+◌, ◌<◌, length, take, sym, ap, subst, �
 use Rattle.std.specs.Prelude.{sum}
 use Rattle.cps_final.specs.Holds.{holds}
 use Rattle.cps_final.specs.Run.{run_of}
-use Rattle.cps_chunk.specs.Replay.{now_with}
-use Rattle.cps_chunk.specs.Walk.{stood_at, stretch}
+use Rattle.cps_chunk.specs.Code.Replay.{now_with}
+use Rattle.cps_chunk.specs.Code.Walk.{stood_at, stretch}
 use Rattle.cps_chunk.proofs.CarryLemmas.{run-is}
 use Rattle.cps_chunk.proofs.WalkLemmas.{chunk-at, same-long}
 use Rattle.cps_chunk.proofs.walk.Walk.holds_behind.Goals as goal

@@ -2,9 +2,9 @@ use Rattle.std.proofs.Common.{arith, rules, false, ◌≡◌, ◌+◌, List, sym
 use Rattle.cps_state.specs.Course.{Trace}
 use Rattle.cps_final.specs.declared.changes.Changes.{Changes}
 use Rattle.cps_final.specs.Changes.{settled}
-use Rattle.cps_final.specs.Kept.{changes_in}
+use Rattle.cps_final.specs.Code.Kept.{changes_in}
 use Rattle.cps_final.specs.Layout.{puts_of}
-use Rattle.cps_chunk.specs.Chunk.{IsChunkOf}
+use Rattle.cps_chunk.specs.Code.Chunk.{IsChunkOf}
 use Rattle.cps_chunk.proofs.WalkLemmas.{chunk-at, lengths-grow, lengths-within}
 use Rattle.cps_chunk.proofs.walk.Walk.settle.Goals as goal
 

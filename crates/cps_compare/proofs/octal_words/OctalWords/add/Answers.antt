@@ -3,7 +3,7 @@ use Rattle.std.proofs.lemmas.List.{take_more, length-take-le}
 use Rattle.std.proofs.lemmas.Nat.{div-add-mod', mod_below}
 use Rattle.cps_compare.specs.Given.{begun, with_row}
 use Rattle.cps_compare.specs.Differences.{size_of}
-use Rattle.cps_compare.specs.Reading.{digits_at, with_digit_below}
+use Rattle.cps_compare.specs.Code.Reading.{digits_at, with_digit_below}
 use Rattle.cps_compare.proofs.GivenLemmas.{with_row-none, with_row-push}
 use Rattle.cps_compare.proofs.octal_words.OctalWords.add.Goals as goal
 

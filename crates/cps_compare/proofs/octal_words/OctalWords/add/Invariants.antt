@@ -1,7 +1,7 @@
 use Rattle.std.proofs.Common.{◌≡◌, take}
 use Rattle.cps_compare.specs.Given.{with_row}
 use Rattle.cps_compare.specs.Differences.{size_of}
-use Rattle.cps_compare.specs.Reading.{digits_at}
+use Rattle.cps_compare.specs.Code.Reading.{digits_at}
 use Rattle.cps_compare.proofs.octal_words.OctalWords.add.Given as goal
 
 abbrev pub invariant-loop-before : goal.invariant-loop-before

@@ -1,6 +1,6 @@
 use Rattle.std.proofs.Common.{◌≡◌, ap, ◌∙◌, arith}
 use Rattle.std.proofs.Math.Path.{fun_ext}
-use Rattle.cps_compare.specs.Reading.{digits_at, with_digit}
+use Rattle.cps_compare.specs.Code.Reading.{digits_at, with_digit}
 use Rattle.cps_compare.proofs.WordLemmas.{below-same}
 use Rattle.cps_compare.proofs.octal_words.OctalWords.put.Goals as goal
 

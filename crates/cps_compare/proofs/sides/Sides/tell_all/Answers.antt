@@ -2,7 +2,7 @@ use Rattle.std.proofs.Common.{◌≡◌, ℕ, ◌+◌, ◌-◌, ◌≤◌, ◌++
 use Rattle.std.specs.List.{count_by, range_with_len}
 use Rattle.cps_compare.specs.Differences.{is_compared}
 use Rattle.cps_compare.specs.Told.{rows_at, differs_at, last_row}
-use Rattle.cps_compare.specs.Shown.{shown_sides, one_if}
+use Rattle.cps_compare.specs.Code.Shown.{shown_sides, one_if}
 use Rattle.cps_compare.proofs.ToldLemmas.{rows-more, counts-more}
 use Rattle.cps_compare.proofs.sides.Sides.tell_all.Goals as goal
 

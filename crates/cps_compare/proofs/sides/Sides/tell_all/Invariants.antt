@@ -3,7 +3,7 @@ use Rattle.std.specs.List.{count_by, range_with_len}
 use Rattle.cps_code.specs.Image.{Piece, ArePacked}
 use Rattle.cps_compare.specs.Differences.{is_compared}
 use Rattle.cps_compare.specs.Told.{rows_at, differs_at}
-use Rattle.cps_compare.specs.Shown.{shown_sides}
+use Rattle.cps_compare.specs.Code.Shown.{shown_sides}
 use Rattle.cps_compare.proofs.sides.Sides.tell_all.Given as goal
 
 abbrev pub invariant-loop-address : goal.invariant-loop-address

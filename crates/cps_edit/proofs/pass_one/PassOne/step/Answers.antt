@@ -2,7 +2,7 @@ use Rattle.std.proofs.Common.{ap, ◌∙◌, ◌∷◌, []}
 use Rattle.cps_state.specs.Keys.{overwritten}
 use Rattle.cps_state.specs.Course.{Trace}
 use Rattle.cps_pass.specs.Expansion.{trace_of}
-use Rattle.cps_edit.specs.PassOne.{gathered_in}
+use Rattle.cps_edit.specs.Code.PassOne.{gathered_in}
 use Rattle.cps_edit.proofs.pass_one.PassOne.step.Goals as goal
 
 pub returns-in-Ok-clause-ok : goal.returns-in-Ok-clause-ok

@@ -4,7 +4,7 @@ use Rattle.std.proofs.lemmas.List.{drop_all}
 use Rattle.cps_state.specs.Course.{Trace}
 use Rattle.cps_state.specs.Work.{Counts}
 use Rattle.cps_edit.specs.Passes.{traces_from, GathersMore}
-use Rattle.cps_edit.specs.PassOne.{gathered_in}
+use Rattle.cps_edit.specs.Code.PassOne.{gathered_in}
 use Rattle.cps_edit.proofs.ReplayLemmas.{over-next, over-done}
 use Rattle.cps_edit.proofs.PassOneLemmas.{gathered-next, gathered-end, stepped-next, one-more, first-of}
 use Rattle.cps_edit.proofs.pass_one.PassOne.step_all.Goals as goal

@@ -2,7 +2,7 @@ use Rattle.std.proofs.Common.{◌≡◌, ◌++◌, drop}
 use Rattle.cps_state.specs.Work.{counted_on}
 use Rattle.cps_final.specs.Finals.{Finals}
 use Rattle.cps_edit.specs.Passes.{state_after, traces_from, GathersMore}
-use Rattle.cps_edit.specs.PassOne.{gathered_in}
+use Rattle.cps_edit.specs.Code.PassOne.{gathered_in}
 use Rattle.cps_edit.proofs.pass_one.PassOne.step_all.Given as goal
 
 abbrev pub invariant-loop-line : goal.invariant-loop-line

@@ -1,6 +1,6 @@
 use Rattle.std.proofs.Common.{◌≡◌, ◌≤◌, drop, length}
 use Rattle.indexmap.specs.IndexMap.{spare}
-use Rattle.cps_final.specs.Gathering.{layout_kept, grown_by}
+use Rattle.cps_final.specs.Code.Gathering.{layout_kept, grown_by}
 use Rattle.cps_final.specs.Layout.{names_put}
 use Rattle.cps_final.proofs.blocks.Blocks.put_all.Given as goal
 

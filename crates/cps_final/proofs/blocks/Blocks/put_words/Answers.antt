@@ -1,6 +1,6 @@
 use Rattle.std.proofs.Common.{max, Option, sym, ap, ◌∙◌}
 use Rattle.cps_text.specs.declared.name.Name.{Name}
-use Rattle.cps_final.specs.Gathering.{layout_kept, grown_to}
+use Rattle.cps_final.specs.Code.Gathering.{layout_kept, grown_to}
 use Rattle.cps_final.proofs.BlockLemmas.{layout-inserted}
 use Rattle.cps_final.proofs.blocks.Blocks.put_words.Goals as goal
 

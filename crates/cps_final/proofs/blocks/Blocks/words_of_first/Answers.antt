@@ -1,7 +1,7 @@
 use Rattle.std.proofs.Common.{◌+◌, ℕ, Option, arith, sym, ap, ◌∙◌}
 use Rattle.std.specs.Prelude.{unwrap_or}
 use Rattle.cps_final.specs.Finals.{words_of_first}
-use Rattle.cps_final.specs.Gathering.{layout_kept}
+use Rattle.cps_final.specs.Code.Gathering.{layout_kept}
 use Rattle.cps_final.proofs.BlockLemmas.{words-next, key-at}
 use Rattle.cps_final.proofs.blocks.Blocks.words_of_first.Goals as goal
 

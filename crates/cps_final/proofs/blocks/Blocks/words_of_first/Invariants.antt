@@ -1,6 +1,6 @@
 use Rattle.std.proofs.Common.{◌≡◌, ◌≤◌, ◌*◌, ◌^◌}
 use Rattle.cps_final.specs.Finals.{words_of_first}
-use Rattle.cps_final.specs.Gathering.{layout_kept}
+use Rattle.cps_final.specs.Code.Gathering.{layout_kept}
 use Rattle.cps_final.proofs.blocks.Blocks.words_of_first.Given as goal
 
 abbrev pub invariant-loop-index : goal.invariant-loop-index

@@ -1,6 +1,6 @@
 use Rattle.std.proofs.Common.{◌≤◌, List, arith, ap, sym, ◌∙◌, slice_get}
 use Rattle.cps_state.specs.declared.key.Key.{Key}
-use Rattle.cps_final.specs.Kept.{count_of, keys_in}
+use Rattle.cps_final.specs.Code.Kept.{count_of, keys_in}
 use Rattle.cps_final.proofs.ExchangeLemmas.{exchanged-next, exchanged-state, exchanged-back, exchanged-keys}
 use Rattle.cps_final.proofs.changes.Changes.exchange.Goals as goal
 

@@ -1,6 +1,6 @@
 use Rattle.std.proofs.Common.{◌≡◌, ◌≤◌, ◌+◌, take}
-use Rattle.cps_state.specs.Exchange.{room_of}
-use Rattle.cps_final.specs.Kept.{changes_in, count_of, keys_in, MayStandIn}
+use Rattle.cps_state.specs.Code.Exchange.{room_of}
+use Rattle.cps_final.specs.Code.Kept.{changes_in, count_of, keys_in, MayStandIn}
 use Rattle.cps_final.proofs.ExchangeLemmas.{Exchanged, state_in}
 use Rattle.cps_final.proofs.changes.Changes.exchange.Given as goal
 

@@ -2,7 +2,7 @@ use Rattle.std.proofs.Common.{Some, sym, ap, ◌∙◌}
 use Rattle.indexmap.proofs.CallerLemmas.{keys-with_value_at, index_map_len-with_value_at}
 use Rattle.std.specs.HashMap.{get}
 use Rattle.cps_final.specs.Changes.{with_change}
-use Rattle.cps_final.specs.Kept.{changes_in}
+use Rattle.cps_final.specs.Code.Kept.{changes_in}
 use Rattle.cps_final.proofs.KeptLemmas.{eq, at-place, written-at, may-stand, answer-changed, stands-next, stands-always}
 use Rattle.cps_final.proofs.changes.Changes.exchange_at.Goals as goal
 

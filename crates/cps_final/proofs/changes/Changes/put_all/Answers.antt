@@ -1,7 +1,7 @@
 use Rattle.std.proofs.Common.{◌≤◌, Some, length, rules, ap, ◌∙◌}
 use Rattle.cps_state.specs.declared.key.Answer.{Answer}
 use Rattle.cps_final.specs.Changes.{with_change}
-use Rattle.cps_final.specs.Kept.{changes_in}
+use Rattle.cps_final.specs.Code.Kept.{changes_in}
 use Rattle.cps_final.proofs.ChangedLemmas.{put-next, put-all}
 use Rattle.cps_final.proofs.changes.Changes.put_all.Goals as goal
 

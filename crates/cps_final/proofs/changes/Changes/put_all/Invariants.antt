@@ -1,7 +1,7 @@
 use Rattle.std.proofs.Common.{◌≡◌, drop}
 use Rattle.cps_state.specs.Keys.{State, overwritten}
 use Rattle.cps_final.specs.Changes.{changed}
-use Rattle.cps_final.specs.Kept.{changes_in}
+use Rattle.cps_final.specs.Code.Kept.{changes_in}
 use Rattle.cps_final.proofs.changes.Changes.put_all.Given as goal
 
 -- what is left makes of each state with these changes what all make of it with those before

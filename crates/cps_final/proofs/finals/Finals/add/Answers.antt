@@ -3,7 +3,7 @@ use Rattle.std.specs.Prelude.{nat_eq}
 use Rattle.std.specs.Option.{option_or}
 use Rattle.indexmap.specs.IndexSet.{insert_all}
 use Rattle.cps_final.specs.Finals.{first_program}
-use Rattle.cps_final.specs.Gathering.{grown_by}
+use Rattle.cps_final.specs.Code.Gathering.{grown_by}
 use Rattle.cps_final.specs.Pool.{literals_among}
 use Rattle.cps_final.proofs.GatherLemmas.{same-but-state, on_err}
 use Rattle.cps_final.proofs.finals.Finals.add.Goals as goal

@@ -2,7 +2,7 @@ use Rattle.std.proofs.Common.{Some, refl, sym}
 use Rattle.cps_state.specs.contracts.state.StateLookup.TheImpl.{answer-value as state-answer}
 use Rattle.cps_final.specs.contracts.finals.FinalsGathered.TheImpl.{gathered-value}
 use Rattle.cps_final.specs.Finals.{Finals}
-use Rattle.cps_final.specs.Storage.{stored}
+use Rattle.cps_final.specs.Code.Storage.{stored}
 use Rattle.cps_final.proofs.MendLemmas.{other-storage, same-storage}
 use Rattle.cps_final.proofs.finals.Finals.exchange.Goals as goal
 

@@ -1,5 +1,5 @@
 use Rattle.std.proofs.Common.{refl}
-use Rattle.cps_final.specs.Storage.{stored}
+use Rattle.cps_final.specs.Code.Storage.{stored}
 use Rattle.cps_final.proofs.GatherLemmas.{same-but-state}
 use Rattle.cps_final.proofs.finals.Finals.make_room.Goals as goal
 

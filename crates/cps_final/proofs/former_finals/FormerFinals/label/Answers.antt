@@ -1,7 +1,7 @@
 use Rattle.std.proofs.Common.{ap, ◌∙◌}
 use Rattle.std.specs.Prelude.{option_and_then}
 use Rattle.cps_final.specs.Addresses.{final_of}
-use Rattle.cps_final.specs.FormerFinals.{finals_before}
+use Rattle.cps_final.specs.Code.FormerFinals.{finals_before}
 use Rattle.cps_final.specs.Finals.{Finals, final_value, first_word, at_base}
 use Rattle.cps_final.proofs.former_finals.FormerFinals.label.Goals as goal
 

@@ -3,7 +3,7 @@ use Rattle.std.proofs.lemmas.Bool.Decides.{nat_tests}
 use Rattle.std.proofs.lemmas.List.{take_all}
 use Rattle.cps_state.specs.declared.key.Asked.{Asked}
 use Rattle.cps_final.specs.Run.{with_asks}
-use Rattle.cps_final.specs.RunGathering.{IsOutside}
+use Rattle.cps_final.specs.Code.RunGathering.{IsOutside}
 use Rattle.cps_final.proofs.RunGatherLemmas.{asks-next}
 use Rattle.cps_final.proofs.outside.OutsideAsks.add_asks.Goals as goal
 

@@ -1,6 +1,6 @@
 use Rattle.std.proofs.Common.{take}
 use Rattle.cps_final.specs.Run.{Run, with_asks}
-use Rattle.cps_final.specs.RunGathering.{IsOutside}
+use Rattle.cps_final.specs.Code.RunGathering.{IsOutside}
 use Rattle.cps_final.proofs.outside.OutsideAsks.add_asks.Given as goal
 
 abbrev pub invariant-loop-asked : goal.invariant-loop-asked

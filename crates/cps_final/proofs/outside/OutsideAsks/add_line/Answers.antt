@@ -2,7 +2,7 @@ use Rattle.std.proofs.Common.{◌++◌, List, subst}
 use Rattle.cps_state.specs.declared.key.Asked.{Asked}
 use Rattle.cps_state.specs.declared.key.Put.{Put}
 use Rattle.cps_final.specs.Run.{with_asks}
-use Rattle.cps_final.specs.RunGathering.{IsOutside}
+use Rattle.cps_final.specs.Code.RunGathering.{IsOutside}
 use Rattle.cps_final.proofs.outside.OutsideAsks.add_line.Goals as goal
 
 pub returns : goal.returns

@@ -2,7 +2,7 @@ use Rattle.std.proofs.Common.{rules, arith, ◌<◌, ◌≤◌, ◌++◌, refl, 
 use Rattle.std.proofs.lemmas.Bool.Decides.{nat_tests}
 use Rattle.std.proofs.lemmas.List.{take_all}
 use Rattle.cps_state.specs.declared.key.Put.{Put}
-use Rattle.cps_final.specs.RunGathering.{IsOutside}
+use Rattle.cps_final.specs.Code.RunGathering.{IsOutside}
 use Rattle.cps_final.proofs.RunGatherLemmas.{puts-more}
 use Rattle.cps_final.proofs.outside.OutsideAsks.add_puts.Goals as goal
 

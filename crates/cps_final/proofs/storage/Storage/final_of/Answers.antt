@@ -5,7 +5,7 @@ use Rattle.cps_text.specs.declared.name.Name.{Name}
 use Rattle.cps_expr.specs.declared.value.Value.{Value}
 use Rattle.cps_expr.specs.Value.{plain, limited}
 use Rattle.cps_final.specs.Finals.{Finals, address_of, first_word, at_base}
-use Rattle.cps_final.specs.Storage.{stored}
+use Rattle.cps_final.specs.Code.Storage.{stored}
 use Rattle.cps_final.proofs.storage.Storage.final_of.Goals as goal
 
 plain-same : (value : Value) → value.block ≡ None → plain value.offset ≡ value

@@ -1,6 +1,6 @@
 use Rattle.std.proofs.Common.{◌≡◌, ◌+◌, [], ◌∷◌, ◌++◌, get_or, take, refl, sym, ap, subst, ◌∙◌, append_assoc}
 use Rattle.std.proofs.lemmas.List.{take_all, take_more}
-use Rattle.cps_input.specs.BegunLine.{IsBegun}
+use Rattle.cps_input.specs.Code.BegunLine.{IsBegun}
 use Rattle.cps_input.proofs.BegunLemmas.{begun-room, of-ok}
 use Rattle.cps_input.proofs.begun_line.BegunLine.push_all.Goals as goal
 

@@ -1,5 +1,5 @@
 use Rattle.std.proofs.Common.{◌≡◌, map, sym, subst, rules}
-use Rattle.cps_input.specs.Input.{IsIntake}
+use Rattle.cps_input.specs.Code.Input.{IsIntake}
 use Rattle.cps_input.specs.Lines.{without_return}
 use Rattle.cps_input.proofs.InputLemmas.{come-line}
 use Rattle.cps_input.proofs.input.Input.end_line.Goals as goal

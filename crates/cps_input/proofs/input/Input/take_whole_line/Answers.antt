@@ -1,5 +1,5 @@
 use Rattle.std.proofs.Common.{◌≡◌, map, sym, subst, refl, rules}
-use Rattle.cps_input.specs.Input.{IsIntake}
+use Rattle.cps_input.specs.Code.Input.{IsIntake}
 use Rattle.cps_input.specs.Lines.{without_return}
 use Rattle.cps_input.proofs.InputLemmas.{come-whole}
 use Rattle.cps_input.proofs.input.Input.take_whole_line.Goals as goal

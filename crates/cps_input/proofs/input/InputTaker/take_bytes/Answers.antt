@@ -1,6 +1,6 @@
 use Rattle.std.proofs.Common.{◌+◌, [], ◌∷◌, ◌++◌, take, drop, refl, sym, ap, subst, ◌∙◌, arith, append_assoc, append-nil, length, length-drop}
 use Rattle.std.proofs.lemmas.List.{take_rest}
-use Rattle.cps_input.specs.Input.{HasCome}
+use Rattle.cps_input.specs.Code.Input.{HasCome}
 use Rattle.cps_input.specs.Lines.{newline}
 use Rattle.cps_input.proofs.InputLemmas.{come-piece}
 use Rattle.cps_input.proofs.SplitLemmas.{cut_at, no_newline}

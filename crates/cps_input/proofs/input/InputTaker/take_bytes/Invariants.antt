@@ -1,5 +1,5 @@
 use Rattle.std.proofs.Common.{◌≡◌, ℕ, List, ◌++◌, length}
-use Rattle.cps_input.specs.Input.{HasCome}
+use Rattle.cps_input.specs.Code.Input.{HasCome}
 use Rattle.cps_input.proofs.input.InputTaker.take_bytes.Given as goal
 
 abbrev pub invariant-loop-at : goal.invariant-loop-at

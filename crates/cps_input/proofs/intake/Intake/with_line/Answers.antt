@@ -1,7 +1,7 @@
 use Rattle.std.proofs.Common.{◌∷◌, [], ◌++◌, sym, subst}
 use Rattle.cps_input.specs.Sources.{IsSource}
 use Rattle.cps_input.specs.declared.intake.Intake.TheVariants.{Kept, Refused}
-use Rattle.cps_input.specs.Input.{IsIntake}
+use Rattle.cps_input.specs.Code.Input.{IsIntake}
 use Rattle.cps_input.proofs.InputLemmas.{kept-few, refused-few, wrong-before}
 use Rattle.cps_input.proofs.intake.Intake.with_line.Goals as goal
 

@@ -1,5 +1,5 @@
 use Rattle.std.proofs.Common.{rules, arith, ◌≡◌, ◌++◌, ◌∷◌, [], List, ℕ, ◌∙◌, ap, length, length-append}
-use Rattle.cps_input.specs.Parts.{parts_at}
+use Rattle.cps_input.specs.Code.Parts.{parts_at}
 use Rattle.cps_input.proofs.PartLemmas.{rises-more, parts-more}
 use Rattle.cps_input.proofs.line_text.LineText.push.Goals as goal
 

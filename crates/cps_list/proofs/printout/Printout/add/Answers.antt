@@ -4,7 +4,7 @@ use Rattle.cps_code.specs.Image.{Piece, piece_of}
 use Rattle.cps_state.specs.Flags.{has_flag}
 use Rattle.cps_list.specs.Flagged.{flag_row, count_if}
 use Rattle.cps_list.specs.ListingText.{line_rows}
-use Rattle.cps_list.specs.Making.{Adds, IsPrintoutOf, shown}
+use Rattle.cps_list.specs.Code.Making.{Adds, IsPrintoutOf, shown}
 use Rattle.cps_list.proofs.PrintoutLemmas.{line-more}
 use Rattle.cps_list.proofs.printout.Printout.add.Goals as goal
 

@@ -7,7 +7,7 @@ use Rattle.cps_list.specs.Assembly.{Assembly}
 use Rattle.cps_list.specs.Binary.{first_row, rows_below, pool_pieces}
 use Rattle.cps_list.specs.Flagged.{count_if, end_row, count_row}
 use Rattle.cps_list.specs.ListingText.{open_row}
-use Rattle.cps_list.specs.Making.{Printout, IsPrintoutOf, shown, shows_binary, shows_symbols}
+use Rattle.cps_list.specs.Code.Making.{Printout, IsPrintoutOf, shown, shows_binary, shows_symbols}
 use Rattle.cps_list.specs.Symbols.{mentions_from, symbol_rows}
 use Rattle.cps_list.specs.Texts.{text_of}
 use Rattle.cps_list.proofs.PrintoutLemmas.{text-whole}

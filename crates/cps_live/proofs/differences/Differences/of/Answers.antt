@@ -1,6 +1,6 @@
 use Rattle.std.proofs.Common.{sym, ap, ◌∙◌}
 use Rattle.std.specs.List.{list_any}
-use Rattle.cps_live.specs.NamesRead.{has_name}
+use Rattle.cps_live.specs.Code.NamesRead.{has_name}
 use Rattle.cps_live.proofs.DifferenceLemmas.{known, listed-exact, none-true}
 use Rattle.cps_live.proofs.differences.Differences.of.Goals as goal
 

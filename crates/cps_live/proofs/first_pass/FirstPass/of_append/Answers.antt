@@ -1,13 +1,13 @@
 use Rattle.std.proofs.Common.{arith, rules, ◌≡◌, [], length, refl, ap, sym, subst, ◌∙◌}
 use Rattle.cps_state.specs.Keys.{first_state}
 use Rattle.cps_final.specs.Changes.{changed, no_change}
-use Rattle.cps_final.specs.Kept.{changes_in}
+use Rattle.cps_final.specs.Code.Kept.{changes_in}
 use Rattle.cps_final.specs.Layout.{puts_of}
 use Rattle.cps_edit.specs.Disturbed.{ones_of}
 use Rattle.cps_edit.specs.Passes.{state_after, traces_from}
 use Rattle.cps_edit.specs.Splice.{Splice, splice_at}
 use Rattle.cps_chunk.specs.Noted.{noted}
-use Rattle.cps_live.specs.Editing.{IsFirstPass, splice_of}
+use Rattle.cps_live.specs.Code.Editing.{IsFirstPass, splice_of}
 use Rattle.cps_live.proofs.FirstPassLemmas.{closed-state, front-all, ones-last, replayed-last, spliced-last}
 use Rattle.cps_live.proofs.first_pass.FirstPass.of_append.Goals as goal
 

@@ -1,16 +1,16 @@
 use Rattle.std.proofs.Common.{◌≡◌, List, subst, sym, ap, ◌∙◌}
 use Rattle.cps_final.specs.Changes.{changed}
-use Rattle.cps_final.specs.Kept.{changes_in}
+use Rattle.cps_final.specs.Code.Kept.{changes_in}
 use Rattle.cps_edit.specs.Exchange.{exchanged}
 use Rattle.cps_state.specs.Keys.{first_state}
 use Rattle.cps_edit.specs.Passes.{state_after}
-use Rattle.cps_chunk.specs.Chunk.{AreChunksOf}
+use Rattle.cps_chunk.specs.Code.Chunk.{AreChunksOf}
 use Rattle.cps_chunk.specs.declared.chunk.Chunk.{Chunk}
 use Rattle.cps_chunk.specs.declared.replay.Replay.{Replay}
 use Rattle.cps_chunk.specs.declared.walk.Baseline.{Baseline}
-use Rattle.cps_chunk.specs.Moved.{replayed_moved}
-use Rattle.cps_chunk.specs.Walk.{IsBaseline}
-use Rattle.cps_live.specs.MovedPass.{order_of}
+use Rattle.cps_chunk.specs.Code.Moved.{replayed_moved}
+use Rattle.cps_chunk.specs.Code.Walk.{IsBaseline}
+use Rattle.cps_live.specs.Code.MovedPass.{order_of}
 use Rattle.cps_live.proofs.ExchangeLemmas.{turned-list}
 use Rattle.cps_live.proofs.MovedPassLemmas.{moved-state, news-turned, order-within}
 use Rattle.cps_live.proofs.first_pass.FirstPass.of_exchange.Goals as goal

@@ -1,8 +1,8 @@
 use Rattle.std.proofs.Common.{List, subst, sym, ap, ◌∙◌}
-use Rattle.cps_chunk.specs.Chunk.{AreChunksOf}
+use Rattle.cps_chunk.specs.Code.Chunk.{AreChunksOf}
 use Rattle.cps_chunk.specs.declared.chunk.Chunk.{Chunk}
 use Rattle.cps_chunk.specs.declared.walk.Baseline.{Baseline}
-use Rattle.cps_chunk.specs.Walk.{IsBaseline}
+use Rattle.cps_chunk.specs.Code.Walk.{IsBaseline}
 use Rattle.cps_live.proofs.first_pass.FirstPass.of_splice.Goals as goal
 
 pub go_over-entered-requires-clause-walk : goal.go_over-entered-requires-clause-walk

@@ -1,15 +1,15 @@
 use Rattle.std.proofs.Common.{◌≡◌, ◌∙◌, ◌∷◌, ◌++◌, [], length, ap, sym}
 use Rattle.cps_state.specs.Keys.{first_state}
-use Rattle.cps_final.specs.Kept.{changes_in}
+use Rattle.cps_final.specs.Code.Kept.{changes_in}
 use Rattle.cps_final.specs.Finals.{final_value, finals_of}
 use Rattle.cps_final.specs.Outcome.{outcome_of}
 use Rattle.cps_pass.specs.Expansion.{trace_of}
-use Rattle.cps_final.specs.Mend.{mended}
+use Rattle.cps_final.specs.Code.Mend.{mended}
 use Rattle.cps_final.specs.contracts.finals.FinalsGathered.TheImpl.{gathered-value}
 use Rattle.cps_chunk.specs.Division.{IsDivision}
 use Rattle.cps_edit.specs.Disturbed.{finals_in}
 use Rattle.cps_edit.specs.Passes.{state_after, traces_of}
-use Rattle.cps_chunk.specs.Chunk.{lengths_of}
+use Rattle.cps_chunk.specs.Code.Chunk.{lengths_of}
 use Rattle.cps_chunk.specs.Replayed.{redone}
 use Rattle.cps_live.proofs.BehindLemmas.{both-made, both-refused, changed-behind, is-behind, lent-mend, looks-are, looks-since, one-refused, ones-behind, room-same, twos-are}
 use Rattle.cps_live.proofs.ExchangeLemmas.{lines-total}

@@ -5,10 +5,10 @@ use Rattle.cps_chunk.specs.Recut.{recut}
 use Rattle.cps_final.specs.Outcome.{Outcome}
 use Rattle.cps_edit.specs.Disturbed.{finals_in}
 use Rattle.cps_edit.specs.Passes.{traces_of, outcomes_by}
-use Rattle.cps_chunk.specs.Chunk.{AreChunksOf}
+use Rattle.cps_chunk.specs.Code.Chunk.{AreChunksOf}
 use Rattle.cps_chunk.specs.Sparse.{renewed}
 use Rattle.cps_chunk.proofs.SparseLemmas.{length-renewed}
-use Rattle.cps_live.specs.NamesRead.{HasRead, has_all}
+use Rattle.cps_live.specs.Code.NamesRead.{HasRead, has_all}
 use Rattle.cps_live.proofs.NamesReadLemmas.{all-put, all-renewed}
 use Rattle.cps_live.proofs.KeptLemmas.{cut-fits, cut-room, entered-outcomes, entered-traces, outcome-places, outcomes-edited, outcomes-long, trace-places_all, traces-edited, traces-long}
 use Rattle.cps_live.proofs.kept_source.KeptSource.commit.Goals as goal

@@ -2,17 +2,17 @@ use Rattle.std.proofs.Common.{arith, ◌≡◌, ◌∙◌, refl, sym, ap, subst,
 use Rattle.std.specs.Prelude.{vec_len}
 use Rattle.cps_state.specs.Course.{Trace}
 use Rattle.cps_chunk.specs.Division.{AreChunks}
-use Rattle.cps_chunk.specs.Pieces.{lines_of}
+use Rattle.cps_chunk.specs.Code.Pieces.{lines_of}
 use Rattle.cps_chunk.specs.declared.exchange.Piece.{Piece}
 use Rattle.cps_edit.specs.Exchange.{exchanged}
 use Rattle.cps_final.specs.Outcome.{Outcome}
 use Rattle.cps_edit.specs.Disturbed.{finals_in}
 use Rattle.cps_edit.specs.Passes.{traces_of, outcomes_by}
 use Rattle.cps_chunk.specs.declared.chunk.Chunk.{Chunk}
-use Rattle.cps_chunk.specs.Chunk.{AreChunksOf}
+use Rattle.cps_chunk.specs.Code.Chunk.{AreChunksOf}
 use Rattle.cps_chunk.specs.Sparse.{renewed}
-use Rattle.cps_chunk.specs.MovedChunks.{AreMoved}
-use Rattle.cps_live.specs.NamesRead.{HasRead, has_all}
+use Rattle.cps_chunk.specs.Code.MovedChunks.{AreMoved}
+use Rattle.cps_live.specs.Code.NamesRead.{HasRead, has_all}
 use Rattle.cps_live.proofs.NamesReadLemmas.{all-exchanged, all-renewed}
 use Rattle.cps_live.proofs.ExchangeLemmas.{lines-long, lines-total, moved-chunks, moved-did, moved-divided, moved-made, moved-outcome_places, moved-outcomes_long, moved-trace_places, moved-traces_long, turned-items, turned-within}
 use Rattle.cps_live.proofs.kept_source.KeptSource.commit_moved.Goals as goal

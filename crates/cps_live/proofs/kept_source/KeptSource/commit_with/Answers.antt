@@ -8,12 +8,12 @@ use Rattle.cps_edit.specs.Disturbed.{finals_in}
 use Rattle.cps_edit.specs.Passes.{outcomes_by, traces_of}
 use Rattle.cps_edit.proofs.RedoLemmas.{length-outcomes}
 use Rattle.cps_edit.proofs.SpliceLemmas.{length-traces_from}
-use Rattle.cps_chunk.specs.Chunk.{AreChunksOf, lengths_of}
+use Rattle.cps_chunk.specs.Code.Chunk.{AreChunksOf, lengths_of}
 use Rattle.cps_chunk.specs.declared.sparse.SparseItem.{SparseItem}
 use Rattle.cps_chunk.specs.Replayed.{redone}
 use Rattle.cps_chunk.specs.Sparse.{AreWithin, renewed}
 use Rattle.cps_chunk.proofs.ReplayedLemmas.{redone-within}
-use Rattle.cps_live.specs.NamesRead.{HasRead, has_all}
+use Rattle.cps_live.specs.Code.NamesRead.{HasRead, has_all}
 use Rattle.cps_live.proofs.BehindLemmas.{outcomes-behind, traces-behind}
 use Rattle.cps_live.proofs.ExchangeLemmas.{lines-long, lines-total}
 use Rattle.cps_live.proofs.NamesReadLemmas.{all-joined, all-renewed}

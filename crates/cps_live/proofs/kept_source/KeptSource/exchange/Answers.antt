@@ -1,19 +1,19 @@
 use Rattle.std.proofs.Common.{arith, ◌≡◌, ℕ, List, length, sym, ap, subst, ◌∙◌}
 use Rattle.std.specs.Prelude.{sum}
 use Rattle.cps_state.specs.Keys.{first_state}
-use Rattle.cps_final.specs.Kept.{changes_in}
+use Rattle.cps_final.specs.Code.Kept.{changes_in}
 use Rattle.cps_edit.specs.Exchange.{exchanged}
 use Rattle.cps_edit.specs.Numbers.{exchanged_numbers}
 use Rattle.cps_final.specs.Finals.{Finals, finals_of}
-use Rattle.cps_final.specs.Mend.{mended}
+use Rattle.cps_final.specs.Code.Mend.{mended}
 use Rattle.cps_final.specs.contracts.finals.FinalsGathered.TheImpl.{gathered-value}
 use Rattle.cps_chunk.specs.Exchange.{exchanged_at}
-use Rattle.cps_chunk.specs.Pieces.{ArePieces}
+use Rattle.cps_chunk.specs.Code.Pieces.{ArePieces}
 use Rattle.cps_edit.specs.Passes.{traces_of}
 use Rattle.cps_edit.proofs.SpliceLemmas.{length-traces_from}
-use Rattle.cps_chunk.specs.Chunk.{lengths_of}
-use Rattle.cps_chunk.specs.Moved.{replayed_moved}
-use Rattle.cps_live.specs.Exchanged.{redone_moved}
+use Rattle.cps_chunk.specs.Code.Chunk.{lengths_of}
+use Rattle.cps_chunk.specs.Code.Moved.{replayed_moved}
+use Rattle.cps_live.specs.Code.Exchanged.{redone_moved}
 use Rattle.cps_live.proofs.ExchangeLemmas.{lines-within, looks-made, made-moved, moved-looked_both, moved-looked_first, news-behind, news-places, steps-both, steps-refused, stored-moved, twos-made}
 use Rattle.cps_live.proofs.MendedLemmas.{finals-mended, may-stand}
 use Rattle.cps_live.proofs.kept_source.KeptSource.exchange.Goals as goal

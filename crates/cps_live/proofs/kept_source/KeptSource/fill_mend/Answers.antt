@@ -2,7 +2,7 @@ use Rattle.std.proofs.Common.{◌∙◌, ap, refl, subst, sym}
 use Rattle.cps_state.specs.Keys.{first_state, overwritten}
 use Rattle.cps_final.specs.Changes.{Changed, changed}
 use Rattle.cps_final.specs.Finals.{Finals}
-use Rattle.cps_final.specs.Storage.{IsStored}
+use Rattle.cps_final.specs.Code.Storage.{IsStored}
 use Rattle.cps_live.proofs.KeptLemmas.{kept-same}
 use Rattle.cps_live.proofs.kept_source.KeptSource.fill_mend.Goals as goal
 

@@ -1,7 +1,7 @@
 use Rattle.std.proofs.Common.{rules, ℕ, ◌+◌, ◌≡◌, ◌∙◌, ◌++◌, ◌∷◌, [], sym, ap, get_or, take}
 use Rattle.std.proofs.lemmas.List.{take-map, map-append, take_more}
 use Rattle.cps_chunk.specs.declared.chunk.Chunk.{Chunk}
-use Rattle.cps_chunk.specs.Chunk.{lengths_of}
+use Rattle.cps_chunk.specs.Code.Chunk.{lengths_of}
 use Rattle.cps_live.proofs.kept_source.KeptSource.lengths.Goals as goal
 
 pub loop-chunk-preserved : goal.loop-chunk-preserved

@@ -1,5 +1,5 @@
 use Rattle.std.proofs.Common.{◌≡◌, take}
-use Rattle.cps_chunk.specs.Chunk.{lengths_of}
+use Rattle.cps_chunk.specs.Code.Chunk.{lengths_of}
 use Rattle.cps_live.proofs.kept_source.KeptSource.lengths.Given as goal
 
 abbrev pub invariant-loop-chunk : goal.invariant-loop-chunk

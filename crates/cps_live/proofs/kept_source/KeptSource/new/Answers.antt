@@ -3,7 +3,7 @@ use Rattle.cps_chunk.specs.Division.{AreChunks}
 use Rattle.cps_edit.specs.Passes.{traces_of}
 use Rattle.cps_final.specs.Finals.{finals_of}
 use Rattle.cps_chunk.specs.declared.chunk.Chunk.{Chunk}
-use Rattle.cps_chunk.specs.Chunk.{lengths_of}
+use Rattle.cps_chunk.specs.Code.Chunk.{lengths_of}
 use Rattle.cps_live.proofs.kept_source.KeptSource.new.Goals as goal
 
 pub returns-clause-kept : goal.returns-clause-kept

@@ -2,16 +2,16 @@ use Rattle.std.proofs.Common.{arith, refl, sym, List, ap, subst, length, ◌∙�
 use Rattle.std.specs.Prelude.{sum}
 use Rattle.cps_state.specs.Course.{Trace}
 use Rattle.cps_final.specs.Outcome.{Outcome}
-use Rattle.cps_chunk.specs.Chunk.{lengths_of}
+use Rattle.cps_chunk.specs.Code.Chunk.{lengths_of}
 use Rattle.cps_edit.specs.Compares.{ComparesUpTo}
 use Rattle.cps_final.specs.declared.ends.Ends.{Ends}
 use Rattle.cps_chunk.specs.declared.walk.Baseline.{Baseline}
-use Rattle.cps_final.specs.Ends.{was_of, now_of}
+use Rattle.cps_final.specs.Code.Ends.{was_of, now_of}
 use Rattle.cps_chunk.specs.Sparse.{AreWithin}
-use Rattle.cps_live.specs.Exchanged.{redone_by}
+use Rattle.cps_live.specs.Code.Exchanged.{redone_by}
 use Rattle.cps_chunk.specs.declared.sparse.SparseItem.{SparseItem}
-use Rattle.cps_live.specs.NamesRead.{HasRead, HasReadBy, items_of}
-use Rattle.cps_live.specs.SecondPass.{redone_in}
+use Rattle.cps_live.specs.Code.NamesRead.{HasRead, HasReadBy, items_of}
+use Rattle.cps_live.specs.Code.SecondPass.{redone_in}
 use Rattle.cps_live.proofs.KeptLemmas.{are-same, kept-read}
 use Rattle.cps_live.proofs.AgainLemmas.{chunks-again, lengths-again, steps-of}
 use Rattle.cps_live.proofs.CountLemmas.{steps-fail}

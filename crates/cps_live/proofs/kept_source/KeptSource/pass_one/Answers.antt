@@ -4,7 +4,7 @@ use Rattle.cps_state.specs.Keys.{first_state}
 use Rattle.cps_chunk.specs.Division.{AreChunks}
 use Rattle.cps_edit.specs.Passes.{state_after}
 use Rattle.cps_edit.proofs.SpliceLemmas.{puts-state}
-use Rattle.cps_chunk.specs.Chunk.{AreChunksOf}
+use Rattle.cps_chunk.specs.Code.Chunk.{AreChunksOf}
 use Rattle.cps_live.proofs.kept_source.KeptSource.pass_one.Goals as goal
 
 pub of_append-requires-clause-state : goal.of_append-requires-clause-state

@@ -1,7 +1,7 @@
 use Rattle.std.proofs.Common.{List, subst, sym}
 use Rattle.cps_state.specs.Course.{Trace}
 use Rattle.cps_chunk.specs.Division.{AreChunks}
-use Rattle.cps_chunk.specs.Chunk.{AreChunksOf}
+use Rattle.cps_chunk.specs.Code.Chunk.{AreChunksOf}
 use Rattle.cps_live.proofs.kept_source.KeptSource.pass_one_moved.Goals as goal
 
 pub returns-clause-kept : goal.returns-clause-kept

@@ -2,13 +2,13 @@ use Rattle.std.proofs.Common.{refl, List, length, ap, subst, sym, ◌∙◌, ◌
 use Rattle.cps_state.specs.Course.{Trace}
 use Rattle.cps_final.specs.Outcome.{Outcome}
 use Rattle.cps_edit.specs.Passes.{outcomes_by}
-use Rattle.cps_chunk.specs.Chunk.{lengths_of}
+use Rattle.cps_chunk.specs.Code.Chunk.{lengths_of}
 use Rattle.cps_final.specs.declared.ends.Ends.{Ends}
 use Rattle.cps_chunk.specs.declared.walk.Baseline.{Baseline}
-use Rattle.cps_final.specs.Ends.{was_of, now_of}
+use Rattle.cps_final.specs.Code.Ends.{was_of, now_of}
 use Rattle.cps_chunk.specs.declared.sparse.SparseItem.{SparseItem}
-use Rattle.cps_live.specs.NamesRead.{HasRead, HasReadBy, items_of}
-use Rattle.cps_live.specs.SecondPass.{redone_around}
+use Rattle.cps_live.specs.Code.NamesRead.{HasRead, HasReadBy, items_of}
+use Rattle.cps_live.specs.Code.SecondPass.{redone_around}
 use Rattle.cps_live.proofs.KeptLemmas.{are-same, entered-traces, kept-read, trace-places, traces-long}
 use Rattle.cps_live.proofs.AgainLemmas.{around-is, chunks-again, done-again, fail-again, fail-entered, lengths-again}
 use Rattle.cps_live.proofs.NamesReadLemmas.{read-still}

@@ -1,6 +1,6 @@
 use Rattle.std.proofs.Common.{[], length, refl}
-use Rattle.cps_live.specs.Exchanged.{redone_by}
-use Rattle.cps_live.specs.NamesRead.{items_of}
+use Rattle.cps_live.specs.Code.Exchanged.{redone_by}
+use Rattle.cps_live.specs.Code.NamesRead.{items_of}
 use Rattle.cps_live.proofs.BehindLemmas.{looks-step, looks-with, twos-first, twos-part, twos-with}
 use Rattle.cps_live.proofs.KeptLemmas.{are-same}
 use Rattle.cps_live.proofs.NamesReadLemmas.{read-still}

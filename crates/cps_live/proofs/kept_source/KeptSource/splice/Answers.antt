@@ -1,23 +1,23 @@
 use Rattle.std.proofs.Common.{arith, rules, ◌≡◌, ℕ, List, Ok, length, sym, ap, subst, ◌∙◌}
 use Rattle.cps_state.specs.Course.{Trace}
 use Rattle.cps_state.specs.Keys.{first_state}
-use Rattle.cps_final.specs.Kept.{changes_in}
+use Rattle.cps_final.specs.Code.Kept.{changes_in}
 use Rattle.cps_final.specs.Finals.{Finals, final_value, finals_of}
-use Rattle.cps_final.specs.Storage.{IsStored}
-use Rattle.cps_final.specs.Mend.{mended}
+use Rattle.cps_final.specs.Code.Storage.{IsStored}
+use Rattle.cps_final.specs.Code.Mend.{mended}
 use Rattle.cps_final.specs.contracts.finals.FinalsGathered.TheImpl.{gathered-value}
 use Rattle.cps_edit.specs.Disturbed.{finals_in}
 use Rattle.cps_edit.specs.Passes.{traces_of}
 use Rattle.cps_edit.specs.Splice.{spliced}
-use Rattle.cps_chunk.specs.Chunk.{lengths_of}
+use Rattle.cps_chunk.specs.Code.Chunk.{lengths_of}
 use Rattle.cps_chunk.specs.Sparse.{AreWithin}
 use Rattle.cps_chunk.proofs.ReplayedLemmas.{replayed_behind-within}
-use Rattle.cps_live.specs.Editing.{AreEnds, AreNewOutcomes, LooksOfSecond, StepsOfSecond, splice_of}
+use Rattle.cps_live.specs.Code.Editing.{AreEnds, AreNewOutcomes, LooksOfSecond, StepsOfSecond, splice_of}
 use Rattle.cps_live.specs.declared.news.News.{News}
 use Rattle.cps_final.specs.declared.outcome.Outcome.{Outcome}
 use Rattle.std.specs.declared.alloc.AllocError.{AllocError}
 use Rattle.cps_edit.proofs.SpliceLemmas.{length-traces_from}
-use Rattle.cps_live.specs.Storing.{IsStoredBehind}
+use Rattle.cps_live.specs.Code.Storing.{IsStoredBehind}
 use Rattle.cps_live.proofs.EditLemmas.{looked-both, looked-first, room-still}
 use Rattle.cps_live.proofs.MendedLemmas.{are-ends, edited-is, finals-mended, may-stand}
 use Rattle.cps_live.proofs.kept_source.KeptSource.splice.Goals as goal

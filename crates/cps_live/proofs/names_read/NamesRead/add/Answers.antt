@@ -2,7 +2,7 @@ use Rattle.std.proofs.Common.{◌≤◌, length, take, sym, ap, ◌∙◌}
 use Rattle.std.proofs.lemmas.Bool.{and_from}
 use Rattle.std.proofs.lemmas.List.{take_all}
 use Rattle.std.proofs.lemmas.List.Folds.{list_all_more}
-use Rattle.cps_live.specs.NamesRead.{has_all, has_name}
+use Rattle.cps_live.specs.Code.NamesRead.{has_all, has_name}
 use Rattle.cps_live.specs.declared.names_read.NamesRead.{NamesRead}
 use Rattle.cps_live.proofs.NamesReadLemmas.{all-still, has-inserted, still-inserted, still-unchanged}
 use Rattle.cps_live.proofs.names_read.NamesRead.add.Goals as goal

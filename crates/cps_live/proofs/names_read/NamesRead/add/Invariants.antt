@@ -1,5 +1,5 @@
 use Rattle.std.proofs.Common.{◌≡◌, true, take}
-use Rattle.cps_live.specs.NamesRead.{StillHas, has_all}
+use Rattle.cps_live.specs.Code.NamesRead.{StillHas, has_all}
 use Rattle.cps_live.proofs.names_read.NamesRead.add.Given as goal
 
 abbrev pub invariant-loop-name : goal.invariant-loop-name

@@ -1,5 +1,5 @@
 use Rattle.std.proofs.Common.{take}
-use Rattle.cps_live.specs.NamesRead.{HasRead, StillHas}
+use Rattle.cps_live.specs.Code.NamesRead.{HasRead, StillHas}
 use Rattle.cps_live.proofs.names_read.NamesRead.add_all.Given as goal
 
 abbrev pub invariant-loop-outcome : goal.invariant-loop-outcome

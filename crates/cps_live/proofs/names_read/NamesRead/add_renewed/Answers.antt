@@ -4,7 +4,7 @@ use Rattle.std.proofs.lemmas.List.{take_all}
 use Rattle.std.proofs.lemmas.List.Folds.{list_all-map, list_all_more}
 use Rattle.cps_final.specs.Outcome.{Outcome}
 use Rattle.cps_chunk.specs.declared.sparse.SparseItem.{SparseItem}
-use Rattle.cps_live.specs.NamesRead.{HasRead, has_all, items_of}
+use Rattle.cps_live.specs.Code.NamesRead.{HasRead, has_all, items_of}
 use Rattle.cps_live.specs.declared.names_read.NamesRead.{NamesRead}
 use Rattle.cps_live.proofs.NamesReadLemmas.{read-still}
 use Rattle.cps_live.proofs.names_read.NamesRead.add_renewed.Goals as goal

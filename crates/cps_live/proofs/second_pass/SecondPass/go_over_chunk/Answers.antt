@@ -7,13 +7,13 @@ use Rattle.cps_state.specs.Course.{Trace}
 use Rattle.cps_final.specs.Names.{all_pass, names_in}
 use Rattle.cps_final.specs.Agreeing.{same_at}
 use Rattle.cps_edit.specs.Compares.{Steps}
-use Rattle.cps_chunk.specs.Chunk.{IsChunkOf}
+use Rattle.cps_chunk.specs.Code.Chunk.{IsChunkOf}
 use Rattle.cps_chunk.specs.declared.chunk.Chunk.{Chunk}
-use Rattle.cps_final.specs.Ends.{was_of, now_of}
-use Rattle.cps_chunk.specs.Redo.{is_passed}
+use Rattle.cps_final.specs.Code.Ends.{was_of, now_of}
+use Rattle.cps_chunk.specs.Code.Redo.{is_passed}
 use Rattle.cps_chunk.specs.Replayed.{redone}
-use Rattle.cps_chunk.specs.Walk.{stretch}
-use Rattle.cps_live.specs.SecondPass.{IsStillChunk}
+use Rattle.cps_chunk.specs.Code.Walk.{stretch}
+use Rattle.cps_live.specs.Code.SecondPass.{IsStillChunk}
 use Rattle.cps_live.proofs.CountLemmas.{steps-none, looks-wider}
 use Rattle.cps_live.proofs.SecondPassLemmas.{on-ok, none-made, goes-none, looks-all}
 use Rattle.cps_live.proofs.second_pass.SecondPass.go_over_chunk.Goals as goal

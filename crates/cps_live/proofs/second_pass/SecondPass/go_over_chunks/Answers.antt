@@ -4,8 +4,8 @@ use Rattle.std.proofs.lemmas.Bool.{eqb-true}
 use Rattle.std.proofs.lemmas.List.{nil_from_length}
 use Rattle.cps_state.specs.Course.{Trace}
 use Rattle.cps_final.specs.Agreeing.{same_named}
-use Rattle.cps_chunk.specs.Chunk.{lengths_of}
-use Rattle.cps_final.specs.Ends.{was_of, now_of}
+use Rattle.cps_chunk.specs.Code.Chunk.{lengths_of}
+use Rattle.cps_final.specs.Code.Ends.{was_of, now_of}
 use Rattle.cps_live.proofs.CountLemmas.{steps-none, counts-next, counts-fail, looks-next}
 use Rattle.cps_live.proofs.NamesReadLemmas.{all-stretch}
 use Rattle.cps_live.proofs.SecondPassLemmas.{each-made, goes-none, next-within}

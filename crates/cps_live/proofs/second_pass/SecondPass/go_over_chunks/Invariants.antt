@@ -1,8 +1,8 @@
 use Rattle.std.proofs.Common.{◌≡◌, ◌+◌, length, take, drop}
 use Rattle.std.specs.Prelude.{sum}
-use Rattle.cps_chunk.specs.Chunk.{AreChunksOf, lengths_of}
-use Rattle.cps_chunk.specs.Walk.{stretch}
-use Rattle.cps_live.specs.SecondPass.{redone_in, looks_in}
+use Rattle.cps_chunk.specs.Code.Chunk.{AreChunksOf, lengths_of}
+use Rattle.cps_chunk.specs.Code.Walk.{stretch}
+use Rattle.cps_live.specs.Code.SecondPass.{redone_in, looks_in}
 use Rattle.cps_live.proofs.CountLemmas.{StillCounts}
 use Rattle.cps_live.proofs.SecondPassLemmas.{GoesOn}
 use Rattle.cps_live.proofs.second_pass.SecondPass.go_over_chunks.Given as goal

@@ -3,7 +3,7 @@ use Rattle.std.proofs.lemmas.Bool.{eqb-true}
 use Rattle.std.proofs.lemmas.List.{nil_from_length}
 use Rattle.cps_state.specs.Course.{Trace}
 use Rattle.cps_edit.specs.Compares.{Steps}
-use Rattle.cps_final.specs.Ends.{was_of, now_of}
+use Rattle.cps_final.specs.Code.Ends.{was_of, now_of}
 use Rattle.cps_chunk.specs.Replayed.{redone}
 use Rattle.cps_live.proofs.CountLemmas.{steps-none}
 use Rattle.cps_live.proofs.SecondPassLemmas.{on-ok, each-made, goes-none}

@@ -1,6 +1,6 @@
 use Rattle.std.proofs.Common.{sym, ◌∙◌}
 use Rattle.cps_final.specs.Names.{names_in}
-use Rattle.cps_final.specs.Ends.{was_of, now_of}
+use Rattle.cps_final.specs.Code.Ends.{was_of, now_of}
 use Rattle.cps_live.specs.declared.second_pass.SecondPass.{SecondPass}
 use Rattle.cps_live.proofs.SecondPassLemmas.{exact-same, names-same}
 use Rattle.cps_live.proofs.second_pass.SecondPass.new.Goals as goal

@@ -1,7 +1,7 @@
 use Rattle.std.proofs.Common.{arith, rules, ◌≤◌, length, sym, subst}
 use Rattle.std.proofs.lemmas.List.{take_all}
 use Rattle.std.proofs.lemmas.List.Elements.{All-more, All-same}
-use Rattle.cps_final.specs.Ends.{was_of, now_of}
+use Rattle.cps_final.specs.Code.Ends.{was_of, now_of}
 use Rattle.cps_live.proofs.SecondPassLemmas.{IsQuiet, exact-quiet, chunks-quiet}
 use Rattle.cps_live.proofs.second_pass.SecondPass.none_differs.Goals as goal
 

@@ -1,6 +1,6 @@
 use Rattle.std.proofs.Common.{take}
 use Rattle.std.specs.Prelude.{All}
-use Rattle.cps_final.specs.Ends.{was_of, now_of}
+use Rattle.cps_final.specs.Code.Ends.{was_of, now_of}
 use Rattle.cps_live.proofs.SecondPassLemmas.{IsQuiet}
 use Rattle.cps_live.proofs.second_pass.SecondPass.none_differs.Given as goal
 

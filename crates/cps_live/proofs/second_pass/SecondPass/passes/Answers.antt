@@ -1,7 +1,7 @@
 use Rattle.std.proofs.Common.{rules, ◌≡◌, false, Option, sym, ap, subst, ◌∙◌}
 use Rattle.std.specs.Prelude.{IfSome}
 use Rattle.cps_final.specs.Names.{Names, all_pass, names_in}
-use Rattle.cps_live.specs.Differences.{passes}
+use Rattle.cps_live.specs.Code.Differences.{passes}
 use Rattle.cps_live.proofs.SecondPassLemmas.{exact-names}
 use Rattle.cps_live.proofs.second_pass.SecondPass.passes.Goals as goal
 

@@ -1,5 +1,5 @@
 use Rattle.std.proofs.Common.{subst, ◌∙◌, List, ℕ}
-use Rattle.cps_live.specs.Cutting.{IsCutFor, edit_of, lengths_with}
+use Rattle.cps_live.specs.Code.Cutting.{IsCutFor, edit_of, lengths_with}
 use Rattle.cps_live.proofs.CuttingLemmas.{cut-is, cut-looks}
 use Rattle.cps_live.proofs.session.Session.put_new.Goals as goal
 

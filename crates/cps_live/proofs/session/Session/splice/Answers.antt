@@ -2,7 +2,7 @@ use Rattle.std.proofs.Common.{◌≤◌, length, sym, subst}
 use Rattle.cps_chunk.specs.Recut.{recut as recut_by}
 use Rattle.cps_edit.specs.Splice.{spliced}
 use Rattle.cps_edit.specs.Disturbed.{ones_of, twos_of}
-use Rattle.cps_live.specs.Editing.{splice_of}
+use Rattle.cps_live.specs.Code.Editing.{splice_of}
 use Rattle.cps_edit.specs.Limits.{most_lines}
 use Rattle.cps_live.specs.Edits.{Source, HaveStepped, HaveSteppedUpTo, LooksOfEdit}
 use Rattle.cps_live.proofs.SessionLemmas.{held}

@@ -1,7 +1,7 @@
 use Rattle.std.proofs.Common.{ap, subst, ◌∙◌}
 use Rattle.std.proofs.lemmas.Result.{on_ok_weaker}
 use Rattle.serde_json.specs.View.{view}
-use Rattle.cps_server.specs.Owing.{value_of}
+use Rattle.cps_server.specs.Code.Owing.{value_of}
 use Rattle.cps_server.specs.Requests.{Owes, after_request}
 use Rattle.cps_server.proofs.ServerLemmas.{hears-request}
 use Rattle.cps_server.proofs.server.Server.answer_request.Goals as goal

@@ -2,7 +2,7 @@ use Rattle.std.proofs.Common.{◌≡◌, Some, map, sym, ap, ◌∙◌}
 use Rattle.std.proofs.lemmas.Result.{on_ok_weaker}
 use Rattle.cps_rpc.specs.Params.{value_of}
 use Rattle.std.specs.Prelude.{option_map}
-use Rattle.cps_server.specs.Opened as opened
+use Rattle.cps_server.specs.Code.Opened as opened
 use Rattle.cps_server.specs.Notices.{changed_by}
 use Rattle.cps_server.specs.Standing.{Standing, open_under, without}
 use Rattle.cps_server.proofs.ServerLemmas.{changes}

@@ -1,7 +1,7 @@
 use Rattle.std.proofs.Common.{rules, ◌≡◌, Some, sym, ap, ◌∙◌}
 use Rattle.std.proofs.lemmas.Result.{on_ok_weaker}
 use Rattle.std.specs.Prelude.{option_map}
-use Rattle.cps_server.specs.Opened.{value_of}
+use Rattle.cps_server.specs.Code.Opened.{value_of}
 use Rattle.cps_server.specs.Standing.{Standing, open_under}
 use Rattle.cps_server.proofs.ServerLemmas.{closes}
 use Rattle.cps_server.proofs.server.Server.close_text.Goals as goal

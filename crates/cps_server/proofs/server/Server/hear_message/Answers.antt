@@ -5,7 +5,7 @@ use Rattle.serde_json.specs.View.{view}
 use Rattle.cps_rpc.specs.declared.message.Message.{Message}
 use Rattle.cps_rpc.specs.Message.{value_of}
 use Rattle.cps_server.specs.Answers.{Hears}
-use Rattle.cps_server.specs.Said.{Adds}
+use Rattle.cps_server.specs.Code.Said.{Adds}
 use Rattle.cps_server.proofs.ServerLemmas.{hears-invalid}
 use Rattle.cps_server.proofs.server.Server.hear_message.Goals as goal
 

@@ -2,7 +2,7 @@ use Rattle.std.proofs.Common.{List, [], ◌∷◌, ◌++◌, subst, ap, ◌∙�
 use Rattle.std.proofs.lemmas.Result.{on_ok_weaker}
 use Rattle.cps_rpc.specs.Frame.{frame_of}
 use Rattle.cps_server.specs.Standing.{OpenText, Standing, with_text}
-use Rattle.cps_server.specs.Writing.{ListsText, published_text}
+use Rattle.cps_server.specs.Code.Writing.{ListsText, published_text}
 use Rattle.cps_server.proofs.ServerLemmas.{takes}
 use Rattle.cps_server.proofs.server.Server.keep.Goals as goal
 

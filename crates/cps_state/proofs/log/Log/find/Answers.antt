@@ -6,7 +6,7 @@ use Rattle.cps_state.specs.declared.key.Answer.{Answer}
 use Rattle.cps_state.specs.declared.key.Put.{Put}
 use Rattle.cps_state.specs.contracts.key.KeyPartialEq.TheImpl.{eq-value}
 use Rattle.cps_state.specs.Course.{known_in}
-use Rattle.cps_state.specs.Log.{Log, asked_in, asked_at, put_at, found_at, found_in, known_of, Indexes}
+use Rattle.cps_state.specs.Code.Log.{Log, asked_in, asked_at, put_at, found_at, found_in, known_of, Indexes}
 use Rattle.cps_state.proofs.LogLemmas.{put-known, key-there, put-there, index-known, index-there}
 use Rattle.cps_state.proofs.log.Log.find.Goals as goal
 

@@ -2,7 +2,7 @@ use Rattle.std.proofs.Common.{rules, ◌≡◌, [], List, subst}
 use Rattle.std.specs.HashMap as hash
 use Rattle.cps_state.specs.declared.key.Key.{Key}
 use Rattle.cps_state.specs.contracts.key.KeyPartialEq.TheImpl.{eq-value}
-use Rattle.cps_state.specs.Log.{asked_in, Indexes}
+use Rattle.cps_state.specs.Code.Log.{asked_in, Indexes}
 use Rattle.cps_state.proofs.log.Log.make_index.Goals as goal
 
 pub with_puts-requires : goal.with_puts-requires

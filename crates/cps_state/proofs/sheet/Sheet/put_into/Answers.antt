@@ -1,7 +1,7 @@
 use Rattle.std.proofs.Common.{ap, ◌∙◌, reverse}
 use Rattle.std.proofs.lemmas.List.{reverse-reverse}
 use Rattle.cps_state.specs.Keys.{overwritten}
-use Rattle.cps_state.specs.Sheet.{Sheet}
+use Rattle.cps_state.specs.Code.Sheet.{Sheet}
 use Rattle.cps_state.proofs.sheet.Sheet.put_into.Goals as goal
 
 pub returns-clause-state : goal.returns-clause-state

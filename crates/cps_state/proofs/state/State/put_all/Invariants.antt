@@ -1,7 +1,7 @@
 use Rattle.std.proofs.Common.{◌≡◌, ◌≤◌, length, reverse}
 use Rattle.std.specs.HashMap as hash
 use Rattle.cps_state.specs.contracts.key.KeyPartialEq.TheImpl.{eq-value}
-use Rattle.cps_state.specs.KeptAnswers.{answers_in}
+use Rattle.cps_state.specs.Code.KeptAnswers.{answers_in}
 use Rattle.cps_state.specs.Keys.{overwritten}
 use Rattle.cps_state.proofs.state.State.put_all.Given as goal
 

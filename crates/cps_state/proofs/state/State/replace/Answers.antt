@@ -1,5 +1,5 @@
 use Rattle.std.proofs.Common.{sym, ap, ◌∙◌}
-use Rattle.cps_state.specs.Exchange.{with_answer}
+use Rattle.cps_state.specs.Code.Exchange.{with_answer}
 use Rattle.cps_state.proofs.ExchangeLemmas.{answer-removed}
 use Rattle.cps_state.proofs.state.State.replace.Goals as goal
 

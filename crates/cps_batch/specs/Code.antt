@@ -1,0 +1,3 @@
+-- What serves the code alone, and no reader need believe.
+pub mod Kept
+pub mod Passes

@@ -1,0 +1,75 @@
+-- For batch assembly, not part of what a reader believes: what its passes have made of the lines so far.
+use Rattle.std.specs.Prelude.{◌≡◌, ◌+◌, ℕ, Bool, List, [], ◌∷◌, ◌++◌, length, map, Option, IfSome}
+use Rattle.std.specs.declared.vec.Vec.{Vec}
+use Rattle.cps_state.specs.declared.item.Item.{Item}
+use Rattle.cps_state.specs.Course.{Trace}
+use Rattle.cps_state.specs.Code.Sheet.{Sheet, StandsOn, statements_on}
+use Rattle.cps_input.specs.Code.Parts.{RisesTo, parts_at}
+use Rattle.cps_final.specs.declared.gather.Gather.{Gather}
+use Rattle.cps_final.specs.contracts.finals.FinalsGathered.TheImpl as finals
+use Rattle.cps_final.specs.contracts.gather.GatherGathered.TheImpl as gather
+use Rattle.cps_final.specs.Finals.{Finals, Gathers}
+use Rattle.cps_list.specs.Code.Making.{IsPrintoutOf, shown, shows_symbols}
+use Rattle.cps_list.specs.Symbols.{mentions_from, mentions_on}
+use Rattle.cps_list.specs.declared.mention.Mention.{Mention}
+use Rattle.cps_final.specs.LineNames.{names_defined, names_read}
+use Rattle.cps_batch.specs.declared.passes.PassOne.{PassOne}
+use Rattle.cps_batch.specs.declared.passes.PassTwo.{PassTwo}
+use Rattle.cps_edit.specs.Assembly.{traces_of, outcomes_under}
+
+-- the statements of each line
+abbrev pub statements_of : List Trace → List (List Item)
+statements_of traces = map (λ (trace : Trace). trace.items) traces
+
+-- these are the parts of a list, by where each ends
+pub record AreParts (ends : List ℕ) (items : List Item) (parts : List (List Item)) : Type 0 where
+  pub rise : RisesTo 0 ends (length items)
+  pub are : parts_at 0 ends items ≡ parts
+
+-- the parts of a list, where their ends are kept
+abbrev pub AreKeptParts : {Z : Type 0} → Option (Vec ℕ Z) → List Item → List (List Item) → Type 0
+AreKeptParts ends items parts = IfSome ends (λ ends. AreParts ends.items items parts)
+
+-- behind the parts that were kept come the statements of the line on a sheet
+abbrev pub KeepsOn : {Z : Type 0} → Option (Vec ℕ Z) → Option (Vec ℕ Z) → Sheet → Sheet → Type 0
+KeepsOn ends ends' old new = (parts : List (List Item)) → AreKeptParts ends old.before parts → AreKeptParts ends' (statements_on new) (parts ++ old.line.items ∷ [])
+
+-- these lines were gathered
+abbrev pub AreGathered : List (List ℕ) → Gather → Type 0
+AreGathered lines gathered = Gathers (gather.gathered-value.it gathered) (traces_of lines)
+
+-- this is what a line does behind these lines
+abbrev pub IsTrace : List (List ℕ) → List ℕ → Trace → Type 0
+IsTrace before line trace = traces_of (before ++ line ∷ []) ≡ traces_of before ++ trace ∷ []
+
+-- these are the statements of a line behind these lines
+abbrev pub AreStatements : List (List ℕ) → List ℕ → List Item → Type 0
+AreStatements before line items = (trace : Trace) × IsTrace before line trace × (items ≡ trace.items)
+
+-- What a line did behind these lines stands on a sheet, behind the statements that stood there.
+pub record IsNext (before : List (List ℕ)) (line : List ℕ) (front : List Item) (sheet : Sheet) : Type 0 where
+  pub trace : Trace
+  pub stands : StandsOn sheet front trace
+  pub traces : IsTrace before line trace
+
+-- pass one: what was gathered, the statements of each line, if they are kept, and the symbols, if they are shown
+pub record IsPassed (lines : List (List ℕ)) (one : PassOne) : Type 0 where
+  pub gathered : AreGathered lines one.gather
+  pub kept : AreKeptParts one.ends (statements_on one.sheet) (statements_of (traces_of lines))
+  pub mentions : (finals : Finals) → one.mentions.items ≡ shown (shows_symbols one.part) (mentions_from 1 (outcomes_under finals (traces_of lines)))
+
+-- pass one of lines, and of one line more with its number
+abbrev pub PassesOn : List ℕ → ℕ → PassOne → PassOne → Type 0
+PassesOn line number old new = (lines : List (List ℕ)) → IsPassed lines old → number ≡ length lines + 1 → IsPassed (lines ++ line ∷ []) new
+
+-- the symbols that a line is noted for, where they are shown
+abbrev pub noted : Bool → ℕ → Trace → List Mention
+noted is_shown number trace = shown is_shown (mentions_on number (names_defined trace) (names_read trace))
+
+-- pass two: what a part shows under the final values
+abbrev pub IsShown : List (List ℕ) → PassTwo → Type 0
+IsShown lines two = IsPrintoutOf lines (outcomes_under (finals.gathered-value.it two.finals.now) (traces_of lines)) two.printout
+
+-- pass two of lines, and of one line more with its number
+abbrev pub ShowsOn : List (List ℕ) → List ℕ → ℕ → PassTwo → PassTwo → Type 0
+ShowsOn lines line number old new = IsShown lines old → number ≡ length lines + 1 → IsShown (lines ++ line ∷ []) new

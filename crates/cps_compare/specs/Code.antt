@@ -1,0 +1,3 @@
+-- What serves the code alone, and no reader need believe.
+pub mod Reading
+pub mod Shown

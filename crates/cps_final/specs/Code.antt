@@ -1,0 +1,12 @@
+-- What serves the code alone, and no reader need believe.
+pub mod DigitsKept
+pub mod Ends
+pub mod FormerFinals
+pub mod Gathering
+pub mod ItemsKept
+pub mod Kept
+pub mod Mend
+pub mod NamesGathering
+pub mod NamesKept
+pub mod RunGathering
+pub mod Storage

@@ -1,0 +1,13 @@
+-- What serves the code alone, and no reader need believe.
+pub mod Append
+pub mod ChunkList
+pub mod Cutting
+pub mod Differences
+pub mod Editing
+pub mod Exchanged
+pub mod FirstPass
+pub mod Kept
+pub mod MovedPass
+pub mod NamesRead
+pub mod SecondPass
+pub mod Storing

@@ -1,0 +1,8 @@
+-- What serves the code alone, and no reader need believe.
+pub mod ContentsKept
+pub mod Exchange
+pub mod KeptAnswers
+pub mod Line
+pub mod Log
+pub mod MadeKept
+pub mod Sheet
