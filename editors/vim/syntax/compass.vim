@@ -28,7 +28,7 @@ syntax match compassLocation /^\%([^ *,]\| [^ ]\)[^ ]*/ nextgroup=compassBeforeO
 syntax match compassForcing /^ \=[-+][^ ]\@!/ nextgroup=compassBeforeOperation
 syntax match compassBeforeOperation / \+\ze[^ ]\%<74c/ contained nextgroup=@compassOperation
 
-" ---- The operation. `scripts/operation-names --check` compares the names with the tables.
+" ---- The operation. `scripts/gate/operation-names --check` compares the names with the tables.
 
 syntax cluster compassOperation contains=compassStatement,compassInstruction,compassPeripheral,compassCall,compassNoOperation
 syntax match compassNoOperation /[^ ]\+/ contained nextgroup=compassRemark
