@@ -1,5 +1,5 @@
 //! The files of the machine.
-use super::draft::Draft;
+use super::draft::DiskDraft;
 use super::identity::lead_to_one;
 use cps_tool::Sources;
 use cps_words::Targets;
@@ -16,7 +16,7 @@ pub struct Disk<'a> {
 impl<'a> Sources for Disk<'a> {
     ghost use Rattle.std.specs.Prelude.{None};
 
-    type Opened = File;
+    type Reader = File;
 
     // What a file of the machine has isn't known.
     ghost holds = { λ disk name. None };
@@ -32,7 +32,7 @@ impl<'a> Sources for Disk<'a> {
 impl<'a> Targets for Disk<'a> {
     ghost use Rattle.std.specs.Prelude.{None};
 
-    type Draft = Draft<'a>;
+    type Draft = DiskDraft<'a>;
 
     // Nor is it known which files were placed, which drafts stand, and where names lead.
     ghost placed = { λ disk. None };
@@ -45,15 +45,15 @@ impl<'a> Targets for Disk<'a> {
         lead_to_one(self.rt, one, other)
     }
 
-    fn create(&mut self, name: &str) -> io::Result<Draft<'a>> {
-        Draft::new(self.rt, name)
+    fn create(&mut self, name: &str) -> io::Result<DiskDraft<'a>> {
+        DiskDraft::new(self.rt, name)
     }
 
-    fn place(&mut self, _name: &str, draft: Draft<'a>) -> io::Result<()> {
+    fn place(&mut self, _name: &str, draft: DiskDraft<'a>) -> io::Result<()> {
         draft.place(self.rt)
     }
 
-    fn discard(&mut self, _name: &str, draft: Draft<'a>) {
+    fn discard(&mut self, _name: &str, draft: DiskDraft<'a>) {
         draft.discard(self.rt);
     }
 }

@@ -10,7 +10,7 @@ const OUTPUT: [&str; 3] = ["/dev/stdout", "/dev/fd/1", "/proc/self/fd/1"];
 
 /// A file that isn't in its place yet; or what is no regular file, which is written in its place.
 #[derive(Drop)]
-pub enum Draft<'a> {
+pub enum DiskDraft<'a> {
     Successor(Successor),
     /// A device or a pipe, or what a process has open already.
     InPlace(File),
@@ -18,19 +18,19 @@ pub enum Draft<'a> {
     Output(&'a HostRuntime),
 }
 
-impl<'a> Draft<'a> {
+impl<'a> DiskDraft<'a> {
     /// Makes a draft of the file of that name. A file that stands must be one that may be written, and no directory.
-    pub fn new(rt: &'a HostRuntime, name: &str) -> io::Result<Draft<'a>> {
+    pub fn new(rt: &'a HostRuntime, name: &str) -> io::Result<DiskDraft<'a>> {
         if OUTPUT.contains(&name) {
-            return Ok(Draft::Output(rt));
+            return Ok(DiskDraft::Output(rt));
         }
         match fs::metadata(rt, name) {
             Ok(standing) if standing.is_file() && !is_open_already(name) => {
-                Ok(Draft::Successor(Successor::over(rt, name, &standing)?))
+                Ok(DiskDraft::Successor(Successor::over(rt, name, &standing)?))
             }
-            Ok(_) => Ok(Draft::InPlace(open_at_end(rt, name)?)),
+            Ok(_) => Ok(DiskDraft::InPlace(open_at_end(rt, name)?)),
             Err(error) if error.kind() == ErrorKind::NotFound && is_free(rt, name) => {
-                Ok(Draft::Successor(Successor::new(rt, name)?))
+                Ok(DiskDraft::Successor(Successor::new(rt, name)?))
             }
             Err(error) => Err(error),
         }
@@ -39,33 +39,33 @@ impl<'a> Draft<'a> {
     /// Puts it in its place. What can't be put there is discarded.
     pub fn place(self, rt: &HostRuntime) -> io::Result<()> {
         match self {
-            Draft::Successor(file) => file.place(rt),
-            Draft::InPlace(_) | Draft::Output(_) => Ok(()),
+            DiskDraft::Successor(file) => file.place(rt),
+            DiskDraft::InPlace(_) | DiskDraft::Output(_) => Ok(()),
         }
     }
 
     /// Takes it away. What was written in its place stays.
     pub fn discard(self, rt: &HostRuntime) {
-        if let Draft::Successor(file) = self {
+        if let DiskDraft::Successor(file) = self {
             file.remove(rt);
         }
     }
 }
 
-impl Write for Draft<'_> {
+impl Write for DiskDraft<'_> {
     fn write(&mut self, buf: &[u8]) -> io::Result<usize> {
         match self {
-            Draft::Successor(file) => file.write(buf),
-            Draft::InPlace(file) => file.write(buf),
-            Draft::Output(rt) => io::writer(*rt).write(buf),
+            DiskDraft::Successor(file) => file.write(buf),
+            DiskDraft::InPlace(file) => file.write(buf),
+            DiskDraft::Output(rt) => io::writer(*rt).write(buf),
         }
     }
 
     /// Sees that a file is kept at a power failure too.
     fn flush(&mut self) -> io::Result<()> {
         match self {
-            Draft::Successor(file) => file.flush(),
-            Draft::InPlace(_) | Draft::Output(_) => Ok(()),
+            DiskDraft::Successor(file) => file.flush(),
+            DiskDraft::InPlace(_) | DiskDraft::Output(_) => Ok(()),
         }
     }
 }

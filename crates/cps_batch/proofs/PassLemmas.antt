@@ -7,7 +7,7 @@ use Rattle.std.specs.Prelude.{flat_map, nat_eq}
 use Rattle.std.specs.Option.{option_or}
 use Rattle.cps_state.specs.declared.key.Put.{Put}
 use Rattle.cps_state.specs.Course.{Trace, unasked}
-use Rattle.cps_state.specs.Code.Sheet.{Sheet, blank_sheet, statements_on}
+use Rattle.cps_state.specs.Code.Scratch.{Scratch, blank_scratch, statements_on}
 use Rattle.cps_input.specs.Code.Parts.{RisesTo}
 use Rattle.cps_input.proofs.PartLemmas.{count-parts, parts-more, rises-more}
 use Rattle.cps_pass.specs.Expansion.{trace_of}
@@ -22,7 +22,7 @@ use Rattle.cps_list.specs.Code.Making.{Printout, IsPrintoutOf, shown}
 use Rattle.cps_list.specs.Symbols.{mentions_from, mentions_on}
 use Rattle.cps_list.proofs.PrintoutLemmas.{mentions-more, shown-more}
 use Rattle.cps_edit.specs.Assembly.{after, state_after, traces_from, traces_of, outcomes_under}
-use Rattle.cps_batch.specs.declared.passes.PassOne.{PassOne}
+use Rattle.cps_batch.specs.declared.passes.BatchPassOne.{BatchPassOne}
 use Rattle.cps_batch.specs.declared.passes.PassTwo.{PassTwo}
 use Rattle.cps_final.specs.contracts.finals.FinalsGathered.TheImpl.{gathered-value}
 use Rattle.cps_batch.specs.Code.Passes.{statements_of, AreParts, IsNext, IsPassed, IsShown}
@@ -60,16 +60,16 @@ finals-unasked traces did trace is =
       program = program-unasked traces trace i;
     })
 
-pub gathered-next : (finals : Finals) (before : List (List ℕ)) (line : List ℕ) (front : List Item) (sheet : Sheet) → IsNext before line front sheet
-    → finals ≡ finals_of (traces_of before ++ sheet.line ∷ []) → Gathers finals (traces_of (before ++ line ∷ []))
-gathered-next finals before line front sheet next gathered =
-    gathered ∙ finals-unasked (traces_of before) sheet.line next.trace next.stands.line ∙ ap finals_of (sym next.traces)
+pub gathered-next : (finals : Finals) (before : List (List ℕ)) (line : List ℕ) (front : List Item) (scratch : Scratch) → IsNext before line front scratch
+    → finals ≡ finals_of (traces_of before ++ scratch.line ∷ []) → Gathers finals (traces_of (before ++ line ∷ []))
+gathered-next finals before line front scratch next gathered =
+    gathered ∙ finals-unasked (traces_of before) scratch.line next.trace next.stands.line ∙ ap finals_of (sym next.traces)
 
 -- ---- the statements of lines, as parts of one list
 
-pub none-kept : (ends : List ℕ) (sheet : Sheet) → ends ≡ [] → sheet ≡ blank_sheet → AreParts ends (statements_on sheet) []
-none-kept ends sheet none blank =
-    subst (λ (es : List ℕ). AreParts es (statements_on sheet) []) (sym none) (subst (λ (s : Sheet). AreParts [] (statements_on s) []) (sym blank) (record { rise = refl; are = refl }))
+pub none-kept : (ends : List ℕ) (scratch : Scratch) → ends ≡ [] → scratch ≡ blank_scratch → AreParts ends (statements_on scratch) []
+none-kept ends scratch none blank =
+    subst (λ (es : List ℕ). AreParts es (statements_on scratch) []) (sym none) (subst (λ (s : Scratch). AreParts [] (statements_on s) []) (sym blank) (record { rise = refl; are = refl }))
 
 pub part-kept : (ends more : List ℕ) (front items : List Item) (parts : List (List Item)) (size : ℕ) → more ≡ ends ++ size ∷ [] → size ≡ length (front ++ items)
     → AreParts ends front parts → AreParts more (front ++ items) (parts ++ items ∷ [])
@@ -117,10 +117,10 @@ noted-more is_shown old new lines line number trace is-number more so noted fina
     ∙ ap (shown is_shown) (sym (mentions-more 1 outcomes (outcome_of (final_value finals) trace)))
     ∙ ap (λ os. shown is_shown (mentions_from 1 os)) (sym (outcomes-more finals (traces_of lines) trace) ∙ ap (outcomes_under finals) (sym more))
 
-pub passed-all : (one : PassOne) (lines : List (List ℕ)) (i : ℕ) → length lines ≤ i → IsPassed (take i lines) one → IsPassed lines one
+pub passed-all : (one : BatchPassOne) (lines : List (List ℕ)) (i : ℕ) → length lines ≤ i → IsPassed (take i lines) one → IsPassed lines one
 passed-all one lines i past so = subst (λ ls. IsPassed ls one) (take_all i lines past) so
 
-pub passed-more : (one : PassOne) (lines : List (List ℕ)) (i : ℕ) (line : List ℕ) → i < length lines → line ≡ get_or lines i line → IsPassed (take i lines ++ line ∷ []) one
+pub passed-more : (one : BatchPassOne) (lines : List (List ℕ)) (i : ℕ) (line : List ℕ) → i < length lines → line ≡ get_or lines i line → IsPassed (take i lines ++ line ∷ []) one
     → IsPassed (take (i + 1) lines) one
 passed-more one lines i line lt is so = subst (λ ls. IsPassed ls one) (ap (λ l. take i lines ++ l ∷ []) is ∙ sym (take_more lines i line lt)) so
 

@@ -2,18 +2,18 @@
 //!
 //! - `assembling.rt`: batch assembly as a whole
 //! - `fault.rt`: why a source is not assembled, or its texts not written
-//! - `pass_one.rt`: pass one of all lines
+//! - `kept_pass_one.rt`: pass one of all lines
 //! - `passes.rt`: both passes over the lines
 //! - `source.rt`: the source
 #![tactic(auto)]
 
 mod assembling;
 mod fault;
-mod pass_one;
+mod kept_pass_one;
 mod passes;
 mod source;
 
 pub use assembling::batch;
 pub use fault::BatchFault;
-pub use pass_one::PassOne;
+pub use kept_pass_one::KeptPassOne;
 pub use source::Source;

@@ -1,6 +1,6 @@
 //! The two passes of batch assembly over the lines of a source.
 ghost use Rattle.std.specs.Prelude.{◌≡◌, ℕ, List, [], ◌∷◌, ◌++◌, ◌+◌, ◌≤◌, ◌<◌, length, IfOk, OnOk};
-ghost use Rattle.cps_state.specs.Code.Sheet.{statements_on};
+ghost use Rattle.cps_state.specs.Code.Scratch.{statements_on};
 ghost use Rattle.cps_list.specs.Code.Making.{IsPrintoutOf, shows_symbols};
 ghost use Rattle.cps_list.specs.Texts.{text_of};
 ghost use Rattle.cps_edit.specs.Assembly.{assembly_of, outcomes_under, traces_of};
@@ -11,7 +11,7 @@ use cps_final::{Finals, Gather, Gathered, LineSymbols, Output};
 use cps_input::{LineText, part_at};
 use cps_list::{Mention, Part, Printout, push_mentions};
 use cps_pass::step_unasked;
-use cps_state::{Hashing, Item, Sheet, Work};
+use cps_state::{Hashing, Item, Scratch, Work};
 use cps_text::limits::MOST_LINES;
 use std::alloc::{AllocError, Global};
 use std::mem::replace;
@@ -29,55 +29,55 @@ pub fn make_part(
     requires { length lines.now ≤ MOST_LINES }
     ensures { IfOk result (λ made. (made.0.items ≡ text_of part (assembly_of lines.now)) × (made.1 ≡ flagged_lines lines.now)) }
 {
-    let mut one = PassOne::of(alloc, hashing, lines, part)?;
+    let mut one = BatchPassOne::of(alloc, hashing, lines, part)?;
     one.make_text(alloc, lines)
 }
 
 /// What pass one makes of the lines so far.
-struct PassOne {
+struct BatchPassOne {
     part: Part,
     gather: Gather,
-    /// Where the statements of each line end among those on the sheet. None: they are too many, and none is kept.
+    /// Where the statements of each line end among those on the scratch. None: they are too many, and none is kept.
     ends: Option<Vec<usize>>,
     /// How many statements and contents there are.
     count: usize,
-    sheet: Sheet,
+    scratch: Scratch,
     symbols: LineSymbols,
     mentions: Vec<Mention>,
 }
 
 // Written out, so that it is proved once.
-impl Drop for PassOne {
+impl Drop for BatchPassOne {
     fn drop(self) {
-        let PassOne {
+        let BatchPassOne {
             part: _,
             gather,
             ends,
             count: _,
-            sheet,
+            scratch,
             symbols,
             mentions,
         } = self;
         drop(gather);
         drop(ends);
-        drop(sheet);
+        drop(scratch);
         drop(symbols);
         drop(mentions);
     }
 }
 
-impl PassOne {
+impl BatchPassOne {
     /// Of no line. Takes no memory yet.
-    fn new(alloc: Global, hashing: Hashing, part: Part) -> PassOne
+    fn new(alloc: Global, hashing: Hashing, part: Part) -> BatchPassOne
         ensures passed { IsPassed [] result }
         ensures part { result.part ≡ part }
     {
-        PassOne {
+        BatchPassOne {
             part,
             gather: Gather::new(alloc, hashing),
             ends: Some(Vec::new(alloc)),
             count: 0,
-            sheet: Sheet::new(alloc),
+            scratch: Scratch::new(alloc),
             symbols: LineSymbols::new(alloc, hashing),
             mentions: Vec::new(alloc),
         }
@@ -89,12 +89,12 @@ impl PassOne {
         hashing: Hashing,
         lines: &LineText,
         part: Part,
-    ) -> Result<PassOne, AllocError>
+    ) -> Result<BatchPassOne, AllocError>
         requires { length lines.now ≤ MOST_LINES }
         ensures passed { IfOk result (IsPassed lines.now) }
         ensures part { IfOk result (λ one. one.part ≡ part) }
     {
-        let mut one = PassOne::new(alloc, hashing, part);
+        let mut one = BatchPassOne::new(alloc, hashing, part);
         for before in 0..lines.len() {
             one.take_line(alloc, before as u32 + 1, lines.line(before))?;
         }
@@ -106,17 +106,17 @@ impl PassOne {
         ensures passed { OnOk result (PassesOn line.now number self.old self.new) }
         ensures part { OnOk result (self.new.part ≡ self.old.part) }
     {
-        step_next(alloc, &mut self.sheet, &self.gather, line)?;
+        step_next(alloc, &mut self.scratch, &self.gather, line)?;
         note_symbols(
             &mut self.mentions,
             self.part.shows_symbols(),
             number,
             &mut self.symbols,
-            &self.sheet,
+            &self.scratch,
         )?;
-        self.count = counted(self.count, self.sheet.items());
-        self.gather.take(&mut self.sheet)?;
-        keep(alloc, &mut self.ends, self.count, &mut self.sheet)?;
+        self.count = counted(self.count, self.scratch.items());
+        self.gather.take(&mut self.scratch)?;
+        keep(alloc, &mut self.ends, self.count, &mut self.scratch)?;
         Ok(())
     }
 
@@ -128,7 +128,7 @@ impl PassOne {
     {
         let mentions = replace(&mut self.mentions, Vec::new(alloc));
         let printout = self.show(alloc, lines)?;
-        let finals = self.gather.finals();
+        let finals = &self.gather;
         let (text, flagged) = printout.finish(finals, finals.is_open_at_end(), mentions)?;
         Ok((text, flagged as u32))
     }
@@ -136,15 +136,15 @@ impl PassOne {
     /// What pass two shows of these lines.
     fn show(&self, alloc: Global, lines: &LineText) -> Result<Printout, AllocError>
         requires few { length lines.now ≤ MOST_LINES }
-        requires kept { AreKeptParts self.now.ends (statements_on self.now.sheet) (statements_of (traces_of lines.now)) }
-        ensures printout { IfOk result (IsPrintoutOf lines.now (outcomes_under (⟦<Gather as Gathered>⟧.gathered self.now.gather) (traces_of lines.now))) }
+        requires kept { AreKeptParts self.now.ends (statements_on self.now.scratch) (statements_of (traces_of lines.now)) }
+        ensures printout { IfOk result (IsPrintoutOf lines.now (outcomes_under (⟦<Finals as Gathered>⟧.gathered self.now.gather) (traces_of lines.now))) }
         ensures part { IfOk result (λ printout. printout.part ≡ self.now.part) }
         ensures few { IfOk result (λ printout. printout.flagged ≤ MOST_LINES) }
     {
-        let finals = self.gather.finals();
+        let finals = &self.gather;
         match &self.ends {
             Some(ends) => {
-                let items = self.sheet.all_items();
+                let items = self.scratch.all_items();
                 show_kept(alloc, self.part, lines, Statements { items, ends }, finals)
             }
             None => show_again(alloc, self.part, lines, finals),
@@ -152,20 +152,20 @@ impl PassOne {
     }
 }
 
-/// Notes the symbols of the line on a sheet, where they are shown.
+/// Notes the symbols of the line on a scratch, where they are shown.
 fn note_symbols(
     mentions: &mut Vec<Mention>,
     is_shown: bool,
     number: u32,
     symbols: &mut LineSymbols,
-    sheet: &Sheet,
+    scratch: &Scratch,
 ) -> Result<(), AllocError>
-    ensures { OnOk result (mentions.new.items ≡ mentions.old.items ++ noted is_shown number sheet.now.line) }
+    ensures { OnOk result (mentions.new.items ≡ mentions.old.items ++ noted is_shown number scratch.now.line) }
 {
     if !is_shown {
         return Ok(());
     }
-    symbols.replace(sheet.puts(), sheet.reads(), sheet.items())?;
+    symbols.replace(scratch.puts(), scratch.reads(), scratch.items())?;
     push_mentions(mentions, number, symbols.defined(), symbols.read())
 }
 
@@ -178,23 +178,23 @@ fn counted(count: usize, items: &[Item]) -> usize {
     count
 }
 
-/// Keeps the statements of the line on a sheet. Where there are too many by now, their memory goes back.
+/// Keeps the statements of the line on a scratch. Where there are too many by now, their memory goes back.
 fn keep(
     alloc: Global,
     ends: &mut Option<Vec<usize>>,
     count: usize,
-    sheet: &mut Sheet,
+    scratch: &mut Scratch,
 ) -> Result<(), AllocError>
-    ensures { OnOk result (KeepsOn ends.old ends.new sheet.old sheet.new) }
+    ensures { OnOk result (KeepsOn ends.old ends.new scratch.old scratch.new) }
 {
     if count > MOST_KEPT {
         *ends = None;
-        *sheet = Sheet::new(alloc);
+        *scratch = Scratch::new(alloc);
         return Ok(());
     }
     match ends {
-        Some(ends) => ends.push(sheet.all_items().len())?,
-        None => sheet.clear_items(),
+        Some(ends) => ends.push(scratch.all_items().len())?,
+        None => scratch.clear_items(),
     }
     Ok(())
 }
@@ -202,13 +202,13 @@ fn keep(
 /// Pass one of the line after those that were gathered, without what it asks.
 fn step_next(
     alloc: Global,
-    sheet: &mut Sheet,
+    scratch: &mut Scratch,
     gather: &Gather,
     line: &[u8],
 ) -> Result<(), AllocError>
-    ensures { OnOk result ((before : List (List ℕ)) → AreGathered before gather.now → IsNext before line.now (statements_on sheet.old) sheet.new) }
+    ensures { OnOk result ((before : List (List ℕ)) → AreGathered before gather.now → IsNext before line.now (statements_on scratch.old) scratch.new) }
 {
-    step_unasked(alloc, &mut Work::new(), sheet, line, gather.state())
+    step_unasked(alloc, &mut Work::new(), scratch, line, gather.state())
 }
 
 /// What pass two shows of the lines so far, under the final values.
@@ -318,16 +318,20 @@ fn show_again(
 /// What both passes make of the lines so far, where pass one was made before.
 struct Again<'a> {
     gather: Gather,
-    sheet: Sheet,
+    scratch: Scratch,
     two: PassTwo<'a>,
 }
 
 // Written out, as those of the passes.
 impl Drop for Again<'_> {
     fn drop(self) {
-        let Again { gather, sheet, two } = self;
+        let Again {
+            gather,
+            scratch,
+            two,
+        } = self;
         drop(gather);
-        drop(sheet);
+        drop(scratch);
         drop(two);
     }
 }
@@ -343,7 +347,7 @@ impl<'a> Again<'a> {
     {
         Again {
             gather: Gather::new(alloc, finals.hashing()),
-            sheet: Sheet::new(alloc),
+            scratch: Scratch::new(alloc),
             two: PassTwo::new(alloc, part, finals),
         }
     }
@@ -358,10 +362,10 @@ impl<'a> Again<'a> {
         ensures part { OnOk result (self.new.two.printout.part ≡ self.old.two.printout.part) }
         ensures few { OnOk result (self.new.two.printout.flagged ≤ number) }
     {
-        step_next(alloc, &mut self.sheet, &self.gather, line)?;
-        self.gather.take(&mut self.sheet)?;
-        self.two.add(number, line, self.sheet.items())?;
-        self.sheet.clear_items();
+        step_next(alloc, &mut self.scratch, &self.gather, line)?;
+        self.gather.take(&mut self.scratch)?;
+        self.two.add(number, line, self.scratch.items())?;
+        self.scratch.clear_items();
         Ok(())
     }
 }

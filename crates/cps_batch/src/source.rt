@@ -2,7 +2,7 @@
 ghost use Rattle.std.specs.Prelude.{◌≡◌, ◌≤◌, length, IfOk};
 ghost use Rattle.cps_edit.specs.Flagged.{flagged_lines as flagged_in};
 
-use crate::pass_one::PassOne;
+use crate::kept_pass_one::KeptPassOne;
 use cps_edit::flagged_lines;
 use cps_final::{Finals, Gather, Gathered, Outcome};
 use cps_list::View;
@@ -41,7 +41,7 @@ impl Model for Source {
 
     ghost view = { λ source. source.lines.items };
 
-    ghost invariant = { λ source. IsKept source.lines.items source.outcomes.items (⟦<Gather as Gathered>⟧.gathered source.gather) };
+    ghost invariant = { λ source. IsKept source.lines.items source.outcomes.items (⟦<Finals as Gathered>⟧.gathered source.gather) };
 }
 
 impl View for Source {
@@ -68,11 +68,11 @@ impl View for Source {
     }
 
     fn finals(&self) -> &Finals {
-        self.gather.finals()
+        &self.gather
     }
 
     fn open_at_end(&self) -> bool {
-        self.gather.finals().is_open_at_end()
+        self.gather.is_open_at_end()
     }
 }
 
@@ -82,7 +82,7 @@ impl Source {
         requires { length lines.items ≤ MOST_LINES }
         ensures { IfOk result (λ source. source ≡ lines.items) }
     {
-        let one = PassOne::of(alloc, hashing, &lines)?;
+        let one = KeptPassOne::of(alloc, hashing, &lines)?;
         let outcomes = one.make_outcomes(alloc)?;
         Ok(Source {
             lines,

@@ -8,7 +8,7 @@ use Rattle.std.proofs.lemmas.List.Concat.{flat_map-append}
 use Rattle.cps_state.specs.Course.{Trace}
 use Rattle.cps_state.specs.declared.key.Key.TheVariants as key
 use Rattle.cps_state.specs.declared.key.Put.{Put}
-use Rattle.cps_state.specs.declared.key.Range.{Range}
+use Rattle.cps_state.specs.declared.key.OpenRange.{OpenRange}
 use Rattle.cps_state.specs.Keys.{State, first_state, is_no_range, is_normal, is_open, mode_of, overwritten, ranges_of, with_put}
 use Rattle.cps_final.specs.Layout.{puts_of}
 use Rattle.cps_cause.specs.declared.open_now.OpenNow.{OpenNow}
@@ -49,7 +49,7 @@ count-is state opened is =
     ap (λ (n : ℕ). n + (if opened.is_held then 1 else 0)) is.ranges
     ∙ ap (λ (n : ℕ). length (ranges_of (state key.Ifs)) + n) (held-count opened.is_held (is_normal (mode_of (state key.Control))) is.held)
 
-some-open : (normal : Bool) (ranges : List Range)
+some-open : (normal : Bool) (ranges : List OpenRange)
     → nat_lt 0 (length ranges + (if normal then 0 else 1)) ≡ (not normal || not (is_no_range ranges))
 some-open true [] = refl
 some-open true (range ∷ ranges) = grind (arith, nat_tests)

@@ -1,8 +1,7 @@
 //! The fields of a statement, and where they stand.
 
 use crate::columns::Columns;
-use cps_pass::card_in;
-use cps_text::{Fields, StatementFields};
+use cps_text::{Fields, StatementFields, card_in};
 
 /// The last column, from 1, that is read.
 const LAST_COLUMN: usize = 72;

@@ -16,7 +16,7 @@ use crate::structure_fault::StructureFault;
 use crate::symbol_fault::SymbolFault;
 use crate::value_fault::ValueFault;
 use crate::width_fault::WidthFault;
-use crate::words::Words;
+use crate::wording::Wording;
 use std::alloc::{AllocError, Global};
 
 /// Why a statement has a flag. No cause names another line, so that an edit far above doesn't change it.
@@ -71,10 +71,10 @@ impl Cause {
         alloc: Global,
         quotation: Quotation<'_>,
         places: &P,
-    ) -> Result<Words, AllocError>
+    ) -> Result<Wording, AllocError>
         ensures { IfOk result (λ words. IsSentence words) }
     {
-        let mut words = Words::new(alloc);
+        let mut words = Wording::new(alloc);
         self.push_words(&mut words, quotation, places)?;
         if words.as_slice().is_empty() {
             words.push(self.letter().meaning())?;
@@ -84,7 +84,7 @@ impl Cause {
 
     fn push_words<P: Places>(
         &self,
-        text: &mut Words,
+        text: &mut Wording,
         quotation: Quotation<'_>,
         places: &P,
     ) -> Result<(), AllocError> {

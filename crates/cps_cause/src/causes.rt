@@ -13,7 +13,7 @@ use crate::unreadable::find_unreadable;
 use crate::values_later::find_later;
 use crate::values_now::find_now;
 use cps_expr::Operation;
-use cps_pass::{Stating, read_stating};
+use cps_pass::{Reading, read_operation};
 use cps_state::{Mode, Phase, Recorder};
 use cps_text::{Fields, StatementFields};
 use std::alloc::AllocError;
@@ -63,15 +63,15 @@ fn find_assembled(
     fields: StatementFields<'_>,
 ) -> Result<(), AllocError> {
     let control = statement.control;
-    let stating = read_stating(
+    let reading = read_operation(
         recorder.alloc(),
         fields.operation,
         fields.tail,
         control.machine,
         control.radix,
     )?;
-    let found = find_stated(recorder, findings, statement, &stating);
-    drop(stating);
+    let found = find_stated(recorder, findings, statement, &reading);
+    drop(reading);
     found
 }
 
@@ -80,13 +80,13 @@ fn find_stated(
     recorder: &mut Recorder<'_, Asks>,
     findings: &mut Findings,
     statement: &FlaggedStatement<'_>,
-    stating: &Stating,
+    reading: &Reading,
 ) -> Result<(), AllocError> {
-    find_operation(findings, statement, stating)?;
-    find_location(findings, statement, stating)?;
+    find_operation(findings, statement, reading)?;
+    find_location(findings, statement, reading)?;
     find_definition(recorder, findings, statement)?;
-    find_structure(recorder, findings, statement, stating)?;
-    find_in_operands(recorder, findings, statement, stating)?;
+    find_structure(recorder, findings, statement, reading)?;
+    find_in_operands(recorder, findings, statement, reading)?;
     find_later(recorder.alloc(), findings, statement)
 }
 
@@ -94,18 +94,18 @@ fn find_in_operands(
     recorder: &mut Recorder<'_, Asks>,
     findings: &mut Findings,
     statement: &FlaggedStatement<'_>,
-    stating: &Stating,
+    reading: &Reading,
 ) -> Result<(), AllocError> {
     let alloc = recorder.alloc();
-    match stating {
-        Stating::Missing | Stating::Unknown(None) => Ok(()),
-        Stating::Unknown(Some(name)) => find_call(recorder, findings, statement, *name),
-        Stating::Stated(stated) => find_now(recorder, findings, statement, stated.row()),
-        Stating::Unreadable(operation) => {
+    match reading {
+        Reading::Missing | Reading::Unknown(None) => Ok(()),
+        Reading::Unknown(Some(name)) => find_call(recorder, findings, statement, *name),
+        Reading::Stated(stated) => find_now(recorder, findings, statement, stated.row()),
+        Reading::Unreadable(operation) => {
             find_unreadable(alloc, findings, statement, *operation)
         }
-        Stating::Instruction(None) => find_central(alloc, findings, statement),
-        Stating::Peripheral(None) => find_peripheral(alloc, findings, statement),
-        Stating::Instruction(Some(_)) | Stating::Peripheral(Some(_)) => Ok(()),
+        Reading::Instruction(None) => find_central(alloc, findings, statement),
+        Reading::Peripheral(None) => find_peripheral(alloc, findings, statement),
+        Reading::Instruction(Some(_)) | Reading::Peripheral(Some(_)) => Ok(()),
     }
 }

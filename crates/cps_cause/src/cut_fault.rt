@@ -1,6 +1,6 @@
 //! Why a value has flag T.
 
-use crate::words::{Words, push_number};
+use crate::wording::{Wording, push_number};
 use std::alloc::AllocError;
 
 /// The bits of a central processor's word.
@@ -16,7 +16,7 @@ pub struct CutFault {
 
 impl CutFault {
     /// Appends the words.
-    pub(crate) fn push_words(self, text: &mut Words) -> Result<(), AllocError> {
+    pub(crate) fn push_words(self, text: &mut Wording) -> Result<(), AllocError> {
         let width = i64::from(self.width);
         let bits: &[u8] = if width == 1 { b" bit (" } else { b" bits (" };
         push_number(text, b"the value ", self.value, b" doesn't fit ")?;

@@ -1,6 +1,6 @@
 //! Why a symbol has flag D.
 use crate::places::Places;
-use crate::words::{Words, push_line, push_quoted};
+use crate::wording::{Wording, push_line, push_quoted};
 use cps_text::Name;
 use std::alloc::AllocError;
 
@@ -19,7 +19,7 @@ impl DefinitionFault {
     /// Appends the words.
     pub(crate) fn push_words<P: Places>(
         self,
-        text: &mut Words,
+        text: &mut Wording,
         places: &P,
     ) -> Result<(), AllocError> {
         match self {
@@ -43,7 +43,7 @@ impl DefinitionFault {
 
 /// Appends that a symbol keeps its value, and from which line it has it.
 fn push_kept<P: Places>(
-    text: &mut Words,
+    text: &mut Wording,
     name: Name,
     value: &[u8],
     places: &P,

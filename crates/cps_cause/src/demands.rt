@@ -1,7 +1,7 @@
 //! Expressions that are valued as a statement is read, and what the statement takes.
 
 use crate::operands::PlacedText;
-use cps_expr::{DisText, Expr, Field, Row};
+use cps_expr::{DisText, Expr, Field, Pseudo};
 use cps_text::limits::{MOST_BODY_LINES, MOST_COUNTED_LINES, MOST_COUNTED_WORDS};
 use std::alloc::{AllocError, Global};
 
@@ -32,30 +32,30 @@ pub struct DemandedValue<'a> {
 /// What a statement values as it is read, in the order of its operands.
 pub fn list_demands<'a>(
     alloc: Global,
-    row: &'a Row,
+    row: &'a Pseudo,
     operands: &[PlacedText<'a>],
 ) -> Result<Vec<DemandedValue<'a>>, AllocError> {
     let mut list = Vec::new(alloc);
     match row {
-        Row::Equate(operand) | Row::Set(operand) => {
+        Pseudo::Equate(operand) | Pseudo::Set(operand) => {
             push_demand(&mut list, operand, operands.first(), Demand::Any)?;
         }
-        Row::Org(operand) => push_demand(&mut list, operand, operands.first(), Demand::Address)?,
-        Row::Bss(operand) | Row::Bssz(operand) => {
+        Pseudo::Org(operand) => push_demand(&mut list, operand, operands.first(), Demand::Address)?,
+        Pseudo::Bss(operand) | Pseudo::Bssz(operand) => {
             push_demand(&mut list, operand, operands.first(), Demand::Words)?;
         }
-        Row::Dis(DisText::Counted(count, _)) => {
+        Pseudo::Dis(DisText::Counted(count, _)) => {
             let words = Demand::Between(1, u32::from(MOST_COUNTED_WORDS));
             push_demand(&mut list, count, operands.first(), words)?;
         }
-        Row::Vfd(fields) => demand_widths(&mut list, fields.as_slice(), operands)?,
-        Row::Compare(test) => {
+        Pseudo::Vfd(fields) => demand_widths(&mut list, fields.as_slice(), operands)?,
+        Pseudo::Compare(test) => {
             push_demand(&mut list, &test.left, operands.first(), Demand::Any)?;
             push_demand(&mut list, &test.right, operands.get(1), Demand::Any)?;
             demand_lines(&mut list, &test.lines, operands.get(2), counted_lines())?;
         }
-        Row::If(test) => demand_lines(&mut list, &test.lines, operands.get(2), counted_lines())?,
-        Row::Dup(repetition) => {
+        Pseudo::If(test) => demand_lines(&mut list, &test.lines, operands.get(2), counted_lines())?,
+        Pseudo::Dup(repetition) => {
             push_demand(
                 &mut list,
                 &repetition.count,

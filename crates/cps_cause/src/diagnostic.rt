@@ -6,7 +6,7 @@ use crate::cause::Cause;
 use crate::columns::Columns;
 use crate::places::Places;
 use crate::quotation::Quotation;
-use crate::words::Words;
+use crate::wording::Wording;
 use cps_state::Shared;
 use std::alloc::{AllocError, Global};
 
@@ -44,7 +44,7 @@ impl Diagnostic {
         alloc: Global,
         line: &[u8],
         places: &P,
-    ) -> Result<Words, AllocError>
+    ) -> Result<Wording, AllocError>
         ensures { IfOk result (λ words. IsSentence words) }
     {
         let statement = self.statement.as_slice();

@@ -42,7 +42,7 @@
 //! - `values_now.rt`: values that a statement takes as it is read
 //! - `walk.rt`: the statements of a line once more, over what the line asked
 //! - `width_fault.rt`: V
-//! - `words.rt`: words that tell something, in one row
+//! - `wording.rt`: words that tell something, in one row
 #![tactic(auto)]
 
 mod asks;
@@ -87,31 +87,14 @@ mod values_later;
 mod values_now;
 mod walk;
 mod width_fault;
-mod words;
+mod wording;
 
 pub use card::{Card, filled_columns, filled_len};
-pub use cause::Cause;
 pub use columns::Columns;
-pub use cut_fault::CutFault;
-pub use definition_fault::DefinitionFault;
 pub use diagnostic::Diagnostic;
 pub use explaining::{explain, explain_end};
-pub use findings::{Findings, Subject};
-pub use forms::{find_central, find_peripheral};
 pub use letter::Letter;
-pub use limit_fault::{FarAddress, LimitFault};
-pub use location_fault::LocationFault;
-pub use misreading::Misreading;
 pub use opener::{LinesAbove, line_of_opener, opener_of};
-pub use operand_fault::OperandFault;
-pub use operands::{PlacedText, list_operands};
-pub use operation_fault::OperationFault;
 pub use places::Places;
 pub use quotation::Quotation;
-pub use statement::FlaggedStatement;
-pub use structure_fault::{OpenSpan, StructureFault};
-pub use symbol_fault::SymbolFault;
-pub use unreadable::{MANY, find_count, find_parameters, find_unreadable};
-pub use value_fault::{Bounds, ValueFault};
-pub use width_fault::WidthFault;
-pub use words::{Words, push_cleaned};
+pub use wording::{Wording, push_cleaned};

@@ -1,7 +1,7 @@
 //! Why a statement passes a limit.
 
 use crate::quotation::Quotation;
-use crate::words::{Words, push_number, push_quoted};
+use crate::wording::{Wording, push_number, push_quoted};
 use cps_expr::Operation;
 use cps_text::limits::{
     DEEPEST, MOST_BLOCKS, MOST_BODY_LINES, MOST_CHARACTERS, MOST_GENERATED, MOST_RANGES,
@@ -51,7 +51,7 @@ impl LimitFault {
     /// Appends the words.
     pub(crate) fn push_words(
         self,
-        text: &mut Words,
+        text: &mut Wording,
         quotation: Quotation<'_>,
     ) -> Result<(), AllocError> {
         match self {
@@ -106,19 +106,19 @@ impl LimitFault {
 }
 
 /// Appends that an address is past so many words.
-fn push_origin(text: &mut Words, shown: &[u8], words: u32) -> Result<(), AllocError> {
+fn push_origin(text: &mut Wording, shown: &[u8], words: u32) -> Result<(), AllocError> {
     push_number(text, b"the machine has ", i64::from(words), b" words, and ")?;
     push_quoted(text, b"", shown, b" is past them")
 }
 
 /// Appends that a named block would be one too many.
-fn push_blocks(text: &mut Words, shown: &[u8]) -> Result<(), AllocError> {
+fn push_blocks(text: &mut Wording, shown: &[u8]) -> Result<(), AllocError> {
     push_quoted(text, b"", shown, b" would be a named block more than ")?;
     push_number(text, b"", i64::from(MOST_BLOCKS), b", the most")
 }
 
 /// Appends that lines would be repeated too often.
-fn push_times(text: &mut Words, times: i64) -> Result<(), AllocError> {
+fn push_times(text: &mut Wording, times: i64) -> Result<(), AllocError> {
     push_number(
         text,
         b"lines are repeated ",
@@ -129,7 +129,7 @@ fn push_times(text: &mut Words, times: i64) -> Result<(), AllocError> {
 }
 
 /// Appends that a statement has too many characters.
-fn push_characters(text: &mut Words, count: usize) -> Result<(), AllocError> {
+fn push_characters(text: &mut Wording, count: usize) -> Result<(), AllocError> {
     let count = i64::try_from(count).unwrap_or(0);
     push_number(
         text,
@@ -141,7 +141,7 @@ fn push_characters(text: &mut Words, count: usize) -> Result<(), AllocError> {
 }
 
 /// Appends that a body with too many lines is dropped.
-fn push_body(text: &mut Words, operation: &[u8]) -> Result<(), AllocError> {
+fn push_body(text: &mut Wording, operation: &[u8]) -> Result<(), AllocError> {
     push_number(
         text,
         b"more than ",
@@ -155,7 +155,7 @@ fn push_body(text: &mut Words, operation: &[u8]) -> Result<(), AllocError> {
 }
 
 impl FarAddress {
-    fn push_words(self, text: &mut Words, before: &[u8]) -> Result<(), AllocError> {
+    fn push_words(self, text: &mut Wording, before: &[u8]) -> Result<(), AllocError> {
         let address = i64::try_from(self.address).unwrap_or(0);
         push_number(
             text,

@@ -2,7 +2,7 @@
 
 use crate::no_symbol::push_no_symbol;
 use crate::quotation::Quotation;
-use crate::words::{Words, push_quoted};
+use crate::wording::{Wording, push_quoted};
 use std::alloc::AllocError;
 
 /// What is wrong with a location field.
@@ -26,7 +26,7 @@ impl LocationFault {
     /// Appends the words.
     pub(crate) fn push_words(
         self,
-        text: &mut Words,
+        text: &mut Wording,
         quotation: Quotation<'_>,
     ) -> Result<(), AllocError> {
         let operation = quotation.operation;
@@ -68,7 +68,7 @@ impl LocationFault {
 }
 
 /// Appends what stands in the place of a symbol, if something does.
-fn push_instead(text: &mut Words, location: &[u8]) -> Result<(), AllocError> {
+fn push_instead(text: &mut Wording, location: &[u8]) -> Result<(), AllocError> {
     match location {
         [] => Ok(()),
         [b'+' | b'-'] => push_quoted(text, b", and not ", location, b""),

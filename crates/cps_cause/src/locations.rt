@@ -10,7 +10,7 @@ use crate::operation_fault::OperationFault;
 use crate::statement::FlaggedStatement;
 use cps_code::is_builtin;
 use cps_expr::{Machine, Operation};
-use cps_pass::{Location, Stating, ask_value};
+use cps_pass::{Location, Reading, ask_value};
 use cps_state::{Key, Lookup, Recorder};
 use cps_text::Name;
 use std::alloc::AllocError;
@@ -19,13 +19,13 @@ use std::alloc::AllocError;
 pub fn find_location(
     findings: &mut Findings,
     statement: &FlaggedStatement<'_>,
-    stating: &Stating,
+    reading: &Reading,
 ) -> Result<(), AllocError> {
-    let fault = match stating {
-        Stating::Missing => return Ok(()),
-        Stating::Unknown(_) => LocationFault::OfCall,
-        Stating::Instruction(_) | Stating::Peripheral(_) => LocationFault::NoSymbol,
-        Stating::Stated(_) | Stating::Unreadable(_) => {
+    let fault = match reading {
+        Reading::Missing => return Ok(()),
+        Reading::Unknown(_) => LocationFault::OfCall,
+        Reading::Instruction(_) | Reading::Peripheral(_) => LocationFault::NoSymbol,
+        Reading::Stated(_) | Reading::Unreadable(_) => {
             fault_of(Operation::named(statement.card.operation_text()), statement)
         }
     };
@@ -83,14 +83,14 @@ pub fn find_definition(
 pub fn find_operation(
     findings: &mut Findings,
     statement: &FlaggedStatement<'_>,
-    stating: &Stating,
+    reading: &Reading,
 ) -> Result<(), AllocError> {
-    match stating {
-        Stating::Missing => findings.add(
+    match reading {
+        Reading::Missing => findings.add(
             Cause::Operation(OperationFault::Missing),
             statement.card.location_or_operation(),
         ),
-        Stating::Unknown(name) => findings.add(
+        Reading::Unknown(name) => findings.add(
             Cause::Operation(unknown_operation(statement, *name)),
             statement.card.operation_or_all(),
         ),

@@ -1,6 +1,6 @@
 //! Why a text is no expression.
 
-use crate::words::{Words, push_quoted};
+use crate::wording::{Wording, push_quoted};
 use std::alloc::AllocError;
 
 /// What makes a text no expression.
@@ -26,7 +26,7 @@ pub enum Misreading {
 
 impl Misreading {
     /// Appends the words.
-    pub(crate) fn push_words(self, text: &mut Words, shown: &[u8]) -> Result<(), AllocError> {
+    pub(crate) fn push_words(self, text: &mut Wording, shown: &[u8]) -> Result<(), AllocError> {
         if let Misreading::Empty = self {
             return text.push(b"an operand is empty");
         }

@@ -1,6 +1,6 @@
 //! Why a text is no symbol.
 
-use crate::words::{Words, push_quoted};
+use crate::wording::{Wording, push_quoted};
 use cps_text::capital;
 use std::alloc::AllocError;
 
@@ -8,7 +8,7 @@ use std::alloc::AllocError;
 const LONGEST: usize = 8;
 
 /// Appends that a text is no symbol, and why.
-pub fn push_no_symbol(text: &mut Words, written: &[u8]) -> Result<(), AllocError> {
+pub fn push_no_symbol(text: &mut Wording, written: &[u8]) -> Result<(), AllocError> {
     push_quoted(text, written, b" is no symbol: ", reason(written))
 }
 

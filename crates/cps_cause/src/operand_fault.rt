@@ -2,7 +2,7 @@
 use crate::misreading::Misreading;
 use crate::no_symbol::push_no_symbol;
 use crate::quotation::Quotation;
-use crate::words::{Words, push_number, push_quoted};
+use crate::wording::{Wording, push_number, push_quoted};
 use cps_expr::Operation;
 use std::alloc::AllocError;
 
@@ -53,7 +53,7 @@ impl OperandFault {
     /// Appends the words.
     pub(crate) fn push_words(
         self,
-        text: &mut Words,
+        text: &mut Wording,
         quotation: Quotation<'_>,
     ) -> Result<(), AllocError> {
         let shown = quotation.shown;
@@ -104,7 +104,7 @@ impl OperandFault {
 }
 
 /// Appends that an operand is missing.
-fn push_missing(text: &mut Words, quotation: Quotation<'_>) -> Result<(), AllocError> {
+fn push_missing(text: &mut Wording, quotation: Quotation<'_>) -> Result<(), AllocError> {
     let missing: &[u8] = if quotation.shown == quotation.operation {
         b", and none stands here"
     } else {
@@ -118,7 +118,7 @@ fn push_missing(text: &mut Words, quotation: Quotation<'_>) -> Result<(), AllocE
 }
 
 /// Appends that there are more operands than an operation has.
-fn push_too_many(text: &mut Words, operation: &[u8]) -> Result<(), AllocError> {
+fn push_too_many(text: &mut Wording, operation: &[u8]) -> Result<(), AllocError> {
     match Operation::named(operation) {
         Some(_) => push_rule(text, operation, b", and no more"),
         None => push_quoted(text, b"", operation, b" takes fewer operands"),
@@ -126,7 +126,7 @@ fn push_too_many(text: &mut Words, operation: &[u8]) -> Result<(), AllocError> {
 }
 
 /// Appends what operands an operation takes.
-fn push_rule(text: &mut Words, operation: &[u8], behind: &[u8]) -> Result<(), AllocError> {
+fn push_rule(text: &mut Wording, operation: &[u8], behind: &[u8]) -> Result<(), AllocError> {
     push_quoted(text, b"", operation, b" takes ")?;
     push_quoted(text, b"", rule_of(operation), behind)
 }
@@ -150,7 +150,7 @@ fn rule_of(operation: &[u8]) -> &'static [u8] {
 }
 
 /// Appends that a call has too many arguments for so many parameters.
-fn push_arguments(text: &mut Words, count: usize) -> Result<(), AllocError> {
+fn push_arguments(text: &mut Wording, count: usize) -> Result<(), AllocError> {
     let number = i64::try_from(count).unwrap_or(0);
     let behind: &[u8] = if count == 1 {
         b" parameter, and arguments are too many from here on"

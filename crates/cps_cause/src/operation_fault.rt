@@ -1,7 +1,7 @@
 //! Why an operation field has flag O.
 
 use crate::quotation::Quotation;
-use crate::words::{Words, push_quoted};
+use crate::wording::{Wording, push_quoted};
 use std::alloc::AllocError;
 
 /// What is wrong with an operation field.
@@ -25,7 +25,7 @@ impl OperationFault {
     /// Appends the words.
     pub(crate) fn push_words(
         self,
-        text: &mut Words,
+        text: &mut Wording,
         quotation: Quotation<'_>,
     ) -> Result<(), AllocError> {
         push_quoted(text, self.front(), quotation.shown, self.rest())

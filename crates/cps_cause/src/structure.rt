@@ -8,9 +8,9 @@ use crate::limit_fault::LimitFault;
 use crate::location_fault::LocationFault;
 use crate::statement::FlaggedStatement;
 use crate::structure_fault::{OpenSpan, StructureFault};
-use cps_expr::{Operation, Row};
-use cps_pass::Stating;
-use cps_state::{DupBody, Extent, Kept, Key, Mode, Phase, Range, Recorder, ranges_of};
+use cps_expr::{Operation, Pseudo};
+use cps_pass::Reading;
+use cps_state::{DupBody, Extent, KeptLines, Key, Mode, OpenRange, Phase, Recorder, ranges_of};
 use cps_text::limits::{MOST_BODY_LINES, MOST_CHARACTERS};
 use std::alloc::AllocError;
 
@@ -19,13 +19,13 @@ pub fn find_structure(
     recorder: &mut Recorder<'_, Asks>,
     findings: &mut Findings,
     statement: &FlaggedStatement<'_>,
-    stating: &Stating,
+    reading: &Reading,
 ) -> Result<(), AllocError> {
     if !findings.wants(Letter::E) {
         return Ok(());
     }
-    let operation = match stating {
-        Stating::Stated(_) | Stating::Unreadable(_) => {
+    let operation = match reading {
+        Reading::Stated(_) | Reading::Unreadable(_) => {
             Operation::named(statement.card.operation_text())
         }
         _ => None,
@@ -44,7 +44,7 @@ pub fn find_structure(
         Some(Operation::Endm | Operation::Macro | Operation::End) => {
             Some(Cause::Structure(StructureFault::InExpansion))
         }
-        Some(Operation::Use) => return find_new_block(findings, statement, stating),
+        Some(Operation::Use) => return find_new_block(findings, statement, reading),
         _ => None,
     };
     match cause {
@@ -57,11 +57,11 @@ pub fn find_structure(
 fn find_new_block(
     findings: &mut Findings,
     statement: &FlaggedStatement<'_>,
-    stating: &Stating,
+    reading: &Reading,
 ) -> Result<(), AllocError> {
-    match stating {
-        Stating::Stated(stated) => match stated.row() {
-            Row::Use(_) => findings.add(
+    match reading {
+        Reading::Stated(stated) => match stated.row() {
+            Pseudo::Use(_) => findings.add(
                 Cause::Limit(LimitFault::Blocks),
                 statement.card.variable(),
             ),
@@ -100,7 +100,7 @@ fn else_fault(
     let known = recorder.note(Key::Ifs)?;
     let ranges = ranges_of(recorder.answer(known))?;
     let fault = match ranges.as_slice() {
-        [Range::BehindElse, ..] => StructureFault::SecondElse,
+        [OpenRange::BehindElse, ..] => StructureFault::SecondElse,
         _ => StructureFault::NoRange,
     };
     Ok(Some(Cause::Structure(fault)))
@@ -178,7 +178,7 @@ pub fn find_unassembled(
 fn find_kept_for_macro(
     findings: &mut Findings,
     statement: &FlaggedStatement<'_>,
-    kept: Kept,
+    kept: KeptLines,
 ) -> Result<(), AllocError> {
     let cause = match Operation::named(statement.card.operation_text()) {
         Some(Operation::Endm) => Cause::Limit(LimitFault::Body),
@@ -218,7 +218,7 @@ fn closes(statement: &FlaggedStatement<'_>, extent: Extent) -> bool {
     }
 }
 
-fn find_line_not_kept(findings: &mut Findings, kept: Kept) -> Result<(), AllocError> {
+fn find_line_not_kept(findings: &mut Findings, kept: KeptLines) -> Result<(), AllocError> {
     if kept.lines < MOST_BODY_LINES {
         return Ok(());
     }

@@ -2,7 +2,7 @@
 
 use crate::places::Places;
 use crate::quotation::Quotation;
-use crate::words::{Words, push_line, push_quoted};
+use crate::wording::{Wording, push_line, push_quoted};
 use std::alloc::AllocError;
 
 /// What is wrong with where a statement stands.
@@ -61,7 +61,7 @@ impl StructureFault {
     /// Appends the words.
     pub(crate) fn push_words<P: Places>(
         self,
-        text: &mut Words,
+        text: &mut Wording,
         quotation: Quotation<'_>,
         places: &P,
     ) -> Result<(), AllocError> {

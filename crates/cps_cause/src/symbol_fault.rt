@@ -1,6 +1,6 @@
 //! Why a symbol has flag U.
 use crate::places::Places;
-use crate::words::{Words, push_line, push_quoted};
+use crate::wording::{Wording, push_line, push_quoted};
 use cps_text::Name;
 use std::alloc::AllocError;
 
@@ -21,7 +21,7 @@ impl SymbolFault {
     /// Appends the words.
     pub(crate) fn push_words<P: Places>(
         self,
-        text: &mut Words,
+        text: &mut Wording,
         places: &P,
     ) -> Result<(), AllocError> {
         match self {
@@ -57,7 +57,7 @@ const NEEDED: &[u8] = b" a value, and it must have one here";
 const COUNTED: &[u8] = b" a value; it counts as 0";
 
 fn push_undefined(
-    text: &mut Words,
+    text: &mut Wording,
     front: &[u8],
     name: Name,
     rest: &[u8],

@@ -1,6 +1,6 @@
 //! Why a value has flag A.
 use crate::quotation::Quotation;
-use crate::words::{Words, push_number, push_quoted};
+use crate::wording::{Wording, push_number, push_quoted};
 use cps_text::Name;
 use std::alloc::AllocError;
 
@@ -36,7 +36,7 @@ impl ValueFault {
     /// Appends the words.
     pub(crate) fn push_words(
         self,
-        text: &mut Words,
+        text: &mut Wording,
         quotation: Quotation<'_>,
     ) -> Result<(), AllocError> {
         let shown = quotation.shown;
@@ -70,7 +70,7 @@ const NO_VALUE: &[u8] =
     b" has no value: it is past 2^59 - 1, or what it makes of addresses in blocks is no address";
 
 /// Appends that a count is below 0; of a left shift with what shifts to the right as far.
-fn push_count(text: &mut Words, operation: &[u8], value: i64) -> Result<(), AllocError> {
+fn push_count(text: &mut Wording, operation: &[u8], value: i64) -> Result<(), AllocError> {
     push_number(
         text,
         b"a count is 0 or more, and not ",
@@ -92,7 +92,7 @@ fn push_count(text: &mut Words, operation: &[u8], value: i64) -> Result<(), Allo
 }
 
 /// Appends that a target is too far away.
-fn push_distance(text: &mut Words, distance: i64) -> Result<(), AllocError> {
+fn push_distance(text: &mut Wording, distance: i64) -> Result<(), AllocError> {
     push_number(
         text,
         b"the target is ",
@@ -102,7 +102,7 @@ fn push_distance(text: &mut Words, distance: i64) -> Result<(), AllocError> {
 }
 
 impl Bounds {
-    fn push_words(self, text: &mut Words) -> Result<(), AllocError> {
+    fn push_words(self, text: &mut Wording) -> Result<(), AllocError> {
         push_number(text, b"", self.value, b" is not from ")?;
         push_number(text, b"", i64::from(self.least), b" to ")?;
         push_number(text, b"", i64::from(self.most), b"")

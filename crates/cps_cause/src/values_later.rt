@@ -11,7 +11,7 @@ use crate::symbol_fault::SymbolFault;
 use crate::value_fault::ValueFault;
 use cps_code::{Hole, HoleKind, Operand, fits_width};
 use cps_expr::{Expr, Machine, Operation, Value, is_same_name};
-use cps_final::Standing;
+use cps_final::PlacedStatement;
 use cps_state::{Content, InstructionForm, Shown, limit_of};
 use cps_text::Name;
 use std::alloc::{AllocError, Global};
@@ -42,23 +42,23 @@ pub fn find_later(
 ) -> Result<(), AllocError> {
     find_far_rows(findings, statement)?;
     let operands = list_operands(alloc, &statement.card)?;
-    let standing = Standing::of(statement.item, statement.finals);
+    let placed = PlacedStatement::of(statement.item, statement.finals);
     for (at, content) in statement.item.made.contents().iter().enumerate() {
         let part = operands.get(at).copied();
         match content {
             Content::Instruction(form) => {
-                find_in_instruction(findings, statement, &standing, form, &operands)?;
+                find_in_instruction(findings, statement, &placed, form, &operands)?;
             }
             Content::Value(width, expression) => {
                 let part = value_part(statement, part);
                 let field = field_of(statement, expression, Some(*width), part);
-                find_in_field(findings, statement, &standing, field)?;
+                find_in_field(findings, statement, &placed, field)?;
             }
             Content::Number(..) => {}
             Content::Unsized(expression) => {
                 let part = value_part(statement, part);
                 let field = field_of(statement, expression, None, part);
-                find_in_field(findings, statement, &standing, field)?;
+                find_in_field(findings, statement, &placed, field)?;
             }
         }
     }
@@ -105,7 +105,7 @@ fn columns_of(statement: &FlaggedStatement<'_>, part: Option<PlacedText<'_>>) ->
 fn find_in_instruction(
     findings: &mut Findings,
     statement: &FlaggedStatement<'_>,
-    standing: &Standing<'_>,
+    placed: &PlacedStatement<'_>,
     form: &InstructionForm,
     operands: &[PlacedText<'_>],
 ) -> Result<(), AllocError> {
@@ -115,7 +115,7 @@ fn find_in_instruction(
             Machine::Cp => operands.last().copied(),
             Machine::Pp => operands.get(at).copied(),
         };
-        find_in_hole(findings, statement, standing, hole, part)?;
+        find_in_hole(findings, statement, placed, hole, part)?;
     }
     Ok(())
 }
@@ -123,7 +123,7 @@ fn find_in_instruction(
 fn find_in_hole(
     findings: &mut Findings,
     statement: &FlaggedStatement<'_>,
-    standing: &Standing<'_>,
+    placed: &PlacedStatement<'_>,
     hole: &Hole,
     part: Option<PlacedText<'_>>,
 ) -> Result<(), AllocError> {
@@ -131,25 +131,25 @@ fn find_in_hole(
         Operand::Expression(expression) => {
             let mut field = field_of(statement, expression, Some(hole.width), part);
             field.kind = hole.kind;
-            find_in_field(findings, statement, standing, field)
+            find_in_field(findings, statement, placed, field)
         }
         Operand::Literal(word) => {
             let columns = columns_of(statement, part);
-            find_in_literal(findings, standing, *word, hole.width, columns)
+            find_in_literal(findings, placed, *word, hole.width, columns)
         }
     }
 }
 
 fn find_in_literal(
     findings: &mut Findings,
-    standing: &Standing<'_>,
+    placed: &PlacedStatement<'_>,
     word: u64,
     width: u8,
     columns: Columns,
 ) -> Result<(), AllocError> {
-    let address = standing.literal_address(word);
-    if standing.is_far_literal(word) {
-        let words = limit_of(standing.machine());
+    let address = placed.literal_address(word);
+    if placed.is_far_literal(word) {
+        let words = limit_of(placed.machine());
         let place = FarAddress { address, words };
         findings.add(Cause::Limit(LimitFault::Literal(place)), columns)?;
     }
@@ -160,10 +160,10 @@ fn find_in_literal(
 fn find_in_field(
     findings: &mut Findings,
     statement: &FlaggedStatement<'_>,
-    standing: &Standing<'_>,
+    placed: &PlacedStatement<'_>,
     field: FieldValue<'_>,
 ) -> Result<(), AllocError> {
-    let valued = standing.value(field.expression);
+    let valued = placed.value(field.expression);
     if valued.undefined {
         find_undefined(findings, statement, field)?;
     }
@@ -190,7 +190,7 @@ fn find_in_field(
         ),
         HoleKind::Count => find_cut(findings, number, width, field.columns),
         HoleKind::Target => {
-            let here = i64::try_from(standing.here()).unwrap_or(0);
+            let here = i64::try_from(placed.here()).unwrap_or(0);
             find_far(findings, number.saturating_sub(here), field.columns)
         }
     }

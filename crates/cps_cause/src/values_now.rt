@@ -11,7 +11,7 @@ use crate::symbol_fault::SymbolFault;
 use crate::symbols_now::SymbolsNow;
 use crate::value_fault::{Bounds, ValueFault};
 use crate::width_fault::WidthFault;
-use cps_expr::{Comparison, Expr, Row, Value};
+use cps_expr::{Expr, Pseudo, Value, ValueTest};
 use cps_final::Finals;
 use cps_pass::{Location, ValueNow, stand, value_here};
 use cps_state::{Recorder, is_same_block, limit_of};
@@ -27,7 +27,7 @@ pub fn find_now(
     recorder: &mut Recorder<'_, Asks>,
     findings: &mut Findings,
     statement: &FlaggedStatement<'_>,
-    row: &Row,
+    row: &Pseudo,
 ) -> Result<(), AllocError> {
     let operands = list_operands(recorder.alloc(), &statement.card)?;
     let demands = list_demands(recorder.alloc(), row, &operands)?;
@@ -35,8 +35,8 @@ pub fn find_now(
         let here = here_for(recorder, statement, row, demanded)?;
         find_in_demanded(recorder, findings, statement, demanded, here)?;
     }
-    if let Row::Compare(test) = row {
-        let operands = Sides {
+    if let Pseudo::Compare(test) = row {
+        let operands = ComparedOperands {
             left: operands.first().copied(),
             right: operands.get(1).copied(),
         };
@@ -49,7 +49,7 @@ pub fn find_now(
 fn here_for(
     recorder: &mut Recorder<'_, Asks>,
     statement: &FlaggedStatement<'_>,
-    row: &Row,
+    row: &Pseudo,
     demanded: &DemandedValue<'_>,
 ) -> Result<Value, AllocError> {
     if !demanded.expression.has_counter() {
@@ -57,8 +57,8 @@ fn here_for(
     }
     let place = stand(recorder, statement.control)?;
     let leaves = match row {
-        Row::Org(_) | Row::Bss(_) | Row::Bssz(_) | Row::Dis(_) => true,
-        Row::Vfd(_) => forces(statement.location(), place.is_pending),
+        Pseudo::Org(_) | Pseudo::Bss(_) | Pseudo::Bssz(_) | Pseudo::Dis(_) => true,
+        Pseudo::Vfd(_) => forces(statement.location(), place.is_pending),
         _ => false,
     };
     let words = if leaves && place.used > 0 { 1 } else { 0 };
@@ -184,7 +184,7 @@ fn unfit_width(value: Value) -> Option<Cause> {
 
 /// The two operands that an IF compares.
 #[derive(Clone, Copy)]
-struct Sides<'a> {
+struct ComparedOperands<'a> {
     left: Option<PlacedText<'a>>,
     right: Option<PlacedText<'a>>,
 }
@@ -194,8 +194,8 @@ fn find_incomparable(
     recorder: &mut Recorder<'_, Asks>,
     findings: &mut Findings,
     statement: &FlaggedStatement<'_>,
-    test: &Comparison,
-    sides: Sides<'_>,
+    test: &ValueTest,
+    sides: ComparedOperands<'_>,
 ) -> Result<(), AllocError> {
     let (Some(left), Some(right)) = (sides.left, sides.right) else {
         return Ok(());

@@ -15,7 +15,7 @@ use crate::structure_fault::StructureFault;
 use crate::unreadable::{MANY, find_count, find_parameters};
 use cps_final::{Finals, Output, flags_of};
 use cps_pass::{Body, Opened, Own, Repeated, Scope, insert_all, name_all, step_statement};
-use cps_state::{Item, Key, Mode, Recorder, Shared, Sheet, Trace, control_of, mode_of};
+use cps_state::{Item, Key, Mode, Recorder, Scratch, Shared, Trace, control_of, mode_of};
 use cps_text::limits::{DEEPEST, MOST_STATEMENTS};
 use cps_text::{Line, Name, Substitutes};
 use std::alloc::{AllocError, Global};
@@ -23,7 +23,7 @@ use std::slice::from_ref;
 
 /// The statements of a line as they come once more, each with what it made, and the causes that are found.
 #[derive(Drop)]
-struct Walk<'a> {
+struct StatementWalk<'a> {
     card: Card<'a>,
     items: &'a [Item],
     finals: &'a Finals,
@@ -41,10 +41,10 @@ pub fn find_all(
     finals: &Finals,
 ) -> Result<Vec<Diagnostic>, AllocError> {
     let asks = Asks::of(alloc, finals.hashing(), trace.asks())?;
-    let mut sheet = Sheet::new(alloc);
-    let mut recorder = Recorder::new(alloc, &mut sheet, &asks);
+    let mut scratch = Scratch::new(alloc);
+    let mut recorder = Recorder::new(alloc, &mut scratch, &asks);
     let card = Card::of(line.bytes());
-    let mut walk = Walk {
+    let mut walk = StatementWalk {
         card,
         items: trace.items(),
         finals,
@@ -57,7 +57,7 @@ pub fn find_all(
     drop(scope);
     drop(recorder);
     drop(asks);
-    let Walk { findings, .. } = walk;
+    let StatementWalk { findings, .. } = walk;
     match walked {
         Ok(()) => findings.finish(),
         Err(_) => Err(AllocError),
@@ -66,7 +66,7 @@ pub fn find_all(
 
 /// The line's own statement, followed by those that it opens. What is held meanwhile is dropped by its caller, in one place.
 fn go_through_line(
-    walk: &mut Walk<'_>,
+    walk: &mut StatementWalk<'_>,
     recorder: &mut Recorder<'_, Asks>,
     scope: &mut Scope,
 ) -> Result<(), AllocError> {
@@ -80,7 +80,7 @@ fn go_through_line(
 
 /// Looks for causes in the next statement, before it is stepped.
 fn look(
-    walk: &mut Walk<'_>,
+    walk: &mut StatementWalk<'_>,
     recorder: &mut Recorder<'_, Asks>,
     scope: &Scope,
     text: &[u8],
@@ -135,7 +135,7 @@ fn is_source(scope: &Scope) -> bool {
 }
 
 /// A statement of the line's expansion is too much, so the line is dropped.
-fn find_dropped(walk: &mut Walk<'_>, depth: u8) -> Result<(), AllocError> {
+fn find_dropped(walk: &mut StatementWalk<'_>, depth: u8) -> Result<(), AllocError> {
     let fault = if depth > DEEPEST {
         LimitFault::Depth
     } else if walk.count > MOST_STATEMENTS {
@@ -150,7 +150,7 @@ fn find_dropped(walk: &mut Walk<'_>, depth: u8) -> Result<(), AllocError> {
 /// Statements, each followed by those that it opens. False where one is too much.
 #[cycle(walking)]
 fn go_through(
-    walk: &mut Walk<'_>,
+    walk: &mut StatementWalk<'_>,
     recorder: &mut Recorder<'_, Asks>,
     scope: &mut Scope,
     depth: u8,
@@ -176,7 +176,7 @@ fn go_through(
 /// The statements that a statement opens, at their depth. False where one is too much.
 #[cycle(walking)]
 fn expand(
-    walk: &mut Walk<'_>,
+    walk: &mut StatementWalk<'_>,
     recorder: &mut Recorder<'_, Asks>,
     depth: u8,
     opened: Opened<'_>,
@@ -192,7 +192,7 @@ fn expand(
 /// Lines so many times.
 #[cycle(walking)]
 fn repeat(
-    walk: &mut Walk<'_>,
+    walk: &mut StatementWalk<'_>,
     recorder: &mut Recorder<'_, Asks>,
     depth: u8,
     opened: &Repeated,
@@ -208,7 +208,7 @@ fn repeat(
 /// Lines so many times, in their expansion.
 #[cycle(walking)]
 fn take_turns(
-    walk: &mut Walk<'_>,
+    walk: &mut StatementWalk<'_>,
     recorder: &mut Recorder<'_, Asks>,
     scope: &mut Scope,
     depth: u8,
@@ -246,7 +246,7 @@ fn is_dup_body(mode: &Mode) -> bool {
 /// The body of a call whose macro has LOCAL lines: these, and then the lines behind them.
 #[cycle(walking)]
 fn expand_body(
-    walk: &mut Walk<'_>,
+    walk: &mut StatementWalk<'_>,
     recorder: &mut Recorder<'_, Asks>,
     depth: u8,
     called: &Body<'_>,
@@ -261,7 +261,7 @@ fn expand_body(
 
 /// The lines of a body behind its LOCAL lines, with arguments and names; None where the names are too many.
 fn insert_names(
-    walk: &mut Walk<'_>,
+    walk: &mut StatementWalk<'_>,
     recorder: &mut Recorder<'_, Asks>,
     depth: u8,
     called: &Body<'_>,
@@ -280,7 +280,7 @@ fn insert_names(
 
 /// The LOCAL lines of a call.
 fn find_locals(
-    walk: &mut Walk<'_>,
+    walk: &mut StatementWalk<'_>,
     recorder: &mut Recorder<'_, Asks>,
     called: &Body<'_>,
 ) -> Result<(), AllocError> {
@@ -298,7 +298,7 @@ fn find_locals(
 /// A LOCAL line, with the names that are taken before it.
 fn find_local(
     alloc: Global,
-    walk: &mut Walk<'_>,
+    walk: &mut StatementWalk<'_>,
     taken: &mut Vec<Name>,
     text: &[u8],
 ) -> Result<(), AllocError> {

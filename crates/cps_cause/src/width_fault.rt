@@ -1,6 +1,6 @@
 //! Why a field of VFD has flag V.
 use crate::quotation::Quotation;
-use crate::words::{Words, push_number, push_quoted};
+use crate::wording::{Wording, push_number, push_quoted};
 use cps_text::Name;
 use std::alloc::AllocError;
 
@@ -17,7 +17,7 @@ impl WidthFault {
     /// Appends the words.
     pub(crate) fn push_words(
         self,
-        text: &mut Words,
+        text: &mut Wording,
         quotation: Quotation<'_>,
     ) -> Result<(), AllocError> {
         match self {

@@ -3,8 +3,8 @@ use Prim.Native.Char.{code}
 use Rattle.std.specs.Prelude.{ℕ, ◌+◌, ◌*◌, Bool, ◌==◌, List, [], ◌∷◌, ◌++◌, map, flat_map, drop, length, codes, Option, None, Some, if◌then◌else◌}
 use Rattle.cps_text.specs.Parts.{with_commas}
 use Rattle.cps_text.specs.Text.{begins_with}
-use Rattle.cps_code.specs.declared.register.Letter.{Letter}
-use Rattle.cps_code.specs.declared.register.Letter.TheVariants.{A, B, X}
+use Rattle.cps_code.specs.declared.register.RegisterLetter.{RegisterLetter}
+use Rattle.cps_code.specs.declared.register.RegisterLetter.TheVariants.{A, B, X}
 use Rattle.cps_code.specs.Rows.{RowTerm, Shape, unread, fields, summed, Code, RowForm, Named}
 use Rattle.cps_code.specs.Table.{instruction_named}
 use Rattle.cps_code.specs.RowForms.{hole_width}
@@ -21,7 +21,7 @@ abbrev pub hole_texts : Option ℕ → List (List ℕ)
 hole_texts None = []
 hole_texts (Some letter) = (letter ∷ []) ∷ []
 
-abbrev pub register_letter : Letter → List ℕ
+abbrev pub register_letter : RegisterLetter → List ℕ
 register_letter A = codes "A"
 register_letter B = codes "B"
 register_letter X = codes "X"

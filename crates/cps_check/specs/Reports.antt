@@ -13,8 +13,8 @@ use Rattle.cps_input.specs.declared.character_fault.CharacterFault.{CharacterFau
 use Rattle.cps_input.specs.Card.{cards_of}
 use Rattle.cps_input.specs.Faults.{AreFaults}
 use Rattle.cps_edit.specs.Assembly.{outcomes_of, ends_open, traces_of}
-use Rattle.cps_check.specs.declared.kind.Kind.{Kind}
-use Rattle.cps_check.specs.declared.kind.Kind.TheVariants as kinds
+use Rattle.cps_check.specs.declared.report_kind.ReportKind.{ReportKind}
+use Rattle.cps_check.specs.declared.report_kind.ReportKind.TheVariants as kinds
 use Rattle.cps_check.specs.declared.notes.Note.{Note}
 use Rattle.cps_check.specs.Rows.{flag_rows, fault_rows, note_rows}
 
@@ -23,11 +23,11 @@ use Rattle.cps_check.specs.Rows.{flag_rows, fault_rows, note_rows}
 pub record Report : Type 0 where
   pub number : ℕ
   pub column : ℕ
-  pub kind : Kind
+  pub kind : ReportKind
   pub rows : List ℕ
 
 -- whether an error is told, and no note
-abbrev pub is_error : Kind → Bool
+abbrev pub is_error : ReportKind → Bool
 is_error (kinds.Flag letter) = true
 is_error kinds.Wrong = true
 is_error kinds.Note = false

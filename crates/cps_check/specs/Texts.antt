@@ -4,20 +4,20 @@ use Rattle.cps_state.specs.Flags.{letters}
 use Rattle.cps_cause.specs.declared.letter.Letter.{Letter}
 use Rattle.cps_cause.specs.Letters.{only}
 use Rattle.cps_cause.specs.Sentence.{IsSentence}
-use Rattle.cps_check.specs.declared.kind.Kind.{Kind}
-use Rattle.cps_check.specs.declared.kind.Kind.TheVariants as kinds
+use Rattle.cps_check.specs.declared.report_kind.ReportKind.{ReportKind}
+use Rattle.cps_check.specs.declared.report_kind.ReportKind.TheVariants as kinds
 use Rattle.cps_check.specs.Reports.{Report}
 
 abbrev pub flag_text : Letter → List ℕ
 flag_text letter = codes "error: " ++ letters (only letter true) ++ codes ": "
 
-abbrev pub kind_text : Kind → List ℕ
+abbrev pub kind_text : ReportKind → List ℕ
 kind_text (kinds.Flag letter) = flag_text letter
 kind_text kinds.Wrong = codes "error: "
 kind_text kinds.Note = codes "note: "
 
 -- what a report begins with, behind the name of the source
-abbrev pub head_of : List ℕ → ℕ → ℕ → Kind → List ℕ
+abbrev pub head_of : List ℕ → ℕ → ℕ → ReportKind → List ℕ
 head_of name number column kind = name ++ codes ":" ++ decimal number ++ codes ":" ++ decimal column ++ codes ": " ++ kind_text kind
 
 -- the text of a report: behind its head stand words in one row, which no definition fixes, and below them its rows

@@ -2,7 +2,7 @@
 ghost use Rattle.std.specs.Prelude.{◌≡◌, ◌++◌, OnOk};
 ghost use Rattle.cps_check.specs.Texts as texts;
 
-use crate::kind::Kind;
+use crate::report_kind::ReportKind;
 use cps_cause::Letter;
 use cps_list::push_decimal;
 use cps_state::Flags;
@@ -14,7 +14,7 @@ pub fn push_head(
     name: &[u8],
     number: u32,
     column: usize,
-    kind: Kind,
+    kind: ReportKind,
 ) -> Result<(), AllocError>
     ensures { OnOk result (text.new.items ≡ text.old.items ++ texts.head_of name.now number column kind) }
 {
@@ -27,13 +27,13 @@ pub fn push_head(
     push_kind(text, kind)
 }
 
-fn push_kind(text: &mut Vec<u8>, kind: Kind) -> Result<(), AllocError>
+fn push_kind(text: &mut Vec<u8>, kind: ReportKind) -> Result<(), AllocError>
     ensures { OnOk result (text.new.items ≡ text.old.items ++ texts.kind_text kind) }
 {
     match kind {
-        Kind::Flag(letter) => push_flag_kind(text, letter),
-        Kind::Wrong => text.extend_from_slice(b"error: "),
-        Kind::Note => text.extend_from_slice(b"note: "),
+        ReportKind::Flag(letter) => push_flag_kind(text, letter),
+        ReportKind::Wrong => text.extend_from_slice(b"error: "),
+        ReportKind::Note => text.extend_from_slice(b"note: "),
     }
 }
 

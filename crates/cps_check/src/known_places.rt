@@ -9,7 +9,7 @@ use std::collections::HashMap;
 
 /// A symbol that has a value.
 #[derive(Clone, Copy)]
-struct Known {
+struct KnownSymbol {
     /// The line that first gave it one.
     line: u32,
     /// Whether a line reads it.
@@ -20,7 +20,7 @@ struct Known {
 /// ended the head and ended the program.
 #[derive(Drop)]
 pub struct KnownPlaces<'a> {
-    symbols: HashMap<Name, Known, Hashing>,
+    symbols: HashMap<Name, KnownSymbol, Hashing>,
     /// What each line does.
     traces: &'a [Trace],
     /// How many lines were passed.
@@ -124,7 +124,7 @@ fn note_first(line: &mut Option<u32>, number: u32) {
 
 /// Notes the symbols to which a line gives their first values.
 fn note_symbols(
-    symbols: &mut HashMap<Name, Known, Hashing>,
+    symbols: &mut HashMap<Name, KnownSymbol, Hashing>,
     number: u32,
     puts: &[Put],
 ) -> Result<(), AllocError> {
@@ -139,12 +139,12 @@ fn note_symbols(
 }
 
 fn note_symbol(
-    symbols: &mut HashMap<Name, Known, Hashing>,
+    symbols: &mut HashMap<Name, KnownSymbol, Hashing>,
     number: u32,
     name: Name,
 ) -> Result<(), AllocError> {
     if symbols.get(&name).is_none() {
-        let known = Known {
+        let known = KnownSymbol {
             line: number,
             is_read: false,
         };
@@ -155,7 +155,7 @@ fn note_symbol(
 
 /// Notes that symbols are read.
 fn note_readings(
-    symbols: &mut HashMap<Name, Known, Hashing>,
+    symbols: &mut HashMap<Name, KnownSymbol, Hashing>,
     names: &[Name],
 ) -> Result<(), AllocError> {
     for name in names {
@@ -164,12 +164,15 @@ fn note_readings(
     Ok(())
 }
 
-fn note_reading(symbols: &mut HashMap<Name, Known, Hashing>, name: Name) -> Result<(), AllocError> {
+fn note_reading(
+    symbols: &mut HashMap<Name, KnownSymbol, Hashing>,
+    name: Name,
+) -> Result<(), AllocError> {
     let line = match symbols.get(&name) {
         Some(known) if !known.is_read => known.line,
         _ => return Ok(()),
     };
-    let known = Known {
+    let known = KnownSymbol {
         line,
         is_read: true,
     };

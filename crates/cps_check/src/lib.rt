@@ -10,7 +10,6 @@
 //! - `front.rt`: the front of an instruction's row, laid out in columns
 //! - `heads.rt`: what a report begins with
 //! - `instruction.rt`: what is told of instructions of either machine
-//! - `kind.rt`: what a report tells
 //! - `known_places.rt`: in which lines stands what words speak of
 //! - `laws.rt`: what holds of what a check tells of a source
 //! - `limits.rt`: how much is shown
@@ -19,6 +18,7 @@
 //! - `names.rt`: names of instructions, as their rows have them
 //! - `notes.rt`: notes: what may stand in a line and is often not meant so
 //! - `peripheral.rt`: what is told of instructions of a peripheral processor
+//! - `report_kind.rt`: what a report tells
 //! - `rows.rt`: the rows that show where in a line something is
 //! - `statements.rt`: what is told of statements
 //! - `sums.rt`: the rows of operations whose operand is a sum
@@ -35,7 +35,6 @@ mod flags;
 mod front;
 mod heads;
 mod instruction;
-mod kind;
 mod known_places;
 mod laws;
 mod limits;
@@ -44,6 +43,7 @@ mod manual;
 mod names;
 mod notes;
 mod peripheral;
+mod report_kind;
 mod rows;
 mod statements;
 mod sums;

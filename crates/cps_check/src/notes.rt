@@ -4,7 +4,7 @@ ghost use Rattle.cps_cause.specs.Sentence.{IsSentence};
 
 use crate::known_places::KnownPlaces;
 use crate::line_telling::CheckedLine;
-use cps_cause::{Card, Columns, Words, filled_len};
+use cps_cause::{Card, Columns, Wording, filled_len};
 use cps_expr::Operation;
 use cps_state::{Answer, Asked, Key, Phase, macro_of};
 use cps_text::{Fields, Name, capital};
@@ -35,10 +35,10 @@ pub struct Note {
 
 impl Remark {
     /// What it says.
-    pub fn words(self, alloc: Global) -> Result<Words, AllocError>
+    pub fn words(self, alloc: Global) -> Result<Wording, AllocError>
         ensures { IfOk result (λ words. IsSentence words) }
     {
-        let mut words = Words::new(alloc);
+        let mut words = Wording::new(alloc);
         words.push(self.front())?;
         if let Remark::Unread(name) = self {
             words.push(name.text())?;

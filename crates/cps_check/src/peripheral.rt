@@ -79,31 +79,31 @@ fn number_of(form: &PpForm) -> u64
 
 /// What a row shows of an operation's layout: the operands, and letters for what they put into the code.
 #[derive(Clone, Copy)]
-struct Shown {
+struct LayoutRow {
     operands: &'static [u8],
     letters: &'static [u8],
 }
 
-impl Shown {
-    fn of(operands: &'static [u8], letters: &'static [u8]) -> Shown
+impl LayoutRow {
+    fn of(operands: &'static [u8], letters: &'static [u8]) -> LayoutRow
         ensures operands { result.operands.now ≡ operands.now }
         ensures letters { result.letters.now ≡ letters.now }
     {
-        Shown { operands, letters }
+        LayoutRow { operands, letters }
     }
 }
 
 /// What is shown of the layout of an operation whose form with the operand 0 has these holes.
-fn shown_by(holes: &[Hole]) -> Shown
+fn shown_by(holes: &[Hole]) -> LayoutRow
     ensures { (layout : Layout) → holes.now ≡ zero_holes layout → IsShown layout result }
 {
     let [hole] = holes else {
-        return Shown::of(b"not read", b"00");
+        return LayoutRow::of(b"not read", b"00");
     };
     match (hole.kind, hole.width) {
-        (HoleKind::Target, _) => Shown::of(b"a target", b"dd"),
-        (_, 6) => Shown::of(b"d", b"dd"),
-        (_, 18) => Shown::of(b"c", b"cc cccc"),
-        _ => Shown::of(b"m or m,d", b"dd mmmm"),
+        (HoleKind::Target, _) => LayoutRow::of(b"a target", b"dd"),
+        (_, 6) => LayoutRow::of(b"d", b"dd"),
+        (_, 18) => LayoutRow::of(b"c", b"cc cccc"),
+        _ => LayoutRow::of(b"m or m,d", b"dd mmmm"),
     }
 }

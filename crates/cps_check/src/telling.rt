@@ -4,7 +4,7 @@ ghost use Rattle.cps_check.specs.Code.Adding.{TellsSource, TellsBytes};
 
 use crate::line_telling::LineTelling;
 use crate::told_line::push_excess;
-use cps_batch::PassOne;
+use cps_batch::KeptPassOne;
 use cps_input::{cut_lines, make_cards};
 use cps_state::Hashing;
 use cps_text::limits::MOST_LINES;
@@ -42,7 +42,7 @@ fn tell_source(
     ensures { IfOk result (λ telling. TellsSource name.now (map (λ line. line.now) lines.now) telling.text.items telling.is_wrong) }
 {
     let cards = make_cards(alloc, lines)?;
-    let one = PassOne::of(alloc, hashing, &cards)?;
+    let one = KeptPassOne::of(alloc, hashing, &cards)?;
     let telling = LineTelling {
         alloc,
         name,

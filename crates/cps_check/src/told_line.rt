@@ -6,11 +6,11 @@ ghost use Rattle.cps_check.specs.Reports.{flag_report, fault_report, note_report
 ghost use Rattle.cps_check.specs.Rows as rows;
 
 use crate::heads::push_head;
-use crate::kind::Kind;
 use crate::limits::MOST_SHOWN;
 use crate::notes::Note;
+use crate::report_kind::ReportKind;
 use crate::rows::{push_caret_row, push_line_row, push_statement_row};
-use cps_cause::{Diagnostic, Places, Words};
+use cps_cause::{Diagnostic, Places, Wording};
 use cps_input::{CharacterFault, push_shown, shown_width};
 use cps_text::limits::MOST_LINES;
 use std::alloc::{AllocError, Global};
@@ -61,7 +61,7 @@ impl ToldLine<'_> {
             self.name,
             self.number,
             told.columns.first,
-            Kind::Flag(letter),
+            ReportKind::Flag(letter),
         )?;
         text.extend_from_slice(words.as_slice())?;
         text.extend_from_slice(b"\n")?;
@@ -95,7 +95,7 @@ impl ToldLine<'_> {
             text.old.items text.new.items) }
     {
         let words = fault_words(alloc, self.line, fault)?;
-        push_head(text, self.name, self.number, fault.first, Kind::Wrong)?;
+        push_head(text, self.name, self.number, fault.first, ReportKind::Wrong)?;
         text.extend_from_slice(words.as_slice())?;
         text.extend_from_slice(b"\n")?;
         push_fault_rows(alloc, self.number, self.line, fault, text)?;
@@ -124,7 +124,7 @@ impl ToldLine<'_> {
     {
         let words = note.remark.words(alloc)?;
         let first = note.columns.first;
-        push_head(text, self.name, self.number, first, Kind::Note)?;
+        push_head(text, self.name, self.number, first, ReportKind::Note)?;
         text.extend_from_slice(words.as_slice())?;
         text.extend_from_slice(b"\n")?;
         push_note_rows(text, self.number, self.line, note)?;
@@ -133,12 +133,12 @@ impl ToldLine<'_> {
 }
 
 /// The words that tell what is wrong in a line that no source may have.
-fn fault_words(alloc: Global, line: &[u8], fault: &CharacterFault) -> Result<Words, AllocError>
+fn fault_words(alloc: Global, line: &[u8], fault: &CharacterFault) -> Result<Wording, AllocError>
     ensures { IfOk result (λ words. IsSentence words) }
 {
     let mut told = Vec::new(alloc);
     fault.push_words(line, &mut told)?;
-    let mut words = Words::new(alloc);
+    let mut words = Wording::new(alloc);
     words.push(&told)?;
     Ok(words)
 }
@@ -205,7 +205,7 @@ pub fn push_excess(text: &mut Vec<u8>, name: &[u8], count: usize) -> Result<(), 
     if count <= MOST_LINES {
         return Ok(());
     }
-    push_head(text, name, MOST_LINES as u32 + 1, 1, Kind::Wrong)?;
+    push_head(text, name, MOST_LINES as u32 + 1, 1, ReportKind::Wrong)?;
     text.extend_from_slice(
         b"a source has 99,999 lines at most; the lines from here on are not looked at",
     )?;

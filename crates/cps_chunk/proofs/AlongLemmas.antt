@@ -19,8 +19,8 @@ use Rattle.cps_edit.specs.Disturbed.{kept, disturbed_from, is_disturbed}
 use Rattle.cps_edit.proofs.SpliceLemmas.{traces_from-append, puts-state}
 use Rattle.cps_chunk.specs.declared.change_log.ChangeLog.{ChangeLog}
 use Rattle.cps_chunk.specs.declared.walk.Baseline.{Baseline}
-use Rattle.cps_chunk.specs.declared.walk.Position.{Position}
-use Rattle.cps_chunk.specs.declared.walk.Position.TheVariants.{Same, Behind}
+use Rattle.cps_chunk.specs.declared.walk.Destination.{Destination}
+use Rattle.cps_chunk.specs.declared.walk.Destination.TheVariants.{Same, Behind}
 use Rattle.cps_chunk.specs.declared.walk.Span.{Span}
 use Rattle.cps_chunk.specs.declared.walk.Walk.{Walk}
 use Rattle.cps_chunk.specs.Code.Along.{GoesAlong, MayGo, Leaves, front_at, fronts_along, looks_along, looks_of, looks_of_part, reached, replayed_along, span}
@@ -60,7 +60,7 @@ puts-now old new puts f also =
 
 -- ---- lines in two parts
 
-module _ (old mid : Walk) (position : Position) (a b c : ℕ) (base : IsBaseline old.base) (kept : mid.base ≡ old.base) (le : a ≤ b) (inner : b ≤ c) (within : c ≤ length old.base.lines.now)
+module _ (old mid : Walk) (position : Destination) (a b c : ℕ) (base : IsBaseline old.base) (kept : mid.base ≡ old.base) (le : a ≤ b) (inner : b ≤ c) (within : c ≤ length old.base.lines.now)
     (first : GoesAlong old mid position (span a b)) where
   abbrev ls : List (List ℕ)
   ls = old.base.lines.now
@@ -91,7 +91,7 @@ module _ (old mid : Walk) (position : Position) (a b c : ℕ) (base : IsBaseline
     state-join =
         second.state ∙ (λ i. state_after (first.state i) (stretch b c (kept i).lines.now)) ∙ over-state ls ts base.did a b c le inner within was
 
-leaves-join : (old mid new : Walk) (position : Position) (a b c : ℕ) → mid.base ≡ old.base → a ≤ b → b ≤ c
+leaves-join : (old mid new : Walk) (position : Destination) (a b c : ℕ) → mid.base ≡ old.base → a ≤ b → b ≤ c
     → GoesAlong old mid position (span a b) → GoesAlong mid new position (span b c) → Leaves old new position (span a c)
 leaves-join old mid new Same a b c kept le inner first second = second.leaves
 leaves-join old mid new (Behind place) a b c kept le inner first second =
@@ -107,7 +107,7 @@ leaves-join old mid new (Behind place) a b c kept le inner first second =
       changes = second.leaves.changes ∙ first.leaves.changes;
     }
 
-pub along-join : (old mid new : Walk) (position : Position) (a b c : ℕ) → IsBaseline old.base → mid.base ≡ old.base → a ≤ b → b ≤ c → c ≤ length old.base.lines.now
+pub along-join : (old mid new : Walk) (position : Destination) (a b c : ℕ) → IsBaseline old.base → mid.base ≡ old.base → a ≤ b → b ≤ c → c ≤ length old.base.lines.now
     → GoesAlong old mid position (span a b) → GoesAlong mid new position (span b c) → GoesAlong old new position (span a c)
 along-join old mid new position a b c base kept le inner within first second = record {
   news = news-join old mid position a b c base kept le inner within first new second;
@@ -117,18 +117,18 @@ along-join old mid new position a b c base kept le inner within first second = r
 
 -- ---- no line
 
-none-left : (old : Walk) (position : Position) (a : ℕ) → MayGo old position → Leaves old old position (span a a)
+none-left : (old : Walk) (position : Destination) (a : ℕ) → MayGo old position → Leaves old old position (span a a)
 none-left old Same a may = may
 none-left old (Behind place) a may =
     let none : puts_of (traces_from (front_at old (Behind place) a) (stretch a a old.base.lines.now)) ≡ [] =
     ap (λ (ls : List (List ℕ)). puts_of (traces_from (front_at old (Behind place) a) ls)) (stretch-none a old.base.lines.now) in
     record { present = ap (with_puts (changes_in old.replay.log.present)) (sym none); changes = refl }
 
-pub replayed-empty : (old : Walk) (position : Position) (a : ℕ) → replayed_along old position (span a a) ≡ []
+pub replayed-empty : (old : Walk) (position : Destination) (a : ℕ) → replayed_along old position (span a a) ≡ []
 replayed-empty old position a =
     ap (λ (ls : List (List ℕ)). replayed (front_at old position a) a ls (stretch a a old.base.traces.now)) (stretch-none a old.base.lines.now)
 
-pub along-none : (old : Walk) (position : Position) (a b : ℕ) → a ≡ b → MayGo old position → GoesAlong old old position (span a b)
+pub along-none : (old : Walk) (position : Destination) (a b : ℕ) → a ≡ b → MayGo old position → GoesAlong old old position (span a b)
 along-none old position a b same may = subst (λ (c : ℕ). GoesAlong old old position (span a c)) same record {
   news = sym (append-nil old.replay.news.items) ∙ ap (λ us. old.replay.news.items ++ us) (sym (replayed-empty old position a));
   state = ap (state_after (front_at old position a)) (sym (stretch-none a old.base.lines.now));
@@ -228,7 +228,7 @@ module _ (old : Walk) (base : IsBaseline old.base) (a b : ℕ) (le : a ≤ b) (o
       (subst (λ (ps : List Put). PutsAlso old.replay.log new.replay.log ps) puts also)
 
 -- no more of some lines than of those and others behind them
-pub along-most : (old : Walk) (position : Position) (a b c : ℕ) → IsBaseline old.base → a ≤ b → b ≤ c → c ≤ length old.base.lines.now
+pub along-most : (old : Walk) (position : Destination) (a b c : ℕ) → IsBaseline old.base → a ≤ b → b ≤ c → c ≤ length old.base.lines.now
     → length (replayed_along old position (span a b)) ≤ length (replayed_along old position (span a c))
 along-most old position a b c base le inner within =
     let parts = over-count old.base.lines.now old.base.traces.now base.did a b c le inner within (front_at old position a) in
@@ -268,7 +268,7 @@ module _ (old mid : Walk) (still : IsStillWalk old mid) (i line : ℕ) (d : Chun
       get_or-lengths (e ∷ cs) (suc k) c low here = get_or-lengths cs k c (omega (arith, low)) here
 
   -- how many of its lines are compared, where those in front of them were gone along
-  module _ (position : Position) (lines : Span) (walk : IsWalk old) (ordered : lines.from ≤ lines.to) (along : GoesAlong old mid position (span lines.from (reached lines line))) where
+  module _ (position : Destination) (lines : Span) (walk : IsWalk old) (ordered : lines.from ≤ lines.to) (along : GoesAlong old mid position (span lines.from (reached lines line))) where
     abbrev part : Span
     part = span (reached lines line) (reached lines (line + d.lines))
 
@@ -297,6 +297,6 @@ pub part-inside : (from to line end : ℕ) → from ≤ to → line ≤ end → 
 part-inside from to line end ordered grows some = (omega arith, omega arith)
 
 -- they may be gone along further
-pub may-still : (old mid : Walk) (position : Position) (lines : Span) → mid.base ≡ old.base → MayGo old position → GoesAlong old mid position lines → MayGo mid position
+pub may-still : (old mid : Walk) (position : Destination) (lines : Span) → mid.base ≡ old.base → MayGo old position → GoesAlong old mid position lines → MayGo mid position
 may-still old mid Same lines kept may along = along.leaves
 may-still old mid (Behind place) lines kept may along = subst (λ (b : Baseline). place ≤ length b.lines.now) (sym kept) may

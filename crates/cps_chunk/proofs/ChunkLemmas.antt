@@ -9,10 +9,10 @@ use Rattle.cps_state.specs.declared.hashing.Hashing.{Hashing}
 use Rattle.cps_state.specs.declared.key.Key.{Key}
 use Rattle.cps_state.specs.Course.{Trace}
 use Rattle.cps_final.specs.Code.RunGathering.{KeptRun, kept_run}
-use Rattle.cps_final.specs.Names.{Names, names_in}
+use Rattle.cps_final.specs.NamedFinals.{NamedFinals, names_in}
 use Rattle.cps_chunk.specs.declared.chunk.Chunk.{Chunk}
-use Rattle.cps_chunk.specs.declared.marks.Marks.{Marks}
-use Rattle.cps_chunk.specs.Marks.{AreMarked, HasAll, puts_at, asks_at, names_at, keys_put, keys_asked, keys_named}
+use Rattle.cps_chunk.specs.declared.key_filter.KeyFilter.{KeyFilter}
+use Rattle.cps_chunk.specs.KeyFilter.{AreMarked, HasAll, puts_at, asks_at, names_at, keys_put, keys_asked, keys_named}
 use Rattle.cps_chunk.specs.Code.Chunk.{IsChunkOf, WasMarked, lengths_of, AreChunksOf}
 use Rattle.cps_chunk.proofs.MarkLemmas.{marked-still, marked-append, marked-parts}
 
@@ -20,7 +20,7 @@ use Rattle.cps_chunk.proofs.MarkLemmas.{marked-still, marked-append, marked-part
 
 module _ (hashing : Hashing) where
   -- something new in the place of what a line did
-  marked-set : (m : Marks) (f : Trace → List Key) (ts : List Trace) (i : ℕ) (t : Trace) → AreMarked hashing m (flat_map f (t ∷ [])) → AreMarked hashing m (flat_map f ts)
+  marked-set : (m : KeyFilter) (f : Trace → List Key) (ts : List Trace) (i : ℕ) (t : Trace) → AreMarked hashing m (flat_map f (t ∷ [])) → AreMarked hashing m (flat_map f ts)
       → AreMarked hashing m (flat_map f (set ts i t))
   marked-set m f [] i t one all = all
   marked-set m f (u ∷ ts) zero t one all =
@@ -29,14 +29,14 @@ module _ (hashing : Hashing) where
       let parts = marked-parts hashing m (f u) (flat_map f ts) all in
       marked-append hashing m (f u) (flat_map f (set ts i t)) parts.0 (marked-set m f ts i t one parts.1)
 
-  marked-both : (m : Marks) (f : Trace → List Key) (ts us : List Trace) → AreMarked hashing m (flat_map f ts) → AreMarked hashing m (flat_map f us) → AreMarked hashing m (flat_map f (ts ++ us))
+  marked-both : (m : KeyFilter) (f : Trace → List Key) (ts us : List Trace) → AreMarked hashing m (flat_map f ts) → AreMarked hashing m (flat_map f us) → AreMarked hashing m (flat_map f (ts ++ us))
   marked-both m f ts us one two = subst (AreMarked hashing m) (sym (flat_map-append f ts us)) (marked-append hashing m (flat_map f ts) (flat_map f us) one two)
 
-  marked-behind : (m : Marks) (f : Trace → List Key) (ts : List Trace) (t : Trace) → AreMarked hashing m (flat_map f (t ∷ [])) → AreMarked hashing m (flat_map f ts)
+  marked-behind : (m : KeyFilter) (f : Trace → List Key) (ts : List Trace) (t : Trace) → AreMarked hashing m (flat_map f (t ∷ [])) → AreMarked hashing m (flat_map f ts)
       → AreMarked hashing m (flat_map f (ts ++ t ∷ []))
   marked-behind m f ts t one all = marked-both m f ts (t ∷ []) all one
 
-  pub was-marked : (t : Trace) (old : Chunk) (puts asks names : Marks) → AreMarked hashing puts (keys_put (t ∷ [])) → HasAll old.puts puts → AreMarked hashing asks (keys_asked (t ∷ []))
+  pub was-marked : (t : Trace) (old : Chunk) (puts asks names : KeyFilter) → AreMarked hashing puts (keys_put (t ∷ [])) → HasAll old.puts puts → AreMarked hashing asks (keys_asked (t ∷ []))
       → HasAll old.reads asks → AreMarked hashing names (keys_named (t ∷ [])) → HasAll asks names
       → WasMarked hashing t old (record { lines = old.lines; puts = puts; reads = names; run = None; names = None })
   was-marked t old puts asks names put put_kept asked asked_kept named named_kept = record {
@@ -54,7 +54,7 @@ module _ (hashing : Hashing) where
   run-none ts c none = subst (λ (run : Option KeptRun). IfSome run (λ run. run ≡ kept_run ts)) (sym none) tt
 
   names-none : (ts : List Trace) (c : Chunk) → c.names ≡ None → IfSome c.names (λ names. names ≡ names_in ts)
-  names-none ts c none = subst (λ (names : Option Names). IfSome names (λ names. names ≡ names_in ts)) (sym none) tt
+  names-none ts c none = subst (λ (names : Option NamedFinals). IfSome names (λ names. names ≡ names_in ts)) (sym none) tt
 
   pub chunk-none : (c : Chunk) → c.lines ≡ 0 → c.run ≡ None → c.names ≡ None → IsChunkOf hashing [] c
   chunk-none c none no_run no_names = record {

@@ -13,7 +13,7 @@ use Rattle.cps_state.specs.declared.key.Put.{Put}
 use Rattle.cps_state.specs.Course.{Trace, last_put}
 use Rattle.cps_state.proofs.KnownLemmas.{same_key_is, same_key-true}
 use Rattle.cps_final.specs.declared.changes.Changes.{Changes as KeptChanges}
-use Rattle.cps_final.specs.Changes.{Changed, settled}
+use Rattle.cps_final.specs.Changes.{Changed, agreed}
 use Rattle.cps_final.specs.Code.Kept.{changes_in, count_of, keys_in}
 use Rattle.cps_final.proofs.KeptLemmas.{eq, has-key}
 use Rattle.cps_final.specs.Layout.{puts_of}
@@ -78,7 +78,7 @@ none-had p changes none k there = at (p k) refl
 -- ---- what lines settle
 
 -- nothing, if they put at no changed key
-pub settled-none : (now : Changed) (puts : List Put) → ((k : Key) → is_some (now k) ≡ true → is_some (last_put puts k) ≡ false) → settled now puts ≡ now
+pub settled-none : (now : Changed) (puts : List Put) → ((k : Key) → is_some (now k) ≡ true → is_some (last_put puts k) ≡ false) → agreed now puts ≡ now
 settled-none now puts none = λ i. λ k. at k (now k) refl (is_some (last_put puts k)) refl i
   where
     at : (k : Key) (here : Option (Option Answer)) → now k ≡ here → (put : Bool) → is_some (last_put puts k) ≡ put → (if put then None else here) ≡ here
@@ -89,7 +89,7 @@ settled-none now puts none = λ i. λ k. at k (now k) refl (is_some (last_put pu
         let wrong : true ≡ false = sym put ∙ none k (ap is_some is) in
         cc
 
-settled-append : (now : Changed) (ps qs : List Put) → settled (settled now ps) qs ≡ settled now (ps ++ qs)
+settled-append : (now : Changed) (ps qs : List Put) → agreed (agreed now ps) qs ≡ agreed now (ps ++ qs)
 settled-append now ps qs =
     λ i. λ k. (at k (last_put qs k) (last_put ps k) ∙ ap (λ (last : Option Answer). if is_some last then None else now k) (sym (last_put-append ps qs k))) i
   where
@@ -98,11 +98,11 @@ settled-append now ps qs =
     at k (Some a) old = refl
 
 -- what one line more settles
-pub settle-next : (now before end : Changed) (ts : List Trace) (i : ℕ) (t : Trace) → i < length ts → t ≡ get_or ts i t → now ≡ settled before t.puts
-    → settled before (puts_of (drop i ts)) ≡ end → settled now (puts_of (drop (i + 1) ts)) ≡ end
+pub settle-next : (now before end : Changed) (ts : List Trace) (i : ℕ) (t : Trace) → i < length ts → t ≡ get_or ts i t → now ≡ agreed before t.puts
+    → agreed before (puts_of (drop i ts)) ≡ end → agreed now (puts_of (drop (i + 1) ts)) ≡ end
 settle-next now before end ts i t lt is made so_far =
-    ap (λ (c : Changed). settled c (puts_of (drop (i + 1) ts))) made ∙ settled-append before t.puts (puts_of (drop (i + 1) ts))
-    ∙ ap (λ us. settled before (puts_of us)) (sym (drop_at ts i t lt is)) ∙ so_far
+    ap (λ (c : Changed). agreed c (puts_of (drop (i + 1) ts))) made ∙ settled-append before t.puts (puts_of (drop (i + 1) ts))
+    ∙ ap (λ us. agreed before (puts_of us)) (sym (drop_at ts i t lt is)) ∙ so_far
 
-pub settle-done : (now end : Changed) (ts : List Trace) (i : ℕ) → length ts ≤ i → settled now (puts_of (drop i ts)) ≡ end → now ≡ end
-settle-done now end ts i past so_far = sym (ap (λ us. settled now (puts_of us)) (drop_all i ts past)) ∙ so_far
+pub settle-done : (now end : Changed) (ts : List Trace) (i : ℕ) → length ts ≤ i → agreed now (puts_of (drop i ts)) ≡ end → now ≡ end
+settle-done now end ts i past so_far = sym (ap (λ us. agreed now (puts_of us)) (drop_all i ts past)) ∙ so_far

@@ -3,24 +3,24 @@ use Rattle.cps_pass.specs.Head.{in_body}
 use Rattle.cps_pass.specs.Located.{has_value, present_flags}
 use Rattle.cps_pass.specs.Making.{flagged, misplaced}
 use Rattle.cps_pass.specs.Numbers.{plain_number}
-use Rattle.cps_pass.specs.Placing.{settling, word_start}
+use Rattle.cps_pass.specs.Placing.{advancing, word_start}
 use Rattle.cps_pass.specs.ValueNow.{now_here}
 use Rattle.cps_pass.specs.declared.value_now.ValueNow.{ValueNow}
 use Rattle.cps_expr.specs.Expression.{Expression}
 use Rattle.cps_expr.specs.declared.operation.Operation.TheVariants as operation
 use Rattle.cps_expr.specs.declared.operation.Operation.{Operation}
-use Rattle.cps_expr.specs.declared.row.Comparison.{Comparison}
-use Rattle.cps_expr.specs.declared.row.Repetition.{Repetition}
-use Rattle.cps_expr.specs.declared.row.Row.TheVariants as row
-use Rattle.cps_expr.specs.declared.row.Row.{Row}
-use Rattle.cps_expr.specs.declared.row.SymbolTest.{SymbolTest}
+use Rattle.cps_expr.specs.declared.pseudo.ValueTest.{ValueTest}
+use Rattle.cps_expr.specs.declared.pseudo.Repetition.{Repetition}
+use Rattle.cps_expr.specs.declared.pseudo.Pseudo.TheVariants as row
+use Rattle.cps_expr.specs.declared.pseudo.Pseudo.{Pseudo}
+use Rattle.cps_expr.specs.declared.pseudo.SymbolTest.{SymbolTest}
 use Rattle.cps_chunk.proofs.PlacingStands.{asked-place-fits, settling-settles, site-fits, standing-fits}
 use Rattle.cps_chunk.proofs.StandLemmas.{Fits, Mark, ask-fits, asked-stand, fresh, if-fits, mark_of, settled, stands, stop-fits}
 use Rattle.cps_chunk.proofs.StatementStands.{end-fits, here-fits, instruction-fits, leaving-head-fits, obeyed-fits, peripheral-fits, unreadable-fits}
 use Rattle.cps_chunk.specs.Standing.{StandsWhereItAsks}
 use Rattle.cps_pass.specs.Keeping.{kept_for_dup, kept_for_macro, no_lines}
 use Rattle.cps_pass.specs.Macros.{bound, call_at, calling, calling_with, labelled, labelling, opening_with}
-use Rattle.cps_pass.specs.Cards.{card_in}
+use Rattle.cps_text.specs.CardIn.{card_in}
 use Rattle.cps_pass.specs.Locals.{macro_of_lines}
 use Rattle.cps_pass.specs.Opening.{Opening, plain, none_opened}
 use Rattle.cps_pass.specs.Meaning.{assembled, before_end, after_end, calling_if, calling_named, end_in, endm, in_mode, in_phase, macro, obeyed, stated, statement, stays_in_head, unreadable}
@@ -35,11 +35,11 @@ use Rattle.cps_pass.specs.declared.scope.Scope.TheVariants.{Expansion, Source}
 use Rattle.cps_pass.specs.declared.scope.Scope.{Scope}
 use Rattle.cps_pass.specs.declared.treatment.Treatment.TheVariants.{Defines, Opens, Passes, Resumes}
 use Rattle.cps_pass.specs.declared.treatment.Treatment.{Treatment}
-use Rattle.cps_pass.specs.Reading.{location_in, stating_in}
+use Rattle.cps_pass.specs.Reading.{location_in, reading_in}
 use Rattle.cps_pass.specs.declared.reading.Location.TheVariants.{Absent, Minus, NoSymbol, Plus, Symbol}
 use Rattle.cps_pass.specs.declared.reading.Location.{Location}
-use Rattle.cps_pass.specs.declared.reading.Stating.TheVariants.{Instruction, Missing, Peripheral, Stated, Unknown, Unreadable}
-use Rattle.cps_pass.specs.declared.reading.Stating.{Stating}
+use Rattle.cps_pass.specs.declared.reading.Reading.TheVariants.{Instruction, Missing, Peripheral, Stated, Unknown, Unreadable}
+use Rattle.cps_pass.specs.declared.reading.Reading.{Reading}
 use Rattle.cps_state.specs.Course.{Course, Part, answer_at, nothing, stop, putting, tell, with_ask, ◌before◌}
 use Rattle.cps_state.specs.Flags.{joined}
 use Rattle.cps_state.specs.Keys.{control_of, macro_of, mode_of, most_ranges, ranges_of, text_of}
@@ -57,8 +57,8 @@ use Rattle.cps_state.specs.declared.key.Mode.TheVariants.{KeepDup, KeepMacro, No
 use Rattle.cps_state.specs.declared.key.Mode.{Mode}
 use Rattle.cps_state.specs.declared.key.Phase.TheVariants.{AfterEnd, Body, Head}
 use Rattle.cps_state.specs.declared.key.Phase.{Phase}
-use Rattle.cps_state.specs.declared.key.Range.TheVariants.{BeforeElse, BehindElse}
-use Rattle.cps_state.specs.declared.key.Range.{Range}
+use Rattle.cps_state.specs.declared.key.OpenRange.TheVariants.{BeforeElse, BehindElse}
+use Rattle.cps_state.specs.declared.key.OpenRange.{OpenRange}
 use Rattle.cps_text.specs.Card.{CommentLine, ContinuedLine, LineFields, StatementLine}
 use Rattle.cps_text.specs.Insertion.{Pairs}
 use Rattle.cps_text.specs.declared.name.Name.{Name}
@@ -72,12 +72,12 @@ going-by-fits : (b : Option Name) (m : Mark) (control : Control) (scope : Scope)
 going-by-fits b m control Source mode next rest later = later Source
 going-by-fits b m control (Expansion own) mode next rest later = later (Expansion (record own { mode = mode }))
 
-ranges-fit : (b : Option Name) (m : Bool) (scope : Scope) (next : List Range → Part) (rest : Course)
-    → ((ranges : List Range) → Fits b (next ranges rest) (mark_of m)) → Fits b (asking_ranges scope next rest) (mark_of m)
+ranges-fit : (b : Option Name) (m : Bool) (scope : Scope) (next : List OpenRange → Part) (rest : Course)
+    → ((ranges : List OpenRange) → Fits b (next ranges rest) (mark_of m)) → Fits b (asking_ranges scope next rest) (mark_of m)
 ranges-fit b m Source next rest later = ask-fits b m key.Ifs (λ a. next (ranges_of a) rest) refl (λ a. later (ranges_of a))
 ranges-fit b m (Expansion own) next rest later = later own.ranges
 
-putting-fits : (b : Option Name) (m : Mark) (scope : Scope) (ranges : List Range) (next : Scope → Part) (rest : Course)
+putting-fits : (b : Option Name) (m : Mark) (scope : Scope) (ranges : List OpenRange) (next : Scope → Part) (rest : Course)
     → ((there : Scope) → Fits b (next there rest) m) → Fits b (putting_ranges scope ranges next rest) m
 putting-fits b m Source ranges next rest later = later Source
 putting-fits b m (Expansion own) ranges next rest later = later (Expansion (record own { ranges = ranges }))
@@ -105,7 +105,7 @@ body-fits b m control (Expansion own) count next rest later = later (take count 
 site-label-fits : (control : Control) (m : Bool) (name : Name) (next : Made → Part) (rest : Course)
     → ((made : Made) → Fits control.block (next made rest) settled) → Fits control.block (labelling control (Symbol name) next rest) (mark_of m)
 site-label-fits control m name next rest later =
-    site-fits control (Symbol name) m (λ site. settling site (word_start site) (word_start site) false before next (labelled site)) rest (λ site.
+    site-fits control (Symbol name) m (λ site. advancing site (word_start site) (word_start site) false before next (labelled site)) rest (λ site.
     settling-settles control.block site (word_start site) (word_start site) false (next (labelled site) rest) (later (labelled site)))
 
 call-at-fits : (control : Control) (m : Bool) (location : Location) (next : Made → Part) (rest : Course)
@@ -167,12 +167,12 @@ counting-fits b m control scope location test value next rest later =
     skipping-fits b m control scope test.holds (line_count value)
     (λ there. flagging (joined (present_flags location) (joined test.flags (count_flags value (line_count value)))) there next) rest later
 
-beginning-fits : (b : Option Name) (m : Mark) (control : Control) (scope : Scope) (holds : Bool) (ranges : List Range) (next : Scope → Part) (rest : Course)
+beginning-fits : (b : Option Name) (m : Mark) (control : Control) (scope : Scope) (holds : Bool) (ranges : List OpenRange) (next : Scope → Part) (rest : Course)
     → ((there : Scope) → Fits b (next there rest) m) → Fits b (beginning_range control scope holds ranges next rest) m
 beginning-fits b m control scope true ranges next rest later = putting-fits b m scope (BeforeElse ∷ ranges) next rest later
 beginning-fits b m control scope false ranges next rest later = going-by-fits b m control scope (SkipRange (record { nested = 0; may_resume = true })) next rest later
 
-opening-fits : (b : Option Name) (m : Mark) (control : Control) (scope : Scope) (location : Location) (test : Tested) (ranges : List Range) (next : Scope → Part) (rest : Course)
+opening-fits : (b : Option Name) (m : Mark) (control : Control) (scope : Scope) (location : Location) (test : Tested) (ranges : List OpenRange) (next : Scope → Part) (rest : Course)
     → ((there : Scope) → Fits b (next there rest) m) → Fits b (opening control scope location test ranges next rest) m
 opening-fits b m control scope location test ranges next rest later =
     if-fits b m (nat_le most_ranges (length ranges)) (flagging (record (test_flags location test) { structure = true }) scope next)
@@ -188,7 +188,7 @@ hanging-fits control m scope location (Some lines) test next rest later =
     here-fits control m lines (λ value. counting control scope location test value next) rest (λ placed value.
     counting-fits control.block (mark_of placed) control scope location test value next rest (later placed))
 
-if-compared-fits : (control : Control) (m : Bool) (scope : Scope) (location : Location) (test : Comparison) (next : Scope → Part) (rest : Course)
+if-compared-fits : (control : Control) (m : Bool) (scope : Scope) (location : Location) (test : ValueTest) (next : Scope → Part) (rest : Course)
     → Next control.block next rest → Fits control.block (if_compared control scope location test next rest) (mark_of m)
 if-compared-fits control m scope location test next rest later =
     here-fits control m test.left (λ l. now_here control test.right (λ r. hanging control scope location test.lines (compared test.relation l r) next)) rest (λ placed l.
@@ -202,7 +202,7 @@ if-defined-fits control m scope location test next rest later =
     (λ standing. tell test.symbol before hanging control scope location test.lines (defined test.is_defined (has_value standing)) next) rest (λ standing.
     hanging-fits control m scope location test.lines (defined test.is_defined (has_value standing)) next rest later)
 
-turned-fits : (b : Option Name) (m : Mark) (control : Control) (scope : Scope) (location : Location) (ranges : List Range) (next : Scope → Part) (rest : Course)
+turned-fits : (b : Option Name) (m : Mark) (control : Control) (scope : Scope) (location : Location) (ranges : List OpenRange) (next : Scope → Part) (rest : Course)
     → ((there : Scope) → Fits b (next there rest) m) → Fits b (turned_round control scope location ranges next rest) m
 turned-fits b m control scope location (BeforeElse ∷ ranges) next rest later =
     putting-fits b m scope ranges
@@ -211,7 +211,7 @@ turned-fits b m control scope location (BeforeElse ∷ ranges) next rest later =
 turned-fits b m control scope location (BehindElse ∷ ranges) next rest later = later scope
 turned-fits b m control scope location [] next rest later = later scope
 
-closed-fits : (b : Option Name) (m : Mark) (scope : Scope) (location : Location) (ranges : List Range) (next : Scope → Part) (rest : Course)
+closed-fits : (b : Option Name) (m : Mark) (scope : Scope) (location : Location) (ranges : List OpenRange) (next : Scope → Part) (rest : Course)
     → ((there : Scope) → Fits b (next there rest) m) → Fits b (closed scope location ranges next rest) m
 closed-fits b m scope location [] next rest later = later scope
 closed-fits b m scope location (range ∷ ranges) next rest later =
@@ -259,7 +259,7 @@ endm-fits : (b : Option Name) (m : Mark) (scope : Scope) (location : Location) (
 endm-fits b m Source location rest later = later
 endm-fits b m (Expansion own) location rest later = later
 
-all-obeyed-fits : (control : Control) (m : Bool) (scope : Scope) (location : Location) (stated : Row) (next : Scope → Part) (rest : Course)
+all-obeyed-fits : (control : Control) (m : Bool) (scope : Scope) (location : Location) (stated : Pseudo) (next : Scope → Part) (rest : Course)
     → Next control.block next rest → Fits control.block (obeyed control scope location stated next rest) (mark_of m)
 all-obeyed-fits control m scope location (row.Macro parameters) next rest later = macro-fits control m scope location (Some parameters) next rest later
 all-obeyed-fits control m scope location row.Endm next rest later = endm-fits control.block (mark_of m) scope location (next scope rest) (later m scope)
@@ -315,8 +315,8 @@ all-unreadable-fits control m scope location operation.End next rest later = unr
 all-unreadable-fits control m scope location operation.Local next rest later = unreadable-fits control m location operation.Local (next scope rest) (λ placed. later placed scope)
 all-unreadable-fits control m scope location operation.Listing next rest later = unreadable-fits control m location operation.Listing (next scope rest) (λ placed. later placed scope)
 
-stated-fits : (control : Control) (m : Bool) (scope : Scope) (location : Location) (tail : List ℕ) (stating : Stating) (behind : Behind) (rest : Course)
-    → After control.block behind rest → Fits control.block (stated control scope location tail stating behind rest) (mark_of m)
+stated-fits : (control : Control) (m : Bool) (scope : Scope) (location : Location) (tail : List ℕ) (reading : Reading) (behind : Behind) (rest : Course)
+    → After control.block behind rest → Fits control.block (stated control scope location tail reading behind rest) (mark_of m)
 stated-fits control m scope location tail Missing behind rest later = later m scope none_opened
 stated-fits control m scope location tail (Unknown name) behind rest later = calling-named-fits control m scope location tail name behind rest later
 stated-fits control m scope location tail (Stated row) behind rest later = all-obeyed-fits control m scope location row (opens_nothing behind) rest (λ placed there. later placed there none_opened)
@@ -330,11 +330,11 @@ assembled-fits : (control : Control) (m : Bool) (scope : Scope) (fields : LineFi
 assembled-fits control m scope CommentLine behind rest later = later m scope none_opened
 assembled-fits control m scope ContinuedLine behind rest later = later m scope none_opened
 assembled-fits control m scope (StatementLine statement) behind rest later =
-    let stating = stating_in control.machine control.radix statement.operation statement.tail in
+    let reading = reading_in control.machine control.radix statement.operation statement.tail in
     let location = location_in statement.location in
-    leaving-head-fits control.block (mark_of m) (stays_in_head stating) control (λ there. stated there scope location statement.tail stating behind) rest
-    (stated-fits control m scope location statement.tail stating behind rest later)
-    (stated-fits (in_body control) m scope location statement.tail stating behind rest later)
+    leaving-head-fits control.block (mark_of m) (stays_in_head reading) control (λ there. stated there scope location statement.tail reading behind) rest
+    (stated-fits control m scope location statement.tail reading behind rest later)
+    (stated-fits (in_body control) m scope location statement.tail reading behind rest later)
 
 -- ---- statements that are not
 

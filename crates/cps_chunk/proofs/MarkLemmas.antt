@@ -14,8 +14,8 @@ use Rattle.cps_state.specs.declared.hashing.Hashing.{Hashing}
 use Rattle.cps_state.specs.declared.key.Key.{Key}
 use Rattle.cps_state.specs.declared.key.Key.TheVariants as key
 use Rattle.cps_state.specs.Course.{Trace}
-use Rattle.cps_chunk.specs.declared.marks.Marks.{Marks}
-use Rattle.cps_chunk.specs.Marks.{mark_of, has, AreMarked, HasAll}
+use Rattle.cps_chunk.specs.declared.key_filter.KeyFilter.{KeyFilter}
+use Rattle.cps_chunk.specs.KeyFilter.{bit_of, has, AreMarked, HasAll}
 
 -- ---- one bit
 
@@ -31,10 +31,10 @@ pub one-bit : (i : ℕ) → i < 64 → bit_at (1 * 2 ^ i % 2 ^ 64) i ≡ 1
 one-bit i lt = ap (λ x. bit_at x i) (one_shl i 64 lt) ∙ bit_at-pow_same i
 
 -- with the bits of one word more
-abbrev pub joined : Marks → ℕ → ℕ → Marks
+abbrev pub joined : KeyFilter → ℕ → ℕ → KeyFilter
 joined m j w = record { bits = set m.bits j (bit_or (get_or m.bits j 0) w) }
 
-module _ (m : Marks) (j w : ℕ) (lt : j < length m.bits) where
+module _ (m : KeyFilter) (j w : ℕ) (lt : j < length m.bits) where
   there : get_or (joined m j w).bits j 0 ≡ bit_or (get_or m.bits j 0) w
   there = get_or-set_same m.bits j (bit_or (get_or m.bits j 0) w) 0 lt
 
@@ -57,15 +57,15 @@ module _ (m : Marks) (j w : ℕ) (lt : j < length m.bits) where
 -- ---- words of two, one after another
 
 -- the first words are joined
-pub record AreJoined (old other new : Marks) (i : ℕ) : Type 0 where
+pub record AreJoined (old other new : KeyFilter) (i : ℕ) : Type 0 where
   pub long : length new.bits ≡ 32
   pub kept : HasAll old new
   pub first : (n : ℕ) → n / 64 < i → has other n ≡ true → has new n ≡ true
 
-pub joined-none : (m other : Marks) → length m.bits ≡ 32 → AreJoined m other m 0
+pub joined-none : (m other : KeyFilter) → length m.bits ≡ 32 → AreJoined m other m 0
 joined-none m other long = record { long = long; kept = λ n h. h; first = λ n lt h. absurd (omega arith) }
 
-pub joined-more : (old other now : Marks) (i : ℕ) → i < 32 → AreJoined old other now i → AreJoined old other (joined now i (get_or other.bits i 0)) (i + 1)
+pub joined-more : (old other now : KeyFilter) (i : ℕ) → i < 32 → AreJoined old other now i → AreJoined old other (joined now i (get_or other.bits i 0)) (i + 1)
 joined-more old other now i small was = record {
   long = length-set now.bits i (bit_or (get_or now.bits i 0) (get_or other.bits i 0)) ∙ was.long;
   kept = λ n h. joined-keeps now i (get_or other.bits i 0) lt n (was.kept n h);
@@ -82,7 +82,7 @@ joined-more old other now i small was = record {
     at n below h (inr apart) = joined-keeps now i (get_or other.bits i 0) lt n (was.first n (omega arith) h)
 
 -- all words are joined
-pub joined-all : (old other new : Marks) (i : ℕ) → length other.bits ≤ i → AreJoined old other new i → HasAll other new
+pub joined-all : (old other new : KeyFilter) (i : ℕ) → length other.bits ≤ i → AreJoined old other new i → HasAll other new
 joined-all old other new i past was n h = at (cases_lt (n / 64) i)
   where
     at : (n / 64 < i) ⊎ (i ≤ n / 64) → has new n ≡ true
@@ -93,11 +93,11 @@ joined-all old other new i past was n h = at (cases_lt (n / 64) i)
 
 -- ---- all marks
 
-pub mark-bound : (hashing : Hashing) (k : Key) → mark_of hashing k < 2048
-unfolding mark_of
+pub mark-bound : (hashing : Hashing) (k : Key) → bit_of hashing k < 2048
+unfolding bit_of
 mark-bound hashing k = omega arith
 
-abbrev full : Marks
+abbrev full : KeyFilter
 full = record { bits = replicate 32 (2 ^ 64 - 1) }
 
 full-has : (n : ℕ) → n < 2048 → has full n ≡ true
@@ -107,7 +107,7 @@ full-has n lt =
 
 pub full-marked : (hashing : Hashing) (keys : List Key) → AreMarked hashing full keys
 full-marked hashing [] = refl
-full-marked hashing (k ∷ keys) = and_from _ _ (full-has (mark_of hashing k) (mark-bound hashing k)) (full-marked hashing keys)
+full-marked hashing (k ∷ keys) = and_from _ _ (full-has (bit_of hashing k) (mark-bound hashing k)) (full-marked hashing keys)
 
 -- ---- no mark
 
@@ -124,43 +124,43 @@ none-has n = ap (λ w. nat_eq (bit_at w (n % 64)) 1) (at (cases_lt (n / 64) 32))
 -- ---- keys, one after another
 
 -- these keys were marked, and no mark was lost
-pub record WereMarked (hashing : Hashing) (old new : Marks) (keys : List Key) : Type 0 where
+pub record WereMarked (hashing : Hashing) (old new : KeyFilter) (keys : List Key) : Type 0 where
   pub kept : HasAll old new
   pub marked : AreMarked hashing new keys
 
 module _ (hashing : Hashing) where
-  pub marked-still : (old new : Marks) (keys : List Key) → HasAll old new → AreMarked hashing old keys → AreMarked hashing new keys
+  pub marked-still : (old new : KeyFilter) (keys : List Key) → HasAll old new → AreMarked hashing old keys → AreMarked hashing new keys
   marked-still old new [] kept marked = refl
   marked-still old new (k ∷ keys) kept marked =
-      let parts = and_parts (has old (mark_of hashing k)) (list_all (λ q. has old (mark_of hashing q)) keys) marked in
-      and_from _ _ (kept (mark_of hashing k) parts.0) (marked-still old new keys kept parts.1)
+      let parts = and_parts (has old (bit_of hashing k)) (list_all (λ q. has old (bit_of hashing q)) keys) marked in
+      and_from _ _ (kept (bit_of hashing k) parts.0) (marked-still old new keys kept parts.1)
 
-  pub marked-append : (m : Marks) (keys more : List Key) → AreMarked hashing m keys → AreMarked hashing m more → AreMarked hashing m (keys ++ more)
+  pub marked-append : (m : KeyFilter) (keys more : List Key) → AreMarked hashing m keys → AreMarked hashing m more → AreMarked hashing m (keys ++ more)
   marked-append m keys more one two =
-      list_all-append (λ k. has m (mark_of hashing k)) keys more ∙ and_from _ _ one two
+      list_all-append (λ k. has m (bit_of hashing k)) keys more ∙ and_from _ _ one two
 
-  pub marked-parts : (m : Marks) (keys more : List Key) → AreMarked hashing m (keys ++ more) → AreMarked hashing m keys × AreMarked hashing m more
-  marked-parts m keys more all = and_parts _ _ (sym (list_all-append (λ k. has m (mark_of hashing k)) keys more) ∙ all)
+  pub marked-parts : (m : KeyFilter) (keys more : List Key) → AreMarked hashing m (keys ++ more) → AreMarked hashing m keys × AreMarked hashing m more
+  marked-parts m keys more all = and_parts _ _ (sym (list_all-append (λ k. has m (bit_of hashing k)) keys more) ∙ all)
 
   -- those of one line
-  pub marked-line : (m : Marks) (f : Trace → List Key) (t : Trace) → AreMarked hashing m (f t) → AreMarked hashing m (flat_map f (t ∷ []))
+  pub marked-line : (m : KeyFilter) (f : Trace → List Key) (t : Trace) → AreMarked hashing m (f t) → AreMarked hashing m (flat_map f (t ∷ []))
   marked-line m f t marked = subst (AreMarked hashing m) (sym (append-nil (f t))) marked
 
-  more : (old mid new : Marks) (keys next : List Key) → WereMarked hashing old mid keys → HasAll mid new → AreMarked hashing new next → WereMarked hashing old new (keys ++ next)
+  more : (old mid new : KeyFilter) (keys next : List Key) → WereMarked hashing old mid keys → HasAll mid new → AreMarked hashing new next → WereMarked hashing old new (keys ++ next)
   more old mid new keys next was kept marked = record {
     kept = λ n h. kept n (was.kept n h);
     marked = marked-append new keys next (marked-still mid new keys kept was.marked) marked;
   }
 
   -- one key more
-  pub key-more : {X : Type 0} (f : X → Key) (xs : List X) (i : ℕ) (x : X) (old mid new : Marks) → i < length xs → x ≡ get_or xs i x → WereMarked hashing old mid (map f (take i xs))
-      → has new (mark_of hashing (f x)) ≡ true → HasAll mid new → WereMarked hashing old new (map f (take (i + 1) xs))
+  pub key-more : {X : Type 0} (f : X → Key) (xs : List X) (i : ℕ) (x : X) (old mid new : KeyFilter) → i < length xs → x ≡ get_or xs i x → WereMarked hashing old mid (map f (take i xs))
+      → has new (bit_of hashing (f x)) ≡ true → HasAll mid new → WereMarked hashing old new (map f (take (i + 1) xs))
   key-more f xs i x old mid new lt is was marked kept =
       let all : map f (take (i + 1) xs) ≡ map f (take i xs) ++ f x ∷ [] = map_more f xs i x lt ∙ ap (λ y. map f (take i xs) ++ f y ∷ []) (sym is) in
       subst (WereMarked hashing old new) (sym all) (more old mid new (map f (take i xs)) (f x ∷ []) was kept (and_from _ _ marked refl))
 
   -- the labels of one thing more
-  pub names-more : {X : Type 0} (f : X → List Name) (xs : List X) (i : ℕ) (x : X) (old mid new : Marks) → i < length xs → x ≡ get_or xs i x
+  pub names-more : {X : Type 0} (f : X → List Name) (xs : List X) (i : ℕ) (x : X) (old mid new : KeyFilter) → i < length xs → x ≡ get_or xs i x
       → WereMarked hashing old mid (map key.Label (flat_map f (take i xs))) → AreMarked hashing new (map key.Label (f x)) → HasAll mid new
       → WereMarked hashing old new (map key.Label (flat_map f (take (i + 1) xs)))
   names-more f xs i x old mid new lt is was marked kept =
@@ -171,9 +171,9 @@ module _ (hashing : Hashing) where
       subst (WereMarked hashing old new) (sym all) (more old mid new (map key.Label (flat_map f (take i xs))) (map key.Label (f x)) was kept marked)
 
   -- all of them
-  pub keys-all : {X : Type 0} (f : X → Key) (xs ys : List X) (i : ℕ) (old new : Marks) → length xs ≤ i → xs ≡ ys → WereMarked hashing old new (map f (take i xs)) → AreMarked hashing new (map f ys)
+  pub keys-all : {X : Type 0} (f : X → Key) (xs ys : List X) (i : ℕ) (old new : KeyFilter) → length xs ≤ i → xs ≡ ys → WereMarked hashing old new (map f (take i xs)) → AreMarked hashing new (map f ys)
   keys-all f xs ys i old new past same was = subst (λ us. AreMarked hashing new (map f us)) (take_all i xs past ∙ same) was.marked
 
-  pub names-all : {X : Type 0} (f : X → List Name) (xs ys : List X) (i : ℕ) (old new : Marks) → length xs ≤ i → xs ≡ ys → WereMarked hashing old new (map key.Label (flat_map f (take i xs)))
+  pub names-all : {X : Type 0} (f : X → List Name) (xs ys : List X) (i : ℕ) (old new : KeyFilter) → length xs ≤ i → xs ≡ ys → WereMarked hashing old new (map key.Label (flat_map f (take i xs)))
       → AreMarked hashing new (map key.Label (flat_map f ys))
   names-all f xs ys i old new past same was = subst (λ us. AreMarked hashing new (map key.Label (flat_map f us))) (take_all i xs past ∙ same) was.marked

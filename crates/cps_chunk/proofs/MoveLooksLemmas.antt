@@ -18,7 +18,7 @@ use Rattle.cps_edit.specs.Exchange.{IsWithin, exchanged}
 use Rattle.cps_edit.specs.Numbers.{numbers, picked, exchanged_numbers}
 use Rattle.cps_edit.proofs.ListLemmas.{exchanged-long}
 use Rattle.cps_edit.proofs.NumberLemmas.{exchanged-picks}
-use Rattle.cps_final.specs.Names.{statements_of, names_in}
+use Rattle.cps_final.specs.NamedFinals.{statements_of, names_in}
 use Rattle.cps_final.proofs.NamesLemmas.{names-law}
 use Rattle.cps_final.specs.Agreeing.{same_at, same_named}
 use Rattle.cps_final.specs.Holds.{holds}

@@ -9,7 +9,7 @@ use Rattle.cps_edit.specs.declared.exchange.Exchange.{Exchange}
 use Rattle.cps_edit.specs.Exchange.{IsWithin, exchanged}
 use Rattle.cps_edit.specs.Numbers.{picked, exchanged_numbers}
 use Rattle.cps_edit.proofs.NumberLemmas.{exchanged-picks}
-use Rattle.cps_chunk.specs.declared.exchange.Piece.{Piece}
+use Rattle.cps_chunk.specs.declared.exchange.RecutChunk.{RecutChunk}
 use Rattle.cps_chunk.specs.Exchange.{numbers_of}
 use Rattle.cps_chunk.specs.Code.Pieces.{AreNamed, ArePieces, lines_of}
 use Rattle.cps_chunk.specs.declared.chunk.Chunk.{Chunk}
@@ -21,7 +21,7 @@ use Rattle.cps_chunk.proofs.NamedOnceLemmas.{AreDistinct, NoneNames, distinct-dr
 -- ---- old chunks that are still there
 
 -- the old chunks that pieces name are there, each is one of the lines of its piece, and none is named twice
-abbrev pub AreThere : Hashing → List Chunk → List Piece → List Trace → Type 0
+abbrev pub AreThere : Hashing → List Chunk → List RecutChunk → List Trace → Type 0
 AreThere hashing olds [] traces = traces ≡ []
 AreThere hashing olds (piece ∷ pieces) traces =
     (piece.lines ≤ length traces)
@@ -39,7 +39,7 @@ module _ (hashing : Hashing) where
     }
 
     -- one is gone that no other piece names
-    pub still-there : (ps : List Piece) (ts : List Trace) → NoneNames named ps → AreThere hashing olds ps ts → AreThere hashing news ps ts
+    pub still-there : (ps : List RecutChunk) (ts : List Trace) → NoneNames named ps → AreThere hashing olds ps ts → AreThere hashing news ps ts
     still-there [] ts none there = there
     still-there (p ∷ ps) ts none there =
         (there.0, still-old p.old (take p.lines ts) none.0 there.1, there.2, still-there ps (drop p.lines ts) none.1 there.3)
@@ -81,7 +81,7 @@ module _ (hashing : Hashing) where
       chunk = λ other. subst (λ (us : List Trace). IsChunkOf hashing us (get_or olds i other)) (sym (run-of ms lines i named.0 named.1)) (chunk-at olds ts i other named.0 are);
     }
 
-    there-picked : (ps : List Piece) (ms : List ℕ) → ArePieces (lengths_of olds) ps ms → AreDistinct ms → AreThere hashing olds ps (picked ts t ms)
+    there-picked : (ps : List RecutChunk) (ms : List ℕ) → ArePieces (lengths_of olds) ps ms → AreDistinct ms → AreThere hashing olds ps (picked ts t ms)
     there-picked [] ms named distinct = ap (picked ts t) named
     there-picked (p ∷ ps) ms named distinct = (
       omega (arith, named.1, length-map ms (λ k. get_or ts k t)),
@@ -95,14 +95,14 @@ module _ (hashing : Hashing) where
 no-trace : Trace
 no-trace = record { asks = []; puts = []; items = []; reads = [] }
 
-pub all-there : (hashing : Hashing) (olds : List Chunk) (ps : List Piece) (ts : List Trace) → AreMoved hashing olds ps ts → AreThere hashing olds ps ts
+pub all-there : (hashing : Hashing) (olds : List Chunk) (ps : List RecutChunk) (ts : List Trace) → AreMoved hashing olds ps ts → AreThere hashing olds ps ts
 all-there hashing olds ps ts m =
     let count : ℕ = length m.before in
     subst (λ (us : List Trace). AreThere hashing olds ps us) (sym (m.moved ∙ (exchanged-picks m.before no-trace).0 m.exchange m.within))
     (there-picked hashing olds m.before no-trace m.chunks ps (exchanged_numbers count m.exchange) m.named (distinct-exchanged count m.exchange m.within))
 
 -- so stand the chunks that are kept of a source, and the pieces that an exchange makes of them
-pub are-moved : (hashing : Hashing) (olds : List Chunk) (ps : List Piece) (ts us : List Trace) (e : Exchange) → AreChunksOf hashing olds ts → IsWithin (length ts) e
+pub are-moved : (hashing : Hashing) (olds : List Chunk) (ps : List RecutChunk) (ts us : List Trace) (e : Exchange) → AreChunksOf hashing olds ts → IsWithin (length ts) e
     → ArePieces (lengths_of olds) ps (exchanged_numbers (sum (lengths_of olds)) e) → us ≡ exchanged e ts → AreMoved hashing olds ps us
 are-moved hashing olds ps ts us e are within named moved = record {
   before = ts;
@@ -120,26 +120,26 @@ abbrev pub StandBefore : Hashing → List Chunk → List Trace → List Trace �
 StandBefore hashing front left ts = (ds : List Chunk) → AreChunksOf hashing ds left → AreChunksOf hashing (front ++ ds) ts
 
 -- what stands for a piece where there is none
-abbrev pub no_piece : Piece
+abbrev pub no_piece : RecutChunk
 no_piece = record { lines = 0; old = None }
 
-module _ (hashing : Hashing) (olds : List Chunk) (ps : List Piece) (i : ℕ) (lt : i < length ps) (left : List Trace) (there : AreThere hashing olds (drop i ps) left) where
+module _ (hashing : Hashing) (olds : List Chunk) (ps : List RecutChunk) (i : ℕ) (lt : i < length ps) (left : List Trace) (there : AreThere hashing olds (drop i ps) left) where
   -- the next piece
   pub next-there : AreThere hashing olds (get_or ps i no_piece ∷ drop (i + 1) ps) left
-  next-there = subst (λ (qs : List Piece). AreThere hashing olds qs left) (drop_more ps i no_piece lt) there
+  next-there = subst (λ (qs : List RecutChunk). AreThere hashing olds qs left) (drop_more ps i no_piece lt) there
 
-  module _ (here behind : List Trace) (front : here ≡ take (Piece.lines (get_or ps i no_piece)) left) (back : behind ≡ drop (Piece.lines (get_or ps i no_piece)) left) where
-    pub next-old : IfSome (Piece.old (get_or ps i no_piece)) (IsOldOf hashing olds here)
-    next-old = subst (λ (us : List Trace). IfSome (Piece.old (get_or ps i no_piece)) (IsOldOf hashing olds us)) (sym front) next-there.1
+  module _ (here behind : List Trace) (front : here ≡ take (RecutChunk.lines (get_or ps i no_piece)) left) (back : behind ≡ drop (RecutChunk.lines (get_or ps i no_piece)) left) where
+    pub next-old : IfSome (RecutChunk.old (get_or ps i no_piece)) (IsOldOf hashing olds here)
+    next-old = subst (λ (us : List Trace). IfSome (RecutChunk.old (get_or ps i no_piece)) (IsOldOf hashing olds us)) (sym front) next-there.1
 
-    pub left-there : (news : List Chunk) → StayBut (Piece.old (get_or ps i no_piece)) olds news → AreThere hashing news (drop (i + 1) ps) behind
+    pub left-there : (news : List Chunk) → StayBut (RecutChunk.old (get_or ps i no_piece)) olds news → AreThere hashing news (drop (i + 1) ps) behind
     left-there news stay =
         subst (λ (us : List Trace). AreThere hashing news (drop (i + 1) ps) us) (sym back)
-        (still-there hashing olds news (Piece.old (get_or ps i no_piece)) stay (drop (i + 1) ps) (drop (Piece.lines (get_or ps i no_piece)) left) next-there.2 next-there.3)
+        (still-there hashing olds news (RecutChunk.old (get_or ps i no_piece)) stay (drop (i + 1) ps) (drop (RecutChunk.lines (get_or ps i no_piece)) left) next-there.2 next-there.3)
 
     module _ (c : Chunk) (is : IsChunkOf hashing here c) where
-      next-long : c.lines ≡ Piece.lines (get_or ps i no_piece)
-      next-long = sym is.lines ∙ ap length front ∙ length-take-le (Piece.lines (get_or ps i no_piece)) left next-there.0
+      next-long : c.lines ≡ RecutChunk.lines (get_or ps i no_piece)
+      next-long = sym is.lines ∙ ap length front ∙ length-take-le (RecutChunk.lines (get_or ps i no_piece)) left next-there.0
 
       pub next-before : (cs : List Chunk) (ts : List Trace) → StandBefore hashing cs left ts → StandBefore hashing (cs ++ c ∷ []) behind ts
       next-before cs ts before = λ ds are.
@@ -152,11 +152,11 @@ module _ (hashing : Hashing) (olds : List Chunk) (ps : List Piece) (i : ℕ) (lt
 
       pub next-lengths : (cs : List Chunk) → lengths_of cs ≡ lines_of (take i ps) → lengths_of (cs ++ c ∷ []) ≡ lines_of (take (i + 1) ps)
       next-lengths cs so_far =
-          map-append (λ (d : Chunk). d.lines) cs (c ∷ []) ∙ (λ j. so_far j ++ next-long j ∷ []) ∙ sym (map_more (λ (p : Piece). p.lines) ps i no_piece lt)
+          map-append (λ (d : Chunk). d.lines) cs (c ∷ []) ∙ (λ j. so_far j ++ next-long j ∷ []) ∙ sym (map_more (λ (p : RecutChunk). p.lines) ps i no_piece lt)
 
 -- no piece is left
-pub all-before : (hashing : Hashing) (cs olds : List Chunk) (ps : List Piece) (left ts : List Trace) → ps ≡ [] → AreThere hashing olds ps left → StandBefore hashing cs left ts
+pub all-before : (hashing : Hashing) (cs olds : List Chunk) (ps : List RecutChunk) (left ts : List Trace) → ps ≡ [] → AreThere hashing olds ps left → StandBefore hashing cs left ts
     → AreChunksOf hashing cs ts
 all-before hashing cs olds ps left ts none there before =
-    let nothing : left ≡ [] = subst (λ (qs : List Piece). AreThere hashing olds qs left) none there in
+    let nothing : left ≡ [] = subst (λ (qs : List RecutChunk). AreThere hashing olds qs left) none there in
     subst (λ (ds : List Chunk). AreChunksOf hashing ds ts) (append-nil cs) (before [] nothing)

@@ -11,7 +11,7 @@ use Rattle.cps_final.specs.Naming.{all_named}
 use Rattle.cps_final.specs.Agreeing.{same_at, same_named}
 use Rattle.cps_edit.specs.Renewed.{redone_kept}
 use Rattle.cps_final.proofs.AgreeLemmas.{named-alone}
-use Rattle.cps_final.specs.Names.{statements_of}
+use Rattle.cps_final.specs.NamedFinals.{statements_of}
 use Rattle.cps_chunk.specs.Named.{NamedLaw, NamedNoMore}
 
 -- of a line, and of the lines behind it

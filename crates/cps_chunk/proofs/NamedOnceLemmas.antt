@@ -4,7 +4,7 @@ use Rattle.std.specs.Prelude.{sum}
 use Rattle.cps_edit.specs.declared.exchange.Exchange.{Exchange}
 use Rattle.cps_edit.specs.Exchange.{IsWithin}
 use Rattle.cps_edit.specs.Numbers.{numbers, exchanged_numbers}
-use Rattle.cps_chunk.specs.declared.exchange.Piece.{Piece}
+use Rattle.cps_chunk.specs.declared.exchange.RecutChunk.{RecutChunk}
 use Rattle.cps_chunk.specs.Code.Pieces.{AreNamed, ArePieces}
 
 -- ---- numbers of which none stands twice
@@ -75,7 +75,7 @@ distinct-exchanged count e within =
 -- ---- pieces that name none of them
 
 -- no piece names this old chunk, if one is named
-abbrev pub NoneNames : Option ℕ → List Piece → Type 0
+abbrev pub NoneNames : Option ℕ → List RecutChunk → Type 0
 NoneNames named [] = Unit {0}
 NoneNames named (piece ∷ pieces) = ((i : ℕ) → named ≡ Some i → piece.old ≡ Some i → ⊥) × NoneNames named pieces
 
@@ -88,13 +88,13 @@ begins (suc n) (m ∷ ms) at (suc l) one le e = ap (λ xs. get_or xs 0 0) e
 
 module _ (lengths : List ℕ) where
   -- the first number of the old chunk that is named
-  begins-named : (p : Piece) (ms : List ℕ) (i : ℕ) → 1 ≤ p.lines → p.lines ≤ length ms → AreNamed lengths p.old (take p.lines ms) → p.old ≡ Some i → get_or ms 0 0 ≡ sum (take i lengths)
+  begins-named : (p : RecutChunk) (ms : List ℕ) (i : ℕ) → 1 ≤ p.lines → p.lines ≤ length ms → AreNamed lengths p.old (take p.lines ms) → p.old ≡ Some i → get_or ms 0 0 ≡ sum (take i lengths)
   begins-named p ms i one le are is =
       let named = subst (λ (old : Option ℕ). AreNamed lengths old (take p.lines ms)) is are in
       begins p.lines ms (sum (take i lengths)) (get_or lengths i 0) one le named.1
 
   -- others name none whose first number is not theirs
-  absent-named : (named : Option ℕ) (first : ℕ) → ((i : ℕ) → named ≡ Some i → first ≡ sum (take i lengths)) → (ps : List Piece) (ms : List ℕ) → ArePieces lengths ps ms → IsAbsent first ms
+  absent-named : (named : Option ℕ) (first : ℕ) → ((i : ℕ) → named ≡ Some i → first ≡ sum (take i lengths)) → (ps : List RecutChunk) (ms : List ℕ) → ArePieces lengths ps ms → IsAbsent first ms
       → NoneNames named ps
   absent-named named first is [] ms are out = tt
   absent-named named first is (p ∷ ps) ms are out = (
@@ -103,6 +103,6 @@ module _ (lengths : List ℕ) where
   )
 
   -- the pieces behind one name another
-  pub others-named : (p : Piece) (ps : List Piece) (ms : List ℕ) → ArePieces lengths (p ∷ ps) ms → AreDistinct ms → NoneNames p.old ps
+  pub others-named : (p : RecutChunk) (ps : List RecutChunk) (ms : List ℕ) → ArePieces lengths (p ∷ ps) ms → AreDistinct ms → NoneNames p.old ps
   others-named p ps ms are distinct =
       absent-named p.old (get_or ms 0 0) (λ i is. begins-named p ms i are.0 are.1 are.2 is) ps (drop p.lines ms) are.3 (distinct-first p.lines ms are.0 distinct)

@@ -10,7 +10,7 @@ use Rattle.cps_state.specs.Course.{Trace, Holds, last_put, last_ask}
 use Rattle.cps_state.specs.Keys.{State, same_key, overwritten}
 use Rattle.cps_state.proofs.KnownLemmas.{last_ask-push, same_key_is, same_key-true}
 use Rattle.cps_final.proofs.KeptLemmas.{eq}
-use Rattle.cps_final.specs.Changes.{Changed, changed, settled}
+use Rattle.cps_final.specs.Changes.{Changed, changed, agreed}
 use Rattle.cps_final.proofs.ChangedLemmas.{overwritten-last, settled-law}
 use Rattle.cps_final.specs.Holds.{same_answer, holds}
 use Rattle.cps_final.proofs.AnswerLemmas.{answers-decide, asks-decide}
@@ -112,9 +112,9 @@ module _ (now : Changed) (f : State) (line : List ℕ) (t : Trace) (did : t ≡ 
   same-stands stood = sym (meant-here line t (changed now f) (f, did) ((asks-decide t.asks (changed now f)).0 (sym (stands-holds now t.asks f did-hold) ∙ stood)))
 
   -- and leaves those changes that it doesn't settle
-  pub after-stands : stands now t.asks ≡ true → changed (settled now t.puts) (after f line) ≡ after (changed now f) line
+  pub after-stands : stands now t.asks ≡ true → changed (agreed now t.puts) (after f line) ≡ after (changed now f) line
   after-stands stood =
-      ap (λ (s : Trace). changed (settled now t.puts) (overwritten f s.puts)) (sym did) ∙ sym (settled-law now f t.puts)
+      ap (λ (s : Trace). changed (agreed now t.puts) (overwritten f s.puts)) (sym did) ∙ sym (settled-law now f t.puts)
       ∙ ap (λ (s : Trace). overwritten (changed now f) s.puts) (sym (same-stands stood))
 
   -- where they don't, it puts what it puts now

@@ -6,7 +6,7 @@ use Rattle.std.proofs.lemmas.List.{length-append, reverse-append}
 use Rattle.cps_chunk.specs.Division.{AreChunks}
 use Rattle.cps_edit.specs.Numbers.{numbers}
 use Rattle.cps_chunk.specs.Exchange.{BeginsWithPart}
-use Rattle.cps_chunk.specs.declared.exchange.Piece.{Piece}
+use Rattle.cps_chunk.specs.declared.exchange.RecutChunk.{RecutChunk}
 use Rattle.cps_chunk.specs.Code.Pieces.{cut_to, AreOfNone, AreNamed, ArePieces, MayStandBefore, GoesNotOn, part_numbers}
 use Rattle.cps_chunk.proofs.DivisionLemmas.{lt-true}
 use Rattle.cps_chunk.proofs.PieceLemmas.{length-numbers, numbers-more, part-new}
@@ -49,7 +49,7 @@ some-take (suc k) (x ∷ xs) le within = omega arith
 
 -- ---- a piece before others
 
-piece-before : (ns ms more : List ℕ) (p : Piece) (ps : List Piece) → 1 ≤ p.lines → MayStandBefore ns p.lines p.old ms more → ArePieces ns ps more → ArePieces ns (p ∷ ps) (ms ++ more)
+piece-before : (ns ms more : List ℕ) (p : RecutChunk) (ps : List RecutChunk) → 1 ≤ p.lines → MayStandBefore ns p.lines p.old ms more → ArePieces ns ps more → ArePieces ns (p ∷ ps) (ms ++ more)
 piece-before ns ms more p ps one may are = (
   one,
   omega (arith, may.count, length-append ms more),
@@ -57,7 +57,7 @@ piece-before ns ms more p ps one may are = (
   subst (ArePieces ns ps) (sym (drop-front ms more p.lines (sym may.count))) are,
 )
 
-piece-with : (ns ms more : List ℕ) (lines : ℕ) (old : Option ℕ) (q r : Piece) (ps : List Piece) → r.lines ≡ lines + q.lines → r.old ≡ None → MayStandBefore ns lines old ms more
+piece-with : (ns ms more : List ℕ) (lines : ℕ) (old : Option ℕ) (q r : RecutChunk) (ps : List RecutChunk) → r.lines ≡ lines + q.lines → r.old ≡ None → MayStandBefore ns lines old ms more
     → ArePieces ns (q ∷ ps) more → ArePieces ns (r ∷ ps) (ms ++ more)
 piece-with ns ms more lines old q r ps both none may are =
     let new : AreOfNone ns (ms ++ take q.lines more) = may.longer (take q.lines more) (some-take q.lines more are.0 are.1) (head-take q.lines more are.0) in
@@ -69,17 +69,17 @@ piece-with ns ms more lines old q r ps both none may are =
       subst (ArePieces ns ps) (sym behind) are.3,
     )
 
-reverse-push : (ps : List Piece) (p : Piece) → reverse (ps ++ p ∷ []) ≡ p ∷ reverse ps
+reverse-push : (ps : List RecutChunk) (p : RecutChunk) → reverse (ps ++ p ∷ []) ≡ p ∷ reverse ps
 reverse-push ps p = reverse-append ps (p ∷ [])
 
 -- none is there
-pub set-alone : (ns ms more : List ℕ) (olds news : List Piece) (p : Piece) → olds ≡ [] → news ≡ olds ++ p ∷ [] → 1 ≤ p.lines
+pub set-alone : (ns ms more : List ℕ) (olds news : List RecutChunk) (p : RecutChunk) → olds ≡ [] → news ≡ olds ++ p ∷ [] → 1 ≤ p.lines
     → ArePieces ns (reverse olds) more → MayStandBefore ns p.lines p.old ms more → ArePieces ns (reverse news) (ms ++ more)
 set-alone ns ms more olds news p none made one are may =
     subst (λ ps. ArePieces ns ps (ms ++ more)) (sym (ap reverse made ∙ reverse-push olds p)) (piece-before ns ms more p (reverse olds) one may are)
 
 -- it stays apart, or both are one
-pub set-one : (ns ms more : List ℕ) (olds left news : List Piece) (q r : Piece) (lines : ℕ) (old : Option ℕ) → olds ≡ left ++ q ∷ [] → news ≡ left ++ r ∷ [] → r.lines ≡ lines + q.lines → r.old ≡ None
+pub set-one : (ns ms more : List ℕ) (olds left news : List RecutChunk) (q r : RecutChunk) (lines : ℕ) (old : Option ℕ) → olds ≡ left ++ q ∷ [] → news ≡ left ++ r ∷ [] → r.lines ≡ lines + q.lines → r.old ≡ None
     → ArePieces ns (reverse olds) more → MayStandBefore ns lines old ms more → ArePieces ns (reverse news) (ms ++ more)
 set-one ns ms more olds left news q r lines old was made both none are may =
     subst (λ ps. ArePieces ns ps (ms ++ more)) (sym (ap reverse made ∙ reverse-push left r))
@@ -188,12 +188,12 @@ run-seam ns a b i n s e more is ends goes some less =
     ]
 
 -- before any chunk, and behind all
-pub begin-pieces : (ns : List ℕ) (ps : List Piece) (a b s : ℕ) (more : List ℕ) → b ≤ s → ArePieces ns (reverse ps) more → ArePieces ns (reverse ps) (numbers (s + (a - s)) (b - (s + (a - s))) ++ more)
+pub begin-pieces : (ns : List ℕ) (ps : List RecutChunk) (a b s : ℕ) (more : List ℕ) → b ≤ s → ArePieces ns (reverse ps) more → ArePieces ns (reverse ps) (numbers (s + (a - s)) (b - (s + (a - s))) ++ more)
 begin-pieces ns ps a b s more past are =
     let none : b - (s + (a - s)) ≡ 0 = omega (arith, past) in
     subst (λ xs. ArePieces ns (reverse ps) (xs ++ more)) (sym (numbers-none (s + (a - s)) (b - (s + (a - s))) none)) are
 
-pub end-pieces : (ns : List ℕ) (ps : List Piece) (a b s : ℕ) (more : List ℕ) → s ≡ 0 → ArePieces ns (reverse ps) (numbers (s + (a - s)) (b - (s + (a - s))) ++ more) → ArePieces ns (reverse ps) (numbers a (b - a) ++ more)
+pub end-pieces : (ns : List ℕ) (ps : List RecutChunk) (a b s : ℕ) (more : List ℕ) → s ≡ 0 → ArePieces ns (reverse ps) (numbers (s + (a - s)) (b - (s + (a - s))) ++ more) → ArePieces ns (reverse ps) (numbers a (b - a) ++ more)
 end-pieces ns ps a b s more none are =
     let here : s + (a - s) ≡ a = omega (arith, none) in
     subst (λ k. ArePieces ns (reverse ps) (numbers k (b - k) ++ more)) here are

@@ -7,7 +7,7 @@ use Rattle.cps_state.specs.declared.key.Asked.{Asked}
 use Rattle.cps_state.specs.Course.{Trace}
 use Rattle.cps_state.specs.Keys.{State, first_state}
 use Rattle.cps_state.specs.Work.{counted_on}
-use Rattle.cps_final.specs.Changes.{changed, no_change, settled}
+use Rattle.cps_final.specs.Changes.{changed, no_change, agreed}
 use Rattle.cps_final.specs.Code.Kept.{changes_in}
 use Rattle.cps_final.specs.Layout.{puts_of}
 use Rattle.cps_edit.specs.Passes.{state_after, traces_of}
@@ -112,7 +112,7 @@ module _ (old : Walk) (walk : IsWalk old) (a b : ℕ) (le : a ≤ b) where
   none-here stood = part-none old.base.lines.now old.base.traces.now walk.base.did a b le (changes_in old.replay.log.changes) stood
 
   pub same-over : (new : Walk) → stands (changes_in old.replay.log.changes) asked ≡ true
-      → changes_in new.replay.log.changes ≡ settled (changes_in old.replay.log.changes) (puts_of (stretch a b old.base.traces.now))
+      → changes_in new.replay.log.changes ≡ agreed (changes_in old.replay.log.changes) (puts_of (stretch a b old.base.traces.now))
       → new.replay.news.items ≡ old.replay.news.items → changes_in new.replay.log.present ≡ no_change → new.base ≡ old.base → GoesOver old new a b
   same-over new stood changes news present base = record {
     news = news ∙ sym (append-nil old.replay.news.items) ∙ ap (λ us. old.replay.news.items ++ us) (sym (none-here stood));

@@ -10,7 +10,7 @@ use Rattle.cps_state.specs.declared.key.Asked.{Asked}
 use Rattle.cps_state.specs.declared.key.Put.{Put}
 use Rattle.cps_state.specs.Course.{Trace, known_in}
 use Rattle.cps_state.specs.Keys.{State, first_state, overwritten}
-use Rattle.cps_final.specs.Changes.{Changed, changed, settled}
+use Rattle.cps_final.specs.Changes.{Changed, changed, agreed}
 use Rattle.cps_final.proofs.ChangedLemmas.{settled-law}
 use Rattle.cps_final.specs.Layout.{puts_of}
 use Rattle.cps_final.specs.Holds.{holds}
@@ -18,8 +18,8 @@ use Rattle.cps_final.specs.Run.{Run, empty_run, with_ask, with_asks, joined, run
 use Rattle.cps_final.proofs.AnswerLemmas.{asks-decide}
 use Rattle.cps_edit.specs.Passes.{state_after, traces_from, traces_of}
 use Rattle.cps_edit.proofs.SpliceLemmas.{none-disturbed, puts-state}
-use Rattle.cps_chunk.specs.declared.marks.Marks.{Marks}
-use Rattle.cps_chunk.specs.Marks.{mark_of, has, AreMarked, asks_at, keys_asked}
+use Rattle.cps_chunk.specs.declared.key_filter.KeyFilter.{KeyFilter}
+use Rattle.cps_chunk.specs.KeyFilter.{bit_of, has, AreMarked, asks_at, keys_asked}
 use Rattle.cps_chunk.proofs.MarkLemmas.{marked-append, marked-parts}
 use Rattle.cps_chunk.specs.Noted.{stands_at, stands}
 use Rattle.cps_chunk.specs.Replayed.{replayed}
@@ -32,13 +32,13 @@ use Rattle.cps_chunk.proofs.WalkLemmas.{stretch-did, stretch-state}
 
 -- ---- no changed key has its mark
 
-abbrev pub AreUnmarked : Hashing → Marks → Changed → Type 0
-AreUnmarked hashing m now = (k : Key) → is_some (now k) ≡ true → has m (mark_of hashing k) ≡ false
+abbrev pub AreUnmarked : Hashing → KeyFilter → Changed → Type 0
+AreUnmarked hashing m now = (k : Key) → is_some (now k) ≡ true → has m (bit_of hashing k) ≡ false
 
 abbrev ask-key : Asked → Key
 ask-key a = a.key
 
-module _ (hashing : Hashing) (m : Marks) where
+module _ (hashing : Hashing) (m : KeyFilter) where
   abbrev pub AllMarked : List Asked → Type 0
   AllMarked asks = AreMarked hashing m (map ask-key asks)
 
@@ -47,10 +47,10 @@ module _ (hashing : Hashing) (m : Marks) where
   unmarked-asks now absent [] all = refl
   unmarked-asks now absent (a ∷ asks) all =
       let parts = marked-parts hashing m (a.key ∷ []) (map ask-key asks) all in
-      let here : has m (mark_of hashing a.key) ≡ true = (and_parts (has m (mark_of hashing a.key)) true parts.0).0 in
+      let here : has m (bit_of hashing a.key) ≡ true = (and_parts (has m (bit_of hashing a.key)) true parts.0).0 in
       and_from (stands_at (now a.key) a.answer) (stands now asks) (at here (now a.key) refl) (unmarked-asks now absent asks parts.1)
     where
-      at : has m (mark_of hashing a.key) ≡ true → (there : Option (Option Answer)) → now a.key ≡ there → stands_at there a.answer ≡ true
+      at : has m (bit_of hashing a.key) ≡ true → (there : Option (Option Answer)) → now a.key ≡ there → stands_at there a.answer ≡ true
       at here None is = refl
       at here (Some x) is =
           let none : true ≡ false = sym here ∙ absent a.key (ap is_some is) in
@@ -102,11 +102,11 @@ module _ (now : Changed) (f : State) (ls : List (List ℕ)) where
     pub passed-none : (i : ℕ) → replayed (changed now f) i ls (traces_from f ls) ≡ []
     passed-none i = replayed-none (changed now f) i ls (traces_from f ls) there.undisturbed
 
-    -- and they leave those changes that they don't settle
-    pub passed-state : changed (settled now (puts_of (traces_from f ls))) (state_after f ls) ≡ state_after (changed now f) ls
+    -- and they leave those changes that they don't put
+    pub passed-state : changed (agreed now (puts_of (traces_from f ls))) (state_after f ls) ≡ state_after (changed now f) ls
     passed-state =
         let puts = puts_of (traces_from f ls) in
-        ap (changed (settled now puts)) (sym (puts-state f ls)) ∙ sym (settled-law now f puts)
+        ap (changed (agreed now puts)) (sym (puts-state f ls)) ∙ sym (settled-law now f puts)
         ∙ ap (overwritten (changed now f)) (sym (run-puts empty_run (traces_from f ls))) ∙ sym there.behind
 
 -- ---- a stretch of the lines of a source
@@ -129,6 +129,6 @@ module _ (lines : List (List ℕ)) (traces : List Trace) (did : traces ≡ trace
     pub part-none : replayed (changed now front) a (stretch a b lines) (stretch a b traces) ≡ []
     part-none = ap (replayed (changed now front) a (stretch a b lines)) same ∙ passed-none now front (stretch a b lines) still a
 
-    pub part-left : changed (settled now (puts_of (stretch a b traces))) (state_after first_state (take b lines)) ≡ state_after (changed now front) (stretch a b lines)
+    pub part-left : changed (agreed now (puts_of (stretch a b traces))) (state_after first_state (take b lines)) ≡ state_after (changed now front) (stretch a b lines)
     part-left =
-        (λ i. changed (settled now (puts_of (same i))) (sym (stretch-state lines traces did a b le) i)) ∙ passed-state now front (stretch a b lines) still
+        (λ i. changed (agreed now (puts_of (same i))) (sym (stretch-state lines traces did a b le) i)) ∙ passed-state now front (stretch a b lines) still

@@ -4,22 +4,22 @@ use Rattle.cps_code.specs.Place.{position}
 use Rattle.cps_code.specs.declared.place.Place.{Place}
 use Rattle.cps_pass.specs.Fields.{Sized, are_sized, fields_in, no_fields_sized, placing_fields, sizing, with_field}
 use Rattle.cps_pass.specs.Instruction.{coded, peripheral_coded}
-use Rattle.cps_pass.specs.Located.{asking_standing, asking_taken, defining, has_value, standing_by, symbol_in}
+use Rattle.cps_pass.specs.Located.{asking_definition, asking_taken, defining, has_value, defined_by, symbol_in}
 use Rattle.cps_pass.specs.Numbers.{between, no_number_flags, plain_number}
 use Rattle.cps_pass.specs.Places.{asking_place, filling_between, here_at, rounded_up}
-use Rattle.cps_pass.specs.Placing.{asking_site, held_of, holding, only_flagging, placed, placed_to, placing_flags, settings_now, settling, start_for, too_far, unplaced, unread_flags, unread_from, word_start}
+use Rattle.cps_pass.specs.Placing.{asking_site, held_of, holding, only_flagging, placed, placed_to, placing_flags, settings_now, advancing, start_for, too_far, unplaced, unread_flags, unread_from, word_start}
 use Rattle.cps_pass.specs.Reserving.{reserved, reserved_or_not, reserving, zeros_for}
 use Rattle.cps_pass.specs.ValueNow.{meant, names_now, no_values, now, value_now, with_value}
 use Rattle.cps_pass.specs.Words.{counted_or_not, delimited_words, displaying, number_words, text_words, words}
-use Rattle.cps_pass.specs.declared.located.Standing.{Standing}
+use Rattle.cps_pass.specs.declared.located.Definition.{Definition}
 use Rattle.cps_pass.specs.declared.placing.Site.{Site}
 use Rattle.cps_pass.specs.declared.value_now.ValueNow.{ValueNow}
 use Rattle.cps_expr.specs.Expression.{Expression, names_of}
 use Rattle.cps_expr.specs.Item.{blank_code}
 use Rattle.cps_expr.specs.Value.{Values}
-use Rattle.cps_expr.specs.declared.row.DisText.TheVariants.{Counted, Delimited}
-use Rattle.cps_expr.specs.declared.row.DisText.{DisText}
-use Rattle.cps_expr.specs.declared.row.Field.{Field}
+use Rattle.cps_expr.specs.declared.pseudo.DisText.TheVariants.{Counted, Delimited}
+use Rattle.cps_expr.specs.declared.pseudo.DisText.{DisText}
+use Rattle.cps_expr.specs.declared.pseudo.Field.{Field}
 use Rattle.cps_expr.specs.declared.value.Value.{Value as AValue}
 use Rattle.cps_chunk.proofs.StandLemmas.{Fits, Mark, ask-fits, if-fits, mark_of, place-fits, settled}
 use Rattle.cps_pass.specs.declared.reading.Location.{Location}
@@ -33,7 +33,7 @@ use Rattle.cps_state.specs.declared.key.Control.{Control}
 use Rattle.cps_state.specs.declared.key.Key.TheVariants as key
 use Rattle.cps_state.specs.declared.made.Content.TheVariants as content
 use Rattle.cps_state.specs.declared.made.Content.{Content}
-use Rattle.cps_state.specs.declared.made.Held.{Held}
+use Rattle.cps_state.specs.declared.made.SetValue.{SetValue}
 use Rattle.cps_state.specs.declared.made.Shown.TheVariants as shown
 use Rattle.cps_text.specs.declared.name.Name.{Name}
 use Rattle.std.proofs.Common.{Bool, List, None, Option, Some, [], false, refl, true, ℕ, ◌*◌, ◌++◌, ◌+◌, ◌∷◌}
@@ -56,11 +56,11 @@ now-fits b m terms here next rest later =
 
 -- ---- symbols
 
-pub standing-fits : (b : Option Name) (m : Bool) (name : Name) (next : Standing → Part) (rest : Course)
-    → ((standing : Standing) → Fits b (next standing rest) (mark_of m)) → Fits b (asking_standing name next rest) (mark_of m)
+pub standing-fits : (b : Option Name) (m : Bool) (name : Name) (next : Definition → Part) (rest : Course)
+    → ((standing : Definition) → Fits b (next standing rest) (mark_of m)) → Fits b (asking_definition name next rest) (mark_of m)
 standing-fits b m name next rest later =
-    ask-fits b m (key.Label name) (λ l. asking (key.Setting name) (λ s. next (standing_by (value_of l) (value_of s))) rest) refl (λ l.
-    ask-fits b m (key.Setting name) (λ s. next (standing_by (value_of l) (value_of s)) rest) refl (λ s. later (standing_by (value_of l) (value_of s))))
+    ask-fits b m (key.Label name) (λ l. asking (key.Setting name) (λ s. next (defined_by (value_of l) (value_of s))) rest) refl (λ l.
+    ask-fits b m (key.Setting name) (λ s. next (defined_by (value_of l) (value_of s)) rest) refl (λ s. later (defined_by (value_of l) (value_of s))))
 
 pub telling-fits : (b : Option Name) (m : Mark) (holds : Bool) (name : Name) (rest : Course) → Fits b rest m → Fits b (telling_if holds name rest) m
 telling-fits b m true name rest later = later
@@ -98,18 +98,18 @@ site-fits control location m next rest later =
 
 -- ---- placing, where the statement stands
 
-settings-settle : (b : Option Name) (names : List Name) (next : List Held → Part) (rest : Course)
-    → ((held : List Held) → Fits b (next held rest) settled) → Fits b (settings_now names next rest) settled
+settings-settle : (b : Option Name) (names : List Name) (next : List SetValue → Part) (rest : Course)
+    → ((held : List SetValue) → Fits b (next held rest) settled) → Fits b (settings_now names next rest) settled
 settings-settle b [] next rest later = later []
 settings-settle b (name ∷ names) next rest later =
     λ a. settings-settle b names (λ held. next (held_of name (value_of a) ++ held)) rest (λ held. later (held_of name (value_of a) ++ held))
 
-holding-settles : (b : Option Name) (contents : List Content) (next : List Held → Part) (rest : Course)
-    → ((held : List Held) → Fits b (next held rest) settled) → Fits b (holding contents next rest) settled
+holding-settles : (b : Option Name) (contents : List Content) (next : List SetValue → Part) (rest : Course)
+    → ((held : List SetValue) → Fits b (next held rest) settled) → Fits b (holding contents next rest) settled
 holding-settles b contents next rest later = settings-settle b (flat_map content_names contents) next rest later
 
 pub settling-settles : (b : Option Name) (site : Site) (start after : ℕ) (is_pending : Bool) (rest : Course)
-    → Fits b rest settled → Fits b (settling site start after is_pending rest) settled
+    → Fits b rest settled → Fits b (advancing site start after is_pending rest) settled
 settling-settles b site start after is_pending rest later =
     defining-fits b settled (symbol_in site.location) site.is_taken (here_at site.block start) rest later
 
@@ -118,11 +118,11 @@ pub unplaced-settles : (b : Option Name) (flags : Flags) (site : Site) (start : 
 unfolding unplaced
 unplaced-settles b flags site start contents rest later =
     holding-settles b contents (λ held.
-    settling site start start false before fill (only_flagging flags site (filling_between (position site.place) start) start contents held)) rest (λ held.
+    advancing site start start false before fill (only_flagging flags site (filling_between (position site.place) start) start contents held)) rest (λ held.
     settling-settles b site start start false
     (fill (only_flagging flags site (filling_between (position site.place) start) start contents held) rest) later)
 
-placed-to-settles : (b : Option Name) (site : Site) (start : ℕ) (contents : List Content) (is_pending : Bool) (end : ℕ) (held : List Held) (rest : Course)
+placed-to-settles : (b : Option Name) (site : Site) (start : ℕ) (contents : List Content) (is_pending : Bool) (end : ℕ) (held : List SetValue) (rest : Course)
     → Fits b rest settled → Fits b (placed_to site start contents is_pending end held rest) settled
 placed-to-settles b site start contents is_pending end held rest later =
     let made = record (nothing_made (placing_flags site)) {
@@ -133,7 +133,7 @@ placed-to-settles b site start contents is_pending end held rest later =
       held = held;
     } in
     if-fits b settled (nat_lt (60 * limit site.machine) end) (too_far site start contents held)
-    (settling site start (rounded_up site.machine end) is_pending before fill made) rest later
+    (advancing site start (rounded_up site.machine end) is_pending before fill made) rest later
     (settling-settles b site start (rounded_up site.machine end) is_pending (fill made rest) later)
 
 pub placed-settles : (b : Option Name) (site : Site) (start : ℕ) (contents : List Content) (is_pending : Bool) (rest : Course)
@@ -169,7 +169,7 @@ reserved-settles b has_zeros site start words rest later =
       shown = shown.Start;
     } in
     if-fits b settled (nat_lt (limit site.machine) (start / 60 + words)) (too_far site start [] [])
-    (settling site start (start + 60 * words) false before fill made) rest later
+    (advancing site start (start + 60 * words) false before fill made) rest later
     (settling-settles b site start (start + 60 * words) false (fill made rest) later)
 
 reserved-or-not-settles : (b : Option Name) (has_zeros : Bool) (site : Site) (start : ℕ) (value : ValueNow) (number : Option ℕ) (rest : Course)

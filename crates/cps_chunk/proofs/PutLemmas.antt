@@ -9,7 +9,7 @@ use Rattle.cps_chunk.specs.Division.{full, AreChunks, IsDivision, joined, grown,
 use Rattle.cps_chunk.specs.Put.{inserted_each, put_at, Puts}
 use Rattle.cps_chunk.specs.Recut.{recut}
 use Rattle.cps_chunk.specs.Staying.{same_front}
-use Rattle.cps_chunk.specs.Code.Filling.{StandInFirst}
+use Rattle.cps_chunk.specs.Code.GrowingChunks.{StandInFirst}
 use Rattle.cps_chunk.proofs.DivisionLemmas.{lt-true, lt-false, inserted-chunks, inserted-sum, deleted-chunks, deleted-sum}
 use Rattle.cps_chunk.proofs.StayingLemmas.{chunks-some}
 use Rattle.cps_chunk.proofs.TightLemmas.{IsEdit, IsTrimmed, trimmed}

@@ -12,7 +12,7 @@ use Rattle.cps_state.specs.Course.{Trace}
 use Rattle.cps_pass.specs.Expansion.{trace_of}
 use Rattle.cps_final.specs.Outcome.{Resolved, Outcome, outcome_of}
 use Rattle.cps_final.specs.Naming.{all_named}
-use Rattle.cps_final.specs.Names.{statements_of}
+use Rattle.cps_final.specs.NamedFinals.{statements_of}
 use Rattle.cps_final.specs.Agreeing.{same_at, same_named}
 use Rattle.cps_final.specs.Holds.{holds}
 use Rattle.cps_final.proofs.AgreeLemmas.{named-alone}

@@ -19,8 +19,8 @@ use Rattle.cps_pass.specs.Symbols.{asking_settable, equate, equate_flags, equate
 use Rattle.cps_pass.specs.Use.{before_previous, beginning_block, going_to, going_to_named, going_to_new, has_begun, leaving, left_behind, most_blocks, previous, unread_use, use_block}
 use Rattle.cps_pass.specs.ValueNow.{now, now_here}
 use Rattle.cps_pass.specs.Words.{displaying, unread_words_at, number_words, unread_words, value_words, words}
-use Rattle.cps_pass.specs.declared.located.Standing.TheVariants.{Free, Labelled, Set}
-use Rattle.cps_pass.specs.declared.located.Standing.{Standing}
+use Rattle.cps_pass.specs.declared.located.Definition.TheVariants.{Free, Labelled, Set}
+use Rattle.cps_pass.specs.declared.located.Definition.{Definition}
 use Rattle.cps_pass.specs.declared.value_now.ValueNow.TheVariants.{Known, NoValue, Undefined}
 use Rattle.cps_pass.specs.declared.value_now.ValueNow.{ValueNow}
 use Rattle.cps_expr.specs.Expression.{Expression, has_counter}
@@ -30,10 +30,10 @@ use Rattle.cps_expr.specs.declared.machine.Machine.{Machine}
 use Rattle.cps_expr.specs.declared.operation.Operation.TheVariants as operation
 use Rattle.cps_expr.specs.declared.operation.Operation.{Operation}
 use Rattle.cps_expr.specs.declared.radix.Radix.{Radix}
-use Rattle.cps_expr.specs.declared.row.Block.TheVariants.{Named, Nominal, Previous}
-use Rattle.cps_expr.specs.declared.row.Block.{Block}
-use Rattle.cps_expr.specs.declared.row.Row.TheVariants as row
-use Rattle.cps_expr.specs.declared.row.Row.{Row}
+use Rattle.cps_expr.specs.declared.pseudo.Block.TheVariants.{Named, Nominal, Previous}
+use Rattle.cps_expr.specs.declared.pseudo.Block.{Block}
+use Rattle.cps_expr.specs.declared.pseudo.Pseudo.TheVariants as row
+use Rattle.cps_expr.specs.declared.pseudo.Pseudo.{Pseudo}
 use Rattle.cps_expr.specs.declared.value.Value.{Value as AValue}
 use Rattle.cps_chunk.proofs.PlacingStands.{asked-place-fits, coded-settles, defining-fits, displayed-settles, fields-settle, now-fits, peripheral-settles, reserving-settles, site-fits, standing-fits, taken-fits, telling-fits, unread-settles, words-settle}
 use Rattle.cps_chunk.proofs.StandLemmas.{Fits, Mark, ask-fits, if-fits, mark_of, settled}
@@ -185,14 +185,14 @@ unread-equate-fits : (b : Option Name) (m : Bool) (location : Location) (rest : 
 unread-equate-fits b m location rest later =
     taken-fits b m (symbol_in location) (λ is_taken. flagged (record (equate_flags location is_taken) { operand = true })) rest (λ is_taken. later)
 
-setting-fits : (b : Option Name) (m : Mark) (symbol : Option Name) (standing : Standing) (value : AValue) (rest : Course) → Fits b rest m → Fits b (setting symbol standing value rest) m
+setting-fits : (b : Option Name) (m : Mark) (symbol : Option Name) (standing : Definition) (value : AValue) (rest : Course) → Fits b rest m → Fits b (setting symbol standing value rest) m
 setting-fits b m None standing value rest later = later
 setting-fits b m (Some name) Free value rest later = later
 setting-fits b m (Some name) Labelled value rest later = later
 setting-fits b m (Some name) Set value rest later = later
 
-settable-fits : (b : Option Name) (m : Bool) (symbol : Option Name) (next : Standing → Part) (rest : Course)
-    → ((standing : Standing) → Fits b (next standing rest) (mark_of m)) → Fits b (asking_settable symbol next rest) (mark_of m)
+settable-fits : (b : Option Name) (m : Bool) (symbol : Option Name) (next : Definition → Part) (rest : Course)
+    → ((standing : Definition) → Fits b (next standing rest) (mark_of m)) → Fits b (asking_settable symbol next rest) (mark_of m)
 settable-fits b m None next rest later = later Free
 settable-fits b m (Some name) next rest later =
     standing-fits b m name (λ standing. telling_if (is_labelled standing) name before next standing) rest (λ standing.
@@ -225,7 +225,7 @@ pub peripheral-fits : (control : Control) (m : Bool) (location : Location) (form
 peripheral-fits control m location form rest later =
     site-fits control location m (peripheral_coded form) rest (λ site. peripheral-settles control.block form site rest later)
 
-pub obeyed-fits : (control : Control) (m : Bool) (location : Location) (stated : Row) (rest : Course)
+pub obeyed-fits : (control : Control) (m : Bool) (location : Location) (stated : Pseudo) (rest : Course)
     → ((placed : Bool) → Fits control.block rest (mark_of placed)) → Fits control.block (obeyed_plainly control location stated rest) (mark_of m)
 obeyed-fits control m location (row.Ident name) rest later = ident-fits control.block (mark_of m) control location (Some name) rest (later m)
 obeyed-fits control m location row.Abs rest later = declaration-fits control.block (mark_of m) control location Cp rest (later m)

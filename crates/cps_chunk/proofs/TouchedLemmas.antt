@@ -6,7 +6,7 @@ use Rattle.cps_state.specs.Course.{Trace}
 use Rattle.cps_state.specs.Keys.{State, first_state}
 use Rattle.cps_final.specs.Outcome.{Resolved}
 use Rattle.cps_chunk.specs.Recut.{recut}
-use Rattle.cps_final.specs.Names.{statements_of, names_in}
+use Rattle.cps_final.specs.NamedFinals.{statements_of, names_in}
 use Rattle.cps_final.proofs.NamesLemmas.{names-law}
 use Rattle.cps_final.specs.Agreeing.{same_at, same_named}
 use Rattle.cps_final.specs.Holds.{holds}

@@ -2,14 +2,14 @@
 pub mod Along
 pub mod Chunk
 pub mod Compared
-pub mod Filling
+pub mod GrowingChunks
 pub mod Leaving
 pub mod Looks
 pub mod MoveLooks
 pub mod Moved
 pub mod MovedChunks
 pub mod NoLiteral
-pub mod Past
+pub mod StateBefore
 pub mod Pieces
 pub mod Recuts
 pub mod Redo

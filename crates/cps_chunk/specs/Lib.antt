@@ -3,7 +3,7 @@ pub mod Exchange
 pub mod Put
 pub mod Recut
 pub mod Staying
-pub mod Marks
+pub mod KeyFilter
 pub mod Sparse
 pub mod Replayed
 pub mod RunLaws

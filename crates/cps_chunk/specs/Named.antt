@@ -2,7 +2,7 @@
 use Rattle.std.specs.Prelude.{◌≡◌, true, List}
 use Rattle.cps_state.specs.Course.{Trace}
 use Rattle.cps_final.specs.Outcome.{Resolved}
-use Rattle.cps_final.specs.Names.{statements_of}
+use Rattle.cps_final.specs.NamedFinals.{statements_of}
 use Rattle.cps_final.specs.Agreeing.{same_named}
 use Rattle.cps_edit.specs.Passes.{outcomes_by}
 use Rattle.cps_edit.specs.Renewed.{redone_kept}

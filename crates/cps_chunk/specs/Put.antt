@@ -3,7 +3,7 @@ use Rattle.std.specs.Prelude.{◌≡◌, ℕ, zero, suc, ◌+◌, ◌-◌, ◌�
 use Rattle.cps_chunk.specs.Division.{IsDivision, deleted_at, inserted_at}
 use Rattle.cps_chunk.specs.Recut.{recut}
 use Rattle.cps_chunk.specs.Staying.{IsTight}
-use Rattle.cps_chunk.specs.declared.put.Recut.{Recut}
+use Rattle.cps_chunk.specs.declared.put.ChunkSplice.{ChunkSplice}
 
 -- so many lines more after so many others, one behind the other
 abbrev pub inserted_each : ℕ → ℕ → List ℕ → List ℕ
@@ -21,7 +21,7 @@ abbrev pub Puts : Type 0
 Puts = (keep gone come count : ℕ) (lengths : List ℕ) → IsDivision count lengths → keep + gone ≤ count → IsDivision (count - gone + come) (put_at keep gone come lengths)
 
 -- chunks give way to others around the lines from `keep` up to `from`, and all that stay are outside
-pub record IsRecut (keep from : ℕ) (olds news : List ℕ) (by : Recut) : Type 0 where
+pub record IsRecut (keep from : ℕ) (olds news : List ℕ) (by : ChunkSplice) : Type 0 where
   pub chunks : recut by.start by.end by.lengths.items olds ≡ news
   pub ordered : by.start ≤ by.end
   pub within : by.end ≤ length olds

@@ -18,7 +18,7 @@ use Rattle.cps_edit.specs.Splice.{Splice, spliced}
 use Rattle.cps_edit.specs.Disturbed.{finals_in}
 use Rattle.cps_edit.specs.Renewed.{nones}
 use Rattle.cps_final.specs.Run.{run_of}
-use Rattle.cps_final.specs.Names.{statements_of}
+use Rattle.cps_final.specs.NamedFinals.{statements_of}
 
 -- a list cut into pieces of these lengths
 abbrev pub cut : {X : Type 0} → List ℕ → List X → List (List X)

@@ -1,14 +1,14 @@
 //! Changed keys, as lines are gone through.
 ghost use Rattle.std.specs.Prelude.{◌≡◌, OnOk, IfOk, unwrap_or};
 ghost use Rattle.std.specs.Option.{option_copied};
-ghost use Rattle.cps_final.specs.Changes.{no_change, settled};
+ghost use Rattle.cps_final.specs.Changes.{no_change, agreed};
 ghost use Rattle.cps_final.specs.Code.Kept.{changes_in};
 ghost use Rattle.cps_final.specs.Layout.{puts_of};
 ghost use Rattle.cps_chunk.specs.Code.Compared.{with_puts};
 ghost use Rattle.cps_chunk.specs.Noted.{AreHeld, last_puts};
 ghost use Rattle.cps_chunk.specs.Code.Replay.{Closes, Puts, all_compared, compared_at, former_in, present_at, present_in, present_with};
 
-use crate::states::{ChangedState, FormerState};
+use crate::states::{FormerState, Overlay};
 use cps_final::{Changes, is_same_answer};
 use cps_state::{Answer, Hashing, Key, Lookup, Put, Trace};
 use std::alloc::{AllocError, Global};
@@ -90,11 +90,11 @@ impl ChangeLog {
     }
 
     /// Goes over lines that put the same as before.
-    pub fn settle(&mut self, puts: &[Put])
-        ensures changes { changes_in self.new.changes ≡ settled (changes_in self.old.changes) puts.now }
+    pub fn agree(&mut self, puts: &[Put])
+        ensures changes { changes_in self.new.changes ≡ agreed (changes_in self.old.changes) puts.now }
         ensures present { self.new.present ≡ self.old.present }
     {
-        self.changes.settle(puts);
+        self.changes.agree(puts);
     }
 
     /// One of the present lines puts these.
@@ -163,7 +163,7 @@ impl ChangeLog {
         if self.present.find(key).is_some() {
             return Ok(());
         }
-        let now = ChangedState {
+        let now = Overlay {
             changes: &self.changes,
             before,
         };
@@ -188,7 +188,7 @@ impl ChangeLog {
         ensures present { self.new.present ≡ self.old.present }
         ensures former { self.new.former ≡ self.old.former }
     {
-        let then = ChangedState {
+        let then = Overlay {
             changes: &self.former,
             before,
         };

@@ -3,8 +3,8 @@ ghost use Rattle.std.specs.Prelude.{◌≡◌, ◌+◌, ◌<◌, ◌++◌, ◌�
 ghost use Rattle.cps_state.specs.Course.{Trace as Did};
 ghost use Rattle.cps_chunk.specs.Code.Chunk.{IsChunkOf, WasMarked};
 
-use crate::marks::Marks;
-use cps_final::{Names, Run};
+use crate::key_filter::KeyFilter;
+use cps_final::{NamedFinals, RunAsks};
 use cps_state::{Hashing, Trace};
 use std::alloc::{AllocError, Global};
 
@@ -13,13 +13,13 @@ use std::alloc::{AllocError, Global};
 pub struct Chunk {
     pub lines: usize,
     /// Marks of all keys that they put, and perhaps of others.
-    pub puts: Marks,
+    pub puts: KeyFilter,
     /// Marks of all keys that they ask, and of all labels that they name, and perhaps of others.
-    pub reads: Marks,
+    pub reads: KeyFilter,
     /// What they ask together, exactly, if that was gathered.
-    pub run: Option<Run>,
+    pub run: Option<RunAsks>,
     /// What they name, likewise.
-    pub names: Option<Names>,
+    pub names: Option<NamedFinals>,
 }
 
 impl Chunk {
@@ -29,8 +29,8 @@ impl Chunk {
     {
         let mut chunk = Chunk {
             lines: 0,
-            puts: Marks::none(),
-            reads: Marks::none(),
+            puts: KeyFilter::none(),
+            reads: KeyFilter::none(),
             run: None,
             names: None,
         };
@@ -78,7 +78,7 @@ impl Chunk {
         if self.run.is_some() {
             return Ok(());
         }
-        let run = Run::of(alloc, hashing, traces)?;
+        let run = RunAsks::of(alloc, hashing, traces)?;
         self.run = Some(run);
         Ok(())
     }
@@ -98,7 +98,7 @@ impl Chunk {
         if self.names.is_some() {
             return Ok(());
         }
-        let names = Names::of(alloc, hashing, traces)?;
+        let names = NamedFinals::of(alloc, hashing, traces)?;
         self.names = Some(names);
         Ok(())
     }

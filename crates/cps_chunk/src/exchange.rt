@@ -12,7 +12,7 @@ use std::alloc::{AllocError, Global};
 
 /// A chunk of the new division, and which of the old ones it is, counted from 0, if it has the lines of one.
 #[derive(Clone, Copy)]
-pub struct Piece {
+pub struct RecutChunk {
     pub lines: usize,
     pub old: Option<usize>,
 }
@@ -22,7 +22,7 @@ pub fn recut_exchange(
     alloc: Global,
     lengths: &[usize],
     exchange: Exchange,
-) -> Result<Vec<Piece>, AllocError>
+) -> Result<Vec<RecutChunk>, AllocError>
     requires chunks { AreChunks lengths.now }
     requires few { sum lengths.now < 2 ^ 63 }
     requires first { exchange.keep < exchange.mid }
@@ -43,7 +43,7 @@ pub fn recut_exchange(
 
 /// Sets what the lines after the first `from` up to the first `to` have of chunks before pieces, which stand in the other order.
 fn set_run_before(
-    pieces: &mut Vec<Piece>,
+    pieces: &mut Vec<RecutChunk>,
     lengths: &[usize],
     from: usize,
     to: usize,
@@ -71,7 +71,7 @@ fn set_run_before(
 
 /// The same of what they have of a chunk, of which so many lines stand before them, and so many up to the last of them.
 fn set_part_before(
-    pieces: &mut Vec<Piece>,
+    pieces: &mut Vec<RecutChunk>,
     lines: usize,
     chunk: usize,
     from: usize,
@@ -91,7 +91,11 @@ fn set_part_before(
 }
 
 /// Sets so many lines before pieces, which stand in the other order: with the first of them where both fit in one.
-fn set_before(pieces: &mut Vec<Piece>, lines: usize, old: Option<usize>) -> Result<(), AllocError>
+fn set_before(
+    pieces: &mut Vec<RecutChunk>,
+    lines: usize,
+    old: Option<usize>,
+) -> Result<(), AllocError>
     requires { 1 ≤ lines }
     ensures lengths { OnOk result (lines_in pieces.new.items ≡ joined lines (lines_in pieces.old.items)) }
     ensures pieces { OnOk result (SetsOne pieces.old.items pieces.new.items lines old) }
@@ -99,7 +103,7 @@ fn set_before(pieces: &mut Vec<Piece>, lines: usize, old: Option<usize>) -> Resu
     if let Some(first) = pieces.pop() {
         let both = lines.saturating_add(first.lines);
         if both <= FULL {
-            pieces.push(Piece {
+            pieces.push(RecutChunk {
                 lines: both,
                 old: None,
             })?;
@@ -107,6 +111,6 @@ fn set_before(pieces: &mut Vec<Piece>, lines: usize, old: Option<usize>) -> Resu
         }
         pieces.push(first)?;
     }
-    pieces.push(Piece { lines, old })?;
+    pieces.push(RecutChunk { lines, old })?;
     Ok(())
 }

@@ -9,18 +9,18 @@
 //! - `division_laws.rt`: laws of the lengths of chunks after an edit
 //! - `edits.rt`: laws of the lines that an edit leaves, and one for each pass
 //! - `exchange.rt`: the chunks where two runs of lines have changed places
-//! - `filling.rt`: what lines make of chunks that come one behind the other
+//! - `growing_chunks.rt`: what lines make of chunks that come one behind the other
+//! - `key_filter.rt`: a filter of keys
 //! - `lines.rt`: laws of source lines
-//! - `marks.rt`: marks of keys
 //! - `moved.rt`: the chunks of a source of which two runs of lines have changed places, made from the old ones
-//! - `past.rt`: what stands in front of a line, sought backwards
 //! - `place.rt`: the chunk of a line
 //! - `put.rt`: the chunks where lines have come in the place of others
 //! - `redo.rt`: pass two over lines that were there before an edit
 //! - `replay.rt`: pass one over lines that were there before an edit
 //! - `runs.rt`: runs of lines, by which chunks are passed
+//! - `same.rt`: whether what lines asked still stands
 //! - `sparse.rt`: items at some places of a list
-//! - `standing.rt`: whether what lines asked still stands
+//! - `state_before.rt`: what stands in front of a line, sought backwards
 //! - `states.rt`: what stands in front of a line
 //! - `staying.rt`: how many chunks at either end stay
 //! - `storing.rt`: where blocks and literals stand behind an edit
@@ -36,37 +36,31 @@ mod deletion;
 pub mod division_laws;
 pub mod edits;
 mod exchange;
-mod filling;
+mod growing_chunks;
+mod key_filter;
 pub mod lines;
-mod marks;
 mod moved;
-mod past;
 mod place;
 mod put;
 mod redo;
 mod replay;
 pub mod runs;
+mod same;
 mod sparse;
-mod standing;
+mod state_before;
 mod states;
 mod staying;
 mod storing;
 pub mod touched_laws;
 mod walk;
 
-pub use change_log::ChangeLog;
 pub use chunk::Chunk;
-pub use exchange::{Piece, recut_exchange};
-pub use marks::{MARKS, Marks, mark_of};
+pub use exchange::{RecutChunk, recut_exchange};
+pub use key_filter::{KeyFilter, bit_of};
 pub use moved::chunks_moved;
-pub use past::{Past, last_put};
-pub use place::{Place, place_of};
-pub use put::{FULL, Recut, recut_put};
+pub use put::{ChunkSplice, FULL};
 pub use redo::Redo;
-pub use replay::{OldLine, Replay};
+pub use replay::Replay;
 pub use sparse::{SparseItem, put_all};
-pub use standing::{asks_stand, still_stands};
-pub use states::{ChangedState, FormerState};
-pub use staying::lines_of;
 pub use storing::{leave_same, store_all, store_renewed};
-pub use walk::{Baseline, Cursor, Position, Span, Walk, part};
+pub use walk::{Baseline, Cursor, Destination, Span, Walk, part};

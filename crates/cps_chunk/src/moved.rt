@@ -5,7 +5,7 @@ ghost use Rattle.cps_chunk.specs.Code.Chunk.{AreChunksOf, IsChunkOf, lengths_of}
 ghost use Rattle.cps_chunk.specs.Code.MovedChunks.{AreMoved, IsOldOf, StayBut};
 
 use crate::chunk::Chunk;
-use crate::exchange::Piece;
+use crate::exchange::RecutChunk;
 use cps_state::{Hashing, Trace};
 use std::mem::replace;
 
@@ -14,7 +14,7 @@ use std::mem::replace;
 pub fn chunks_moved(
     hashing: Hashing,
     olds: Vec<Chunk>,
-    pieces: &[Piece],
+    pieces: &[RecutChunk],
     traces: &[Trace],
     room: Vec<Chunk>,
 ) -> Vec<Chunk>

@@ -4,13 +4,13 @@ ghost use Rattle.cps_chunk.specs.Division.{chunk_of};
 
 /// A chunk, counted from 0, and how many lines stand before it.
 #[derive(Clone, Copy, PartialEq, Eq)]
-pub struct Place {
+pub struct ChunkPlace {
     pub chunk: usize,
     pub before: usize,
 }
 
 /// The chunk that has the line of a number, where lines count from 1: the first for 0, and the last for one too many.
-pub fn place_of(lengths: &[usize], line: usize) -> Place
+pub fn place_of(lengths: &[usize], line: usize) -> ChunkPlace
     requires some { 0 < length lengths.now }
     requires few { sum lengths.now < 2 ^ 63 }
     ensures chunk { result.chunk ≡ chunk_of line lengths.now }
@@ -25,11 +25,11 @@ pub fn place_of(lengths: &[usize], line: usize) -> Place
     for chunk in 0..last {
         let next = before + lengths[chunk];
         if line <= next {
-            return Place { chunk, before };
+            return ChunkPlace { chunk, before };
         }
         before = next;
     }
-    Place {
+    ChunkPlace {
         chunk: last,
         before,
     }

@@ -1,13 +1,12 @@
 //! Pass one of an edit: new lines, and lines that were there before.
 ghost use Rattle.std.specs.Prelude.{◌≡◌, [], OnOk, IfOk, length};
 ghost use Rattle.cps_state.specs.Keys.{overwritten};
-ghost use Rattle.cps_state.specs.Work.{counted_on, raised};
+ghost use Rattle.cps_state.specs.Work.{counted_on};
 ghost use Rattle.cps_state.specs.declared.work.Tally.TheVariants.{Looked};
-ghost use Rattle.cps_final.specs.Changes.{no_change, settled};
+ghost use Rattle.cps_final.specs.Changes.{no_change, agreed};
 ghost use Rattle.cps_final.specs.Code.Kept.{changes_in};
 ghost use Rattle.cps_final.specs.Layout.{puts_of};
 ghost use Rattle.cps_pass.specs.Expansion.{trace_of};
-ghost use Rattle.cps_final.specs.Holds.{holds};
 ghost use Rattle.cps_edit.specs.Compares.{Steps};
 ghost use Rattle.cps_edit.specs.Passes.{after, traces_from};
 ghost use Rattle.cps_edit.specs.Renewed.{WasMeant};
@@ -16,12 +15,12 @@ ghost use Rattle.cps_chunk.specs.Code.Replay.{Closes, GoesBehind, Puts, PutsAlso
 ghost use Rattle.cps_chunk.specs.Replayed.{puts_at, steps_at};
 
 use crate::change_log::ChangeLog;
+use crate::same::still_stands;
 use crate::sparse::SparseItem;
-use crate::standing::{asks_stand, still_stands};
-use crate::states::{ChangedState, FormerState};
-use cps_final::{Changes, Run, still_holds};
+use crate::states::{FormerState, StateNow};
+use cps_final::{Changes, still_holds};
 use cps_pass::step_over;
-use cps_state::{Hashing, Lookup, Sheet, Trace, Work};
+use cps_state::{Hashing, Lookup, Scratch, Trace, Work};
 use cps_text::Line;
 use std::alloc::{AllocError, Global};
 use std::slice::from_ref;
@@ -41,7 +40,7 @@ pub struct Replay {
     /// What those lines do now that are disturbed.
     news: Vec<SparseItem<Trace>>,
     /// The lists that the next line uses.
-    sheet: Sheet,
+    scratch: Scratch,
 }
 
 // Written out: what holds one drops it by a call.
@@ -51,11 +50,11 @@ impl Drop for Replay {
             alloc: _,
             log,
             news,
-            sheet,
+            scratch,
         } = self;
         drop(log);
         drop(news);
-        drop(sheet);
+        drop(scratch);
     }
 }
 
@@ -70,7 +69,7 @@ impl Replay {
             alloc,
             log: ChangeLog::new(alloc, hashing),
             news: Vec::new(alloc),
-            sheet: Sheet::new(alloc),
+            scratch: Scratch::new(alloc),
         }
     }
 
@@ -90,7 +89,7 @@ impl Replay {
         ensures looked { work.new.looked ≡ counted_on work.old.looked 1 }
     {
         if still_stands(old.trace, self.log.changes(), work) {
-            self.log.settle(old.trace.puts());
+            self.log.agree(old.trace.puts());
             return Ok(());
         }
         let known = FormerState {
@@ -175,7 +174,7 @@ impl Replay {
         ensures steps { Steps result work.old work.new (steps_at (now_with self.old.log (L.answer past.now)) old.entry.trace.now) 0 }
         ensures looked { work.new.looked ≡ counted_on work.old.looked 1 }
     {
-        if self.still_holds(old.trace, past, work) {
+        if still_holds(old.trace, &self.now(past), work) {
             return self.log.put(old.trace.puts());
         }
         let trace = self.enter(old.line, past, work)?;
@@ -186,36 +185,15 @@ impl Replay {
         Ok(())
     }
 
-    /// Whether all that a line asked has the same answers behind the lines so far, so that it does the same there. It is one comparison, and takes no memory.
-    fn still_holds<L: Lookup>(&self, trace: &Trace, past: &L, work: &mut Work) -> bool
-        ensures holds { result ≡ holds trace.now.asks (now_with self.now.log (L.answer past.now)) }
-        ensures looked { work.new ≡ raised Looked work.old }
+    /// What stands behind the lines so far, where that stood there before.
+    pub fn now<'a, L: Lookup>(&'a self, past: &'a L) -> StateNow<'a, L>
+        ensures { ⟦<StateNow<'a, L> as Lookup>⟧.answer result ≡ now_with self.now.log (L.answer past.now) }
     {
-        let behind = ChangedState {
+        StateNow {
+            present: self.log.present(),
             changes: self.log.changes(),
             before: past,
-        };
-        let now = ChangedState {
-            changes: self.log.present(),
-            before: &behind,
-        };
-        still_holds(trace, &now, work)
-    }
-
-    /// Whether all that a run of lines asks has the same answers behind the lines so far, so that its lines do the same there. It is counted nowhere, and takes
-    /// no memory.
-    pub fn run_holds<L: Lookup>(&self, run: &Run, past: &L) -> bool
-        ensures { result ≡ holds run.now.asks (now_with self.now.log (L.answer past.now)) }
-    {
-        let behind = ChangedState {
-            changes: self.log.changes(),
-            before: past,
-        };
-        let now = ChangedState {
-            changes: self.log.present(),
-            before: &behind,
-        };
-        run.stands_in(&now)
+        }
     }
 
     /// Lines that do what they did stand behind those so far now.
@@ -249,33 +227,23 @@ impl Replay {
         ensures steps { Steps result work.old work.new 1 0 }
         ensures looked { work.new.looked ≡ work.old.looked }
     {
-        let behind = ChangedState {
+        let now = StateNow {
+            present: self.log.present(),
             changes: self.log.changes(),
             before,
         };
-        let now = ChangedState {
-            changes: self.log.present(),
-            before: &behind,
-        };
-        step_over(self.alloc, work, &mut self.sheet, line, &now)
+        step_over(self.alloc, work, &mut self.scratch, line, &now)
     }
 
     /// Goes over lines that put the same as before.
-    pub fn settle_all(&mut self, traces: &[Trace])
-        ensures changes { changes_in self.new.log.changes ≡ settled (changes_in self.old.log.changes) (puts_of traces.now) }
+    pub fn agree_all(&mut self, traces: &[Trace])
+        ensures changes { changes_in self.new.log.changes ≡ agreed (changes_in self.old.log.changes) (puts_of traces.now) }
         ensures present { self.new.log.present ≡ self.old.log.present }
         ensures news { self.new.news ≡ self.old.news }
     {
         for trace in traces {
-            self.log.settle(trace.puts());
+            self.log.agree(trace.puts());
         }
-    }
-
-    /// Whether all that a run of lines asks has the answers that it had, so that its lines do the same. It is counted nowhere, and takes no memory.
-    pub fn run_stands(&self, run: &Run) -> bool
-        ensures { result ≡ stands (changes_in self.now.log.changes) run.now.asks }
-    {
-        asks_stand(run.asks(), self.log.changes())
     }
 
     /// Which keys are changed behind the lines so far.
@@ -294,9 +262,9 @@ impl Replay {
             alloc: _,
             log,
             news,
-            sheet,
+            scratch,
         } = self;
-        drop(sheet);
+        drop(scratch);
         (news, log.into_changes())
     }
 }

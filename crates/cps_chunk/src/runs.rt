@@ -1,5 +1,5 @@
 //! What holds of runs of lines, by which chunks are passed.
-ghost use Rattle.cps_final.specs.Names.{NamesLaw};
+ghost use Rattle.cps_final.specs.NamedFinals.{NamesLaw};
 ghost use Rattle.cps_chunk.specs.RunLaws.{RunLaw, RunAsksNoMore};
 ghost use Rattle.cps_chunk.specs.Named.{NamedLaw, NamedNoMore};
 

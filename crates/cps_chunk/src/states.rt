@@ -32,18 +32,47 @@ impl<'a, L: Lookup> Lookup for FormerState<'a, L> {
 
 /// What stands in front of a line now: changed keys, and else what stood there.
 #[derive(Clone, Copy)]
-pub struct ChangedState<'a, L> {
+pub struct Overlay<'a, L> {
     pub changes: &'a Changes,
     pub before: &'a L,
 }
 
-impl<'a, L: Lookup> Lookup for ChangedState<'a, L> {
+impl<'a, L: Lookup> Lookup for Overlay<'a, L> {
     ghost use Rattle.cps_final.specs.Changes.{changed};
     ghost use Rattle.cps_final.specs.Code.Kept.{changes_in};
 
     ghost answer = { λ now. changed (changes_in now.changes.now) (L.answer now.before.now) };
 
     fn ask(&self, key: &Key) -> Option<&Answer> {
+        match self.changes.find(key) {
+            Some(answer) => answer.as_ref(),
+            None => self.before.ask(key),
+        }
+    }
+
+    fn hashing(&self) -> Hashing {
+        self.before.hashing()
+    }
+}
+
+/// What stands behind lines that are gone through: what they put, then what is changed in front of them, and else what stood there.
+#[derive(Clone, Copy)]
+pub struct StateNow<'a, L> {
+    pub present: &'a Changes,
+    pub changes: &'a Changes,
+    pub before: &'a L,
+}
+
+impl<'a, L: Lookup> Lookup for StateNow<'a, L> {
+    ghost use Rattle.cps_final.specs.Changes.{changed};
+    ghost use Rattle.cps_final.specs.Code.Kept.{changes_in};
+
+    ghost answer = { λ now. changed (changes_in now.present.now) (changed (changes_in now.changes.now) (L.answer now.before.now)) };
+
+    fn ask(&self, key: &Key) -> Option<&Answer> {
+        if let Some(answer) = self.present.find(key) {
+            return answer.as_ref();
+        }
         match self.changes.find(key) {
             Some(answer) => answer.as_ref(),
             None => self.before.ask(key),

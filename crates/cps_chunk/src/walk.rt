@@ -3,7 +3,7 @@ ghost use Rattle.std.specs.Prelude.{◌≡◌, ◌+◌, ◌-◌, ◌<◌, ◌≤
 ghost use Rattle.std.specs.List.{list_any};
 ghost use Rattle.cps_state.specs.declared.key.Key.{Key as AKey};
 ghost use Rattle.cps_state.specs.Course.{last_put as last_put_by};
-ghost use Rattle.cps_final.specs.Changes.{no_change, settled};
+ghost use Rattle.cps_final.specs.Changes.{no_change, agreed};
 ghost use Rattle.cps_final.specs.Code.Kept.{changes_in, keys_in};
 ghost use Rattle.cps_final.specs.Layout.{puts_of};
 ghost use Rattle.cps_pass.specs.Expansion.{trace_of};
@@ -12,19 +12,20 @@ ghost use Rattle.cps_final.specs.Run.{run_of};
 ghost use Rattle.cps_edit.specs.Compares.{ComparesUpTo, Steps};
 ghost use Rattle.cps_edit.specs.Passes.{traces_from};
 ghost use Rattle.cps_chunk.specs.Code.Chunk.{AreChunksOf, IsChunkOf, lengths_of};
-ghost use Rattle.cps_chunk.specs.Marks.{has, mark_of};
+ghost use Rattle.cps_chunk.specs.KeyFilter.{has, bit_of};
 ghost use Rattle.cps_chunk.specs.Noted.{last_puts, stands};
 ghost use Rattle.cps_chunk.specs.Code.Replay.{Closes, now_with};
 ghost use Rattle.cps_chunk.specs.Replayed.{replayed};
 ghost use Rattle.cps_chunk.specs.Code.Walk.{AreChunksFrom, IsBaseline, MayGoOver, IsWalk, IsStillWalk, GoesOver, HasMadeNothing, StandsAt, asks_in, changed_in, cursor, looks_at, looks_in, now_at, puts_in, replayed_in, state_at, stood_at, stretch};
 ghost use Rattle.cps_chunk.specs.Code.Along.{GoesAlong, IsChunkAt, IsGatheredAt, IsInside, IsSpan, MayGo, front_at, looks_in_span, looks_of, looks_whole, reached, replayed_along, span};
-ghost use Rattle.cps_chunk.specs.declared.walk.Position.TheVariants.{Behind};
+ghost use Rattle.cps_chunk.specs.declared.walk.Destination.TheVariants.{Behind};
 
 use crate::chunk::Chunk;
-use crate::marks::{Marks, mark_of};
-use crate::past::{Past, last_put};
+use crate::key_filter::{KeyFilter, bit_of};
 use crate::replay::{OldLine, Replay};
-use cps_final::Changes;
+use crate::same::same_answers_under;
+use crate::state_before::{StateBefore, last_put};
+use cps_final::{Changes, same_answers};
 use cps_state::{Hashing, Key, Lookup, State, Trace, Work};
 use cps_text::Line;
 use std::alloc::{AllocError, Global};
@@ -68,7 +69,7 @@ impl Span {
 
 /// Where lines stand now that stood in a source before.
 #[derive(Clone, Copy)]
-pub enum Position {
+pub enum Destination {
     /// Where they stood.
     Same,
     /// Behind the first so many lines, and those that were carried there before them.
@@ -271,15 +272,15 @@ impl<'a> Walk<'a> {
         ensures steps { Steps result work.old work.new (length (replayed_in self.old cursor.line end)) 0 }
         ensures looked { ComparesUpTo work.old work.new (looks_at self.old cursor.line end) }
     {
-        if self.does_the_same(cursor, end)? {
-            self.settle(cursor, end);
+        if self.same_answers_in(cursor, end)? {
+            self.agree(cursor, end);
             return Ok(());
         }
         self.go_over_from(cursor, cursor.line, end, work)
     }
 
     /// Whether the lines of a chunk, up to this end, do what they did. It is counted nowhere.
-    fn does_the_same(&mut self, cursor: Cursor, end: usize) -> Result<bool, AllocError>
+    fn same_answers_in(&mut self, cursor: Cursor, end: usize) -> Result<bool, AllocError>
         requires walk { IsWalk self.old }
         requires cursor { StandsAt self.old.chunks.items cursor }
         requires within { cursor.chunk < length self.old.chunks.items }
@@ -296,18 +297,18 @@ impl<'a> Walk<'a> {
         }
         chunk.gather_run(self.base.alloc, self.base.hashing, traces)?;
         match &chunk.run {
-            Some(run) => Ok(self.replay.run_stands(run)),
+            Some(run) => Ok(same_answers_under(run.asks(), self.replay.changes())),
             None => Ok(false),
         }
     }
 
     /// Goes over a chunk whose lines do what they did.
-    fn settle(&mut self, cursor: Cursor, end: usize)
+    fn agree(&mut self, cursor: Cursor, end: usize)
         requires walk { IsWalk self.old }
         requires cursor { StandsAt self.old.chunks.items cursor }
         requires within { cursor.chunk < length self.old.chunks.items }
         requires end { end ≡ sum (take (cursor.chunk + 1) (lengths_of self.old.chunks.items)) }
-        ensures changes { changed_in self.new ≡ settled (changed_in self.old) (puts_in self.old cursor.line end) }
+        ensures changes { changed_in self.new ≡ agreed (changed_in self.old) (puts_in self.old cursor.line end) }
         ensures present { self.new.replay.log.present ≡ self.old.replay.log.present }
         ensures news { self.new.replay.news ≡ self.old.replay.news }
         ensures rest { (self.new.base ≡ self.old.base) × (self.new.chunks ≡ self.old.chunks) }
@@ -321,14 +322,14 @@ impl<'a> Walk<'a> {
         ) {
             return;
         }
-        self.replay.settle_all(traces);
+        self.replay.agree_all(traces);
     }
 
     /// Goes along a span, chunk by chunk. Lines are compared one by one only where others of their chunk lie outside, or where something that all lines of their
     /// chunk ask together has another answer now.
     pub fn go_along(
         &mut self,
-        position: Position,
+        position: Destination,
         span: Span,
         work: &mut Work,
     ) -> Result<(), AllocError>
@@ -357,7 +358,7 @@ impl<'a> Walk<'a> {
     /// The same of those lines of a span that stand in a chunk.
     fn go_along_part(
         &mut self,
-        position: Position,
+        position: Destination,
         cursor: Cursor,
         part: Span,
         work: &mut Work,
@@ -378,15 +379,15 @@ impl<'a> Walk<'a> {
             return self.go_along_chunk(position, cursor, part.to, work);
         }
         match position {
-            Position::Same => self.go_over_from(cursor, part.from, part.to, work),
-            Position::Behind(place) => self.carry_lines(place, part, work),
+            Destination::Same => self.go_over_from(cursor, part.from, part.to, work),
+            Destination::Behind(place) => self.carry_lines(place, part, work),
         }
     }
 
     /// The same of all lines of a chunk.
     fn go_along_chunk(
         &mut self,
-        position: Position,
+        position: Destination,
         cursor: Cursor,
         end: usize,
         work: &mut Work,
@@ -401,8 +402,8 @@ impl<'a> Walk<'a> {
         ensures looked { ComparesUpTo work.old work.new (looks_whole self.old position cursor.line end) }
     {
         match position {
-            Position::Same => self.go_over_chunk(cursor, end, work),
-            Position::Behind(place) => self.carry_chunk(place, cursor, end, work),
+            Destination::Same => self.go_over_chunk(cursor, end, work),
+            Destination::Behind(place) => self.carry_chunk(place, cursor, end, work),
         }
     }
 
@@ -423,7 +424,7 @@ impl<'a> Walk<'a> {
         ensures steps { Steps result work.old work.new (length (replayed_along self.old (Behind place) (span cursor.line end))) 0 }
         ensures looked { ComparesUpTo work.old work.new (looks_whole self.old (Behind place) cursor.line end) }
     {
-        if self.holds_behind(place, cursor, end)? {
+        if self.same_answers_behind(place, cursor, end)? {
             let traces = part(self.base.traces, cursor.line, end);
             return self.replay.carry_all(traces);
         }
@@ -435,7 +436,12 @@ impl<'a> Walk<'a> {
     }
 
     /// Whether the lines of a chunk, up to this end, do what they did where they are carried. It is counted nowhere.
-    fn holds_behind(&mut self, place: usize, cursor: Cursor, end: usize) -> Result<bool, AllocError>
+    fn same_answers_behind(
+        &mut self,
+        place: usize,
+        cursor: Cursor,
+        end: usize,
+    ) -> Result<bool, AllocError>
         requires walk { IsWalk self.old }
         requires place { place ≤ length self.old.base.lines.now }
         requires cursor { IsChunkAt self.old cursor }
@@ -447,8 +453,9 @@ impl<'a> Walk<'a> {
         self.gather_run(cursor, end)?;
         let there = self.cursor_at(place);
         let past = past_of(self.base, &self.chunks, there, place);
+        let now = self.replay.now(&past);
         match &self.chunks[cursor.chunk].run {
-            Some(run) => Ok(self.replay.run_holds(run, &past)),
+            Some(run) => Ok(same_answers(run.asks(), &now)),
             None => Ok(false),
         }
     }
@@ -515,18 +522,18 @@ fn past_of<'a, 'b: 'a>(
     chunks: &'a [Chunk],
     cursor: Cursor,
     at: usize,
-) -> Past<'a>
+) -> StateBefore<'a>
     requires base { IsBaseline base }
     requires chunks { AreChunksOf base.hashing chunks.now base.traces.now }
     requires cursor { StandsAt chunks.now cursor }
     requires behind { cursor.line ≤ at }
     requires within { at ≤ length base.lines.now }
-    ensures { ⟦<Past<'a> as Lookup>⟧.answer result ≡ stood_at base.entry at }
+    ensures { ⟦<StateBefore<'a> as Lookup>⟧.answer result ≡ stood_at base.entry at }
 {
     let (before, _) = chunks.split_at(cursor.chunk);
     let (front, behind) = base.traces.split_at(cursor.line);
     let (loose, _) = behind.split_at(at - cursor.line);
-    Past::of(base.first, base.hashing, before, front, loose)
+    StateBefore::of(base.first, base.hashing, before, front, loose)
 }
 
 /// What the lines after the first `from` up to the first `to` did.
@@ -539,8 +546,8 @@ pub fn part<'a>(traces: &'a [Trace], from: usize, to: usize) -> &'a [Trace]
 }
 
 /// Whether a changed key may have its mark, which of many keys isn't sought. It is counted nowhere, and takes no memory.
-fn may_have(hashing: Hashing, marks: &Marks, changes: &Changes) -> bool
-    ensures { result ≡ false → (k : AKey) → is_some (changes_in changes.now k) ≡ true → has marks.now (mark_of hashing k) ≡ false }
+fn may_have(hashing: Hashing, marks: &KeyFilter, changes: &Changes) -> bool
+    ensures { result ≡ false → (k : AKey) → is_some (changes_in changes.now k) ≡ true → has marks.now (bit_of hashing k) ≡ false }
 {
     if changes.count() > FEW {
         return true;
@@ -549,11 +556,11 @@ fn may_have(hashing: Hashing, marks: &Marks, changes: &Changes) -> bool
 }
 
 /// Whether one of these keys has its mark.
-fn has_key(hashing: Hashing, marks: &Marks, keys: &Changes) -> bool
-    ensures { result ≡ list_any (λ k. has marks.now (mark_of hashing k)) (keys_in keys.now) }
+fn has_key(hashing: Hashing, marks: &KeyFilter, keys: &Changes) -> bool
+    ensures { result ≡ list_any (λ k. has marks.now (bit_of hashing k)) (keys_in keys.now) }
 {
     for i in 0..keys.count() {
-        if marks.has(mark_of(hashing, keys.key(i))) {
+        if marks.has(bit_of(hashing, keys.key(i))) {
             return true;
         }
     }
@@ -563,7 +570,7 @@ fn has_key(hashing: Hashing, marks: &Marks, keys: &Changes) -> bool
 /// Whether the lines of a chunk, which did this, may put a changed key. Their puts are gone through only for a key that has its mark.
 fn may_put(hashing: Hashing, chunk: &Chunk, traces: &[Trace], changes: &Changes) -> bool
     requires { IsChunkOf hashing traces.now chunk.now }
-    ensures { result ≡ false → settled (changes_in changes.now) (puts_of traces.now) ≡ changes_in changes.now }
+    ensures { result ≡ false → agreed (changes_in changes.now) (puts_of traces.now) ≡ changes_in changes.now }
 {
     if changes.count() > FEW {
         return true;
@@ -581,7 +588,7 @@ fn puts_key(hashing: Hashing, chunk: &Chunk, traces: &[Trace], key: Key) -> bool
     requires { IsChunkOf hashing traces.now chunk.now }
     ensures { result ≡ is_some (last_put_by (puts_of traces.now) key) }
 {
-    if !chunk.puts.has(mark_of(hashing, key)) {
+    if !chunk.puts.has(bit_of(hashing, key)) {
         return false;
     }
     last_put(traces, &key).is_some()

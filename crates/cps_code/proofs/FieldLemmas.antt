@@ -14,7 +14,7 @@ use Rattle.cps_code.specs.RowForms.{Found, turned, registers_in, found_behind, f
 use Rattle.cps_code.specs.Sum.{Summed}
 use Rattle.cps_code.specs.Code.FoundForms.{no_sum, with_none_left, registers_alone, constant_in}
 use Rattle.cps_code.specs.Code.Operations.{row_of_fields}
-use Rattle.cps_code.specs.declared.fields.Found as kept
+use Rattle.cps_code.specs.declared.fields.ReadFields as kept
 use Rattle.cps_code.specs.declared.hole.Operand.{Operand}
 use Rattle.cps_expr.specs.declared.machine.Machine.TheVariants.{Cp}
 use Rattle.cps_expr.specs.OperandList.{only_one}
@@ -52,10 +52,10 @@ registers_in-end (letters ∷ registers) digits some = refl
 
 -- ---- K after registers
 
-abbrev found : kept.Found → Found
+abbrev found : kept.ReadFields → Found
 found k = record { digits = k.digits; operand = Some k.operand }
 
-abbrev behind : Digits → Operand → kept.Found
+abbrev behind : Digits → Operand → kept.ReadFields
 behind digits operand = record { digits = digits; operand = operand }
 
 mapped-found : (digits : Digits) (operand : Option Operand) → option_map (λ o. found (behind digits o)) operand ≡ option_map found (option_map (behind digits) operand)

@@ -9,8 +9,8 @@ use Rattle.std.specs.List.{list_all, AllZip}
 use Rattle.cps_text.specs.Text.{among, capital, is_digit}
 use Rattle.cps_expr.specs.declared.radix.Radix.{Radix}
 use Rattle.cps_code.specs.declared.digits.Digits.{Digits}
-use Rattle.cps_code.specs.declared.register.Letter.{Letter}
-use Rattle.cps_code.specs.declared.register.Letter.TheVariants.{A, B, X}
+use Rattle.cps_code.specs.declared.register.RegisterLetter.{RegisterLetter}
+use Rattle.cps_code.specs.declared.register.RegisterLetter.TheVariants.{A, B, X}
 use Rattle.cps_code.specs.declared.register.RegisterTerm.{RegisterTerm}
 use Rattle.cps_code.specs.Digits.{with_digit, with_character, digits_in}
 use Rattle.cps_code.specs.OneRow.{Fits, Names, OneRowFits, OneIsNamed, RowsStandTogether}
@@ -159,7 +159,7 @@ same_bool-both true false false one two = cc
 same_bool-both false true true one two = cc
 same_bool-both false true false one two = cc
 
-same_letter-both : (a b c : Letter) → same_letter a c ≡ true → same_letter b c ≡ true → same_letter a b ≡ true
+same_letter-both : (a b c : RegisterLetter) → same_letter a c ≡ true → same_letter b c ≡ true → same_letter a b ≡ true
 same_letter-both A A c one two = refl
 same_letter-both B B c one two = refl
 same_letter-both X X c one two = refl

@@ -1,7 +1,7 @@
 -- Registers: A, B or X, in capitals or not, and a digit from 0 to 7. From the machine's reference manual.
 use Rattle.std.specs.Prelude.{ℕ, ◌-◌, Bool, List, [], ◌∷◌, codes, slice_index, Option, None, Some, option_map, if◌then◌else◌}
-use Rattle.cps_code.specs.declared.register.Letter.{Letter}
-use Rattle.cps_code.specs.declared.register.Letter.TheVariants.{A, B, X}
+use Rattle.cps_code.specs.declared.register.RegisterLetter.{RegisterLetter}
+use Rattle.cps_code.specs.declared.register.RegisterLetter.TheVariants.{A, B, X}
 use Rattle.cps_code.specs.declared.register.RegisterTerm.{RegisterTerm}
 use Rattle.cps_text.specs.Text.{among, capital, is_digit}
 
@@ -12,7 +12,7 @@ character text = slice_index text 0
 abbrev pub digit_value : ℕ → ℕ
 digit_value digit = digit - character (codes "0")
 
-abbrev pub letter_of : ℕ → Option Letter
+abbrev pub letter_of : ℕ → Option RegisterLetter
 letter_of letter =
     if among (codes "A") (capital letter) then Some A
     else (if among (codes "B") (capital letter) then Some B

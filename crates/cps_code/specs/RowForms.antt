@@ -11,8 +11,8 @@ use Rattle.cps_code.specs.declared.hole.Hole.{Hole}
 use Rattle.cps_code.specs.declared.hole.HoleKind.TheVariants.{Value, Count}
 use Rattle.cps_code.specs.declared.hole.Operand.{Operand}
 use Rattle.cps_code.specs.declared.hole.Operand.TheVariants.{Expression}
-use Rattle.cps_code.specs.declared.register.Letter.{Letter}
-use Rattle.cps_code.specs.declared.register.Letter.TheVariants.{A, B, X}
+use Rattle.cps_code.specs.declared.register.RegisterLetter.{RegisterLetter}
+use Rattle.cps_code.specs.declared.register.RegisterLetter.TheVariants.{A, B, X}
 use Rattle.cps_code.specs.declared.register.RegisterTerm.{RegisterTerm}
 use Rattle.cps_text.specs.Operands.{operands_of}
 use Rattle.cps_code.specs.Bits.{constant_bits, count_bits}
@@ -74,7 +74,7 @@ abbrev pub same_bool : Bool → Bool → Bool
 same_bool true b = b
 same_bool false b = not b
 
-abbrev pub same_letter : Letter → Letter → Bool
+abbrev pub same_letter : RegisterLetter → RegisterLetter → Bool
 same_letter A A = true
 same_letter A B = false
 same_letter A X = false

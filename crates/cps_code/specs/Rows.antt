@@ -5,8 +5,8 @@ use Rattle.std.specs.Option.{option_or}
 use Rattle.cps_expr.specs.Expression.{is_minus, onto_first, signed_texts}
 use Rattle.cps_text.specs.Text.{among}
 use Rattle.cps_code.specs.declared.digits.Digits.{Digits}
-use Rattle.cps_code.specs.declared.register.Letter.{Letter}
-use Rattle.cps_code.specs.declared.register.Letter.TheVariants.{A, B, X}
+use Rattle.cps_code.specs.declared.register.RegisterLetter.{RegisterLetter}
+use Rattle.cps_code.specs.declared.register.RegisterLetter.TheVariants.{A, B, X}
 use Rattle.cps_code.specs.Digits.{first_digit, digits_in}
 
 -- ---- how a row is written
@@ -19,7 +19,7 @@ pub record Pattern : Type 0 where
 -- a register term of a sum: its sign, its letter, and the letter that stands for its digit
 pub record RowTerm : Type 0 where
   pub is_minus : Bool
-  pub letter : Letter
+  pub letter : RegisterLetter
   pub digit : ℕ
 
 -- what a row asks of the operands
@@ -73,7 +73,7 @@ code_of (letter ∷ text) =
 abbrev pub written : List ℕ → Shape
 written text = fields (pattern_of (cut_at_commas text))
 
-abbrev pub register_letter : ℕ → Letter
+abbrev pub register_letter : ℕ → RegisterLetter
 register_letter character = if character == code "A" then A else (if character == code "B" then B else X)
 
 -- a term that is written with its sign: of a register its letter and the letter of its digit; of K, which is no register, none

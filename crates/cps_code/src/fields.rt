@@ -86,7 +86,7 @@ fn read_registers_alone(registers: &[&[u8]], digits: Digits, tail: &[u8]) -> Opt
 }
 
 #[derive(Drop)]
-struct Found {
+struct ReadFields {
     digits: Digits,
     operand: Operand,
 }
@@ -98,7 +98,7 @@ fn read_fields(
     digits: Digits,
     tail: &[u8],
     radix: Radix,
-) -> Result<Found, ExprFault>
+) -> Result<ReadFields, ExprFault>
     requires { AreDigits digits }
     ensures found { Reads result (constant_in radix (texts registers.now) (operands_of tail.now) digits) }
     ensures octal { IfOk result (λ found. AreDigits found.digits) }
@@ -114,7 +114,7 @@ fn read_fields(
         return Err(ExprFault::Unreadable);
     }
     let operand = read_operand(alloc, text, radix, Machine::Cp)?;
-    Ok(Found { digits, operand })
+    Ok(ReadFields { digits, operand })
 }
 
 /// The digits of the operands that begin with these of registers, and the operands after them.

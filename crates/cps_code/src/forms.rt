@@ -18,7 +18,7 @@ use super::sum::Registers;
 use super::summed::{KeptSummed, read_summed};
 use crate::digits::Digits;
 use crate::operation::{FieldForm, Forms, named_operation};
-use crate::register::{Letter, RegisterTerm};
+use crate::register::{RegisterLetter, RegisterTerm};
 use cps_expr::{ExprFault, Radix};
 use std::alloc::Global;
 use thiserror::Error;
@@ -195,7 +195,7 @@ fn jump_front(registers: Registers) -> Option<u16>
         Registers::One(
             RegisterTerm {
                 is_minus: false,
-                letter: Letter::B,
+                letter: RegisterLetter::B,
                 digit,
             },
         ) => Some(four_digits(0, 2, digit, 0)),

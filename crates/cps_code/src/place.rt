@@ -47,7 +47,7 @@ pub struct Filling {
 
 /// Where an instruction begins, the place after it, and what fills the bits that it skips.
 #[derive(Clone, Copy, PartialEq, Eq)]
-pub struct Placed {
+pub struct PlacedInstruction {
     pub start: Place,
     pub after: Place,
     pub filling: Option<Filling>,

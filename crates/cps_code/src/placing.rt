@@ -3,7 +3,7 @@ ghost use Rattle.cps_code.specs.Bits.{word_bits, parcel_bits};
 ghost use Rattle.cps_code.specs.Least.{IsLeast};
 ghost use Rattle.cps_code.specs.Place.{position, is_forced, MayBegin, start_of, IsFilling, skipped, passes};
 
-use super::place::{Filling, Force, Place, Placed};
+use super::place::{Filling, Force, Place, PlacedInstruction};
 use super::widths::{PARCEL, WORD};
 
 /// Where the next `bits` bits begin: 15 or 30 of an instruction, or 0 where the place is only forced.
@@ -11,7 +11,7 @@ use super::widths::{PARCEL, WORD};
 /// They begin at the least place, not before the present one, at a parcel's border (an instruction) and with room
 /// in the word, and where forced at a word's beginning. The bits skipped are 0 up to a parcel's border and then
 /// pass instructions (46000). Nothing is pending after them.
-pub fn place_next(place: Place, bits: u8, force: Force) -> Placed
+pub fn place_next(place: Place, bits: u8, force: Force) -> PlacedInstruction
     requires kind { (bits ≡ 0) ⊎ (bits ≡ parcel_bits) ⊎ (bits ≡ 2 * parcel_bits) }
     requires low { place.word < 2 ^ 31 }
     ensures start { IsLeast (MayBegin (position place) bits (is_forced place.is_pending force)) (position result.start) }
@@ -27,7 +27,7 @@ pub fn place_next(place: Place, bits: u8, force: Force) -> Placed
     let used = used_at_start(place.used, bits, forced);
     let start = place_at(place.word, used);
     let after = place_at(start.word, start.used + bits);
-    Placed {
+    PlacedInstruction {
         start,
         after,
         filling: filling_between(place.used, used),

@@ -1,6 +1,6 @@
 /// The letters of the three kinds of registers.
 #[derive(Clone, Copy, PartialEq, Eq)]
-pub enum Letter {
+pub enum RegisterLetter {
     A,
     B,
     X,
@@ -10,6 +10,6 @@ pub enum Letter {
 #[derive(Clone, Copy, PartialEq, Eq)]
 pub struct RegisterTerm {
     pub is_minus: bool,
-    pub letter: Letter,
+    pub letter: RegisterLetter,
     pub digit: u8,
 }

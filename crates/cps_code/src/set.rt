@@ -6,7 +6,7 @@ ghost use Rattle.cps_code.specs.Code.FoundForms.{set_form, set_form_as_it_stands
 
 use super::sum::Registers;
 use crate::digits::Digits;
-use crate::register::{Letter, RegisterTerm};
+use crate::register::{RegisterLetter, RegisterTerm};
 
 /// The four digits of a set instruction before its constant.
 pub fn code_with_constant(digits: Digits, registers: Registers) -> Option<u16>
@@ -21,21 +21,21 @@ pub fn code_with_constant(digits: Digits, registers: Registers) -> Option<u16>
         Registers::One(
             RegisterTerm {
                 is_minus: false,
-                letter: Letter::A,
+                letter: RegisterLetter::A,
                 digit,
             },
         ) => Some(four_digits(digits.f, 0, digits.i, digit)),
         Registers::One(
             RegisterTerm {
                 is_minus: false,
-                letter: Letter::B,
+                letter: RegisterLetter::B,
                 digit,
             },
         ) => Some(four_digits(digits.f, 1, digits.i, digit)),
         Registers::One(
             RegisterTerm {
                 is_minus: false,
-                letter: Letter::X,
+                letter: RegisterLetter::X,
                 digit,
             },
         ) => Some(four_digits(digits.f, 2, digits.i, digit)),
@@ -69,22 +69,22 @@ fn code_alone(digits: Digits, register: RegisterTerm) -> Option<u16>
     match register {
         RegisterTerm {
             is_minus: false,
-            letter: Letter::X,
+            letter: RegisterLetter::X,
             digit,
         } => Some(four_digits(digits.f, 3, digits.i, digit) * 8),
         RegisterTerm {
             is_minus: false,
-            letter: Letter::A,
+            letter: RegisterLetter::A,
             digit,
         } => Some(four_digits(digits.f, 4, digits.i, digit) * 8),
         RegisterTerm {
             is_minus: false,
-            letter: Letter::B,
+            letter: RegisterLetter::B,
             digit,
         } => Some(four_digits(digits.f, 6, digits.i, digit) * 8),
         RegisterTerm {
             is_minus: true,
-            letter: Letter::B,
+            letter: RegisterLetter::B,
             digit,
         } => Some(four_digits(digits.f, 7, digits.i, 0) * 8 + u16::from(digit)),
         _ => None,
@@ -99,11 +99,11 @@ fn code_of_pair(digits: Digits, j: RegisterTerm, k: RegisterTerm) -> Option<u16>
     ensures small { IfSome result (λ code. code < 32768) }
 {
     let second = match (j.letter, j.is_minus, k.letter, k.is_minus) {
-        (Letter::X, false, Letter::B, false) => 3,
-        (Letter::A, false, Letter::B, false) => 4,
-        (Letter::A, false, Letter::B, true) => 5,
-        (Letter::B, false, Letter::B, false) => 6,
-        (Letter::B, false, Letter::B, true) => 7,
+        (RegisterLetter::X, false, RegisterLetter::B, false) => 3,
+        (RegisterLetter::A, false, RegisterLetter::B, false) => 4,
+        (RegisterLetter::A, false, RegisterLetter::B, true) => 5,
+        (RegisterLetter::B, false, RegisterLetter::B, false) => 6,
+        (RegisterLetter::B, false, RegisterLetter::B, true) => 7,
         _ => return None,
     };
     Some(four_digits(digits.f, second, digits.i, j.digit) * 8 + u16::from(k.digit))

@@ -5,7 +5,7 @@ ghost use Rattle.cps_code.specs.Register.{register_of, letter_of};
 ghost use Rattle.cps_expr.specs.Term.{Term, term_of};
 
 use crate::digits::first_and_rest;
-use crate::register::{Letter, RegisterTerm};
+use crate::register::{RegisterLetter, RegisterTerm};
 use cps_expr::{Expr, ExprFault, Radix, leading_sign, sign_at};
 use cps_text::capital;
 use std::alloc::Global;
@@ -74,13 +74,13 @@ fn read_register(text: &[u8], is_minus: bool) -> Option<RegisterTerm>
     }
 }
 
-fn read_letter(letter: u8) -> Option<Letter>
+fn read_letter(letter: u8) -> Option<RegisterLetter>
     ensures { result ≡ letter_of letter }
 {
     match capital(letter) {
-        b'A' => Some(Letter::A),
-        b'B' => Some(Letter::B),
-        b'X' => Some(Letter::X),
+        b'A' => Some(RegisterLetter::A),
+        b'B' => Some(RegisterLetter::B),
+        b'X' => Some(RegisterLetter::X),
         _ => None,
     }
 }

@@ -1,7 +1,7 @@
 -- The digits that an octal text gives for the words at each address. Our own.
 use Rattle.std.specs.Prelude.{ℕ, ◌-◌, ◌*◌, ◌&&◌, nat_le, nat_lt, List, [], ◌++◌, length, take, drop, fold, map, Option, if◌then◌else◌}
 use Rattle.std.specs.List.{slice_split}
-use Rattle.cps_compare.specs.declared.limits.Columns.{Columns}
+use Rattle.cps_compare.specs.declared.limits.OctalColumns.{OctalColumns}
 use Rattle.cps_compare.specs.Rows.{OctalRow, row_given, is_newline}
 
 -- addresses have six octal digits
@@ -35,5 +35,5 @@ abbrev pub given_by : ℕ → (ℕ → List ℕ) → List OctalRow → ℕ → L
 given_by size given rows = fold (with_row size) given rows
 
 -- the digits that a text gives
-abbrev pub given_in : ℕ → Option Columns → List ℕ → ℕ → List ℕ
+abbrev pub given_in : ℕ → Option OctalColumns → List ℕ → ℕ → List ℕ
 given_in size columns text = given_by size none_given (map (row_given columns) (slice_split is_newline text))

@@ -2,7 +2,7 @@
 use Prim.Native.Char.{code}
 use Rattle.std.specs.Prelude.{ℕ, ◌+◌, ◌-◌, ◌*◌, Bool, ◌==◌, ◌&&◌, nat_le, nat_lt, List, [], ◌∷◌, ◌++◌, length, take, drop, fold, codes, slice_index, Option, None, Some, if◌then◌else◌}
 use Rattle.std.specs.List.{list_all, list_any, slice_split}
-use Rattle.cps_compare.specs.declared.limits.Columns.{Columns}
+use Rattle.cps_compare.specs.declared.limits.OctalColumns.{OctalColumns}
 
 -- ---- the parts of a row
 
@@ -21,7 +21,7 @@ abbrev pub parts_of : List ℕ → List (List ℕ)
 parts_of row = slice_split is_blank row
 
 -- the columns that are read, where columns count from 1
-abbrev pub columns_read : Option Columns → List ℕ → List ℕ
+abbrev pub columns_read : Option OctalColumns → List ℕ → List ℕ
 columns_read None row = row
 columns_read (Some columns) row = drop (columns.first - 1) (take columns.last row)
 
@@ -53,7 +53,7 @@ abbrev pub row_from : List (List ℕ) → OctalRow
 row_from [] = unread_row
 row_from (part ∷ parts) = if nat_lt 0 (length part) && are_digits part then row_at part (digits_in parts) else row_from parts
 
-abbrev pub row_given : Option Columns → List ℕ → OctalRow
+abbrev pub row_given : Option OctalColumns → List ℕ → OctalRow
 row_given columns row = row_from (parts_of (columns_read columns row))
 
 -- ---- the rows of a text

@@ -7,7 +7,7 @@ ghost use Rattle.cps_compare.specs.Code.Reading.{digits_at};
 ghost use Rattle.cps_compare.specs.Code.Shown.{IsSpan};
 
 use super::compare_fault::CompareFault;
-use super::deck::Deck;
+use super::deck_words::DeckWords;
 use super::limits::Limits;
 use super::octal_text::read_octal;
 use super::octal_words::OctalWords;
@@ -48,7 +48,7 @@ pub fn compare<V: View>(
     let Some((low, high)) = span(&words, limits) else {
         return Err(CompareFault::NoRow);
     };
-    let Ok(deck) = Deck::of(alloc, view) else {
+    let Ok(deck) = DeckWords::of(alloc, view) else {
         return Err(CompareFault::Memory);
     };
     let sides = Sides {

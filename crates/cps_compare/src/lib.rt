@@ -2,7 +2,7 @@
 //!
 //! - `compare_fault.rt`: why an octal text isn't compared with a source
 //! - `comparison.rt`: the comparison as a whole
-//! - `deck.rt`: the words of a source, and what made their digits
+//! - `deck_words.rt`: the words of a source, and what made their digits
 //! - `difference.rt`: whether two words differ, and where
 //! - `difference_rows.rt`: the rows that tell a difference
 //! - `limits.rt`: the addresses and the columns that are compared
@@ -20,7 +20,7 @@
 
 mod compare_fault;
 mod comparison;
-mod deck;
+mod deck_words;
 mod difference;
 mod difference_rows;
 mod limits;
@@ -37,7 +37,7 @@ mod telling;
 
 pub use compare_fault::CompareFault;
 pub use comparison::{Comparison, compare};
-pub use limits::{Columns, Limits};
+pub use limits::{Limits, OctalColumns};
 pub use octal_fault::OctalFault;
 pub use running::compare_inputs;
 pub use setup::Setup;

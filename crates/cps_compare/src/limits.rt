@@ -4,7 +4,7 @@ ghost use Rattle.cps_compare.specs.Rows as rows;
 
 /// The columns of an octal text that are read, from 1 on, both counted.
 #[derive(Clone, Copy)]
-pub struct Columns {
+pub struct OctalColumns {
     pub first: usize,
     pub last: usize,
 }
@@ -17,11 +17,11 @@ pub struct Limits {
     /// The last address. None: the last for which the octal text gives digits.
     pub to: Option<u32>,
     /// None: all columns are read.
-    pub columns: Option<Columns>,
+    pub columns: Option<OctalColumns>,
 }
 
 /// The columns of a row that are read.
-pub fn columns_read(row: &[u8], columns: Option<Columns>) -> &[u8]
+pub fn columns_read(row: &[u8], columns: Option<OctalColumns>) -> &[u8]
     ensures { result.now ≡ rows.columns_read columns row.now }
 {
     match columns {

@@ -7,7 +7,7 @@ ghost use Rattle.cps_compare.specs.Given.{given_in};
 ghost use Rattle.cps_compare.specs.Differences.{size_of};
 ghost use Rattle.cps_compare.specs.Code.Reading.{digits_at};
 
-use super::limits::Columns;
+use super::limits::OctalColumns;
 use super::octal_words::OctalWords;
 use super::row::read_row;
 use cps_expr::Machine;
@@ -17,7 +17,7 @@ use std::alloc::{AllocError, Global};
 pub fn read_octal(
     alloc: Global,
     text: &[u8],
-    columns: Option<Columns>,
+    columns: Option<OctalColumns>,
     machine: Machine,
 ) -> Result<OctalWords, AllocError>
     ensures { IfOk result (λ words. digits_at words ≡ given_in (size_of machine) columns text.now) }

@@ -4,7 +4,7 @@ ghost use Rattle.std.specs.List.{position};
 ghost use Rattle.cps_compare.specs.Rows as rows;
 ghost use Rattle.cps_compare.specs.Code.Reading.{parts_left, row_found};
 
-use super::limits::{Columns, columns_read};
+use super::limits::{OctalColumns, columns_read};
 use std::alloc::AllocError;
 
 /// The most digits of an address.
@@ -13,7 +13,7 @@ const ADDRESS_DIGITS: usize = 6;
 /// Reads a row: gives its address, and puts its digits in the place of what `digits` has. A row that isn't read has no digits.
 pub fn read_row(
     row: &[u8],
-    columns: Option<Columns>,
+    columns: Option<OctalColumns>,
     digits: &mut Vec<u8>,
 ) -> Result<u32, AllocError>
     ensures { IfOk result (λ address. rows.row_given columns row.now ≡ record { address = address; digits = digits.new.items }) }

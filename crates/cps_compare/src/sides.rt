@@ -3,12 +3,12 @@ ghost use Rattle.std.specs.Prelude.{◌≡◌, ◌++◌, ◌+◌, ◌<◌, ◌�
 ghost use Rattle.cps_code.specs.Image.{Piece, ArePacked};
 ghost use Rattle.cps_compare.specs.Differences as differences;
 
-use super::deck::Deck;
+use super::deck_words::DeckWords;
 use super::difference::{differs, places, show_word};
 use super::difference_rows::{push_carets, push_makers, push_words};
 use super::maker::Maker;
 use super::octal_words::OctalWords;
-use super::telling::Telling;
+use super::telling::DifferingWords;
 use cps_expr::Machine;
 use cps_list::View;
 use cps_state::limit_of;
@@ -19,7 +19,7 @@ use std::alloc::{AllocError, Global};
 pub struct Sides {
     pub machine: Machine,
     pub words: OctalWords,
-    pub deck: Deck,
+    pub deck: DeckWords,
 }
 
 impl Sides {
@@ -32,11 +32,11 @@ impl Sides {
         view: &V,
         low: u32,
         high: u32,
-    ) -> Result<Telling, AllocError>
+    ) -> Result<DifferingWords, AllocError>
         requires { high < 2 ^ 18 }
         ensures { ForSides self.now (V.assembly view.now).lines (λ sides. IfOk result (TellsAll sides low high)) }
     {
-        let mut telling = Telling::new(alloc);
+        let mut telling = DifferingWords::new(alloc);
         let mut shown = Vec::new(alloc);
         for address in low..high + 1 {
             self.tell(view, address, &mut shown, &mut telling)?;
@@ -51,7 +51,7 @@ impl Sides {
         view: &V,
         address: u32,
         shown: &mut Vec<u8>,
-        telling: &mut Telling,
+        telling: &mut DifferingWords,
     ) -> Result<(), AllocError>
         requires few { telling.old.compared + telling.old.differing < 2 ^ 30 }
         ensures text { ForSides self.now (V.assembly view.now).lines (λ sides. OnOk result (TellsAt sides address telling.old telling.new)) }

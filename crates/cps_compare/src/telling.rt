@@ -12,7 +12,7 @@ const ADDRESS_DIGITS: u8 = 6;
 
 /// What is told so far.
 #[derive(Drop)]
-pub struct Telling {
+pub struct DifferingWords {
     pub text: Vec<u8>,
     /// How many words differ.
     pub differing: u32,
@@ -20,16 +20,16 @@ pub struct Telling {
     pub compared: u32,
 }
 
-impl Telling {
+impl DifferingWords {
     ghost use Rattle.cps_compare.specs.Code.Shown.{Counts};
 
     /// Nothing is told. Takes no memory yet.
-    pub fn new(alloc: Global) -> Telling
+    pub fn new(alloc: Global) -> DifferingWords
         ensures text { result.text.items ≡ [] }
         ensures differing { result.differing ≡ 0 }
         ensures compared { result.compared ≡ 0 }
     {
-        Telling {
+        DifferingWords {
             text: Vec::new(alloc),
             differing: 0,
             compared: 0,

@@ -1,5 +1,5 @@
 //! Pass one of the lines of a source, one after another.
-ghost use Rattle.std.specs.Prelude.{◌≡◌, [], ◌∷◌, IfOk, IsOk, OnErr, OnOk, length};
+ghost use Rattle.std.specs.Prelude.{◌≡◌, [], ◌∷◌, IfOk, OnErr, OnOk, length};
 ghost use Rattle.cps_state.specs.Work.{raised};
 ghost use Rattle.cps_state.specs.declared.work.Tally.TheVariants.{Ones};
 ghost use Rattle.cps_final.specs.Finals.{Gathers};
@@ -8,7 +8,7 @@ ghost use Rattle.cps_edit.specs.Compares.{Steps};
 
 use cps_final::{Finals, Gather, Gathered};
 use cps_pass::step_over;
-use cps_state::{Hashing, Sheet, Trace, Work};
+use cps_state::{Hashing, Scratch, Trace, Work};
 use cps_text::Line;
 use std::alloc::{AllocError, Global};
 
@@ -17,7 +17,7 @@ pub struct PassOne {
     alloc: Global,
     gather: Gather,
     /// The lists that the next line uses.
-    sheet: Sheet,
+    scratch: Scratch,
 }
 
 // Written out: a derived drop is proved anew, with all that it goes through, at each place where a value is dropped.
@@ -26,10 +26,10 @@ impl Drop for PassOne {
         let PassOne {
             alloc: _,
             gather,
-            sheet,
+            scratch,
         } = self;
         drop(gather);
-        drop(sheet);
+        drop(scratch);
     }
 }
 
@@ -41,22 +41,21 @@ impl PassOne {
         PassOne {
             alloc,
             gather: Gather::new(alloc, hashing),
-            sheet: Sheet::new(alloc),
+            scratch: Scratch::new(alloc),
         }
     }
 
     /// What stands after the lines so far, and nothing else. Takes no memory.
-    pub fn finish(self) -> Result<Finals, AllocError>
-        ensures finals { IfOk result (λ finals. ⟦<Finals as Gathered>⟧.gathered finals ≡ gathered_in self) }
-        ensures succeeds { IsOk result }
+    pub fn finish(self) -> Finals
+        ensures { ⟦<Finals as Gathered>⟧.gathered result ≡ gathered_in self }
     {
         let PassOne {
             alloc: _,
             gather,
-            sheet,
+            scratch,
         } = self;
-        drop(sheet);
-        gather.finish()
+        drop(scratch);
+        gather
     }
 
     /// What the next line does. It is one step of pass one. Where there is no memory, nothing changes.
@@ -65,7 +64,13 @@ impl PassOne {
         ensures err { OnErr result (gathered_in self.new ≡ gathered_in self.old) }
         ensures step { work.new ≡ raised Ones work.old }
     {
-        let trace = step_over(self.alloc, work, &mut self.sheet, line, self.gather.state())?;
+        let trace = step_over(
+            self.alloc,
+            work,
+            &mut self.scratch,
+            line,
+            self.gather.state(),
+        )?;
         match self.gather.add(&trace) {
             Ok(()) => Ok(trace),
             Err(refused) => {

@@ -10,10 +10,10 @@ use Rattle.cps_expr.specs.declared.machine.Machine.{Machine}
 use Rattle.cps_expr.specs.declared.operation.Operation.{Operation}
 use Rattle.cps_expr.specs.declared.operation.Operation.TheVariants.{Ident, Abs, Periph, Base, Equate, Set, Org, Use, Bss, Bssz, Con, Data, Vfd, Dis, Compare, If, Else, Endif, Dup, Endd, Macro, Local, Endm, End, Listing}
 use Rattle.cps_expr.specs.declared.radix.Radix.{Radix}
-use Rattle.cps_expr.specs.declared.row.DisText.{DisText}
-use Rattle.cps_expr.specs.declared.row.DisText.TheVariants.{Counted, Delimited}
-use Rattle.cps_expr.specs.declared.row.Row.{Row}
-use Rattle.cps_expr.specs.declared.row.Row.TheVariants as row
+use Rattle.cps_expr.specs.declared.pseudo.DisText.{DisText}
+use Rattle.cps_expr.specs.declared.pseudo.DisText.TheVariants.{Counted, Delimited}
+use Rattle.cps_expr.specs.declared.pseudo.Pseudo.{Pseudo}
+use Rattle.cps_expr.specs.declared.pseudo.Pseudo.TheVariants as row
 use Rattle.cps_expr.specs.Bounds.{IsBounded, characters_in}
 use Rattle.cps_expr.specs.Expression.{Expression, expression_of}
 use Rattle.cps_expr.specs.Item.{bits_of, item_of}
@@ -115,10 +115,10 @@ shown radix (character ∷ text) characters is = shown-by radix (is_comma charac
 
 -- ---- rows
 
-constant : (machine : Machine) (given made : Row) → IsBounded machine given → Some given ≡ Some made → IsBounded machine made
-constant machine given made holds is = let same : given ≡ made = cc in subst (λ (r : Row). IsBounded machine r) same holds
+constant : (machine : Machine) (given made : Pseudo) → IsBounded machine given → Some given ≡ Some made → IsBounded machine made
+constant machine given made holds is = let same : given ≡ made = cc in subst (λ (r : Pseudo). IsBounded machine r) same holds
 
-pub row-bounded : (operation : Operation) (tail : List ℕ) (machine : Machine) (radix : Radix) (made : Row) → row_with operation tail machine radix ≡ Some made → IsBounded machine made
+pub row-bounded : (operation : Operation) (tail : List ℕ) (machine : Machine) (radix : Radix) (made : Pseudo) → row_with operation tail machine radix ≡ Some made → IsBounded machine made
 row-bounded Ident tail machine radix made is = mapped row.Ident _ made (IsBounded machine) (λ x _. tt) is
 row-bounded Abs tail machine radix made is = constant machine row.Abs made tt is
 row-bounded Periph tail machine radix made is = constant machine row.Periph made tt is
@@ -145,10 +145,10 @@ row-bounded Endm tail machine radix made is = constant machine row.Endm made tt 
 row-bounded End tail machine radix made is = constant machine row.End made tt is
 row-bounded Listing tail machine radix made is = constant machine row.Listing made tt is
 
-pub reads-bounded : (operation : Operation) (tail : List ℕ) (machine : Machine) (radix : Radix) (outcome : Result Row ExprFault) → Reads outcome (row_with operation tail machine radix) → IfOk outcome (IsBounded machine)
+pub reads-bounded : (operation : Operation) (tail : List ℕ) (machine : Machine) (radix : Radix) (outcome : Result Pseudo ExprFault) → Reads outcome (row_with operation tail machine radix) → IfOk outcome (IsBounded machine)
 reads-bounded operation tail machine radix (Ok made) is = row-bounded operation tail machine radix made is
 reads-bounded operation tail machine radix (Err fault) is = tt
 
-pub bounded : (operation tail : List ℕ) (machine : Machine) (radix : Radix) (made : Row) → row_of operation tail machine radix ≡ Some made → IsBounded machine made
+pub bounded : (operation tail : List ℕ) (machine : Machine) (radix : Radix) (made : Pseudo) → row_of operation tail machine radix ≡ Some made → IsBounded machine made
 bounded operation tail machine radix made is =
     chained (λ named. row_with named tail machine radix) (operation_named operation) made (IsBounded machine) (λ named _ next. row-bounded named tail machine radix made next) is

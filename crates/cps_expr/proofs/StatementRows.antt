@@ -9,9 +9,9 @@ use Rattle.cps_expr.specs.declared.machine.Machine.TheVariants.{Cp, Pp}
 use Rattle.cps_expr.specs.declared.operation.Operation.TheVariants.{Compare, Equate}
 use Rattle.cps_expr.specs.declared.operation.Relation.TheVariants.{Greater, GreaterOrEqual}
 use Rattle.cps_expr.specs.declared.radix.Radix.TheVariants.{Octal, Decimal}
-use Rattle.cps_expr.specs.declared.row.Block.TheVariants.{Nominal, Previous}
-use Rattle.cps_expr.specs.declared.row.DisText.TheVariants.{Counted, Delimited}
-use Rattle.cps_expr.specs.declared.row.Row.TheVariants as row
+use Rattle.cps_expr.specs.declared.pseudo.Block.TheVariants.{Nominal, Previous}
+use Rattle.cps_expr.specs.declared.pseudo.DisText.TheVariants.{Counted, Delimited}
+use Rattle.cps_expr.specs.declared.pseudo.Pseudo.TheVariants as row
 use Rattle.cps_expr.specs.declared.term.Element.{Element}
 use Rattle.cps_expr.specs.declared.term.Element.TheVariants.{Number, Symbol, Counter}
 use Rattle.cps_expr.specs.Expression.{Expression, expression_of}

@@ -10,14 +10,14 @@ use Rattle.cps_expr.specs.declared.machine.Machine.{Machine}
 use Rattle.cps_expr.specs.declared.operation.Relation.{Relation}
 use Rattle.cps_expr.specs.declared.radix.Radix.{Radix}
 use Rattle.cps_expr.specs.declared.radix.Radix.TheVariants.{Octal, Decimal}
-use Rattle.cps_expr.specs.declared.row.Block.{Block}
-use Rattle.cps_expr.specs.declared.row.Block.TheVariants.{Nominal, Previous, Named}
-use Rattle.cps_expr.specs.declared.row.DisText.{DisText}
-use Rattle.cps_expr.specs.declared.row.DisText.TheVariants.{Counted, Delimited}
-use Rattle.cps_expr.specs.declared.row.Comparison.{Comparison}
-use Rattle.cps_expr.specs.declared.row.Field.{Field}
-use Rattle.cps_expr.specs.declared.row.Repetition.{Repetition}
-use Rattle.cps_expr.specs.declared.row.SymbolTest.{SymbolTest}
+use Rattle.cps_expr.specs.declared.pseudo.Block.{Block}
+use Rattle.cps_expr.specs.declared.pseudo.Block.TheVariants.{Nominal, Previous, Named}
+use Rattle.cps_expr.specs.declared.pseudo.DisText.{DisText}
+use Rattle.cps_expr.specs.declared.pseudo.DisText.TheVariants.{Counted, Delimited}
+use Rattle.cps_expr.specs.declared.pseudo.ValueTest.{ValueTest}
+use Rattle.cps_expr.specs.declared.pseudo.Field.{Field}
+use Rattle.cps_expr.specs.declared.pseudo.Repetition.{Repetition}
+use Rattle.cps_expr.specs.declared.pseudo.SymbolTest.{SymbolTest}
 use Rattle.cps_expr.specs.Expression.{expression_of}
 use Rattle.cps_expr.specs.Item.{item_of}
 use Rattle.cps_expr.specs.OperandList.{paired, at_most_one, all_some}
@@ -58,7 +58,7 @@ field_of radix text = field_parted_at radix text (position is_slash text)
 
 -- ---- IFEQ and the like: two expressions, and perhaps the number of lines
 
-unfoldable pub comparison_of : Radix → Relation → List (List ℕ) → Option Comparison
+unfoldable pub comparison_of : Radix → Relation → List (List ℕ) → Option ValueTest
 comparison_of radix relation [] = None
 comparison_of radix relation (left ∷ []) = None
 comparison_of radix relation (left ∷ right ∷ more) =

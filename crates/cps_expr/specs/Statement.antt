@@ -9,10 +9,10 @@ use Rattle.cps_expr.specs.declared.machine.Machine.{Machine}
 use Rattle.cps_expr.specs.declared.operation.Operation.{Operation}
 use Rattle.cps_expr.specs.declared.operation.Operation.TheVariants.{Ident, Abs, Periph, Base, Equate, Set, Org, Use, Bss, Bssz, Con, Data, Vfd, Dis, Compare, If, Else, Endif, Dup, Endd, Macro, Local, Endm, End, Listing}
 use Rattle.cps_expr.specs.declared.radix.Radix.{Radix}
-use Rattle.cps_expr.specs.declared.row.DisText.{DisText}
-use Rattle.cps_expr.specs.declared.row.DisText.TheVariants.{Counted, Delimited}
-use Rattle.cps_expr.specs.declared.row.Row.{Row}
-use Rattle.cps_expr.specs.declared.row.Row.TheVariants as row
+use Rattle.cps_expr.specs.declared.pseudo.DisText.{DisText}
+use Rattle.cps_expr.specs.declared.pseudo.DisText.TheVariants.{Counted, Delimited}
+use Rattle.cps_expr.specs.declared.pseudo.Pseudo.{Pseudo}
+use Rattle.cps_expr.specs.declared.pseudo.Pseudo.TheVariants as row
 use Rattle.cps_expr.specs.Expression.{Expression, expression_of, has_counter, names_of}
 use Rattle.cps_expr.specs.Operation.{operation_named}
 use Rattle.cps_expr.specs.OperandList.{first_one, only_one, one_or_more}
@@ -24,7 +24,7 @@ abbrev pub only_expression : Radix → List ℕ → Option Expression
 only_expression radix tail = only_one (expression_of radix) (operands_of tail)
 
 -- the row of an operation's operands, None where they don't fit
-abbrev pub row_with : Operation → List ℕ → Machine → Radix → Option Row
+abbrev pub row_with : Operation → List ℕ → Machine → Radix → Option Pseudo
 row_with Ident tail machine radix = option_map row.Ident (first_one name_of (operands_of tail))
 row_with Abs tail machine radix = Some row.Abs
 row_with Periph tail machine radix = Some row.Periph
@@ -52,7 +52,7 @@ row_with End tail machine radix = Some row.End
 row_with Listing tail machine radix = Some row.Listing
 
 -- the row of a statement
-abbrev pub row_of : List ℕ → List ℕ → Machine → Radix → Option Row
+abbrev pub row_of : List ℕ → List ℕ → Machine → Radix → Option Pseudo
 row_of operation tail machine radix = option_and_then (λ named. row_with named tail machine radix) (operation_named operation)
 
 -- ---- the expressions of a row, its names, and whether `*` stands in it
@@ -63,7 +63,7 @@ count_in (Counted count text) = count ∷ []
 count_in (Delimited text) = []
 
 -- the expressions that are valued in the first pass
-abbrev pub now_expressions : Row → List Expression
+abbrev pub now_expressions : Pseudo → List Expression
 now_expressions (row.Equate value) = value ∷ []
 now_expressions (row.Set value) = value ∷ []
 now_expressions (row.Org address) = address ∷ []
@@ -77,26 +77,26 @@ now_expressions (row.Dup repetition) = repetition.count ∷ option_to_list repet
 now_expressions _ = []
 
 -- those that are valued in the second pass
-abbrev pub later_expressions : Row → List Expression
+abbrev pub later_expressions : Pseudo → List Expression
 later_expressions (row.Con values) = values
 later_expressions (row.Vfd fields) = map (λ field. field.value) fields
 later_expressions _ = []
 
 -- the symbol of an IF, which is asked in the first pass
-abbrev pub tested_names : Row → List Name
+abbrev pub tested_names : Pseudo → List Name
 tested_names (row.If test) = test.symbol ∷ []
 tested_names _ = []
 
 -- the names that are read in the first pass, and those that are read in the second
-abbrev pub now_names : Row → List Name
+abbrev pub now_names : Pseudo → List Name
 now_names r = tested_names r ++ flat_map names_of (now_expressions r)
 
-abbrev pub later_names : Row → List Name
+abbrev pub later_names : Pseudo → List Name
 later_names r = flat_map names_of (later_expressions r)
 
 -- whether `*` stands in an expression of the pass
-abbrev pub now_has_counter : Row → Bool
+abbrev pub now_has_counter : Pseudo → Bool
 now_has_counter r = list_any has_counter (now_expressions r)
 
-abbrev pub later_has_counter : Row → Bool
+abbrev pub later_has_counter : Pseudo → Bool
 later_has_counter r = list_any has_counter (later_expressions r)

@@ -8,9 +8,9 @@ ghost use Rattle.cps_expr.specs.Row.{is_defined_of, comparison_of, symbol_test_o
 
 use crate::expr::{Expr, ExprFault};
 use crate::operation::Relation;
+use crate::pseudo::{Repetition, SymbolTest, ValueTest};
 use crate::radix::Radix;
 use crate::reads::{paired, read_expression, read_last};
-use crate::row::{Comparison, Repetition, SymbolTest};
 use crate::text::is_same;
 use cps_text::{Name, operands};
 use std::alloc::Global;
@@ -22,7 +22,7 @@ pub(crate) fn read_comparison(
     tail: &[u8],
     radix: Radix,
     relation: Relation,
-) -> Result<Comparison, ExprFault>
+) -> Result<ValueTest, ExprFault>
     ensures { Reads result (comparison_of radix relation (operands_of tail.now)) }
 {
     let mut operands = operands(tail);
@@ -44,12 +44,12 @@ pub(crate) fn read_comparison(
 fn comparison(
     relation: Relation,
     parts: Result<((Expr, Expr), Option<Expr>), ExprFault>,
-) -> Result<Comparison, ExprFault>
+) -> Result<ValueTest, ExprFault>
     ensures { (written : Option ((Expression × Expression) × Option Expression)) → Reads parts written
         → Reads result (option_map (λ parts. record { relation = relation; left = parts.0.0; right = parts.0.1; lines = parts.1 }) written) }
 {
     let ((left, right), lines) = parts?;
-    Ok(Comparison {
+    Ok(ValueTest {
         relation,
         left,
         right,

@@ -7,9 +7,9 @@ ghost use Rattle.cps_expr.specs.Reads.{Reads};
 ghost use Rattle.cps_expr.specs.Row.{is_comma, displayed, counted_of, may_enclose, closes, delimited_at, delimited_of, dis_text_of};
 
 use crate::expr::{Expr, ExprFault};
+use crate::pseudo::DisText;
 use crate::radix::Radix;
 use crate::reads::{paired, read_expression};
-use crate::row::DisText;
 use crate::sequence::Sequence;
 use cps_text::{capital, display};
 use std::alloc::Global;

@@ -7,12 +7,12 @@ ghost use Rattle.cps_expr.specs.Reads.{Reads};
 ghost use Rattle.cps_expr.specs.Row.{field_of, is_slash};
 
 use crate::expr::{Expr, ExprFault};
+use crate::pseudo::Field;
 use crate::radix::Radix;
-use crate::reads::{Operand, paired, read_expression};
-use crate::row::Field;
+use crate::reads::{ListOperand, paired, read_expression};
 use std::alloc::Global;
 
-impl Operand for Field {
+impl ListOperand for Field {
     ghost written = { field_of };
 
     fn read_operand(alloc: Global, text: &[u8], radix: Radix) -> Result<Field, ExprFault> {

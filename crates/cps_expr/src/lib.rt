@@ -14,9 +14,9 @@
 //! - `operation.rt`: the operations of the statement table, found by their first letter
 //! - `packing.rt`: display codes, packed into a word
 //! - `parameters.rt`: the names of MACRO and of LOCAL
+//! - `pseudo.rt`: a row: what the operands of an operation say
 //! - `radix.rt`: the base of numbers
 //! - `reads.rt`: readings of operands that are expressions
-//! - `row.rt`: a row: what the operands of an operation say
 //! - `row_counter.rt`: whether `*` stands in a row
 //! - `row_names.rt`: the names that a row reads
 //! - `sequence.rt`: lists in a row
@@ -46,9 +46,9 @@ mod number;
 mod operation;
 mod packing;
 mod parameters;
+mod pseudo;
 mod radix;
 mod reads;
-mod row;
 mod row_counter;
 mod row_names;
 mod sequence;
@@ -70,9 +70,9 @@ pub use names::Names;
 pub use operation::{Operation, Relation};
 pub use packing::pack_characters;
 pub use parameters::read_locals;
+pub use pseudo::{Block, DisText, Field, Pseudo, Repetition, SymbolTest, ValueTest};
 pub use radix::Radix;
 pub use reads::{paired, read_expression, read_last, read_only};
-pub use row::{Block, Comparison, DisText, Field, Repetition, Row, SymbolTest};
 pub use sequence::Sequence;
 pub use signs::{leading_sign, sign_at};
 pub use statement::{Stmt, StmtFault};

@@ -5,8 +5,8 @@ ghost use Rattle.cps_text.specs.Operands.{operands_of};
 ghost use Rattle.cps_expr.specs.OperandList.{first_one};
 ghost use Rattle.cps_expr.specs.Row.{radix_of, block_named, block_of};
 
+use crate::pseudo::Block;
 use crate::radix::Radix;
-use crate::row::Block;
 use crate::text::is_text;
 use cps_text::{Name, capital, operands};
 

@@ -7,13 +7,13 @@ ghost use Rattle.cps_expr.specs.Row.{is_equal_sign, parameter_of, parameters_of,
 
 use crate::expr::ExprFault;
 use crate::radix::Radix;
-use crate::reads::{Operand, read_all};
+use crate::reads::{ListOperand, read_all};
 use crate::sequence::Sequence;
 use crate::text::is_same;
 use cps_text::{Name, operands};
 use std::alloc::Global;
 
-impl Operand for Name {
+impl ListOperand for Name {
     ghost written = { λ radix. parameter_of };
 
     fn read_operand(_alloc: Global, text: &[u8], _radix: Radix) -> Result<Name, ExprFault> {

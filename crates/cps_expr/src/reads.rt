@@ -14,7 +14,7 @@ use cps_text::{Operands, operands};
 use std::alloc::Global;
 
 /// What an operand of a list is read as.
-pub(crate) trait Operand: Drop {
+pub(crate) trait ListOperand: Drop {
     ghost use Rattle.std.specs.Prelude.{ℕ, List, Option};
     ghost use Rattle.cps_expr.specs.declared.radix.Radix.{Radix};
     ghost use Rattle.cps_expr.specs.Reads.{Reads};
@@ -25,7 +25,7 @@ pub(crate) trait Operand: Drop {
         ensures { Reads result (written radix text.now) };
 }
 
-impl Operand for Expr {
+impl ListOperand for Expr {
     ghost written = { expression_of };
 
     fn read_operand(alloc: Global, text: &[u8], radix: Radix) -> Result<Expr, ExprFault> {
@@ -62,7 +62,7 @@ pub fn paired<T: Drop, U: Drop>(
 }
 
 /// All operands.
-pub(crate) fn read_all<T: Operand>(
+pub(crate) fn read_all<T: ListOperand>(
     alloc: Global,
     tail: &[u8],
     radix: Radix,
@@ -103,7 +103,7 @@ pub(crate) fn keep<T: Drop>(kept: &mut Option<Vec<T>>, value: T)
 }
 
 /// All operands, of which there must be one.
-pub(crate) fn read_some<T: Operand>(
+pub(crate) fn read_some<T: ListOperand>(
     alloc: Global,
     tail: &[u8],
     radix: Radix,

@@ -5,34 +5,34 @@ ghost use Rattle.cps_expr.specs.Expression.{has_counter};
 ghost use Rattle.cps_expr.specs.Statement.{count_in, now_has_counter, later_has_counter};
 
 use crate::expr::Expr;
-use crate::row::{Comparison, DisText, Field, Repetition, Row};
+use crate::pseudo::{DisText, Field, Pseudo, Repetition, ValueTest};
 
 /// Whether `*` stands in an expression that is valued in the first pass.
-pub(crate) fn has_counter_now(row: &Row) -> bool
+pub(crate) fn has_counter_now(row: &Pseudo) -> bool
     ensures { result ≡ now_has_counter row.now }
 {
     match row {
-        Row::Equate(value) => value.has_counter(),
-        Row::Set(value) => value.has_counter(),
-        Row::Org(address) => address.has_counter(),
-        Row::Bss(words) => words.has_counter(),
-        Row::Bssz(words) => words.has_counter(),
-        Row::Vfd(fields) => any_width(fields.as_slice()),
-        Row::Dis(characters) => stands_in_count(characters),
-        Row::Compare(test) => stands_in_comparison(test),
-        Row::If(test) => stands_in_lines(&test.lines),
-        Row::Dup(repetition) => stands_in_repetition(repetition),
+        Pseudo::Equate(value) => value.has_counter(),
+        Pseudo::Set(value) => value.has_counter(),
+        Pseudo::Org(address) => address.has_counter(),
+        Pseudo::Bss(words) => words.has_counter(),
+        Pseudo::Bssz(words) => words.has_counter(),
+        Pseudo::Vfd(fields) => any_width(fields.as_slice()),
+        Pseudo::Dis(characters) => stands_in_count(characters),
+        Pseudo::Compare(test) => stands_in_comparison(test),
+        Pseudo::If(test) => stands_in_lines(&test.lines),
+        Pseudo::Dup(repetition) => stands_in_repetition(repetition),
         _ => false,
     }
 }
 
 /// Whether `*` stands in an expression that is valued in the second pass.
-pub(crate) fn has_counter_later(row: &Row) -> bool
+pub(crate) fn has_counter_later(row: &Pseudo) -> bool
     ensures { result ≡ later_has_counter row.now }
 {
     match row {
-        Row::Con(values) => any_value(values.as_slice()),
-        Row::Vfd(fields) => any_field_value(fields.as_slice()),
+        Pseudo::Con(values) => any_value(values.as_slice()),
+        Pseudo::Vfd(fields) => any_field_value(fields.as_slice()),
         _ => false,
     }
 }
@@ -46,7 +46,7 @@ fn stands_in_count(characters: &DisText) -> bool
     }
 }
 
-fn stands_in_comparison(test: &Comparison) -> bool
+fn stands_in_comparison(test: &ValueTest) -> bool
     ensures { result ≡ has_counter test.now.left || (has_counter test.now.right || list_any has_counter (option_to_list test.now.lines)) }
 {
     test.left.has_counter() || test.right.has_counter() || stands_in_lines(&test.lines)

@@ -5,36 +5,36 @@ ghost use Rattle.cps_expr.specs.Expression.{names_of};
 ghost use Rattle.cps_expr.specs.Statement.{count_in, now_names, later_names};
 
 use crate::expr::Expr;
-use crate::row::{Comparison, DisText, Field, Repetition, Row, SymbolTest};
+use crate::pseudo::{DisText, Field, Pseudo, Repetition, SymbolTest, ValueTest};
 use cps_text::Name;
 use std::alloc::AllocError;
 
 /// Adds the names that are read in the first pass.
-pub(crate) fn push_now(names: &mut Vec<Name>, row: &Row) -> Result<(), AllocError>
+pub(crate) fn push_now(names: &mut Vec<Name>, row: &Pseudo) -> Result<(), AllocError>
     ensures { OnOk result (names.new.items ≡ names.old.items ++ now_names row.now) }
 {
     match row {
-        Row::Equate(value) => push_names(names, value),
-        Row::Set(value) => push_names(names, value),
-        Row::Org(address) => push_names(names, address),
-        Row::Bss(words) => push_names(names, words),
-        Row::Bssz(words) => push_names(names, words),
-        Row::Vfd(fields) => push_widths(names, fields.as_slice()),
-        Row::Dis(characters) => push_count(names, characters),
-        Row::Compare(test) => push_comparison(names, test),
-        Row::If(test) => push_symbol_test(names, test),
-        Row::Dup(repetition) => push_repetition(names, repetition),
+        Pseudo::Equate(value) => push_names(names, value),
+        Pseudo::Set(value) => push_names(names, value),
+        Pseudo::Org(address) => push_names(names, address),
+        Pseudo::Bss(words) => push_names(names, words),
+        Pseudo::Bssz(words) => push_names(names, words),
+        Pseudo::Vfd(fields) => push_widths(names, fields.as_slice()),
+        Pseudo::Dis(characters) => push_count(names, characters),
+        Pseudo::Compare(test) => push_comparison(names, test),
+        Pseudo::If(test) => push_symbol_test(names, test),
+        Pseudo::Dup(repetition) => push_repetition(names, repetition),
         _ => Ok(()),
     }
 }
 
 /// Adds the names that are read in the second pass.
-pub(crate) fn push_later(names: &mut Vec<Name>, row: &Row) -> Result<(), AllocError>
+pub(crate) fn push_later(names: &mut Vec<Name>, row: &Pseudo) -> Result<(), AllocError>
     ensures { OnOk result (names.new.items ≡ names.old.items ++ later_names row.now) }
 {
     match row {
-        Row::Con(values) => push_all_names(names, values.as_slice()),
-        Row::Vfd(fields) => push_values(names, fields.as_slice()),
+        Pseudo::Con(values) => push_all_names(names, values.as_slice()),
+        Pseudo::Vfd(fields) => push_values(names, fields.as_slice()),
         _ => Ok(()),
     }
 }
@@ -63,7 +63,7 @@ fn push_count(names: &mut Vec<Name>, characters: &DisText) -> Result<(), AllocEr
     }
 }
 
-fn push_comparison(names: &mut Vec<Name>, test: &Comparison) -> Result<(), AllocError>
+fn push_comparison(names: &mut Vec<Name>, test: &ValueTest) -> Result<(), AllocError>
     ensures { OnOk result (names.new.items ≡ names.old.items
         ++ (names_of test.now.left ++ names_of test.now.right ++ flat_map names_of (option_to_list test.now.lines))) }
 {

@@ -7,8 +7,8 @@ ghost use Rattle.cps_expr.specs.Statement.{row_of, now_names, later_names, now_h
 use crate::expr::ExprFault;
 use crate::machine::Machine;
 use crate::operation::Operation;
+use crate::pseudo::Pseudo;
 use crate::radix::Radix;
-use crate::row::Row;
 use crate::row_counter::{has_counter_later, has_counter_now};
 use crate::row_names::{push_later, push_now};
 use crate::statement_table::read_row;
@@ -34,17 +34,17 @@ pub enum StmtFault {
 /// A statement of the statement table without its location field. A clause sees its row.
 #[derive(Drop)]
 pub struct Stmt {
-    row: Row,
+    row: Pseudo,
     first_pass: Vec<Name>,
     second_pass: Vec<Name>,
 }
 
 impl Model for Stmt {
     ghost use Rattle.std.specs.Prelude.{◌≡◌};
-    ghost use Rattle.cps_expr.specs.declared.row.Row.{Row};
+    ghost use Rattle.cps_expr.specs.declared.pseudo.Pseudo.{Pseudo};
     ghost use Rattle.cps_expr.specs.Statement.{now_names, later_names};
 
-    ghost Value = { Row };
+    ghost Value = { Pseudo };
 
     ghost view = { λ statement. statement.row };
 
@@ -82,14 +82,14 @@ impl Stmt {
     }
 
     /// Its operands as data.
-    pub fn row(&self) -> &Row
+    pub fn row(&self) -> &Pseudo
         ensures { result.now ≡ self.now }
     {
         &self.row
     }
 
     /// Its operands, to be taken out of it.
-    pub fn into_row(self) -> Row
+    pub fn into_row(self) -> Pseudo
         ensures { result ≡ self }
     {
         self.row
@@ -124,7 +124,7 @@ impl Stmt {
     }
 }
 
-fn with_names(alloc: Global, row: Row) -> Result<Stmt, AllocError>
+fn with_names(alloc: Global, row: Pseudo) -> Result<Stmt, AllocError>
     ensures { IfOk result (λ statement. statement ≡ row) }
 {
     let mut first_pass = Vec::new(alloc);

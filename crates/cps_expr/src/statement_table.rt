@@ -11,9 +11,9 @@ use crate::machine::Machine;
 use crate::named_operand::{read_base, read_block, read_program};
 use crate::operation::Operation;
 use crate::parameters::{read_locals, read_parameters};
+use crate::pseudo::Pseudo;
 use crate::radix::Radix;
 use crate::reads::{read_only, read_some};
-use crate::row::Row;
 use crate::words::read_words;
 use std::alloc::Global;
 use std::marker::Model;
@@ -21,13 +21,13 @@ use std::marker::Model;
 /// The operands of an operation of the statement table, as they are read. A clause sees their row.
 #[derive(Drop)]
 pub struct Stated {
-    row: Row,
+    row: Pseudo,
 }
 
 impl Model for Stated {
-    ghost use Rattle.cps_expr.specs.declared.row.Row.{Row};
+    ghost use Rattle.cps_expr.specs.declared.pseudo.Pseudo.{Pseudo};
 
-    ghost Value = { Row };
+    ghost Value = { Pseudo };
 
     ghost view = { λ stated. stated.row };
 }
@@ -50,14 +50,14 @@ impl Stated {
     }
 
     /// The operands as data.
-    pub fn row(&self) -> &Row
+    pub fn row(&self) -> &Pseudo
         ensures { result.now ≡ self.now }
     {
         &self.row
     }
 
     /// The operands, to be taken out of it.
-    pub fn into_row(self) -> Row
+    pub fn into_row(self) -> Pseudo
         ensures { result ≡ self }
     {
         self.row
@@ -71,7 +71,7 @@ pub(crate) fn read_row(
     tail: &[u8],
     machine: Machine,
     radix: Radix,
-) -> Result<Row, ExprFault>
+) -> Result<Pseudo, ExprFault>
     ensures row { Reads result (row_with operation tail.now machine radix) }
     ensures bounded { IfOk result (IsBounded machine) }
 {
@@ -84,37 +84,37 @@ fn read_operands(
     tail: &[u8],
     machine: Machine,
     radix: Radix,
-) -> Result<Row, ExprFault>
+) -> Result<Pseudo, ExprFault>
     ensures { Reads result (row_with operation tail.now machine radix) }
 {
     let row = match operation {
-        Operation::Ident => Row::Ident(readable(read_program(tail))?),
-        Operation::Abs => Row::Abs,
-        Operation::Periph => Row::Periph,
-        Operation::Base => Row::Base(readable(read_base(tail))?),
-        Operation::Equate => Row::Equate(read_only(alloc, tail, radix)?),
-        Operation::Set => Row::Set(read_only(alloc, tail, radix)?),
-        Operation::Org => Row::Org(read_only(alloc, tail, radix)?),
-        Operation::Use => Row::Use(readable(read_block(tail))?),
-        Operation::Bss => Row::Bss(read_only(alloc, tail, radix)?),
-        Operation::Bssz => Row::Bssz(read_only(alloc, tail, radix)?),
-        Operation::Con => Row::Con(read_some(alloc, tail, radix)?),
-        Operation::Data => Row::Data(read_words(alloc, tail, radix, machine)?),
-        Operation::Vfd => Row::Vfd(read_some(alloc, tail, radix)?),
-        Operation::Dis => Row::Dis(read_dis_text(alloc, tail, radix)?),
+        Operation::Ident => Pseudo::Ident(readable(read_program(tail))?),
+        Operation::Abs => Pseudo::Abs,
+        Operation::Periph => Pseudo::Periph,
+        Operation::Base => Pseudo::Base(readable(read_base(tail))?),
+        Operation::Equate => Pseudo::Equate(read_only(alloc, tail, radix)?),
+        Operation::Set => Pseudo::Set(read_only(alloc, tail, radix)?),
+        Operation::Org => Pseudo::Org(read_only(alloc, tail, radix)?),
+        Operation::Use => Pseudo::Use(readable(read_block(tail))?),
+        Operation::Bss => Pseudo::Bss(read_only(alloc, tail, radix)?),
+        Operation::Bssz => Pseudo::Bssz(read_only(alloc, tail, radix)?),
+        Operation::Con => Pseudo::Con(read_some(alloc, tail, radix)?),
+        Operation::Data => Pseudo::Data(read_words(alloc, tail, radix, machine)?),
+        Operation::Vfd => Pseudo::Vfd(read_some(alloc, tail, radix)?),
+        Operation::Dis => Pseudo::Dis(read_dis_text(alloc, tail, radix)?),
         Operation::Compare(relation) => {
-            Row::Compare(read_comparison(alloc, tail, radix, relation)?)
+            Pseudo::Compare(read_comparison(alloc, tail, radix, relation)?)
         }
-        Operation::If => Row::If(read_symbol_test(alloc, tail, radix)?),
-        Operation::Else => Row::Else,
-        Operation::Endif => Row::Endif,
-        Operation::Dup => Row::Dup(read_repetition(alloc, tail, radix)?),
-        Operation::Endd => Row::Endd,
-        Operation::Macro => Row::Macro(read_parameters(alloc, tail, radix)?),
-        Operation::Local => Row::Local(read_locals(alloc, tail)?),
-        Operation::Endm => Row::Endm,
-        Operation::End => Row::End,
-        Operation::Listing => Row::Listing,
+        Operation::If => Pseudo::If(read_symbol_test(alloc, tail, radix)?),
+        Operation::Else => Pseudo::Else,
+        Operation::Endif => Pseudo::Endif,
+        Operation::Dup => Pseudo::Dup(read_repetition(alloc, tail, radix)?),
+        Operation::Endd => Pseudo::Endd,
+        Operation::Macro => Pseudo::Macro(read_parameters(alloc, tail, radix)?),
+        Operation::Local => Pseudo::Local(read_locals(alloc, tail)?),
+        Operation::Endm => Pseudo::Endm,
+        Operation::End => Pseudo::End,
+        Operation::Listing => Pseudo::Listing,
     };
     Ok(row)
 }

@@ -21,7 +21,7 @@ use Rattle.cps_state.specs.declared.item.Stand.{Stand}
 use Rattle.cps_state.specs.declared.item.Stand.TheVariants.{Nowhere, In}
 use Rattle.cps_state.specs.declared.made.Content.{Content}
 use Rattle.cps_state.specs.declared.made.Content.TheVariants as content
-use Rattle.cps_state.specs.declared.made.Held.{Held}
+use Rattle.cps_state.specs.declared.made.SetValue.{SetValue}
 use Rattle.cps_state.specs.declared.made.Shown.{Shown}
 use Rattle.cps_state.specs.declared.made.Shown.TheVariants as shown
 use Rattle.cps_state.specs.Course.{Trace}
@@ -30,7 +30,7 @@ use Rattle.cps_state.specs.Machines.{limit, behind}
 use Rattle.cps_state.specs.Made.{no_flags, width_of, end_of, content_names, content_literals}
 use Rattle.cps_final.specs.declared.row.Row.{Row}
 use Rattle.cps_final.specs.Finals.{block, label, literal}
-use Rattle.cps_final.specs.Values.{Resolved, address_of, address_in, final_of, values_in, Known, known_in, Standing, standing_of, plain_offset, value_at, number_at, expression_flags, operand_number, is_valueless, reads_undefined, number_for, form_number, form_flags, number_of, value_flags, first_address}
+use Rattle.cps_final.specs.Values.{Resolved, address_of, address_in, final_of, values_in, Known, known_in, PlacedStatement, placed_statement, plain_offset, value_at, number_at, expression_flags, operand_number, is_valueless, reads_undefined, number_for, form_number, form_flags, number_of, value_flags, first_address}
 use Rattle.cps_final.specs.Places.{with_places}
 use Rattle.cps_final.specs.Rows.{limit_flags, literal_flags, digits_for, first_digits, second_digits, blank_row, row_at, later_rows, content_rows, with_contents, statement_row, rows_with, rows_made, row_of, rows_of}
 use Rattle.cps_final.specs.Pieces.{pieces_at, last_word, zeros_at, placed, content_bits, contents_of, pieces_of}
@@ -47,7 +47,7 @@ all-split P (x ∷ xs) ys each =
 
 -- ---- numbers and flags
 
-abbrev stands_at : Known → Machine → ℕ → ℕ → Standing
+abbrev stands_at : Known → Machine → ℕ → ℕ → PlacedStatement
 stands_at known machine base here = record { known = known; machine = machine; base = base; here = here }
 
 module _ (o f : Known) (here : ℕ) where
@@ -215,8 +215,8 @@ all-kept P q (x ∷ xs) each = kept-first P q x xs (q x) refl each (all-kept P q
 all-so : {T : Type 0} (P Q : T → Type 0) → ((x : T) → P x → Q x) → (xs : List T) → All P xs → All Q xs
 all-so P Q so xs each = λ k d lt. so (get_or xs k d) (each k d lt)
 
-abbrev is_held : List Held → Name → Bool
-is_held held name = list_any (λ (h : Held). same_name h.name name) held
+abbrev is_held : List SetValue → Name → Bool
+is_held held name = list_any (λ (h : SetValue). same_name h.name name) held
 
 abbrev Stands : Resolved → Resolved → Option Name → Type 0
 Stands others finals name = others (block name) ≡ finals (block name)
@@ -225,19 +225,19 @@ final-same : (others finals : Resolved) (value : Value) → Stands others finals
 final-same others finals value agree = ap (λ (b : Option Value). limited (plain (value.offset +ℤ pos (address_of b)))) agree
 
 module _ (others finals : Resolved) (name : Name) where
-  abbrev AgreesFree : List Held → Type 0
+  abbrev AgreesFree : List SetValue → Type 0
   AgreesFree held = is_held held name ≡ false → others (label name) ≡ finals (label name)
 
-  value-first : (h : Held) (held : List Held) → Stands others finals h.value.block → AgreesFree (h ∷ held)
+  value-first : (h : SetValue) (held : List SetValue) → Stands others finals h.value.block → AgreesFree (h ∷ held)
       → (AgreesFree held → values_in others held name ≡ values_in finals held name) → (b : Bool) → same_name h.name name ≡ b
       → (if b then final_of others h.value else values_in others held name) ≡ (if b then final_of finals h.value else values_in finals held name)
   value-first h held stands agree rest true is = final-same others finals h.value stands
   value-first h held stands agree rest false is = rest (λ none. agree (ap (λ (b : Bool). b || is_held held name) is ∙ none))
 
-  value-same : (held : List Held) → All (Stands others finals) (map (λ h. h.value.block) held) → AgreesFree held → values_in others held name ≡ values_in finals held name
+  value-same : (held : List SetValue) → All (Stands others finals) (map (λ h. h.value.block) held) → AgreesFree held → values_in others held name ≡ values_in finals held name
   value-same [] stand agree = agree refl
   value-same (h ∷ held) stand agree =
-      let blocks = map (λ (h : Held). h.value.block) held in
+      let blocks = map (λ (h : SetValue). h.value.block) held in
       value-first h held (all-head (Stands others finals) h.value.block blocks stand) agree
       (value-same held (All-tail (Stands others finals) h.value.block blocks stand)) (same_name h.name name) refl
 
@@ -283,7 +283,7 @@ module _ (others finals : Resolved) (item : Item) (agree : AgreeOnItem others fi
   first-same : first_address others item ≡ here
   first-same = ap (λ (n : ℕ). n + item.made.start / 60) base-same
 
-  standing-same : standing_of others item ≡ stands_at o item.made.machine (address_in finals item.stand) here
+  standing-same : placed_statement others item ≡ stands_at o item.made.machine (address_in finals item.stand) here
   standing-same = λ i. record { known = o; machine = item.made.machine; base = base-same i; here = first-same i }
 
   statement-same : (shows : Shown) → All (Stands others finals) (blocks_shown shows) → statement_row others item shows ≡ statement_row finals item shows
@@ -302,7 +302,7 @@ module _ (others finals : Resolved) (item : Item) (agree : AgreeOnItem others fi
   rows_with-same [] names literals = ap (λ (r : Row). r ∷ []) (statement-same item.made.shown row-blocks.1)
   rows_with-same (c ∷ contents) names literals =
       let base = address_in finals item.stand in
-      ap (λ (s : Standing). if item.made.only_flags then blank_row (with_contents s.known s.here item.made.flags (c ∷ contents)) ∷ []
+      ap (λ (s : PlacedStatement). if item.made.only_flags then blank_row (with_contents s.known s.here item.made.flags (c ∷ contents)) ∷ []
       else content_rows s item.made.flags (with_places s.machine item.made.start (c ∷ contents))) standing-same
       ∙ (λ i. if item.made.only_flags then blank_row (with-same o f here item.made.flags (c ∷ contents) names literals i) ∷ []
       else content_rows-same o f here item.made.machine base item.made.flags item.made.start (c ∷ contents) names literals i)
@@ -314,7 +314,7 @@ module _ (others finals : Resolved) (item : Item) (agree : AgreeOnItem others fi
   pieces-same =
       let made = item.made in
       let base = address_in finals item.stand in
-      ap (λ (s : Standing). flat_map (placed made.machine s.base) (made.filling ++ zeros_at made.machine made.start made.zeros ++ contents_of s made)) standing-same
+      ap (λ (s : PlacedStatement). flat_map (placed made.machine s.base) (made.filling ++ zeros_at made.machine made.start made.zeros ++ contents_of s made)) standing-same
       ∙ (λ i. flat_map (placed made.machine base) (made.filling ++ zeros_at made.machine made.start made.zeros
       ++ (if made.only_flags then [] else bits-same o f here made.machine base made.start made.contents symbols-same literals-same i
       ++ last_word made.machine (end_of made.machine made.start made.contents))))

@@ -28,8 +28,8 @@ use Rattle.cps_state.specs.declared.key.Extent.{Extent}
 use Rattle.cps_state.specs.declared.key.Extent.TheVariants.{Counted, ToEndd}
 use Rattle.cps_state.specs.declared.key.Mode.{Mode}
 use Rattle.cps_state.specs.declared.key.Mode.TheVariants.{Normal, SkipLines, SkipRange, KeepMacro, KeepDup}
-use Rattle.cps_state.specs.declared.key.Range.{Range}
-use Rattle.cps_state.specs.declared.key.Range.TheVariants.{BeforeElse, BehindElse}
+use Rattle.cps_state.specs.declared.key.OpenRange.{OpenRange}
+use Rattle.cps_state.specs.declared.key.OpenRange.TheVariants.{BeforeElse, BehindElse}
 use Rattle.cps_state.specs.declared.key.Macro.{Macro as AMacro}
 use Rattle.cps_expr.specs.contracts.machine.MachinePartialEq.TheImpl.{eq-value as machine_eq}
 use Rattle.cps_expr.specs.contracts.radix.RadixPartialEq.TheImpl.{eq-value as radix_eq}
@@ -39,7 +39,7 @@ use Rattle.cps_state.specs.contracts.key.ControlPartialEq.TheImpl.{eq-value as c
 use Rattle.cps_state.specs.contracts.key.PhasePartialEq.TheImpl.{eq-value as phase_eq}
 use Rattle.cps_state.specs.contracts.key.ModePartialEq.TheImpl.{eq-value as mode_eq}
 use Rattle.cps_state.specs.contracts.key.ExtentPartialEq.TheImpl.{eq-value as extent_eq}
-use Rattle.cps_state.specs.contracts.key.RangePartialEq.TheImpl.{eq-value as range_eq}
+use Rattle.cps_state.specs.contracts.key.OpenRangePartialEq.TheImpl.{eq-value as range_eq}
 use Rattle.cps_state.specs.contracts.key.MacroPartialEq.TheImpl.{eq-value as macro_eq}
 use Rattle.cps_final.proofs.DecideLemmas.{decides}
 pub use Rattle.cps_final.proofs.DecideLemmas.{option-decides, name-decides}
@@ -221,17 +221,17 @@ mode-itself (KeepDup g) =
     (and_from ((extent_eq.it) g.extent g.extent) _ (extent-itself g.extent)
     (and_from (g.kept.lines == g.kept.lines) _ ((unsigned_Decides g.kept.lines g.kept.lines).1 refl) ((booleans_Decides g.kept.is_over g.kept.is_over).1 refl)))
 
-range-is : (a b : Range) → (range_eq.it) a b ≡ true → a ≡ b
+range-is : (a b : OpenRange) → (range_eq.it) a b ≡ true → a ≡ b
 range-is BeforeElse BeforeElse h = refl
 range-is BeforeElse BehindElse h = cc
 range-is BehindElse BeforeElse h = cc
 range-is BehindElse BehindElse h = refl
 
-range-itself : (a : Range) → (range_eq.it) a a ≡ true
+range-itself : (a : OpenRange) → (range_eq.it) a a ≡ true
 range-itself BeforeElse = refl
 range-itself BehindElse = refl
 
-ranges-decides : (a b : List Range) → Decides (pointwise (range_eq.it) a b) (a ≡ b)
+ranges-decides : (a b : List OpenRange) → Decides (pointwise (range_eq.it) a b) (a ≡ b)
 ranges-decides a b = pointwise_decides (decides (range_eq.it) range-is range-itself) a b
 
 blocks-decides : (a b : List (Option Name)) → Decides (pointwise (option_eq same_name) a b) (a ≡ b)

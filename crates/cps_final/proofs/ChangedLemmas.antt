@@ -8,7 +8,7 @@ use Rattle.cps_state.specs.declared.key.Answer.{Answer}
 use Rattle.cps_state.specs.declared.key.Put.{Put}
 use Rattle.cps_state.specs.Course.{last_put}
 use Rattle.cps_state.specs.Keys.{State, same_key, with_put, overwritten}
-use Rattle.cps_final.specs.Changes.{Changed, no_change, changed, with_change, without, settled, SettledLaw}
+use Rattle.cps_final.specs.Changes.{Changed, no_change, changed, with_change, without, agreed, AgreedLaw}
 
 -- where nothing is changed, the same stands
 pub changed-no_change : (state : State) → changed no_change state ≡ state
@@ -49,14 +49,14 @@ put-next now before state end puts i p lt is made so_far =
 pub put-all : (now : Changed) (state end : State) (puts : List Put) (i : ℕ) → length puts ≤ i → overwritten (changed now state) (drop i puts) ≡ end → changed now state ≡ end
 put-all now state end puts i all so_far = sym (ap (overwritten (changed now state)) (drop_all i puts all)) ∙ so_far
 
--- lines that put the same as before leave those changes that they don't settle
-pub settled-law : SettledLaw
+-- lines that put the same as before leave those changes that they don't put
+pub settled-law : AgreedLaw
 settled-law now state puts =
     λ i. λ k. (overwritten-last (changed now state) puts k ∙ settled-at (last_put puts k) (now k) (state k)
-    ∙ sym (ap (unwrap_or (settled now puts k)) (overwritten-last state puts k))) i
+    ∙ sym (ap (unwrap_or (agreed now puts k)) (overwritten-last state puts k))) i
 
 -- a put settles its own key, and those behind it theirs
-pub settled-put : (now : Changed) (p : Put) (puts : List Put) → settled (without now p.key) puts ≡ settled now (p ∷ puts)
+pub settled-put : (now : Changed) (p : Put) (puts : List Put) → agreed (without now p.key) puts ≡ agreed now (p ∷ puts)
 settled-put now p puts = λ i. λ k. at k (last_put puts k) (same_key p.key k) i
   where
     at : (k : Key) (last : Option Answer) (here : Bool)
@@ -67,11 +67,11 @@ settled-put now p puts = λ i. λ k. at k (last_put puts k) (same_key p.key k) i
 
 -- one put of the list is gone over
 pub settled-next : (now before end : Changed) (puts : List Put) (i : ℕ) (p : Put) → i < length puts → p ≡ get_or puts i p → now ≡ without before p.key
-    → settled before (drop i puts) ≡ end → settled now (drop (i + 1) puts) ≡ end
+    → agreed before (drop i puts) ≡ end → agreed now (drop (i + 1) puts) ≡ end
 settled-next now before end puts i p lt is made so_far =
-    ap (λ (c : Changed). settled c (drop (i + 1) puts)) made ∙ settled-put before p (drop (i + 1) puts)
-    ∙ ap (λ (q : Put). settled before (q ∷ drop (i + 1) puts)) is ∙ sym (ap (settled before) (drop_more puts i p lt)) ∙ so_far
+    ap (λ (c : Changed). agreed c (drop (i + 1) puts)) made ∙ settled-put before p (drop (i + 1) puts)
+    ∙ ap (λ (q : Put). agreed before (q ∷ drop (i + 1) puts)) is ∙ sym (ap (agreed before) (drop_more puts i p lt)) ∙ so_far
 
 -- all of the list is gone over
-pub settled-all : (now end : Changed) (puts : List Put) (i : ℕ) → length puts ≤ i → settled now (drop i puts) ≡ end → now ≡ end
-settled-all now end puts i all so_far = sym (ap (settled now) (drop_all i puts all)) ∙ so_far
+pub settled-all : (now end : Changed) (puts : List Put) (i : ℕ) → length puts ≤ i → agreed now (drop i puts) ≡ end → now ≡ end
+settled-all now end puts i all so_far = sym (ap (agreed now) (drop_all i puts all)) ∙ so_far

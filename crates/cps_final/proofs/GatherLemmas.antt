@@ -18,7 +18,6 @@ use Rattle.cps_final.specs.Layout.{Layout, puts_of, words_put, size_in, named_by
 use Rattle.cps_final.specs.Pool.{literals_in, pool_of}
 use Rattle.cps_final.specs.Finals.{Finals, first_program, program_of, finals_of}
 use Rattle.cps_final.specs.Code.Gathering.{grown, grown_by}
-use Rattle.cps_final.specs.Code.Storage.{HasGathered}
 use Rattle.cps_final.proofs.BlockLemmas.{same_name-laws}
 
 -- ---- distinct elements
@@ -136,15 +135,6 @@ same-but-state a b s t rest state = λ i. record (rest i) { state = state i }
 pub on_err : {T E P : Type 0} (r : Result T E) → P → OnErr r P
 on_err (Ok x) p = tt
 on_err (Err e) p = p
-
-pub gathered-ok : {T E : Type 0} (r : Result T E) (old new : Finals) (trace : Trace) → OnOk r (HasGathered old new trace)
-    → OnOk r ((traces : List Trace) → old ≡ finals_of traces → new ≡ finals_of (traces ++ trace ∷ []))
-gathered-ok (Ok x) old new trace has = gathered-more old new trace has.state has.layout has.pool has.program
-gathered-ok (Err e) old new trace has = tt
-
-pub state-ok : {T E : Type 0} (r : Result T E) (old new : Finals) (trace : Trace) → OnOk r (HasGathered old new trace) → OnOk r (new.state ≡ overwritten old.state trace.puts)
-state-ok (Ok x) old new trace has = has.state
-state-ok (Err e) old new trace has = tt
 
 -- the same of blocks, pool and name alone
 pub stored-more : (old new : Finals) (trace : Trace)

@@ -18,7 +18,7 @@ use Rattle.cps_state.specs.Code.Exchange.{with_answer, MayStand}
 use Rattle.cps_state.specs.Keys.{State, same_key}
 use Rattle.cps_state.specs.Code.KeptAnswers.{is_other, answers_in}
 use Rattle.cps_state.proofs.KnownLemmas.{same_key_is, same_key-true}
-use Rattle.cps_final.specs.Changes.{Changed, changed, with_change, without, settled}
+use Rattle.cps_final.specs.Changes.{Changed, changed, with_change, without, agreed}
 use Rattle.cps_final.specs.Code.Kept.{MayStandIn}
 
 abbrev pub eq : Key → Key → Bool
@@ -97,7 +97,7 @@ pub stands-without : (now : Changed) (at : Key) → MayStandIn now → MayStandI
 stands-without now at stands k always none =
     elim (same_key at k) as (λ b. (if b then None else now k) ≡ Some None → ⊥) [ true ↦ λ e. cc | false ↦ λ e. stands k always e ] none
 
-pub stands-settled : (now : Changed) (puts : List Put) → MayStandIn now → MayStandIn (settled now puts)
+pub stands-settled : (now : Changed) (puts : List Put) → MayStandIn now → MayStandIn (agreed now puts)
 stands-settled now puts stands k always none =
     elim (is_some (last_put puts k)) as (λ b. (if b then None else now k) ≡ Some None → ⊥) [ true ↦ λ e. cc | false ↦ λ e. stands k always e ] none
 

@@ -3,7 +3,7 @@ pub mod ExchangeLemmas
 pub mod KeptLemmas
 pub mod BlockLemmas
 pub mod GatherLemmas
-pub mod MendLemmas
+pub mod PatchLemmas
 mod PlaceLemmas
 pub mod AloneLemmas
 pub mod OutcomeLemmas

@@ -12,7 +12,7 @@ use Rattle.cps_text.specs.declared.name.Name.{Name}
 use Rattle.cps_expr.specs.Value.{same_name}
 use Rattle.cps_state.specs.declared.item.Item.{Item}
 use Rattle.cps_state.specs.declared.made.Content.{Content}
-use Rattle.cps_state.specs.declared.made.Held.{Held}
+use Rattle.cps_state.specs.declared.made.SetValue.{SetValue}
 use Rattle.cps_state.specs.Course.{Trace}
 use Rattle.cps_state.specs.Made.{Made, content_names}
 use Rattle.cps_final.specs.Distinct.{distinct}
@@ -22,7 +22,7 @@ use Rattle.cps_final.specs.Pool.{literals_of}
 use Rattle.cps_final.proofs.GatherLemmas.{distinct-append}
 use Rattle.cps_final.proofs.NamingLemmas.{flat-all}
 use Rattle.cps_final.proofs.DecideLemmas.{name-decides, option-decides}
-use Rattle.cps_final.specs.Names.{statements_of, NamesLaw, labels_named, all_blocks_named, literals_named}
+use Rattle.cps_final.specs.NamedFinals.{statements_of, NamesLaw, labels_named, all_blocks_named, literals_named}
 use Rattle.cps_final.specs.Code.NamesGathering.{label_of}
 
 -- ---- a test of each once
@@ -87,7 +87,7 @@ flat-flat f g [] = refl
 flat-flat f g (x ∷ xs) = ap (λ l. flat_map f (g x) ++ l) (flat-flat f g xs) ∙ sym (flat_map-append f (g x) (flat_map g xs))
 
 -- the symbols that stand for their labels
-labels-free : (held : List Held) (names : List Name) → flat_map (label_of held) names ≡ filter (λ name. not (list_any (λ set. same_name set.name name) held)) names
+labels-free : (held : List SetValue) (names : List Name) → flat_map (label_of held) names ≡ filter (λ name. not (list_any (λ set. same_name set.name name) held)) names
 labels-free held [] = refl
 labels-free held (name ∷ names) = at (list_any (λ set. same_name set.name name) held) (labels-free held names)
   where
@@ -98,7 +98,7 @@ labels-free held (name ∷ names) = at (list_any (λ set. same_name set.name nam
     at false rest = ap (λ l. name ∷ l) rest
 
 -- those of a statement, by its contents
-pub labels-made : (made : Made) (held : List Held) (contents : List Content) → held ≡ made.held → contents ≡ made.contents
+pub labels-made : (made : Made) (held : List SetValue) (contents : List Content) → held ≡ made.held → contents ≡ made.contents
     → flat_map (λ content. flat_map (label_of held) (content_names content)) contents ≡ labels_read made
 labels-made made held contents are_held are_contents =
     (λ i. flat_map (λ content. flat_map (label_of (are_held i)) (content_names content)) (are_contents i))

@@ -5,7 +5,7 @@ use Rattle.std.specs.List.{list_any, list_all}
 use Rattle.std.proofs.lemmas.List.Folds.{list_all-append, list_all-map}
 use Rattle.cps_text.specs.declared.name.Name.{Name}
 use Rattle.cps_expr.specs.Value.{same_name}
-use Rattle.cps_state.specs.declared.made.Held.{Held}
+use Rattle.cps_state.specs.declared.made.SetValue.{SetValue}
 use Rattle.cps_state.specs.Made.{Made, content_names, content_literals}
 use Rattle.cps_final.specs.Finals.{Named, label, literal}
 use Rattle.cps_final.specs.Outcome.{labels_read}
@@ -55,7 +55,7 @@ pub labels-join : (test : Named → Bool) (made : Made)
     ≡ list_all (λ name. test (label name)) (labels_read made)
 labels-join test made =
     let p : Name → Bool = λ name. test (label name) in
-    let held : Name → Bool = λ name. list_any (λ (held : Held). same_name held.name name) made.held in
+    let held : Name → Bool = λ name. list_any (λ (held : SetValue). same_name held.name name) made.held in
     flat-all (λ name. held name || p name) content_names made.contents ∙ out-all p held (flat_map content_names made.contents)
 
 pub literals-join : (test : Named → Bool) (made : Made)

@@ -18,7 +18,7 @@ use Rattle.cps_state.specs.Machines.{limit, behind}
 use Rattle.cps_state.specs.Made.{Made, no_flags, width_of, end_of, HaveRoom}
 use Rattle.cps_state.proofs.PlaceLemmas.{end-not-before, end-next}
 use Rattle.cps_final.specs.declared.row.Row.{Row}
-use Rattle.cps_final.specs.Values.{Resolved, known_in, Standing, standing_of, first_address}
+use Rattle.cps_final.specs.Values.{Resolved, known_in, PlacedStatement, placed_statement, first_address}
 use Rattle.cps_final.specs.Places.{with_places}
 use Rattle.cps_final.specs.Rows.{row_at, later_rows, content_rows, with_contents, blank_row, rows_with, rows_made, row_of, rows_of}
 use Rattle.cps_final.specs.LineNames.{defined_by, names_defined, names_later, names_read, read_by, symbol_put}
@@ -37,42 +37,42 @@ room-first machine made at of starts room =
     (room-low machine at made.contents given, given.within)
 
 -- the rows from a place on, where the first has these flags
-abbrev pub rows_from : Standing → Flags → Bool → ℕ → List Content → List Row
-rows_from standing flags is_later at [] = []
-rows_from standing flags is_later at (content ∷ contents) =
-    row_at standing flags is_later at content ∷ rows_from standing no_flags true (behind standing.machine at (width_of content)) contents
+abbrev pub rows_from : PlacedStatement → Flags → Bool → ℕ → List Content → List Row
+rows_from statement flags is_later at [] = []
+rows_from statement flags is_later at (content ∷ contents) =
+    row_at statement flags is_later at content ∷ rows_from statement no_flags true (behind statement.machine at (width_of content)) contents
 
-rows_from-later : (standing : Standing) (at : ℕ) (contents : List Content)
-    → rows_from standing no_flags true at contents ≡ later_rows standing (with_places standing.machine at contents)
-rows_from-later standing at [] = refl
-rows_from-later standing at (content ∷ contents) =
-    ap (λ (l : List Row). row_at standing no_flags true at content ∷ l) (rows_from-later standing (behind standing.machine at (width_of content)) contents)
+rows_from-later : (statement : PlacedStatement) (at : ℕ) (contents : List Content)
+    → rows_from statement no_flags true at contents ≡ later_rows statement (with_places statement.machine at contents)
+rows_from-later statement at [] = refl
+rows_from-later statement at (content ∷ contents) =
+    ap (λ (l : List Row). row_at statement no_flags true at content ∷ l) (rows_from-later statement (behind statement.machine at (width_of content)) contents)
 
-pub rows_from-first : (standing : Standing) (flags : Flags) (at : ℕ) (contents : List Content)
-    → rows_from standing flags false at contents ≡ content_rows standing flags (with_places standing.machine at contents)
-rows_from-first standing flags at [] = refl
-rows_from-first standing flags at (content ∷ contents) =
-    ap (λ (l : List Row). row_at standing flags false at content ∷ l) (rows_from-later standing (behind standing.machine at (width_of content)) contents)
+pub rows_from-first : (statement : PlacedStatement) (flags : Flags) (at : ℕ) (contents : List Content)
+    → rows_from statement flags false at contents ≡ content_rows statement flags (with_places statement.machine at contents)
+rows_from-first statement flags at [] = refl
+rows_from-first statement flags at (content ∷ contents) =
+    ap (λ (l : List Row). row_at statement flags false at content ∷ l) (rows_from-later statement (behind statement.machine at (width_of content)) contents)
 
 -- the same from what the code worked out
-pub rows_from-given : (standing found : Standing) (flags own : Flags) (start at : ℕ) (contents : List Content) → found ≡ standing → own ≡ flags → at ≡ start
-    → rows_from found own false at contents ≡ content_rows standing flags (with_places standing.machine start contents)
-rows_from-given standing found flags own start at contents of given starts =
-    (λ i. rows_from (of i) (given i) false (starts i) contents) ∙ rows_from-first standing flags start contents
+pub rows_from-given : (statement found : PlacedStatement) (flags own : Flags) (start at : ℕ) (contents : List Content) → found ≡ statement → own ≡ flags → at ≡ start
+    → rows_from found own false at contents ≡ content_rows statement flags (with_places statement.machine start contents)
+rows_from-given statement found flags own start at contents of given starts =
+    (λ i. rows_from (of i) (given i) false (starts i) contents) ∙ rows_from-first statement flags start contents
 
 -- the content at an index, its row, and the place after it
-pub record Step (standing : Standing) (contents : List Content) (machine : Machine) (flags : Flags) (is_later : Bool) (at next i : ℕ) (content : Content) (row : Row) : Type 0 where
-  pub of : machine ≡ standing.machine
+pub record Step (statement : PlacedStatement) (contents : List Content) (machine : Machine) (flags : Flags) (is_later : Bool) (at next i : ℕ) (content : Content) (row : Row) : Type 0 where
+  pub of : machine ≡ statement.machine
   pub within : i < length contents
   pub is : content ≡ get_or contents i content
   pub moved : next ≡ behind machine at (width_of content)
-  pub shows : row ≡ row_at standing flags is_later at content
+  pub shows : row ≡ row_at statement flags is_later at content
 
 -- the same from what the code worked out
-pub step : (standing : Standing) (contents walked : List Content) (machine : Machine) (flags : Flags) (is_later : Bool) (at next width i : ℕ) (content : Content) (row : Row)
-    → machine ≡ standing.machine → walked ≡ contents → i < length walked → content ≡ get_or walked i content → width ≡ width_of content → next ≡ behind machine at width
-    → row ≡ row_at standing flags is_later at content → Step standing contents machine flags is_later at next i content row
-step standing contents walked machine flags is_later at next width i content row of same lt is wide moved shows = record {
+pub step : (statement : PlacedStatement) (contents walked : List Content) (machine : Machine) (flags : Flags) (is_later : Bool) (at next width i : ℕ) (content : Content) (row : Row)
+    → machine ≡ statement.machine → walked ≡ contents → i < length walked → content ≡ get_or walked i content → width ≡ width_of content → next ≡ behind machine at width
+    → row ≡ row_at statement flags is_later at content → Step statement contents machine flags is_later at next i content row
+step statement contents walked machine flags is_later at next width i content row of same lt is wide moved shows = record {
   of = of;
   within = subst (λ (l : List Content). i < length l) same lt;
   is = is ∙ ap (λ (l : List Content). get_or l i content) same;
@@ -80,8 +80,8 @@ step standing contents walked machine flags is_later at next width i content row
   shows = shows;
 }
 
-module _ (standing : Standing) (contents : List Content) (machine : Machine) (flags : Flags) (is_later : Bool) (at next i : ℕ) (content : Content) (row : Row)
-    (so : Step standing contents machine flags is_later at next i content row) where
+module _ (statement : PlacedStatement) (contents : List Content) (machine : Machine) (flags : Flags) (is_later : Bool) (at next i : ℕ) (content : Content) (row : Row)
+    (so : Step statement contents machine flags is_later at next i content row) where
   pub room-next : end_of machine at (drop i contents) ≤ 60 * limit machine
       → (next ≤ 60 * limit machine) × (end_of machine next (drop (i + 1) contents) ≤ 60 * limit machine)
   room-next room =
@@ -91,47 +91,47 @@ module _ (standing : Standing) (contents : List Content) (machine : Machine) (fl
       (omega (arith, after, ends), ends)
 
   -- the rows from a content on are its own and those after it
-  rows-more : rows_from standing flags is_later at (drop i contents) ≡ row ∷ rows_from standing no_flags true next (drop (i + 1) contents)
+  rows-more : rows_from statement flags is_later at (drop i contents) ≡ row ∷ rows_from statement no_flags true next (drop (i + 1) contents)
   rows-more =
-      let moved : next ≡ behind standing.machine at (width_of content) = so.moved ∙ ap (λ (m : Machine). behind m at (width_of content)) so.of in
-      ap (rows_from standing flags is_later at) (drop_more contents i content so.within)
-      ∙ ap (λ (c : Content). row_at standing flags is_later at c
-      ∷ rows_from standing no_flags true (behind standing.machine at (width_of c)) (drop (i + 1) contents)) (sym so.is)
-      ∙ (λ j. sym so.shows j ∷ rows_from standing no_flags true (sym moved j) (drop (i + 1) contents))
+      let moved : next ≡ behind statement.machine at (width_of content) = so.moved ∙ ap (λ (m : Machine). behind m at (width_of content)) so.of in
+      ap (rows_from statement flags is_later at) (drop_more contents i content so.within)
+      ∙ ap (λ (c : Content). row_at statement flags is_later at c
+      ∷ rows_from statement no_flags true (behind statement.machine at (width_of c)) (drop (i + 1) contents)) (sym so.is)
+      ∙ (λ j. sym so.shows j ∷ rows_from statement no_flags true (sym moved j) (drop (i + 1) contents))
 
   pub rows-next : (item : Item) (rows new end : List Row) (next_flags : Flags) → new ≡ rows ++ row_of item row ∷ [] → next_flags ≡ no_flags
-      → rows ++ map (row_of item) (rows_from standing flags is_later at (drop i contents)) ≡ end
-      → new ++ map (row_of item) (rows_from standing next_flags true next (drop (i + 1) contents)) ≡ end
+      → rows ++ map (row_of item) (rows_from statement flags is_later at (drop i contents)) ≡ end
+      → new ++ map (row_of item) (rows_from statement next_flags true next (drop (i + 1) contents)) ≡ end
   rows-next item rows new end next_flags pushed none so_far =
-      let rest = map (row_of item) (rows_from standing no_flags true next (drop (i + 1) contents)) in
-      ap (λ (f : Flags). new ++ map (row_of item) (rows_from standing f true next (drop (i + 1) contents))) none
+      let rest = map (row_of item) (rows_from statement no_flags true next (drop (i + 1) contents)) in
+      ap (λ (f : Flags). new ++ map (row_of item) (rows_from statement f true next (drop (i + 1) contents))) none
       ∙ ap (λ (l : List Row). l ++ rest) pushed ∙ append_assoc rows (row_of item row ∷ []) rest
       ∙ sym (ap (λ (l : List Row). rows ++ map (row_of item) l) rows-more) ∙ so_far
 
   pub flags-next : (all new end next_flags : Flags) → new ≡ joined all row.flags → next_flags ≡ no_flags
-      → joined_with all (rows_from standing flags is_later at (drop i contents)) ≡ end
-      → joined_with new (rows_from standing next_flags true next (drop (i + 1) contents)) ≡ end
+      → joined_with all (rows_from statement flags is_later at (drop i contents)) ≡ end
+      → joined_with new (rows_from statement next_flags true next (drop (i + 1) contents)) ≡ end
   flags-next all new end next_flags joins none so_far =
-      ap (λ (f : Flags). joined_with new (rows_from standing f true next (drop (i + 1) contents))) none
-      ∙ ap (λ (f : Flags). joined_with f (rows_from standing no_flags true next (drop (i + 1) contents))) joins
+      ap (λ (f : Flags). joined_with new (rows_from statement f true next (drop (i + 1) contents))) none
+      ∙ ap (λ (f : Flags). joined_with f (rows_from statement no_flags true next (drop (i + 1) contents))) joins
       ∙ sym (ap (joined_with all) rows-more) ∙ so_far
 
 -- the rows of contents that are bits
-pub contents-rows : (finals : Resolved) (item : Item) (standing : Standing) (contents : List Content) → 0 < length contents → item.made.only_flags ≡ false → standing ≡ standing_of finals item
-    → rows_with finals item contents ≡ content_rows standing item.made.flags (with_places standing.machine item.made.start contents)
-contents-rows finals item standing [] some are_bits is = absurd (omega (arith, some))
-contents-rows finals item standing (content ∷ contents) some are_bits is =
+pub contents-rows : (finals : Resolved) (item : Item) (statement : PlacedStatement) (contents : List Content) → 0 < length contents → item.made.only_flags ≡ false → statement ≡ placed_statement finals item
+    → rows_with finals item contents ≡ content_rows statement item.made.flags (with_places statement.machine item.made.start contents)
+contents-rows finals item statement [] some are_bits is = absurd (omega (arith, some))
+contents-rows finals item statement (content ∷ contents) some are_bits is =
     let all = content ∷ contents in
     let flags = item.made.flags in
     ap (λ (b : Bool). if b then blank_row (with_contents (known_in finals item.made) (first_address finals item) flags all) ∷ []
-    else content_rows (standing_of finals item) flags (with_places item.made.machine item.made.start all)) are_bits
-    ∙ sym (ap (λ (s : Standing). content_rows s flags (with_places s.machine item.made.start all)) is)
+    else content_rows (placed_statement finals item) flags (with_places item.made.machine item.made.start all)) are_bits
+    ∙ sym (ap (λ (s : PlacedStatement). content_rows s flags (with_places s.machine item.made.start all)) is)
 
 -- all contents were walked
-pub flags-all : (standing found : Standing) (flags all : Flags) (contents : List Content) (i : ℕ) → length contents ≤ i → found ≡ standing
-    → all ≡ with_contents found.known found.here flags (take i contents) → all ≡ with_contents standing.known standing.here flags contents
-flags-all standing found flags all contents i past is so_far =
-    so_far ∙ ap (with_contents found.known found.here flags) (take_all i contents past) ∙ ap (λ (s : Standing). with_contents s.known s.here flags contents) is
+pub flags-all : (statement found : PlacedStatement) (flags all : Flags) (contents : List Content) (i : ℕ) → length contents ≤ i → found ≡ statement
+    → all ≡ with_contents found.known found.here flags (take i contents) → all ≡ with_contents statement.known statement.here flags contents
+flags-all statement found flags all contents i past is so_far =
+    so_far ∙ ap (with_contents found.known found.here flags) (take_all i contents past) ∙ ap (λ (s : PlacedStatement). with_contents s.known s.here flags contents) is
 
 -- ---- lists
 

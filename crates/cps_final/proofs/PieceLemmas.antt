@@ -15,7 +15,7 @@ use Rattle.cps_state.specs.declared.made.Content.{Content}
 use Rattle.cps_state.specs.Machines.{limit, behind}
 use Rattle.cps_state.specs.Made.{Made, width_of, end_of, HaveRoom}
 use Rattle.cps_state.proofs.PlaceLemmas.{end-not-before}
-use Rattle.cps_final.specs.Values.{Resolved, Standing, standing_of, number_of}
+use Rattle.cps_final.specs.Values.{Resolved, PlacedStatement, placed_statement, number_of}
 use Rattle.cps_final.specs.Places.{with_places}
 use Rattle.cps_final.specs.Pieces.{pieces_at, last_word, zeros_at, placed, content_bits, content_pieces, pieces_of}
 
@@ -56,9 +56,9 @@ room-low machine at contents room =
     omega (arith)
 
 -- the content at an index, with what the code worked out for it: its pieces, and then those after it
-module _ (standing : Standing) (walked all : List Content) (machine : Machine) (at width number next i : ℕ) (content : Content) (of : machine ≡ standing.machine)
+module _ (statement : PlacedStatement) (walked all : List Content) (machine : Machine) (at width number next i : ℕ) (content : Content) (of : machine ≡ statement.machine)
     (same : walked ≡ all) (lt : i < length walked) (is : content ≡ get_or walked i content) (wide : width ≡ width_of content)
-    (counts : number ≡ number_of standing.known standing.here content) (moved : next ≡ behind machine at width) where
+    (counts : number ≡ number_of statement.known statement.here content) (moved : next ≡ behind machine at width) where
   within : i < length all
   within = subst (λ (l : List Content). i < length l) same lt
 
@@ -75,22 +75,22 @@ module _ (standing : Standing) (walked all : List Content) (machine : Machine) (
       let now : HaveRoom machine at (content ∷ drop (i + 1) all) = subst (HaveRoom machine at) rest-is room in
       subst (λ (n : ℕ). HaveRoom machine n (drop (i + 1) all)) (sym moves) (room-behind machine at content (drop (i + 1) all) now)
 
-  pieces-more : content_pieces standing at (drop i all) ≡ pieces_at machine at width number ++ content_pieces standing next (drop (i + 1) all)
+  pieces-more : content_pieces statement at (drop i all) ≡ pieces_at machine at width number ++ content_pieces statement next (drop (i + 1) all)
   pieces-more =
       let after = drop (i + 1) all in
-      let next_at = behind standing.machine at (width_of content) in
-      ap (content_pieces standing at) rest-is
-      ∙ append_assoc (content_bits standing (at, content)) (flat_map (content_bits standing) (with_places standing.machine next_at after))
-      (last_word standing.machine (end_of standing.machine next_at after))
-      ∙ (λ j. pieces_at (sym of j) at (sym wide j) (sym counts j) ++ content_pieces standing (behind (sym of j) at (width_of content)) (drop (i + 1) all))
-      ∙ ap (λ (n : ℕ). pieces_at machine at width number ++ content_pieces standing n (drop (i + 1) all)) (sym moves)
+      let next_at = behind statement.machine at (width_of content) in
+      ap (content_pieces statement at) rest-is
+      ∙ append_assoc (content_bits statement (at, content)) (flat_map (content_bits statement) (with_places statement.machine next_at after))
+      (last_word statement.machine (end_of statement.machine next_at after))
+      ∙ (λ j. pieces_at (sym of j) at (sym wide j) (sym counts j) ++ content_pieces statement (behind (sym of j) at (width_of content)) (drop (i + 1) all))
+      ∙ ap (λ (n : ℕ). pieces_at machine at width number ++ content_pieces statement n (drop (i + 1) all)) (sym moves)
 
   pub content-next : (g : Piece → List Piece) (old new end : List Piece) → new ≡ old ++ flat_map g (pieces_at machine at width number)
-      → HaveRoom machine at (drop i all) → old ++ flat_map g (content_pieces standing at (drop i all)) ≡ end
-      → HaveRoom machine next (drop (i + 1) all) × (new ++ flat_map g (content_pieces standing next (drop (i + 1) all)) ≡ end)
+      → HaveRoom machine at (drop i all) → old ++ flat_map g (content_pieces statement at (drop i all)) ≡ end
+      → HaveRoom machine next (drop (i + 1) all) × (new ++ flat_map g (content_pieces statement next (drop (i + 1) all)) ≡ end)
   content-next g old new end pushed room before =
       let own = pieces_at machine at width number in
-      let rest = content_pieces standing next (drop (i + 1) all) in (
+      let rest = content_pieces statement next (drop (i + 1) all) in (
         room-next room,
         ap (λ (l : List Piece). l ++ flat_map g rest) pushed ∙ append_assoc old (flat_map g own) (flat_map g rest)
             ∙ ap (λ (l : List Piece). old ++ l) (sym (flat_map-append g own rest) ∙ ap (flat_map g) (sym pieces-more)) ∙ before,
@@ -99,21 +99,21 @@ module _ (standing : Standing) (walked all : List Content) (machine : Machine) (
 -- ---- a statement
 
 -- the filling and the zeros, and then the contents
-pub statement-pieces : (finals : Resolved) (item : Item) (standing : Standing) (base : ℕ) (old skipped new : List Piece)
-    → standing ≡ standing_of finals item → base ≡ standing.base → item.made.only_flags ≡ false
+pub statement-pieces : (finals : Resolved) (item : Item) (statement : PlacedStatement) (base : ℕ) (old skipped new : List Piece)
+    → statement ≡ placed_statement finals item → base ≡ statement.base → item.made.only_flags ≡ false
     → skipped ≡ old ++ flat_map (placed item.made.machine base) (item.made.filling ++ zeros_at item.made.machine item.made.start item.made.zeros)
-    → new ≡ skipped ++ flat_map (placed standing.machine standing.base) (content_pieces standing item.made.start item.made.contents)
+    → new ≡ skipped ++ flat_map (placed statement.machine statement.base) (content_pieces statement item.made.start item.made.contents)
     → new ≡ old ++ pieces_of finals item
-statement-pieces finals item standing base old skipped new is based are_bits skips pushed =
+statement-pieces finals item statement base old skipped new is based are_bits skips pushed =
     let made = item.made in
-    let s = standing_of finals item in
+    let s = placed_statement finals item in
     let g = placed made.machine s.base in
     let first = made.filling ++ zeros_at made.machine made.start made.zeros in
     let bits = content_pieces s made.start made.contents in
     let skips-now : skipped ≡ old ++ flat_map g first =
-    skips ∙ ap (λ (n : ℕ). old ++ flat_map (placed made.machine n) first) (based ∙ ap (λ (t : Standing). t.base) is) in
+    skips ∙ ap (λ (n : ℕ). old ++ flat_map (placed made.machine n) first) (based ∙ ap (λ (t : PlacedStatement). t.base) is) in
     let pushed-now : new ≡ skipped ++ flat_map g bits =
-    pushed ∙ ap (λ (t : Standing). skipped ++ flat_map (placed t.machine t.base) (content_pieces t made.start made.contents)) is in
+    pushed ∙ ap (λ (t : PlacedStatement). skipped ++ flat_map (placed t.machine t.base) (content_pieces t made.start made.contents)) is in
     pushed-now ∙ ap (λ (l : List Piece). l ++ flat_map g bits) skips-now ∙ append_assoc old (flat_map g first) (flat_map g bits)
     ∙ ap (λ (l : List Piece). old ++ l) (sym (flat_map-append g first bits))
     ∙ ap (λ (b : Bool). old ++ flat_map g (first ++ (if b then [] else bits))) (sym are_bits)

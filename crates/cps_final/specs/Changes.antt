@@ -27,9 +27,9 @@ abbrev pub without : Changed → Key → Changed
 without now key k = if same_key key k then None else now k
 
 -- the changes behind lines that put the same as before: at a key that they put, nothing is changed
-abbrev pub settled : Changed → List Put → Changed
-settled now puts k = if is_some (last_put puts k) then None else now k
+abbrev pub agreed : Changed → List Put → Changed
+agreed now puts k = if is_some (last_put puts k) then None else now k
 
--- what changes and puts make of a state: lines that put the same as before leave those changes that they don't settle
-abbrev pub SettledLaw : Type 0
-SettledLaw = (now : Changed) (state : State) (puts : List Put) → overwritten (changed now state) puts ≡ changed (settled now puts) (overwritten state puts)
+-- what changes and puts make of a state: lines that put the same as before leave those changes that they don't put
+abbrev pub AgreedLaw : Type 0
+AgreedLaw = (now : Changed) (state : State) (puts : List Put) → overwritten (changed now state) puts ≡ changed (agreed now puts) (overwritten state puts)

@@ -5,7 +5,7 @@ pub mod FormerFinals
 pub mod Gathering
 pub mod ItemsKept
 pub mod Kept
-pub mod Mend
+pub mod FinalsPatch
 pub mod NamesGathering
 pub mod NamesKept
 pub mod RunGathering

@@ -1,6 +1,6 @@
 -- Final values: what stands after the last line of a source, with blocks at their final addresses. From the manual's sections on the two
 -- passes, on blocks, on SET and on literals; a final value beyond the range of expressions is none, as everywhere.
-use Rattle.std.specs.Prelude.{◌≡◌, ℕ, ◌+◌, nat_eq, Bool, List, [], ◌∷◌, length, take, position, pos, ◌+ℤ◌, nat_abs, Option, None, Some, option_map, option_and_then}
+use Rattle.std.specs.Prelude.{◌≡◌, ℕ, ◌+◌, nat_eq, Bool, List, [], ◌∷◌, ◌++◌, length, take, position, pos, ◌+ℤ◌, nat_abs, Option, None, Some, option_map, option_and_then}
 use Rattle.std.specs.List.{sum_by}
 use Rattle.std.specs.Option.{option_or}
 use Rattle.cps_text.specs.declared.name.Name.{Name}
@@ -43,6 +43,10 @@ finals_of traces = record {
 -- these were gathered of these lines
 abbrev pub Gathers : Finals → List Trace → Type 0
 Gathers finals traces = finals ≡ finals_of traces
+
+-- what was gathered of any lines, and of one line more
+abbrev pub GathersAlso : Finals → Finals → Trace → Type 0
+GathersAlso old new trace = (traces : List Trace) → Gathers old traces → Gathers new (traces ++ trace ∷ [])
 
 -- the machine of the program
 abbrev pub machine_of : Finals → Machine

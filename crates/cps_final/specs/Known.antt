@@ -4,13 +4,13 @@ use Rattle.std.specs.Prelude.{ℕ, List, [], ◌∷◌, if◌then◌else◌}
 use Rattle.cps_expr.specs.declared.machine.Machine.{Machine}
 use Rattle.cps_expr.specs.Value.{Values, same_name}
 use Rattle.cps_state.specs.declared.item.Item.{Item}
-use Rattle.cps_state.specs.declared.made.Held.{Held}
+use Rattle.cps_state.specs.declared.made.SetValue.{SetValue}
 use Rattle.cps_state.specs.Made.{Made}
 use Rattle.cps_final.specs.Finals.{label, literal, address_of}
 use Rattle.cps_final.specs.Addresses.{Resolved, final_of, address_in, first_address}
 
 -- what a symbol stands for: the value that SET had given it there, else the final value of its label
-abbrev pub values_in : Resolved → List Held → Values
+abbrev pub values_in : Resolved → List SetValue → Values
 values_in finals [] name = finals (label name)
 values_in finals (held ∷ others) name = if same_name held.name name then final_of finals held.value else values_in finals others name
 
@@ -27,14 +27,14 @@ abbrev pub known_in : Resolved → Made → Known
 known_in finals made = record { symbols = values_in finals made.held; literals = literal_in finals }
 
 -- a statement at its final address: what is known in it, whose words its bits are, the address of its block, and that of the word in which it starts
-pub record Standing : Type 0 where
+pub record PlacedStatement : Type 0 where
   pub known : Known
   pub machine : Machine
   pub base : ℕ
   pub here : ℕ
 
-abbrev pub standing_of : Resolved → Item → Standing
-standing_of finals item = record {
+abbrev pub placed_statement : Resolved → Item → PlacedStatement
+placed_statement finals item = record {
   known = known_in finals item.made;
   machine = item.made.machine;
   base = address_in finals item.stand;

@@ -13,7 +13,7 @@ pub mod Places
 pub mod Rows
 pub mod Values
 pub mod Naming
-pub mod Names
+pub mod NamedFinals
 pub mod Holds
 pub mod Agreeing
 pub mod Run

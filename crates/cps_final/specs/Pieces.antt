@@ -11,7 +11,7 @@ use Rattle.cps_state.specs.declared.made.Content.{Content}
 use Rattle.cps_state.specs.Machines.{limit}
 use Rattle.cps_state.specs.Made.{Made, width_of, end_of}
 use Rattle.cps_final.specs.Places.{with_places}
-use Rattle.cps_final.specs.Values.{Resolved, Standing, standing_of, number_of}
+use Rattle.cps_final.specs.Values.{Resolved, PlacedStatement, placed_statement, number_of}
 
 -- `width` bits of a number from a place on, which may reach into the next words: those of them in the word that comes `later` words on
 abbrev pub piece_in : Machine → ℕ → ℕ → ℕ → ℕ → Piece
@@ -54,21 +54,21 @@ placed machine base piece =
     else []
 
 -- the bits of a content at its place
-abbrev pub content_bits : Standing → ℕ × Content → List Piece
-content_bits standing (at, content) = pieces_at standing.machine at (width_of content) (number_of standing.known standing.here content)
+abbrev pub content_bits : PlacedStatement → ℕ × Content → List Piece
+content_bits statement (at, content) = pieces_at statement.machine at (width_of content) (number_of statement.known statement.here content)
 
 -- the bits of contents from a place on
-abbrev pub content_pieces : Standing → ℕ → List Content → List Piece
-content_pieces standing at contents =
-    flat_map (content_bits standing) (with_places standing.machine at contents)
-    ++ last_word standing.machine (end_of standing.machine at contents)
+abbrev pub content_pieces : PlacedStatement → ℕ → List Content → List Piece
+content_pieces statement at contents =
+    flat_map (content_bits statement) (with_places statement.machine at contents)
+    ++ last_word statement.machine (end_of statement.machine at contents)
 
-abbrev pub contents_of : Standing → Made → List Piece
-contents_of standing made = if made.only_flags then [] else content_pieces standing made.start made.contents
+abbrev pub contents_of : PlacedStatement → Made → List Piece
+contents_of statement made = if made.only_flags then [] else content_pieces statement made.start made.contents
 
 -- the filling, the zeros, then the contents
 abbrev pub pieces_of : Resolved → Item → List Piece
 pieces_of finals item =
     let made = item.made in
-    let standing = standing_of finals item in
-    flat_map (placed made.machine standing.base) (made.filling ++ zeros_at made.machine made.start made.zeros ++ contents_of standing made)
+    let statement = placed_statement finals item in
+    flat_map (placed made.machine statement.base) (made.filling ++ zeros_at made.machine made.start made.zeros ++ contents_of statement made)

@@ -17,12 +17,12 @@ use Rattle.cps_state.specs.Flags.{joined}
 use Rattle.cps_state.specs.Machines.{limit}
 use Rattle.cps_state.specs.Made.{no_flags, width_of, content_literals}
 use Rattle.cps_final.specs.declared.row.Row.{Row}
-use Rattle.cps_final.specs.declared.digits.Digits.{Digits}
+use Rattle.cps_final.specs.declared.octal_digits.OctalDigits.{OctalDigits}
 use Rattle.cps_final.specs.Places.{with_places}
-use Rattle.cps_final.specs.Values.{Resolved, final_of, first_address, Known, Standing, standing_of, number_of, value_flags}
+use Rattle.cps_final.specs.Values.{Resolved, final_of, first_address, Known, PlacedStatement, placed_statement, number_of, value_flags}
 
 -- one digit for each three bits, rounded up
-abbrev pub digits_for : ℕ → ℕ → Digits
+abbrev pub digits_for : ℕ → ℕ → OctalDigits
 digits_for width number = record { count = (width + 2) / 3; number = number }
 
 -- an instruction of two words of a peripheral processor shows them apart
@@ -30,11 +30,11 @@ abbrev pub is_parted : Machine → Content → Bool
 is_parted Pp (content.Instruction form) = nat_lt (bits_of Pp) form.bits
 is_parted _ _ = false
 
-abbrev pub first_digits : Machine → Content → ℕ → Digits
+abbrev pub first_digits : Machine → Content → ℕ → OctalDigits
 first_digits machine content number =
     if is_parted machine content then digits_for (bits_of Pp) (number / 2 ^ bits_of Pp) else digits_for (width_of content) number
 
-abbrev pub second_digits : Machine → Content → ℕ → Option Digits
+abbrev pub second_digits : Machine → Content → ℕ → Option OctalDigits
 second_digits machine content number = if is_parted machine content then Some (digits_for (bits_of Pp) (number % 2 ^ bits_of Pp)) else None
 
 -- E at or past the machine's words
@@ -50,29 +50,29 @@ abbrev pub blank_row : Flags → Row
 blank_row flags = record { flags = flags; location = None; code = None; second = None; is_later = false; depth = 0; text = [] }
 
 -- the row of a content at a place of its block: its flags, the address of the word in which it begins, and its code
-abbrev pub row_at : Standing → Flags → Bool → ℕ → Content → Row
-row_at standing flags is_later at content =
-    let address = standing.base + at / word_bits in
-    let number = number_of standing.known standing.here content in
+abbrev pub row_at : PlacedStatement → Flags → Bool → ℕ → Content → Row
+row_at statement flags is_later at content =
+    let address = statement.base + at / word_bits in
+    let number = number_of statement.known statement.here content in
     record {
-      flags = joined (joined (joined flags (value_flags standing.known standing.here content)) (literal_flags standing.known.literals standing.machine content))
-          (limit_flags standing.machine address);
+      flags = joined (joined (joined flags (value_flags statement.known statement.here content)) (literal_flags statement.known.literals statement.machine content))
+          (limit_flags statement.machine address);
       location = Some address;
-      code = Some (first_digits standing.machine content number);
-      second = second_digits standing.machine content number;
+      code = Some (first_digits statement.machine content number);
+      second = second_digits statement.machine content number;
       is_later = is_later;
       depth = 0;
       text = [];
     }
 
 -- the rows of contents after the first
-abbrev pub later_rows : Standing → List (ℕ × Content) → List Row
-later_rows standing contents = map (λ (at, content). row_at standing no_flags true at content) contents
+abbrev pub later_rows : PlacedStatement → List (ℕ × Content) → List Row
+later_rows statement contents = map (λ (at, content). row_at statement no_flags true at content) contents
 
 -- a row for each content at its place; the flags of pass one are on the first
-abbrev pub content_rows : Standing → Flags → List (ℕ × Content) → List Row
-content_rows standing flags [] = []
-content_rows standing flags ((at, content) ∷ contents) = row_at standing flags false at content ∷ later_rows standing contents
+abbrev pub content_rows : PlacedStatement → Flags → List (ℕ × Content) → List Row
+content_rows statement flags [] = []
+content_rows statement flags ((at, content) ∷ contents) = row_at statement flags false at content ∷ later_rows statement contents
 
 -- flags, and those that contents give
 abbrev pub with_contents : Known → ℕ → Flags → List Content → Flags
@@ -91,9 +91,9 @@ statement_row finals item shown.Start =
 abbrev pub rows_with : Resolved → Item → List Content → List Row
 rows_with finals item [] = statement_row finals item item.made.shown ∷ []
 rows_with finals item (content ∷ contents) =
-    let standing = standing_of finals item in
-    if item.made.only_flags then blank_row (with_contents standing.known standing.here item.made.flags (content ∷ contents)) ∷ []
-    else content_rows standing item.made.flags (with_places standing.machine item.made.start (content ∷ contents))
+    let statement = placed_statement finals item in
+    if item.made.only_flags then blank_row (with_contents statement.known statement.here item.made.flags (content ∷ contents)) ∷ []
+    else content_rows statement item.made.flags (with_places statement.machine item.made.start (content ∷ contents))
 
 -- the rows of what a statement made, as in a source line
 abbrev pub rows_made : Resolved → Item → List Row

@@ -17,7 +17,7 @@ use Rattle.cps_state.specs.declared.made.Content.TheVariants as content
 use Rattle.cps_state.specs.Made.{no_flags}
 pub use Rattle.cps_final.specs.Finals.{address_of}
 pub use Rattle.cps_final.specs.Addresses.{Resolved, base_in, final_of, address_in, first_address}
-pub use Rattle.cps_final.specs.Known.{values_in, literal_in, Known, known_in, Standing, standing_of}
+pub use Rattle.cps_final.specs.Known.{values_in, literal_in, Known, known_in, PlacedStatement, placed_statement}
 
 -- a value in a block is none: all final values are plain
 abbrev pub offset_outside : Option Name → ℤ → Option ℤ

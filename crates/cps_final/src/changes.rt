@@ -4,7 +4,7 @@ ghost use Rattle.std.specs.Option.{option_copied};
 ghost use Rattle.cps_state.specs.declared.key.Key.{Key as AKey};
 ghost use Rattle.cps_state.specs.Code.Exchange.{room_of};
 ghost use Rattle.cps_state.specs.Keys.{State as AState, overwritten};
-ghost use Rattle.cps_final.specs.Changes.{no_change, changed, with_change, without, settled};
+ghost use Rattle.cps_final.specs.Changes.{no_change, changed, with_change, without, agreed};
 ghost use Rattle.cps_final.specs.Code.Kept.{changes_in, count_of, keys_in, HasSameKeys, MayStandIn, taken_over};
 
 use cps_state::{Answer, Hashing, Key, Lookup, Put, State};
@@ -100,8 +100,8 @@ impl Changes {
     }
 
     /// Goes over lines that put the same as before.
-    pub fn settle(&mut self, puts: &[Put])
-        ensures { changes_in self.new ≡ settled (changes_in self.old) puts.now }
+    pub fn agree(&mut self, puts: &[Put])
+        ensures { changes_in self.new ≡ agreed (changes_in self.old) puts.now }
     {
         for put in puts {
             self.forget(&put.key);

@@ -9,8 +9,8 @@ ghost use Rattle.cps_final.specs.Agreeing.{same_named, same_value};
 ghost use Rattle.cps_final.specs.Code.Ends.{was_of, now_of};
 
 use crate::finals::Finals;
+use crate::finals_patch::FinalsPatch;
 use crate::former_finals::FormerFinals;
-use crate::mend::Mend;
 use crate::naming::{Naming, all_pass};
 use cps_expr::Value;
 use cps_state::{Tally, Trace, Work};
@@ -20,7 +20,7 @@ use cps_text::Name;
 #[derive(Clone, Copy)]
 pub struct Ends<'a> {
     pub finals: &'a Finals,
-    pub mend: &'a Mend,
+    pub patch: &'a FinalsPatch,
 }
 
 impl<'a> Naming for Ends<'a> {
@@ -49,7 +49,7 @@ impl<'a> Ends<'a> {
     {
         FormerFinals {
             finals: self.finals,
-            mend: self.mend,
+            patch: self.patch,
         }
     }
 }

@@ -1,19 +1,20 @@
 //! Final values.
-ghost use Rattle.std.specs.Prelude.{◌≡◌, ◌+◌, ◌<◌, ◌≤◌, ◌^◌, [], nat_le, OnOk, OnErr, IfSome};
+ghost use Rattle.std.specs.Prelude.{◌≡◌, ◌+◌, ◌<◌, ◌≤◌, ◌^◌, [], nat_le, IfOk, IsOk, OnOk, OnErr, IfSome};
 ghost use Rattle.cps_expr.specs.Value.{IsInRange};
 ghost use Rattle.cps_state.specs.Code.Exchange.{room_of};
+ghost use Rattle.cps_state.specs.Keys.{overwritten};
 ghost use Rattle.cps_state.specs.Machines.{limit};
 ghost use Rattle.cps_final.specs.Code.Kept.{changes_in, count_of, MayStandIn};
-ghost use Rattle.cps_final.specs.Finals.{Gathers, machine_of, is_open_at_end, final_value, label, setting, block as block_named, literal, address_of};
+ghost use Rattle.cps_final.specs.Finals.{Gathers, GathersAlso, machine_of, is_open_at_end, final_value, label, setting, block as block_named, literal, address_of};
 ghost use Rattle.cps_final.specs.Addresses.{address_in, final_of};
-ghost use Rattle.cps_final.specs.Code.Mend.{mended};
-ghost use Rattle.cps_final.specs.Code.Storage.{HasGathered, stored};
+ghost use Rattle.cps_final.specs.Code.FinalsPatch.{patched};
+ghost use Rattle.cps_final.specs.Code.Storage.{stored};
 
-use crate::mend::Mend;
+use crate::finals_patch::FinalsPatch;
 use crate::storage::{Storage, magnitude};
 use cps_expr::{Machine, Names, Value};
 use cps_state::{
-    Hashing, Key, Lookup, Sheet, Stand, State, Trace, control_of, is_open, limit_of, value_of,
+    Hashing, Key, Lookup, Scratch, Stand, State, Trace, control_of, is_open, limit_of, value_of,
 };
 use cps_text::Name;
 use std::alloc::{AllocError, Global};
@@ -26,6 +27,9 @@ pub struct Finals {
     pub(crate) storage: Storage,
 }
 
+/// Final values to which lines are still added.
+pub type Gather = Finals;
+
 /// What was gathered of some lines.
 pub trait Gathered {
     ghost use Rattle.cps_final.specs.Finals.{Finals};
@@ -34,14 +38,14 @@ pub trait Gathered {
 }
 
 impl Gathered for Finals {
-    ghost use Rattle.cps_final.specs.Code.Storage.{HasGathered, stored};
+    ghost use Rattle.cps_final.specs.Code.Storage.{stored};
 
     ghost gathered = { λ finals. record (stored finals.storage) { state = ⟦<State as Lookup>⟧.answer finals.state } };
 }
 
 impl Finals {
-    /// Of a source without lines. Takes no memory.
-    pub(crate) fn new(alloc: Global, hashing: Hashing) -> Finals
+    /// Of no line. Takes no memory yet.
+    pub fn new(alloc: Global, hashing: Hashing) -> Finals
         ensures { Gathers (⟦<Finals as Gathered>⟧.gathered result) [] }
     {
         Finals {
@@ -50,9 +54,10 @@ impl Finals {
         }
     }
 
-    /// With one more line. Where there is no memory, nothing changes.
-    pub(crate) fn add(&mut self, trace: &Trace) -> Result<(), AllocError>
-        ensures ok { OnOk result (HasGathered (⟦<Finals as Gathered>⟧.gathered self.old) (⟦<Finals as Gathered>⟧.gathered self.new) trace.now) }
+    /// Adds the next line. Where there is no memory, nothing changes.
+    pub fn add(&mut self, trace: &Trace) -> Result<(), AllocError>
+        ensures ok { OnOk result (GathersAlso (⟦<Finals as Gathered>⟧.gathered self.old) (⟦<Finals as Gathered>⟧.gathered self.new) trace.now) }
+        ensures state { OnOk result ((⟦<Finals as Gathered>⟧.gathered self.new).state ≡ overwritten (⟦<Finals as Gathered>⟧.gathered self.old).state trace.now.puts) }
         ensures err { OnErr result (⟦<Finals as Gathered>⟧.gathered self.new ≡ ⟦<Finals as Gathered>⟧.gathered self.old) }
     {
         let literals = self.storage.make_room(trace.puts(), trace.items())?;
@@ -61,17 +66,26 @@ impl Finals {
         Ok(())
     }
 
-    /// With the line on a sheet, whose puts stand there no more.
-    pub(crate) fn take(&mut self, sheet: &mut Sheet) -> Result<(), AllocError>
-        ensures ok { OnOk result (HasGathered (⟦<Finals as Gathered>⟧.gathered self.old) (⟦<Finals as Gathered>⟧.gathered self.new) sheet.old.line) }
-        ensures sheet { OnOk result (sheet.new ≡ record sheet.old { line = record sheet.old.line { puts = [] } }) }
+    /// Adds the line on a scratch, without what it asked; its puts stand there no more. Where there is no memory, nothing changes here.
+    pub fn take(&mut self, scratch: &mut Scratch) -> Result<(), AllocError>
+        ensures ok { OnOk result (GathersAlso (⟦<Finals as Gathered>⟧.gathered self.old) (⟦<Finals as Gathered>⟧.gathered self.new) scratch.old.line) }
+        ensures scratch { OnOk result (scratch.new ≡ record scratch.old { line = record scratch.old.line { puts = [] } }) }
         ensures err { OnErr result (⟦<Finals as Gathered>⟧.gathered self.new ≡ ⟦<Finals as Gathered>⟧.gathered self.old) }
     {
-        let literals = self.storage.make_room(sheet.puts(), sheet.items())?;
-        self.state.reserve(sheet.puts().len())?;
-        self.storage.take(sheet.puts(), sheet.items(), &literals);
-        sheet.put_into(&mut self.state);
+        let literals = self.storage.make_room(scratch.puts(), scratch.items())?;
+        self.state.reserve(scratch.puts().len())?;
+        self.storage
+            .take(scratch.puts(), scratch.items(), &literals);
+        scratch.put_into(&mut self.state);
         Ok(())
+    }
+
+    /// The last line was added. Takes no memory.
+    pub fn finish(self) -> Result<Finals, AllocError>
+        ensures finals { IfOk result (λ finals. finals ≡ self) }
+        ensures succeeds { IsOk result }
+    {
+        Ok(self)
     }
 
     /// What stands after the last line.
@@ -192,27 +206,27 @@ impl Finals {
         self.storage.final_of(value)
     }
 
-    /// Makes room for what a mend changes, once and back.
-    pub fn make_room(&mut self, mend: &Mend) -> Result<(), AllocError>
+    /// Makes room for what a patch changes, once and back.
+    pub fn make_room(&mut self, patch: &FinalsPatch) -> Result<(), AllocError>
         ensures same { ⟦<Finals as Gathered>⟧.gathered self.new ≡ ⟦<Finals as Gathered>⟧.gathered self.old }
-        ensures room { OnOk result (count_of mend.now.changes + count_of mend.now.changes ≤ room_of self.new.state) }
+        ensures room { OnOk result (count_of patch.now.changes + count_of patch.now.changes ≤ room_of self.new.state) }
     {
-        let keys = mend.changes.count();
+        let keys = patch.changes.count();
         self.state.reserve(keys + keys)
     }
 
-    /// Takes over what a mend changes, and gives what stood there; so the same once more undoes it. Takes no memory.
-    pub fn exchange(&mut self, mend: &mut Mend)
-        requires room { count_of mend.old.changes ≤ room_of self.old.state }
-        requires stands { MayStandIn (changes_in mend.old.changes) }
-        ensures now { ⟦<Finals as Gathered>⟧.gathered self.new ≡ mended mend.old (⟦<Finals as Gathered>⟧.gathered self.old) }
-        ensures back { mended mend.new (⟦<Finals as Gathered>⟧.gathered self.new) ≡ ⟦<Finals as Gathered>⟧.gathered self.old }
-        ensures count { count_of mend.new.changes ≡ count_of mend.old.changes }
-        ensures stands { MayStandIn (changes_in mend.new.changes) }
-        ensures room { room_of self.old.state ≤ room_of self.new.state + count_of mend.old.changes }
+    /// Takes over what a patch changes, and gives what stood there; so the same once more undoes it. Takes no memory.
+    pub fn exchange(&mut self, patch: &mut FinalsPatch)
+        requires room { count_of patch.old.changes ≤ room_of self.old.state }
+        requires stands { MayStandIn (changes_in patch.old.changes) }
+        ensures now { ⟦<Finals as Gathered>⟧.gathered self.new ≡ patched patch.old (⟦<Finals as Gathered>⟧.gathered self.old) }
+        ensures back { patched patch.new (⟦<Finals as Gathered>⟧.gathered self.new) ≡ ⟦<Finals as Gathered>⟧.gathered self.old }
+        ensures count { count_of patch.new.changes ≡ count_of patch.old.changes }
+        ensures stands { MayStandIn (changes_in patch.new.changes) }
+        ensures room { room_of self.old.state ≤ room_of self.new.state + count_of patch.old.changes }
     {
-        mend.changes.exchange(&mut self.state);
-        if let Some(storage) = &mut mend.storage {
+        patch.changes.exchange(&mut self.state);
+        if let Some(storage) = &mut patch.storage {
             swap(&mut self.storage, storage);
         }
     }

@@ -1,4 +1,4 @@
-//! Final values as they were before a mend.
+//! Final values as they were before a patch.
 ghost use Rattle.std.specs.Prelude.{◌≡◌};
 ghost use Rattle.cps_state.specs.Keys.{first_state, labels_of};
 ghost use Rattle.cps_final.specs.Code.FormerFinals.{finals_before, values_before};
@@ -6,17 +6,17 @@ ghost use Rattle.cps_final.specs.Finals.{label, block as block_named, literal};
 ghost use Rattle.cps_final.specs.Code.Storage.{stored};
 
 use crate::finals::Finals;
-use crate::mend::Mend;
+use crate::finals_patch::FinalsPatch;
 use crate::storage::Storage;
 use cps_expr::{Names, Value};
 use cps_state::{Key, value_of};
 use cps_text::Name;
 
-/// The final values before a mend, of which what it gave back is left: they are looked up there first.
+/// The final values before a patch, of which what it gave back is left: they are looked up there first.
 #[derive(Clone, Copy)]
 pub struct FormerFinals<'a> {
     pub finals: &'a Finals,
-    pub mend: &'a Mend,
+    pub patch: &'a FinalsPatch,
 }
 
 impl<'a> FormerFinals<'a> {
@@ -46,7 +46,7 @@ impl<'a> FormerFinals<'a> {
     fn value_of(self, name: Name) -> Option<Value>
         ensures { result ≡ labels_of (finals_before self.entry).state name }
     {
-        match self.mend.changes.find(&Key::Label(name)) {
+        match self.patch.changes.find(&Key::Label(name)) {
             Some(answer) => value_of(answer.as_ref()),
             None => self.finals.state().value_of(name),
         }
@@ -56,7 +56,7 @@ impl<'a> FormerFinals<'a> {
     fn storage(self) -> &'a Storage
         ensures { stored result.now ≡ record (finals_before self.entry) { state = first_state } }
     {
-        match &self.mend.storage {
+        match &self.patch.storage {
             Some(storage) => storage,
             None => &self.finals.storage,
         }

@@ -10,11 +10,11 @@ use std::slice::from_ref;
 /// Names, one after another. One alone is kept in place, so that a line with few takes little room.
 #[derive(Drop)]
 pub struct KeptNames {
-    kept: Kept,
+    kept: NameSlots,
 }
 
 #[derive(Drop)]
-enum Kept {
+enum NameSlots {
     Empty,
     One(Name),
     Several(Box<Vec<Name>>),
@@ -35,7 +35,9 @@ impl KeptNames {
     pub fn new() -> KeptNames
         ensures { result ≡ [] }
     {
-        KeptNames { kept: Kept::Empty }
+        KeptNames {
+            kept: NameSlots::Empty,
+        }
     }
 
     /// Of these names.
@@ -46,7 +48,7 @@ impl KeptNames {
         copy.extend_from_slice(names)?;
         let copy = Box::new(alloc, copy)?;
         Ok(KeptNames {
-            kept: Kept::Several(copy),
+            kept: NameSlots::Several(copy),
         })
     }
 
@@ -54,18 +56,18 @@ impl KeptNames {
     pub fn push(&mut self, alloc: Global, name: Name) -> Result<(), AllocError>
         ensures { OnOk result (self.new ≡ self.old ++ name ∷ []) }
     {
-        self.kept = match replace(&mut self.kept, Kept::Empty) {
-            Kept::Empty => Kept::One(name),
-            Kept::One(first) => {
+        self.kept = match replace(&mut self.kept, NameSlots::Empty) {
+            NameSlots::Empty => NameSlots::One(name),
+            NameSlots::One(first) => {
                 let mut names = Vec::with_capacity(alloc, 2)?;
                 names.push(first)?;
                 names.push(name)?;
-                Kept::Several(Box::new(alloc, names)?)
+                NameSlots::Several(Box::new(alloc, names)?)
             }
-            Kept::Several(mut names) => {
+            NameSlots::Several(mut names) => {
                 names.reserve_exact(1)?;
                 names.push_reserved(name);
-                Kept::Several(names)
+                NameSlots::Several(names)
             }
         };
         Ok(())
@@ -76,9 +78,9 @@ impl KeptNames {
         ensures { result.now ≡ self.now }
     {
         match &self.kept {
-            Kept::Empty => &[],
-            Kept::One(name) => from_ref(name),
-            Kept::Several(names) => names.as_slice(),
+            NameSlots::Empty => &[],
+            NameSlots::One(name) => from_ref(name),
+            NameSlots::Several(names) => names.as_slice(),
         }
     }
 }

@@ -10,7 +10,7 @@ ghost use Rattle.cps_final.specs.Naming.{all_named};
 
 use cps_code::{Hole, Operand};
 use cps_expr::is_same_name;
-use cps_state::{Content, Held, Item, Made, Shown, Stand};
+use cps_state::{Content, Item, Made, SetValue, Shown, Stand};
 use cps_text::Name;
 
 /// A test of what can be named.
@@ -64,7 +64,7 @@ fn labels_pass<N: Naming>(made: &Made, naming: &N) -> bool
         .all(|content| content_labels_pass(held, content, naming))
 }
 
-fn content_labels_pass<N: Naming>(held: &[Held], content: &Content, naming: &N) -> bool
+fn content_labels_pass<N: Naming>(held: &[SetValue], content: &Content, naming: &N) -> bool
     ensures { result ≡ list_all (λ name. list_any (λ set. same_name set.name name) held.now || N.passes naming.now (label name)) (content_names content.now) }
 {
     match content {
@@ -75,7 +75,7 @@ fn content_labels_pass<N: Naming>(held: &[Held], content: &Content, naming: &N) 
     }
 }
 
-fn hole_labels_pass<N: Naming>(held: &[Held], holes: &[Hole], naming: &N) -> bool
+fn hole_labels_pass<N: Naming>(held: &[SetValue], holes: &[Hole], naming: &N) -> bool
     ensures { result ≡ list_all (λ hole. list_all (λ name. list_any (λ set. same_name set.name name) held.now || N.passes naming.now (label name)) (operand_names hole.operand)) holes.now }
 {
     holes
@@ -83,7 +83,7 @@ fn hole_labels_pass<N: Naming>(held: &[Held], holes: &[Hole], naming: &N) -> boo
         .all(|hole| names_pass(held, hole.operand.names(), naming))
 }
 
-fn names_pass<N: Naming>(held: &[Held], names: &[Name], naming: &N) -> bool
+fn names_pass<N: Naming>(held: &[SetValue], names: &[Name], naming: &N) -> bool
     ensures { result ≡ list_all (λ name. list_any (λ set. same_name set.name name) held.now || N.passes naming.now (label name)) names.now }
 {
     names
@@ -91,7 +91,7 @@ fn names_pass<N: Naming>(held: &[Held], names: &[Name], naming: &N) -> bool
         .all(|name| is_held(held, *name) || naming.label(*name))
 }
 
-fn is_held(held: &[Held], name: Name) -> bool
+fn is_held(held: &[SetValue], name: Name) -> bool
     ensures { result ≡ list_any (λ set. same_name set.name name) held.now }
 {
     held.iter().any(|set| is_same_name(set.name, name))
@@ -126,7 +126,7 @@ fn shown_passes<N: Naming>(shown: Shown, naming: &N) -> bool
     }
 }
 
-fn held_pass<N: Naming>(held: &[Held], naming: &N) -> bool
+fn held_pass<N: Naming>(held: &[SetValue], naming: &N) -> bool
     ensures { result ≡ list_all (λ set. N.passes naming.now (block_named set.value.block)) held.now }
 {
     held.iter().all(|set| naming.block(set.value.block))

@@ -11,7 +11,7 @@ use std::alloc::AllocError;
 
 /// The `width` low bits of `number`, from a place of a block on. They may reach into the next words.
 #[derive(Clone, Copy)]
-pub struct Run {
+pub struct BitRun {
     pub machine: Machine,
     pub at: u32,
     pub width: u8,
@@ -21,7 +21,7 @@ pub struct Run {
     ghost few: { width ≤ 60 },
 }
 
-impl Run {
+impl BitRun {
     /// The bits before it in the word where it begins.
     fn first(self) -> u8
         ensures first { result ≡ self.at % 60 }
@@ -100,7 +100,7 @@ fn push_zeros(pieces: &mut Vec<Piece>, base: u64, made: &Made) -> Result<(), All
 }
 
 /// Bits in each word that they touch.
-pub fn push_run(pieces: &mut Vec<Piece>, base: u64, run: Run) -> Result<(), AllocError>
+pub fn push_run(pieces: &mut Vec<Piece>, base: u64, run: BitRun) -> Result<(), AllocError>
     requires { base < 2 ^ 60 }
     ensures { OnOk result (map piece_of pieces.new.items ≡ map piece_of pieces.old.items
         ++ flat_map (bits.placed run.machine base) (bits.pieces_at run.machine run.at run.width run.number)) }

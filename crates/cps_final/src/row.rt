@@ -2,7 +2,7 @@
 ghost use Rattle.std.specs.Prelude.{◌≡◌, IfOk};
 ghost use Rattle.cps_final.specs.Rows as shown;
 
-use crate::digits::{Code, ShortCode};
+use crate::octal_digits::{Code, ShortCode};
 use cps_state::{Flags, Item, Shared};
 use std::alloc::AllocError;
 

@@ -8,11 +8,11 @@ ghost use Rattle.cps_final.specs.Resolving.{resolved, view_of};
 ghost use Rattle.cps_final.specs.Rows as shown;
 ghost use Rattle.cps_final.specs.Values as values;
 
-use crate::digits::{Code, Digits, ShortCode};
 use crate::finals::Finals;
+use crate::octal_digits::{Code, OctalDigits, ShortCode};
+use crate::placed_statement::PlacedStatement;
 use crate::row::Row;
-use crate::standing::Standing;
-use crate::valued::{Placed, value_content};
+use crate::valued::{PlacedContent, value_content};
 use cps_code::{Hole, Operand, complement};
 use cps_expr::Machine;
 use cps_state::{Content, Flags, Item, Shared, Shown, WORD, limit_of};
@@ -34,23 +34,28 @@ pub fn push_row(rows: &mut Vec<Row>, item: &Item, row: Row) -> Result<(), AllocE
 }
 
 /// The row of a content at a place of its block.
-pub fn row_at(standing: &Standing, flags: Flags, is_later: bool, placed: Placed) -> Row
+pub fn row_at(
+    statement: &PlacedStatement,
+    flags: Flags,
+    is_later: bool,
+    placed: PlacedContent,
+) -> Row
     requires content { IsContent placed.content.now }
-    requires number { placed.valued.number ≡ values.number_of (view_of standing.now).known (view_of standing.now).here placed.content.now }
-    requires flags { placed.valued.flags ≡ values.value_flags (view_of standing.now).known (view_of standing.now).here placed.content.now }
-    ensures { result ≡ shown.row_at (view_of standing.now) flags is_later placed.entry.at placed.entry.content.now }
+    requires number { placed.valued.number ≡ values.number_of (view_of statement.now).known (view_of statement.now).here placed.content.now }
+    requires flags { placed.valued.flags ≡ values.value_flags (view_of statement.now).known (view_of statement.now).here placed.content.now }
+    ensures { result ≡ shown.row_at (view_of statement.now) flags is_later placed.entry.at placed.entry.content.now }
 {
-    let Placed {
+    let PlacedContent {
         content,
         at,
         valued,
     } = placed;
-    let machine = standing.machine();
-    let address = standing.base() + u64::from(at / WORD);
+    let machine = statement.machine();
+    let address = statement.base() + u64::from(at / WORD);
     Row {
         flags: flags
             .joined(valued.flags)
-            .joined(literal_flags(content, standing))
+            .joined(literal_flags(content, statement))
             .joined(limit_flags(machine, address)),
         location: Some(address),
         code: Code::of(first_digits(machine, content, valued.number)),
@@ -78,13 +83,13 @@ fn blank_row(flags: Flags) -> Row
 
 /// The flags of a statement, and those that its contents give.
 fn flags_with_contents(item: &Item, finals: &Finals) -> Flags
-    ensures { let standing = values.standing_of (resolved finals.now) item.now in
-        result ≡ shown.with_contents standing.known standing.here item.now.made.flags item.now.made.contents }
+    ensures { let statement = values.placed_statement (resolved finals.now) item.now in
+        result ≡ shown.with_contents statement.known statement.here item.now.made.flags item.now.made.contents }
 {
-    let standing = Standing::of(item, finals);
+    let statement = PlacedStatement::of(item, finals);
     let mut flags = item.made.flags();
     for content in item.made.contents() {
-        flags = flags.joined(value_content(content, &standing).flags);
+        flags = flags.joined(value_content(content, &statement).flags);
     }
     flags
 }
@@ -111,36 +116,36 @@ fn limit_flags(machine: Machine, address: u64) -> Flags
 }
 
 /// E where a literal stands at or past the machine's words.
-fn literal_flags(content: &Content, standing: &Standing) -> Flags
-    ensures { result ≡ shown.literal_flags (view_of standing.now).known.literals (view_of standing.now).machine content.now }
+fn literal_flags(content: &Content, statement: &PlacedStatement) -> Flags
+    ensures { result ≡ shown.literal_flags (view_of statement.now).known.literals (view_of statement.now).machine content.now }
 {
     let mut flags = Flags::none();
     flags.structure = match content {
-        Content::Instruction(form) => has_far_literal(form.holes(), standing),
+        Content::Instruction(form) => has_far_literal(form.holes(), statement),
         _ => false,
     };
     flags
 }
 
 /// Whether one of the literals in holes stands there.
-fn has_far_literal(holes: &[Hole], standing: &Standing) -> bool
-    ensures { result ≡ list_any (λ word. nat_le (limit (view_of standing.now).machine) ((view_of standing.now).known.literals word))
+fn has_far_literal(holes: &[Hole], statement: &PlacedStatement) -> bool
+    ensures { result ≡ list_any (λ word. nat_le (limit (view_of statement.now).machine) ((view_of statement.now).known.literals word))
         (flat_map (λ hole. operand_literals hole.operand) holes.now) }
 {
     for hole in holes {
-        if is_far_literal(&hole.operand, standing) {
+        if is_far_literal(&hole.operand, statement) {
             return true;
         }
     }
     false
 }
 
-fn is_far_literal(operand: &Operand, standing: &Standing) -> bool
-    ensures { result ≡ list_any (λ word. nat_le (limit (view_of standing.now).machine) ((view_of standing.now).known.literals word)) (operand_literals operand.now) }
+fn is_far_literal(operand: &Operand, statement: &PlacedStatement) -> bool
+    ensures { result ≡ list_any (λ word. nat_le (limit (view_of statement.now).machine) ((view_of statement.now).known.literals word)) (operand_literals operand.now) }
 {
     match operand {
         Operand::Expression(_) => false,
-        Operand::Literal(word) => standing.is_far_literal(*word),
+        Operand::Literal(word) => statement.is_far_literal(*word),
     }
 }
 
@@ -162,29 +167,29 @@ pub fn statement_row(item: &Item, finals: &Finals) -> Row
             }
         }
         Shown::Start => {
-            let standing = Standing::of(item, finals);
+            let statement = PlacedStatement::of(item, finals);
             row.flags = row
                 .flags
-                .joined(limit_flags(standing.machine(), standing.here()));
-            row.location = Some(standing.here());
+                .joined(limit_flags(statement.machine(), statement.here()));
+            row.location = Some(statement.here());
         }
     }
     row
 }
 
 /// One digit for each three bits, rounded up.
-fn digits_for(width: u8, number: u64) -> Digits
+fn digits_for(width: u8, number: u64) -> OctalDigits
     requires { width ≤ 60 }
     ensures { result ≡ shown.digits_for width number }
 {
-    Digits {
+    OctalDigits {
         count: width.div_ceil(3),
         number,
     }
 }
 
 /// The digits of a content; of an instruction whose words are shown apart those of its first word.
-fn first_digits(machine: Machine, content: &Content, number: u64) -> Digits
+fn first_digits(machine: Machine, content: &Content, number: u64) -> OctalDigits
     requires { IsContent content.now }
     ensures { result ≡ shown.first_digits machine content.now number }
 {

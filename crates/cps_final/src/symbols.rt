@@ -5,14 +5,14 @@ ghost use Rattle.cps_final.specs.Known.{values_in};
 
 use crate::finals::Finals;
 use cps_expr::{Names, Value, is_same_name};
-use cps_state::Held;
+use cps_state::SetValue;
 use cps_text::Name;
 
 /// The symbols of a statement: those that SET had given a value there, and all others by their labels.
 #[derive(Clone, Copy)]
 pub struct Symbols<'a> {
     pub finals: &'a Finals,
-    pub held: &'a [Held],
+    pub held: &'a [SetValue],
 }
 
 impl Names for Symbols<'_> {
@@ -27,7 +27,7 @@ impl Names for Symbols<'_> {
     }
 }
 
-fn symbol_value(finals: &Finals, held: &[Held], name: Name) -> Option<Value>
+fn symbol_value(finals: &Finals, held: &[SetValue], name: Name) -> Option<Value>
     ensures { result ≡ values_in (resolved finals.now) held.now name }
 {
     for set in held {

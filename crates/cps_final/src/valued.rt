@@ -7,88 +7,88 @@ ghost use Rattle.cps_state.specs.Made.{width_of, IsContent};
 ghost use Rattle.cps_final.specs.Resolving.{view_of};
 ghost use Rattle.cps_final.specs.Values as values;
 
-use crate::standing::Standing;
+use crate::placed_statement::PlacedStatement;
 use cps_code::{Filled, Hole, HoleKind, Operand, bits_of_value, fits_width};
 use cps_expr::{Expr, Value};
 use cps_state::{Content, Flags, InstructionForm};
 
 /// The number that a content makes, and the flags that its values give.
 #[derive(Clone, Copy)]
-pub struct Valued {
+pub struct ContentNumber {
     pub number: u64,
     pub flags: Flags,
 }
 
 /// A content at a place of its block, with its value.
 #[derive(Clone, Copy)]
-pub struct Placed<'a> {
+pub struct PlacedContent<'a> {
     pub content: &'a Content,
     pub at: u32,
-    pub valued: Valued,
+    pub valued: ContentNumber,
 }
 
 /// The value of an expression as a number, and the flags that it gives.
 #[derive(Clone, Copy)]
-struct Counted {
+struct ExpressionNumber {
     number: i64,
     flags: Flags,
 }
 
 /// A content of a statement; a value that there is not counts as 0.
 #[inline(always)]
-pub fn value_content(content: &Content, standing: &Standing) -> Valued
+pub fn value_content(content: &Content, statement: &PlacedStatement) -> ContentNumber
     requires { IsContent content.now }
-    ensures number { result.number ≡ values.number_of (view_of standing.now).known (view_of standing.now).here content.now }
-    ensures flags { result.flags ≡ values.value_flags (view_of standing.now).known (view_of standing.now).here content.now }
+    ensures number { result.number ≡ values.number_of (view_of statement.now).known (view_of statement.now).here content.now }
+    ensures flags { result.flags ≡ values.value_flags (view_of statement.now).known (view_of statement.now).here content.now }
     ensures fits { result.number < 2 ^ width_of content.now }
 {
     match content {
-        Content::Instruction(form) => value_instruction(form, standing),
-        Content::Value(width, expression) => value_in(*width, expression, standing),
-        Content::Number(_, number) => Valued {
+        Content::Instruction(form) => value_instruction(form, statement),
+        Content::Value(width, expression) => value_in(*width, expression, statement),
+        Content::Number(_, number) => ContentNumber {
             number: *number,
             flags: Flags::none(),
         },
-        Content::Unsized(expression) => Valued {
+        Content::Unsized(expression) => ContentNumber {
             number: 0,
-            flags: value_of(expression, standing).flags,
+            flags: value_of(expression, statement).flags,
         },
     }
 }
 
 /// The value of an expression in so many bits.
-fn value_in(width: u8, expression: &Expr, standing: &Standing) -> Valued
+fn value_in(width: u8, expression: &Expr, statement: &PlacedStatement) -> ContentNumber
     requires some { 0 < width }
     requires few { width ≤ 60 }
-    ensures number { result.number ≡ put_value width (values.number_at (view_of standing.now).known.symbols (view_of standing.now).here expression.now) }
-    ensures flags { result.flags ≡ record (values.expression_flags (view_of standing.now).known.symbols (view_of standing.now).here expression.now)
-        { cut = not (fits_width width (values.number_at (view_of standing.now).known.symbols (view_of standing.now).here expression.now)) } }
+    ensures number { result.number ≡ put_value width (values.number_at (view_of statement.now).known.symbols (view_of statement.now).here expression.now) }
+    ensures flags { result.flags ≡ record (values.expression_flags (view_of statement.now).known.symbols (view_of statement.now).here expression.now)
+        { cut = not (fits_width width (values.number_at (view_of statement.now).known.symbols (view_of statement.now).here expression.now)) } }
     ensures fits { result.number < 2 ^ width }
 {
-    let value = value_of(expression, standing);
+    let value = value_of(expression, statement);
     let mut flags = value.flags;
     flags.cut = !fits_width(value.number, width);
-    Valued {
+    ContentNumber {
         number: bits_of_value(value.number, width),
         flags,
     }
 }
 
 /// An instruction with the values of its holes.
-fn value_instruction(form: &InstructionForm, standing: &Standing) -> Valued
-    ensures number { result.number ≡ values.form_number (view_of standing.now).known (view_of standing.now).here form.now }
-    ensures flags { result.flags ≡ values.form_flags (view_of standing.now).known (view_of standing.now).here form.now }
+fn value_instruction(form: &InstructionForm, statement: &PlacedStatement) -> ContentNumber
+    ensures number { result.number ≡ values.form_number (view_of statement.now).known (view_of statement.now).here form.now }
+    ensures flags { result.flags ≡ values.form_flags (view_of statement.now).known (view_of statement.now).here form.now }
     ensures fits { result.number < 2 ^ form.now.bits }
 {
     match form.holes() {
         [] => valued_form(form.fill(&[]), Flags::none()),
         [hole] => {
-            let value = value_hole(hole, standing);
+            let value = value_hole(hole, statement);
             valued_form(form.fill(&[value.number]), value.flags)
         }
         [hole, other_hole] => {
-            let value = value_hole(hole, standing);
-            let other = value_hole(other_hole, standing);
+            let value = value_hole(hole, statement);
+            let other = value_hole(other_hole, statement);
             valued_form(
                 form.fill(&[value.number, other.number]),
                 value.flags.joined(other.flags),
@@ -99,44 +99,44 @@ fn value_instruction(form: &InstructionForm, standing: &Standing) -> Valued
 }
 
 /// A form that was filled, with the flags of the values in it.
-fn valued_form(filled: Filled, flags: Flags) -> Valued
+fn valued_form(filled: Filled, flags: Flags) -> ContentNumber
     ensures number { result.number ≡ filled.digits }
     ensures flags { result.flags ≡ record flags { operand = (flags.operand || filled.is_out_of_range); cut = filled.is_truncated } }
 {
     let mut flags = flags;
     flags.operand = flags.operand || filled.is_out_of_range;
     flags.cut = filled.is_truncated;
-    Valued {
+    ContentNumber {
         number: filled.digits,
         flags,
     }
 }
 
 /// What goes into a hole.
-fn value_hole(hole: &Hole, standing: &Standing) -> Counted
-    ensures number { result.number ≡ values.number_for hole.now.kind (view_of standing.now).here (values.operand_number (view_of standing.now).known (view_of standing.now).here hole.now.operand) }
-    ensures flags { result.flags ≡ values.operand_flags (view_of standing.now).known (view_of standing.now).here hole.now.operand }
+fn value_hole(hole: &Hole, statement: &PlacedStatement) -> ExpressionNumber
+    ensures number { result.number ≡ values.number_for hole.now.kind (view_of statement.now).here (values.operand_number (view_of statement.now).known (view_of statement.now).here hole.now.operand) }
+    ensures flags { result.flags ≡ values.operand_flags (view_of statement.now).known (view_of statement.now).here hole.now.operand }
 {
-    let value = value_operand(&hole.operand, standing);
+    let value = value_operand(&hole.operand, statement);
     match hole.kind {
         HoleKind::Value | HoleKind::Count => value,
-        HoleKind::Target => Counted {
-            number: value.number - standing.here() as i64,
+        HoleKind::Target => ExpressionNumber {
+            number: value.number - statement.here() as i64,
             flags: value.flags,
         },
     }
 }
 
 /// What goes into a hole that takes values: the value of an expression, or the address of a literal.
-fn value_operand(operand: &Operand, standing: &Standing) -> Counted
-    ensures number { result.number ≡ values.operand_number (view_of standing.now).known (view_of standing.now).here operand.now }
-    ensures flags { result.flags ≡ values.operand_flags (view_of standing.now).known (view_of standing.now).here operand.now }
+fn value_operand(operand: &Operand, statement: &PlacedStatement) -> ExpressionNumber
+    ensures number { result.number ≡ values.operand_number (view_of statement.now).known (view_of statement.now).here operand.now }
+    ensures flags { result.flags ≡ values.operand_flags (view_of statement.now).known (view_of statement.now).here operand.now }
     ensures range { IsInRange result.number }
 {
     match operand {
-        Operand::Expression(expression) => value_of(expression, standing),
-        Operand::Literal(word) => Counted {
-            number: standing.literal_address(*word) as i64,
+        Operand::Expression(expression) => value_of(expression, statement),
+        Operand::Literal(word) => ExpressionNumber {
+            number: statement.literal_address(*word) as i64,
             flags: Flags::none(),
         },
     }
@@ -144,17 +144,17 @@ fn value_operand(operand: &Operand, standing: &Standing) -> Counted
 
 /// The value of an expression in which `*` stands for the address of the statement's first word.
 #[inline(always)]
-fn value_of(expression: &Expr, standing: &Standing) -> Counted
-    ensures number { result.number ≡ values.number_at (view_of standing.now).known.symbols (view_of standing.now).here expression.now }
-    ensures flags { result.flags ≡ values.expression_flags (view_of standing.now).known.symbols (view_of standing.now).here expression.now }
+fn value_of(expression: &Expr, statement: &PlacedStatement) -> ExpressionNumber
+    ensures number { result.number ≡ values.number_at (view_of statement.now).known.symbols (view_of statement.now).here expression.now }
+    ensures flags { result.flags ≡ values.expression_flags (view_of statement.now).known.symbols (view_of statement.now).here expression.now }
     ensures range { IsInRange result.number }
 {
-    let valued = standing.value(expression);
+    let valued = statement.value(expression);
     let offset = plain_offset(valued.value);
     let mut flags = Flags::none();
     flags.operand = offset.is_none();
     flags.undefined = valued.undefined;
-    Counted {
+    ExpressionNumber {
         number: offset.unwrap_or(0),
         flags,
     }

@@ -5,7 +5,7 @@ use Rattle.std.specs.Result.{is_ok, OnOk}
 use Rattle.std.proofs.lemmas.List.{take_all, drop_all, take-append-le, drop-append-le}
 use Rattle.std.proofs.lemmas.Bool.Decides.{nat_tests}
 use Rattle.cps_input.specs.declared.begun_line.BegunLine.{BegunLine}
-use Rattle.cps_input.specs.declared.begun_line.Past.TheVariants.{Nothing, Return, More}
+use Rattle.cps_input.specs.declared.begun_line.Overrun.TheVariants.{Nothing, Return, More}
 use Rattle.cps_input.specs.Code.BegunLine.{past_of, more_past, IsBegun}
 use Rattle.cps_input.specs.Lines.{without_return}
 

@@ -9,7 +9,7 @@ use cps_text::limits::MOST_COMMAND_BYTES;
 
 /// What came past the room of a line.
 #[derive(Clone, Copy, PartialEq, Eq)]
-pub enum Past {
+pub enum Overrun {
     /// No byte.
     Nothing,
     /// A carriage return, which is dropped if the line ends here.
@@ -22,7 +22,7 @@ pub enum Past {
 #[derive(Drop)]
 pub struct BegunLine {
     pub bytes: ArrayVec<u8, MOST_COMMAND_BYTES>,
-    pub past: Past,
+    pub past: Overrun,
 }
 
 impl BegunLine {
@@ -32,7 +32,7 @@ impl BegunLine {
     {
         BegunLine {
             bytes: ArrayVec::new(),
-            past: Past::Nothing,
+            past: Overrun::Nothing,
         }
     }
 
@@ -41,7 +41,7 @@ impl BegunLine {
         ensures { IsBegun self.new [] }
     {
         self.bytes.clear();
-        self.past = Past::Nothing;
+        self.past = Overrun::Nothing;
     }
 
     /// Whether no byte has come.
@@ -80,9 +80,9 @@ impl BegunLine {
             → MatchOption result (MOST_COMMAND_BYTES < length (without_return begun)) (λ text. text.now ≡ without_return begun) }
     {
         match self.past {
-            Past::More => None,
-            Past::Return => Some(self.bytes.as_slice()),
-            Past::Nothing => Some(without_return(self.bytes.as_slice())),
+            Overrun::More => None,
+            Overrun::Return => Some(self.bytes.as_slice()),
+            Overrun::Nothing => Some(without_return(self.bytes.as_slice())),
         }
     }
 }
@@ -99,11 +99,11 @@ pub fn kept_text(line: &[u8]) -> Option<&[u8]>
     }
 }
 
-fn past_after(past: Past, byte: u8) -> Past
+fn past_after(past: Overrun, byte: u8) -> Overrun
     ensures { result ≡ more_past past byte }
 {
     match past {
-        Past::Nothing if byte == b'\r' => Past::Return,
-        _ => Past::More,
+        Overrun::Nothing if byte == b'\r' => Overrun::Return,
+        _ => Overrun::More,
     }
 }

@@ -37,7 +37,7 @@ mod taker;
 
 pub use begun_line::BegunLine;
 pub use cards::{card_of, make_cards};
-pub use character_fault::{CharacterFault, Misfit};
+pub use character_fault::CharacterFault;
 pub use faults::faults_of;
 pub use input_fault::InputFault;
 pub use line_end::{newline_at, without_return};

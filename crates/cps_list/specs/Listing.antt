@@ -7,7 +7,7 @@ use Rattle.cps_text.specs.Octal.{octal}
 use Rattle.cps_state.specs.Flags.{letters}
 use Rattle.cps_text.specs.Line.{longest_line}
 use Rattle.cps_final.specs.declared.row.Row.{Row}
-use Rattle.cps_final.specs.declared.digits.Digits.{Digits}
+use Rattle.cps_final.specs.declared.octal_digits.OctalDigits.{OctalDigits}
 use Rattle.cps_list.specs.Columns.{Column, at_right, last_of, laid_out}
 
 -- ---- what stands in a column
@@ -16,12 +16,12 @@ abbrev pub address_text : Option ℕ → List ℕ
 address_text None = []
 address_text (Some address) = octal 6 address
 
-abbrev pub code_text : Option Digits → List ℕ
+abbrev pub code_text : Option OctalDigits → List ℕ
 code_text None = []
 code_text (Some digits) = octal digits.count digits.number
 
 -- the second word of an instruction, behind a blank
-abbrev pub second_text : Option Digits → List ℕ
+abbrev pub second_text : Option OctalDigits → List ℕ
 second_text None = []
 second_text (Some digits) = codes " " ++ octal digits.count digits.number
 

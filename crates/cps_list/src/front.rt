@@ -9,7 +9,7 @@ ghost use Rattle.cps_list.specs.Listing as texts;
 use crate::columns::{
     ADDRESS_DIGITS, BEFORE_ADDRESS, BEFORE_CODE, BEFORE_NUMBER, NUMBER_COLUMNS, last_of,
 };
-use cps_final::{Digits, Row};
+use cps_final::{OctalDigits, Row};
 use cps_text::write_octal;
 use itoa::Buffer;
 
@@ -42,7 +42,7 @@ fn write_address(front: &mut [u8], location: Option<u64>)
 
 /// Writes the digits of a code.
 #[inline(always)]
-fn write_code(front: &mut [u8], code: Option<Digits>)
+fn write_code(front: &mut [u8], code: Option<OctalDigits>)
     requires columns { length front.old ≡ 44 }
     requires few { IfSome code (λ code. code.count ≤ 20) }
     ensures columns { length front.new ≡ 44 }

@@ -26,7 +26,7 @@ mod view;
 mod writing;
 
 pub use columns::{fill_columns, push_decimal};
-pub use listing::{push_open_row, push_rows};
+pub use listing::push_rows;
 pub use mention::{Mention, list_mentions, push_mentions};
 pub use part::{
     Part, make_text, write_all_parts, write_binary, write_flags, write_listing, write_part,

@@ -9,7 +9,7 @@ use crate::columns::{
     fill_columns, last_of, push_at_right,
 };
 use crate::front::write_front;
-use cps_final::{Digits, Row};
+use cps_final::{OctalDigits, Row};
 use cps_text::push_octal;
 use itoa::Buffer;
 use std::alloc::AllocError;
@@ -133,8 +133,8 @@ fn push_address(text: &mut Vec<u8>, before: usize, location: Option<u64>) -> Res
 fn push_code(
     text: &mut Vec<u8>,
     before: usize,
-    code: Option<Digits>,
-    second: Option<Digits>,
+    code: Option<OctalDigits>,
+    second: Option<OctalDigits>,
 ) -> Result<(), AllocError>
     requires { before ≤ length text.old.items }
     ensures { RowBecomes result text.old.items text.new.items before

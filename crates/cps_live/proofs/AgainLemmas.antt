@@ -22,10 +22,10 @@ use Rattle.cps_chunk.specs.Code.Walk.{stretch}
 use Rattle.cps_chunk.proofs.ReplayedLemmas.{twos-spliced}
 use Rattle.cps_chunk.proofs.WalkLemmas.{same-long, stretch-all}
 use Rattle.cps_chunk.specs.Code.Looks.{items_from, looks_again, second_looks}
-use Rattle.cps_live.specs.declared.cut.Cut.{Cut}
+use Rattle.cps_chunk.specs.declared.put.ChunkSplice.{ChunkSplice}
 use Rattle.cps_live.specs.declared.kept_source.KeptSource.{KeptSource}
 use Rattle.cps_live.specs.declared.second_pass.SecondPass.{SecondPass}
-use Rattle.cps_live.specs.Code.Editing.{HasPassedAgain, IsCut, LooksOfSecond, splice_of}
+use Rattle.cps_live.specs.Code.Editing.{HasPassedAgain, IsSplice, LooksOfSecond, splice_of}
 use Rattle.cps_live.specs.Code.SecondPass.{AreStillChunks, looks_around, redone_around}
 use Rattle.cps_live.proofs.CountLemmas.{StepsUpTo, steps-fail, steps-join}
 
@@ -73,7 +73,7 @@ steps-ok steps = record {
 }
 
 -- pass two stops at the new lines
-pub fail-entered : (kept : KeptSource) (cut : Cut) {T E S F : Type 0} {made : Result T E} (result : Result S F) {w0 w1 : Counts} (n : ℕ) → IsErr result → n ≡ length cut.lines.items
+pub fail-entered : (kept : KeptSource) (cut : ChunkSplice) {T E S F : Type 0} {made : Result T E} (result : Result S F) {w0 w1 : Counts} (n : ℕ) → IsErr result → n ≡ length cut.lines.items
     → w1.looked ≡ w0.looked → Steps made w0 w1 0 n → HasPassedAgain result kept cut w0 w1
 fail-entered kept cut result {w0 = w0} {w1 = w1} n err entered none steps =
     let a = finals_in kept.lines.items in
@@ -86,7 +86,7 @@ fail-entered kept cut result {w0 = w0} {w1 = w1} n err entered none steps =
 
 -- ---- the lines around the edit
 
-module _ (kept : KeptSource) {cut : Cut} (cuts : IsCut kept.lines.items (lengths_of kept.chunks.items) cut) (pass : SecondPass) (news : List (SparseItem Trace))
+module _ (kept : KeptSource) {cut : ChunkSplice} (cuts : IsSplice kept.lines.items (lengths_of kept.chunks.items) cut) (pass : SecondPass) (news : List (SparseItem Trace))
     (was : was_of pass.redo.ends ≡ finals_in kept.lines.items) (now : now_of pass.redo.ends ≡ finals_in (spliced kept.lines.items (splice_of cut)))
     (did : pass.base.traces.now ≡ traces_of kept.lines.items) (new : news ≡ replayed_behind kept.lines.items (splice_of cut)) where
   -- what is made anew around the edit

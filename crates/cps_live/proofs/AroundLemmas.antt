@@ -21,7 +21,7 @@ use Rattle.cps_chunk.specs.Sparse.{AreWithin}
 use Rattle.cps_chunk.specs.Code.Walk.{stretch}
 use Rattle.cps_chunk.proofs.WalkLemmas.{lengths-front, stretch-all, stretch-part}
 use Rattle.cps_chunk.specs.Code.Looks.{items_before, items_from, looks_again}
-use Rattle.cps_live.specs.declared.cut.Cut.{Cut}
+use Rattle.cps_chunk.specs.declared.put.ChunkSplice.{ChunkSplice}
 use Rattle.cps_live.specs.declared.second_pass.SecondPass.{SecondPass}
 use Rattle.cps_live.specs.Code.SecondPass.{AreStillChunks, CutsAround, GoesAround, GoesOver, IsExactPass, NameTheSame, NoneDiffers, redone_around, redone_in, looks_around, looks_in}
 use Rattle.cps_live.proofs.CountLemmas.{StepsUpTo, steps-fail, steps-join, looks-join}
@@ -44,7 +44,7 @@ part-passes p ts a b c d one two three all =
 -- ---- the parts
 
 -- chunks in front of an edit, those that it cuts, and those behind it; what is new of the loose lines behind it, and of those behind them
-pub record AreParts (first : SecondPass) (cut : Cut) (cs xs ms ys : List Chunk) (news here left : List (SparseItem Trace)) : Type 0 where
+pub record AreParts (first : SecondPass) (cut : ChunkSplice) (cs xs ms ys : List Chunk) (news here left : List (SparseItem Trace)) : Type 0 where
   pub exact : IsExactPass first
   pub cuts : CutsAround first cut cs
   pub within : AreWithin cut.from (length first.base.traces.now) news
@@ -56,7 +56,7 @@ pub record AreParts (first : SecondPass) (cut : Cut) (cs xs ms ys : List Chunk) 
   pub behind : left ≡ items_from cut.behind news
 
 -- what two cuts of the chunks give
-pub parts : {first : SecondPass} {cut : Cut} {cs xs rest ms ys : List Chunk} {news here left : List (SparseItem Trace)} → IsExactPass first → CutsAround first cut cs
+pub parts : {first : SecondPass} {cut : ChunkSplice} {cs xs rest ms ys : List Chunk} {news here left : List (SparseItem Trace)} → IsExactPass first → CutsAround first cut cs
     → AreWithin cut.from (length first.base.traces.now) news → cs ≡ xs ++ rest → xs ≡ take cut.start cs → rest ≡ drop cut.start cs
     → rest ≡ ms ++ ys → ms ≡ take (cut.end - cut.start) rest → ys ≡ drop (cut.end - cut.start) rest
     → here ≡ items_before cut.behind news → left ≡ items_from cut.behind news → AreParts first cut cs xs ms ys news here left
@@ -72,7 +72,7 @@ parts {cut = cut} {xs = xs} exact cuts within whole front behind rest between ba
   behind = left;
 }
 
-module _ {first : SecondPass} {cut : Cut} {cs xs ms ys : List Chunk} {news here left : List (SparseItem Trace)} (h : AreParts first cut cs xs ms ys news here left) where
+module _ {first : SecondPass} {cut : ChunkSplice} {cs xs ms ys : List Chunk} {news here left : List (SparseItem Trace)} (h : AreParts first cut cs xs ms ys news here left) where
   abbrev ts : List Trace
   ts = first.base.traces.now
 

@@ -12,13 +12,13 @@ use Rattle.cps_state.specs.Work.{Counts, raised}
 use Rattle.cps_state.specs.declared.work.Tally.TheVariants.{Ones, Twos}
 use Rattle.cps_final.specs.Changes.{changed}
 use Rattle.cps_final.specs.Code.Kept.{changes_in}
-use Rattle.cps_final.specs.Code.Mend.{mended}
-use Rattle.cps_final.specs.declared.mend.Mend.{Mend}
+use Rattle.cps_final.specs.Code.FinalsPatch.{patched}
+use Rattle.cps_final.specs.declared.finals_patch.FinalsPatch.{FinalsPatch}
 use Rattle.cps_final.specs.contracts.finals.FinalsGathered.TheImpl.{gathered-value}
 use Rattle.cps_final.specs.Finals.{Finals, final_value, finals_of}
 use Rattle.cps_final.specs.Outcome.{Outcome, Resolved, outcome_of}
 use Rattle.cps_pass.specs.Expansion.{trace_of}
-use Rattle.cps_final.specs.Names.{names_in}
+use Rattle.cps_final.specs.NamedFinals.{names_in}
 use Rattle.cps_chunk.specs.Division.{AreChunks, IsDivision, full, inserted_at}
 use Rattle.cps_edit.specs.Compares.{ComparesUpTo, Steps}
 use Rattle.cps_edit.specs.Disturbed.{finals_in, ones_of, twos_of}
@@ -39,14 +39,14 @@ use Rattle.cps_chunk.specs.Touched.{touched_of}
 use Rattle.cps_chunk.proofs.CutLemmas.{sum-part, sum-parts}
 use Rattle.cps_chunk.proofs.PlanLemmas.{planned}
 use Rattle.cps_chunk.proofs.TouchedLemmas.{looks-law}
-use Rattle.cps_live.specs.Code.Append.{HasRoomForOne, IsMendOf, trace_behind}
+use Rattle.cps_live.specs.Code.Append.{HasRoomForOne, IsPatchOf, trace_behind}
 use Rattle.cps_live.specs.Code.Editing.{HasAsMuchRoom, IsKept, IsStill}
 use Rattle.cps_live.specs.declared.kept_source.KeptSource.{KeptSource}
 use Rattle.cps_live.proofs.AgainLemmas.{steps-of}
 use Rattle.cps_live.proofs.AppendLemmas.{IsAtEnd, begins, begins-first, grows}
 use Rattle.cps_live.specs.Code.Storing.{IsStoredBehind}
 use Rattle.cps_live.proofs.FirstPassLemmas.{ones-last}
-use Rattle.cps_live.proofs.MendedLemmas.{finals-mended}
+use Rattle.cps_live.proofs.PatchedLemmas.{finals-patched}
 
 module _ (lines : List (List ℕ)) (line : List ℕ) where
   abbrev edit : Splice
@@ -64,18 +64,18 @@ module _ (lines : List (List ℕ)) (line : List ℕ) where
   state-behind = sym (state_after-append first_state lines (line ∷ []))
 
   -- what the line changes leads there
-  pub changed-behind : (mend : Mend) (t : Trace) → t ≡ trace_of line (state_after first_state lines) → ((state : State) → changed (changes_in mend.changes) state ≡ overwritten state t.puts)
-      → changed (changes_in mend.changes) (state_after first_state lines) ≡ state_after first_state (lines ++ line ∷ [])
-  changed-behind mend t is changes = changes (state_after first_state lines) ∙ ap (λ (u : Trace). overwritten (state_after first_state lines) u.puts) is ∙ state-behind
+  pub changed-behind : (patch : FinalsPatch) (t : Trace) → t ≡ trace_of line (state_after first_state lines) → ((state : State) → changed (changes_in patch.changes) state ≡ overwritten state t.puts)
+      → changed (changes_in patch.changes) (state_after first_state lines) ≡ state_after first_state (lines ++ line ∷ [])
+  changed-behind patch t is changes = changes (state_after first_state lines) ∙ ap (λ (u : Trace). overwritten (state_after first_state lines) u.puts) is ∙ state-behind
 
-  pub finals-behind : (mend : Mend) (olds : List Trace) (t : Trace) → olds ≡ traces_of lines → t ≡ trace_of line (state_after first_state lines)
-      → ((state : State) → changed (changes_in mend.changes) state ≡ overwritten state t.puts) → IsStoredBehind olds mend.storage (olds ++ t ∷ [])
-      → mended mend (finals_of (traces_of lines)) ≡ finals_of (traces_of (lines ++ line ∷ []))
-  finals-behind mend olds t did is changes stored =
-      let there = subst (λ (u : Trace). IsStoredBehind (traces_of lines) mend.storage (traces_of lines ++ u ∷ [])) is
-      (subst (λ (ts : List Trace). IsStoredBehind ts mend.storage (ts ++ t ∷ [])) did stored) in
-      finals-mended lines (lines ++ line ∷ []) mend.storage (changes_in mend.changes)
-      (subst (λ (ts : List Trace). IsStoredBehind (traces_of lines) mend.storage ts) (sym traces-behind) there) (changed-behind mend t is changes)
+  pub finals-behind : (patch : FinalsPatch) (olds : List Trace) (t : Trace) → olds ≡ traces_of lines → t ≡ trace_of line (state_after first_state lines)
+      → ((state : State) → changed (changes_in patch.changes) state ≡ overwritten state t.puts) → IsStoredBehind olds patch.storage (olds ++ t ∷ [])
+      → patched patch (finals_of (traces_of lines)) ≡ finals_of (traces_of (lines ++ line ∷ []))
+  finals-behind patch olds t did is changes stored =
+      let there = subst (λ (u : Trace). IsStoredBehind (traces_of lines) patch.storage (traces_of lines ++ u ∷ [])) is
+      (subst (λ (ts : List Trace). IsStoredBehind ts patch.storage (ts ++ t ∷ [])) did stored) in
+      finals-patched lines (lines ++ line ∷ []) patch.storage (changes_in patch.changes)
+      (subst (λ (ts : List Trace). IsStoredBehind (traces_of lines) patch.storage ts) (sym traces-behind) there) (changed-behind patch t is changes)
 
   -- what pass two makes of all lines, where it makes those anew that name what has another final value
   pub outcomes-behind : (was now : Resolved) (outcomes : List Outcome) → outcomes ≡ outcomes_by was (traces_of lines)
@@ -173,14 +173,14 @@ pub record IsBehind (lines : List (List ℕ)) (line : List ℕ) (kept : KeptSour
   pub before : was ≡ finals_of (traces_of lines)
   pub behind : now ≡ finals_of (traces_of (lines ++ line ∷ []))
 
--- what holds of a mend holds where it is lent
-pub lent-mend : (kept : KeptSource) (trace : Trace) (mend lent : Mend) → lent ≡ mend → IsMendOf kept trace mend → IsMendOf kept trace lent
-lent-mend kept trace mend lent same is = subst (IsMendOf kept trace) (sym same) is
+-- what holds of a patch holds where it is lent
+pub lent-patch : (kept : KeptSource) (trace : Trace) (patch lent : FinalsPatch) → lent ≡ patch → IsPatchOf kept trace patch → IsPatchOf kept trace lent
+lent-patch kept trace patch lent same is = subst (IsPatchOf kept trace) (sym same) is
 
-pub is-behind : {old one two three : KeptSource} {t : Trace} {mend : Mend} (line : List ℕ) (back : Mend) {next : Finals} → IsKept old → IsStill old one → IsStill one two → IsStill two three → IsKept three
-    → t ≡ trace_behind old line → IsMendOf one t mend → next ≡ mended mend (gathered-value.it three.finals) → mended back next ≡ gathered-value.it three.finals
-    → IsBehind old.lines.items line three (mended back next) next
-is-behind {old = old} {one = one} {t = t} {mend = mend} line back kept first second third there is made next undone =
+pub is-behind : {old one two three : KeptSource} {t : Trace} {patch : FinalsPatch} (line : List ℕ) (back : FinalsPatch) {next : Finals} → IsKept old → IsStill old one → IsStill one two → IsStill two three → IsKept three
+    → t ≡ trace_behind old line → IsPatchOf one t patch → next ≡ patched patch (gathered-value.it three.finals) → patched back next ≡ gathered-value.it three.finals
+    → IsBehind old.lines.items line three (patched back next) next
+is-behind {old = old} {one = one} {t = t} {patch = patch} line back kept first second third there is made next undone =
     let did = first.traces ∙ kept.lines.did in
     let same = third.lines ∙ second.lines ∙ first.lines in
     let finals = there.finals ∙ ap (λ ls. finals_of (traces_of ls)) same in
@@ -188,7 +188,7 @@ is-behind {old = old} {one = one} {t = t} {mend = mend} line back kept first sec
       source = same;
       traces = third.traces ∙ second.traces ∙ did;
       before = undone ∙ finals;
-      behind = next ∙ ap (mended mend) finals ∙ finals-behind old.lines.items line mend one.traces.items t did is made.state made.storage;
+      behind = next ∙ ap (patched patch) finals ∙ finals-behind old.lines.items line patch one.traces.items t did is made.state made.storage;
     }
 
 module _ {lines : List (List ℕ)} {line : List ℕ} {kept : KeptSource} {was now : Finals} (b : IsBehind lines line kept was now) where

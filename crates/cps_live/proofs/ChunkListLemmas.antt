@@ -14,7 +14,7 @@ use Rattle.cps_chunk.proofs.ChunkLemmas.{chunks-append, chunks-one, chunks-last,
 use Rattle.cps_chunk.specs.declared.sparse.SparseItem.{SparseItem}
 use Rattle.cps_chunk.specs.Sparse.{renewed, AreWithin}
 use Rattle.cps_chunk.proofs.WalkLemmas.{lengths-next, lengths-front, same-long}
-use Rattle.cps_live.specs.declared.cut.Cut.{Cut}
+use Rattle.cps_chunk.specs.declared.put.ChunkSplice.{ChunkSplice}
 use Rattle.cps_live.specs.Code.ChunkList.{Fits}
 use Rattle.cps_live.proofs.AppendLemmas.{IsAtEnd, grows, length-at}
 use Rattle.cps_live.proofs.RenewedLemmas.{renewed-next}
@@ -79,7 +79,7 @@ module _ (ns : List ℕ) (i : ℕ) (lt : i < length ns) (ts left : List Trace) (
 
 -- ---- new chunks in the place of others
 
-module _ (hashing : Hashing) (cut : Cut) (cs : List Chunk) (olds news : List Trace) (fits : Fits hashing cut cs olds news) where
+module _ (hashing : Hashing) (cut : ChunkSplice) (cs : List Chunk) (olds news : List Trace) (fits : Fits hashing cut cs olds news) where
   -- the lines of the new chunks are there
   pub lines-within : sum cut.lengths.items ≤ length (drop cut.before news)
   lines-within = omega (arith, fits.count, length-drop cut.before news)

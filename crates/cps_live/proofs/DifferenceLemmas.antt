@@ -23,21 +23,21 @@ use Rattle.cps_final.specs.Changes.{changed}
 use Rattle.cps_final.specs.Code.Kept.{changes_in, count_of, keys_in}
 use Rattle.cps_final.proofs.KeptLemmas.{eq, has-key}
 use Rattle.cps_final.specs.Finals.{Finals, final_value, at_base, Named, label, setting, block, literal}
-use Rattle.cps_final.specs.Code.Mend.{with_storage}
+use Rattle.cps_final.specs.Code.FinalsPatch.{with_storage}
 use Rattle.cps_final.specs.Code.Storage.{stored, PlacesStand}
 use Rattle.cps_final.specs.declared.storage.Storage.{Storage}
 use Rattle.cps_final.specs.contracts.finals.FinalsGathered.TheImpl.{gathered-value}
 use Rattle.cps_final.specs.LineNames.{names_later, names_read}
 use Rattle.cps_final.specs.Outcome.{blocks_named, labels_read}
-use Rattle.cps_final.specs.Names.{Names, names_in, all_pass}
+use Rattle.cps_final.specs.NamedFinals.{NamedFinals, names_in, all_pass}
 use Rattle.cps_final.specs.Naming.{all_named}
 use Rattle.cps_final.proofs.NamesLemmas.{names-law}
 use Rattle.cps_final.proofs.NamingLemmas.{flat-all}
 use Rattle.cps_final.proofs.DecideLemmas.{option-decides, name-decides}
 use Rattle.cps_final.specs.Agreeing.{same_value, same_at}
 use Rattle.cps_final.proofs.AnswerLemmas.{value-decides}
-use Rattle.cps_chunk.specs.declared.marks.Marks.{Marks}
-use Rattle.cps_chunk.specs.Marks.{AreMarked, has, mark_of, keys_named}
+use Rattle.cps_chunk.specs.declared.key_filter.KeyFilter.{KeyFilter}
+use Rattle.cps_chunk.specs.KeyFilter.{AreMarked, has, bit_of, keys_named}
 use Rattle.cps_chunk.proofs.AbsentLemmas.{each-named}
 use Rattle.cps_final.specs.Code.Ends.{was_of, now_of}
 use Rattle.cps_final.specs.declared.ends.Ends.{Ends}
@@ -85,9 +85,9 @@ apart p (other ∷ labels) none name here =
         let wrong : true ≡ false = sym here ∙ sym (ap p ((name-decides other name).0 is)) ∙ gone in
         cc
 
-module _ (hashing : Hashing) (m : Marks) where
+module _ (hashing : Hashing) (m : KeyFilter) where
   abbrev pub label-has : Name → Bool
-  label-has name = has m (mark_of hashing (key.Label name))
+  label-has name = has m (bit_of hashing (key.Label name))
 
   pub none-among : (labels : List Name) → list_any label-has labels ≡ false → (ts : List Trace) → AreMarked hashing m (keys_named ts)
       → list_all (λ name. not (is-among labels name)) (names_in ts).labels ≡ true
@@ -97,7 +97,7 @@ module _ (hashing : Hashing) (m : Marks) where
 
 module _ (ends : Ends) where
   -- all passes but the labels that are listed
-  pub labels-pass : (labels : List Name) (names : Names) → list_all (λ name. not (is-among labels name)) names.labels ≡ true → all_pass (passes_by ends (Some labels)) names ≡ true
+  pub labels-pass : (labels : List Name) (names : NamedFinals) → list_all (λ name. not (is-among labels name)) names.labels ≡ true → all_pass (passes_by ends (Some labels)) names ≡ true
   labels-pass labels names others =
       and_from (list_all (λ name. not (is-among labels name)) names.labels) _ others
       (and_from (list_all (λ (name : Option Name). true) names.blocks) _ (all-true names.blocks) (all-true names.literals))
@@ -134,18 +134,18 @@ module _ (ends : Ends) where
   same named is = (option-decides same_value value-decides (was_of ends named) (now_of ends named)).1 is
 
   -- places that stand, of which those before are kept apart
-  pub places-in : (storage other : Storage) → ends.mend.now.storage ≡ Some storage → PlacesStand (stored storage) (stored other)
+  pub places-in : (storage other : Storage) → ends.patch.now.storage ≡ Some storage → PlacesStand (stored storage) (stored other)
       → record (stored other) { state = (gathered-value.it ends.finals.now).state } ≡ gathered-value.it ends.finals.now → PlacesStandIn ends
   places-in storage other is stand same =
       let finals = gathered-value.it ends.finals.now in
-      let before : (named : Named) → Option Storage → Option Value = λ named held. final_value (record (with_storage held finals) { state = changed (changes_in ends.mend.now.changes) finals.state }) named in
+      let before : (named : Named) → Option Storage → Option Value = λ named held. final_value (record (with_storage held finals) { state = changed (changes_in ends.patch.now.changes) finals.state }) named in
       record {
         blocks = λ name. ap (before (block name)) is ∙ stand.blocks name ∙ ap (λ (f : Finals). final_value f (block name)) same;
         literals = λ word. ap (before (literal word)) is ∙ stand.literals word ∙ ap (λ (f : Finals). final_value f (literal word)) same;
       }
 
   -- a label that isn't changed, where the blocks stand where they stood
-  unchanged : PlacesStandIn ends → (name : Name) → changes_in ends.mend.now.changes (key.Label name) ≡ None → was_of ends (label name) ≡ now_of ends (label name)
+  unchanged : PlacesStandIn ends → (name : Name) → changes_in ends.patch.now.changes (key.Label name) ≡ None → was_of ends (label name) ≡ now_of ends (label name)
   unchanged stand name none =
       let finals = gathered-value.it ends.finals.now in
       λ i. option_and_then (at_base (λ (b : Option Name). stand.blocks b i)) (value_of (unwrap_or (none i) (finals.state (key.Label name))))
@@ -154,7 +154,7 @@ module _ (ends : Ends) where
     label-exact : (name : Name) → not (is-among labels name) ≡ same_at (was_of ends) (now_of ends) (label name)
     label-exact name = by_test (is-among labels name) refl
       where
-        missed : is-among labels name ≡ false → (changed : Option (Option Answer)) → changes_in ends.mend.now.changes (key.Label name) ≡ changed → (same_now : Bool)
+        missed : is-among labels name ≡ false → (changed : Option (Option Answer)) → changes_in ends.patch.now.changes (key.Label name) ≡ changed → (same_now : Bool)
             → same_at (was_of ends) (now_of ends) (label name) ≡ same_now → true ≡ same_now
         missed out changed is true so = refl
         missed out None is false so =
@@ -166,7 +166,7 @@ module _ (ends : Ends) where
 
         by_test : (among : Bool) → is-among labels name ≡ among → not among ≡ same_at (was_of ends) (now_of ends) (label name)
         by_test true is = sym (listed.differ name is)
-        by_test false is = missed is (changes_in ends.mend.now.changes (key.Label name)) refl (same_at (was_of ends) (now_of ends) (label name)) refl
+        by_test false is = missed is (changes_in ends.patch.now.changes (key.Label name)) refl (same_at (was_of ends) (now_of ends) (label name)) refl
 
     pub listed-exact : (named : Named) → passes_by ends (Some labels) named ≡ same_at (was_of ends) (now_of ends) named
     listed-exact (label name) = label-exact name
@@ -239,11 +239,11 @@ module _ (ends : Ends) where
             let both : name ≡ n = cc in
             ap (λ b. is-among labels n || (b || false)) ((name-decides name n).1 both) ∙ or-right (is-among labels n)
 
-  pub listed-all : (i : ℕ) (labels : List Name) → count_of ends.mend.now.changes ≤ i → AreListedOf (take i (keys_in ends.mend.now.changes)) labels → IsListed ends labels
+  pub listed-all : (i : ℕ) (labels : List Name) → count_of ends.patch.now.changes ≤ i → AreListedOf (take i (keys_in ends.patch.now.changes)) labels → IsListed ends labels
   listed-all i labels past all = record {
     differ = all.differ;
     changed = λ name there so.
-        let changes = ends.mend.now.changes in
+        let changes = ends.patch.now.changes in
         let whole : take i (keys_in changes) ≡ keys_in changes = take_all i (keys_in changes) (all-keys changes i past) in
         all.changed name (ap (list_any (eq (key.Label name))) whole ∙ sym (has-key (eq (key.Label name)) changes.answers.entries) ∙ there) so;
   }

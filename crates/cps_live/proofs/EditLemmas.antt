@@ -9,13 +9,13 @@ use Rattle.cps_chunk.proofs.WalkLemmas.{same-long}
 use Rattle.cps_chunk.specs.Code.Looks.{first_looks, second_looks}
 use Rattle.cps_chunk.specs.Touched.{touched_of}
 use Rattle.cps_chunk.proofs.TouchedLemmas.{looks-law}
-use Rattle.cps_live.specs.declared.cut.Cut.{Cut}
+use Rattle.cps_chunk.specs.declared.put.ChunkSplice.{ChunkSplice}
 use Rattle.cps_live.specs.declared.kept_source.KeptSource.{KeptSource}
-use Rattle.cps_live.specs.Code.Editing.{HasAsMuchRoom, HasRoomFor, IsCut, IsStill, LooksOfFirst, LooksOfSecond, splice_of}
+use Rattle.cps_live.specs.Code.Editing.{HasAsMuchRoom, HasRoomFor, IsSplice, IsStill, LooksOfFirst, LooksOfSecond, splice_of}
 
 -- ---- how many lines are compared
 
-module _ (lines : List (List ℕ)) (olds : List ℕ) (cut : Cut) (is : IsCut lines olds cut) where
+module _ (lines : List (List ℕ)) (olds : List ℕ) (cut : ChunkSplice) (is : IsSplice lines olds cut) where
   abbrev most : ℕ
   most = 128 * touched_of lines (splice_of cut) olds (recut cut.start cut.end cut.lengths.items olds)
 
@@ -41,7 +41,7 @@ module _ (lines : List (List ℕ)) (olds : List ℕ) (cut : Cut) (is : IsCut lin
 
 -- ---- room
 
-pub room-still : {Z : Type 0} (old new : KeptSource) (cut : Cut) (list : Vec Chunk Z) → IsStill old new → HasAsMuchRoom old new → HasRoomFor old cut list → HasRoomFor new cut list
+pub room-still : {Z : Type 0} (old new : KeptSource) (cut : ChunkSplice) (list : Vec Chunk Z) → IsStill old new → HasAsMuchRoom old new → HasRoomFor old cut list → HasRoomFor new cut list
 room-still old new cut list still much room =
     let n : vec_len new.lines ≡ vec_len old.lines = omega (arith, new.lines.ok.0, old.lines.ok.0, ap length still.lines) in
     let t : vec_len new.traces ≡ vec_len old.traces = omega (arith, new.traces.ok.0, old.traces.ok.0, ap length still.traces) in

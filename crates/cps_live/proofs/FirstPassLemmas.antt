@@ -23,7 +23,7 @@ use Rattle.cps_chunk.proofs.NotedLemmas.{noted-law}
 use Rattle.cps_chunk.proofs.OverLemmas.{over-count, over-news, over-state}
 use Rattle.cps_chunk.proofs.ReplayedLemmas.{ones-spliced}
 use Rattle.cps_chunk.proofs.WalkLemmas.{as-long, lengths-within, stretch-all, stretch-did, stretch-part, stretch-state}
-use Rattle.cps_live.specs.declared.cut.Cut.{Cut}
+use Rattle.cps_chunk.specs.declared.put.ChunkSplice.{ChunkSplice}
 use Rattle.cps_live.specs.Code.Editing.{splice_of}
 use Rattle.cps_live.specs.Code.FirstPass.{BeginsWalk, IsWalked}
 
@@ -48,7 +48,7 @@ module _ (lines : List (List ℕ)) (traces : List Trace) (did : traces ≡ trace
       ∙ puts-state (state_after first_state (take a lines)) (stretch a b lines) ∙ stretch-state lines traces did a b le
 
 -- new lines were entered, and those in whose place they stand have gone
-pub record Entered (w0 w1 w2 : Walk) (cut : Cut) (entered : List Trace) : Type 0 where
+pub record Entered (w0 w1 w2 : Walk) (cut : ChunkSplice) (entered : List Trace) : Type 0 where
   pub walk : IsWalk w0
   pub begins : BeginsWalk w0
   pub first : IsStillWalk w0 w1
@@ -59,7 +59,7 @@ pub record Entered (w0 w1 w2 : Walk) (cut : Cut) (entered : List Trace) : Type 0
   pub changes : changes_in w2.replay.log.changes
       ≡ noted (changes_in w1.replay.log.changes) (stood_at w1.base cut.keep) (puts_of (stretch cut.keep cut.from w1.base.traces.now)) (puts_of entered)
 
-module _ (w0 w1 w2 : Walk) (cut : Cut) (entered : List Trace) (e : Entered w0 w1 w2 cut entered) (order : cut.keep ≤ cut.from) where
+module _ (w0 w1 w2 : Walk) (cut : ChunkSplice) (entered : List Trace) (e : Entered w0 w1 w2 cut entered) (order : cut.keep ≤ cut.from) where
   abbrev base : Baseline
   base = w0.base
 

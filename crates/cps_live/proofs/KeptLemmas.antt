@@ -26,11 +26,11 @@ use Rattle.cps_chunk.specs.Replayed.{state_front, replayed_behind, redone_front,
 use Rattle.cps_chunk.proofs.SparseLemmas.{AreWithin-wider}
 use Rattle.cps_chunk.proofs.ReplayedLemmas.{replayed_behind-within, redone-within_all, traces-put, outcomes-put}
 use Rattle.cps_chunk.proofs.WalkLemmas.{same-long}
-use Rattle.cps_live.specs.declared.cut.Cut.{Cut}
+use Rattle.cps_chunk.specs.declared.put.ChunkSplice.{ChunkSplice}
 use Rattle.cps_live.specs.declared.kept_source.KeptSource.{KeptSource}
 use Rattle.cps_live.specs.declared.news.News.{News}
 use Rattle.cps_live.specs.Code.ChunkList.{Fits, HasRoom}
-use Rattle.cps_live.specs.Code.Editing.{AreKept, AreNewTraces, AreOutcomesOf, HasRoomFor, IsCut, IsKept, splice_of}
+use Rattle.cps_live.specs.Code.Editing.{AreKept, AreNewTraces, AreOutcomesOf, HasRoomFor, IsSplice, IsKept, splice_of}
 use Rattle.cps_live.specs.Code.NamesRead.{HasRead, HasReadBy, StillHas}
 use Rattle.cps_live.proofs.NamesReadLemmas.{read-by, read-still}
 
@@ -91,7 +91,7 @@ module _ {X : Type 0} (keep from : ℕ) (olds es news : List X) (ordered : keep 
 
 -- ---- an edit of what is kept
 
-module _ {kept : KeptSource} {cut : Cut} (are : AreKept kept) (cuts : IsCut kept.lines.items (lengths_of kept.chunks.items) cut) where
+module _ {kept : KeptSource} {cut : ChunkSplice} (are : AreKept kept) (cuts : IsSplice kept.lines.items (lengths_of kept.chunks.items) cut) where
   pub traces-long : length kept.traces.items ≡ length kept.lines.items
   traces-long = ap length are.did ∙ length-traces_from first_state kept.lines.items
 
@@ -144,7 +144,7 @@ module _ {kept : KeptSource} {cut : Cut} (are : AreKept kept) (cuts : IsCut kept
       cuts.recuts.within
 
   -- the lines that stay around the edit did the same in their chunks
-  module _ (later : Cut) (cs : List Chunk) (olds es news : List Trace) (same : lengths_of cs ≡ lengths_of kept.chunks.items) (long : length olds ≡ length kept.lines.items)
+  module _ (later : ChunkSplice) (cs : List Chunk) (olds es news : List Trace) (same : lengths_of cs ≡ lengths_of kept.chunks.items) (long : length olds ≡ length kept.lines.items)
       (entered : length es ≡ length cut.lines.items) (is : news ≡ take cut.keep olds ++ (es ++ drop cut.from olds)) where
     within : cut.from ≤ length olds
     within = omega (arith, long, cuts.recuts.within)

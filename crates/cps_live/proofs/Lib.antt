@@ -11,7 +11,7 @@ pub mod EnteringLemmas
 pub mod EnteringRows
 pub mod FirstPassLemmas
 pub mod KeptLemmas
-pub mod MendedLemmas
+pub mod PatchedLemmas
 pub mod ExchangeLemmas
 pub mod MovedPassLemmas
 pub mod MovedStorageLemmas
@@ -20,6 +20,6 @@ pub mod PlaceLemmas
 pub mod RenewedLemmas
 pub mod SecondPassLemmas
 pub mod StoredLemmas
-mod CuttingLemmas
+mod SplicingLemmas
 mod IdleLemmas
 pub mod SessionLemmas

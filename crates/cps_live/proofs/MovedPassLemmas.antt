@@ -17,8 +17,8 @@ use Rattle.cps_chunk.specs.Code.Chunk.{lengths_of}
 use Rattle.cps_chunk.proofs.ChunkLemmas.{chunks-long}
 use Rattle.cps_chunk.specs.declared.sparse.SparseItem.{SparseItem}
 use Rattle.cps_chunk.specs.declared.walk.Baseline.{Baseline}
-use Rattle.cps_chunk.specs.declared.walk.Position.{Position}
-use Rattle.cps_chunk.specs.declared.walk.Position.TheVariants.{Same, Behind}
+use Rattle.cps_chunk.specs.declared.walk.Destination.{Destination}
+use Rattle.cps_chunk.specs.declared.walk.Destination.TheVariants.{Same, Behind}
 use Rattle.cps_chunk.specs.declared.walk.Walk.{Walk}
 use Rattle.cps_chunk.specs.Code.Along.{GoesAlong, front_at, looks_along, looks_in_span, replayed_along, span}
 use Rattle.cps_chunk.specs.Code.Compared.{with_puts}
@@ -42,7 +42,7 @@ use Rattle.cps_live.proofs.FirstPassLemmas.{left-there}
 -- ---- one stretch of lines, gone along
 
 -- lines in front of which a state stands, whichever the position
-module _ (old w new : Walk) (walk : IsWalk old) (position : Position) (a b : ℕ) (kept : w.base ≡ old.base) (front : State) (is : front_at w position a ≡ front) where
+module _ (old w new : Walk) (walk : IsWalk old) (position : Destination) (a b : ℕ) (kept : w.base ≡ old.base) (front : State) (is : front_at w position a ≡ front) where
   abbrev ls : List (List ℕ)
   ls = old.base.lines.now
 

@@ -12,13 +12,13 @@ use Rattle.cps_state.specs.Course.{Trace}
 use Rattle.cps_final.specs.Finals.{Named}
 use Rattle.cps_final.specs.Outcome.{Resolved}
 use Rattle.cps_final.specs.Naming.{all_named}
-use Rattle.cps_final.specs.Names.{Names, names_in, all_pass}
+use Rattle.cps_final.specs.NamedFinals.{NamedFinals, names_in, all_pass}
 use Rattle.cps_final.proofs.NamesLemmas.{names-law}
 use Rattle.cps_final.proofs.NamingLemmas.{flat-all}
 use Rattle.cps_final.specs.Agreeing.{same_at, same_named}
 use Rattle.cps_chunk.specs.declared.chunk.Chunk.{Chunk}
 use Rattle.cps_chunk.specs.Code.Chunk.{AreChunksOf, IsChunkOf, lengths_of}
-use Rattle.cps_chunk.specs.Marks.{AreMarked, keys_named}
+use Rattle.cps_chunk.specs.KeyFilter.{AreMarked, keys_named}
 use Rattle.cps_final.specs.declared.ends.Ends.{Ends}
 use Rattle.cps_chunk.specs.declared.sparse.SparseItem.{SparseItem}
 use Rattle.cps_final.specs.Code.Ends.{was_of, now_of}
@@ -121,13 +121,13 @@ module _ (pass : SecondPass) where
 
   -- ---- its test
 
-  pub exact-same : pass.differences.ends ≡ pass.redo.ends → AreExact pass.differences → (names : Names)
+  pub exact-same : pass.differences.ends ≡ pass.redo.ends → AreExact pass.differences → (names : NamedFinals)
       → all_pass (passes pass.differences) names ≡ all_pass (same_at (was_of pass.redo.ends) (now_of pass.redo.ends)) names
   exact-same ends exact names =
       (λ i. all_pass (λ (named : Named). exact named i) names) ∙ ap (λ (e : Ends). all_pass (same_at (was_of e) (now_of e)) names) ends
 
   module _ (exact : IsExactPass pass) where
-    pub exact-names : (names : Names) → all_pass (passes pass.differences) names ≡ all_pass (same_at (was_of pass.redo.ends) (now_of pass.redo.ends)) names
+    pub exact-names : (names : NamedFinals) → all_pass (passes pass.differences) names ≡ all_pass (same_at (was_of pass.redo.ends) (now_of pass.redo.ends)) names
     exact-names names = exact-same exact.ends exact.exact names
 
     -- nothing that lines with these marks name has another final value

@@ -9,7 +9,7 @@ use Rattle.cps_chunk.specs.Code.Storing.{Left, left_by, stored_by}
 use Rattle.cps_chunk.proofs.SparseLemmas.{renewed-split}
 use Rattle.cps_chunk.proofs.StoringLemmas.{joined, left-append, left-law}
 use Rattle.cps_chunk.proofs.WalkLemmas.{stretch-part, stretch-front}
-use Rattle.cps_live.specs.declared.cut.Cut.{Cut}
+use Rattle.cps_chunk.specs.declared.put.ChunkSplice.{ChunkSplice}
 use Rattle.cps_live.specs.declared.news.News.{News}
 use Rattle.cps_live.specs.Code.Storing.{edited, left_by_each}
 use Rattle.cps_live.proofs.RenewedLemmas.{renewed-next, renewed-still}
@@ -55,7 +55,7 @@ each-all olds news i past so_far = ap (λ ns. left_by_each (renewed 0 ns olds)) 
 pub stored-same : (olds news : List Trace) → left_by olds ≡ left_by news → stored_by olds ≡ stored_by news
 stored-same olds news same = ap stored_by (sym (append-nil olds)) ∙ left-law [] olds news [] same ∙ ap stored_by (append-nil news)
 
-module _ (cut : Cut) (news : News Trace) (olds : List Trace) where
+module _ (cut : ChunkSplice) (news : News Trace) (olds : List Trace) where
   -- the same stands where the same is left
   pub stored-edited : cut.keep ≤ cut.from → AreWithin cut.from (length olds) news.renewed.items → left_by (take (cut.from - cut.keep) (drop cut.keep olds)) ≡ left_by news.entered.items
       → left_by (renewed 0 news.renewed.items olds) ≡ left_by olds → stored_by olds ≡ stored_by (edited cut news olds)

@@ -1,7 +1,7 @@
 -- What serves the code alone, and no reader need believe.
 pub mod Append
 pub mod ChunkList
-pub mod Cutting
+pub mod Splicing
 pub mod Differences
 pub mod Editing
 pub mod Exchanged

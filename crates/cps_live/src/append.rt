@@ -2,8 +2,8 @@
 ghost use Rattle.std.specs.Prelude.{◌≡◌, ◌+◌, ◌<◌, ◌^◌, IfOk, OnOk, OnErr, vec_len};
 ghost use Rattle.cps_state.specs.Work.{raised};
 ghost use Rattle.cps_state.specs.declared.work.Tally.TheVariants.{Ones};
-ghost use Rattle.cps_live.specs.Code.Append.{AreOutcomesBy, AreOutcomesWith, HasPassedWith, HasReadWith, HasRoomForOne, IsAppended, IsMendOf, LooksOfAppend, StepsOfAppend, trace_behind};
-ghost use Rattle.cps_live.specs.Code.Editing.{AreKept, HasRoomToMend, IsKept, IsStill, IsStillWith};
+ghost use Rattle.cps_live.specs.Code.Append.{AreOutcomesBy, AreOutcomesWith, HasPassedWith, HasReadWith, HasRoomForOne, IsAppended, IsPatchOf, LooksOfAppend, StepsOfAppend, trace_behind};
+ghost use Rattle.cps_live.specs.Code.Editing.{AreKept, HasRoomToPatch, IsKept, IsStill, IsStillWith};
 
 use crate::chunk_list::grow_last;
 use crate::kept_source::KeptSource;
@@ -11,7 +11,7 @@ use crate::lists::make_room_for;
 use crate::storage::storage_with;
 use cps_chunk::division_laws::an_insertion_divides_again;
 use cps_chunk::{SparseItem, put_all};
-use cps_final::{Changes, Mend, Outcome, step_two};
+use cps_final::{Changes, FinalsPatch, Outcome, step_two};
 use cps_pass::step_over;
 use cps_state::{Trace, Work};
 use cps_text::Line;
@@ -38,18 +38,18 @@ impl KeptSource {
     {
         an_insertion_divides_again();
         let trace = self.step_behind(&line, work)?;
-        let mut kept = self.mend_for(&trace)?;
-        let mend = &mut *kept;
-        self.make_room_for_one(mend)?;
-        self.finals.exchange(mend);
-        match self.pass_two_with(&trace, mend, work) {
+        let mut kept = self.patch_for(&trace)?;
+        let patch = &mut *kept;
+        self.make_room_for_one(patch)?;
+        self.finals.exchange(patch);
+        match self.pass_two_with(&trace, patch, work) {
             Ok(outcomes) => {
                 self.commit_with(line, trace, outcomes);
-                self.keep_mend(kept);
+                self.keep_patch(kept);
                 Ok(())
             }
             Err(refused) => {
-                self.finals.exchange(mend);
+                self.finals.exchange(patch);
                 Err(refused)
             }
         }
@@ -63,92 +63,98 @@ impl KeptSource {
         ensures trace { IfOk result (λ trace. trace ≡ trace_behind self.old line.now) }
         ensures step { work.new ≡ raised Ones work.old }
     {
-        step_over(self.alloc, work, &mut self.sheet, line, self.finals.state())
+        step_over(
+            self.alloc,
+            work,
+            &mut self.scratch,
+            line,
+            self.finals.state(),
+        )
     }
 
     /// What a line that does this changes behind the last, in the room of what the line before it changed.
-    fn mend_for(&mut self, trace: &Trace) -> Result<Box<Mend>, AllocError>
+    fn patch_for(&mut self, trace: &Trace) -> Result<Box<FinalsPatch>, AllocError>
         requires kept { IsKept self.old }
         ensures kept { IsKept self.new }
         ensures still { IsStill self.old self.new }
-        ensures mend { IfOk result (λ mend. IsMendOf self.old trace.now mend.value) }
+        ensures patch { IfOk result (λ patch. IsPatchOf self.old trace.now patch.value) }
     {
-        let mut mend = self.take_mend()?;
-        self.fill_mend(trace, &mut mend)?;
-        Ok(mend)
+        let mut patch = self.take_patch()?;
+        self.fill_patch(trace, &mut patch)?;
+        Ok(patch)
     }
 
-    /// The mend of the append before, for its room. Takes memory for the first.
-    fn take_mend(&mut self) -> Result<Box<Mend>, AllocError>
+    /// The patch of the append before, for its room. Takes memory for the first.
+    fn take_patch(&mut self) -> Result<Box<FinalsPatch>, AllocError>
         requires kept { IsKept self.old }
         ensures kept { IsKept self.new }
         ensures still { IsStill self.old self.new }
     {
-        if let Some(mend) = replace(&mut self.mend, None) {
-            return Ok(mend);
+        if let Some(patch) = replace(&mut self.patch, None) {
+            return Ok(patch);
         }
-        let mend = Mend {
+        let patch = FinalsPatch {
             changes: Changes::new(self.alloc, self.hashing),
             storage: None,
         };
-        Ok(Box::new(self.alloc, mend)?)
+        Ok(Box::new(self.alloc, patch)?)
     }
 
-    /// Puts what a line that does this changes behind the last in the place of what stood in a mend.
-    fn fill_mend(&mut self, trace: &Trace, mend: &mut Mend) -> Result<(), AllocError>
+    /// Puts what a line that does this changes behind the last in the place of what stood in a patch.
+    fn fill_patch(&mut self, trace: &Trace, patch: &mut FinalsPatch) -> Result<(), AllocError>
         requires kept { IsKept self.old }
         ensures kept { IsKept self.new }
         ensures still { IsStill self.old self.new }
-        ensures mend { OnOk result (IsMendOf self.old trace.now mend.new) }
+        ensures patch { OnOk result (IsPatchOf self.old trace.now patch.new) }
     {
-        mend.storage = storage_with(self.finals.storage(), trace)?;
-        mend.changes.clear();
-        mend.changes.put_all(trace.puts())?;
+        patch.storage = storage_with(self.finals.storage(), trace)?;
+        patch.changes.clear();
+        patch.changes.put_all(trace.puts())?;
         Ok(())
     }
 
-    /// The next append takes the room of this mend.
-    fn keep_mend(&mut self, mend: Box<Mend>)
+    /// The next append takes the room of this patch.
+    fn keep_patch(&mut self, patch: Box<FinalsPatch>)
         requires kept { IsKept self.old }
         ensures kept { IsKept self.new }
         ensures still { IsStill self.old self.new }
     {
-        drop(replace(&mut self.mend, Some(mend)));
+        drop(replace(&mut self.patch, Some(patch)));
     }
 
     /// Room for a line more, and for what it changes behind the last, once and back.
-    fn make_room_for_one(&mut self, mend: &Mend) -> Result<(), AllocError>
+    fn make_room_for_one(&mut self, patch: &FinalsPatch) -> Result<(), AllocError>
         requires kept { IsKept self.old }
         requires few { vec_len self.old.lines + 1 < 2 ^ 63 }
         ensures kept { IsKept self.new }
         ensures still { IsStill self.old self.new }
         ensures room { OnOk result (HasRoomForOne self.new) }
-        ensures finals { OnOk result (HasRoomToMend self.new mend.now) }
+        ensures finals { OnOk result (HasRoomToPatch self.new patch.now) }
     {
         make_room_for(&mut self.lines, 1)?;
         make_room_for(&mut self.traces, 1)?;
         make_room_for(&mut self.outcomes, 1)?;
         make_room_for(&mut self.chunks, 1)?;
-        self.finals.make_room(mend)
+        self.finals.make_room(patch)
     }
 
     /// Pass two of the line, and of those in front of it, under the final values behind it.
     fn pass_two_with(
         &mut self,
         trace: &Trace,
-        mend: &Mend,
+        patch: &FinalsPatch,
         work: &mut Work,
     ) -> Result<OutcomesWith, AllocError>
         requires kept { AreKept self.old }
         requires few { vec_len self.old.lines < 2 ^ 63 }
         ensures kept { AreKept self.new }
         ensures still { IsStillWith self.old self.new }
-        ensures made { IfOk result (AreOutcomesBy self.old mend.now trace.now) }
+        ensures made { IfOk result (AreOutcomesBy self.old patch.now trace.now) }
         ensures read { IfOk result (HasReadWith self.new.read) }
-        ensures work { HasPassedWith result self.old mend.now work.old work.new }
+        ensures work { HasPassedWith result self.old patch.now work.old work.new }
     {
         let own = step_two(self.alloc, work, trace, &self.finals)?;
-        let renewed = self.pass_again(&[], mend, work)?;
+        let renewed = self.pass_again(&[], patch, work)?;
         self.read.add_one(&own)?;
         Ok(OutcomesWith { own, renewed })
     }

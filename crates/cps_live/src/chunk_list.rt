@@ -7,9 +7,8 @@ ghost use Rattle.cps_chunk.specs.Code.Chunk.{AreChunksOf, lengths_of};
 ghost use Rattle.cps_chunk.specs.Sparse.{AreWithin, renewed};
 ghost use Rattle.cps_live.specs.Code.ChunkList.{Fits, HasRoom};
 
-use crate::cut::Cut;
 use crate::lists::put_at;
-use cps_chunk::{Chunk, FULL, SparseItem};
+use cps_chunk::{Chunk, ChunkSplice, FULL, SparseItem};
 use cps_state::{Hashing, Trace};
 use std::slice::from_ref;
 
@@ -73,7 +72,7 @@ pub fn grow_last(chunks: &mut Vec<Chunk>, hashing: Hashing, trace: &Trace)
 pub fn put_chunks(
     chunks: &mut Vec<Chunk>,
     hashing: Hashing,
-    cut: &Cut,
+    cut: &ChunkSplice,
     traces: &[Trace],
     room: Vec<Chunk>,
 )

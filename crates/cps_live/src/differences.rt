@@ -4,13 +4,13 @@ ghost use Rattle.std.specs.List.{list_any};
 ghost use Rattle.cps_expr.specs.Value.{same_name};
 ghost use Rattle.cps_state.specs.Course.{Trace as Did};
 ghost use Rattle.cps_state.specs.declared.key.Key.TheVariants as key;
-ghost use Rattle.cps_chunk.specs.Marks.{AreMarked, has, keys_named, mark_of};
-ghost use Rattle.cps_final.specs.Names.{names_in, all_pass};
+ghost use Rattle.cps_chunk.specs.KeyFilter.{AreMarked, has, keys_named, bit_of};
+ghost use Rattle.cps_final.specs.NamedFinals.{names_in, all_pass};
 ghost use Rattle.cps_live.specs.Code.NamesRead.{has_name};
 ghost use Rattle.cps_live.specs.Code.Differences.{passes, AreExact, AreKnown, PlacesStandIn, IsListed};
 
 use crate::names_read::NamesRead;
-use cps_chunk::{Marks, mark_of};
+use cps_chunk::{KeyFilter, bit_of};
 use cps_expr::is_same_name;
 use cps_final::{Ends, Naming};
 use cps_state::{Hashing, Key};
@@ -78,7 +78,7 @@ impl<'a> Differences<'a> {
         ensures exact { IfOk result AreExact }
         ensures known { IfOk result (AreKnown read.now) }
     {
-        if ends.mend.changes.count() > FEW || !places_stand(ends) {
+        if ends.patch.changes.count() > FEW || !places_stand(ends) {
             return Ok(Differences {
                 ends,
                 labels: None,
@@ -102,7 +102,7 @@ impl<'a> Differences<'a> {
     }
 
     /// Whether what lines name may have another final value, of whose labels these have all marks.
-    pub fn may_have(&self, hashing: Hashing, marks: &Marks) -> bool
+    pub fn may_have(&self, hashing: Hashing, marks: &KeyFilter) -> bool
         ensures { result ≡ false → (ts : List Did) → AreMarked hashing marks.now (keys_named ts) → all_pass (passes self.now) (names_in ts) ≡ true }
     {
         match &self.labels {
@@ -113,12 +113,12 @@ impl<'a> Differences<'a> {
 }
 
 /// Whether one of some labels has its mark.
-fn has_label(hashing: Hashing, marks: &Marks, labels: &[Name]) -> bool
-    ensures { result ≡ list_any (λ name. has marks.now (mark_of hashing (key.Label name))) labels.now }
+fn has_label(hashing: Hashing, marks: &KeyFilter, labels: &[Name]) -> bool
+    ensures { result ≡ list_any (λ name. has marks.now (bit_of hashing (key.Label name))) labels.now }
 {
     labels
         .iter()
-        .any(|name| marks.has(mark_of(hashing, Key::Label(*name))))
+        .any(|name| marks.has(bit_of(hashing, Key::Label(*name))))
 }
 
 /// Whether one of some labels is read.
@@ -138,7 +138,7 @@ fn is_among(labels: &[Name], name: Name) -> bool
 fn places_stand(ends: Ends) -> bool
     ensures { IsTrue result → PlacesStandIn ends.entry }
 {
-    match &ends.mend.storage {
+    match &ends.patch.storage {
         Some(storage) => storage.places_stand(ends.finals.storage()),
         None => true,
     }
@@ -149,8 +149,8 @@ fn list_labels(alloc: Global, ends: Ends) -> Result<Vec<Name>, AllocError>
     ensures { IfOk result (λ labels. IsListed ends.entry labels.items) }
 {
     let mut labels = Vec::new(alloc);
-    for i in 0..ends.mend.changes.count() {
-        if let Key::Label(name) = ends.mend.changes.key(i) {
+    for i in 0..ends.patch.changes.count() {
+        if let Key::Label(name) = ends.patch.changes.key(i) {
             if !ends.label(name) {
                 labels.push(name)?;
             }

@@ -12,7 +12,7 @@ use crate::names_read::NamesRead;
 use crate::second_pass::step_two_all;
 use cps_chunk::FULL;
 use cps_edit::PassOne;
-use cps_state::{Hashing, Sheet, State, Work};
+use cps_state::{Hashing, Scratch, State, Work};
 use cps_text::Line;
 use std::alloc::{AllocError, Global};
 
@@ -33,9 +33,7 @@ pub fn kept_of(
     let room = Vec::with_capacity(alloc, lengths.len())?;
     let mut one = PassOne::new(alloc, hashing);
     let traces = one.step_all(&lines, work)?;
-    let Ok(finals) = one.finish() else {
-        unreachable!();
-    };
+    let finals = one.finish();
     let outcomes = step_two_all(alloc, &traces, &finals, work)?;
     let mut read = NamesRead::new(alloc, hashing);
     read.add_all(&outcomes)?;
@@ -50,8 +48,8 @@ pub fn kept_of(
         chunks,
         finals,
         read,
-        sheet: Sheet::new(alloc),
-        mend: None,
+        scratch: Scratch::new(alloc),
+        patch: None,
     })
 }
 

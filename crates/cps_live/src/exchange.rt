@@ -3,7 +3,7 @@ ghost use Rattle.std.specs.Prelude.{◌≡◌, ◌<◌, ◌^◌, IfOk, OnOk, OnE
 ghost use Rattle.cps_chunk.specs.Code.Chunk.{lengths_of};
 ghost use Rattle.cps_edit.specs.Compares.{ComparesUpTo, Steps};
 ghost use Rattle.cps_chunk.specs.Sparse.{AreWithin};
-ghost use Rattle.cps_live.specs.Code.Editing.{AreKept, HasRoomToMend, IsKept, IsStill, IsStillWith};
+ghost use Rattle.cps_live.specs.Code.Editing.{AreKept, HasRoomToPatch, IsKept, IsStill, IsStillWith};
 ghost use Rattle.cps_live.specs.Code.NamesRead.{HasRead, items_of};
 ghost use Rattle.cps_live.specs.Code.Exchanged.{AreMovedParts, HasPassedMoved, HasRuns, IsExchanged, IsMovedPass, IsRecutMoved, LooksOfExchange, StepsOfExchange, looks_by, redone_by};
 
@@ -12,9 +12,9 @@ use crate::first_pass::FirstPass;
 use crate::kept_source::KeptSource;
 use crate::second_pass::SecondPass;
 use crate::storage::storage_moved;
-use cps_chunk::{Baseline, Chunk, Piece, SparseItem, chunks_moved, put_all, recut_exchange};
+use cps_chunk::{Baseline, Chunk, RecutChunk, SparseItem, chunks_moved, put_all, recut_exchange};
 use cps_edit::Exchange;
-use cps_final::{Ends, Mend, Outcome};
+use cps_final::{Ends, FinalsPatch, Outcome};
 use cps_state::{Trace, Work};
 use std::alloc::AllocError;
 use std::mem::replace;
@@ -24,7 +24,7 @@ use std::mem::replace;
 struct MovedParts {
     traces: Vec<SparseItem<Trace>>,
     outcomes: Vec<SparseItem<Outcome>>,
-    pieces: Vec<Piece>,
+    pieces: Vec<RecutChunk>,
     chunks: Vec<Chunk>,
 }
 
@@ -47,12 +47,12 @@ impl KeptSource {
         let FirstPass { traces, changes } = pass;
         let traces = traces.into_renewed();
         let storage = storage_moved(self.baseline(), exchange, &traces)?;
-        let mut mend = Mend { changes, storage };
-        self.make_room_to_mend(&mend)?;
-        self.finals.exchange(&mut mend);
-        match self.pass_again(&traces, &mend, work) {
+        let mut patch = FinalsPatch { changes, storage };
+        self.make_room_to_patch(&patch)?;
+        self.finals.exchange(&mut patch);
+        match self.pass_again(&traces, &patch, work) {
             Ok(outcomes) => {
-                drop(mend);
+                drop(patch);
                 let parts = MovedParts {
                     traces,
                     outcomes,
@@ -63,14 +63,14 @@ impl KeptSource {
                 Ok(())
             }
             Err(refused) => {
-                self.finals.exchange(&mut mend);
+                self.finals.exchange(&mut patch);
                 Err(refused)
             }
         }
     }
 
     /// The chunks of an exchange, and which of the old ones each is.
-    fn pieces_of(&self, exchange: Exchange) -> Result<Vec<Piece>, AllocError>
+    fn pieces_of(&self, exchange: Exchange) -> Result<Vec<RecutChunk>, AllocError>
         requires kept { IsKept self.now }
         requires few { vec_len self.now.lines < 2 ^ 63 }
         requires runs { HasRuns (vec_len self.now.lines) exchange }
@@ -104,20 +104,20 @@ impl KeptSource {
     }
 
     /// Room for what a move changes behind the last line, once and back.
-    fn make_room_to_mend(&mut self, mend: &Mend) -> Result<(), AllocError>
+    fn make_room_to_patch(&mut self, patch: &FinalsPatch) -> Result<(), AllocError>
         requires { IsKept self.old }
         ensures kept { IsKept self.new }
         ensures still { IsStill self.old self.new }
-        ensures room { OnOk result (HasRoomToMend self.new mend.now) }
+        ensures room { OnOk result (HasRoomToPatch self.new patch.now) }
     {
-        self.finals.make_room(mend)
+        self.finals.make_room(patch)
     }
 
     /// Pass two over all lines, of which these do something new, under the final values that are kept.
     pub(crate) fn pass_again(
         &mut self,
         traces: &[SparseItem<Trace>],
-        mend: &Mend,
+        patch: &FinalsPatch,
         work: &mut Work,
     ) -> Result<Vec<SparseItem<Outcome>>, AllocError>
         requires kept { AreKept self.old }
@@ -125,10 +125,10 @@ impl KeptSource {
         requires news { AreWithin 0 (vec_len self.old.lines) traces.now }
         ensures kept { AreKept self.new }
         ensures still { IsStillWith self.old self.new }
-        ensures made { IfOk result (λ made. made.items ≡ redone_by self.old mend.now traces.now) }
+        ensures made { IfOk result (λ made. made.items ≡ redone_by self.old patch.now traces.now) }
         ensures read { IfOk result (λ made. HasRead self.new.read (items_of made.items)) }
-        ensures steps { Steps result work.old work.new 0 (length (redone_by self.old mend.now traces.now)) }
-        ensures looked { ComparesUpTo work.old work.new (looks_by self.old mend.now traces.now) }
+        ensures steps { Steps result work.old work.new 0 (length (redone_by self.old patch.now traces.now)) }
+        ensures looked { ComparesUpTo work.old work.new (looks_by self.old patch.now traces.now) }
     {
         let base = Baseline {
             alloc: self.alloc,
@@ -139,7 +139,7 @@ impl KeptSource {
         };
         let ends = Ends {
             finals: &self.finals,
-            mend,
+            patch,
         };
         let mut pass = SecondPass::new(base, ends, &self.read)?;
         pass.go_over_chunks(0, &mut self.chunks, traces, work)?;

@@ -5,14 +5,13 @@ ghost use Rattle.cps_edit.specs.Passes.{state_after, traces_from};
 ghost use Rattle.cps_chunk.specs.Code.Chunk.{AreChunksOf, lengths_of};
 ghost use Rattle.cps_chunk.specs.Replayed.{state_front};
 ghost use Rattle.cps_chunk.specs.Code.Walk.{IsBaseline, IsStillWalk, IsWalk};
-ghost use Rattle.cps_live.specs.Code.Editing.{IsCut, IsFirstPass, LooksOfFirst, StepsOfFirst, splice_of, traces_of_new};
+ghost use Rattle.cps_live.specs.Code.Editing.{IsSplice, IsFirstPass, LooksOfFirst, StepsOfFirst, splice_of, traces_of_new};
 ghost use Rattle.cps_live.specs.Code.Exchanged.{HasPassedMoved, HasRuns, IsMovedPass};
 ghost use Rattle.cps_live.specs.Code.FirstPass.{BeginsWalk, IsWalked};
 
-use crate::cut::Cut;
 use crate::moved_pass::go_over_moved;
 use crate::news::News;
-use cps_chunk::{Baseline, Chunk, Cursor, Replay, Walk};
+use cps_chunk::{Baseline, Chunk, ChunkSplice, Cursor, Replay, Walk};
 use cps_edit::Exchange;
 use cps_final::Changes;
 use cps_state::{Lookup, State, Trace, Work};
@@ -31,12 +30,12 @@ impl FirstPass {
     pub fn of_splice(
         base: Baseline,
         chunks: &mut Vec<Chunk>,
-        cut: &Cut,
+        cut: &ChunkSplice,
         work: &mut Work,
     ) -> Result<FirstPass, AllocError>
         requires base { IsBaseline base }
         requires chunks { AreChunksOf base.hashing chunks.old.items base.traces.now }
-        requires cut { IsCut base.lines.now (lengths_of chunks.old.items) cut.now }
+        requires cut { IsSplice base.lines.now (lengths_of chunks.old.items) cut.now }
         ensures pass { IfOk result (IsFirstPass base.entry.lines.now (splice_of cut.now)) }
         ensures chunks { AreChunksOf base.entry.hashing chunks.new.items base.entry.traces.now }
         ensures lengths { lengths_of chunks.new.items ≡ lengths_of chunks.old.items }
@@ -56,7 +55,7 @@ impl FirstPass {
     pub fn of_append(
         base: Baseline,
         state: &State,
-        cut: &Cut,
+        cut: &ChunkSplice,
         work: &mut Work,
     ) -> Result<FirstPass, AllocError>
         requires state { ⟦<State as Lookup>⟧.answer state.now ≡ state_after first_state base.lines.now }
@@ -111,10 +110,10 @@ impl FirstPass {
 }
 
 /// Goes over new lines, and all lines behind them. Gives what the new lines do.
-fn go_over(walk: &mut Walk, cut: &Cut, work: &mut Work) -> Result<Vec<Trace>, AllocError>
+fn go_over(walk: &mut Walk, cut: &ChunkSplice, work: &mut Work) -> Result<Vec<Trace>, AllocError>
     requires walk { IsWalk walk.old }
     requires begins { BeginsWalk walk.old }
-    requires cut { IsCut walk.old.base.lines.now (lengths_of walk.old.chunks.items) cut.now }
+    requires cut { IsSplice walk.old.base.lines.now (lengths_of walk.old.chunks.items) cut.now }
     ensures entered { IfOk result (λ entered. entered.items ≡ traces_of_new walk.old.base.lines.now cut.now) }
     ensures over { OnOk result (IsWalked walk.old walk.new (splice_of cut.now)) }
     ensures walk { IsStillWalk walk.old walk.new }

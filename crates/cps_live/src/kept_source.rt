@@ -1,19 +1,18 @@
 //! What is kept of a source, and new lines in the place of others.
 ghost use Rattle.std.specs.Prelude.{◌≡◌, ◌+◌, ◌<◌, ◌^◌, [], IfOk, OnOk, OnErr, vec_len};
 ghost use Rattle.cps_chunk.specs.Code.Chunk.{lengths_of};
-ghost use Rattle.cps_live.specs.Code.Editing.{AreKept, AreMendedEnds, AreNewTraces, AreOutcomesOf, HasPassedAgain, HasReadNews, HasRoomFor, HasRoomToMend, IsCut, IsEdited, IsFirstPass, IsKept, IsStill, IsStillWith, LooksOfFirst, LooksOfSplice, StepsOfFirst, StepsOfSplice, splice_of};
+ghost use Rattle.cps_live.specs.Code.Editing.{AreKept, ArePatchedEnds, AreNewTraces, AreOutcomesOf, HasPassedAgain, HasReadNews, HasRoomFor, HasRoomToPatch, IsSplice, IsEdited, IsFirstPass, IsKept, IsStill, IsStillWith, LooksOfFirst, LooksOfSplice, StepsOfFirst, StepsOfSplice, splice_of};
 
 use crate::chunk_list::{mark_all, put_chunks};
-use crate::cut::Cut;
 use crate::first_pass::FirstPass;
 use crate::lists::{make_room_for, put_at};
 use crate::names_read::NamesRead;
 use crate::news::News;
 use crate::second_pass::{SecondPass, step_two_all};
 use crate::storage::storage_behind;
-use cps_chunk::{Baseline, Chunk};
-use cps_final::{Ends, Finals, Gather, Mend, Outcome};
-use cps_state::{Hashing, Sheet, State, Trace, Work};
+use cps_chunk::{Baseline, Chunk, ChunkSplice};
+use cps_final::{Ends, Finals, FinalsPatch, Outcome};
+use cps_state::{Hashing, Scratch, State, Trace, Work};
 use cps_text::Line;
 use std::alloc::{AllocError, Global};
 use std::mem::replace;
@@ -33,9 +32,9 @@ pub struct KeptSource {
     /// All symbols that the lines read, and perhaps others.
     pub read: NamesRead,
     /// The lists that the next line behind the last is stepped with.
-    pub sheet: Sheet,
+    pub scratch: Scratch,
     /// What the line that was put behind the last changed there. The next one takes its room.
-    pub mend: Option<Box<Mend>>,
+    pub patch: Option<Box<FinalsPatch>>,
 }
 
 /// What the passes make of an edit, and a list for the new chunks.
@@ -53,9 +52,6 @@ impl KeptSource {
         ensures chunks { result.chunks.items ≡ [] }
         ensures kept { IsKept result }
     {
-        let Ok(finals) = Gather::new(alloc, hashing).finish() else {
-            unreachable!();
-        };
         KeptSource {
             alloc,
             hashing,
@@ -64,10 +60,10 @@ impl KeptSource {
             traces: Vec::new(alloc),
             outcomes: Vec::new(alloc),
             chunks: Vec::new(alloc),
-            finals,
+            finals: Finals::new(alloc, hashing),
             read: NamesRead::new(alloc, hashing),
-            sheet: Sheet::new(alloc),
-            mend: None,
+            scratch: Scratch::new(alloc),
+            patch: None,
         }
     }
 
@@ -84,9 +80,9 @@ impl KeptSource {
 
     /// Puts new lines in the place of others, and makes both passes of the edit. Where there is no memory, the lines stay as they are, and so does what is kept of
     /// them.
-    pub fn splice(&mut self, cut: Cut, work: &mut Work) -> Result<(), AllocError>
+    pub fn splice(&mut self, cut: ChunkSplice, work: &mut Work) -> Result<(), AllocError>
         requires kept { IsKept self.old }
-        requires cut { IsCut self.old.lines.items (lengths_of self.old.chunks.items) cut }
+        requires cut { IsSplice self.old.lines.items (lengths_of self.old.chunks.items) cut }
         requires few { vec_len self.old.lines + vec_len cut.lines < 2 ^ 63 }
         ensures kept { IsKept self.new }
         ensures ok { OnOk result (IsEdited cut self.old self.new) }
@@ -97,12 +93,12 @@ impl KeptSource {
         let pass = self.pass_one(&cut, work)?;
         let FirstPass { traces, changes } = pass;
         let storage = storage_behind(self.baseline(), self.finals.storage(), &cut, &traces)?;
-        let mut mend = Mend { changes, storage };
-        let chunks = self.make_room(&mend, &cut)?;
-        self.finals.exchange(&mut mend);
-        match self.pass_two(&cut, &traces, &mend, work) {
+        let mut patch = FinalsPatch { changes, storage };
+        let chunks = self.make_room(&patch, &cut)?;
+        self.finals.exchange(&mut patch);
+        match self.pass_two(&cut, &traces, &patch, work) {
             Ok(outcomes) => {
-                drop(mend);
+                drop(patch);
                 let parts = NewParts {
                     traces,
                     outcomes,
@@ -112,7 +108,7 @@ impl KeptSource {
                 Ok(())
             }
             Err(refused) => {
-                self.finals.exchange(&mut mend);
+                self.finals.exchange(&mut patch);
                 Err(refused)
             }
         }
@@ -135,9 +131,9 @@ impl KeptSource {
     }
 
     /// Pass one of an edit.
-    fn pass_one(&mut self, cut: &Cut, work: &mut Work) -> Result<FirstPass, AllocError>
+    fn pass_one(&mut self, cut: &ChunkSplice, work: &mut Work) -> Result<FirstPass, AllocError>
         requires kept { IsKept self.old }
-        requires cut { IsCut self.old.lines.items (lengths_of self.old.chunks.items) cut.now }
+        requires cut { IsSplice self.old.lines.items (lengths_of self.old.chunks.items) cut.now }
         ensures kept { IsKept self.new }
         ensures still { IsStill self.old self.new }
         ensures pass { IfOk result (IsFirstPass self.old.lines.items (splice_of cut.now)) }
@@ -158,35 +154,39 @@ impl KeptSource {
     }
 
     /// Room for what an edit brings. Gives a list for its chunks.
-    fn make_room(&mut self, mend: &Mend, cut: &Cut) -> Result<Vec<Chunk>, AllocError>
+    fn make_room(
+        &mut self,
+        patch: &FinalsPatch,
+        cut: &ChunkSplice,
+    ) -> Result<Vec<Chunk>, AllocError>
         requires kept { IsKept self.old }
         requires few { vec_len self.old.lines + vec_len cut.now.lines < 2 ^ 63 }
         ensures kept { IsKept self.new }
         ensures still { IsStill self.old self.new }
         ensures room { IfOk result (HasRoomFor self.new cut.now) }
-        ensures finals { OnOk result (HasRoomToMend self.new mend.now) }
+        ensures finals { OnOk result (HasRoomToPatch self.new patch.now) }
     {
         let lines = cut.lines.len();
         make_room_for(&mut self.lines, lines)?;
         make_room_for(&mut self.traces, lines)?;
         make_room_for(&mut self.outcomes, lines)?;
         make_room_for(&mut self.chunks, cut.lengths.len())?;
-        self.finals.make_room(mend)?;
+        self.finals.make_room(patch)?;
         Vec::with_capacity(self.alloc, cut.lengths.len())
     }
 
     /// Pass two of an edit, under the final values behind it.
     fn pass_two(
         &mut self,
-        cut: &Cut,
+        cut: &ChunkSplice,
         traces: &News<Trace>,
-        mend: &Mend,
+        patch: &FinalsPatch,
         work: &mut Work,
     ) -> Result<News<Outcome>, AllocError>
         requires kept { AreKept self.old }
-        requires cut { IsCut self.old.lines.items (lengths_of self.old.chunks.items) cut.now }
+        requires cut { IsSplice self.old.lines.items (lengths_of self.old.chunks.items) cut.now }
         requires traces { AreNewTraces self.old.lines.items (splice_of cut.now) traces.now }
-        requires ends { AreMendedEnds self.old mend.now cut.now }
+        requires ends { ArePatchedEnds self.old patch.now cut.now }
         ensures kept { AreKept self.new }
         ensures still { IsStillWith self.old self.new }
         ensures made { IfOk result (AreOutcomesOf self.old cut.now) }
@@ -202,7 +202,7 @@ impl KeptSource {
         };
         let ends = Ends {
             finals: &self.finals,
-            mend,
+            patch,
         };
         let entered = step_two_all(self.alloc, &traces.entered, ends.finals, work)?;
         let mut pass = SecondPass::new(base, ends, &self.read)?;
@@ -214,9 +214,9 @@ impl KeptSource {
     }
 
     /// Puts all that comes with an edit in its place, where there is room for it.
-    fn commit(&mut self, cut: Cut, parts: NewParts)
+    fn commit(&mut self, cut: ChunkSplice, parts: NewParts)
         requires kept { AreKept self.old }
-        requires cut { IsCut self.old.lines.items (lengths_of self.old.chunks.items) cut }
+        requires cut { IsSplice self.old.lines.items (lengths_of self.old.chunks.items) cut }
         requires traces { AreNewTraces self.old.lines.items (splice_of cut) parts.traces }
         requires outcomes { AreOutcomesOf self.old cut parts.outcomes }
         requires read { HasReadNews self.old.read parts.outcomes }

@@ -2,8 +2,6 @@
 //!
 //! - `append.rt`: a line behind the last
 //! - `chunk_list.rt`: the chunks of a source, kept up to date
-//! - `cut.rt`: what an edit puts in the place of what: new lines, and new chunks
-//! - `cutting.rt`: the cut that an edit of a session is
 //! - `differences.rt`: which labels have other final values
 //! - `entering.rt`: the lines that a source begins with
 //! - `exchange.rt`: two runs of lines that change places
@@ -21,8 +19,6 @@
 
 mod append;
 mod chunk_list;
-mod cut;
-mod cutting;
 mod differences;
 mod entering;
 mod exchange;
@@ -37,7 +33,5 @@ mod second_pass;
 mod session;
 mod storage;
 
-pub use cut::Cut;
-pub use entering::kept_of;
 pub use kept_source::KeptSource;
 pub use session::{EditFault, Session};

@@ -1,9 +1,18 @@
 //! Items in the place of others, without memory, and room for more.
-ghost use Rattle.std.specs.Prelude.{◌≡◌, ◌+◌, ◌≤◌, ◌++◌, OnOk, take, drop, vec_len, vec_capacity};
+ghost use Rattle.std.specs.Prelude.{◌≡◌, ◌+◌, ◌≤◌, ◌++◌, [], ◌∷◌, IfOk, OnOk, take, drop, vec_len, vec_capacity};
 ghost use Rattle.cps_live.specs.Code.Editing.{put_between};
 
 use cps_edit::Exchange;
-use std::alloc::AllocError;
+use std::alloc::{AllocError, Global};
+
+/// A list of one item.
+pub fn list_of<T: Drop>(alloc: Global, item: T) -> Result<Vec<T>, AllocError>
+    ensures { IfOk result (λ list. list.items ≡ item ∷ []) }
+{
+    let mut list = Vec::with_capacity(alloc, 1)?;
+    list.push(item)?;
+    Ok(list)
+}
 
 /// Room for so many items more. A list that is full grows by an eighth at least.
 pub fn make_room_for<T: Drop>(items: &mut Vec<T>, count: usize) -> Result<(), AllocError>

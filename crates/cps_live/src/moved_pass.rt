@@ -7,7 +7,7 @@ ghost use Rattle.cps_live.specs.Code.Exchanged.{HasPassedMoved, HasRuns};
 ghost use Rattle.cps_live.specs.Code.FirstPass.{BeginsWalk};
 ghost use Rattle.cps_live.specs.Code.MovedPass.{IsCrossed, IsMovedWalk, looks_of_runs, ones_of_runs, order_of};
 
-use cps_chunk::{Position, Span, Walk};
+use cps_chunk::{Destination, Span, Walk};
 use cps_edit::Exchange;
 use cps_state::Work;
 use std::alloc::AllocError;
@@ -32,7 +32,7 @@ pub fn go_over_moved(
         from: exchange.from,
         to: walk.end().line,
     };
-    walk.go_along(Position::Same, rest, work)?;
+    walk.go_along(Destination::Same, rest, work)?;
     Ok(order)
 }
 
@@ -74,9 +74,9 @@ fn carry_first(walk: &mut Walk, exchange: Exchange, work: &mut Work) -> Result<E
         to: from,
     };
     walk.close(keep, mid)?;
-    walk.go_along(Position::Same, second, work)?;
+    walk.go_along(Destination::Same, second, work)?;
     let made = walk.made();
-    walk.go_along(Position::Behind(from), first, work)?;
+    walk.go_along(Destination::Behind(from), first, work)?;
     walk.close(from, from)?;
     Ok(Exchange {
         keep: 0,
@@ -109,10 +109,10 @@ fn carry_second(
         from: mid,
         to: from,
     };
-    walk.go_along(Position::Behind(keep), second, work)?;
+    walk.go_along(Destination::Behind(keep), second, work)?;
     let made = walk.made();
     walk.close(keep, keep)?;
-    walk.go_along(Position::Same, first, work)?;
+    walk.go_along(Destination::Same, first, work)?;
     walk.close(mid, from)?;
     Ok(Exchange {
         keep: 0,

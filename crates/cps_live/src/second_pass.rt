@@ -2,7 +2,7 @@
 ghost use Rattle.std.specs.Prelude.{◌≡◌, ◌+◌, ◌-◌, ◌≤◌, ◌++◌, [], IfOk, IsTrue, List, OnOk, length, true, drop, sum, if◌then◌else◌};
 ghost use Rattle.cps_state.specs.Course.{Trace as Did};
 ghost use Rattle.cps_final.specs.Resolving.{resolved};
-ghost use Rattle.cps_final.specs.Names.{names_in, all_pass};
+ghost use Rattle.cps_final.specs.NamedFinals.{names_in, all_pass};
 ghost use Rattle.cps_edit.specs.Compares.{ComparesUpTo, Steps};
 ghost use Rattle.cps_edit.specs.Passes.{outcomes_by};
 ghost use Rattle.cps_chunk.specs.Code.Chunk.{AreChunksOf, IsChunkOf, lengths_of};
@@ -12,10 +12,9 @@ ghost use Rattle.cps_chunk.specs.Code.Walk.{stretch};
 ghost use Rattle.cps_live.specs.Code.NamesRead.{HasReadBy};
 ghost use Rattle.cps_live.specs.Code.SecondPass.{AreStillChunks, CutsAround, GoesAround, GoesOver, IsExactPass, IsStillChunk, NameTheSame, NoneDiffers, StandFrom, StepsAround, is_same_in, looks_around, looks_at, looks_in, redone_in};
 
-use crate::cut::Cut;
 use crate::differences::Differences;
 use crate::names_read::NamesRead;
-use cps_chunk::{Baseline, Chunk, Redo, SparseItem, part};
+use cps_chunk::{Baseline, Chunk, ChunkSplice, Redo, SparseItem, part};
 use cps_final::{Ends, Finals, Outcome, step_two};
 use cps_state::{Trace, Work};
 use std::alloc::{AllocError, Global};
@@ -150,7 +149,7 @@ impl<'a> SecondPass<'a> {
     /// Goes over lines one by one, from one on up to another, of which these are new. Where nothing differs that they name, and none is new, none is compared.
     fn go_over_lines(
         &mut self,
-        lines: Stretch,
+        lines: ComparedSpan,
         news: &[SparseItem<Trace>],
         work: &mut Work,
     ) -> Result<(), AllocError>
@@ -173,7 +172,7 @@ impl<'a> SecondPass<'a> {
     pub fn go_around(
         &mut self,
         chunks: &mut [Chunk],
-        cut: &Cut,
+        cut: &ChunkSplice,
         news: &[SparseItem<Trace>],
         work: &mut Work,
     ) -> Result<(), AllocError>
@@ -188,12 +187,12 @@ impl<'a> SecondPass<'a> {
         let (in_front, rest) = chunks.split_at_mut(cut.start);
         let (between, behind) = rest.split_at_mut(cut.end - cut.start);
         let none_differs = self.none_differs(between);
-        let kept = Stretch {
+        let kept = ComparedSpan {
             from: cut.before,
             to: cut.keep,
             none_differs,
         };
-        let loose = Stretch {
+        let loose = ComparedSpan {
             from: cut.from,
             to: cut.behind,
             none_differs,
@@ -221,7 +220,7 @@ impl<'a> SecondPass<'a> {
 
 /// Lines from one on up to another, and whether nothing that they name has another final value, if that is known.
 #[derive(Clone, Copy)]
-struct Stretch {
+struct ComparedSpan {
     from: usize,
     to: usize,
     none_differs: bool,

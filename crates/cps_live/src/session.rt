@@ -5,19 +5,20 @@ ghost use Rattle.cps_chunk.specs.Division.{IsDivision, inserted_at, deleted_at};
 ghost use Rattle.cps_chunk.specs.Recut.{recut as recut_by};
 ghost use Rattle.cps_edit.specs.Compares.{Steps};
 ghost use Rattle.cps_edit.specs.Splice.{splice_at, spliced, insertion, replacement, deletion};
-ghost use Rattle.cps_live.specs.Code.Editing.{IsCut, splice_of};
+ghost use Rattle.cps_live.specs.Code.Editing.{IsSplice, splice_of};
 ghost use Rattle.cps_live.specs.Entering.{full_chunks};
 ghost use Rattle.cps_edit.specs.Assembly.{assembly_of, traces_of};
 ghost use Rattle.cps_edit.specs.Flagged.{flagged_lines as flagged_in};
 ghost use Rattle.cps_edit.specs.Exchange.{exchanged, move};
 ghost use Rattle.cps_chunk.specs.Exchange.{exchanged_at, moved_at};
-ghost use Rattle.cps_live.specs.Code.Cutting.{edit_of, lengths_with};
+ghost use Rattle.cps_chunk.specs.Put.{put_at};
 ghost use Rattle.cps_live.specs.Edits.{HasLine, LacksLine, HasLines, LacksLines, HasMove, LacksMove, LacksPlace, MayPut, MayNotPut, IsPut, put_of, without_lines, WorkOfEdit, WorkOfMove, LooksOfAppend, LooksOfEdit, LooksOfMove, LooksOfPut, LooksOfExchange};
 
-use crate::cut::Cut;
-use crate::cutting::{NewLines, cut_for, list_of};
 use crate::entering::kept_of;
 use crate::kept_source::KeptSource;
+use crate::lists::list_of;
+use cps_chunk::ChunkSplice;
+use cps_chunk::division_laws::a_put_divides_again;
 use cps_edit::{Exchange, flagged_lines};
 use cps_final::{Finals, Outcome};
 use cps_list::{Part, View, make_text};
@@ -201,12 +202,7 @@ impl Session {
         let Ok(lines) = list_of(self.alloc, line) else {
             return Err(EditFault::Memory);
         };
-        let new = NewLines {
-            keep: after,
-            from: after,
-            lines,
-        };
-        self.put_new(new, work)
+        self.put_new(after, after, lines, work)
     }
 
     /// Puts a line in place of line `at`, where lines count from 1. A line that is refused is dropped.
@@ -228,12 +224,7 @@ impl Session {
         let Ok(lines) = list_of(self.alloc, line) else {
             return Err(EditFault::Memory);
         };
-        let new = NewLines {
-            keep: at - 1,
-            from: at,
-            lines,
-        };
-        self.put_new(new, work)
+        self.put_new(at - 1, at, lines, work)
     }
 
     /// Deletes the lines from `first` to `last`, where lines count from 1.
@@ -251,12 +242,9 @@ impl Session {
         if first == 0 || last < first || last as usize > self.kept.lines.len() {
             return Err(EditFault::NoSuchLine);
         }
-        let new = NewLines {
-            keep: first as usize - 1,
-            from: last as usize,
-            lines: Vec::new(self.alloc),
-        };
-        self.put_new(new, work)
+        let keep = first as usize - 1;
+        let lines = Vec::new(self.alloc);
+        self.put_new(keep, last as usize, lines, work)
     }
 
     /// Puts lines in the place of those from `first` to `last`, where lines count from 1; in front of line `first`, where `last` is the number before it. Both
@@ -285,27 +273,34 @@ impl Session {
         if lines.len() > MOST_LINES - (count - (from - keep)) {
             return Err(EditFault::TooManyLines);
         }
-        self.put_new(NewLines { keep, from, lines }, work)
+        self.put_new(keep, from, lines, work)
     }
 
-    /// Puts new lines in their places.
-    fn put_new(&mut self, new: NewLines, work: &mut Work) -> Result<(), EditFault>
-        requires places { (new.keep ≤ new.from) × (new.from ≤ length self.old.lines) }
-        requires few { length (spliced self.old.lines (edit_of new)) ≤ MOST_LINES }
-        ensures ok { OnOk result (self.new.lines ≡ spliced self.old.lines (edit_of new)) }
-        ensures lengths { OnOk result (self.new.lengths ≡ lengths_with new self.old.lengths) }
+    /// Puts new lines in the place of those after the first `keep` up to the first `from`.
+    fn put_new(
+        &mut self,
+        keep: usize,
+        from: usize,
+        lines: Vec<Line>,
+        work: &mut Work,
+    ) -> Result<(), EditFault>
+        requires places { (keep ≤ from) × (from ≤ length self.old.lines) }
+        requires few { length (spliced self.old.lines (splice_at keep from lines.items)) ≤ MOST_LINES }
+        ensures ok { OnOk result (self.new.lines ≡ spliced self.old.lines (splice_at keep from lines.items)) }
+        ensures lengths { OnOk result (self.new.lengths ≡ put_at keep (from - keep) (length lines.items) self.old.lengths) }
         ensures err { OnErr result (self.new ≡ self.old) }
         ensures only { OnErr result (IsErrOf result EditFault.Memory) }
-        ensures work { WorkOfEdit result self.old.lines (edit_of new) work.old work.new }
-        ensures looked { LooksOfEdit self.old (edit_of new) (lengths_with new self.old.lengths) work.old work.new }
+        ensures work { WorkOfEdit result self.old.lines (splice_at keep from lines.items) work.old work.new }
+        ensures looked { LooksOfEdit self.old (splice_at keep from lines.items) (put_at keep (from - keep) (length lines.items) self.old.lengths) work.old work.new }
     {
+        a_put_divides_again();
         let Ok(lengths) = self.chunk_lengths() else {
             return Err(EditFault::Memory);
         };
-        let Ok(cut) = cut_for(self.alloc, &lengths, new) else {
+        let Ok(splice) = ChunkSplice::of(self.alloc, &lengths, keep, from, lines) else {
             return Err(EditFault::Memory);
         };
-        self.splice(cut, work)
+        self.splice(splice, work)
     }
 
     /// Moves the lines from `first` to `last` after line `after`, 0 for the front, where lines count from 1, as they stand before the move. After line
@@ -377,8 +372,8 @@ impl Session {
     }
 
     /// Puts new lines in the place of others.
-    fn splice(&mut self, cut: Cut, work: &mut Work) -> Result<(), EditFault>
-        requires cut { IsCut self.old.lines self.old.lengths cut }
+    fn splice(&mut self, cut: ChunkSplice, work: &mut Work) -> Result<(), EditFault>
+        requires cut { IsSplice self.old.lines self.old.lengths cut }
         requires few { length (spliced self.old.lines (splice_of cut)) ≤ MOST_LINES }
         ensures ok { OnOk result (self.new.lines ≡ spliced self.old.lines (splice_of cut)) }
         ensures lengths { OnOk result (self.new.lengths ≡ recut_by cut.start cut.end cut.lengths.items self.old.lengths) }

@@ -7,10 +7,9 @@ ghost use Rattle.cps_edit.specs.Exchange.{exchanged};
 ghost use Rattle.cps_live.specs.Code.Exchanged.{HasRuns};
 ghost use Rattle.cps_live.specs.Code.Storing.{IsStoredBehind, edited, left_by_each};
 
-use crate::cut::Cut;
 use crate::news::News;
 use crate::second_pass::split_before;
-use cps_chunk::{Baseline, SparseItem, leave_same, store_all, store_renewed};
+use cps_chunk::{Baseline, ChunkSplice, SparseItem, leave_same, store_all, store_renewed};
 use cps_edit::Exchange;
 use cps_final::Storage;
 use cps_state::Trace;
@@ -21,7 +20,7 @@ use std::slice::from_ref;
 pub fn storage_behind(
     base: Baseline,
     storage: &Storage,
-    cut: &Cut,
+    cut: &ChunkSplice,
     traces: &News<Trace>,
 ) -> Result<Option<Storage>, AllocError>
     requires stored { IsStored storage.now base.traces.now }

@@ -5,7 +5,7 @@ use Rattle.cps_text.specs.Insertion.{Pairs}
 use Rattle.cps_state.specs.Course.{Course, begin, Part}
 use Rattle.cps_state.specs.Code.Line.{Line, runs, goes_on, Goes}
 use Rattle.cps_state.specs.Keys.{State}
-use Rattle.cps_pass.specs.Cards.{card_in}
+use Rattle.cps_text.specs.CardIn.{card_in}
 use Rattle.cps_pass.specs.Locals.{local_in, naming_all}
 use Rattle.cps_pass.specs.Code.Naming.{Names}
 

@@ -1,6 +1,6 @@
 -- One field more of a VFD.
 use Rattle.std.proofs.Common.{◌≡◌, Bool, true, false, ◌||◌, refl, sym, ap, ◌∙◌, List, [], ◌∷◌, ◌++◌, length, suc-ne-zero, append-nil, append_assoc}
-use Rattle.cps_expr.specs.declared.row.Field.{Field}
+use Rattle.cps_expr.specs.declared.pseudo.Field.{Field}
 use Rattle.cps_expr.specs.declared.value.Value.{Value}
 use Rattle.cps_expr.specs.Expression.{Expression}
 use Rattle.cps_state.specs.declared.flags.Flags.{Flags}

@@ -184,11 +184,11 @@ lined text later o complete f r s u t hands settled goes =
     ∙ at-end complete f t
 
 -- what a line did in its state
-pub done-is : {S : Type 0} (course : Course) (f : S → State) (front : List Item) (state : S) (t : Line S) (complete : Bool)
-    → runs course f (line_started front state) ≡ (t, complete) → (t.done, complete) ≡ run course (f state) started
-done-is {S} course f front state t complete is = ap (λ (r : Line S × Bool). (r.0.done, r.1)) (sym is) ∙ runs-done course f state front started
+pub done-is : {S : Type 0} (course : Course) (f : S → State) (context : List Item) (state : S) (t : Line S) (complete : Bool)
+    → runs course f (line_started context state) ≡ (t, complete) → (t.done, complete) ≡ run course (f state) started
+done-is {S} course f context state t complete is = ap (λ (r : Line S × Bool). (r.0.done, r.1)) (sym is) ∙ runs-done course f state context started
 
 -- the statements of the lines before stay
-pub before-stays : {S : Type 0} (course : Course) (f : S → State) (front : List Item) (state : S) (t : Line S) (complete : Bool)
-    → runs course f (line_started front state) ≡ (t, complete) → t.before ≡ front
-before-stays {S} course f front state t complete is = ap (λ (r : Line S × Bool). r.0.before) (sym is) ∙ runs-before course f state front started
+pub before-stays : {S : Type 0} (course : Course) (f : S → State) (context : List Item) (state : S) (t : Line S) (complete : Bool)
+    → runs course f (line_started context state) ≡ (t, complete) → t.before ≡ context
+before-stays {S} course f context state t complete is = ap (λ (r : Line S × Bool). r.0.before) (sym is) ∙ runs-before course f state context started

@@ -1,7 +1,7 @@
 -- VFD: fields of any width, from any bit on. From the manual's description of VFD; the flag for a width is our profile's.
 use Rattle.std.specs.Prelude.{ℕ, Bool, true, false, nat_lt, List, [], ◌∷◌, Option, None, Some, if◌then◌else◌}
 use Rattle.std.specs.List.{list_all}
-use Rattle.cps_expr.specs.declared.row.Field.{Field}
+use Rattle.cps_expr.specs.declared.pseudo.Field.{Field}
 use Rattle.cps_expr.specs.declared.value.Value.{Value as AValue}
 use Rattle.cps_expr.specs.Expression.{Expression}
 use Rattle.cps_state.specs.declared.flags.Flags.{Flags}

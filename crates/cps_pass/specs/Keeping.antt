@@ -7,7 +7,7 @@ use Rattle.cps_state.specs.declared.flags.Flags.{Flags}
 use Rattle.cps_state.specs.declared.key.DupBody.{DupBody}
 use Rattle.cps_state.specs.declared.key.Extent.{Extent}
 use Rattle.cps_state.specs.declared.key.Extent.TheVariants.{Counted, ToEndd}
-use Rattle.cps_state.specs.declared.key.Kept.{Kept}
+use Rattle.cps_state.specs.declared.key.KeptLines.{KeptLines}
 use Rattle.cps_state.specs.declared.key.MacroBody.{MacroBody}
 use Rattle.cps_state.specs.declared.key.Mode.{Mode}
 use Rattle.cps_state.specs.declared.key.Mode.TheVariants.{Normal, KeepMacro, KeepDup}
@@ -26,17 +26,17 @@ use Rattle.cps_pass.specs.Skipping.{deeper}
 abbrev pub most_body : ℕ
 most_body = MOST_BODY_LINES
 
-abbrev pub no_lines : Kept
+abbrev pub no_lines : KeptLines
 no_lines = record { lines = 0; is_over = false }
 
 -- one line more of a body, with which it goes on so; past the most it has E, and isn't kept
-abbrev pub one_more : (Kept → Mode) → Kept → Treatment
+abbrev pub one_more : (KeptLines → Mode) → KeptLines → Treatment
 one_more going kept =
     if nat_lt kept.lines most_body then Passes (going (record kept { lines = kept.lines + 1 })) (Some kept.lines) no_flags
     else Passes (going (record kept { is_over = true })) None (record no_flags { structure = true })
 
 -- a body is too long where lines past the most came, or where more than the most are counted, which no source leads to
-abbrev pub is_too_long : Kept → Bool
+abbrev pub is_too_long : KeptLines → Bool
 is_too_long kept = kept.is_over || nat_lt most_body kept.lines
 
 -- the line that closes a body that is too long, or one that is dropped: lines are assembled again
@@ -45,7 +45,7 @@ dropping flags = Passes Normal None flags
 
 -- ---- the body of a macro
 
-abbrev pub macro_with : MacroBody → Kept → Mode
+abbrev pub macro_with : MacroBody → KeptLines → Mode
 macro_with body kept = KeepMacro (record body { kept = kept })
 
 -- None: the definition is dropped
@@ -65,7 +65,7 @@ kept_for_macro body _ = one_more (macro_with body) body.kept
 
 -- ---- the lines of DUP
 
-abbrev pub dup_with : DupBody → Extent → Kept → Mode
+abbrev pub dup_with : DupBody → Extent → KeptLines → Mode
 dup_with body extent kept = KeepDup (record { times = body.times; extent = extent; kept = kept })
 
 -- the line that closes them: they are opened, with this line or without it; E and none where there were too many

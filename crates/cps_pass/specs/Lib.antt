@@ -16,7 +16,6 @@ pub mod Symbols
 pub mod Use
 pub mod ValueNow
 pub mod Words
-pub mod Cards
 pub mod Locals
 pub mod Keeping
 pub mod Macros

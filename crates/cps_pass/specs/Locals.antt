@@ -21,7 +21,7 @@ use Rattle.cps_pass.specs.declared.reading.Location.{Location}
 use Rattle.cps_pass.specs.Reading.{location_in}
 use Rattle.cps_pass.specs.Located.{present_flags}
 use Rattle.cps_pass.specs.Making.{flagged, unread}
-use Rattle.cps_pass.specs.Cards.{card_in}
+use Rattle.cps_text.specs.CardIn.{card_in}
 
 -- ---- the LOCAL lines of a body: those that it begins with whose operation, as written, is LOCAL
 

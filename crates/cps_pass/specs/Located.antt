@@ -8,8 +8,8 @@ use Rattle.cps_state.specs.declared.key.Answer.TheVariants as answer
 use Rattle.cps_state.specs.Course.{Part, nothing, ◌before◌, asking, putting, telling_if}
 use Rattle.cps_state.specs.Keys.{value_of}
 use Rattle.cps_state.specs.Made.{no_flags}
-use Rattle.cps_pass.specs.declared.located.Standing.{Standing}
-use Rattle.cps_pass.specs.declared.located.Standing.TheVariants.{Free, Labelled, Set}
+use Rattle.cps_pass.specs.declared.located.Definition.{Definition}
+use Rattle.cps_pass.specs.declared.located.Definition.TheVariants.{Free, Labelled, Set}
 use Rattle.cps_pass.specs.declared.reading.Location.{Location}
 use Rattle.cps_pass.specs.declared.reading.Location.TheVariants.{Absent, Plus, Minus, Symbol, NoSymbol}
 
@@ -35,28 +35,28 @@ symbol_in NoSymbol = None
 
 -- ---- what a symbol stands for already
 
-abbrev pub standing_by : Option AValue → Option AValue → Standing
-standing_by (Some label) setting = Labelled
-standing_by None (Some value) = Set
-standing_by None None = Free
+abbrev pub defined_by : Option AValue → Option AValue → Definition
+defined_by (Some label) setting = Labelled
+defined_by None (Some value) = Set
+defined_by None None = Free
 
-abbrev pub is_labelled : Standing → Bool
+abbrev pub is_labelled : Definition → Bool
 is_labelled Free = false
 is_labelled Labelled = true
 is_labelled Set = false
 
-abbrev pub has_value : Standing → Bool
+abbrev pub has_value : Definition → Bool
 has_value Free = false
 has_value Labelled = true
 has_value Set = true
 
-abbrev pub asking_standing : Name → (Standing → Part) → Part
-asking_standing name next = asking (key.Label name) (λ a. asking (key.Setting name) (λ b. next (standing_by (value_of a) (value_of b))))
+abbrev pub asking_definition : Name → (Definition → Part) → Part
+asking_definition name next = asking (key.Label name) (λ a. asking (key.Setting name) (λ b. next (defined_by (value_of a) (value_of b))))
 
 -- asking whether a symbol has a value already: one that has counts as read; where there is no symbol nothing is asked
 abbrev pub asking_taken : Option Name → (Bool → Part) → Part
 asking_taken None next = next false
-asking_taken (Some name) next = asking_standing name (λ standing. telling_if (has_value standing) name before next (has_value standing))
+asking_taken (Some name) next = asking_definition name (λ definition. telling_if (has_value definition) name before next (has_value definition))
 
 -- a symbol gets a value; one that has a value keeps it
 abbrev pub defining : Option Name → Bool → AValue → Part

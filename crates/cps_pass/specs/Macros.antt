@@ -19,7 +19,7 @@ use Rattle.cps_pass.specs.declared.reading.Location.{Location}
 use Rattle.cps_pass.specs.declared.reading.Location.TheVariants.{Absent, Plus, Minus, Symbol, NoSymbol}
 use Rattle.cps_pass.specs.declared.placing.Site.{Site}
 use Rattle.cps_pass.specs.Places.{filling_between, here_at}
-use Rattle.cps_pass.specs.Placing.{asking_site, placing_flags, settling, word_start}
+use Rattle.cps_pass.specs.Placing.{asking_site, placing_flags, advancing, word_start}
 use Rattle.cps_pass.specs.declared.scope.Scope.{Scope}
 use Rattle.cps_pass.specs.Keeping.{no_lines}
 use Rattle.cps_pass.specs.Opening.{Opening, plain, naming, none_opened}
@@ -60,7 +60,7 @@ labelled site = record (nothing_made (placing_flags site)) {
 
 abbrev pub labelling : Control → Location → (Made → Part) → Part
 labelling control location next =
-    asking_site control location (λ site. settling site (word_start site) (word_start site) false before next (labelled site))
+    asking_site control location (λ site. advancing site (word_start site) (word_start site) false before next (labelled site))
 
 abbrev pub call_at : Control → Location → (Made → Part) → Part
 call_at control Absent next = next (nothing_made no_flags)

@@ -5,8 +5,8 @@ use Rattle.cps_text.specs.declared.name.Name.{Name}
 use Rattle.cps_text.specs.Card.{StatementFields, LineFields, CommentLine, ContinuedLine, StatementLine}
 use Rattle.cps_expr.specs.declared.operation.Operation.{Operation}
 use Rattle.cps_expr.specs.declared.operation.Operation.TheVariants as operation
-use Rattle.cps_expr.specs.declared.row.Row.{Row}
-use Rattle.cps_expr.specs.declared.row.Row.TheVariants as row
+use Rattle.cps_expr.specs.declared.pseudo.Pseudo.{Pseudo}
+use Rattle.cps_expr.specs.declared.pseudo.Pseudo.TheVariants as row
 use Rattle.cps_expr.specs.Operation.{operation_named}
 use Rattle.cps_state.specs.declared.key.Key.TheVariants as key
 use Rattle.cps_state.specs.declared.key.Control.{Control}
@@ -19,9 +19,9 @@ use Rattle.cps_state.specs.Course.{Part, ◌before◌, asking}
 use Rattle.cps_state.specs.Keys.{control_of, mode_of, macro_of}
 use Rattle.cps_state.specs.Made.{no_flags}
 use Rattle.cps_pass.specs.declared.reading.Location.{Location}
-use Rattle.cps_pass.specs.declared.reading.Stating.{Stating}
-use Rattle.cps_pass.specs.declared.reading.Stating.TheVariants.{Missing, Unknown, Stated, Unreadable, Instruction, Peripheral}
-use Rattle.cps_pass.specs.Reading.{location_in, stating_in}
+use Rattle.cps_pass.specs.declared.reading.Reading.{Reading}
+use Rattle.cps_pass.specs.declared.reading.Reading.TheVariants.{Missing, Unknown, Stated, Unreadable, Instruction, Peripheral}
+use Rattle.cps_pass.specs.Reading.{location_in, reading_in}
 use Rattle.cps_pass.specs.End.{end}
 use Rattle.cps_pass.specs.Head.{leaving_head}
 use Rattle.cps_pass.specs.Instruction.{instruction, peripheral_instruction}
@@ -30,7 +30,7 @@ use Rattle.cps_pass.specs.Places.{asking_place}
 use Rattle.cps_pass.specs.Statements.{obeyed_plainly, unreadable_plainly}
 use Rattle.cps_pass.specs.declared.scope.Scope.{Scope}
 use Rattle.cps_pass.specs.declared.scope.Scope.TheVariants.{Source, Expansion}
-use Rattle.cps_pass.specs.Cards.{card_in}
+use Rattle.cps_text.specs.CardIn.{card_in}
 use Rattle.cps_pass.specs.Keeping.{kept_for_macro, kept_for_dup}
 use Rattle.cps_pass.specs.Macros.{calling, macro_from}
 use Rattle.cps_pass.specs.Ranges.{if_compared, if_defined, else_of, endif_of}
@@ -42,7 +42,7 @@ use Rattle.cps_pass.specs.Treating.{treated}
 
 -- ---- what stays in the head of a program: all but these end it
 
-abbrev pub row_stays : Row → Bool
+abbrev pub row_stays : Pseudo → Bool
 row_stays (row.Ident name) = true
 row_stays row.Abs = true
 row_stays row.Periph = true
@@ -64,7 +64,7 @@ operation_stays operation.Macro = true
 operation_stays _ = false
 
 -- and a statement without an operation
-abbrev pub stays_in_head : Stating → Bool
+abbrev pub stays_in_head : Reading → Bool
 stays_in_head Missing = true
 stays_in_head (Unknown name) = false
 stays_in_head (Stated row) = row_stays row
@@ -88,7 +88,7 @@ abbrev pub end_within : Control → Part
 end_within control = asking_place control (λ place. misplaced)
 
 -- with its operands
-abbrev pub obeyed : Control → Scope → Location → Row → (Scope → Part) → Part
+abbrev pub obeyed : Control → Scope → Location → Pseudo → (Scope → Part) → Part
 obeyed control scope location (row.Macro parameters) next = macro control scope location (Some parameters) next
 obeyed control scope location row.Endm next = endm scope location before next scope
 obeyed control scope location (row.Compare test) next = if_compared control scope location test next
@@ -115,7 +115,7 @@ abbrev pub calling_named : Control → Scope → Location → List ℕ → Optio
 calling_named control scope location tail None behind = unknown before opens_nothing behind scope
 calling_named control scope location tail (Some name) behind = asking (key.Macro name) (λ a. calling_if control scope location tail (macro_of a) behind)
 
-abbrev pub stated : Control → Scope → Location → List ℕ → Stating → Behind → Part
+abbrev pub stated : Control → Scope → Location → List ℕ → Reading → Behind → Part
 stated control scope location tail Missing behind = unknown before opens_nothing behind scope
 stated control scope location tail (Unknown name) behind = calling_named control scope location tail name behind
 stated control scope location tail (Stated row) behind = obeyed control scope location row (opens_nothing behind)
@@ -124,16 +124,16 @@ stated control scope location tail (Instruction form) behind = instruction contr
 stated control scope location tail (Peripheral form) behind = peripheral_instruction control location form before opens_nothing behind scope
 
 -- the head ends, unless the statement stays in it
-abbrev pub assembled_as : Control → Scope → Location → List ℕ → Stating → Behind → Part
-assembled_as control scope location tail stating behind =
-    leaving_head (stays_in_head stating) control (λ there. stated there scope location tail stating behind)
+abbrev pub assembled_as : Control → Scope → Location → List ℕ → Reading → Behind → Part
+assembled_as control scope location tail reading behind =
+    leaving_head (stays_in_head reading) control (λ there. stated there scope location tail reading behind)
 
 -- the machine and the base of numbers decide how a statement is read; a line that continues the one before isn't read
 abbrev pub assembled : Control → Scope → LineFields → Behind → Part
 assembled control scope CommentLine behind = flagged no_flags before opens_nothing behind scope
 assembled control scope ContinuedLine behind = misplaced before opens_nothing behind scope
 assembled control scope (StatementLine statement) behind =
-    assembled_as control scope (location_in statement.location) statement.tail (stating_in control.machine control.radix statement.operation statement.tail) behind
+    assembled_as control scope (location_in statement.location) statement.tail (reading_in control.machine control.radix statement.operation statement.tail) behind
 
 -- ---- by the mode
 

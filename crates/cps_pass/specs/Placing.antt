@@ -11,7 +11,7 @@ use Rattle.cps_state.specs.declared.flags.Flags.{Flags}
 use Rattle.cps_state.specs.declared.key.Control.{Control}
 use Rattle.cps_state.specs.declared.key.Key.TheVariants as key
 use Rattle.cps_state.specs.declared.made.Content.{Content}
-use Rattle.cps_state.specs.declared.made.Held.{Held}
+use Rattle.cps_state.specs.declared.made.SetValue.{SetValue}
 use Rattle.cps_state.specs.Course.{Part, ◌before◌, asking, fill}
 use Rattle.cps_state.specs.Keys.{value_of}
 use Rattle.cps_state.specs.Machines.{limit}
@@ -69,7 +69,7 @@ far_flags site = record (placing_flags site) { structure = true }
 
 -- ---- the values that SET gave to the symbols that its contents read
 
-abbrev pub held_of : Name → Option AValue → List Held
+abbrev pub held_of : Name → Option AValue → List SetValue
 held_of name None = []
 held_of name (Some value) = record { name = name; value = value } ∷ []
 
@@ -77,17 +77,17 @@ held_of name (Some value) = record { name = name; value = value } ∷ []
 abbrev pub setting_now : Name → (Option AValue → Part) → Part
 setting_now name next = asking (key.Setting name) (λ a. next (value_of a))
 
-abbrev pub settings_now : List Name → (List Held → Part) → Part
+abbrev pub settings_now : List Name → (List SetValue → Part) → Part
 settings_now [] next = next []
 settings_now (name ∷ names) next = setting_now name (λ value. settings_now names (λ held. next (held_of name value ++ held)))
 
-abbrev pub holding : List Content → (List Held → Part) → Part
+abbrev pub holding : List Content → (List SetValue → Part) → Part
 holding contents next = settings_now (flat_map content_names contents) next
 
 -- ---- what it puts and makes
 
 -- contents that only give flags
-abbrev pub only_flagging : Flags → Site → List Piece → ℕ → List Content → List Held → Made
+abbrev pub only_flagging : Flags → Site → List Piece → ℕ → List Content → List SetValue → Made
 only_flagging flags site filling start contents held = record (nothing_made flags) {
   machine = site.machine;
   filling = filling;
@@ -98,27 +98,27 @@ only_flagging flags site filling start contents held = record (nothing_made flag
 }
 
 -- the block goes on at a place, and the symbol gets the address of the statement's first word
-abbrev pub settling : Site → ℕ → ℕ → Bool → Part
-settling site start after is_pending = going_on site.block after is_pending before defining (symbol_in site.location) site.is_taken (here_at site.block start)
+abbrev pub advancing : Site → ℕ → ℕ → Bool → Part
+advancing site start after is_pending = going_on site.block after is_pending before defining (symbol_in site.location) site.is_taken (here_at site.block start)
 
 -- One that makes nothing because of its operands: it forces, and its symbol is defined. The flags tell what is wrong with them.
 unfoldable pub unplaced : Flags → Site → ℕ → List Content → Part
 unplaced flags site start contents = holding contents (λ held.
-    settling site start start false before fill (only_flagging flags site (filling_between (position site.place) start) start contents held))
+    advancing site start start false before fill (only_flagging flags site (filling_between (position site.place) start) start contents held))
 
 -- with unreadable operands
 abbrev pub unread_from : Site → ℕ → Part
 unread_from site start = unplaced (unread_flags site) site start []
 
 -- One that would pass the machine's words makes nothing; nothing is put.
-abbrev pub too_far : Site → ℕ → List Content → List Held → Part
+abbrev pub too_far : Site → ℕ → List Content → List SetValue → Part
 too_far site start contents held = fill (only_flagging (far_flags site) site [] start contents held)
 
 -- contents from a place on up to another
-abbrev pub placed_to : Site → ℕ → List Content → Bool → ℕ → List Held → Part
+abbrev pub placed_to : Site → ℕ → List Content → Bool → ℕ → List SetValue → Part
 placed_to site start contents is_pending end held =
     if nat_lt (60 * limit site.machine) end then too_far site start contents held
-    else settling site start (rounded_up site.machine end) is_pending
+    else advancing site start (rounded_up site.machine end) is_pending
     before fill (record (nothing_made (placing_flags site)) {
       machine = site.machine;
       filling = filling_between (position site.place) start;

@@ -6,14 +6,14 @@ use Rattle.std.specs.Ordering.{int_eq}
 use Rattle.cps_text.specs.declared.limits.TheConstants.{MOST_COUNTED_LINES}
 use Rattle.cps_expr.specs.declared.operation.Relation.{Relation}
 use Rattle.cps_expr.specs.declared.operation.Relation.TheVariants.{Equal, NotEqual, Greater, GreaterOrEqual, Less, LessOrEqual}
-use Rattle.cps_expr.specs.declared.row.SymbolTest.{SymbolTest}
-use Rattle.cps_expr.specs.declared.row.Comparison.{Comparison}
+use Rattle.cps_expr.specs.declared.pseudo.SymbolTest.{SymbolTest}
+use Rattle.cps_expr.specs.declared.pseudo.ValueTest.{ValueTest}
 use Rattle.cps_expr.specs.Expression.{Expression}
 use Rattle.cps_state.specs.declared.flags.Flags.{Flags}
 use Rattle.cps_state.specs.declared.key.Control.{Control}
 use Rattle.cps_state.specs.declared.key.Mode.TheVariants.{SkipLines, SkipRange}
-use Rattle.cps_state.specs.declared.key.Range.{Range}
-use Rattle.cps_state.specs.declared.key.Range.TheVariants.{BeforeElse, BehindElse}
+use Rattle.cps_state.specs.declared.key.OpenRange.{OpenRange}
+use Rattle.cps_state.specs.declared.key.OpenRange.TheVariants.{BeforeElse, BehindElse}
 use Rattle.cps_state.specs.Course.{Part, ◌before◌, tell}
 use Rattle.cps_state.specs.Flags.{joined}
 use Rattle.cps_state.specs.Keys.{most_ranges, same_block}
@@ -22,7 +22,7 @@ use Rattle.cps_pass.specs.declared.ranges.Tested.{Tested}
 use Rattle.cps_pass.specs.declared.reading.Location.{Location}
 use Rattle.cps_pass.specs.declared.value_now.ValueNow.{ValueNow}
 use Rattle.cps_pass.specs.declared.value_now.ValueNow.TheVariants.{Undefined, NoValue, Known}
-use Rattle.cps_pass.specs.Located.{present_flags, has_value, asking_standing}
+use Rattle.cps_pass.specs.Located.{present_flags, has_value, asking_definition}
 use Rattle.cps_pass.specs.Numbers.{between, plain_number}
 use Rattle.cps_pass.specs.ValueNow.{now_here}
 use Rattle.cps_pass.specs.declared.scope.Scope.{Scope}
@@ -56,7 +56,7 @@ compared relation (Known a) (Known b) =
     else record { holds = false; flags = record no_flags { operand = true } }
 compared relation a b = record { holds = false; flags = joined (value_flags a) (value_flags b) }
 
-abbrev pub asking_compared : Control → Comparison → (Tested → Part) → Part
+abbrev pub asking_compared : Control → ValueTest → (Tested → Part) → Part
 asking_compared control test next = now_here control test.left (λ a. now_here control test.right (λ b. next (compared test.relation a b)))
 
 -- the symbol has a value, or with `-DEF` has none
@@ -66,7 +66,7 @@ defined false has_value = record { holds = not has_value; flags = no_flags }
 
 -- the symbol is read
 abbrev pub asking_defined : SymbolTest → (Tested → Part) → Part
-asking_defined test next = asking_standing test.symbol (λ standing. tell test.symbol before next (defined test.is_defined (has_value standing)))
+asking_defined test next = asking_definition test.symbol (λ definition. tell test.symbol before next (defined test.is_defined (has_value definition)))
 
 -- ---- what hangs on a test
 
@@ -93,7 +93,7 @@ counting control scope location test value next =
     (λ later. flagging (joined (present_flags location) (joined test.flags (count_flags value (line_count value)))) later next)
 
 -- a range whose test holds is open; one whose test doesn't is skipped, to its ELSE or its end
-abbrev pub beginning_range : Control → Scope → Bool → List Range → (Scope → Part) → Part
+abbrev pub beginning_range : Control → Scope → Bool → List OpenRange → (Scope → Part) → Part
 beginning_range control scope true ranges next = putting_ranges scope (BeforeElse ∷ ranges) next
 beginning_range control scope false ranges next = going_by control scope (SkipRange (record { nested = 0; may_resume = true })) next
 
@@ -101,7 +101,7 @@ abbrev pub test_flags : Location → Tested → Flags
 test_flags location test = joined (present_flags location) test.flags
 
 -- E where too many are open
-abbrev pub opening : Control → Scope → Location → Tested → List Range → (Scope → Part) → Part
+abbrev pub opening : Control → Scope → Location → Tested → List OpenRange → (Scope → Part) → Part
 opening control scope location test ranges next =
     if nat_le most_ranges (length ranges) then flagging (record (test_flags location test) { structure = true }) scope next
     else beginning_range control scope test.holds ranges (λ later. flagging (test_flags location test) later next)
@@ -119,7 +119,7 @@ hanging control scope location (Some lines) test next = hanging_lines control sc
 
 -- ---- IFEQ and the like, and IF
 
-abbrev pub if_compared : Control → Scope → Location → Comparison → (Scope → Part) → Part
+abbrev pub if_compared : Control → Scope → Location → ValueTest → (Scope → Part) → Part
 if_compared control scope location test next = asking_compared control test (λ tested. hanging control scope location test.lines tested next)
 
 abbrev pub if_defined : Control → Scope → Location → SymbolTest → (Scope → Part) → Part
@@ -128,7 +128,7 @@ if_defined control scope location test next = asking_defined test (λ tested. ha
 -- ---- ELSE and ENDIF: E where there is no range for them
 
 -- the newest range is skipped from here on, to its end
-abbrev pub turned_round : Control → Scope → Location → List Range → (Scope → Part) → Part
+abbrev pub turned_round : Control → Scope → Location → List OpenRange → (Scope → Part) → Part
 turned_round control scope location (BeforeElse ∷ ranges) next =
     putting_ranges scope ranges (λ within. going_by control within (SkipRange (record { nested = 0; may_resume = false }))
     (λ later. flagging (present_flags location) later next))
@@ -139,7 +139,7 @@ abbrev pub else_of : Control → Scope → Location → (Scope → Part) → Par
 else_of control scope location next = asking_ranges scope (λ ranges. turned_round control scope location ranges next)
 
 -- the newest range ends
-abbrev pub closed : Scope → Location → List Range → (Scope → Part) → Part
+abbrev pub closed : Scope → Location → List OpenRange → (Scope → Part) → Part
 closed scope location [] next = unmatched location before next scope
 closed scope location (range ∷ ranges) next = putting_ranges scope ranges (λ later. flagging (present_flags location) later next)
 

@@ -5,7 +5,7 @@ use Rattle.cps_expr.specs.declared.machine.Machine.{Machine}
 use Rattle.cps_expr.specs.declared.machine.Machine.TheVariants.{Cp, Pp}
 use Rattle.cps_expr.specs.declared.operation.Operation.{Operation}
 use Rattle.cps_expr.specs.declared.radix.Radix.{Radix}
-use Rattle.cps_expr.specs.declared.row.Row.{Row}
+use Rattle.cps_expr.specs.declared.pseudo.Pseudo.{Pseudo}
 use Rattle.cps_expr.specs.Operation.{operation_named}
 use Rattle.cps_expr.specs.Statement.{row_with}
 use Rattle.cps_text.specs.Name.{name_of}
@@ -14,8 +14,8 @@ use Rattle.cps_code.specs.RowForms.{form_of}
 use Rattle.cps_code.specs.PeripheralTable.{is_operation as is_peripheral_operation, form_of as peripheral_form_of}
 use Rattle.cps_pass.specs.declared.reading.Location.{Location}
 use Rattle.cps_pass.specs.declared.reading.Location.TheVariants.{Absent, Plus, Minus, Symbol, NoSymbol}
-use Rattle.cps_pass.specs.declared.reading.Stating.{Stating}
-use Rattle.cps_pass.specs.declared.reading.Stating.TheVariants.{Missing, Unknown, Stated, Unreadable, Instruction, Peripheral}
+use Rattle.cps_pass.specs.declared.reading.Reading.{Reading}
+use Rattle.cps_pass.specs.declared.reading.Reading.TheVariants.{Missing, Unknown, Stated, Unreadable, Instruction, Peripheral}
 
 -- ---- the location field
 
@@ -35,18 +35,18 @@ location_in field =
 -- ---- the operation and its operands
 
 -- an instruction of the machine, or an operation that it doesn't have: a macro's, if it is a symbol
-abbrev pub instruction_in : Machine → Radix → List ℕ → List ℕ → Stating
+abbrev pub instruction_in : Machine → Radix → List ℕ → List ℕ → Reading
 instruction_in Cp radix operation tail = if is_operation operation then Instruction (form_of operation tail radix) else Unknown (name_of operation)
 instruction_in Pp radix operation tail = if is_peripheral_operation operation then Peripheral (peripheral_form_of operation tail radix) else Unknown (name_of operation)
 
-abbrev pub row_or_none : Operation → Option Row → Stating
+abbrev pub row_or_none : Operation → Option Pseudo → Reading
 row_or_none operation None = Unreadable operation
 row_or_none operation (Some row) = Stated row
 
 -- a statement of the statement table, or else an instruction
-abbrev pub stating_with : Option Operation → Machine → Radix → List ℕ → List ℕ → Stating
-stating_with None machine radix operation tail = instruction_in machine radix operation tail
-stating_with (Some named) machine radix operation tail = row_or_none named (row_with named tail machine radix)
+abbrev pub reading_with : Option Operation → Machine → Radix → List ℕ → List ℕ → Reading
+reading_with None machine radix operation tail = instruction_in machine radix operation tail
+reading_with (Some named) machine radix operation tail = row_or_none named (row_with named tail machine radix)
 
-abbrev pub stating_in : Machine → Radix → List ℕ → List ℕ → Stating
-stating_in machine radix operation tail = if bytes_eq operation [] then Missing else stating_with (operation_named operation) machine radix operation tail
+abbrev pub reading_in : Machine → Radix → List ℕ → List ℕ → Reading
+reading_in machine radix operation tail = if bytes_eq operation [] then Missing else reading_with (operation_named operation) machine radix operation tail

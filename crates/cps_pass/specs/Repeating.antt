@@ -2,7 +2,7 @@
 -- values are no such numbers, are our profile's.
 use Rattle.std.specs.Prelude.{ℕ, nat_lt, nat_le, Option, None, Some, if◌then◌else◌}
 use Rattle.cps_text.specs.declared.limits.TheConstants.{MOST_TIMES}
-use Rattle.cps_expr.specs.declared.row.Repetition.{Repetition}
+use Rattle.cps_expr.specs.declared.pseudo.Repetition.{Repetition}
 use Rattle.cps_expr.specs.Expression.{Expression}
 use Rattle.cps_state.specs.declared.flags.Flags.{Flags}
 use Rattle.cps_state.specs.declared.key.Control.{Control}

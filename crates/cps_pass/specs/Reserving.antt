@@ -13,7 +13,7 @@ use Rattle.cps_pass.specs.declared.reading.Location.{Location}
 use Rattle.cps_pass.specs.declared.value_now.ValueNow.{ValueNow}
 use Rattle.cps_pass.specs.Numbers.{plain_number, no_number_flags}
 use Rattle.cps_pass.specs.Places.{filling_between, here_at}
-use Rattle.cps_pass.specs.Placing.{asking_site, word_start, placing_flags, settling, unplaced, too_far}
+use Rattle.cps_pass.specs.Placing.{asking_site, word_start, placing_flags, advancing, unplaced, too_far}
 use Rattle.cps_pass.specs.ValueNow.{now}
 
 abbrev pub zeros_for : Bool → ℕ → ℕ
@@ -23,7 +23,7 @@ zeros_for has_zeros words = if has_zeros then words else 0
 abbrev pub reserved : Bool → Site → ℕ → ℕ → Part
 reserved has_zeros site start words =
     if nat_lt (limit site.machine) (start / 60 + words) then too_far site start [] []
-    else settling site start (start + 60 * words) false
+    else advancing site start (start + 60 * words) false
     before fill (record (nothing_made (placing_flags site)) {
       machine = site.machine;
       filling = filling_between (position site.place) start;

@@ -7,7 +7,7 @@ use Rattle.cps_state.specs.declared.key.Answer.TheVariants as answer
 use Rattle.cps_state.specs.declared.key.Control.{Control}
 use Rattle.cps_state.specs.declared.key.Mode.{Mode}
 use Rattle.cps_state.specs.declared.key.Mode.TheVariants.{Normal}
-use Rattle.cps_state.specs.declared.key.Range.{Range}
+use Rattle.cps_state.specs.declared.key.OpenRange.{OpenRange}
 use Rattle.cps_state.specs.Course.{Part, ◌before◌, asking, putting}
 use Rattle.cps_state.specs.Keys.{ranges_of, text_of}
 use Rattle.cps_state.specs.declared.flags.Flags.{Flags}
@@ -32,11 +32,11 @@ going_by control (Expansion own) mode next = next (Expansion (record own { mode 
 
 -- ---- the ranges that are open, the newest first
 
-abbrev pub asking_ranges : Scope → (List Range → Part) → Part
+abbrev pub asking_ranges : Scope → (List OpenRange → Part) → Part
 asking_ranges Source next = asking key.Ifs (λ a. next (ranges_of a))
 asking_ranges (Expansion own) next = next own.ranges
 
-abbrev pub putting_ranges : Scope → List Range → (Scope → Part) → Part
+abbrev pub putting_ranges : Scope → List OpenRange → (Scope → Part) → Part
 putting_ranges Source ranges next = putting key.Ifs (answer.Ifs ranges) before next Source
 putting_ranges (Expansion own) ranges next = next (Expansion (record own { ranges = ranges }))
 

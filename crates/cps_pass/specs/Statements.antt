@@ -3,8 +3,8 @@ use Rattle.std.specs.Prelude.{None, Some}
 use Rattle.cps_expr.specs.declared.machine.Machine.TheVariants.{Cp, Pp}
 use Rattle.cps_expr.specs.declared.operation.Operation.{Operation}
 use Rattle.cps_expr.specs.declared.operation.Operation.TheVariants as operation
-use Rattle.cps_expr.specs.declared.row.Row.{Row}
-use Rattle.cps_expr.specs.declared.row.Row.TheVariants as row
+use Rattle.cps_expr.specs.declared.pseudo.Pseudo.{Pseudo}
+use Rattle.cps_expr.specs.declared.pseudo.Pseudo.TheVariants as row
 use Rattle.cps_state.specs.declared.key.Control.{Control}
 use Rattle.cps_state.specs.Course.{Part}
 use Rattle.cps_pass.specs.declared.reading.Location.{Location}
@@ -19,7 +19,7 @@ use Rattle.cps_pass.specs.Use.{use_block, unread_use}
 use Rattle.cps_pass.specs.Words.{con, data_words, dis, unread_words}
 
 -- with its operands; each row that isn't here has the flag of an operation that isn't there
-abbrev pub obeyed_plainly : Control → Location → Row → Part
+abbrev pub obeyed_plainly : Control → Location → Pseudo → Part
 obeyed_plainly control location (row.Ident name) = ident control location (Some name)
 obeyed_plainly control location row.Abs = declaration control location Cp
 obeyed_plainly control location row.Periph = declaration control location Pp

@@ -11,12 +11,12 @@ use Rattle.cps_state.specs.declared.key.Key.TheVariants as key
 use Rattle.cps_state.specs.declared.made.Shown.TheVariants as shown
 use Rattle.cps_state.specs.Course.{Part, nothing, ◌before◌, putting, tell, telling_if, fill}
 use Rattle.cps_state.specs.Made.{Made, nothing_made, no_flags}
-use Rattle.cps_pass.specs.declared.located.Standing.{Standing}
-use Rattle.cps_pass.specs.declared.located.Standing.TheVariants.{Free, Labelled, Set}
+use Rattle.cps_pass.specs.declared.located.Definition.{Definition}
+use Rattle.cps_pass.specs.declared.located.Definition.TheVariants.{Free, Labelled, Set}
 use Rattle.cps_pass.specs.declared.reading.Location.{Location}
 use Rattle.cps_pass.specs.declared.value_now.ValueNow.{ValueNow}
 use Rattle.cps_pass.specs.declared.value_now.ValueNow.TheVariants.{Undefined, NoValue, Known}
-use Rattle.cps_pass.specs.Located.{symbol_in, is_labelled, asking_standing, asking_taken, defining}
+use Rattle.cps_pass.specs.Located.{symbol_in, is_labelled, asking_definition, asking_taken, defining}
 use Rattle.cps_pass.specs.Making.{flagged}
 use Rattle.cps_pass.specs.ValueNow.{now_here}
 
@@ -53,25 +53,25 @@ unread_equate location = asking_taken (symbol_in location) (λ is_taken. flagged
 -- ---- SET
 
 -- a symbol gets a value; where SET changes a value the symbol counts as read, and a label keeps its value
-abbrev pub setting : Option Name → Standing → AValue → Part
-setting None standing value = nothing
+abbrev pub setting : Option Name → Definition → AValue → Part
+setting None definition value = nothing
 setting (Some name) Free value = putting (key.Setting name) (answer.Value value)
 setting (Some name) Labelled value = nothing
 setting (Some name) Set value = tell name before putting (key.Setting name) (answer.Value value)
 
 -- asking what a symbol stands for already: a label, which SET doesn't change, counts as read; where there is no symbol nothing is asked
-abbrev pub asking_settable : Option Name → (Standing → Part) → Part
+abbrev pub asking_settable : Option Name → (Definition → Part) → Part
 asking_settable None next = next Free
-asking_settable (Some name) next = asking_standing name (λ standing. telling_if (is_labelled standing) name before next standing)
+asking_settable (Some name) next = asking_definition name (λ definition. telling_if (is_labelled definition) name before next definition)
 
-abbrev pub set_to : Location → Standing → ValueNow → Part
-set_to location standing value =
-    with_known value (setting (symbol_in location) standing) before fill (listing_value (equate_flags location (is_labelled standing)) value)
+abbrev pub set_to : Location → Definition → ValueNow → Part
+set_to location definition value =
+    with_known value (setting (symbol_in location) definition) before fill (listing_value (equate_flags location (is_labelled definition)) value)
 
 abbrev pub set_symbol : Control → Location → Expression → Part
-set_symbol control location terms = asking_settable (symbol_in location) (λ standing. now_here control terms (λ value. set_to location standing value))
+set_symbol control location terms = asking_settable (symbol_in location) (λ definition. now_here control terms (λ value. set_to location definition value))
 
 -- SET with an unreadable operand
 abbrev pub unread_set : Location → Part
 unread_set location =
-    asking_settable (symbol_in location) (λ standing. flagged (record (equate_flags location (is_labelled standing)) { operand = true }))
+    asking_settable (symbol_in location) (λ definition. flagged (record (equate_flags location (is_labelled definition)) { operand = true }))

@@ -7,7 +7,7 @@ use Rattle.cps_state.specs.declared.key.Key.TheVariants as key
 use Rattle.cps_state.specs.declared.key.MacroBody.{MacroBody}
 use Rattle.cps_state.specs.declared.key.Mode.{Mode}
 use Rattle.cps_state.specs.declared.key.Mode.TheVariants.{Normal}
-use Rattle.cps_state.specs.declared.key.Range.TheVariants.{BehindElse}
+use Rattle.cps_state.specs.declared.key.OpenRange.TheVariants.{BehindElse}
 use Rattle.cps_state.specs.contracts.key.ModePartialEq.TheImpl.{eq-value}
 use Rattle.cps_state.specs.Course.{Part, ◌before◌, putting}
 use Rattle.cps_pass.specs.Located.{present_flags}

@@ -3,8 +3,8 @@
 use Rattle.std.specs.Prelude.{ℕ, ◌+◌, Bool, true, false, ◌||◌, nat_lt, take, List, [], ◌∷◌, Option, None, Some, if◌then◌else◌}
 use Rattle.cps_text.specs.declared.limits.TheConstants.{MOST_BLOCKS}
 use Rattle.cps_text.specs.declared.name.Name.{Name}
-use Rattle.cps_expr.specs.declared.row.Block.{Block}
-use Rattle.cps_expr.specs.declared.row.Block.TheVariants.{Nominal, Previous, Named}
+use Rattle.cps_expr.specs.declared.pseudo.Block.{Block}
+use Rattle.cps_expr.specs.declared.pseudo.Block.TheVariants.{Nominal, Previous, Named}
 use Rattle.cps_code.specs.declared.place.Place.{Place}
 use Rattle.cps_state.specs.declared.key.Key.TheVariants as key
 use Rattle.cps_state.specs.declared.key.Answer.{Answer}

@@ -3,8 +3,8 @@ use Rattle.std.specs.Prelude.{ℕ, ◌+◌, ◌-◌, ◌*◌, ◌/◌, false, Li
 use Rattle.std.specs.List.{range_with_len}
 use Rattle.cps_text.specs.declared.limits.TheConstants.{MOST_COUNTED_WORDS}
 use Rattle.cps_expr.specs.declared.machine.Machine.{Machine}
-use Rattle.cps_expr.specs.declared.row.DisText.{DisText}
-use Rattle.cps_expr.specs.declared.row.DisText.TheVariants.{Counted, Delimited}
+use Rattle.cps_expr.specs.declared.pseudo.DisText.{DisText}
+use Rattle.cps_expr.specs.declared.pseudo.DisText.TheVariants.{Counted, Delimited}
 use Rattle.cps_expr.specs.Expression.{Expression}
 use Rattle.cps_expr.specs.Item.{bits_of, blank_code, characters_in_word, packed_characters}
 use Rattle.cps_state.specs.declared.key.Control.{Control}

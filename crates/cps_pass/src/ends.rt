@@ -3,7 +3,7 @@ ghost use Rattle.std.specs.Prelude.{◌≡◌, OnOk};
 ghost use Rattle.cps_state.specs.Code.Line.{Does};
 ghost use Rattle.cps_pass.specs.End as meaning;
 
-use crate::front::Front;
+use crate::context::Context;
 use crate::head::put_control;
 use crate::located::present_flags;
 use crate::places::{go_on, leave_word, stand};
@@ -17,20 +17,20 @@ use std::alloc::AllocError;
 /// END: leaves the word that was begun. Ranges that are open, and lines that are skipped or kept, end here.
 pub fn end<L: Lookup>(
     recorder: &mut Recorder<'_, L>,
-    front: Front,
+    context: Context,
     mode: &Mode,
 ) -> Result<(), AllocError>
-    ensures { OnOk result (Does (meaning.end front.control mode.now front.location) L.answer recorder.old recorder.new) }
+    ensures { OnOk result (Does (meaning.end context.control mode.now context.location) L.answer recorder.old recorder.new) }
 {
     let ranges = recorder.note(Key::Ifs)?;
     let is_closed = is_no_range(recorder.answer(ranges));
-    let left = leave_word(stand(recorder, front.control)?);
-    go_on(recorder, front.control.block, left.start, false)?;
+    let left = leave_word(stand(recorder, context.control)?);
+    go_on(recorder, context.control.block, left.start, false)?;
     recorder.put(Key::Ifs, Answer::Ifs(Shared::empty()))?;
-    put_control(recorder, with_end(front.control))?;
+    put_control(recorder, with_end(context.control))?;
     recorder.fill(Made::leaving(
-        end_flags(mode, front.location, is_closed),
-        front.control.machine,
+        end_flags(mode, context.location, is_closed),
+        context.control.machine,
         left.filling,
         Shown::Nothing,
     ));

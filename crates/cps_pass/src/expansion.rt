@@ -2,7 +2,7 @@
 ghost use Rattle.std.specs.Prelude.{◌≡◌, ◌≤◌, ◌+◌, ◌-◌, IfOk, OnOk, Some};
 ghost use Rattle.cps_state.specs.Course.{stop};
 ghost use Rattle.cps_state.specs.Code.Line.{Does, Goes, runs};
-ghost use Rattle.cps_state.specs.Code.Sheet.{StandsOn, statements_on};
+ghost use Rattle.cps_state.specs.Code.Scratch.{StandsOn, statements_on};
 ghost use Rattle.cps_pass.specs.Expansion.{ended, opened_at, too_deep, walk_at};
 ghost use Rattle.cps_pass.specs.Expansion as expansion;
 ghost use Rattle.cps_pass.specs.Code.Taking.{Walks};
@@ -14,7 +14,7 @@ use crate::names::name_all;
 use crate::opened::{Body, Opened, Repeated};
 use crate::scope::{Own, Scope};
 use crate::statement::step_statement;
-use cps_state::{Flags, Lookup, Mode, Recorder, Shared, Sheet, Trace};
+use cps_state::{Flags, Lookup, Mode, Recorder, Scratch, Shared, Trace};
 use cps_text::Substitutes;
 use std::alloc::{AllocError, Global};
 
@@ -145,30 +145,30 @@ fn go_through_line<L: Lookup>(
     Ok(complete)
 }
 
-/// What a source line asks, puts and makes in a state. Meanwhile it is in the lists of a sheet.
+/// What a source line asks, puts and makes in a state. Meanwhile it is in the lists of a scratch.
 pub fn trace_line<L: Lookup>(
     alloc: Global,
-    sheet: &mut Sheet,
+    scratch: &mut Scratch,
     line: &[u8],
     state: &L,
 ) -> Result<Trace, AllocError>
     ensures { IfOk result (λ trace. trace ≡ expansion.trace_of line.now (L.answer state.now)) }
 {
-    let mut recorder = Recorder::new(alloc, sheet, state);
+    let mut recorder = Recorder::new(alloc, scratch, state);
     let complete = go_through_line(&mut recorder, line)?;
-    recorder.into_trace(complete, sheet)
+    recorder.into_trace(complete, scratch)
 }
 
-/// The same without what it asks, on a sheet behind all statements there.
+/// The same without what it asks, on a scratch behind all statements there.
 pub fn write_line<L: Lookup>(
     alloc: Global,
-    sheet: &mut Sheet,
+    scratch: &mut Scratch,
     line: &[u8],
     state: &L,
 ) -> Result<(), AllocError>
-    ensures { OnOk result (StandsOn sheet.new (statements_on sheet.old) (expansion.trace_of line.now (L.answer state.now))) }
+    ensures { OnOk result (StandsOn scratch.new (statements_on scratch.old) (expansion.trace_of line.now (L.answer state.now))) }
 {
-    let mut recorder = Recorder::new(alloc, sheet, state);
+    let mut recorder = Recorder::new(alloc, scratch, state);
     let complete = go_through_line(&mut recorder, line)?;
-    recorder.write(complete, sheet)
+    recorder.write(complete, scratch)
 }

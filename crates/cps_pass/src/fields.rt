@@ -5,7 +5,7 @@ ghost use Rattle.cps_state.specs.Made.{IsContent};
 ghost use Rattle.cps_pass.specs.Fields as meaning;
 ghost use Rattle.cps_pass.specs.Code.Sites.{IsSite};
 
-use crate::front::Front;
+use crate::context::Context;
 use crate::numbers::{between, plain_number};
 use crate::places::here_at;
 use crate::placing::{
@@ -22,22 +22,25 @@ const MOST_BITS: u8 = 60;
 /// VFD: fields, from any bit on.
 pub fn vfd<L: Lookup>(
     recorder: &mut Recorder<'_, L>,
-    front: Front,
+    context: Context,
     fields: Sequence<Field>,
 ) -> Result<(), AllocError>
-    ensures { OnOk result (Does (meaning.vfd front.control front.location fields) L.answer recorder.old recorder.new) }
+    ensures { OnOk result (Does (meaning.vfd context.control context.location fields) L.answer recorder.old recorder.new) }
 {
-    let site = ask_site(recorder, front)?;
+    let site = ask_site(recorder, context)?;
     let here = here_at(site.block, start_for(site, 0).start);
     let sized = size_fields(recorder, fields, here)?;
     place_sized(recorder, site, sized)
 }
 
 /// VFD with unreadable operands.
-pub fn unread_vfd<L: Lookup>(recorder: &mut Recorder<'_, L>, front: Front) -> Result<(), AllocError>
-    ensures { OnOk result (Does (meaning.unread_vfd front.control front.location) L.answer recorder.old recorder.new) }
+pub fn unread_vfd<L: Lookup>(
+    recorder: &mut Recorder<'_, L>,
+    context: Context,
+) -> Result<(), AllocError>
+    ensures { OnOk result (Does (meaning.unread_vfd context.control context.location) L.answer recorder.old recorder.new) }
 {
-    let site = ask_site(recorder, front)?;
+    let site = ask_site(recorder, context)?;
     place_unread(recorder, site, start_for(site, 0))
 }
 

@@ -3,7 +3,7 @@ ghost use Rattle.std.specs.Prelude.{◌≡◌, Option, Some, OnOk, IfOk};
 ghost use Rattle.cps_state.specs.Code.Line.{Does, Hands, line_put};
 ghost use Rattle.cps_pass.specs.Head as head;
 
-use crate::front::Front;
+use crate::context::Context;
 use crate::located::present_flags;
 use crate::making::flag;
 use crate::reading::Location;
@@ -73,17 +73,17 @@ pub fn leave_head<L: Lookup>(
 /// IDENT: the first name in the head is the program's; None where the operand is unreadable.
 pub fn ident<L: Lookup>(
     recorder: &mut Recorder<'_, L>,
-    front: Front,
+    context: Context,
     name: Option<Name>,
 ) -> Result<(), AllocError>
-    ensures { OnOk result (Does (head.ident front.control front.location name) L.answer recorder.old recorder.new) }
+    ensures { OnOk result (Does (head.ident context.control context.location name) L.answer recorder.old recorder.new) }
 {
     match name {
-        Some(name) => name_program(recorder, front, name),
+        Some(name) => name_program(recorder, context, name),
         None => {
             flag(
                 recorder,
-                ident_flags(front.control.phase, front.location, None),
+                ident_flags(context.control.phase, context.location, None),
             );
             Ok(())
         }
@@ -92,17 +92,17 @@ pub fn ident<L: Lookup>(
 
 fn name_program<L: Lookup>(
     recorder: &mut Recorder<'_, L>,
-    front: Front,
+    context: Context,
     name: Name,
 ) -> Result<(), AllocError>
-    ensures { OnOk result (Does (head.ident front.control front.location (Some name)) L.answer recorder.old recorder.new) }
+    ensures { OnOk result (Does (head.ident context.control context.location (Some name)) L.answer recorder.old recorder.new) }
 {
-    let flags = ident_flags(front.control.phase, front.location, Some(name));
-    if is_late_name(front.control.phase) {
+    let flags = ident_flags(context.control.phase, context.location, Some(name));
+    if is_late_name(context.control.phase) {
         flag(recorder, flags);
         return Ok(());
     }
-    enter(recorder, front.control, with_name(front.control.phase))?;
+    enter(recorder, context.control, with_name(context.control.phase))?;
     recorder.fill(Made::naming(flags, name));
     Ok(())
 }
@@ -141,15 +141,15 @@ fn with_name(phase: Phase) -> Phase
 /// ABS is for the central processor, PERIPH for a peripheral one: the first declaration in the head counts.
 pub fn declaration<L: Lookup>(
     recorder: &mut Recorder<'_, L>,
-    front: Front,
+    context: Context,
     machine: Machine,
 ) -> Result<(), AllocError>
-    ensures { OnOk result (Does (head.declaration front.control front.location machine) L.answer recorder.old recorder.new) }
+    ensures { OnOk result (Does (head.declaration context.control context.location machine) L.answer recorder.old recorder.new) }
 {
-    declare(recorder, front.control, machine)?;
+    declare(recorder, context.control, machine)?;
     flag(
         recorder,
-        declaration_flags(front.control.phase, front.location),
+        declaration_flags(context.control.phase, context.location),
     );
     Ok(())
 }
@@ -205,13 +205,13 @@ fn with_declaration(phase: Phase) -> Phase
 /// BASE: the base of the numbers to come.
 pub fn base<L: Lookup>(
     recorder: &mut Recorder<'_, L>,
-    front: Front,
+    context: Context,
     radix: Radix,
 ) -> Result<(), AllocError>
-    ensures { OnOk result (Does (head.base front.control front.location radix) L.answer recorder.old recorder.new) }
+    ensures { OnOk result (Does (head.base context.control context.location radix) L.answer recorder.old recorder.new) }
 {
-    put_radix(recorder, front.control, radix)?;
-    flag(recorder, present_flags(front.location));
+    put_radix(recorder, context.control, radix)?;
+    flag(recorder, present_flags(context.location));
     Ok(())
 }
 

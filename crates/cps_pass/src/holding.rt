@@ -10,14 +10,14 @@ ghost use Rattle.cps_pass.specs.Placing as placing;
 use crate::asking::ask_value;
 use cps_code::Hole;
 use cps_expr::{Value, is_same_name};
-use cps_state::{Content, Held, Key, Lookup, Recorder};
+use cps_state::{Content, Key, Lookup, Recorder, SetValue};
 use cps_text::Name;
 use std::alloc::AllocError;
 
 /// Values that are held, and the symbol that was asked last, if SET has given it none.
 #[derive(Drop)]
 struct Holding {
-    held: Vec<Held>,
+    held: Vec<SetValue>,
     unset: Option<Name>,
 }
 
@@ -25,7 +25,7 @@ struct Holding {
 pub fn hold<L: Lookup>(
     recorder: &mut Recorder<'_, L>,
     contents: &[Content],
-) -> Result<Vec<Held>, AllocError>
+) -> Result<Vec<SetValue>, AllocError>
     ensures held { IfOk result (λ held. Hands (placing.holding contents.now) held.items L.answer recorder.old recorder.new) }
     ensures each { IfOk result (λ held. All IsHeld held.items) }
 {
@@ -122,14 +122,14 @@ fn is_unset(unset: Option<Name>, name: Name) -> bool
     }
 }
 
-fn push_held(held: &mut Vec<Held>, name: &Name, value: Option<Value>) -> Result<(), AllocError>
+fn push_held(held: &mut Vec<SetValue>, name: &Name, value: Option<Value>) -> Result<(), AllocError>
     requires each { All IsHeld held.old.items }
     requires range { IfSome value IsInRange }
     ensures pushed { OnOk result (held.new.items ≡ held.old.items ++ placing.held_of name.now value) }
     ensures each { OnOk result (All IsHeld held.new.items) }
 {
     if let Some(value) = value {
-        held.push(Held { name: *name, value })?;
+        held.push(SetValue { name: *name, value })?;
     }
     Ok(())
 }

@@ -8,41 +8,41 @@ use crate::reading::Location;
 use crate::seen::Seen;
 use crate::skipping::deeper;
 use crate::treatment::Treatment;
-use cps_state::{DupBody, Extent, Flags, Kept, MacroBody, Mode};
+use cps_state::{DupBody, Extent, Flags, KeptLines, MacroBody, Mode};
 use cps_text::limits::MOST_BODY_LINES;
 use std::alloc::AllocError;
 
 /// No lines yet.
-pub fn no_lines() -> Kept
+pub fn no_lines() -> KeptLines
     ensures { result ≡ keeping.no_lines }
 {
-    Kept {
+    KeptLines {
         lines: 0,
         is_over: false,
     }
 }
 
-fn one_more(kept: Kept) -> Kept
+fn one_more(kept: KeptLines) -> KeptLines
     requires { kept.lines < keeping.most_body }
     ensures { result ≡ record kept { lines = kept.lines + 1 } }
 {
-    Kept {
+    KeptLines {
         lines: kept.lines + 1,
         is_over: kept.is_over,
     }
 }
 
-fn over(kept: Kept) -> Kept
+fn over(kept: KeptLines) -> KeptLines
     ensures { result ≡ record kept { is_over = true } }
 {
-    Kept {
+    KeptLines {
         lines: kept.lines,
         is_over: true,
     }
 }
 
 /// Whether lines past the most came, or more than the most are counted, which no source leads to.
-fn is_too_long(kept: Kept) -> bool
+fn is_too_long(kept: KeptLines) -> bool
     ensures { result ≡ keeping.is_too_long kept }
 {
     kept.is_over || kept.lines > MOST_BODY_LINES
@@ -99,7 +99,7 @@ fn macro_line(body: &MacroBody) -> Result<Treatment, AllocError>
     Ok(Treatment::Passes(later, Some(kept.lines), Flags::none()))
 }
 
-fn macro_with(body: &MacroBody, kept: Kept) -> Result<Mode, AllocError>
+fn macro_with(body: &MacroBody, kept: KeptLines) -> Result<Mode, AllocError>
     ensures { IfOk result (λ mode. mode ≡ keeping.macro_with body.now kept) }
 {
     Ok(Mode::KeepMacro(MacroBody {
@@ -157,7 +157,7 @@ fn going_on_to(body: DupBody, extent: Extent) -> Treatment
     Treatment::Passes(later, Some(kept.lines), Flags::none())
 }
 
-fn dup_with(body: DupBody, extent: Extent, kept: Kept) -> Mode
+fn dup_with(body: DupBody, extent: Extent, kept: KeptLines) -> Mode
     ensures { result ≡ keeping.dup_with body extent kept }
 {
     Mode::KeepDup(DupBody {

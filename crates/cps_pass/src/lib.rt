@@ -1,11 +1,10 @@
 //! Pass one: what a line does in the state that the lines before it left, with all statements that it stands for.
 //!
 //! - `asking.rt`: values at keys
-//! - `columns.rt`: the columns of a statement
+//! - `context.rt`: a statement before its operands: the control and the location field
 //! - `ends.rt`: END on a source line
 //! - `expansion.rt`: the statements of a line, each followed by those that it opens
 //! - `fields.rt`: VFD
-//! - `front.rt`: a statement before its operands: the control and the location field
 //! - `head.rt`: IDENT, ABS, PERIPH, BASE, and the end of the head
 //! - `holding.rt`: the values that SET gave to the symbols of contents
 //! - `instructions.rt`: instructions of both machines
@@ -40,11 +39,10 @@
 #![tactic(auto)]
 
 mod asking;
-mod columns;
+mod context;
 mod ends;
 mod expansion;
 mod fields;
-mod front;
 mod head;
 mod holding;
 mod instructions;
@@ -78,29 +76,12 @@ mod value_now;
 mod words;
 
 pub use asking::ask_value;
-pub use columns::card_in;
-pub use ends::end;
-pub use front::Front;
-pub use head::leave_head;
-pub use instructions::{instruction, peripheral_instruction};
-pub use lines::macro_of_lines;
-pub use located::{
-    Standing, ask_standing, define, has_value, is_labelled, is_taken, present_flags, symbol_in,
-    tell_if,
-};
 pub use macros::insert_all;
-pub use making::{flag, misplaced, unknown, unmatched, unread};
 pub use names::name_all;
-pub use numbers::plain_number;
 pub use opened::{Body, Opened, Repeated};
-pub use places::{go_on, here_at, leave_word, stand};
-pub use placing::{
-    Site, ask_site, pass_limit, place, place_nothing, place_unread, placing_flags, settle,
-    start_for, unread_flags, word_start,
-};
-pub use reading::{Location, Stating, read_location, read_stating};
+pub use places::stand;
+pub use reading::{Location, Reading, read_location, read_operation};
 pub use scope::{Own, Scope};
 pub use statement::step_statement;
-pub use statements::{obey_plainly, obey_unread_plainly};
 pub use step::{step_one, step_over, step_unasked};
 pub use value_now::{ValueNow, value_here};

@@ -2,10 +2,9 @@
 ghost use Rattle.std.specs.Prelude.{◌≡◌, ◌≤◌, IfOk, length};
 ghost use Rattle.cps_pass.specs.Locals as locals;
 
-use crate::columns::card_in;
 use cps_expr::Operation;
 use cps_state::{Macro, Shared};
-use cps_text::{Fields, Name};
+use cps_text::{Fields, Name, card_in};
 use std::alloc::AllocError;
 
 /// How many lines a body begins with whose operation is LOCAL.

@@ -42,7 +42,7 @@ pub fn symbol_in(location: Location) -> Option<Name>
 
 /// What a symbol stands for already.
 #[derive(Clone, Copy, PartialEq, Eq)]
-pub enum Standing {
+pub enum Definition {
     Free,
     /// It is a label.
     Labelled,
@@ -50,44 +50,44 @@ pub enum Standing {
     Set,
 }
 
-pub fn has_value(standing: Standing) -> bool
-    ensures { result ≡ located.has_value standing }
+pub fn has_value(definition: Definition) -> bool
+    ensures { result ≡ located.has_value definition }
 {
-    match standing {
-        Standing::Free => false,
-        Standing::Labelled | Standing::Set => true,
+    match definition {
+        Definition::Free => false,
+        Definition::Labelled | Definition::Set => true,
     }
 }
 
-pub fn is_labelled(standing: Standing) -> bool
-    ensures { result ≡ located.is_labelled standing }
+pub fn is_labelled(definition: Definition) -> bool
+    ensures { result ≡ located.is_labelled definition }
 {
-    match standing {
-        Standing::Labelled => true,
-        Standing::Free | Standing::Set => false,
+    match definition {
+        Definition::Labelled => true,
+        Definition::Free | Definition::Set => false,
     }
 }
 
-fn standing_by(label: Option<Value>, setting: Option<Value>) -> Standing
-    ensures { result ≡ located.standing_by label setting }
+fn defined_by(label: Option<Value>, setting: Option<Value>) -> Definition
+    ensures { result ≡ located.defined_by label setting }
 {
     match (label, setting) {
-        (Some(_), _) => Standing::Labelled,
-        (None, Some(_)) => Standing::Set,
-        (None, None) => Standing::Free,
+        (Some(_), _) => Definition::Labelled,
+        (None, Some(_)) => Definition::Set,
+        (None, None) => Definition::Free,
     }
 }
 
 /// What a symbol stands for already.
-pub fn ask_standing<L: Lookup>(
+pub fn ask_definition<L: Lookup>(
     recorder: &mut Recorder<'_, L>,
     name: Name,
-) -> Result<Standing, AllocError>
-    ensures { IfOk result (λ standing. Hands (located.asking_standing name) standing L.answer recorder.old recorder.new) }
+) -> Result<Definition, AllocError>
+    ensures { IfOk result (λ definition. Hands (located.asking_definition name) definition L.answer recorder.old recorder.new) }
 {
     let label = ask_value(recorder, Key::Label(name))?;
     let setting = ask_value(recorder, Key::Setting(name))?;
-    Ok(standing_by(label, setting))
+    Ok(defined_by(label, setting))
 }
 
 /// Tells a symbol where something holds.
@@ -113,8 +113,8 @@ pub fn is_taken<L: Lookup>(
 {
     match symbol_in(location) {
         Some(name) => {
-            let standing = ask_standing(recorder, name)?;
-            let is_taken = has_value(standing);
+            let definition = ask_definition(recorder, name)?;
+            let is_taken = has_value(definition);
             tell_if(recorder, is_taken, name)?;
             Ok(is_taken)
         }

@@ -8,12 +8,12 @@ ghost use Rattle.cps_pass.specs.Macros.{macro_from};
 ghost use Rattle.cps_pass.specs.Code.Opened.{opening_of};
 ghost use Rattle.cps_pass.specs.Code.Taking.{Leads, Opens, OpensBody};
 
-use crate::front::Front;
+use crate::context::Context;
 use crate::keeping::no_lines;
 use crate::making::flag;
 use crate::opened::{Body, Opened, Repeated};
 use crate::places::here_at;
-use crate::placing::{ask_site, placing_flags, settle, word_start};
+use crate::placing::{advance, ask_site, placing_flags, word_start};
 use crate::reading::Location;
 use crate::scope::{Scope, go_by};
 use cps_code::is_builtin;
@@ -24,19 +24,19 @@ use std::alloc::{AllocError, Global};
 /// MACRO: the lines to come are kept; None where the parameters can't be read.
 pub fn define<L: Lookup>(
     recorder: &mut Recorder<'_, L>,
-    front: Front,
+    context: Context,
     scope: &mut Scope,
     parameters: Option<&[Name]>,
 ) -> Result<(), AllocError>
-    ensures { Leads result (macro_from front.control scope.old front.location (copied parameters.entry)) scope.new L.answer recorder.old recorder.new }
+    ensures { Leads result (macro_from context.control scope.old context.location (copied parameters.entry)) scope.new L.answer recorder.old recorder.new }
 {
     let alloc = recorder.alloc();
-    let name = macro_name(front.location);
+    let name = macro_name(context.location);
     let mut flags = Flags::none();
     flags.location = name.is_none();
     flags.operand = parameters.is_none();
     let mode = macro_mode(alloc, name, parameters)?;
-    go_by(recorder, front.control, scope, mode)?;
+    go_by(recorder, context.control, scope, mode)?;
     flag(recorder, flags);
     Ok(())
 }
@@ -76,15 +76,15 @@ fn macro_mode(
 /// A call of a macro: its symbol is defined, and the lines of the body are opened with the arguments.
 pub fn call<'a, L: Lookup>(
     recorder: &mut Recorder<'_, L>,
-    front: Front,
+    context: Context,
     scope: &Scope,
     named: &Macro,
     tail: &'a [u8],
 ) -> Result<Option<Opened<'a>>, AllocError>
-    ensures { Opens result (macros.calling front.control scope.now front.location named.now tail.now) scope.now L.answer recorder.old recorder.new }
+    ensures { Opens result (macros.calling context.control scope.now context.location named.now tail.now) scope.now L.answer recorder.old recorder.new }
 {
     let alloc = recorder.alloc();
-    let made = call_at(recorder, front)?;
+    let made = call_at(recorder, context)?;
     let lines = open_body(alloc, named, tail)?;
     recorder.fill(call_made(made, lines.is_some()));
     Ok(lines)
@@ -104,12 +104,12 @@ fn call_made(made: Made, is_bound: bool) -> Made
 }
 
 /// The location field of a call: its symbol is defined at the beginning of a word.
-fn call_at<L: Lookup>(recorder: &mut Recorder<'_, L>, front: Front) -> Result<Made, AllocError>
-    ensures { IfOk result (λ made. Hands (macros.call_at front.control front.location) made L.answer recorder.old recorder.new) }
+fn call_at<L: Lookup>(recorder: &mut Recorder<'_, L>, context: Context) -> Result<Made, AllocError>
+    ensures { IfOk result (λ made. Hands (macros.call_at context.control context.location) made L.answer recorder.old recorder.new) }
 {
-    match front.location {
+    match context.location {
         Location::Absent => Ok(Made::nothing(Flags::none())),
-        Location::Symbol(_) => label(recorder, front),
+        Location::Symbol(_) => label(recorder, context),
         _ => {
             let mut flags = Flags::none();
             flags.location = true;
@@ -118,12 +118,12 @@ fn call_at<L: Lookup>(recorder: &mut Recorder<'_, L>, front: Front) -> Result<Ma
     }
 }
 
-fn label<L: Lookup>(recorder: &mut Recorder<'_, L>, front: Front) -> Result<Made, AllocError>
-    ensures { IfOk result (λ made. Hands (macros.labelling front.control front.location) made L.answer recorder.old recorder.new) }
+fn label<L: Lookup>(recorder: &mut Recorder<'_, L>, context: Context) -> Result<Made, AllocError>
+    ensures { IfOk result (λ made. Hands (macros.labelling context.control context.location) made L.answer recorder.old recorder.new) }
 {
-    let site = ask_site(recorder, front)?;
+    let site = ask_site(recorder, context)?;
     let begun = word_start(site);
-    settle(recorder, site, begun.start, begun.start, false)?;
+    advance(recorder, site, begun.start, begun.start, false)?;
     Ok(Made::leaving(
         placing_flags(site),
         site.machine,

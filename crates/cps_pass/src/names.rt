@@ -5,18 +5,17 @@ ghost use Rattle.cps_text.specs.Card.{StatementLine};
 ghost use Rattle.cps_text.specs.CardFields.{statement_value};
 ghost use Rattle.cps_text.specs.Operands.{operands_of};
 ghost use Rattle.cps_expr.specs.Row.{locals_of};
-ghost use Rattle.cps_pass.specs.Cards.{card_in};
+ghost use Rattle.cps_text.specs.CardIn.{card_in};
 ghost use Rattle.cps_pass.specs.Locals as locals;
 ghost use Rattle.cps_pass.specs.Code.Naming.{Names};
 
-use crate::columns::card_in;
 use crate::located::present_flags;
 use crate::making::{flag, unread};
 use crate::reading::{Location, read_location};
 use cps_expr::{ExprFault, Sequence, read_locals};
 use cps_state::{Answer, Key, Lookup, Recorder, Shared, count_of};
 use cps_text::limits::{DEEPEST, MOST_GENERATED};
-use cps_text::{Fields, Name, StatementFields, Substitute, Substitutes, Substitution};
+use cps_text::{Fields, Name, StatementFields, Substitute, Substitutes, Substitution, card_in};
 use std::alloc::{AllocError, Global};
 
 /// The LOCAL lines of a call; what stands for names has theirs too then. False where one is too much.

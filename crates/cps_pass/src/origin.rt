@@ -3,7 +3,7 @@ ghost use Rattle.std.specs.Prelude.{◌<◌, ◌^◌, OnOk};
 ghost use Rattle.cps_state.specs.Code.Line.{Does};
 ghost use Rattle.cps_pass.specs.Origin as meaning;
 
-use crate::front::Front;
+use crate::context::Context;
 use crate::leaving::select;
 use crate::located::present_flags;
 use crate::making::{flag, unmatched, unread};
@@ -19,81 +19,84 @@ use std::alloc::AllocError;
 /// ORG: leaves the word that was begun, and goes on at an address.
 pub fn org<L: Lookup>(
     recorder: &mut Recorder<'_, L>,
-    front: Front,
+    context: Context,
     operand: &Expr,
 ) -> Result<(), AllocError>
-    ensures { OnOk result (Does (meaning.org front.control front.location operand.now) L.answer recorder.old recorder.new) }
+    ensures { OnOk result (Does (meaning.org context.control context.location operand.now) L.answer recorder.old recorder.new) }
 {
-    let place = stand(recorder, front.control)?;
-    let here = here_at(front.control.block, leave_word(place).start);
+    let place = stand(recorder, context.control)?;
+    let here = here_at(context.control.block, leave_word(place).start);
     let value = value_now(recorder, operand, here)?;
-    move_by(recorder, front, place, value)
+    move_by(recorder, context, place, value)
 }
 
 /// ORG with an unreadable operand.
-pub fn unread_org<L: Lookup>(recorder: &mut Recorder<'_, L>, front: Front) -> Result<(), AllocError>
-    ensures { OnOk result (Does (meaning.unread_org front.control front.location) L.answer recorder.old recorder.new) }
+pub fn unread_org<L: Lookup>(
+    recorder: &mut Recorder<'_, L>,
+    context: Context,
+) -> Result<(), AllocError>
+    ensures { OnOk result (Does (meaning.unread_org context.control context.location) L.answer recorder.old recorder.new) }
 {
-    stand(recorder, front.control)?;
-    unread(recorder, front.location);
+    stand(recorder, context.control)?;
+    unread(recorder, context.location);
     Ok(())
 }
 
 fn move_by<L: Lookup>(
     recorder: &mut Recorder<'_, L>,
-    front: Front,
+    context: Context,
     place: Place,
     value: ValueNow,
 ) -> Result<(), AllocError>
     requires { place.word < 2 ^ 26 }
-    ensures { OnOk result (Does (meaning.moving front.control front.location place value) L.answer recorder.old recorder.new) }
+    ensures { OnOk result (Does (meaning.moving context.control context.location place value) L.answer recorder.old recorder.new) }
 {
     match value {
         ValueNow::Undefined => {
-            let mut flags = present_flags(front.location);
+            let mut flags = present_flags(context.location);
             flags.undefined = true;
             flag(recorder, flags);
             Ok(())
         }
         ValueNow::NoValue => {
-            unread(recorder, front.location);
+            unread(recorder, context.location);
             Ok(())
         }
         ValueNow::Known(value) => match not_negative(value.offset) {
             None => {
-                unread(recorder, front.location);
+                unread(recorder, context.location);
                 Ok(())
             }
-            Some(address) => move_to(recorder, front, place, value.block, address),
+            Some(address) => move_to(recorder, context, place, value.block, address),
         },
     }
 }
 
 fn move_to<L: Lookup>(
     recorder: &mut Recorder<'_, L>,
-    front: Front,
+    context: Context,
     place: Place,
     block: Option<Name>,
     address: u64,
 ) -> Result<(), AllocError>
     requires { place.word < 2 ^ 26 }
-    ensures { OnOk result (Does (meaning.moving_to front.control front.location place block address) L.answer recorder.old recorder.new) }
+    ensures { OnOk result (Does (meaning.moving_to context.control context.location place block address) L.answer recorder.old recorder.new) }
 {
-    if address > u64::from(limit_of(front.control.machine)) {
-        unmatched(recorder, front.location);
+    if address > u64::from(limit_of(context.control.machine)) {
+        unmatched(recorder, context.location);
         return Ok(());
     }
     let left = leave_word(place);
-    go_on(recorder, front.control.block, left.start, false)?;
+    go_on(recorder, context.control.block, left.start, false)?;
     go_on(recorder, block, WORD * address as u32, false)?;
-    select(recorder, front.control, block)?;
+    select(recorder, context.control, block)?;
     let shown = Shown::Address(Value {
         block,
         offset: address as i64,
     });
     recorder.fill(Made::leaving(
-        present_flags(front.location),
-        front.control.machine,
+        present_flags(context.location),
+        context.control.machine,
         left.filling,
         shown,
     ));

@@ -9,14 +9,14 @@ ghost use Rattle.cps_pass.specs.Placing as placing;
 ghost use Rattle.cps_pass.specs.Places.{filling_between};
 ghost use Rattle.cps_pass.specs.Code.Sites.{IsSite, Starts};
 
-use crate::front::Front;
+use crate::context::Context;
 use crate::holding::hold;
 use crate::located::{define, is_taken};
 use crate::places::{begin, go_on, here_at, leave_word, round_up, stand};
 use crate::reading::Location;
 use cps_code::{Force, Place};
 use cps_expr::Machine;
-use cps_state::{Begun, Contents, Flags, Held, Lookup, Made, Recorder, end_of};
+use cps_state::{Begun, Contents, Flags, Lookup, Made, Recorder, SetValue, end_of};
 use cps_text::Name;
 use std::alloc::AllocError;
 
@@ -34,18 +34,21 @@ pub struct Site {
 }
 
 /// What a placing statement asks.
-pub fn ask_site<L: Lookup>(recorder: &mut Recorder<'_, L>, front: Front) -> Result<Site, AllocError>
-    ensures site { IfOk result (λ site. Hands (placing.asking_site front.control front.location) site L.answer recorder.old recorder.new) }
+pub fn ask_site<L: Lookup>(
+    recorder: &mut Recorder<'_, L>,
+    context: Context,
+) -> Result<Site, AllocError>
+    ensures site { IfOk result (λ site. Hands (placing.asking_site context.control context.location) site L.answer recorder.old recorder.new) }
     ensures is { IfOk result IsSite }
-    ensures machine { IfOk result (λ site. site.machine ≡ front.control.machine) }
+    ensures machine { IfOk result (λ site. site.machine ≡ context.control.machine) }
 {
-    let place = stand(recorder, front.control)?;
-    let is_taken = is_taken(recorder, front.location)?;
+    let place = stand(recorder, context.control)?;
+    let is_taken = is_taken(recorder, context.location)?;
     Ok(Site {
-        machine: front.control.machine,
-        block: front.control.block,
+        machine: context.control.machine,
+        block: context.control.block,
         place,
-        location: front.location,
+        location: context.location,
         is_taken,
     })
 }
@@ -120,14 +123,14 @@ pub fn far_flags(site: Site) -> Flags
 }
 
 /// The block goes on at a place, and the symbol gets the address of the statement's first word.
-pub fn settle<L: Lookup>(
+pub fn advance<L: Lookup>(
     recorder: &mut Recorder<'_, L>,
     site: Site,
     start: u32,
     after: u32,
     is_pending: bool,
 ) -> Result<(), AllocError>
-    ensures { OnOk result (Does (placing.settling site start after is_pending) L.answer recorder.old recorder.new) }
+    ensures { OnOk result (Does (placing.advancing site start after is_pending) L.answer recorder.old recorder.new) }
 {
     go_on(recorder, site.block, after, is_pending)?;
     define(
@@ -152,7 +155,7 @@ pub fn place_nothing<L: Lookup>(
     ensures { OnOk result (Does (placing.unplaced flags site begun.start contents) L.answer recorder.old recorder.new) }
 {
     let held = hold(recorder, contents.as_slice())?;
-    settle(recorder, site, begun.start, begun.start, false)?;
+    advance(recorder, site, begun.start, begun.start, false)?;
     recorder.fill(Made::flagging(flags, site.machine, begun, contents, held));
     Ok(())
 }
@@ -182,7 +185,7 @@ pub fn pass_limit<L: Lookup>(
     site: Site,
     start: u32,
     contents: Contents,
-    held: Vec<Held>,
+    held: Vec<SetValue>,
 )
     requires each { All IsContent contents }
     requires held { All IsHeld held.items }
@@ -221,7 +224,7 @@ pub fn place<L: Lookup>(
         return Ok(());
     };
     let after = round_up(site.machine, end);
-    settle(recorder, site, begun.start, after, is_pending)?;
+    advance(recorder, site, begun.start, after, is_pending)?;
     recorder.fill(Made::placing(placing_flags(site), site.machine, begun, contents, held));
     Ok(())
 }

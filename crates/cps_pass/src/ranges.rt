@@ -4,15 +4,15 @@ ghost use Rattle.cps_state.specs.Code.Line.{Hands};
 ghost use Rattle.cps_pass.specs.Ranges as meaning;
 ghost use Rattle.cps_pass.specs.Code.Taking.{Leads};
 
-use crate::front::Front;
-use crate::located::{ask_standing, has_value, present_flags};
+use crate::context::Context;
+use crate::located::{ask_definition, has_value, present_flags};
 use crate::making::{flag, unmatched};
 use crate::numbers::plain_number;
 use crate::reading::Location;
 use crate::scope::{Scope, ask_ranges, go_by, put_ranges};
 use crate::value_now::{ValueNow, value_here};
-use cps_expr::{Comparison, Expr, Relation, SymbolTest};
-use cps_state::{Control, Flags, Lookup, Mode, Range, Recorder, Shared, Skip, is_same_block};
+use cps_expr::{Expr, Relation, SymbolTest, ValueTest};
+use cps_state::{Control, Flags, Lookup, Mode, OpenRange, Recorder, Shared, Skip, is_same_block};
 use cps_text::limits::{MOST_COUNTED_LINES, MOST_RANGES};
 use std::alloc::AllocError;
 
@@ -26,52 +26,52 @@ pub struct Tested {
 /// IFEQ and the like: the test of two values.
 pub fn if_compared<L: Lookup>(
     recorder: &mut Recorder<'_, L>,
-    front: Front,
+    context: Context,
     scope: &mut Scope,
-    test: &Comparison,
+    test: &ValueTest,
 ) -> Result<(), AllocError>
-    ensures { Leads result (meaning.if_compared front.control scope.old front.location test.now) scope.new L.answer recorder.old recorder.new }
+    ensures { Leads result (meaning.if_compared context.control scope.old context.location test.now) scope.new L.answer recorder.old recorder.new }
 {
-    let tested = ask_compared(recorder, front.control, test)?;
-    hang(recorder, front, scope, &test.lines, tested)
+    let tested = ask_compared(recorder, context.control, test)?;
+    hang(recorder, context, scope, &test.lines, tested)
 }
 
 /// IF: the test of a symbol.
 pub fn if_defined<L: Lookup>(
     recorder: &mut Recorder<'_, L>,
-    front: Front,
+    context: Context,
     scope: &mut Scope,
     test: &SymbolTest,
 ) -> Result<(), AllocError>
-    ensures { Leads result (meaning.if_defined front.control scope.old front.location test.now) scope.new L.answer recorder.old recorder.new }
+    ensures { Leads result (meaning.if_defined context.control scope.old context.location test.now) scope.new L.answer recorder.old recorder.new }
 {
     let tested = ask_defined(recorder, test)?;
-    hang(recorder, front, scope, &test.lines, tested)
+    hang(recorder, context, scope, &test.lines, tested)
 }
 
 /// ELSE: the newest range is skipped from here on.
 pub fn turn_range<L: Lookup>(
     recorder: &mut Recorder<'_, L>,
-    front: Front,
+    context: Context,
     scope: &mut Scope,
 ) -> Result<(), AllocError>
-    ensures { Leads result (meaning.else_of front.control scope.old front.location) scope.new L.answer recorder.old recorder.new }
+    ensures { Leads result (meaning.else_of context.control scope.old context.location) scope.new L.answer recorder.old recorder.new }
 {
     let ranges = ask_ranges(recorder, scope)?;
-    turn(recorder, front, scope, ranges.as_slice())
+    turn(recorder, context, scope, ranges.as_slice())
 }
 
 fn turn<L: Lookup>(
     recorder: &mut Recorder<'_, L>,
-    front: Front,
+    context: Context,
     scope: &mut Scope,
-    ranges: &[Range],
+    ranges: &[OpenRange],
 ) -> Result<(), AllocError>
-    ensures { Leads result (meaning.turned_round front.control scope.old front.location ranges.now) scope.new L.answer recorder.old recorder.new }
+    ensures { Leads result (meaning.turned_round context.control scope.old context.location ranges.now) scope.new L.answer recorder.old recorder.new }
 {
     let alloc = recorder.alloc();
-    let [Range::BeforeElse, others @ ..] = ranges else {
-        unmatched(recorder, front.location);
+    let [OpenRange::BeforeElse, others @ ..] = ranges else {
+        unmatched(recorder, context.location);
         return Ok(());
     };
     put_ranges(recorder, scope, Shared::new(alloc, others)?)?;
@@ -79,8 +79,8 @@ fn turn<L: Lookup>(
         nested: 0,
         may_resume: false,
     };
-    go_by(recorder, front.control, scope, Mode::SkipRange(skip))?;
-    flag(recorder, present_flags(front.location));
+    go_by(recorder, context.control, scope, Mode::SkipRange(skip))?;
+    flag(recorder, present_flags(context.location));
     Ok(())
 }
 
@@ -100,7 +100,7 @@ fn close<L: Lookup>(
     recorder: &mut Recorder<'_, L>,
     scope: &mut Scope,
     location: Location,
-    ranges: &[Range],
+    ranges: &[OpenRange],
 ) -> Result<(), AllocError>
     ensures { Leads result (meaning.closed scope.old location ranges.now) scope.new L.answer recorder.old recorder.new }
 {
@@ -117,7 +117,7 @@ fn close<L: Lookup>(
 fn ask_compared<L: Lookup>(
     recorder: &mut Recorder<'_, L>,
     control: Control,
-    test: &Comparison,
+    test: &ValueTest,
 ) -> Result<Tested, AllocError>
     ensures { IfOk result (λ tested. Hands (meaning.asking_compared control test.now) tested L.answer recorder.old recorder.new) }
 {
@@ -183,9 +183,9 @@ fn ask_defined<L: Lookup>(
 ) -> Result<Tested, AllocError>
     ensures { IfOk result (λ tested. Hands (meaning.asking_defined test.now) tested L.answer recorder.old recorder.new) }
 {
-    let standing = ask_standing(recorder, test.symbol)?;
+    let definition = ask_definition(recorder, test.symbol)?;
     recorder.tell(test.symbol)?;
-    Ok(defined(test.is_defined, has_value(standing)))
+    Ok(defined(test.is_defined, has_value(definition)))
 }
 
 /// The symbol has a value, or with `-DEF` has none.
@@ -201,59 +201,59 @@ fn defined(is_defined: bool, has_value: bool) -> Tested
 /// What hangs on a test: so many lines, or those up to ENDIF.
 fn hang<L: Lookup>(
     recorder: &mut Recorder<'_, L>,
-    front: Front,
+    context: Context,
     scope: &mut Scope,
     lines: &Option<Expr>,
     test: Tested,
 ) -> Result<(), AllocError>
-    ensures { Leads result (meaning.hanging front.control scope.old front.location lines.now test) scope.new L.answer recorder.old recorder.new }
+    ensures { Leads result (meaning.hanging context.control scope.old context.location lines.now test) scope.new L.answer recorder.old recorder.new }
 {
     match lines {
-        Some(lines) => count_lines(recorder, front, scope, lines, test),
-        None => open_range(recorder, front, scope, test),
+        Some(lines) => count_lines(recorder, context, scope, lines, test),
+        None => open_range(recorder, context, scope, test),
     }
 }
 
 fn count_lines<L: Lookup>(
     recorder: &mut Recorder<'_, L>,
-    front: Front,
+    context: Context,
     scope: &mut Scope,
     lines: &Expr,
     test: Tested,
 ) -> Result<(), AllocError>
-    ensures { Leads result (meaning.hanging_lines front.control scope.old front.location lines.now test) scope.new L.answer recorder.old recorder.new }
+    ensures { Leads result (meaning.hanging_lines context.control scope.old context.location lines.now test) scope.new L.answer recorder.old recorder.new }
 {
-    let value = value_here(recorder, front.control, lines)?;
-    count(recorder, front, scope, test, value)
+    let value = value_here(recorder, context.control, lines)?;
+    count(recorder, context, scope, test, value)
 }
 
 fn open_range<L: Lookup>(
     recorder: &mut Recorder<'_, L>,
-    front: Front,
+    context: Context,
     scope: &mut Scope,
     test: Tested,
 ) -> Result<(), AllocError>
-    ensures { Leads result (meaning.hanging_range front.control scope.old front.location test) scope.new L.answer recorder.old recorder.new }
+    ensures { Leads result (meaning.hanging_range context.control scope.old context.location test) scope.new L.answer recorder.old recorder.new }
 {
     let others = ask_ranges(recorder, scope)?;
     let others = others.as_slice();
-    open(recorder, front, scope, test, others)
+    open(recorder, context, scope, test, others)
 }
 
 /// The number of lines that a test governs.
 fn count<L: Lookup>(
     recorder: &mut Recorder<'_, L>,
-    front: Front,
+    context: Context,
     scope: &mut Scope,
     test: Tested,
     value: ValueNow,
 ) -> Result<(), AllocError>
-    ensures { Leads result (meaning.counting front.control scope.old front.location test value) scope.new L.answer recorder.old recorder.new }
+    ensures { Leads result (meaning.counting context.control scope.old context.location test value) scope.new L.answer recorder.old recorder.new }
 {
     let count = line_count(value);
-    skip_lines(recorder, front.control, scope, test.holds, count)?;
+    skip_lines(recorder, context.control, scope, test.holds, count)?;
     let flags = test.flags.joined(count_flags(value, count));
-    flag(recorder, present_flags(front.location).joined(flags));
+    flag(recorder, present_flags(context.location).joined(flags));
     Ok(())
 }
 
@@ -299,20 +299,20 @@ fn skip_lines<L: Lookup>(
 /// A range begins, unless too many are open.
 fn open<L: Lookup>(
     recorder: &mut Recorder<'_, L>,
-    front: Front,
+    context: Context,
     scope: &mut Scope,
     test: Tested,
-    others: &[Range],
+    others: &[OpenRange],
 ) -> Result<(), AllocError>
-    ensures { Leads result (meaning.opening front.control scope.old front.location test others.now) scope.new L.answer recorder.old recorder.new }
+    ensures { Leads result (meaning.opening context.control scope.old context.location test others.now) scope.new L.answer recorder.old recorder.new }
 {
-    let mut flags = present_flags(front.location).joined(test.flags);
+    let mut flags = present_flags(context.location).joined(test.flags);
     if others.len() >= MOST_RANGES {
         flags.structure = true;
         flag(recorder, flags);
         return Ok(());
     }
-    begin_range(recorder, front.control, scope, test.holds, others)?;
+    begin_range(recorder, context.control, scope, test.holds, others)?;
     flag(recorder, flags);
     Ok(())
 }
@@ -323,13 +323,13 @@ fn begin_range<L: Lookup>(
     control: Control,
     scope: &mut Scope,
     holds: bool,
-    others: &[Range],
+    others: &[OpenRange],
 ) -> Result<(), AllocError>
     ensures { Leads result (meaning.beginning_range control scope.old holds others.now) scope.new L.answer recorder.old recorder.new }
 {
     let alloc = recorder.alloc();
     if holds {
-        let ranges = Shared::with(alloc, Range::BeforeElse, others)?;
+        let ranges = Shared::with(alloc, OpenRange::BeforeElse, others)?;
         return put_ranges(recorder, scope, ranges);
     }
     let skip = Skip {

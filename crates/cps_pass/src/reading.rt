@@ -2,8 +2,8 @@
 ghost use Rattle.std.specs.Prelude.{◌≡◌, IfOk};
 ghost use Rattle.cps_expr.specs.Statement.{row_with};
 ghost use Rattle.cps_text.specs.Name.{name_of};
-ghost use Rattle.cps_pass.specs.Code.Readings.{IsStating};
-ghost use Rattle.cps_pass.specs.Reading.{symbol_or_none, location_in, row_or_none, instruction_in, stating_in};
+ghost use Rattle.cps_pass.specs.Code.Readings.{IsReading};
+ghost use Rattle.cps_pass.specs.Reading.{symbol_or_none, location_in, row_or_none, instruction_in, reading_in};
 
 use cps_code::{CpForm, FormFault, PpForm, cp_form, pp_form};
 use cps_expr::{ExprFault, Machine, Operation, Radix, Stated};
@@ -25,7 +25,7 @@ pub enum Location {
 
 /// An operation with its operands.
 #[derive(Drop)]
-pub enum Stating {
+pub enum Reading {
     /// The operation field is empty.
     Missing,
     /// The language doesn't have the operation: the macro of this name, None where it is no symbol.
@@ -62,18 +62,18 @@ fn symbol_or_none(field: &[u8]) -> Location
 }
 
 /// What an operation says with the operands of its tail, in a program for a machine, under a base of numbers.
-pub fn read_stating(
+pub fn read_operation(
     alloc: Global,
     operation: &[u8],
     tail: &[u8],
     machine: Machine,
     radix: Radix,
-) -> Result<Stating, AllocError>
-    ensures stating { IfOk result (λ stating. stating ≡ stating_in machine radix operation.now tail.now) }
-    ensures bounded { IfOk result (IsStating machine) }
+) -> Result<Reading, AllocError>
+    ensures reading { IfOk result (λ reading. reading ≡ reading_in machine radix operation.now tail.now) }
+    ensures bounded { IfOk result (IsReading machine) }
 {
     if operation.is_empty() {
-        return Ok(Stating::Missing);
+        return Ok(Reading::Missing);
     }
     if let Some(named) = Operation::named(operation) {
         return read_statement(alloc, named, tail, machine, radix);
@@ -90,14 +90,14 @@ fn read_instruction(
     operation: &[u8],
     tail: &[u8],
     radix: Radix,
-) -> Result<Stating, AllocError>
-    ensures stating { IfOk result (λ stating. stating ≡ instruction_in Machine.Cp radix operation.now tail.now) }
-    ensures bounded { IfOk result (IsStating Machine.Cp) }
+) -> Result<Reading, AllocError>
+    ensures reading { IfOk result (λ reading. reading ≡ instruction_in Machine.Cp radix operation.now tail.now) }
+    ensures bounded { IfOk result (IsReading Machine.Cp) }
 {
     match cp_form(alloc, operation, tail, radix) {
-        Ok(form) => Ok(Stating::Instruction(Some(form))),
-        Err(FormFault::Unreadable) => Ok(Stating::Instruction(None)),
-        Err(FormFault::NoOperation) => Ok(Stating::Unknown(Name::read(operation))),
+        Ok(form) => Ok(Reading::Instruction(Some(form))),
+        Err(FormFault::Unreadable) => Ok(Reading::Instruction(None)),
+        Err(FormFault::NoOperation) => Ok(Reading::Unknown(Name::read(operation))),
         Err(FormFault::Memory) => Err(AllocError),
     }
 }
@@ -109,14 +109,14 @@ fn read_peripheral(
     operation: &[u8],
     tail: &[u8],
     radix: Radix,
-) -> Result<Stating, AllocError>
-    ensures stating { IfOk result (λ stating. stating ≡ instruction_in Machine.Pp radix operation.now tail.now) }
-    ensures bounded { IfOk result (IsStating Machine.Pp) }
+) -> Result<Reading, AllocError>
+    ensures reading { IfOk result (λ reading. reading ≡ instruction_in Machine.Pp radix operation.now tail.now) }
+    ensures bounded { IfOk result (IsReading Machine.Pp) }
 {
     match pp_form(alloc, operation, tail, radix) {
-        Ok(form) => Ok(Stating::Peripheral(Some(form))),
-        Err(FormFault::Unreadable) => Ok(Stating::Peripheral(None)),
-        Err(FormFault::NoOperation) => Ok(Stating::Unknown(Name::read(operation))),
+        Ok(form) => Ok(Reading::Peripheral(Some(form))),
+        Err(FormFault::Unreadable) => Ok(Reading::Peripheral(None)),
+        Err(FormFault::NoOperation) => Ok(Reading::Unknown(Name::read(operation))),
         Err(FormFault::Memory) => Err(AllocError),
     }
 }
@@ -127,13 +127,13 @@ fn read_statement(
     tail: &[u8],
     machine: Machine,
     radix: Radix,
-) -> Result<Stating, AllocError>
-    ensures stating { IfOk result (λ stating. stating ≡ row_or_none named (row_with named tail.now machine radix)) }
-    ensures bounded { IfOk result (IsStating machine) }
+) -> Result<Reading, AllocError>
+    ensures reading { IfOk result (λ reading. reading ≡ row_or_none named (row_with named tail.now machine radix)) }
+    ensures bounded { IfOk result (IsReading machine) }
 {
     match Stated::read(alloc, named, tail, machine, radix) {
-        Ok(stated) => Ok(Stating::Stated(stated)),
-        Err(ExprFault::Unreadable) => Ok(Stating::Unreadable(named)),
+        Ok(stated) => Ok(Reading::Stated(stated)),
+        Err(ExprFault::Unreadable) => Ok(Reading::Unreadable(named)),
         Err(ExprFault::Memory) => Err(AllocError),
     }
 }

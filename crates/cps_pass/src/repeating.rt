@@ -4,7 +4,7 @@ ghost use Rattle.cps_pass.specs.Numbers.{plain_number};
 ghost use Rattle.cps_pass.specs.Repeating as meaning;
 ghost use Rattle.cps_pass.specs.Code.Taking.{Leads, repeating_known};
 
-use crate::front::Front;
+use crate::context::Context;
 use crate::keeping::no_lines;
 use crate::located::present_flags;
 use crate::making::flag;
@@ -20,58 +20,58 @@ use std::alloc::AllocError;
 /// DUP: the lines to come are kept.
 pub fn dup<L: Lookup>(
     recorder: &mut Recorder<'_, L>,
-    front: Front,
+    context: Context,
     scope: &mut Scope,
     repetition: &Repetition,
 ) -> Result<(), AllocError>
-    ensures { Leads result (meaning.dup front.control scope.old front.location repetition.now) scope.new L.answer recorder.old recorder.new }
+    ensures { Leads result (meaning.dup context.control scope.old context.location repetition.now) scope.new L.answer recorder.old recorder.new }
 {
-    let times = value_here(recorder, front.control, &repetition.count)?;
-    repeat_by(recorder, front, scope, times, &repetition.lines)
+    let times = value_here(recorder, context.control, &repetition.count)?;
+    repeat_by(recorder, context, scope, times, &repetition.lines)
 }
 
 /// Lines of a number, or up to ENDD.
 fn repeat_by<L: Lookup>(
     recorder: &mut Recorder<'_, L>,
-    front: Front,
+    context: Context,
     scope: &mut Scope,
     times: ValueNow,
     lines: &Option<Expr>,
 ) -> Result<(), AllocError>
-    ensures { Leads result (meaning.repeating_by front.control scope.old front.location times lines.now) scope.new L.answer recorder.old recorder.new }
+    ensures { Leads result (meaning.repeating_by context.control scope.old context.location times lines.now) scope.new L.answer recorder.old recorder.new }
 {
     match lines {
-        Some(lines) => repeat_counted(recorder, front, scope, times, lines),
-        None => repeat(recorder, front, scope, times, Extent::ToEndd(0)),
+        Some(lines) => repeat_counted(recorder, context, scope, times, lines),
+        None => repeat(recorder, context, scope, times, Extent::ToEndd(0)),
     }
 }
 
 fn repeat_counted<L: Lookup>(
     recorder: &mut Recorder<'_, L>,
-    front: Front,
+    context: Context,
     scope: &mut Scope,
     times: ValueNow,
     lines: &Expr,
 ) -> Result<(), AllocError>
-    ensures { Leads result (meaning.repeating_counted front.control scope.old front.location times lines.now) scope.new L.answer recorder.old recorder.new }
+    ensures { Leads result (meaning.repeating_counted context.control scope.old context.location times lines.now) scope.new L.answer recorder.old recorder.new }
 {
-    let value = value_here(recorder, front.control, lines)?;
-    repeat_lines(recorder, front, scope, times, value)
+    let value = value_here(recorder, context.control, lines)?;
+    repeat_lines(recorder, context, scope, times, value)
 }
 
 fn repeat_lines<L: Lookup>(
     recorder: &mut Recorder<'_, L>,
-    front: Front,
+    context: Context,
     scope: &mut Scope,
     times: ValueNow,
     lines: ValueNow,
 ) -> Result<(), AllocError>
-    ensures { Leads result (repeating_known front.control scope.old front.location times lines) scope.new L.answer recorder.old recorder.new }
+    ensures { Leads result (repeating_known context.control scope.old context.location times lines) scope.new L.answer recorder.old recorder.new }
 {
     match body_count(lines) {
-        Some(count) => repeat(recorder, front, scope, times, Extent::Counted(count)),
+        Some(count) => repeat(recorder, context, scope, times, Extent::Counted(count)),
         None => {
-            let flags = present_flags(front.location).joined(count_flags(lines, None));
+            let flags = present_flags(context.location).joined(count_flags(lines, None));
             flag(recorder, flags.joined(times_flags(times)));
             Ok(())
         }
@@ -80,22 +80,22 @@ fn repeat_lines<L: Lookup>(
 
 fn repeat<L: Lookup>(
     recorder: &mut Recorder<'_, L>,
-    front: Front,
+    context: Context,
     scope: &mut Scope,
     times: ValueNow,
     extent: Extent,
 ) -> Result<(), AllocError>
-    ensures { Leads result (meaning.repeating front.control scope.old front.location times extent) scope.new L.answer recorder.old recorder.new }
+    ensures { Leads result (meaning.repeating context.control scope.old context.location times extent) scope.new L.answer recorder.old recorder.new }
 {
     let body = DupBody {
         times: times_in(times),
         extent,
         kept: no_lines(),
     };
-    go_by(recorder, front.control, scope, Mode::KeepDup(body))?;
+    go_by(recorder, context.control, scope, Mode::KeepDup(body))?;
     flag(
         recorder,
-        present_flags(front.location).joined(times_flags(times)),
+        present_flags(context.location).joined(times_flags(times)),
     );
     Ok(())
 }

@@ -8,11 +8,11 @@ ghost use Rattle.cps_pass.specs.Places.{filling_between};
 ghost use Rattle.cps_pass.specs.Reserving as meaning;
 ghost use Rattle.cps_pass.specs.Code.Sites.{IsSite, Starts};
 
-use crate::front::Front;
+use crate::context::Context;
 use crate::numbers::{no_number_flags, plain_number};
 use crate::places::here_at;
 use crate::placing::{
-    Site, ask_site, pass_limit, place_nothing, placing_flags, settle, word_start,
+    Site, advance, ask_site, pass_limit, place_nothing, placing_flags, word_start,
 };
 use crate::value_now::value_now;
 use cps_expr::Expr;
@@ -22,24 +22,24 @@ use std::alloc::AllocError;
 /// BSS: reserves words from the beginning of a word on.
 pub fn bss<L: Lookup>(
     recorder: &mut Recorder<'_, L>,
-    front: Front,
+    context: Context,
     operand: &Expr,
 ) -> Result<(), AllocError>
-    ensures { OnOk result (Does (meaning.bss front.control front.location operand.now) L.answer recorder.old recorder.new) }
+    ensures { OnOk result (Does (meaning.bss context.control context.location operand.now) L.answer recorder.old recorder.new) }
 {
-    let site = ask_site(recorder, front)?;
+    let site = ask_site(recorder, context)?;
     reserve_by(recorder, site, operand, false)
 }
 
 /// BSSZ: makes words of zeros from the beginning of a word on.
 pub fn bssz<L: Lookup>(
     recorder: &mut Recorder<'_, L>,
-    front: Front,
+    context: Context,
     operand: &Expr,
 ) -> Result<(), AllocError>
-    ensures { OnOk result (Does (meaning.bssz front.control front.location operand.now) L.answer recorder.old recorder.new) }
+    ensures { OnOk result (Does (meaning.bssz context.control context.location operand.now) L.answer recorder.old recorder.new) }
 {
-    let site = ask_site(recorder, front)?;
+    let site = ask_site(recorder, context)?;
     reserve_by(recorder, site, operand, true)
 }
 
@@ -88,7 +88,7 @@ fn reserve<L: Lookup>(
     }
     let words = words as u32;
     let after = begun.start + WORD * words;
-    settle(recorder, site, begun.start, after, false)?;
+    advance(recorder, site, begun.start, after, false)?;
     recorder.fill(Made::reserving(
         placing_flags(site),
         site.machine,

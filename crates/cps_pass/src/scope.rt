@@ -6,7 +6,7 @@ ghost use Rattle.cps_pass.specs.Scope as meaning;
 ghost use Rattle.cps_pass.specs.Code.Taking.{Leads, TakesBody};
 
 use cps_state::{
-    Answer, Control, Key, Lookup, Mode, Range, Recorder, Shared, SharedMode, ranges_of, text_of,
+    Answer, Control, Key, Lookup, Mode, OpenRange, Recorder, Shared, SharedMode, ranges_of, text_of,
 };
 use std::alloc::{AllocError, Global};
 use std::marker::Model;
@@ -16,7 +16,7 @@ use std::mem;
 #[derive(Drop)]
 pub struct Own {
     mode: Mode,
-    ranges: Shared<Range>,
+    ranges: Shared<OpenRange>,
     kept: Vec<Shared<u8>>,
 }
 
@@ -93,7 +93,7 @@ pub fn go_by<L: Lookup>(
 pub fn ask_ranges<L: Lookup>(
     recorder: &mut Recorder<'_, L>,
     scope: &Scope,
-) -> Result<Shared<Range>, AllocError>
+) -> Result<Shared<OpenRange>, AllocError>
     ensures { IfOk result (λ ranges. Hands (meaning.asking_ranges scope.now) ranges L.answer recorder.old recorder.new) }
 {
     match scope {
@@ -109,7 +109,7 @@ pub fn ask_ranges<L: Lookup>(
 pub fn put_ranges<L: Lookup>(
     recorder: &mut Recorder<'_, L>,
     scope: &mut Scope,
-    ranges: Shared<Range>,
+    ranges: Shared<OpenRange>,
 ) -> Result<(), AllocError>
     ensures { Leads result (meaning.putting_ranges scope.old ranges) scope.new L.answer recorder.old recorder.new }
 {

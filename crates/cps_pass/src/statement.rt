@@ -6,16 +6,15 @@ ghost use Rattle.cps_expr.specs.Operation.{operation_named};
 ghost use Rattle.cps_text.specs.Card.{StatementLine};
 ghost use Rattle.cps_text.specs.CardFields.{fields_value, statement_value};
 ghost use Rattle.cps_state.specs.Code.Line.{Does};
-ghost use Rattle.cps_pass.specs.Cards as cards;
+ghost use Rattle.cps_text.specs.CardIn as cards;
 ghost use Rattle.cps_pass.specs.Meaning as meaning;
 ghost use Rattle.cps_pass.specs.Meaning.{assembled, macro};
 ghost use Rattle.cps_pass.specs.Code.Opened.{opening_of};
 ghost use Rattle.cps_pass.specs.Code.Taking as taking;
 ghost use Rattle.cps_pass.specs.Code.Taking.{HandsOn, Leads, Opens, unnamed};
 
-use crate::columns::card_in;
+use crate::context::Context;
 use crate::ends::end;
-use crate::front::Front;
 use crate::head::leave_head;
 use crate::instructions::{instruction, peripheral_instruction};
 use crate::keeping::{kept_for_dup, kept_for_macro};
@@ -32,16 +31,16 @@ use crate::skipping::{skipped_in_range, skipped_line};
 use crate::statements::{obey_plainly, obey_unread_plainly};
 use crate::treating::{Passing, treat};
 use cps_code::{FormFault, cp_form, pp_form};
-use cps_expr::{ExprFault, Machine, Operation, Radix, Row, Stated};
+use cps_expr::{ExprFault, Machine, Operation, Pseudo, Radix, Stated};
 use cps_state::{
     Control, Flags, Key, Lookup, Mode, Phase, Recorder, control_of, macro_of, mode_of,
 };
-use cps_text::{Fields, Name, StatementFields};
+use cps_text::{Fields, Name, StatementFields, card_in};
 use std::alloc::AllocError;
 
 /// A statement as it is written, with its columns.
 #[derive(Clone, Copy)]
-struct Written<'a> {
+struct WrittenStatement<'a> {
     text: &'a [u8],
     fields: Fields<'a>,
 }
@@ -64,7 +63,13 @@ pub fn step_statement<'a, L: Lookup>(
             step_after_end(recorder, fields);
             Ok(None)
         }
-        _ => step_before_end(recorder, control, mode, scope, Written { text, fields }),
+        _ => step_before_end(
+            recorder,
+            control,
+            mode,
+            scope,
+            WrittenStatement { text, fields },
+        ),
     }
 }
 
@@ -84,18 +89,18 @@ fn step_before_end<'a, L: Lookup>(
     control: Control,
     mode: Mode,
     scope: &mut Scope,
-    written: Written<'a>,
+    written: WrittenStatement<'a>,
 ) -> Result<Option<Opened<'a>>, AllocError>
     requires { fields_value written.fields ≡ cards.card_in written.text.now }
     ensures { Opens result (meaning.in_phase control mode scope.old written.entry.text.now Phase.Body) scope.new L.answer recorder.old recorder.new }
 {
     let named = operation_in(written.fields);
     if let Some(location) = end_in(scope, written.fields, named) {
-        end(recorder, Front { control, location }, &mode)?;
+        end(recorder, Context { control, location }, &mode)?;
         return Ok(None);
     }
     let mode = mode_in(mode, scope)?;
-    let Written { text, fields } = written;
+    let WrittenStatement { text, fields } = written;
     match &mode {
         Mode::Normal => assemble(recorder, control, scope, fields, named),
         mode => {
@@ -215,14 +220,14 @@ fn assemble_named<'a, L: Lookup>(
     match read {
         Ok(stated) => {
             let control = leave_head(recorder, control, row_stays(stated.row()))?;
-            let front = Front { control, location };
-            obey_row(recorder, front, scope, stated.into_row())?;
+            let context = Context { control, location };
+            obey_row(recorder, context, scope, stated.into_row())?;
             Ok(None)
         }
         Err(ExprFault::Unreadable) => {
             let control = leave_head(recorder, control, operation_stays(named))?;
-            let front = Front { control, location };
-            obey_unreadable(recorder, front, scope, named)?;
+            let context = Context { control, location };
+            obey_unreadable(recorder, context, scope, named)?;
             Ok(None)
         }
         Err(ExprFault::Memory) => Err(AllocError),
@@ -246,36 +251,36 @@ fn assemble_unnamed<'a, L: Lookup>(
     let location = read_location(statement.location);
     let Control { machine, radix, .. } = control;
     let control = leave_head(recorder, control, false)?;
-    let front = Front { control, location };
+    let context = Context { control, location };
     match machine {
-        Machine::Cp => assemble_central(recorder, front, scope, statement, radix),
-        Machine::Pp => assemble_peripheral(recorder, front, scope, statement, radix),
+        Machine::Cp => assemble_central(recorder, context, scope, statement, radix),
+        Machine::Pp => assemble_peripheral(recorder, context, scope, statement, radix),
     }
 }
 
 /// An instruction of the central processor, or a call of a macro.
 fn assemble_central<'a, L: Lookup>(
     recorder: &mut Recorder<'_, L>,
-    front: Front,
+    context: Context,
     scope: &Scope,
     statement: StatementFields<'a>,
     radix: Radix,
 ) -> Result<Option<Opened<'a>>, AllocError>
-    ensures { Opens result (unnamed Machine.Cp radix front.control scope.now front.location statement.entry) scope.now L.answer recorder.old recorder.new }
+    ensures { Opens result (unnamed Machine.Cp radix context.control scope.now context.location statement.entry) scope.now L.answer recorder.old recorder.new }
 {
     let alloc = recorder.alloc();
     match cp_form(alloc, statement.operation, statement.tail, radix) {
         Ok(form) => {
-            instruction(recorder, front, Some(form))?;
+            instruction(recorder, context, Some(form))?;
             Ok(None)
         }
         Err(FormFault::Unreadable) => {
-            instruction(recorder, front, None)?;
+            instruction(recorder, context, None)?;
             Ok(None)
         }
         Err(FormFault::NoOperation) => {
             let name = Name::read(statement.operation);
-            call_named(recorder, front, scope, statement.tail, name)
+            call_named(recorder, context, scope, statement.tail, name)
         }
         Err(FormFault::Memory) => Err(AllocError),
     }
@@ -285,45 +290,45 @@ fn assemble_central<'a, L: Lookup>(
 #[inline(never)]
 fn assemble_peripheral<'a, L: Lookup>(
     recorder: &mut Recorder<'_, L>,
-    front: Front,
+    context: Context,
     scope: &Scope,
     statement: StatementFields<'a>,
     radix: Radix,
 ) -> Result<Option<Opened<'a>>, AllocError>
-    ensures { Opens result (unnamed Machine.Pp radix front.control scope.now front.location statement.entry) scope.now L.answer recorder.old recorder.new }
+    ensures { Opens result (unnamed Machine.Pp radix context.control scope.now context.location statement.entry) scope.now L.answer recorder.old recorder.new }
 {
     let alloc = recorder.alloc();
     match pp_form(alloc, statement.operation, statement.tail, radix) {
         Ok(form) => {
-            peripheral_instruction(recorder, front, Some(form))?;
+            peripheral_instruction(recorder, context, Some(form))?;
             Ok(None)
         }
         Err(FormFault::Unreadable) => {
-            peripheral_instruction(recorder, front, None)?;
+            peripheral_instruction(recorder, context, None)?;
             Ok(None)
         }
         Err(FormFault::NoOperation) => {
             let name = Name::read(statement.operation);
-            call_named(recorder, front, scope, statement.tail, name)
+            call_named(recorder, context, scope, statement.tail, name)
         }
         Err(FormFault::Memory) => Err(AllocError),
     }
 }
 
 /// Whether a row stays in the head of a program, which all others end.
-fn row_stays(row: &Row) -> bool
+fn row_stays(row: &Pseudo) -> bool
     ensures { result ≡ meaning.row_stays row.now }
 {
     match row {
-        Row::Ident(_)
-        | Row::Abs
-        | Row::Periph
-        | Row::Base(_)
-        | Row::Equate(_)
-        | Row::Set(_)
-        | Row::Listing
-        | Row::Macro(_)
-        | Row::Endm => true,
+        Pseudo::Ident(_)
+        | Pseudo::Abs
+        | Pseudo::Periph
+        | Pseudo::Base(_)
+        | Pseudo::Equate(_)
+        | Pseudo::Set(_)
+        | Pseudo::Listing
+        | Pseudo::Macro(_)
+        | Pseudo::Endm => true,
         _ => false,
     }
 }
@@ -345,59 +350,59 @@ fn operation_stays(operation: Operation) -> bool
 /// A statement with its operands.
 fn obey_row<L: Lookup>(
     recorder: &mut Recorder<'_, L>,
-    front: Front,
+    context: Context,
     scope: &mut Scope,
-    row: Row,
+    row: Pseudo,
 ) -> Result<(), AllocError>
-    requires { IsBounded front.control.machine row }
-    ensures { Leads result (meaning.obeyed front.control scope.old front.location row) scope.new L.answer recorder.old recorder.new }
+    requires { IsBounded context.control.machine row }
+    ensures { Leads result (meaning.obeyed context.control scope.old context.location row) scope.new L.answer recorder.old recorder.new }
 {
     match row {
-        Row::Macro(names) => obey_macro(recorder, front, scope, Some(names.as_slice())),
-        Row::Endm => {
-            end_macro(recorder, scope, front.location);
+        Pseudo::Macro(names) => obey_macro(recorder, context, scope, Some(names.as_slice())),
+        Pseudo::Endm => {
+            end_macro(recorder, scope, context.location);
             Ok(())
         }
-        Row::Compare(test) => if_compared(recorder, front, scope, &test),
-        Row::If(test) => if_defined(recorder, front, scope, &test),
-        Row::Else => turn_range(recorder, front, scope),
-        Row::Endif => close_range(recorder, scope, front.location),
-        Row::Dup(repetition) => dup(recorder, front, scope, &repetition),
-        Row::Endd => {
-            unmatched(recorder, front.location);
+        Pseudo::Compare(test) => if_compared(recorder, context, scope, &test),
+        Pseudo::If(test) => if_defined(recorder, context, scope, &test),
+        Pseudo::Else => turn_range(recorder, context, scope),
+        Pseudo::Endif => close_range(recorder, scope, context.location),
+        Pseudo::Dup(repetition) => dup(recorder, context, scope, &repetition),
+        Pseudo::Endd => {
+            unmatched(recorder, context.location);
             Ok(())
         }
-        Row::End => end_within(recorder, front.control),
-        row => obey_plainly(recorder, front, row),
+        Pseudo::End => end_within(recorder, context.control),
+        row => obey_plainly(recorder, context, row),
     }
 }
 
 /// A statement with unreadable operands.
 fn obey_unreadable<L: Lookup>(
     recorder: &mut Recorder<'_, L>,
-    front: Front,
+    context: Context,
     scope: &mut Scope,
     operation: Operation,
 ) -> Result<(), AllocError>
-    ensures { Leads result (meaning.unreadable front.control scope.old front.location operation) scope.new L.answer recorder.old recorder.new }
+    ensures { Leads result (meaning.unreadable context.control scope.old context.location operation) scope.new L.answer recorder.old recorder.new }
 {
     match operation {
-        Operation::Macro => obey_macro(recorder, front, scope, None),
-        operation => obey_unread_plainly(recorder, front, operation),
+        Operation::Macro => obey_macro(recorder, context, scope, None),
+        operation => obey_unread_plainly(recorder, context, operation),
     }
 }
 
 /// MACRO: of a source line; in an expansion it may not stand.
 fn obey_macro<L: Lookup>(
     recorder: &mut Recorder<'_, L>,
-    front: Front,
+    context: Context,
     scope: &mut Scope,
     parameters: Option<&[Name]>,
 ) -> Result<(), AllocError>
-    ensures { Leads result (macro front.control scope.old front.location (copied parameters.entry)) scope.new L.answer recorder.old recorder.new }
+    ensures { Leads result (macro context.control scope.old context.location (copied parameters.entry)) scope.new L.answer recorder.old recorder.new }
 {
     match scope {
-        Scope::Source => define(recorder, front, scope, parameters),
+        Scope::Source => define(recorder, context, scope, parameters),
         Scope::Expansion(_) => {
             misplaced(recorder);
             Ok(())
@@ -428,12 +433,12 @@ fn end_within<L: Lookup>(recorder: &mut Recorder<'_, L>, control: Control) -> Re
 #[inline(never)]
 fn call_named<'a, L: Lookup>(
     recorder: &mut Recorder<'_, L>,
-    front: Front,
+    context: Context,
     scope: &Scope,
     tail: &'a [u8],
     name: Option<Name>,
 ) -> Result<Option<Opened<'a>>, AllocError>
-    ensures { Opens result (meaning.calling_named front.control scope.now front.location tail.now name) scope.now L.answer recorder.old recorder.new }
+    ensures { Opens result (meaning.calling_named context.control scope.now context.location tail.now name) scope.now L.answer recorder.old recorder.new }
 {
     let Some(name) = name else {
         unknown(recorder);
@@ -444,5 +449,5 @@ fn call_named<'a, L: Lookup>(
         unknown(recorder);
         return Ok(None);
     };
-    call(recorder, front, scope, &named, tail)
+    call(recorder, context, scope, &named, tail)
 }

@@ -4,8 +4,8 @@ ghost use Rattle.cps_expr.specs.Bounds.{IsBounded};
 ghost use Rattle.cps_state.specs.Code.Line.{Does};
 ghost use Rattle.cps_pass.specs.Statements as statements;
 
+use crate::context::Context;
 use crate::fields::{unread_vfd, vfd};
-use crate::front::Front;
 use crate::head::{base, declaration, ident};
 use crate::located::present_flags;
 use crate::making::{flag, misplaced, unknown, unread};
@@ -14,39 +14,39 @@ use crate::reserving::{bss, bssz};
 use crate::symbols::{equate, set_symbol, unread_equate, unread_set};
 use crate::uses::{unread_use, use_block};
 use crate::words::{con, data_words, dis, unread_words};
-use cps_expr::{Machine, Operation, Row};
+use cps_expr::{Machine, Operation, Pseudo};
 use cps_state::{Lookup, Recorder};
 use std::alloc::AllocError;
 
 /// A statement with its operands.
 pub fn obey_plainly<L: Lookup>(
     recorder: &mut Recorder<'_, L>,
-    front: Front,
-    row: Row,
+    context: Context,
+    row: Pseudo,
 ) -> Result<(), AllocError>
-    requires { IsBounded front.control.machine row }
-    ensures { OnOk result (Does (statements.obeyed_plainly front.control front.location row) L.answer recorder.old recorder.new) }
+    requires { IsBounded context.control.machine row }
+    ensures { OnOk result (Does (statements.obeyed_plainly context.control context.location row) L.answer recorder.old recorder.new) }
 {
     match row {
-        Row::Ident(name) => ident(recorder, front, Some(name)),
-        Row::Abs => declaration(recorder, front, Machine::Cp),
-        Row::Periph => declaration(recorder, front, Machine::Pp),
-        Row::Base(radix) => base(recorder, front, radix),
-        Row::Equate(operand) => equate(recorder, front, &operand),
-        Row::Set(operand) => set_symbol(recorder, front, &operand),
-        Row::Listing => {
-            flag(recorder, present_flags(front.location));
+        Pseudo::Ident(name) => ident(recorder, context, Some(name)),
+        Pseudo::Abs => declaration(recorder, context, Machine::Cp),
+        Pseudo::Periph => declaration(recorder, context, Machine::Pp),
+        Pseudo::Base(radix) => base(recorder, context, radix),
+        Pseudo::Equate(operand) => equate(recorder, context, &operand),
+        Pseudo::Set(operand) => set_symbol(recorder, context, &operand),
+        Pseudo::Listing => {
+            flag(recorder, present_flags(context.location));
             Ok(())
         }
-        Row::Org(operand) => org(recorder, front, &operand),
-        Row::Use(block) => use_block(recorder, front, block),
-        Row::Bss(operand) => bss(recorder, front, &operand),
-        Row::Bssz(operand) => bssz(recorder, front, &operand),
-        Row::Con(values) => con(recorder, front, values),
-        Row::Data(numbers) => data_words(recorder, front, &numbers),
-        Row::Vfd(fields) => vfd(recorder, front, fields),
-        Row::Dis(text) => dis(recorder, front, &text),
-        Row::Local(_) => {
+        Pseudo::Org(operand) => org(recorder, context, &operand),
+        Pseudo::Use(block) => use_block(recorder, context, block),
+        Pseudo::Bss(operand) => bss(recorder, context, &operand),
+        Pseudo::Bssz(operand) => bssz(recorder, context, &operand),
+        Pseudo::Con(values) => con(recorder, context, values),
+        Pseudo::Data(numbers) => data_words(recorder, context, &numbers),
+        Pseudo::Vfd(fields) => vfd(recorder, context, fields),
+        Pseudo::Dis(text) => dis(recorder, context, &text),
+        Pseudo::Local(_) => {
             misplaced(recorder);
             Ok(())
         }
@@ -60,27 +60,27 @@ pub fn obey_plainly<L: Lookup>(
 /// A statement with unreadable operands.
 pub fn obey_unread_plainly<L: Lookup>(
     recorder: &mut Recorder<'_, L>,
-    front: Front,
+    context: Context,
     operation: Operation,
 ) -> Result<(), AllocError>
-    ensures { OnOk result (Does (statements.unreadable_plainly front.control front.location operation) L.answer recorder.old recorder.new) }
+    ensures { OnOk result (Does (statements.unreadable_plainly context.control context.location operation) L.answer recorder.old recorder.new) }
 {
     match operation {
-        Operation::Ident => ident(recorder, front, None),
-        Operation::Equate => unread_equate(recorder, front.location),
-        Operation::Set => unread_set(recorder, front.location),
-        Operation::Org => unread_org(recorder, front),
-        Operation::Use => unread_use(recorder, front),
+        Operation::Ident => ident(recorder, context, None),
+        Operation::Equate => unread_equate(recorder, context.location),
+        Operation::Set => unread_set(recorder, context.location),
+        Operation::Org => unread_org(recorder, context),
+        Operation::Use => unread_use(recorder, context),
         Operation::Bss | Operation::Bssz | Operation::Con | Operation::Data | Operation::Dis => {
-            unread_words(recorder, front)
+            unread_words(recorder, context)
         }
-        Operation::Vfd => unread_vfd(recorder, front),
+        Operation::Vfd => unread_vfd(recorder, context),
         Operation::Local => {
             misplaced(recorder);
             Ok(())
         }
         _ => {
-            unread(recorder, front.location);
+            unread(recorder, context.location);
             Ok(())
         }
     }

@@ -2,14 +2,14 @@
 ghost use Rattle.std.specs.Prelude.{◌≡◌, IfOk, OnOk};
 ghost use Rattle.cps_state.specs.Course.{Holds};
 ghost use Rattle.cps_state.specs.Keys as keys;
-ghost use Rattle.cps_state.specs.Code.Sheet.{StandsOn, statements_on};
+ghost use Rattle.cps_state.specs.Code.Scratch.{StandsOn, statements_on};
 ghost use Rattle.cps_state.specs.Work.{raised};
 ghost use Rattle.cps_state.specs.declared.work.Tally.TheVariants as tally;
 ghost use Rattle.cps_pass.specs.Bounded.{AreFew, EachOnce};
 ghost use Rattle.cps_pass.specs.Expansion as expansion;
 
 use crate::expansion::{trace_line, write_line};
-use cps_state::{Lookup, Sheet, Tally, Trace, Work};
+use cps_state::{Lookup, Scratch, Tally, Trace, Work};
 use cps_text::Line;
 use std::alloc::{AllocError, Global};
 
@@ -30,15 +30,15 @@ pub fn step_one<L: Lookup>(
     ensures once { IfOk result (λ trace. EachOnce trace.asks) }
     ensures ones { work.new ≡ raised tally.Ones work.old }
 {
-    let mut sheet = Sheet::new(alloc);
-    step_over(alloc, work, &mut sheet, line, state)
+    let mut scratch = Scratch::new(alloc);
+    step_over(alloc, work, &mut scratch, line, state)
 }
 
-/// The same, over the lists of a sheet, whose room line after line takes.
+/// The same, over the lists of a scratch, whose room line after line takes.
 pub fn step_over<L: Lookup>(
     alloc: Global,
     work: &mut Work,
-    sheet: &mut Sheet,
+    scratch: &mut Scratch,
     line: &Line,
     state: &L,
 ) -> Result<Trace, AllocError>
@@ -46,20 +46,20 @@ pub fn step_over<L: Lookup>(
     ensures ones { work.new ≡ raised tally.Ones work.old }
 {
     work.raise(Tally::Ones);
-    trace_line(alloc, sheet, line.bytes(), state)
+    trace_line(alloc, scratch, line.bytes(), state)
 }
 
-/// The same for callers that don't want what the line asks: what it did stands on the sheet, behind all statements that were there.
+/// The same for callers that don't want what the line asks: what it did stands on the scratch, behind all statements that were there.
 pub fn step_unasked<L: Lookup>(
     alloc: Global,
     work: &mut Work,
-    sheet: &mut Sheet,
+    scratch: &mut Scratch,
     line: &[u8],
     state: &L,
 ) -> Result<(), AllocError>
-    ensures line { OnOk result (StandsOn sheet.new (statements_on sheet.old) (expansion.trace_of line.now (L.answer state.now))) }
+    ensures line { OnOk result (StandsOn scratch.new (statements_on scratch.old) (expansion.trace_of line.now (L.answer state.now))) }
     ensures ones { work.new ≡ raised tally.Ones work.old }
 {
     work.raise(Tally::Ones);
-    write_line(alloc, sheet, line, state)
+    write_line(alloc, scratch, line, state)
 }

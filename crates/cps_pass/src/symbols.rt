@@ -4,8 +4,10 @@ ghost use Rattle.cps_state.specs.Code.Line.{Does, Hands, line_filled};
 ghost use Rattle.cps_pass.specs.Symbols as symbols;
 ghost use Rattle.cps_pass.specs.Located.{symbol_in, defining};
 
-use crate::front::Front;
-use crate::located::{Standing, ask_standing, define, is_labelled, is_taken, symbol_in, tell_if};
+use crate::context::Context;
+use crate::located::{
+    Definition, ask_definition, define, is_labelled, is_taken, symbol_in, tell_if,
+};
 use crate::making::flag;
 use crate::reading::Location;
 use crate::value_now::{ValueNow, value_here};
@@ -16,15 +18,15 @@ use std::alloc::AllocError;
 /// The location symbol gets the value of the operand, unless it has one already.
 pub fn equate<L: Lookup>(
     recorder: &mut Recorder<'_, L>,
-    front: Front,
+    context: Context,
     operand: &Expr,
 ) -> Result<(), AllocError>
-    ensures { OnOk result (Does (symbols.equate front.control front.location operand.now) L.answer recorder.old recorder.new) }
+    ensures { OnOk result (Does (symbols.equate context.control context.location operand.now) L.answer recorder.old recorder.new) }
 {
-    let is_taken = is_taken(recorder, front.location)?;
-    let value = value_here(recorder, front.control, operand)?;
-    define_known(recorder, front.location, is_taken, value)?;
-    let flags = equate_flags(front.location, is_taken);
+    let is_taken = is_taken(recorder, context.location)?;
+    let value = value_here(recorder, context.control, operand)?;
+    define_known(recorder, context.location, is_taken, value)?;
+    let flags = equate_flags(context.location, is_taken);
     list_value(recorder, flags, value);
     Ok(())
 }
@@ -46,15 +48,15 @@ pub fn unread_equate<L: Lookup>(
 /// SET gives the location symbol the value of the operand, also in place of another that SET gave it. A label keeps its value.
 pub fn set_symbol<L: Lookup>(
     recorder: &mut Recorder<'_, L>,
-    front: Front,
+    context: Context,
     operand: &Expr,
 ) -> Result<(), AllocError>
-    ensures { OnOk result (Does (symbols.set_symbol front.control front.location operand.now) L.answer recorder.old recorder.new) }
+    ensures { OnOk result (Does (symbols.set_symbol context.control context.location operand.now) L.answer recorder.old recorder.new) }
 {
-    let standing = ask_settable(recorder, front.location)?;
-    let value = value_here(recorder, front.control, operand)?;
-    set_known(recorder, front.location, standing, value)?;
-    let flags = equate_flags(front.location, is_labelled(standing));
+    let definition = ask_settable(recorder, context.location)?;
+    let value = value_here(recorder, context.control, operand)?;
+    set_known(recorder, context.location, definition, value)?;
+    let flags = equate_flags(context.location, is_labelled(definition));
     list_value(recorder, flags, value);
     Ok(())
 }
@@ -66,8 +68,8 @@ pub fn unread_set<L: Lookup>(
 ) -> Result<(), AllocError>
     ensures { OnOk result (Does (symbols.unread_set location) L.answer recorder.old recorder.new) }
 {
-    let standing = ask_settable(recorder, location)?;
-    let mut flags = equate_flags(location, is_labelled(standing));
+    let definition = ask_settable(recorder, location)?;
+    let mut flags = equate_flags(location, is_labelled(definition));
     flags.operand = true;
     flag(recorder, flags);
     Ok(())
@@ -77,16 +79,16 @@ pub fn unread_set<L: Lookup>(
 fn ask_settable<L: Lookup>(
     recorder: &mut Recorder<'_, L>,
     location: Location,
-) -> Result<Standing, AllocError>
-    ensures { IfOk result (λ standing. Hands (symbols.asking_settable (symbol_in location)) standing L.answer recorder.old recorder.new) }
+) -> Result<Definition, AllocError>
+    ensures { IfOk result (λ definition. Hands (symbols.asking_settable (symbol_in location)) definition L.answer recorder.old recorder.new) }
 {
     match symbol_in(location) {
         Some(name) => {
-            let standing = ask_standing(recorder, name)?;
-            tell_if(recorder, is_labelled(standing), name)?;
-            Ok(standing)
+            let definition = ask_definition(recorder, name)?;
+            tell_if(recorder, is_labelled(definition), name)?;
+            Ok(definition)
         }
-        None => Ok(Standing::Free),
+        None => Ok(Definition::Free),
     }
 }
 
@@ -107,32 +109,32 @@ fn define_known<L: Lookup>(
 fn set_known<L: Lookup>(
     recorder: &mut Recorder<'_, L>,
     location: Location,
-    standing: Standing,
+    definition: Definition,
     value: ValueNow,
 ) -> Result<(), AllocError>
-    ensures { OnOk result (Does (symbols.with_known value (symbols.setting (symbol_in location) standing)) L.answer recorder.old recorder.new) }
+    ensures { OnOk result (Does (symbols.with_known value (symbols.setting (symbol_in location) definition)) L.answer recorder.old recorder.new) }
 {
     match value {
         ValueNow::Undefined | ValueNow::NoValue => Ok(()),
-        ValueNow::Known(value) => set(recorder, location, standing, value),
+        ValueNow::Known(value) => set(recorder, location, definition, value),
     }
 }
 
 fn set<L: Lookup>(
     recorder: &mut Recorder<'_, L>,
     location: Location,
-    standing: Standing,
+    definition: Definition,
     value: Value,
 ) -> Result<(), AllocError>
-    ensures { OnOk result (Does (symbols.setting (symbol_in location) standing value) L.answer recorder.old recorder.new) }
+    ensures { OnOk result (Does (symbols.setting (symbol_in location) definition value) L.answer recorder.old recorder.new) }
 {
     let Some(name) = symbol_in(location) else {
         return Ok(());
     };
-    match standing {
-        Standing::Free => recorder.put(Key::Setting(name), Answer::Value(value)),
-        Standing::Labelled => Ok(()),
-        Standing::Set => {
+    match definition {
+        Definition::Free => recorder.put(Key::Setting(name), Answer::Value(value)),
+        Definition::Labelled => Ok(()),
+        Definition::Set => {
             recorder.tell(name)?;
             recorder.put(Key::Setting(name), Answer::Value(value))
         }

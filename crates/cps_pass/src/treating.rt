@@ -12,7 +12,7 @@ use crate::opened::{Opened, Repeated};
 use crate::scope::{Scope, ask_ranges, go_by, keep, put_ranges, take_body};
 use crate::treatment::Treatment;
 use cps_state::{
-    Answer, Control, Key, Lookup, MacroBody, Mode, Range, Recorder, Shared, SharedMacro,
+    Answer, Control, Key, Lookup, MacroBody, Mode, OpenRange, Recorder, Shared, SharedMacro,
 };
 use cps_text::Name;
 use std::alloc::{AllocError, Global};
@@ -112,7 +112,7 @@ fn resume<L: Lookup>(
     ensures { Leads result (treating.resuming control scope.old) scope.new L.answer recorder.old recorder.new }
 {
     let others = ask_ranges(recorder, scope)?;
-    let ranges = Shared::with(recorder.alloc(), Range::BehindElse, others.as_slice())?;
+    let ranges = Shared::with(recorder.alloc(), OpenRange::BehindElse, others.as_slice())?;
     put_ranges(recorder, scope, ranges)?;
     go_by(recorder, control, scope, Mode::Normal)
 }

@@ -5,7 +5,7 @@ ghost use Rattle.cps_state.specs.Keys.{uses_of};
 ghost use Rattle.cps_state.specs.Code.Line.{Does, line_answer, line_asked};
 ghost use Rattle.cps_pass.specs.Use as use_of;
 
-use crate::front::Front;
+use crate::context::Context;
 use crate::leaving::select;
 use crate::located::present_flags;
 use crate::making::{unmatched, unread};
@@ -23,7 +23,7 @@ use std::alloc::AllocError;
 /// What a USE leaves: the place in the block in use, and the blocks that it may go back to, the last in front.
 #[derive(Clone, Copy)]
 struct Leaving<'a> {
-    front: Front,
+    context: Context,
     place: Place,
     uses: &'a [Option<Name>],
     ghost low: { place.word < 2 ^ 26 },
@@ -32,15 +32,15 @@ struct Leaving<'a> {
 /// USE: leaves the word that was begun, and selects a block.
 pub fn use_block<L: Lookup>(
     recorder: &mut Recorder<'_, L>,
-    front: Front,
+    context: Context,
     block: Block,
 ) -> Result<(), AllocError>
-    ensures { OnOk result (Does (use_of.use_block front.control front.location block) L.answer recorder.old recorder.new) }
+    ensures { OnOk result (Does (use_of.use_block context.control context.location block) L.answer recorder.old recorder.new) }
 {
-    let place = stand(recorder, front.control)?;
+    let place = stand(recorder, context.control)?;
     let uses = ask_uses(recorder)?;
     let leaving = Leaving {
-        front,
+        context,
         place,
         uses: uses.as_slice(),
     };
@@ -61,12 +61,12 @@ fn leave<L: Lookup>(
     leaving: Leaving<'_>,
     block: Block,
 ) -> Result<(), AllocError>
-    ensures { OnOk result (Does (use_of.leaving leaving.entry.front.control leaving.entry.front.location leaving.entry.place leaving.entry.uses.now block) L.answer recorder.old recorder.new) }
+    ensures { OnOk result (Does (use_of.leaving leaving.entry.context.control leaving.entry.context.location leaving.entry.place leaving.entry.uses.now block) L.answer recorder.old recorder.new) }
 {
     let alloc = recorder.alloc();
     match block {
         Block::Nominal => {
-            let uses = uses_with(alloc, leaving.front.control.block, leaving.uses)?;
+            let uses = uses_with(alloc, leaving.context.control.block, leaving.uses)?;
             go_to(recorder, leaving, uses, None, None)
         }
         Block::Previous => {
@@ -78,12 +78,15 @@ fn leave<L: Lookup>(
 }
 
 /// USE with an unreadable operand.
-pub fn unread_use<L: Lookup>(recorder: &mut Recorder<'_, L>, front: Front) -> Result<(), AllocError>
-    ensures { OnOk result (Does (use_of.unread_use front.control front.location) L.answer recorder.old recorder.new) }
+pub fn unread_use<L: Lookup>(
+    recorder: &mut Recorder<'_, L>,
+    context: Context,
+) -> Result<(), AllocError>
+    ensures { OnOk result (Does (use_of.unread_use context.control context.location) L.answer recorder.old recorder.new) }
 {
-    stand(recorder, front.control)?;
+    stand(recorder, context.control)?;
     recorder.note(Key::Uses)?;
-    unread(recorder, front.location);
+    unread(recorder, context.location);
     Ok(())
 }
 
@@ -119,10 +122,10 @@ fn go_to_named<L: Lookup>(
     leaving: Leaving<'_>,
     name: Name,
 ) -> Result<(), AllocError>
-    ensures { OnOk result (Does (use_of.leaving leaving.entry.front.control leaving.entry.front.location leaving.entry.place leaving.entry.uses.now (Block.Named name)) L.answer recorder.old recorder.new) }
+    ensures { OnOk result (Does (use_of.leaving leaving.entry.context.control leaving.entry.context.location leaving.entry.place leaving.entry.uses.now (Block.Named name)) L.answer recorder.old recorder.new) }
 {
     let alloc = recorder.alloc();
-    let present = leaving.front.control.block;
+    let present = leaving.context.control.block;
     let known = recorder.note(Key::Counter(Some(name)))?;
     if has_begun(present, name, recorder.answer(known)) {
         let uses = uses_with(alloc, present, leaving.uses)?;
@@ -140,14 +143,14 @@ fn go_to_new<L: Lookup>(
     name: Name,
     count: u32,
 ) -> Result<(), AllocError>
-    ensures { OnOk result (Does (use_of.going_to_new leaving.entry.front.control leaving.entry.front.location leaving.entry.place leaving.entry.uses.now name count) L.answer recorder.old recorder.new) }
+    ensures { OnOk result (Does (use_of.going_to_new leaving.entry.context.control leaving.entry.context.location leaving.entry.place leaving.entry.uses.now name count) L.answer recorder.old recorder.new) }
 {
     if count >= MOST_BLOCKS {
-        unmatched(recorder, leaving.front.location);
+        unmatched(recorder, leaving.context.location);
         return Ok(());
     }
     let alloc = recorder.alloc();
-    let uses = uses_with(alloc, leaving.front.control.block, leaving.uses)?;
+    let uses = uses_with(alloc, leaving.context.control.block, leaving.uses)?;
     go_to(recorder, leaving, uses, Some(count + 1), Some(name))
 }
 
@@ -159,9 +162,9 @@ fn go_to<L: Lookup>(
     count: Option<u32>,
     block: Option<Name>,
 ) -> Result<(), AllocError>
-    ensures { OnOk result (Does (use_of.going_to leaving.entry.front.control leaving.entry.front.location leaving.entry.place uses count block) L.answer recorder.old recorder.new) }
+    ensures { OnOk result (Does (use_of.going_to leaving.entry.context.control leaving.entry.context.location leaving.entry.place uses count block) L.answer recorder.old recorder.new) }
 {
-    let control = leaving.front.control;
+    let control = leaving.context.control;
     let left = leave_word(leaving.place);
     go_on(recorder, control.block, left.start, false)?;
     recorder.put(Key::Uses, Answer::Uses(uses))?;
@@ -171,7 +174,7 @@ fn go_to<L: Lookup>(
     }
     select(recorder, control, block)?;
     recorder.fill(Made::leaving(
-        present_flags(leaving.front.location),
+        present_flags(leaving.context.location),
         control.machine,
         left.filling,
         Shown::Nothing,

@@ -6,7 +6,7 @@ ghost use Rattle.cps_state.specs.Made.{width_of, IsContent};
 ghost use Rattle.cps_pass.specs.Code.Sites.{IsSite};
 ghost use Rattle.cps_pass.specs.Words as meaning;
 
-use crate::front::Front;
+use crate::context::Context;
 use crate::numbers::{between, no_number_flags, plain_number};
 use crate::places::here_at;
 use crate::placing::{Site, ask_site, place, place_nothing, place_unread, word_start};
@@ -22,11 +22,11 @@ const BLANK: u8 = 0o55;
 /// A statement of words with unreadable operands.
 pub fn unread_words<L: Lookup>(
     recorder: &mut Recorder<'_, L>,
-    front: Front,
+    context: Context,
 ) -> Result<(), AllocError>
-    ensures { OnOk result (Does (meaning.unread_words front.control front.location) L.answer recorder.old recorder.new) }
+    ensures { OnOk result (Does (meaning.unread_words context.control context.location) L.answer recorder.old recorder.new) }
 {
-    let site = ask_site(recorder, front)?;
+    let site = ask_site(recorder, context)?;
     place_unread(recorder, site, word_start(site))
 }
 
@@ -52,14 +52,14 @@ fn place_words<L: Lookup>(
 /// CON: a word for each value.
 pub fn con<L: Lookup>(
     recorder: &mut Recorder<'_, L>,
-    front: Front,
+    context: Context,
     values: Sequence<Expr>,
 ) -> Result<(), AllocError>
-    ensures { OnOk result (Does (meaning.con front.control front.location values) L.answer recorder.old recorder.new) }
+    ensures { OnOk result (Does (meaning.con context.control context.location values) L.answer recorder.old recorder.new) }
 {
     let alloc = recorder.alloc();
-    let site = ask_site(recorder, front)?;
-    let contents = value_words(alloc, front.control.machine, values)?;
+    let site = ask_site(recorder, context)?;
+    let contents = value_words(alloc, context.control.machine, values)?;
     place_words(recorder, site, contents)
 }
 
@@ -83,15 +83,15 @@ fn value_words(
 /// DATA: a word for each item.
 pub fn data_words<L: Lookup>(
     recorder: &mut Recorder<'_, L>,
-    front: Front,
+    context: Context,
     numbers: &Sequence<u64>,
 ) -> Result<(), AllocError>
-    requires { All (λ number. number < 2 ^ bits_of front.control.machine) numbers.now }
-    ensures { OnOk result (Does (meaning.data_words front.control front.location numbers.now) L.answer recorder.old recorder.new) }
+    requires { All (λ number. number < 2 ^ bits_of context.control.machine) numbers.now }
+    ensures { OnOk result (Does (meaning.data_words context.control context.location numbers.now) L.answer recorder.old recorder.new) }
 {
     let alloc = recorder.alloc();
-    let site = ask_site(recorder, front)?;
-    let contents = number_words(alloc, front.control.machine, numbers)?;
+    let site = ask_site(recorder, context)?;
+    let contents = number_words(alloc, context.control.machine, numbers)?;
     place_words(recorder, site, contents)
 }
 
@@ -116,13 +116,13 @@ fn number_words(
 /// DIS: characters.
 pub fn dis<L: Lookup>(
     recorder: &mut Recorder<'_, L>,
-    front: Front,
+    context: Context,
     text: &DisText,
 ) -> Result<(), AllocError>
-    ensures { OnOk result (Does (meaning.dis front.control front.location text.now) L.answer recorder.old recorder.new) }
+    ensures { OnOk result (Does (meaning.dis context.control context.location text.now) L.answer recorder.old recorder.new) }
 {
     let alloc = recorder.alloc();
-    let site = ask_site(recorder, front)?;
+    let site = ask_site(recorder, context)?;
     match text {
         DisText::Counted(count, text) => { display_counted(recorder, site, count, text) }
         DisText::Delimited(text) => {

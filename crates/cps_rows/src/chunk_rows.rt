@@ -43,10 +43,10 @@ fn two_hundred_lines_come_and_go(rt: HostRuntime) {
 }
 
 /// An edit that is made so many times, and then how many lines each chunk has.
-type Row = (u32, Edit, &'static [usize]);
+type ChunkRow = (u32, Edit, &'static [usize]);
 
 /// Makes the edit of a row so many times, and asserts the chunks and the texts after the last one.
-fn assert_edits(rt: &impl Abort, alloc: Global, at: usize, session: &mut Session, row: &Row) {
+fn assert_edits(rt: &impl Abort, alloc: Global, at: usize, session: &mut Session, row: &ChunkRow) {
     let (times, edit, lengths) = row;
     for _ in 0..*times {
         let _ = carry_out(alloc, session, &mut Work::new(), edit);
@@ -60,7 +60,7 @@ fn assert_edits(rt: &impl Abort, alloc: Global, at: usize, session: &mut Session
 /// shortened from within, and join, lines go over their ends, and at last the source falls to nothing too.
 #[test]
 fn chunks_split_and_join(rt: HostRuntime) {
-    const ROWS: [Row; 19] = [
+    const ROWS: [ChunkRow; 19] = [
         (64, Edit::Insert(0, b"  NO"), &[64]),
         (1, Edit::Insert(32, b"A CON A,B"), &[64, 1]),
         (1, Edit::Insert(0, b"* FRONT"), &[64, 2]),
@@ -86,7 +86,7 @@ fn chunks_split_and_join(rt: HostRuntime) {
     drop(session);
 }
 
-fn assert_rows(rt: &impl Abort, alloc: Global, session: &mut Session, rows: &[Row]) {
+fn assert_rows(rt: &impl Abort, alloc: Global, session: &mut Session, rows: &[ChunkRow]) {
     for (at, row) in rows.iter().enumerate() {
         assert_edits(rt, alloc, at, session, row);
     }

@@ -2,7 +2,8 @@
 use super::assertions::{assert_row, assert_same};
 use super::same_value::UNDEFINED;
 use cps_code::{
-    CpForm, Filled, Force, FormFault, Operand, Piece, Place, Placed, Words, cp_form, place_next,
+    CpForm, Filled, Force, FormFault, Operand, Piece, Place, PlacedInstruction, Words, cp_form,
+    place_next,
 };
 use cps_expr::{Radix, Value};
 use std::alloc::Global;
@@ -115,7 +116,13 @@ fn deposit(rt: &impl Abort, words: &mut Words, start: Place, width: u8, number: 
 }
 
 /// Where the next bits begin. What fills the bits before them is put into the words.
-fn advance(rt: &impl Abort, words: &mut Words, place: Place, bits: u8, force: Force) -> Placed {
+fn advance(
+    rt: &impl Abort,
+    words: &mut Words,
+    place: Place,
+    bits: u8,
+    force: Force,
+) -> PlacedInstruction {
     assert!(rt; place.word < 100 && (bits == 0 || bits == 15 || bits == 30));
     let placed = place_next(place, bits, force);
     if let Some(filling) = placed.filling {

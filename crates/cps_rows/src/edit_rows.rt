@@ -58,7 +58,7 @@ fn replace(
 }
 
 /// An edit, what comes of it, and then the number of lines, the first of them, and the steps of each pass so far.
-type Row = (
+type EditRow = (
     Edit,
     Result<(), EditFault>,
     u32,
@@ -67,7 +67,13 @@ type Row = (
 );
 
 /// Asserts what comes of an edit.
-fn assert_edit(rt: &impl Abort, alloc: Global, session: &mut Session, work: &mut Work, row: &Row) {
+fn assert_edit(
+    rt: &impl Abort,
+    alloc: Global,
+    session: &mut Session,
+    work: &mut Work,
+    row: &EditRow,
+) {
     let (edit, end, count, first, steps) = row;
     let done = carry_out(alloc, session, work, edit);
     assert_same(rt, "what came of it", &done, end);
@@ -91,7 +97,7 @@ fn enter_times(alloc: Global, session: &mut Session, times: u32, text: &[u8]) {
 }
 
 /// Asserts what comes of an edit, and that it makes at most so many comparisons.
-fn assert_looks(rt: &impl Abort, alloc: Global, session: &mut Session, row: &Row, most: u64) {
+fn assert_looks(rt: &impl Abort, alloc: Global, session: &mut Session, row: &EditRow, most: u64) {
     let mut work = Work::new();
     assert_edit(rt, alloc, session, &mut work, row);
     assert_same(rt, "looks", &work.looked().max(most), &most);
@@ -114,7 +120,7 @@ const WORD: &[u8] = b"   CON 1";
 #[test]
 fn steps_few_of_many_lines(rt: HostRuntime) {
     const USE: &[u8] = b"   CON A";
-    const ROWS: [Row; 6] = [
+    const ROWS: [EditRow; 6] = [
         (
             Edit::Replace(2_500, b"* two"),
             Ok(()),

@@ -6,6 +6,7 @@
 //! - `cause.rt`: what is told of flagged lines
 //! - `check.rt`: what a check tells
 //! - `chunk_rows.rt`: sources of some chunks, which edits split, shorten and join
+//! - `claim_rows.rt`: what the rows of an octal text are, and which digits they claim
 //! - `code_rows.rt`: codes of the central processor, and words
 //! - `document.rt`: a document that an editor has open
 //! - `edit_rows.rt`: edits of a session
@@ -43,6 +44,8 @@ mod cause;
 mod check;
 #[cfg(test)]
 mod chunk_rows;
+#[cfg(test)]
+mod claim_rows;
 #[cfg(test)]
 mod code_rows;
 #[cfg(test)]
@@ -91,6 +94,6 @@ mod words_again;
 mod writers;
 
 pub use failing::FailsAt;
-pub use order::{Noting, Telling};
+pub use order::{Noting, TellingWriter};
 pub use readers::{Endless, Resuming, SlowReader};
 pub use writers::{Idle, SlowWriter, Tallying};

@@ -1,5 +1,5 @@
 //! Lines that are put into a state and gathered, each call once more where memory was refused to it: then it does what it would have
-//! done. So the test stands whichever growth is refused, and `scripts/refuse-memory --again` refuses each in turn.
+//! done. So the test stands whichever growth is refused, and `scripts/gate/refuse-memory --again` refuses each in turn.
 //! What a function holds is dropped by calls, whose proofs stand once.
 use super::text_assertions::assert_same;
 use cps_final::Gather;
@@ -48,7 +48,7 @@ fn take_again(alloc: Global, state: &mut State, gather: &mut Gather, text: &str)
 
 /// What stands after some lines.
 #[derive(Clone, Copy, PartialEq, Debug)]
-struct Reached {
+struct GatherEnd {
     is_taken: bool,
     /// The place in the block W: its word, and the bits that are used in it.
     place: Option<(u32, u8)>,
@@ -59,12 +59,11 @@ struct Reached {
     literals: usize,
 }
 
-fn reached_in(state: &State, gather: &Gather, is_taken: bool) -> Option<Reached> {
+fn end_in(state: &State, gather: &Gather, is_taken: bool) -> Option<GatherEnd> {
     let block = Name::read(b"W")?;
     let label = Name::read(b"B")?;
     let setting = Name::read(b"T")?;
-    let finals = gather.finals();
-    Some(Reached {
+    Some(GatherEnd {
         is_taken,
         place: match state.ask(&Key::Counter(Some(block))) {
             Some(Answer::Counter(place)) => Some((place.word, place.used)),
@@ -75,14 +74,14 @@ fn reached_in(state: &State, gather: &Gather, is_taken: bool) -> Option<Reached>
                 Some(Answer::Value(value)) => Some(value.offset),
                 _ => None,
             },
-            finals.setting(setting).map(|value| value.offset),
+            gather.setting(setting).map(|value| value.offset),
         ],
         finals: [
-            finals.label(label).map(|value| value.offset),
-            finals.literal(1).map(|value| value.offset),
-            finals.literal(2).map(|value| value.offset),
+            gather.label(label).map(|value| value.offset),
+            gather.literal(1).map(|value| value.offset),
+            gather.literal(2).map(|value| value.offset),
         ],
-        literals: finals.pool().len(),
+        literals: gather.pool().len(),
     })
 }
 
@@ -97,22 +96,22 @@ const LINES: [&str; 7] = [
     "         SA3     =1",
 ];
 
-fn reach(alloc: Global, lines: &[&str]) -> Option<Reached> {
+fn reach(alloc: Global, lines: &[&str]) -> Option<GatherEnd> {
     let mut state = State::first(alloc, Hashing::by(1));
     let mut gather = Gather::new(alloc, Hashing::by(1));
     let mut is_taken = true;
     for text in lines {
         is_taken = take_again(alloc, &mut state, &mut gather, text) && is_taken;
     }
-    let reached = reached_in(&state, &gather, is_taken);
+    let end = end_in(&state, &gather, is_taken);
     drop(gather);
     drop(state);
-    reached
+    end
 }
 
 #[test]
 fn takes_lines_again(rt: HostRuntime) {
-    let want = Reached {
+    let want = GatherEnd {
         is_taken: true,
         place: Some((1, 0)),
         settings: [Some(7), Some(7)],

@@ -30,11 +30,11 @@ impl Read for Noting<'_> {
 
 /// A writer that tells how many bytes it took.
 #[derive(Drop)]
-pub struct Telling<'a> {
+pub struct TellingWriter<'a> {
     pub written: &'a Cell<usize>,
 }
 
-impl Write for Telling<'_> {
+impl Write for TellingWriter<'_> {
     fn write(&mut self, buf: &[u8]) -> io::Result<usize> {
         let before = self.written.get();
         self.written.set(before.saturating_add(buf.len()));

@@ -120,7 +120,7 @@ fn take_all(alloc: Global, state: &mut State, lines: &[&str]) -> bool {
 
 /// What stands after some lines.
 #[derive(Clone, Copy)]
-struct Reached {
+struct PassEnd {
     /// Whether each line did the same where only what it asked stood.
     is_alike: bool,
     /// The symbol's value.
@@ -130,16 +130,16 @@ struct Reached {
 }
 
 /// Pass one of lines, one after another, and what stands then.
-fn pass_one(alloc: Global, lines: &[&str], symbol: &[u8]) -> Reached {
+fn pass_one(alloc: Global, lines: &[&str], symbol: &[u8]) -> PassEnd {
     let mut state = State::first(alloc, Hashing::by(1));
     let is_alike = take_all(alloc, &mut state, lines);
-    let reached = Reached {
+    let end = PassEnd {
         is_alike,
         value: value_in(&state, symbol),
         place: place_in(&state),
     };
     drop(state);
-    reached
+    end
 }
 
 fn value_in(state: &State, symbol: &[u8]) -> Option<i64> {

@@ -20,7 +20,7 @@ fn lines_of(alloc: Global, texts: &[&[u8]], count: usize) -> Result<Vec<Line>, A
 
 /// So many of these lines, over and over, come in the place of those from a number to another. Then what comes of it, how many lines each chunk has, and the steps
 /// of each pass.
-type Row = (
+type PutRow = (
     u32,
     u32,
     &'static [&'static [u8]],
@@ -39,7 +39,7 @@ const TWO: &[u8] = b"A        EQU     2";
 const COMMENT: &[u8] = b"*";
 
 /// Makes the edit of a row, and asserts what comes of it.
-fn assert_put(rt: &impl Abort, alloc: Global, at: usize, session: &mut Session, row: &Row) {
+fn assert_put(rt: &impl Abort, alloc: Global, at: usize, session: &mut Session, row: &PutRow) {
     let (first, last, texts, count, end, chunks, steps) = row;
     let lines = lines_of(alloc, texts, *count).unwrap_or_else(|_| Vec::new(alloc));
     let mut work = Work::new();
@@ -56,7 +56,7 @@ fn assert_put(rt: &impl Abort, alloc: Global, at: usize, session: &mut Session, 
 #[test]
 fn several_lines_come_at_once(rt: HostRuntime) {
     const NO_LINE: Result<(), EditFault> = Err(EditFault::NoSuchLine);
-    const ROWS: [Row; 12] = [
+    const ROWS: [PutRow; 12] = [
         (1, 0, &[ONE, ADDRESS, COMMENT], 3, Ok(()), &[3], [3, 3]),
         (2, 3, &[ADDRESS], 1, Ok(()), &[2], [1, 1]),
         (1, 1, &[TWO], 1, Ok(()), &[2], [1, 2]),
@@ -81,7 +81,7 @@ fn several_lines_come_at_once(rt: HostRuntime) {
 #[test]
 fn too_many_lines_are_refused_at_once(rt: HostRuntime) {
     const TOO_MANY: Result<(), EditFault> = Err(EditFault::TooManyLines);
-    const ROW: Row = (1, 0, &[COMMENT], 100_000, TOO_MANY, &[], [0, 0]);
+    const ROW: PutRow = (1, 0, &[COMMENT], 100_000, TOO_MANY, &[], [0, 0]);
     let mut session = Session::new(rt.alloc(), Hashing::by(1));
     assert_put(&rt, rt.alloc(), 0, &mut session, &ROW);
     drop(session);

@@ -1,7 +1,7 @@
 //! The rows of statements.
 use super::assertions::{assert_row, assert_row_text, assert_same};
 use super::same_value::UNDEFINED;
-use cps_expr::{Expr, Machine, Operation, Radix, Row, Stmt, StmtFault, Value, read_locals};
+use cps_expr::{Expr, Machine, Operation, Pseudo, Radix, Stmt, StmtFault, Value, read_locals};
 use std::alloc::Global;
 use std::process::Abort;
 
@@ -90,7 +90,7 @@ fn refuses_operands(rt: HostRuntime) {
 /// The values of an operation's expressions, taken out of the statement.
 fn taken(rt: &impl Abort, alloc: Global, statement: Stmt) -> Vec<i64> {
     match statement.into_row() {
-        Row::Con(values) => numbers_of(rt, alloc, &values.into_vec()),
+        Pseudo::Con(values) => numbers_of(rt, alloc, &values.into_vec()),
         _ => rt.panic("not CON"),
     }
 }

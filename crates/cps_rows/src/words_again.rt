@@ -1,5 +1,5 @@
 //! Calls that are made once more where memory was refused to them: then they do what they would have done. So the tests stand whichever
-//! growth is refused, and `scripts/refuse-memory --again` refuses each in turn.
+//! growth is refused, and `scripts/gate/refuse-memory --again` refuses each in turn.
 use super::assertions::{assert_row_text, assert_same};
 use cps_code::{Piece, Words};
 use cps_text::push_octal;

@@ -69,7 +69,6 @@ pub use encodings::encoding_in;
 pub use error_code::ErrorCode;
 pub use fault::ServerFault;
 pub use frame::push_frame;
-pub use front::{Front, front_of};
 pub use json::{JsonFault, json_of};
 pub use markup::{Markup, markup_in};
 pub use member::{uri_in, version_in, wants_definitions};

@@ -4,7 +4,7 @@ use Rattle.std.specs.Prelude.{filter, not, slice_get, unwrap_or, if◌then◌els
 use Rattle.std.specs.List.{remove}
 use Rattle.cps_server.specs.declared.open_texts.OpenText as code
 use Rattle.cps_server.specs.Code.Opened.{value_of}
-use Rattle.cps_server.specs.Standing.{OpenText, is_under, open_under, without}
+use Rattle.cps_server.specs.ServerState.{OpenText, is_under, open_under, without}
 
 -- the first of some texts stands under a URI: it goes
 without-first : (uri : List ℕ) (one : OpenText) (texts : List OpenText) → is_under uri one ≡ true → without uri (one ∷ texts) ≡ without uri texts

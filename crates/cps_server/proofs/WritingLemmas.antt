@@ -12,8 +12,8 @@ use Rattle.cps_rpc.specs.declared.encoding.Encoding.{Encoding}
 use Rattle.cps_rpc.specs.Lines.{source_lines}
 use Rattle.cps_cause.specs.declared.letter.Letter.{Letter}
 use Rattle.cps_cause.specs.declared.letter.Letter.TheVariants.{A, D, E, L, O, T, U, V}
-use Rattle.cps_server.specs.declared.kind.Kind.{Kind}
-use Rattle.cps_server.specs.declared.kind.Kind.TheVariants.{Flag, Wrong}
+use Rattle.cps_server.specs.declared.mark_kind.MarkKind.{MarkKind}
+use Rattle.cps_server.specs.declared.mark_kind.MarkKind.TheVariants.{Flag, Wrong}
 use Rattle.cps_server.specs.declared.mark.Mark as made
 use Rattle.cps_server.specs.Marks.{Mark, Marks, place_of}
 use Rattle.cps_server.specs.Ranges.{position, range_of, told_units}
@@ -60,7 +60,7 @@ flag-written T range message = refl
 flag-written U range message = refl
 flag-written V range message = refl
 
-diagnostic-written : (kind : Kind) (line start end : ℕ) (message : List ℕ)
+diagnostic-written : (kind : MarkKind) (line start end : ℕ) (message : List ℕ)
     → compact_text (diagnostic kind (range_of line start end) message) ≡ diagnostic_text kind (record { line = line; start = start; end = end }) message
 diagnostic-written (Flag letter) line start end message =
     flag-written letter (range_of line start end) message ∙ ap (λ rest. codes "{\"code\":\"" ++ letter_name letter ++ codes "\"," ++ rest) (report-written 1 line start end message)

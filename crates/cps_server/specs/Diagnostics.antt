@@ -10,8 +10,8 @@ use Rattle.cps_cause.specs.declared.letter.Letter.{Letter}
 use Rattle.cps_cause.specs.declared.letter.Letter.TheVariants.{A, D, E, L, O, T, U, V}
 use Rattle.cps_rpc.specs.Outgoing.{notification}
 use Rattle.cps_server.specs.Ranges.{columns_range}
-use Rattle.cps_server.specs.declared.kind.Kind.{Kind}
-use Rattle.cps_server.specs.declared.kind.Kind.TheVariants.{Flag, Wrong}
+use Rattle.cps_server.specs.declared.mark_kind.MarkKind.{MarkKind}
+use Rattle.cps_server.specs.declared.mark_kind.MarkKind.TheVariants.{Flag, Wrong}
 use Rattle.cps_server.specs.Marks.{Mark, Marks}
 
 -- ---- a diagnostic
@@ -42,7 +42,7 @@ report severity range message =
     (member (codes "severity") (number (unsigned severity)) (member (codes "source") (string (codes "compass")) no_members)))
 
 -- an error; a flag is told with its letter
-abbrev pub diagnostic : Kind → Data → List ℕ → Data
+abbrev pub diagnostic : MarkKind → Data → List ℕ → Data
 diagnostic (Flag letter) range message = object (member (codes "code") (string (letter_name letter)) (report 1 range message))
 diagnostic Wrong range message = object (report 1 range message)
 

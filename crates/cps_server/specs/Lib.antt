@@ -8,7 +8,7 @@ pub mod Ranges
 pub mod Results
 pub mod Queries
 pub mod Frames
-pub mod Standing
+pub mod ServerState
 pub mod Requests
 pub mod Diagnostics
 pub mod Notices

@@ -11,8 +11,8 @@ use Rattle.cps_input.specs.Faults.{AreFaults}
 use Rattle.cps_rpc.specs.Lines.{source_lines}
 use Rattle.cps_edit.specs.Assembly.{outcomes_of, ends_open}
 use Rattle.cps_server.specs.Document.{source_of_text}
-use Rattle.cps_server.specs.declared.kind.Kind.{Kind}
-use Rattle.cps_server.specs.declared.kind.Kind.TheVariants as kinds
+use Rattle.cps_server.specs.declared.mark_kind.MarkKind.{MarkKind}
+use Rattle.cps_server.specs.declared.mark_kind.MarkKind.TheVariants as kinds
 use Rattle.cps_server.specs.declared.mark.Mark as made
 
 -- A mark: its line, from 0; the columns where it shows, from 1, which are bytes of the line; and what it marks.
@@ -20,7 +20,7 @@ pub record Mark : Type 0 where
   pub line : ℕ
   pub first : ℕ
   pub last : ℕ
-  pub kind : Kind
+  pub kind : MarkKind
 
 -- a mark without its message
 abbrev pub place_of : made.Mark → Mark

@@ -7,7 +7,7 @@ use Rattle.cps_rpc.specs.declared.encoding.Encoding.{Encoding}
 use Rattle.cps_rpc.specs.declared.markup.Markup.{Markup}
 use Rattle.cps_rpc.specs.Params.{position_at, range_at, wants_definitions}
 use Rattle.cps_server.specs.Symbols.{definitions, mentions_at}
-use Rattle.cps_server.specs.declared.deck.Deck.{Deck}
+use Rattle.cps_server.specs.declared.queried_text.QueriedText.{QueriedText}
 use Rattle.cps_server.specs.declared.query.Query.{Query}
 use Rattle.cps_server.specs.declared.query.Query.TheVariants.{Hover, Definition, References, Symbols, Hints, Completions, Listing}
 use Rattle.cps_server.specs.Ranges.{word_at}
@@ -47,5 +47,5 @@ Tells Completions params encoding markup uri text told =
 Tells Listing params encoding markup uri text told = TellsOf (range_at params) (λ range json. json ≡ array (items_of (listings_in text range))) told
 
 -- what is told of a deck
-abbrev pub TellsOfDeck : Query → Data → Deck → Option Data → Type 0
+abbrev pub TellsOfDeck : Query → Data → QueriedText → Option Data → Type 0
 TellsOfDeck query params deck told = Tells query params deck.encoding deck.markup deck.uri.now deck.document.now told

@@ -10,19 +10,19 @@ use Rattle.cps_rpc.specs.declared.error_code.ErrorCode.TheVariants.{InvalidReque
 use Rattle.cps_rpc.specs.Outgoing.{response, refusal}
 use Rattle.cps_server.specs.declared.query.Query.{Query}
 use Rattle.cps_server.specs.Queries.{Tells, query_named}
-use Rattle.cps_server.specs.declared.phase.Phase.{Phase}
-use Rattle.cps_server.specs.declared.phase.Phase.TheVariants.{Uninitialized, Running, ShutDown}
-use Rattle.cps_server.specs.declared.request.Request.{Request}
-use Rattle.cps_server.specs.declared.request.Request.TheVariants.{Initialize, Shutdown, Query as Asks, Unknown}
-use Rattle.cps_server.specs.Standing.{Standing, text_under}
+use Rattle.cps_server.specs.declared.server_phase.ServerPhase.{ServerPhase}
+use Rattle.cps_server.specs.declared.server_phase.ServerPhase.TheVariants.{Uninitialized, Running, ShutDown}
+use Rattle.cps_server.specs.declared.request_method.RequestMethod.{RequestMethod}
+use Rattle.cps_server.specs.declared.request_method.RequestMethod.TheVariants.{Initialize, Shutdown, Query as Asks, Unknown}
+use Rattle.cps_server.specs.ServerState.{ServerState, text_under}
 
 -- the request that is this query; an unknown one where it is none
-abbrev pub request_of : Option Query → Request
+abbrev pub request_of : Option Query → RequestMethod
 request_of None = Unknown
 request_of (Some query) = Asks query
 
 -- the request of a method
-abbrev pub request_named : List ℕ → Request
+abbrev pub request_named : List ℕ → RequestMethod
 request_named method =
     if bytes_eq method (codes "initialize") then Initialize
     else (if bytes_eq method (codes "shutdown") then Shutdown else request_of (query_named method))
@@ -68,15 +68,15 @@ OwesOf query params encoding markup uri None owed = owed ≡ refused InvalidPara
 OwesOf query params encoding markup uri (Some text) owed =
     (told : Option Data) × Tells query params encoding markup uri text told × (owed ≡ owed_by told)
 
-abbrev pub OwesUnder : Query → Data → Standing → Option (List ℕ) → Owed → Type 0
+abbrev pub OwesUnder : Query → Data → ServerState → Option (List ℕ) → Owed → Type 0
 OwesUnder query params old None owed = owed ≡ refused InvalidParams
 OwesUnder query params old (Some uri) owed = OwesOf query params old.encoding old.markup uri (text_under uri old.texts) owed
 
-abbrev pub OwesQuery : Query → Data → Standing → Owed → Type 0
+abbrev pub OwesQuery : Query → Data → ServerState → Owed → Type 0
 OwesQuery query params old owed = OwesUnder query params old (uri_in params) owed
 
 -- what is owed to a request in a phase, by its parameters
-abbrev pub OwesIn : Phase → Request → Data → Standing → Owed → Type 0
+abbrev pub OwesIn : ServerPhase → RequestMethod → Data → ServerState → Owed → Type 0
 OwesIn Uninitialized Initialize params old owed = owed ≡ found (introduction (encoding_in params))
 OwesIn Uninitialized Shutdown params old owed = owed ≡ refused ServerNotInitialized
 OwesIn Uninitialized (Asks query) params old owed = owed ≡ refused ServerNotInitialized
@@ -87,11 +87,11 @@ OwesIn Running (Asks query) params old owed = OwesQuery query params old owed
 OwesIn Running Unknown params old owed = owed ≡ refused MethodNotFound
 OwesIn ShutDown request params old owed = owed ≡ refused InvalidRequest
 
-abbrev pub Owes : Request → Data → Standing → Owed → Type 0
+abbrev pub Owes : RequestMethod → Data → ServerState → Owed → Type 0
 Owes request params old owed = OwesIn old.phase request params old owed
 
 -- where a server stands behind a request
-abbrev pub moved_by : Phase → Request → Data → Standing → Standing
+abbrev pub moved_by : ServerPhase → RequestMethod → Data → ServerState → ServerState
 moved_by Uninitialized Initialize params old = record old { phase = Running; encoding = encoding_in params; markup = markup_in params }
 moved_by Uninitialized Shutdown params old = old
 moved_by Uninitialized (Asks query) params old = old
@@ -102,7 +102,7 @@ moved_by Running (Asks query) params old = old
 moved_by Running Unknown params old = old
 moved_by ShutDown request params old = old
 
-abbrev pub after_request : Request → Data → Standing → Standing
+abbrev pub after_request : RequestMethod → Data → ServerState → ServerState
 after_request request params old = moved_by old.phase request params old
 
 -- the answer to the request of an identifier

@@ -3,7 +3,7 @@ use Rattle.std.specs.Prelude.{◌≡◌, ℕ, ◌+◌, Bool, false, ◌||◌, na
 use Rattle.std.specs.Option.{option_map_or}
 use Rattle.cps_state.specs.Flags.{has_flag}
 use Rattle.cps_final.specs.Outcome.{flags_of, Outcome}
-use Rattle.cps_final.specs.declared.digits.Digits.{Digits}
+use Rattle.cps_final.specs.declared.octal_digits.OctalDigits.{OctalDigits}
 use Rattle.cps_final.specs.declared.row.Row.{Row}
 use Rattle.cps_list.specs.Assembly.{Assembly}
 use Rattle.cps_list.specs.Listing.{address_text, code_text, line_rows, second_text}
@@ -65,7 +65,7 @@ line_listing text number = rows_of number (slice_get (source_of_text text) numbe
 -- ---- beside a line
 
 -- an address and a code, with a blank between them
-abbrev pub address_and_code : Option ℕ → Option Digits → List ℕ
+abbrev pub address_and_code : Option ℕ → Option OctalDigits → List ℕ
 address_and_code None code = code_text code
 address_and_code (Some address) None = address_text (Some address)
 address_and_code (Some address) (Some digits) = address_text (Some address) ++ (codes " " ++ code_text (Some digits))

@@ -6,11 +6,11 @@ ghost use Rattle.cps_server.specs.Code.Telling.{has_float_told};
 ghost use Rattle.cps_server.specs.declared.query.Query.TheVariants as queries;
 
 use crate::completions::tell_completions;
-use crate::deck::Deck;
 use crate::hints::hints_in;
 use crate::hovering::hover_at;
 use crate::listing::listings_in;
 use crate::locations::{definition_at, references_at};
+use crate::queried_text::QueriedText;
 use crate::query::Query;
 use crate::symbols::tell_symbols;
 use cps_rpc::{position_at, range_at, wants_definitions};
@@ -22,7 +22,7 @@ pub fn answer(
     alloc: Global,
     query: Query,
     params: &Value,
-    deck: Deck<'_>,
+    deck: QueriedText<'_>,
 ) -> Result<Option<Value>, AllocError>
     ensures told { IfOk result (λ told. TellsOfDeck query (view params.now) deck.entry (option_map view told)) }
     ensures floats { IfOk result (λ told. has_float_told (option_map view told) ≡ false) }
@@ -38,7 +38,11 @@ pub fn answer(
     }
 }
 
-fn answer_hover(alloc: Global, params: &Value, deck: Deck<'_>) -> Result<Option<Value>, AllocError>
+fn answer_hover(
+    alloc: Global,
+    params: &Value,
+    deck: QueriedText<'_>,
+) -> Result<Option<Value>, AllocError>
     ensures { IfOk result (λ told. TellsOfDeck queries.Hover (view params.now) deck.entry (option_map view told)) }
 {
     let Some(position) = position_at(params) else {
@@ -51,7 +55,7 @@ fn answer_hover(alloc: Global, params: &Value, deck: Deck<'_>) -> Result<Option<
 fn answer_definition(
     alloc: Global,
     params: &Value,
-    deck: Deck<'_>,
+    deck: QueriedText<'_>,
 ) -> Result<Option<Value>, AllocError>
     ensures { IfOk result (λ told. TellsOfDeck queries.Definition (view params.now) deck.entry (option_map view told)) }
 {
@@ -65,7 +69,7 @@ fn answer_definition(
 fn answer_references(
     alloc: Global,
     params: &Value,
-    deck: Deck<'_>,
+    deck: QueriedText<'_>,
 ) -> Result<Option<Value>, AllocError>
     ensures { IfOk result (λ told. TellsOfDeck queries.References (view params.now) deck.entry (option_map view told)) }
 {
@@ -79,7 +83,7 @@ fn answer_references(
 fn answer_symbols(
     alloc: Global,
     params: &Value,
-    deck: Deck<'_>,
+    deck: QueriedText<'_>,
 ) -> Result<Option<Value>, AllocError>
     ensures { IfOk result (λ told. TellsOfDeck queries.Symbols (view params.now) deck.entry (option_map view told)) }
 {
@@ -87,7 +91,11 @@ fn answer_symbols(
     Ok(Some(told))
 }
 
-fn answer_hints(alloc: Global, params: &Value, deck: Deck<'_>) -> Result<Option<Value>, AllocError>
+fn answer_hints(
+    alloc: Global,
+    params: &Value,
+    deck: QueriedText<'_>,
+) -> Result<Option<Value>, AllocError>
     ensures { IfOk result (λ told. TellsOfDeck queries.Hints (view params.now) deck.entry (option_map view told)) }
 {
     let Some(range) = range_at(params) else {
@@ -100,7 +108,7 @@ fn answer_hints(alloc: Global, params: &Value, deck: Deck<'_>) -> Result<Option<
 fn answer_completions(
     alloc: Global,
     params: &Value,
-    deck: Deck<'_>,
+    deck: QueriedText<'_>,
 ) -> Result<Option<Value>, AllocError>
     ensures { IfOk result (λ told. TellsOfDeck queries.Completions (view params.now) deck.entry (option_map view told)) }
 {
@@ -114,7 +122,7 @@ fn answer_completions(
 fn answer_listing(
     alloc: Global,
     params: &Value,
-    deck: Deck<'_>,
+    deck: QueriedText<'_>,
 ) -> Result<Option<Value>, AllocError>
     ensures { IfOk result (λ told. TellsOfDeck queries.Listing (view params.now) deck.entry (option_map view told)) }
 {

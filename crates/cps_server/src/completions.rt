@@ -6,10 +6,10 @@ ghost use Rattle.cps_server.specs.Ranges.{word_at};
 ghost use Rattle.cps_server.specs.Results.{TellsCompletions, completion, edit};
 ghost use Rattle.cps_server.specs.Code.Telling.{KeepsCompletions};
 
-use crate::deck::Deck;
 use crate::document::Document;
 use crate::mentions::definitions_in;
 use crate::operations::{CENTRAL, CENTRAL_WITH_REGISTER, PERIPHERAL, STATEMENTS};
+use crate::queried_text::QueriedText;
 use crate::ranges::word_range;
 use cps_list::{View, push_value, symbol_value};
 use cps_rpc::Position;
@@ -60,7 +60,7 @@ struct Sort<'a> {
 /// What may be written in the place of the word around a position of a deck: its symbols with their values, its macros, and the operations of both processors.
 pub fn tell_completions(
     alloc: Global,
-    deck: Deck<'_>,
+    deck: QueriedText<'_>,
     position: Position,
 ) -> Result<Value, AllocError>
     ensures { IfOk result (λ json. TellsCompletions (word_at deck.entry.encoding deck.entry.document.now position) (view json)) }

@@ -1,12 +1,12 @@
 //! A diagnostic, as it is written.
 ghost use Rattle.std.specs.Prelude.{◌≡◌, ◌-◌, ◌++◌, OnOk};
-ghost use Rattle.cps_server.specs.declared.kind.Kind.TheVariants.{Flag, Wrong};
+ghost use Rattle.cps_server.specs.declared.mark_kind.MarkKind.TheVariants.{Flag, Wrong};
 ghost use Rattle.cps_server.specs.Ranges.{told_units};
 ghost use Rattle.cps_server.specs.Diagnostics as diagnostics;
 ghost use Rattle.cps_server.specs.Code.Writing.{diagnostic_text, information_text, message_text, position_text, range_text, report_text};
 
-use crate::kind::Kind;
 use crate::mark::Mark;
+use crate::mark_kind::MarkKind;
 use crate::writing::push_string;
 use cps_cause::Letter;
 use cps_list::push_decimal;
@@ -47,15 +47,15 @@ impl Stretch {
 pub fn push_diagnostic(
     alloc: Global,
     text: &mut Vec<u8>,
-    kind: Kind,
+    kind: MarkKind,
     stretch: Stretch,
     message: &str,
 ) -> Result<(), AllocError>
     ensures { OnOk result (text.new.items ≡ text.old.items ++ diagnostic_text kind stretch message.now) }
 {
     match kind {
-        Kind::Flag(letter) => push_flag(alloc, text, letter, stretch, message),
-        Kind::Wrong => push_fault(alloc, text, stretch, message),
+        MarkKind::Flag(letter) => push_flag(alloc, text, letter, stretch, message),
+        MarkKind::Wrong => push_fault(alloc, text, stretch, message),
     }
 }
 

@@ -2,7 +2,7 @@
 ghost use Rattle.std.specs.Prelude.{◌≡◌, ◌++◌, option_map, IfOk, OnOk};
 ghost use Rattle.cps_server.specs.Rows as shown;
 
-use cps_final::{Digits, Row};
+use cps_final::{OctalDigits, Row};
 use cps_text::push_octal;
 use std::alloc::{AllocError, Global};
 
@@ -43,7 +43,7 @@ fn push_code(text: &mut Vec<u8>, row: &Row) -> Result<(), AllocError>
 fn push_address_and_code(
     text: &mut Vec<u8>,
     location: Option<u64>,
-    code: Option<Digits>,
+    code: Option<OctalDigits>,
 ) -> Result<(), AllocError>
     ensures { OnOk result (text.new.items ≡ text.old.items ++ shown.address_and_code location code) }
 {

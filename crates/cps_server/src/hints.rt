@@ -7,17 +7,17 @@ ghost use Rattle.cps_server.specs.Document.{source_of_text};
 ghost use Rattle.cps_server.specs.Results as results;
 ghost use Rattle.cps_server.specs.Code.Telling.{AddsTold, hint_of_deck};
 
-use crate::deck::Deck;
 use crate::document::Document;
 use crate::hint::hint_of;
 use crate::mentions::line_of;
+use crate::queried_text::QueriedText;
 use cps_list::View;
 use cps_rpc::{Range, units_before};
 use serde_json::{Value, json};
 use std::alloc::{AllocError, Global};
 
 /// What is shown at the ends of lines, from the first line of a range through its last.
-pub fn hints_in(alloc: Global, deck: Deck<'_>, range: Range) -> Result<Value, AllocError>
+pub fn hints_in(alloc: Global, deck: QueriedText<'_>, range: Range) -> Result<Value, AllocError>
     ensures { IfOk result (λ json. view json ≡ array (items_of (results.hints_in deck.entry.encoding deck.entry.document.now range))) }
 {
     let count = deck.document.session().count();
@@ -29,7 +29,7 @@ pub fn hints_in(alloc: Global, deck: Deck<'_>, range: Range) -> Result<Value, Al
 /// Those of the lines from one up to another, from 0.
 fn hints_between(
     alloc: Global,
-    deck: Deck<'_>,
+    deck: QueriedText<'_>,
     first: u32,
     end: u32,
 ) -> Result<Vec<Value>, AllocError>
@@ -46,7 +46,7 @@ fn hints_between(
 /// Appends what is shown beside the line of a number, from 1, if something is.
 fn push_hint(
     alloc: Global,
-    deck: Deck<'_>,
+    deck: QueriedText<'_>,
     number: u32,
     told: &mut Vec<Value>,
 ) -> Result<(), AllocError>

@@ -3,14 +3,18 @@ ghost use Rattle.std.specs.Prelude.{◌≡◌, option_map, IfOk, Some};
 ghost use Rattle.serde_json.specs.View.{view};
 ghost use Rattle.cps_server.specs.Results as results;
 
-use crate::deck::Deck;
+use crate::queried_text::QueriedText;
 use crate::rows::shown_at;
 use cps_rpc::{Markup, Position};
 use serde_json::{Value, json};
 use std::alloc::{AllocError, Global};
 
 /// What is shown at a position of a deck: the row of the symbol there, the rows of the line, and why it is flagged. It is null where no such line is assembled.
-pub fn hover_at(alloc: Global, deck: Deck<'_>, position: Position) -> Result<Value, AllocError>
+pub fn hover_at(
+    alloc: Global,
+    deck: QueriedText<'_>,
+    position: Position,
+) -> Result<Value, AllocError>
     ensures { IfOk result (λ json. results.TellsShown deck.entry.encoding deck.entry.markup deck.entry.document.now position (view json)) }
 {
     let shown = shown_at(alloc, deck.document, deck.encoding, position)?;

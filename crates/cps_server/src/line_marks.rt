@@ -5,8 +5,8 @@ ghost use Rattle.cps_server.specs.Code.Adding.{Adds, AddsFlags, AddsLine};
 ghost use Rattle.cps_server.specs.Marks.{flag_mark, fault_mark};
 
 use crate::document::Document;
-use crate::kind::Kind;
 use crate::mark::Mark;
+use crate::mark_kind::MarkKind;
 use cps_cause::{Columns, Diagnostic, LinesAbove, explain};
 use cps_input::{CharacterFault, faults_of};
 use cps_list::View;
@@ -74,7 +74,7 @@ fn push_fault(
             first: fault.first,
             last: fault.last,
         },
-        kind: Kind::Wrong,
+        kind: MarkKind::Wrong,
         message,
     })?;
     Ok(())
@@ -151,7 +151,7 @@ fn push_cause(
     marks.push(Mark {
         line: flagged.number,
         columns: told.columns,
-        kind: Kind::Flag(letter),
+        kind: MarkKind::Flag(letter),
         message,
     })?;
     Ok(())

@@ -5,8 +5,8 @@ ghost use Rattle.serde_json.specs.Data.{array};
 ghost use Rattle.serde_json.specs.View.{items_of, view};
 ghost use Rattle.cps_server.specs.Results as results;
 
-use crate::deck::Deck;
 use crate::document::Document;
+use crate::queried_text::QueriedText;
 use crate::rows::push_line_listing;
 use cps_list::View;
 use cps_rpc::Range;
@@ -14,7 +14,7 @@ use serde_json::Value;
 use std::alloc::{AllocError, Global};
 
 /// The rows that the listing has of lines, from the first line of a range through its last: a text for each line.
-pub fn listings_in(alloc: Global, deck: Deck<'_>, range: Range) -> Result<Value, AllocError>
+pub fn listings_in(alloc: Global, deck: QueriedText<'_>, range: Range) -> Result<Value, AllocError>
     ensures { IfOk result (λ json. view json ≡ array (items_of (results.listings_in deck.entry.document.now range))) }
 {
     let count = deck.document.session().count();

@@ -8,8 +8,8 @@ ghost use Rattle.cps_server.specs.Results.{TellsEach, TellsFirst, TellsMention};
 ghost use Rattle.cps_server.specs.Code.Telling.{mentions_of_deck};
 
 use crate::columns::columns_of;
-use crate::deck::Deck;
 use crate::mentions::{line_of, mentions_at};
+use crate::queried_text::QueriedText;
 use crate::ranges::columns_range;
 use cps_list::Mention;
 use cps_rpc::Position;
@@ -17,7 +17,11 @@ use serde_json::{Value, json};
 use std::alloc::{AllocError, Global};
 
 /// Where the symbol around a position is defined: the first line that does. It is null where no symbol stands there, or no line defines it.
-pub fn definition_at(alloc: Global, deck: Deck<'_>, position: Position) -> Result<Value, AllocError>
+pub fn definition_at(
+    alloc: Global,
+    deck: QueriedText<'_>,
+    position: Position,
+) -> Result<Value, AllocError>
     ensures { IfOk result (λ json. TellsFirst deck.entry.uri.now (definitions (mentions_of_deck deck.entry position)) (view json)) }
 {
     let mut mentions = mentions_at(alloc, deck.document, deck.encoding, position)?;
@@ -28,7 +32,7 @@ pub fn definition_at(alloc: Global, deck: Deck<'_>, position: Position) -> Resul
 /// Where the symbol around a position is read, and, if those are wanted, where it is defined.
 pub fn references_at(
     alloc: Global,
-    deck: Deck<'_>,
+    deck: QueriedText<'_>,
     position: Position,
     definitions_too: bool,
 ) -> Result<Value, AllocError>
@@ -41,7 +45,11 @@ pub fn references_at(
 }
 
 /// The line of the first mention; null where there is none.
-fn tell_first(alloc: Global, deck: Deck<'_>, mentions: &[Mention]) -> Result<Value, AllocError>
+fn tell_first(
+    alloc: Global,
+    deck: QueriedText<'_>,
+    mentions: &[Mention],
+) -> Result<Value, AllocError>
     ensures { IfOk result (λ json. TellsFirst deck.entry.uri.now mentions.now (view json)) }
 {
     match mentions.first() {
@@ -51,7 +59,11 @@ fn tell_first(alloc: Global, deck: Deck<'_>, mentions: &[Mention]) -> Result<Val
 }
 
 /// The lines of mentions.
-fn tell_mentions(alloc: Global, deck: Deck<'_>, mentions: &[Mention]) -> Result<Value, AllocError>
+fn tell_mentions(
+    alloc: Global,
+    deck: QueriedText<'_>,
+    mentions: &[Mention],
+) -> Result<Value, AllocError>
     ensures { IfOk result (λ json. TellsEach (TellsMention deck.entry.uri.now) mentions.now (view json)) }
 {
     let mut told = Vec::new(alloc);
@@ -62,7 +74,11 @@ fn tell_mentions(alloc: Global, deck: Deck<'_>, mentions: &[Mention]) -> Result<
 }
 
 /// The line of a mention.
-fn tell_mention(alloc: Global, deck: Deck<'_>, mention: &Mention) -> Result<Value, AllocError>
+fn tell_mention(
+    alloc: Global,
+    deck: QueriedText<'_>,
+    mention: &Mention,
+) -> Result<Value, AllocError>
     ensures { IfOk result (λ json. TellsMention deck.entry.uri.now mention.now (view json)) }
 {
     let number = mention.line.saturating_sub(1);

@@ -1,7 +1,7 @@
 //! A mark in a line of a text.
 ghost use Rattle.std.specs.Prelude.{◌<◌, length};
 
-use crate::kind::Kind;
+use crate::mark_kind::MarkKind;
 use cps_cause::Columns;
 
 /// A mark in a line of a text: what is wrong there.
@@ -10,7 +10,7 @@ pub struct Mark {
     pub line: u32,
     /// Where it shows in the line, in bytes.
     pub columns: Columns,
-    pub kind: Kind,
+    pub kind: MarkKind,
     /// Why it is wrong, as a sentence without its point. Where that stands in a statement of the line's expansion, this has a second row.
     pub message: Vec<u8>,
     ghost some: { 0 < length message.items },

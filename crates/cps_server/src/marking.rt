@@ -5,9 +5,9 @@ ghost use Rattle.cps_server.specs.Code.Adding.{Adds, AddsEnd, AddsLines, excess_
 ghost use Rattle.cps_server.specs.Marks.{Marks, place_of};
 
 use crate::document::Document;
-use crate::kind::Kind;
 use crate::line_marks::{push_marks, unindented};
 use crate::mark::Mark;
+use crate::mark_kind::MarkKind;
 use cps_cause::{Columns, LinesAbove, Quotation, explain_end};
 use cps_list::View;
 use cps_text::limits::MOST_LINES;
@@ -53,7 +53,7 @@ fn push_excess(alloc: Global, count: usize, marks: &mut Vec<Mark>) -> Result<(),
     marks.push(Mark {
         line: MOST_LINES as u32,
         columns: Columns { first: 1, last: 1 },
-        kind: Kind::Wrong,
+        kind: MarkKind::Wrong,
         message,
     })?;
     Ok(())
@@ -80,7 +80,7 @@ fn push_end(alloc: Global, document: &Document, marks: &mut Vec<Mark>) -> Result
     marks.push(Mark {
         line: last,
         columns,
-        kind: Kind::Flag(letter),
+        kind: MarkKind::Flag(letter),
         message: words.into_bytes(),
     })?;
     Ok(())

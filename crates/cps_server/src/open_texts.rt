@@ -1,7 +1,7 @@
 //! The texts that are open.
 ghost use Rattle.std.specs.Prelude.{◌≡◌, [], ◌∷◌, ◌++◌, map, option_map, None, IfSome, OnOk};
 ghost use Rattle.cps_server.specs.Code.Opened.{IsFirst, value_of};
-ghost use Rattle.cps_server.specs.Standing.{open_under, text_under, without};
+ghost use Rattle.cps_server.specs.ServerState.{open_under, text_under, without};
 
 use crate::document::Document;
 use std::alloc::{AllocError, Global};
@@ -51,7 +51,7 @@ impl Drop for OpenTexts {
 impl Model for OpenTexts {
     ghost use Rattle.std.specs.Prelude.{List, map};
     ghost use Rattle.cps_server.specs.Code.Opened.{value_of};
-    ghost use Rattle.cps_server.specs.Standing.{OpenText};
+    ghost use Rattle.cps_server.specs.ServerState.{OpenText};
 
     ghost Value = { List OpenText };
 

@@ -4,8 +4,8 @@ ghost use Rattle.serde_json.specs.View.{view};
 ghost use Rattle.cps_server.specs.Ranges as ranges;
 ghost use Rattle.cps_server.specs.Code.Telling.{IsWithin};
 
-use crate::deck::Deck;
 use crate::mentions::line_of;
+use crate::queried_text::QueriedText;
 use crate::words::{word_end, word_start};
 use cps_cause::Columns;
 use cps_rpc::{Encoding, Position, place_in, units_before};
@@ -70,7 +70,11 @@ pub fn columns_range(
 }
 
 /// The range of the word around a position of a deck. Where none stands there, it is empty.
-pub fn word_range(alloc: Global, deck: Deck<'_>, position: Position) -> Result<Value, AllocError>
+pub fn word_range(
+    alloc: Global,
+    deck: QueriedText<'_>,
+    position: Position,
+) -> Result<Value, AllocError>
     ensures { IfOk result (λ json. view json ≡ ranges.word_at deck.entry.encoding deck.entry.document.now position) }
 {
     let line = line_of(deck.document, position.line);

@@ -11,20 +11,20 @@ ghost use Rattle.cps_server.specs.Code.Owing.{has_float_owed, value_of};
 ghost use Rattle.cps_server.specs.Requests as requests;
 ghost use Rattle.cps_server.specs.Code.Said.{Into, has_float_id};
 ghost use Rattle.cps_server.specs.Code.Taking.{Changes, Takes};
-ghost use Rattle.cps_server.specs.Standing.{beginning, is_shut_down};
+ghost use Rattle.cps_server.specs.ServerState.{beginning, is_shut_down};
 
 use crate::answering::answer;
-use crate::deck::Deck;
 use crate::diagnostics::{ToldText, list_of, say_closed, say_list};
 use crate::document::Document;
 use crate::introducing::introduction;
 use crate::notice::Notice;
 use crate::open_texts::OpenTexts;
 use crate::owed::Owed;
-use crate::phase::Phase;
+use crate::queried_text::QueriedText;
 use crate::query::Query;
-use crate::request::Request;
+use crate::request_method::RequestMethod;
 use crate::saying::{push_answer, push_rejection};
+use crate::server_phase::ServerPhase;
 use cps_rpc::{
     Change, Encoding, ErrorCode, JsonFault, Markup, Message, OpenedText, Service, changes_in,
     encoding_in, json_of, markup_in, uri_in, version_in,
@@ -38,7 +38,7 @@ use std::marker::Model;
 pub struct Server {
     alloc: Global,
     hashing: Hashing,
-    phase: Phase,
+    phase: ServerPhase,
     has_exited: bool,
     encoding: Encoding,
     /// In which form the editor takes a hover.
@@ -63,9 +63,9 @@ impl Drop for Server {
 }
 
 impl Model for Server {
-    ghost use Rattle.cps_server.specs.Standing.{Standing};
+    ghost use Rattle.cps_server.specs.ServerState.{ServerState};
 
-    ghost Value = { Standing };
+    ghost Value = { ServerState };
 
     ghost view = { λ server. record { phase = server.phase; has_exited = server.has_exited; encoding = server.encoding; markup = server.markup; texts = server.texts } };
 }
@@ -98,7 +98,7 @@ impl Server {
         Server {
             alloc,
             hashing,
-            phase: Phase::Uninitialized,
+            phase: ServerPhase::Uninitialized,
             has_exited: false,
             encoding: Encoding::Utf16,
             markup: Markup::Plain,
@@ -152,26 +152,30 @@ impl Server {
         requires { has_float (view id.now) ≡ false }
         ensures { OnOk result (Into (Hears (request (view id.now) method.now) (view params.now)) self.old self.new said.old.items said.new.items) }
     {
-        let request = Request::named(method);
+        let request = RequestMethod::named(method);
         let owed = self.owed_to(request, params)?;
         self.move_by(request, params);
         push_answer(self.alloc, said, id, owed)
     }
 
     /// What is owed to a request, by its parameters.
-    fn owed_to(&self, request: Request, params: &Value) -> Result<Owed, AllocError>
+    fn owed_to(&self, request: RequestMethod, params: &Value) -> Result<Owed, AllocError>
         ensures owed { IfOk result (λ owed. requests.Owes request (view params.now) self.now (value_of owed)) }
         ensures floats { IfOk result (λ owed. has_float_owed (value_of owed) ≡ false) }
     {
         match (self.phase, request) {
-            (Phase::Uninitialized, Request::Initialize) => {
+            (ServerPhase::Uninitialized, RequestMethod::Initialize) => {
                 let found = introduction(self.alloc, encoding_in(params))?;
                 Ok(Owed::Found(found))
             }
-            (Phase::Uninitialized, _) => Ok(Owed::Refused(ErrorCode::ServerNotInitialized)),
-            (Phase::Running, Request::Shutdown) => Ok(Owed::Found(Value::Null)),
-            (Phase::Running, Request::Query(query)) => self.owed_to_query(query, params),
-            (Phase::Running, Request::Unknown) => Ok(Owed::Refused(ErrorCode::MethodNotFound)),
+            (ServerPhase::Uninitialized, _) => Ok(Owed::Refused(ErrorCode::ServerNotInitialized)),
+            (ServerPhase::Running, RequestMethod::Shutdown) => Ok(Owed::Found(Value::Null)),
+            (ServerPhase::Running, RequestMethod::Query(query)) => self.owed_to_query(
+                query, params,
+            ),
+            (ServerPhase::Running, RequestMethod::Unknown) => Ok(Owed::Refused(
+                ErrorCode::MethodNotFound,
+            )),
             _ => Ok(Owed::Refused(ErrorCode::InvalidRequest)),
         }
     }
@@ -187,7 +191,7 @@ impl Server {
         let Some(document) = self.texts.find(uri) else {
             return Ok(Owed::Refused(ErrorCode::InvalidParams));
         };
-        let deck = Deck {
+        let deck = QueriedText {
             uri,
             document,
             encoding: self.encoding,
@@ -198,16 +202,16 @@ impl Server {
     }
 
     /// Goes where a request leads.
-    fn move_by(&mut self, request: Request, params: &Value)
+    fn move_by(&mut self, request: RequestMethod, params: &Value)
         ensures { self.new ≡ requests.after_request request (view params.now) self.old }
     {
         match (self.phase, request) {
-            (Phase::Uninitialized, Request::Initialize) => {
-                self.phase = Phase::Running;
+            (ServerPhase::Uninitialized, RequestMethod::Initialize) => {
+                self.phase = ServerPhase::Running;
                 self.encoding = encoding_in(params);
                 self.markup = markup_in(params);
             }
-            (Phase::Running, Request::Shutdown) => self.phase = Phase::ShutDown,
+            (ServerPhase::Running, RequestMethod::Shutdown) => self.phase = ServerPhase::ShutDown,
             _ => {}
         }
     }
@@ -223,9 +227,9 @@ impl Server {
                 self.has_exited = true;
                 Ok(())
             }
-            (Phase::Running, Notice::Open) => self.open(params, said),
-            (Phase::Running, Notice::Change) => self.change(params, said),
-            (Phase::Running, Notice::Close) => self.close(params, said),
+            (ServerPhase::Running, Notice::Open) => self.open(params, said),
+            (ServerPhase::Running, Notice::Change) => self.change(params, said),
+            (ServerPhase::Running, Notice::Close) => self.close(params, said),
             _ => Ok(()),
         }
     }

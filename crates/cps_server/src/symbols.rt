@@ -5,9 +5,9 @@ ghost use Rattle.cps_list.specs.Symbols as texts;
 ghost use Rattle.cps_server.specs.Results.{TellsEach, TellsSymbol, TellsSymbols, finals_in, symbol};
 
 use crate::columns::columns_of;
-use crate::deck::Deck;
 use crate::document::Document;
 use crate::mentions::{definitions_in, line_of};
+use crate::queried_text::QueriedText;
 use crate::ranges::{Units, range_of};
 use cps_cause::filled_columns;
 use cps_list::{Mention, View, push_value, symbol_value};
@@ -16,7 +16,7 @@ use serde_json::{Value, json};
 use std::alloc::{AllocError, Global};
 
 /// All symbols that lines of a deck define, with their values, in the order of the lines.
-pub fn tell_symbols(alloc: Global, deck: Deck<'_>) -> Result<Value, AllocError>
+pub fn tell_symbols(alloc: Global, deck: QueriedText<'_>) -> Result<Value, AllocError>
     ensures { IfOk result (λ json. TellsSymbols deck.entry.document.now (view json)) }
 {
     let definitions = definitions_in(alloc, deck.document)?;
@@ -25,7 +25,7 @@ pub fn tell_symbols(alloc: Global, deck: Deck<'_>) -> Result<Value, AllocError>
 
 fn tell_definitions(
     alloc: Global,
-    deck: Deck<'_>,
+    deck: QueriedText<'_>,
     definitions: &[Mention],
 ) -> Result<Value, AllocError>
     ensures { IfOk result (λ json. TellsEach (TellsSymbol (finals_in deck.entry.document.now)) definitions.now (view json)) }
@@ -38,7 +38,11 @@ fn tell_definitions(
 }
 
 /// The definition of a symbol.
-fn tell_symbol(alloc: Global, deck: Deck<'_>, definition: &Mention) -> Result<Value, AllocError>
+fn tell_symbol(
+    alloc: Global,
+    deck: QueriedText<'_>,
+    definition: &Mention,
+) -> Result<Value, AllocError>
     ensures { IfOk result (λ json. TellsSymbol (finals_in deck.entry.document.now) definition.now (view json)) }
 {
     let name = definition.name;

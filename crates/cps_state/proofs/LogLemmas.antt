@@ -12,8 +12,8 @@ use Rattle.cps_state.specs.contracts.key.KeyPartialEq.TheImpl.{eq-value}
 use Rattle.cps_state.specs.Keys.{State, same_key}
 use Rattle.cps_state.specs.Course.{last_put, last_ask, known_in}
 use Rattle.cps_state.proofs.KnownLemmas.{last_put-push, last_ask-push, known_in-put, known_in-ask, same_key_is}
-use Rattle.cps_state.specs.declared.log.Known.{Known}
-use Rattle.cps_state.specs.declared.log.Known.TheVariants.{Asked, Put}
+use Rattle.cps_state.specs.declared.log.LogPlace.{LogPlace}
+use Rattle.cps_state.specs.declared.log.LogPlace.TheVariants.{Asked, Put}
 use Rattle.cps_state.specs.Code.Log.{asked_in, put_at, asked_at, found_in, StandsIn, Indexes}
 
 slice_get-last : {X : Type 0} (xs : List X) (x : X) → slice_get (xs ++ x ∷ []) (length xs) ≡ Some x
@@ -80,7 +80,7 @@ put-known es ps place k within is =
 pub ask-known : (es : List Ask) (ps : List APut) (found : Option (Option Answer)) (k : Key) → None ≡ last_put ps k → found ≡ last_ask es k → found ≡ known_in es ps k
 ask-known es ps found k none is = is ∙ ap (λ o. option_or (option_map Some o) (last_ask es k)) none
 
-pub index-known : (es : List Ask) (ps : List APut) (k : Key) (o : Option Known) → Indexes es ps k o → option_and_then (found_in es ps) o ≡ known_in es ps k
+pub index-known : (es : List Ask) (ps : List APut) (k : Key) (o : Option LogPlace) → Indexes es ps k o → option_and_then (found_in es ps) o ≡ known_in es ps k
 index-known es ps k None is = sym is
 index-known es ps k (Some known) is = is.1
 
@@ -129,20 +129,20 @@ key-found f ks n d k some within same =
 -- ---- an index
 
 -- a place stands where it stood, after one more ask or put
-in-more-asks : (es : List Ask) (ps : List APut) (e : Ask) (known : Known) → StandsIn es ps known → StandsIn (es ++ e ∷ []) ps known × (found_in (es ++ e ∷ []) ps known ≡ found_in es ps known)
+in-more-asks : (es : List Ask) (ps : List APut) (e : Ask) (known : LogPlace) → StandsIn es ps known → StandsIn (es ++ e ∷ []) ps known × (found_in (es ++ e ∷ []) ps known ≡ found_in es ps known)
 in-more-asks es ps e (Asked i) lt = (omega (arith, length-append es (e ∷ []), lt), ap (option_map (λ (a : Ask). a.answer)) (slice_get-front es e i lt))
 in-more-asks es ps e (Put i) lt = (lt, refl)
 
-in-more-puts : (es : List Ask) (ps : List APut) (p : APut) (known : Known) → StandsIn es ps known → StandsIn es (ps ++ p ∷ []) known × (found_in es (ps ++ p ∷ []) known ≡ found_in es ps known)
+in-more-puts : (es : List Ask) (ps : List APut) (p : APut) (known : LogPlace) → StandsIn es ps known → StandsIn es (ps ++ p ∷ []) known × (found_in es (ps ++ p ∷ []) known ≡ found_in es ps known)
 in-more-puts es ps p (Asked i) lt = (lt, refl)
 in-more-puts es ps p (Put i) lt = (omega (arith, length-append ps (p ∷ []), lt), ap (λ (o : Option APut). option_map Some (option_map (λ (q : APut). q.answer) o)) (slice_get-front ps p i lt))
 
 -- what is known of a key is the same as it was
-same-ask : (es : List Ask) (ps : List APut) (e : Ask) (k : Key) (o : Option Known) → known_in (es ++ e ∷ []) ps k ≡ known_in es ps k → Indexes es ps k o → Indexes (es ++ e ∷ []) ps k o
+same-ask : (es : List Ask) (ps : List APut) (e : Ask) (k : Key) (o : Option LogPlace) → known_in (es ++ e ∷ []) ps k ≡ known_in es ps k → Indexes es ps k o → Indexes (es ++ e ∷ []) ps k o
 same-ask es ps e k None same is = same ∙ is
 same-ask es ps e k (Some known) same is = let more = in-more-asks es ps e known is.0 in (more.0, more.1 ∙ is.1 ∙ sym same)
 
-same-put : (es : List Ask) (ps : List APut) (p : APut) (k : Key) (o : Option Known) → known_in es (ps ++ p ∷ []) k ≡ known_in es ps k → Indexes es ps k o → Indexes es (ps ++ p ∷ []) k o
+same-put : (es : List Ask) (ps : List APut) (p : APut) (k : Key) (o : Option LogPlace) → known_in es (ps ++ p ∷ []) k ≡ known_in es ps k → Indexes es ps k o → Indexes es (ps ++ p ∷ []) k o
 same-put es ps p k None same is = same ∙ is
 same-put es ps p k (Some known) same is = let more = in-more-puts es ps p known is.0 in (more.0, more.1 ∙ is.1 ∙ sym same)
 
@@ -152,51 +152,51 @@ last-ask-is es ps e k is = (omega (arith, length-append es (e ∷ [])), ap (opti
 last-put-is : (es : List Ask) (ps : List APut) (p : APut) (k : Key) → known_in es (ps ++ p ∷ []) k ≡ Some (Some p.answer) → Indexes es (ps ++ p ∷ []) k (Some (Put (length ps)))
 last-put-is es ps p k is = (omega (arith, length-append ps (p ∷ [])), ap (λ (o : Option APut). option_map Some (option_map (λ (q : APut). q.answer) o)) (slice_get-last ps p) ∙ sym is)
 
-indexes-ask-by : (same : Bool) (es : List Ask) (ps : List APut) (e : Ask) (k : Key) (old : Option Known) → known_in (es ++ e ∷ []) ps k ≡ (if same then Some e.answer else known_in es ps k)
+indexes-ask-by : (same : Bool) (es : List Ask) (ps : List APut) (e : Ask) (k : Key) (old : Option LogPlace) → known_in (es ++ e ∷ []) ps k ≡ (if same then Some e.answer else known_in es ps k)
     → Indexes es ps k old → Indexes (es ++ e ∷ []) ps k (cond same (Some (Asked (length es))) old)
 indexes-ask-by true es ps e k old is was = last-ask-is es ps e k is
 indexes-ask-by false es ps e k old is was = same-ask es ps e k old is was
 
-indexes-put-by : (same : Bool) (es : List Ask) (ps : List APut) (p : APut) (k : Key) (old : Option Known) → known_in es (ps ++ p ∷ []) k ≡ (if same then Some (Some p.answer) else known_in es ps k)
+indexes-put-by : (same : Bool) (es : List Ask) (ps : List APut) (p : APut) (k : Key) (old : Option LogPlace) → known_in es (ps ++ p ∷ []) k ≡ (if same then Some (Some p.answer) else known_in es ps k)
     → Indexes es ps k old → Indexes es (ps ++ p ∷ []) k (cond same (Some (Put (length ps))) old)
 indexes-put-by true es ps p k old is was = last-put-is es ps p k is
 indexes-put-by false es ps p k old is was = same-put es ps p k old is was
 
 -- one more ask of a key of which nothing is known
-indexes-ask : (es : List Ask) (ps : List APut) (e : Ask) (k : Key) (new old : Option Known) → known_in es ps e.key ≡ None → new ≡ cond ((eq-value.it) e.key k) (Some (Asked (length es))) old
+indexes-ask : (es : List Ask) (ps : List APut) (e : Ask) (k : Key) (new old : Option LogPlace) → known_in es ps e.key ≡ None → new ≡ cond ((eq-value.it) e.key k) (Some (Asked (length es))) old
     → Indexes es ps k old → Indexes (es ++ e ∷ []) ps k new
 indexes-ask es ps e k new old none is was =
-    subst (λ (o : Option Known). Indexes (es ++ e ∷ []) ps k o) (sym (is ∙ ap (λ b. cond b (Some (Asked (length es))) old) (same_key_is e.key k)))
+    subst (λ (o : Option LogPlace). Indexes (es ++ e ∷ []) ps k o) (sym (is ∙ ap (λ b. cond b (Some (Asked (length es))) old) (same_key_is e.key k)))
     (indexes-ask-by (same_key e.key k) es ps e k old (known_in-ask es ps e k none) was)
 
-pub indexes-key : (f : State) (ks : List Key) (ps : List APut) (q k : Key) (new old : Option Known) → known_in (asked_in f ks) ps q ≡ None
+pub indexes-key : (f : State) (ks : List Key) (ps : List APut) (q k : Key) (new old : Option LogPlace) → known_in (asked_in f ks) ps q ≡ None
     → new ≡ cond ((eq-value.it) q k) (Some (Asked (length ks))) old → Indexes (asked_in f ks) ps k old → Indexes (asked_in f (ks ++ q ∷ [])) ps k new
 indexes-key f ks ps q k new old none is was =
     subst (λ (es : List Ask). Indexes es ps k new) (sym (asked-more f ks q))
     (indexes-ask (asked_in f ks) ps (record { key = q; answer = f q }) k new old none (is ∙ ap (λ n. cond ((eq-value.it) q k) (Some (Asked n)) old) (sym (length-map ks _))) was)
 
 -- one more ask, where nothing was put
-indexes-first-ask : (es : List Ask) (e : Ask) (k : Key) (new old : Option Known) → new ≡ cond ((eq-value.it) e.key k) (Some (Asked (length es))) old
+indexes-first-ask : (es : List Ask) (e : Ask) (k : Key) (new old : Option LogPlace) → new ≡ cond ((eq-value.it) e.key k) (Some (Asked (length es))) old
     → Indexes es [] k old → Indexes (es ++ e ∷ []) [] k new
 indexes-first-ask es e k new old is was =
-    subst (λ (o : Option Known). Indexes (es ++ e ∷ []) [] k o) (sym (is ∙ ap (λ b. cond b (Some (Asked (length es))) old) (same_key_is e.key k)))
+    subst (λ (o : Option LogPlace). Indexes (es ++ e ∷ []) [] k o) (sym (is ∙ ap (λ b. cond b (Some (Asked (length es))) old) (same_key_is e.key k)))
     (indexes-ask-by (same_key e.key k) es [] e k old (last_ask-push es e k) was)
 
 -- one more put
-pub indexes-put : (es : List Ask) (ps : List APut) (p : APut) (k : Key) (new old : Option Known) → new ≡ cond ((eq-value.it) p.key k) (Some (Put (length ps))) old
+pub indexes-put : (es : List Ask) (ps : List APut) (p : APut) (k : Key) (new old : Option LogPlace) → new ≡ cond ((eq-value.it) p.key k) (Some (Put (length ps))) old
     → Indexes es ps k old → Indexes es (ps ++ p ∷ []) k new
 indexes-put es ps p k new old is was =
-    subst (λ (o : Option Known). Indexes es (ps ++ p ∷ []) k o) (sym (is ∙ ap (λ b. cond b (Some (Put (length ps))) old) (same_key_is p.key k)))
+    subst (λ (o : Option LogPlace). Indexes es (ps ++ p ∷ []) k o) (sym (is ∙ ap (λ b. cond b (Some (Put (length ps))) old) (same_key_is p.key k)))
     (indexes-put-by (same_key p.key k) es ps p k old (known_in-put es ps p k) was)
 
 -- something stands at a place that there is
-pub stands-some : (es : List Ask) (ps : List APut) (known : Known) → StandsIn es ps known → is_some (found_in es ps known) ≡ true
+pub stands-some : (es : List Ask) (ps : List APut) (known : LogPlace) → StandsIn es ps known → is_some (found_in es ps known) ≡ true
 stands-some es ps (Asked i) lt = map-some (λ (a : Ask). a.answer) (slice_get es i) (slice_get-some es i lt)
 stands-some es ps (Put i) lt = map-some (λ (a : Answer). Some a) (put_at ps i) (map-some (λ (p : APut). p.answer) (slice_get ps i) (slice_get-some ps i lt))
 
 -- ---- an index that is made from all asks, and then from all puts
 
-pub indexes-next-key : (f : State) (ks : List Key) (i : ℕ) (d k : Key) (new old : Option Known) → i < length ks → new ≡ cond ((eq-value.it) (get_or ks i d) k) (Some (Asked i)) old
+pub indexes-next-key : (f : State) (ks : List Key) (i : ℕ) (d k : Key) (new old : Option LogPlace) → i < length ks → new ≡ cond ((eq-value.it) (get_or ks i d) k) (Some (Asked i)) old
     → Indexes (asked_in f (take i ks)) [] k old → Indexes (asked_in f (take (i + 1) ks)) [] k new
 indexes-next-key f ks i d k new old lt is was =
     let q = get_or ks i d in
@@ -205,7 +205,7 @@ indexes-next-key f ks i d k new old lt is was =
     (indexes-first-ask (asked_in f (take i ks)) (record { key = q; answer = f q }) k new old
     (is ∙ ap (λ (n : ℕ). cond ((eq-value.it) q k) (Some (Asked n)) old) (sym count)) was)
 
-pub indexes-next-put : (es : List Ask) (ps : List APut) (i : ℕ) (d : APut) (k : Key) (new old : Option Known) → i < length ps → new ≡ cond ((eq-value.it) (get_or ps i d).key k) (Some (Put i)) old
+pub indexes-next-put : (es : List Ask) (ps : List APut) (i : ℕ) (d : APut) (k : Key) (new old : Option LogPlace) → i < length ps → new ≡ cond ((eq-value.it) (get_or ps i d).key k) (Some (Put i)) old
     → Indexes es (take i ps) k old → Indexes es (take (i + 1) ps) k new
 indexes-next-put es ps i d k new old lt is was =
     subst (λ (xs : List APut). Indexes es xs k new) (sym (take_more ps i d lt))
@@ -213,6 +213,6 @@ indexes-next-put es ps i d k new old lt is was =
     (is ∙ ap (λ (n : ℕ). cond ((eq-value.it) (get_or ps i d).key k) (Some (Put n)) old) (sym (length-take-le i ps (omega (arith, lt))))) was)
 
 -- something stands at a place that an index has
-pub index-there : (es : List Ask) (ps : List APut) (k : Key) (o : Option Known) → Indexes es ps k o → IfSome o (λ known. is_some (found_in es ps known) ≡ true)
+pub index-there : (es : List Ask) (ps : List APut) (k : Key) (o : Option LogPlace) → Indexes es ps k o → IfSome o (λ known. is_some (found_in es ps known) ≡ true)
 index-there es ps k None is = tt
 index-there es ps k (Some known) is = stands-some es ps known is.0

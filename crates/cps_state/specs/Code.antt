@@ -5,4 +5,4 @@ pub mod KeptAnswers
 pub mod Line
 pub mod Log
 pub mod MadeKept
-pub mod Sheet
+pub mod Scratch

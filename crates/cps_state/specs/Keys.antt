@@ -16,7 +16,7 @@ use Rattle.cps_state.specs.declared.key.Control.{Control}
 use Rattle.cps_state.specs.declared.key.Mode.{Mode}
 use Rattle.cps_state.specs.declared.key.Mode.TheVariants.{Normal, SkipLines, SkipRange, KeepMacro, KeepDup}
 use Rattle.cps_state.specs.declared.key.Macro.{Macro}
-use Rattle.cps_state.specs.declared.key.Range.{Range}
+use Rattle.cps_state.specs.declared.key.OpenRange.{OpenRange}
 use Rattle.cps_state.specs.declared.key.Answer.{Answer}
 use Rattle.cps_state.specs.declared.key.Answer.TheVariants as answer
 use Rattle.cps_state.specs.declared.key.Put.{Put}
@@ -118,7 +118,7 @@ uses_of (Some (answer.Uses blocks)) = blocks
 uses_of _ = []
 
 -- no range is open
-abbrev pub ranges_of : Option Answer → List Range
+abbrev pub ranges_of : Option Answer → List OpenRange
 ranges_of (Some (answer.Ifs ranges)) = ranges
 ranges_of _ = []
 
@@ -155,7 +155,7 @@ is_normal (SkipRange skip) = false
 is_normal (KeepMacro body) = false
 is_normal (KeepDup body) = false
 
-abbrev pub is_no_range : List Range → Bool
+abbrev pub is_no_range : List OpenRange → Bool
 is_no_range [] = true
 is_no_range (range ∷ ranges) = false
 

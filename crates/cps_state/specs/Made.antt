@@ -11,7 +11,7 @@ use Rattle.cps_code.specs.Operand.{operand_names, operand_literals}
 use Rattle.cps_state.specs.declared.flags.Flags.{Flags}
 use Rattle.cps_state.specs.declared.made.Content.{Content}
 use Rattle.cps_state.specs.declared.made.Content.TheVariants.{Instruction, Value, Number, Unsized}
-use Rattle.cps_state.specs.declared.made.Held.{Held}
+use Rattle.cps_state.specs.declared.made.SetValue.{SetValue}
 use Rattle.cps_state.specs.declared.made.Shown.{Shown}
 use Rattle.cps_state.specs.declared.made.Shown.TheVariants.{Nothing}
 use Rattle.cps_state.specs.Machines.{limit, behind}
@@ -29,7 +29,7 @@ pub record Made : Type 0 where
   pub zeros : ℕ
   pub only_flags : Bool
   pub shown : Shown
-  pub held : List Held
+  pub held : List SetValue
 
 -- a statement that does nothing but have flags
 abbrev pub nothing_made : Flags → Made
@@ -86,7 +86,7 @@ IsContent (Number width number) = (0 < width) × (width ≤ 60) × (number < 2 ^
 IsContent _ = Unit {0}
 
 -- a value that is held is in the range of expressions
-abbrev pub IsHeld : Held → Type 0
+abbrev pub IsHeld : SetValue → Type 0
 IsHeld held = IsInRange held.value
 
 -- contents that are bits stand in words of the machine

@@ -6,7 +6,7 @@ ghost use Rattle.cps_expr.specs.Value.{IsInRange};
 ghost use Rattle.cps_state.specs.Keys.{first_control, first_place, control_of, mode_of, macro_of, text_of, place_of, within_limit, value_of, uses_of, ranges_of, count_of, is_place, is_normal, is_no_range, is_open};
 ghost use Rattle.cps_state.specs.Machines.{limit};
 
-use crate::key::{Answer, Control, Head, Key, Macro, Mode, Phase, Range};
+use crate::key::{Answer, Control, Head, Key, Macro, Mode, OpenRange, Phase};
 use crate::lookup::Lookup;
 use crate::machines::{WORD, limit_of};
 use crate::shared::Shared;
@@ -123,7 +123,7 @@ pub fn uses_of(answer: Option<&Answer>) -> Result<Shared<Option<Name>>, AllocErr
 }
 
 /// The ranges that are open, the newest in front.
-pub fn ranges_of(answer: Option<&Answer>) -> Result<Shared<Range>, AllocError>
+pub fn ranges_of(answer: Option<&Answer>) -> Result<Shared<OpenRange>, AllocError>
     ensures { IfOk result (λ ranges. ranges ≡ ranges_of (option_copied answer.entry)) }
 {
     match answer {

@@ -66,7 +66,7 @@ pub struct Skip {
 
 /// Lines that are kept.
 #[derive(Clone, Copy, PartialEq, Eq)]
-pub struct Kept {
+pub struct KeptLines {
     pub lines: u32,
     /// Whether there were more than a body may have.
     pub is_over: bool,
@@ -78,7 +78,7 @@ pub struct MacroBody {
     /// None: the definition is dropped at its end.
     pub name: Option<Name>,
     pub parameters: Shared<Name>,
-    pub kept: Kept,
+    pub kept: KeptLines,
 }
 
 /// How far the lines of DUP reach.
@@ -96,7 +96,7 @@ pub struct DupBody {
     /// How often they will be assembled.
     pub times: u32,
     pub extent: Extent,
-    pub kept: Kept,
+    pub kept: KeptLines,
 }
 
 /// What is done with the lines to come.
@@ -141,7 +141,7 @@ impl MacroBody {
 
 /// A range that is open and whose lines are assembled.
 #[derive(Clone, Copy, PartialEq, Eq)]
-pub enum Range {
+pub enum OpenRange {
     BeforeElse,
     BehindElse,
 }
@@ -187,7 +187,7 @@ pub enum Answer {
     /// The last block in front; None is the nominal block.
     Uses(Shared<Option<Name>>),
     /// The newest range in front.
-    Ifs(Shared<Range>),
+    Ifs(Shared<OpenRange>),
     Count(u32),
     Macro(SharedMacro),
     /// The text of a line.

@@ -13,10 +13,10 @@
 //! - `machines.rt`: the words of the two machines
 //! - `made.rt`: what a statement made: contents, zeros, fillings, flags
 //! - `recorder.rt`: what a line has done so far, over the state that answers it
+//! - `scratch.rt`: lists that one line hands on to the next
 //! - `shared.rt`: lists that are shared and not changed
 //! - `shared_macro.rt`: a macro in an answer
 //! - `shared_mode.rt`: a mode in an answer
-//! - `sheet.rt`: lists that one line hands on to the next
 //! - `state.rt`: the state: the last put at each key
 //! - `trace.rt`: a trace: what a line asked, put, made and read
 //! - `uses.rt`: the blocks that USE left
@@ -35,10 +35,10 @@ mod lookup;
 mod machines;
 mod made;
 mod recorder;
+mod scratch;
 mod shared;
 mod shared_macro;
 mod shared_mode;
-mod sheet;
 mod state;
 mod trace;
 mod uses;
@@ -54,18 +54,17 @@ pub use hashing::Hashing;
 pub use instruction::InstructionForm;
 pub use item::{Item, Stand};
 pub use key::{
-    Answer, Asked, Control, DupBody, Extent, Head, Kept, Key, Macro, MacroBody, Mode, Phase, Put,
-    Range, Skip, is_same_block,
+    Answer, Asked, Control, DupBody, Extent, Head, KeptLines, Key, Macro, MacroBody, Mode,
+    OpenRange, Phase, Put, Skip, is_same_block,
 };
-pub use log::Known;
 pub use lookup::Lookup;
 pub use machines::{WORD, behind, limit_of, word_bits};
-pub use made::{Begun, Content, Held, Made, Shown, end_of};
+pub use made::{Begun, Content, Made, SetValue, Shown, end_of};
 pub use recorder::Recorder;
+pub use scratch::Scratch;
 pub use shared::Shared;
 pub use shared_macro::SharedMacro;
 pub use shared_mode::SharedMode;
-pub use sheet::Sheet;
 pub use state::State;
 pub use trace::Trace;
 pub use uses::uses_with;

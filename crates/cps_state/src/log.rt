@@ -17,7 +17,7 @@ const SHORT: usize = 16;
 
 /// Where in a log the answer stands that is known of a key: in which of its asks, or of its puts. The first is 0.
 #[derive(Clone, Copy, PartialEq, Eq)]
-pub enum Known {
+pub enum LogPlace {
     Asked(usize),
     Put(usize),
 }
@@ -30,7 +30,7 @@ pub struct Log {
     asks: Vec<Key>,
     puts: Vec<Put>,
     /// What is known of each key. None: the log is short.
-    index: Option<Box<HashMap<Key, Known, Hashing>>>,
+    index: Option<Box<HashMap<Key, LogPlace, Hashing>>>,
 }
 
 impl Model for Log {
@@ -61,7 +61,7 @@ impl Log {
 
     /// Where the answer stands that is known of a key.
     #[inline(always)]
-    pub fn find(&self, key: Key) -> Option<Known>
+    pub fn find(&self, key: Key) -> Option<LogPlace>
         ensures found { (state : State) → option_and_then (found_at state self.now) result ≡ known_of state self.now key }
         ensures is_there { (state : State) → IfSome result (λ known. is_some (found_at state self.now known) ≡ true) }
     {
@@ -69,9 +69,9 @@ impl Log {
             return index.get(&key).copied();
         }
         match newest_put(&self.puts, &key) {
-            Some(place) => Some(Known::Put(place)),
+            Some(place) => Some(LogPlace::Put(place)),
             None => match newest_ask(&self.asks, &key) {
-                Some(place) => Some(Known::Asked(place)),
+                Some(place) => Some(LogPlace::Asked(place)),
                 None => None,
             },
         }
@@ -96,12 +96,12 @@ impl Log {
 
     /// One more ask, of a key of which nothing is known.
     #[inline(always)]
-    pub fn push_ask(&mut self, key: Key) -> Result<Known, AllocError>
+    pub fn push_ask(&mut self, key: Key) -> Result<LogPlace, AllocError>
         requires { (state : State) → known_of state self.old key ≡ None }
         ensures log { OnOk result (self.new ≡ record self.old { asks = self.old.asks ++ key ∷ [] }) }
         ensures answer { IfOk result (λ known. (state : State) → found_at state self.new known ≡ Some (state key)) }
     {
-        let known = Known::Asked(self.asks.len());
+        let known = LogPlace::Asked(self.asks.len());
         if let Some(index) = &mut self.index {
             self.asks.reserve(1)?;
             index.insert(key, known)?;
@@ -123,7 +123,7 @@ impl Log {
                 drop(put);
                 return Err(AllocError);
             };
-            let Ok(_) = index.insert(put.key, Known::Put(self.puts.len())) else {
+            let Ok(_) = index.insert(put.key, LogPlace::Put(self.puts.len())) else {
                 drop(put);
                 return Err(AllocError);
             };
@@ -184,28 +184,28 @@ fn index_of_asks(
     alloc: Global,
     hashing: Hashing,
     asks: &[Key],
-) -> Result<HashMap<Key, Known, Hashing>, AllocError>
+) -> Result<HashMap<Key, LogPlace, Hashing>, AllocError>
     ensures { IfOk result (λ index. IsIndex asks.now [] (hash.get ⟦<Key as PartialEq>⟧.eq index)) }
 {
     let mut index = HashMap::with_hasher(alloc, hashing);
     for place in 0..asks.len() {
-        index.insert(asks[place], Known::Asked(place))?;
+        index.insert(asks[place], LogPlace::Asked(place))?;
     }
     Ok(index)
 }
 
 /// An index of asks, and of puts.
 fn with_puts(
-    index: HashMap<Key, Known, Hashing>,
+    index: HashMap<Key, LogPlace, Hashing>,
     _asks: &[Key],
     puts: &[Put],
-) -> Result<HashMap<Key, Known, Hashing>, AllocError>
+) -> Result<HashMap<Key, LogPlace, Hashing>, AllocError>
     requires { IsIndex _asks.now [] (hash.get ⟦<Key as PartialEq>⟧.eq index) }
     ensures { IfOk result (λ index. IsIndex _asks.now puts.now (hash.get ⟦<Key as PartialEq>⟧.eq index)) }
 {
     let mut index = index;
     for place in 0..puts.len() {
-        index.insert(puts[place].key, Known::Put(place))?;
+        index.insert(puts[place].key, LogPlace::Put(place))?;
     }
     Ok(index)
 }

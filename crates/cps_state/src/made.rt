@@ -81,7 +81,7 @@ pub enum Shown {
 
 /// A symbol that an expression of the statement reads, and the value that SET had given it by then.
 #[derive(Clone, Copy, PartialEq, Eq)]
-pub struct Held {
+pub struct SetValue {
     pub name: Name,
     pub value: Value,
 }
@@ -111,7 +111,7 @@ enum Making {
         start: u32,
         filling: Option<Piece>,
         contents: Contents,
-        held: Vec<Held>,
+        held: Vec<SetValue>,
     },
 }
 
@@ -210,7 +210,7 @@ impl Made {
         machine: Machine,
         begun: Begun,
         contents: Contents,
-        held: Vec<Held>,
+        held: Vec<SetValue>,
     ) -> Made
         requires each { All IsContent contents }
         requires held { All IsHeld held.items }
@@ -237,7 +237,7 @@ impl Made {
         machine: Machine,
         begun: Begun,
         contents: Contents,
-        held: Vec<Held>,
+        held: Vec<SetValue>,
     ) -> Made
         requires each { All IsContent contents }
         requires held { All IsHeld held.items }
@@ -358,7 +358,7 @@ impl Made {
     }
 
     /// The symbols that the contents read and that SET had given a value by then.
-    pub fn held(&self) -> &[Held]
+    pub fn held(&self) -> &[SetValue]
         ensures held { result.now ≡ self.now.held }
         ensures each { All IsHeld self.now.held }
     {

@@ -4,16 +4,16 @@ ghost use Rattle.std.specs.Option.{option_copied};
 ghost use Rattle.cps_state.specs.Course.{begin, first_item, dropped_item, control_puts, traced, deepest};
 ghost use Rattle.cps_state.specs.Code.Line.{Goes, known_answer, line_started, line_answer, line_asked, line_put, line_stood, line_filled, line_marked, line_told, line_settled};
 ghost use Rattle.cps_state.specs.Code.Log.{asked_in};
-ghost use Rattle.cps_state.specs.Code.Sheet.{StandsOn, statements_on, with_dropped};
+ghost use Rattle.cps_state.specs.Code.Scratch.{StandsOn, statements_on, with_dropped};
 
 use crate::flags::Flags;
 use crate::item::Item;
 use crate::key::{Answer, Asked, Key, Put, is_same_key};
-use crate::log::{Known, Log};
+use crate::log::{Log, LogPlace};
 use crate::lookup::Lookup;
 use crate::made::Made;
+use crate::scratch::{Lists, Scratch};
 use crate::shared::Shared;
-use crate::sheet::{Lists, Sheet};
 use crate::trace::Trace;
 use cps_text::Name;
 use cps_text::limits::{DEEPEST, MOST_STATEMENTS};
@@ -60,17 +60,17 @@ impl<'a, L: Lookup> Model for Recorder<'a, L> {
 }
 
 impl<'a, L: Lookup> Recorder<'a, L> {
-    /// Of a line that has done nothing, over a state, on a sheet behind all statements there.
+    /// Of a line that has done nothing, over a state, on a scratch behind all statements there.
     #[inline(always)]
-    pub fn new(alloc: Global, sheet: &mut Sheet, state: &'a L) -> Recorder<'a, L>
-        ensures { result ≡ line_started (statements_on sheet.old) state.now }
+    pub fn new(alloc: Global, scratch: &mut Scratch, state: &'a L) -> Recorder<'a, L>
+        ensures { result ≡ line_started (statements_on scratch.old) state.now }
     {
         let Lists {
             keys,
             puts,
             reads,
             items,
-        } = sheet.take_lists(alloc);
+        } = scratch.take_lists(alloc);
         Recorder {
             alloc,
             state,
@@ -90,7 +90,7 @@ impl<'a, L: Lookup> Recorder<'a, L> {
 
     /// Where the answer at a key stands. The key is asked only where nothing is known of it: it is noted, and what stands there is looked up where it is read.
     #[inline(always)]
-    pub fn note(&mut self, key: Key) -> Result<Known, AllocError>
+    pub fn note(&mut self, key: Key) -> Result<LogPlace, AllocError>
         ensures asks { OnOk result (self.new ≡ line_asked L.answer self.old key) }
         ensures answer { IfOk result (λ known. known_answer self.new known ≡ line_answer L.answer self.old key) }
     {
@@ -101,15 +101,15 @@ impl<'a, L: Lookup> Recorder<'a, L> {
     }
 
     /// The answer that was noted, None where nothing stands at its key.
-    pub fn answer(&self, known: Known) -> Option<&Answer>
+    pub fn answer(&self, known: LogPlace) -> Option<&Answer>
         ensures { option_copied result ≡ known_answer self.now known }
     {
         match known {
-            Known::Asked(place) => match self.log.key_at(place) {
+            LogPlace::Asked(place) => match self.log.key_at(place) {
                 Some(key) => self.state.ask(key),
                 None => None,
             },
-            Known::Put(place) => self.log.put_answer(place),
+            LogPlace::Put(place) => self.log.put_answer(place),
         }
     }
 
@@ -176,21 +176,21 @@ impl<'a, L: Lookup> Recorder<'a, L> {
     }
 
     /// What the line did, in lists without room for more, to be kept. It is dropped where not all of it was done.
-    pub fn into_trace(self, complete: bool, sheet: &mut Sheet) -> Result<Trace, AllocError>
+    pub fn into_trace(self, complete: bool, scratch: &mut Scratch) -> Result<Trace, AllocError>
         ensures { IfOk result (λ trace. trace ≡ traced (self.entry.done, complete)) }
     {
         let alloc = self.alloc;
         let state = self.state;
-        self.write(complete, sheet)?;
-        let asks = asked_in(alloc, state, sheet.keys())?;
-        sheet.take_trace(alloc, asks)
+        self.write(complete, scratch)?;
+        let asks = asked_in(alloc, state, scratch.keys())?;
+        scratch.take_trace(alloc, asks)
     }
 
-    /// Writes on the sheet what the line did. It is dropped where not all of it was done.
+    /// Writes on the scratch what the line did. It is dropped where not all of it was done.
     #[inline(always)]
-    pub fn write(self, complete: bool, sheet: &mut Sheet) -> Result<(), AllocError>
-        ensures line { OnOk result (StandsOn sheet.new self.entry.before (traced (self.entry.done, complete))) }
-        ensures keys { OnOk result (asked_in (L.answer self.entry.state) sheet.new.keys ≡ self.entry.done.asks) }
+    pub fn write(self, complete: bool, scratch: &mut Scratch) -> Result<(), AllocError>
+        ensures line { OnOk result (StandsOn scratch.new self.entry.before (traced (self.entry.done, complete))) }
+        ensures keys { OnOk result (asked_in (L.answer self.entry.state) scratch.new.keys ≡ self.entry.done.asks) }
     {
         let Recorder {
             alloc,
@@ -219,7 +219,7 @@ impl<'a, L: Lookup> Recorder<'a, L> {
             lists.puts.truncate(settled);
             drop_line(alloc, &mut lists, begun, &present)?;
         }
-        sheet.give_lists(lists, begun);
+        scratch.give_lists(lists, begun);
         Ok(())
     }
 }

@@ -1,6 +1,7 @@
 pub mod Arguments
 pub mod Card
 pub mod CardFields
+pub mod CardIn
 pub mod Columns
 pub mod Counted
 pub mod DataItem

@@ -4,8 +4,10 @@ ghost use Rattle.std.specs.List.{list_all};
 ghost use Rattle.cps_text.specs.Text.{is_blank};
 ghost use Rattle.cps_text.specs.Card.{card, is_comment, is_continued, location_of, operation_at, fields_of, statement_of};
 ghost use Rattle.cps_text.specs.CardFields.{statement_value, fields_value};
+ghost use Rattle.cps_text.specs.CardIn.{card_in};
 ghost use Rattle.cps_text.specs.Columns.{IsCard};
 
+use crate::limits::MOST_CHARACTERS;
 use crate::places::{field_from, filled_from, from};
 
 /// The last column, from 1, that is read.
@@ -52,6 +54,16 @@ pub fn read_fields(line: &[u8]) -> Fields<'_>
     } else {
         Fields::Statement(statement_fields(card))
     }
+}
+
+/// The columns of a statement; one that is too long is treated as a line that continues another.
+pub fn card_in(text: &[u8]) -> Fields<'_>
+    ensures { fields_value result ≡ card_in text.now }
+{
+    if text.len() > MOST_CHARACTERS {
+        return Fields::Continued;
+    }
+    read_fields(text)
 }
 
 /// The columns of a line that are read.

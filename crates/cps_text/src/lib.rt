@@ -43,7 +43,7 @@ mod substitutes;
 mod tail;
 
 pub use argument_list::{ArgFault, arguments};
-pub use card::{Fields, StatementFields, read_fields};
+pub use card::{Fields, StatementFields, card_in, read_fields};
 pub use character::{capital, display};
 pub use counted::Counted;
 pub use data_item::{CP_CHARACTERS, PP_CHARACTERS, Side, TextItem};

@@ -29,8 +29,8 @@ pub fn open_files<'a, S: Sources, E: Write>(
     octal: Option<&'a str>,
     source: Option<&'a str>,
     errors: &mut Counted<E>,
-) -> Option<Files<S::Opened>>
-    ensures files { IfSome result (AreFiles (S.holds sources.now) S.Opened.remaining (name_of octal.entry) (name_of source.entry)) }
+) -> Option<Files<S::Reader>>
+    ensures files { IfSome result (AreFiles (S.holds sources.now) S.Reader.remaining (name_of octal.entry) (name_of source.entry)) }
     ensures quiet { IfSome result (λ _. errors.new ≡ errors.old) }
 {
     match (octal, source) {

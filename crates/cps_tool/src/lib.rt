@@ -31,7 +31,6 @@ mod telling;
 mod words;
 mod writing;
 
-pub use command::{Command, ScriptFault};
 pub use host::Host;
 pub use script::run_script;
 pub use sources::Sources;

@@ -25,7 +25,7 @@ pub fn run_session_from<S: Sources, R: Read, W: Write, E: Write>(
     writer: &mut Counted<W>,
     errors: &mut Counted<E>,
 ) -> u8
-    ensures runs { DoesSession (S.holds host.now.files) S.Opened.remaining R.remaining W.contents name.now result
+    ensures runs { DoesSession (S.holds host.now.files) S.Reader.remaining R.remaining W.contents name.now result
         reader.old reader.new writer.old writer.new }
     ensures quiet { IsQuiet result errors.old errors.new }
 {

@@ -14,13 +14,13 @@ pub trait Sources {
     ghost use Rattle.std.specs.Prelude.{◌≡◌, ℕ, List, Option, IfOk};
 
     /// An open file.
-    type Opened: Read + Drop;
+    type Reader: Read + Drop;
 
     ghost holds: { Self → List ℕ → Option (List ℕ) };
 
     /// Opens a file, which is read from its first byte on. `holds` says which bytes a file of that name has, None where that isn't known.
-    fn open(&self, name: &str) -> io::Result<Self::Opened>
-        ensures { IfOk result (λ file. Self.Opened.remaining file ≡ holds self.now name.now) };
+    fn open(&self, name: &str) -> io::Result<Self::Reader>
+        ensures { IfOk result (λ file. Self.Reader.remaining file ≡ holds self.now name.now) };
 }
 
 /// Opens a file, of which no byte is read yet. One that can't be opened is told.
@@ -29,8 +29,8 @@ pub fn open_input<S: Sources, E: Write>(
     sources: &S,
     name: &str,
     errors: &mut Counted<E>,
-) -> Option<Counted<S::Opened>>
-    ensures opened { IfSome result (IsOpened (S.holds sources.now name.now) S.Opened.remaining) }
+) -> Option<Counted<S::Reader>>
+    ensures opened { IfSome result (IsOpened (S.holds sources.now name.now) S.Reader.remaining) }
     ensures quiet { IfSome result (λ _. errors.new ≡ errors.old) }
 {
     match sources.open(name) {

@@ -53,7 +53,7 @@ pub fn run_call<'a, S: Sources + Targets, R: Read, W: Write, E: Write>(
     writer: &mut Counted<W>,
     errors: &mut Counted<E>,
 ) -> u8
-    ensures serves { ServesCall S.holds S.placed S.same S.Opened.remaining R.remaining W.contents (answer_of (texts words.now)) result
+    ensures serves { ServesCall S.holds S.placed S.same S.Reader.remaining R.remaining W.contents (answer_of (texts words.now)) result
         host.old.files host.new.files reader.old reader.new writer.old writer.new }
     ensures waiting { S.waiting host.new.files ≡ S.waiting host.old.files }
     ensures quiet { IsQuiet result errors.old errors.new }
@@ -72,7 +72,7 @@ fn serve_call<'a, S: Sources + Targets, R: Read, W: Write, E: Write>(
     writer: &mut Counted<W>,
     errors: &mut Counted<E>,
 ) -> u8
-    ensures serves { ServesCall S.holds S.placed S.same S.Opened.remaining R.remaining W.contents (asked_by call.entry) result
+    ensures serves { ServesCall S.holds S.placed S.same S.Reader.remaining R.remaining W.contents (asked_by call.entry) result
         host.old.files host.new.files reader.old reader.new writer.old writer.new }
     ensures waiting { S.waiting host.new.files ≡ S.waiting host.old.files }
     ensures quiet { IsQuiet result errors.old errors.new }
@@ -109,7 +109,7 @@ fn serve<'a, S: Sources, R: Read, W: Write, E: Write>(
     writer: &mut Counted<W>,
     errors: &mut Counted<E>,
 ) -> u8
-    ensures serves { DoesWith (S.holds host.now.files) S.Opened.remaining R.remaining W.contents call.entry result
+    ensures serves { DoesWith (S.holds host.now.files) S.Reader.remaining R.remaining W.contents call.entry result
         reader.old reader.new writer.old writer.new }
     ensures quiet { IsQuiet result errors.old errors.new }
 {
@@ -136,7 +136,7 @@ fn serve_one<'a, S: Sources, R: Read, W: Write, E: Write>(
     writer: &mut Counted<W>,
     errors: &mut Counted<E>,
 ) -> u8
-    ensures serves { DoesOne (S.holds host.now.files) S.Opened.remaining R.remaining W.contents call.entry result
+    ensures serves { DoesOne (S.holds host.now.files) S.Reader.remaining R.remaining W.contents call.entry result
         reader.old reader.new writer.old writer.new }
     ensures quiet { IsQuiet result errors.old errors.new }
 {

@@ -1,6 +1,6 @@
 //! Sources that are read whole.
 use super::assertions::{assert_bytes, assert_same};
-use super::running::{Written, assemble_from, assemble_into};
+use super::running::{BatchRun, assemble_from, assemble_into};
 use cps_batch::BatchFault;
 use cps_list::Part;
 use cps_rows::{Resuming, SlowReader, SlowWriter};
@@ -11,7 +11,7 @@ use std::process::Abort;
 fn assert_written(
     rt: &impl Abort,
     how: &str,
-    got: &Written,
+    got: &BatchRun,
     want: Result<u32, BatchFault>,
     text: &str,
 ) {

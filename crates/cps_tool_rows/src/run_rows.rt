@@ -1,7 +1,7 @@
 //! What is done with readers and writers that are slow or fail, and what is counted of them.
 use super::assertions::{assert_bytes, assert_same};
-use super::running::{Ran, run};
-use cps_rows::{FailsAt, Idle, Noting, Resuming, SlowReader, SlowWriter, Telling};
+use super::running::{ScriptRun, run};
+use cps_rows::{FailsAt, Idle, Noting, Resuming, SlowReader, SlowWriter, TellingWriter};
 use cps_text::Counted;
 use cps_tool::RunFault;
 use std::alloc::Global;
@@ -11,7 +11,7 @@ use std::process::Abort;
 /// Asserts how a run ended, how many lines the source has, and how the first begins.
 fn assert_ran(
     rt: &impl Abort,
-    ran: &Ran,
+    ran: &ScriptRun,
     end: Result<u32, RunFault>,
     count: u32,
     first: Option<u8>,
@@ -82,7 +82,7 @@ fn replies_before_it_reads_on(rt: HostRuntime) {
         written: &written,
         seen: Vec::new(rt.alloc()),
     });
-    let mut writer = Counted::new(Telling { written: &written });
+    let mut writer = Counted::new(TellingWriter { written: &written });
     let ran = run(rt.alloc(), &mut reader, &mut writer);
     assert_ran(&rt, &ran, Ok(0), 2, None);
     let seen = reader.into_inner().seen;
@@ -90,10 +90,10 @@ fn replies_before_it_reads_on(rt: HostRuntime) {
 }
 
 /// Calls, failures, calls that moved no byte, and bytes of the last call.
-type Counts = (u64, u64, u64, usize);
+type DeviceCounts = (u64, u64, u64, usize);
 
 /// Asserts what is counted of a device, and that the device counted the same.
-fn assert_counts(rt: &impl Abort, counted: Counted<FailsAt<'_>>, want: Counts) {
+fn assert_counts(rt: &impl Abort, counted: Counted<FailsAt<'_>>, want: DeviceCounts) {
     let got = (
         counted.calls(),
         counted.failures(),
@@ -110,7 +110,14 @@ fn assert_counts(rt: &impl Abort, counted: Counted<FailsAt<'_>>, want: Counts) {
 fn counts_what_the_devices_count(rt: HostRuntime) {
     // The script, the failing read and write, the end, and of the reader and the writer what is counted. The read behind `quit` and its
     // newline would fail, and isn't made.
-    const ROWS: [(&[u8], u64, u64, Result<u32, RunFault>, Counts, Counts); 6] = [
+    const ROWS: [(
+        &[u8],
+        u64,
+        u64,
+        Result<u32, RunFault>,
+        DeviceCounts,
+        DeviceCounts,
+    ); 6] = [
         (b"x\nquit\nx\n", 0, 0, Ok(0), (7, 0, 0, 1), (22, 0, 0, 1)),
         (b"x\nquit\nx\n", 8, 0, Ok(0), (7, 0, 0, 1), (22, 0, 0, 1)),
         (b"x\n", 0, 0, Ok(0), (3, 0, 1, 0), (22, 0, 0, 1)),

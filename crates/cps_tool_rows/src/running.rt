@@ -10,7 +10,7 @@ use std::io::{Read, Write};
 
 /// What a run of a script gives, and the source that it leaves.
 #[derive(Clone, Copy)]
-pub struct Ran {
+pub struct ScriptRun {
     pub end: Result<u32, RunFault>,
     /// How many lines the source has.
     pub count: u32,
@@ -25,10 +25,10 @@ pub fn run<R: Read, W: Write>(
     alloc: Global,
     reader: &mut Counted<R>,
     writer: &mut Counted<W>,
-) -> Ran {
+) -> ScriptRun {
     let mut session = Session::new(alloc, Hashing::by(1));
     let end = run_script(alloc, reader, writer, &mut session);
-    let ran = Ran {
+    let ran = ScriptRun {
         end,
         count: session.count(),
         first: first_byte(&session),
@@ -44,16 +44,16 @@ fn first_byte(session: &Session) -> Option<u8> {
 
 /// What came of batch assembly, and the text.
 #[derive(Drop)]
-pub struct Written {
+pub struct BatchRun {
     pub end: Result<u32, BatchFault>,
     pub text: Vec<u8>,
 }
 
 /// Assembles a source that a reader gives.
-pub fn assemble_from<R: Read>(alloc: Global, reader: &mut Counted<R>, part: Part) -> Written {
+pub fn assemble_from<R: Read>(alloc: Global, reader: &mut Counted<R>, part: Part) -> BatchRun {
     let mut writer = Counted::new(Vec::new(alloc));
     let end = assemble_into(alloc, reader, &mut writer, part);
-    Written {
+    BatchRun {
         end,
         text: writer.into_inner(),
     }

@@ -6,7 +6,7 @@ use Rattle.cps_list.specs.Assembly.{Assembly}
 use Rattle.cps_list.specs.Texts.{text_of}
 use Rattle.cps_words.specs.declared.fault.OutputFault.{OutputFault}
 use Rattle.cps_words.specs.declared.fault.OutputFault.TheVariants.{Memory, Uncreated, Unwritten, Unplaced}
-use Rattle.cps_words.specs.declared.outputs.Output.{Output}
+use Rattle.cps_words.specs.declared.outputs.FileOutput.{FileOutput}
 use Rattle.cps_words.specs.Outputs.{file_of, name_of, IsNext, Places}
 use Rattle.cps_words.specs.Placing.{Placed}
 use Rattle.cps_words.specs.Code.Steps.{files_from}
@@ -21,10 +21,10 @@ places-more (Unwritten name error) old new files more (front, next, is) = (front
 places-more (Unplaced name error) old new files more (front, next, is) = (front, next-more front files more name.now next, is)
 
 -- the fault of the texts behind the first one
-pub places-rest : (assembly : Assembly) (outputs : List Output) (fault : OutputFault) (old new : Option (List Placed))
+pub places-rest : (assembly : Assembly) (outputs : List FileOutput) (fault : OutputFault) (old new : Option (List Placed))
     → Places (Err fault) old new (files_from assembly (drop 1 outputs)) → Places (Err fault) old new (files_from assembly outputs)
 places-rest assembly [] fault old new is = is
 places-rest assembly (output ∷ rest) fault old new is = places-more fault old new (files_from assembly rest) (file_of (text_of output.part assembly) (name_of output.name)) is
 
-pub all-of-rest : (outputs : List Output) → take (length outputs - 1) (drop 1 outputs) ≡ drop 1 outputs
+pub all-of-rest : (outputs : List FileOutput) → take (length outputs - 1) (drop 1 outputs) ≡ drop 1 outputs
 all-of-rest outputs = take_all (length outputs - 1) (drop 1 outputs) (omega (arith, length-drop 1 outputs))

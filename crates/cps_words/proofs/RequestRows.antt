@@ -2,7 +2,7 @@
 use Rattle.std.proofs.Common.{◌≡◌, ℕ, List, [], ◌∷◌, Option, Some, None, refl, codes}
 use Rattle.clap.specs.Words.{Text}
 use Rattle.clap.proofs.OnLiterals.{clap_on_literals}
-use Rattle.cps_compare.specs.declared.limits.Columns.{Columns}
+use Rattle.cps_compare.specs.declared.limits.OctalColumns.{OctalColumns}
 use Rattle.cps_compare.specs.declared.limits.Limits.{Limits}
 use Rattle.cps_list.specs.declared.part.Part.TheVariants.{Listing, Binary, Symbols, Flags, All}
 use Rattle.cps_words.specs.Outputs.{Names}
@@ -177,7 +177,7 @@ check_help = refl
 abbrev all_of_it : Limits
 all_of_it = record { from = None; to = None; columns = None }
 
-abbrev columns_of : ℕ → ℕ → Option Columns
+abbrev columns_of : ℕ → ℕ → Option OctalColumns
 columns_of first last = Some (record { first = first; last = last })
 
 compare_row : answer_of (call (codes "compare" ∷ codes "old.oct" ∷ codes "deck.cps" ∷ []))

@@ -5,7 +5,7 @@ use Rattle.std.specs.List.{after_first, before_first, list_all, list_any, positi
 use Rattle.std.specs.Char.{is_digit}
 use Rattle.std.specs.Str.Parse.{digits_value}
 use Rattle.clap.specs.Words.{Row, Text, first_of}
-use Rattle.cps_compare.specs.declared.limits.Columns.{Columns}
+use Rattle.cps_compare.specs.declared.limits.OctalColumns.{OctalColumns}
 use Rattle.cps_compare.specs.declared.limits.Limits.{Limits}
 use Rattle.cps_list.specs.declared.part.Part.{Part}
 use Rattle.cps_list.specs.declared.part.Part.TheVariants.{Listing, Binary, Symbols, Flags, All}
@@ -107,7 +107,7 @@ abbrev pub column_named : Text → Option ℕ
 column_named word = number_named 10 5 word
 
 -- columns count from 1, and the first is not behind the last
-abbrev pub columns_between : Option ℕ → Option ℕ → Option Columns
+abbrev pub columns_between : Option ℕ → Option ℕ → Option OctalColumns
 columns_between (Some first) (Some last) = if nat_le 1 first && nat_le first last then Some (record { first = first; last = last }) else None
 columns_between _ _ = None
 
@@ -119,12 +119,12 @@ abbrev pub halves_of : Text → Option (Text × Text)
 halves_of word = if nat_lt (position_or_len is_minus word) (length word) then Some (before_first is_minus word, after_first is_minus word) else None
 
 -- one column alone is the first and the last
-abbrev pub columns_from : Text → Option (Text × Text) → Option Columns
+abbrev pub columns_from : Text → Option (Text × Text) → Option OctalColumns
 columns_from word None = columns_between (column_named word) (column_named word)
 columns_from word (Some halves) = columns_between (column_named halves.0) (column_named halves.1)
 
 -- the columns that a word names: two with a minus between them, or one
-abbrev pub columns_named : Text → Option Columns
+abbrev pub columns_named : Text → Option OctalColumns
 columns_named word = columns_from word (halves_of word)
 
 -- the first address isn't above the last, where both are named
@@ -132,7 +132,7 @@ abbrev pub are_rising : Option ℕ → Option ℕ → Bool
 are_rising (Some from) (Some to) = nat_le from to
 are_rising _ _ = true
 
-abbrev pub limits_from : Option (Option ℕ) → Option (Option ℕ) → Option (Option Columns) → Option Limits
+abbrev pub limits_from : Option (Option ℕ) → Option (Option ℕ) → Option (Option OctalColumns) → Option Limits
 limits_from (Some from) (Some to) (Some columns) = if are_rising from to then Some (record { from = from; to = to; columns = columns }) else None
 limits_from _ _ _ = None
 

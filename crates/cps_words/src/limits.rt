@@ -10,7 +10,7 @@ use super::numbers::{read_address, read_columns};
 use super::unread::{Unread, say_wrong_value};
 use super::values::word_in;
 use clap::ArgMatches;
-use cps_compare::{Columns, Limits};
+use cps_compare::{Limits, OctalColumns};
 use std::alloc::Global;
 
 /// The limits that the options of `compare` name. A last address has at most six octal digits.
@@ -62,7 +62,7 @@ fn read_address_limit(
 }
 
 /// The columns that an option names, None where it is left out.
-fn read_columns_limit(alloc: Global, word: Option<&str>) -> Result<Option<Columns>, Unread>
+fn read_columns_limit(alloc: Global, word: Option<&str>) -> Result<Option<OctalColumns>, Unread>
     ensures { ReadsValue (value_from columns_named (option_map (λ word. word.now) word.entry)) result }
 {
     let Some(word) = word else {

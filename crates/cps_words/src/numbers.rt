@@ -4,7 +4,7 @@ ghost use Rattle.std.specs.List.{list_all};
 ghost use Rattle.std.specs.Char.{is_digit};
 ghost use Rattle.cps_words.specs.Values as values;
 
-use cps_compare::Columns;
+use cps_compare::OctalColumns;
 
 /// The most digits of an address.
 const ADDRESS_DIGITS: usize = 6;
@@ -21,7 +21,7 @@ pub fn read_address(word: &str) -> Option<u32>
 }
 
 /// The columns that a word names: a first and a last one with a minus between them, or one alone.
-pub fn read_columns(word: &str) -> Option<Columns>
+pub fn read_columns(word: &str) -> Option<OctalColumns>
     ensures { result ≡ values.columns_named word.now }
 {
     match halves_of(word) {
@@ -37,11 +37,11 @@ fn halves_of(word: &str) -> Option<(&str, &str)>
     word.split_once('-')
 }
 
-fn columns_between(first: Option<u32>, last: Option<u32>) -> Option<Columns>
+fn columns_between(first: Option<u32>, last: Option<u32>) -> Option<OctalColumns>
     ensures { result ≡ values.columns_between first last }
 {
     match (first, last) {
-        (Some(first), Some(last)) if 1 <= first && first <= last => Some(Columns {
+        (Some(first), Some(last)) if 1 <= first && first <= last => Some(OctalColumns {
             first: first as usize,
             last: last as usize,
         }),

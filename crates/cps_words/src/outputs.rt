@@ -15,7 +15,7 @@ pub struct Outputs<'a> {
 
 /// A text of a source, and the name of the file that it is wanted in, None where it isn't wanted.
 #[derive(Clone, Copy)]
-pub struct Output<'a> {
+pub struct FileOutput<'a> {
     pub part: Part,
     pub name: Option<&'a str>,
 }
@@ -32,23 +32,23 @@ impl<'a> Outputs<'a> {
     }
 
     /// The four texts, the last one first.
-    pub(crate) fn last_first(self) -> [Output<'a>; 4]
+    pub(crate) fn last_first(self) -> [FileOutput<'a>; 4]
         ensures { result ≡ last_first self.entry }
     {
         [
-            Output {
+            FileOutput {
                 part: Part::Flags,
                 name: self.flags,
             },
-            Output {
+            FileOutput {
                 part: Part::Symbols,
                 name: self.symbols,
             },
-            Output {
+            FileOutput {
                 part: Part::Binary,
                 name: self.binary,
             },
-            Output {
+            FileOutput {
                 part: Part::Listing,
                 name: self.listing,
             },

@@ -7,7 +7,7 @@ ghost use Rattle.cps_words.specs.Placing.{one_less, one_more_on_ok, with_placed}
 ghost use Rattle.cps_words.specs.Code.Steps.{files_from, IsUnplaced, IsUnwritten};
 
 use super::fault::OutputFault;
-use super::outputs::{Output, Outputs};
+use super::outputs::{FileOutput, Outputs};
 use super::targets::Targets;
 use cps_list::{Part, View, make_text};
 use std::alloc::Global;
@@ -34,7 +34,7 @@ fn write_each<'a, T: Targets, V: View>(
     alloc: Global,
     targets: &mut T,
     view: &V,
-    outputs: &[Output<'a>],
+    outputs: &[FileOutput<'a>],
 ) -> Result<(), OutputFault<'a>>
     ensures placed { Places result (T.placed targets.old) (T.placed targets.new) (files_from (V.assembly view.now) outputs.now) }
     ensures waiting { T.waiting targets.new ≡ T.waiting targets.old }

@@ -3,17 +3,16 @@ use Rattle.std.specs.Prelude.{◌≡◌, ◌+◌, ℕ, Bool, List, [], ◌∷◌
 use Rattle.std.specs.declared.vec.Vec.{Vec}
 use Rattle.cps_state.specs.declared.item.Item.{Item}
 use Rattle.cps_state.specs.Course.{Trace}
-use Rattle.cps_state.specs.Code.Sheet.{Sheet, StandsOn, statements_on}
+use Rattle.cps_state.specs.Code.Scratch.{Scratch, StandsOn, statements_on}
 use Rattle.cps_input.specs.Code.Parts.{RisesTo, parts_at}
-use Rattle.cps_final.specs.declared.gather.Gather.{Gather}
+use Rattle.cps_final.specs.declared.finals.Finals.{Finals as Gather}
 use Rattle.cps_final.specs.contracts.finals.FinalsGathered.TheImpl as finals
-use Rattle.cps_final.specs.contracts.gather.GatherGathered.TheImpl as gather
 use Rattle.cps_final.specs.Finals.{Finals, Gathers}
 use Rattle.cps_list.specs.Code.Making.{IsPrintoutOf, shown, shows_symbols}
 use Rattle.cps_list.specs.Symbols.{mentions_from, mentions_on}
 use Rattle.cps_list.specs.declared.mention.Mention.{Mention}
 use Rattle.cps_final.specs.LineNames.{names_defined, names_read}
-use Rattle.cps_batch.specs.declared.passes.PassOne.{PassOne}
+use Rattle.cps_batch.specs.declared.passes.BatchPassOne.{BatchPassOne}
 use Rattle.cps_batch.specs.declared.passes.PassTwo.{PassTwo}
 use Rattle.cps_edit.specs.Assembly.{traces_of, outcomes_under}
 
@@ -30,13 +29,13 @@ pub record AreParts (ends : List ℕ) (items : List Item) (parts : List (List It
 abbrev pub AreKeptParts : {Z : Type 0} → Option (Vec ℕ Z) → List Item → List (List Item) → Type 0
 AreKeptParts ends items parts = IfSome ends (λ ends. AreParts ends.items items parts)
 
--- behind the parts that were kept come the statements of the line on a sheet
-abbrev pub KeepsOn : {Z : Type 0} → Option (Vec ℕ Z) → Option (Vec ℕ Z) → Sheet → Sheet → Type 0
+-- behind the parts that were kept come the statements of the line on a scratch
+abbrev pub KeepsOn : {Z : Type 0} → Option (Vec ℕ Z) → Option (Vec ℕ Z) → Scratch → Scratch → Type 0
 KeepsOn ends ends' old new = (parts : List (List Item)) → AreKeptParts ends old.before parts → AreKeptParts ends' (statements_on new) (parts ++ old.line.items ∷ [])
 
 -- these lines were gathered
 abbrev pub AreGathered : List (List ℕ) → Gather → Type 0
-AreGathered lines gathered = Gathers (gather.gathered-value.it gathered) (traces_of lines)
+AreGathered lines gathered = Gathers (finals.gathered-value.it gathered) (traces_of lines)
 
 -- this is what a line does behind these lines
 abbrev pub IsTrace : List (List ℕ) → List ℕ → Trace → Type 0
@@ -46,20 +45,20 @@ IsTrace before line trace = traces_of (before ++ line ∷ []) ≡ traces_of befo
 abbrev pub AreStatements : List (List ℕ) → List ℕ → List Item → Type 0
 AreStatements before line items = (trace : Trace) × IsTrace before line trace × (items ≡ trace.items)
 
--- What a line did behind these lines stands on a sheet, behind the statements that stood there.
-pub record IsNext (before : List (List ℕ)) (line : List ℕ) (front : List Item) (sheet : Sheet) : Type 0 where
+-- What a line did behind these lines stands on a scratch, behind the statements that stood there.
+pub record IsNext (before : List (List ℕ)) (line : List ℕ) (front : List Item) (scratch : Scratch) : Type 0 where
   pub trace : Trace
-  pub stands : StandsOn sheet front trace
+  pub stands : StandsOn scratch front trace
   pub traces : IsTrace before line trace
 
 -- pass one: what was gathered, the statements of each line, if they are kept, and the symbols, if they are shown
-pub record IsPassed (lines : List (List ℕ)) (one : PassOne) : Type 0 where
+pub record IsPassed (lines : List (List ℕ)) (one : BatchPassOne) : Type 0 where
   pub gathered : AreGathered lines one.gather
-  pub kept : AreKeptParts one.ends (statements_on one.sheet) (statements_of (traces_of lines))
+  pub kept : AreKeptParts one.ends (statements_on one.scratch) (statements_of (traces_of lines))
   pub mentions : (finals : Finals) → one.mentions.items ≡ shown (shows_symbols one.part) (mentions_from 1 (outcomes_under finals (traces_of lines)))
 
 -- pass one of lines, and of one line more with its number
-abbrev pub PassesOn : List ℕ → ℕ → PassOne → PassOne → Type 0
+abbrev pub PassesOn : List ℕ → ℕ → BatchPassOne → BatchPassOne → Type 0
 PassesOn line number old new = (lines : List (List ℕ)) → IsPassed lines old → number ≡ length lines + 1 → IsPassed (lines ++ line ∷ []) new
 
 -- the symbols that a line is noted for, where they are shown

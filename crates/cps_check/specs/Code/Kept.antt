@@ -15,7 +15,7 @@ use Rattle.cps_code.specs.PeripheralForms.{one_word, two_words, hole_of_d, hole_
 use Rattle.cps_check.specs.declared.central_row.RowParts.{RowParts}
 use Rattle.cps_check.specs.declared.sums.SumRow.{SumRow}
 use Rattle.cps_check.specs.declared.sums.SumRow.TheVariants as sum
-use Rattle.cps_check.specs.declared.peripheral.Shown.{Shown}
+use Rattle.cps_check.specs.declared.peripheral.LayoutRow.{LayoutRow}
 use Rattle.cps_check.specs.Central.{Parts}
 use Rattle.cps_check.specs.Peripheral.{operands_text, letters_of}
 
@@ -77,6 +77,6 @@ zero_form layout.Constant number = two_words number (zero_holes layout.Constant)
 zero_form layout.Memory number = two_words number (zero_holes layout.Memory)
 
 -- what is shown of a layout
-pub record IsShown (layout : Layout) (shown : Shown) : Type 0 where
+pub record IsShown (layout : Layout) (shown : LayoutRow) : Type 0 where
   pub operands : shown.operands.now ≡ operands_text layout
   pub letters : shown.letters.now ≡ letters_of layout

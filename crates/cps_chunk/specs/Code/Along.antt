@@ -15,8 +15,8 @@ use Rattle.cps_chunk.specs.Replayed.{replayed}
 use Rattle.cps_chunk.specs.Code.Walk.{StandsAt, now_at, state_at, stretch}
 use Rattle.cps_chunk.specs.declared.sparse.SparseItem.{SparseItem}
 use Rattle.cps_chunk.specs.declared.walk.Cursor.{Cursor}
-use Rattle.cps_chunk.specs.declared.walk.Position.{Position}
-use Rattle.cps_chunk.specs.declared.walk.Position.TheVariants.{Same, Behind}
+use Rattle.cps_chunk.specs.declared.walk.Destination.{Destination}
+use Rattle.cps_chunk.specs.declared.walk.Destination.TheVariants.{Same, Behind}
 use Rattle.cps_chunk.specs.declared.walk.Span.{Span}
 use Rattle.cps_chunk.specs.declared.walk.Walk.{Walk}
 
@@ -24,33 +24,33 @@ abbrev pub span : ℕ → ℕ → Span
 span from to = record { from = from; to = to }
 
 -- what stands now in front of a line that had a place, behind those that were gone along
-abbrev pub front_at : Walk → Position → ℕ → State
+abbrev pub front_at : Walk → Destination → ℕ → State
 front_at walk Same at = now_at walk at
 front_at walk (Behind place) at = now_with walk.replay.log (state_at walk place)
 
 -- lines may be gone along
-abbrev pub MayGo : Walk → Position → Type 0
+abbrev pub MayGo : Walk → Destination → Type 0
 MayGo walk Same = changes_in walk.replay.log.present ≡ no_change
 MayGo walk (Behind place) = place ≤ length walk.base.lines.now
 
-pub record IsSpan (walk : Walk) (position : Position) (lines : Span) : Type 0 where
+pub record IsSpan (walk : Walk) (position : Destination) (lines : Span) : Type 0 where
   pub ordered : lines.from ≤ lines.to
   pub within : lines.to ≤ length walk.base.lines.now
   pub may : MayGo walk position
 
 -- what the lines of a span do now that are disturbed in pass one
-abbrev pub replayed_along : Walk → Position → Span → List (SparseItem Trace)
+abbrev pub replayed_along : Walk → Destination → Span → List (SparseItem Trace)
 replayed_along walk position lines =
     replayed (front_at walk position lines.from) lines.from (stretch lines.from lines.to walk.base.lines.now) (stretch lines.from lines.to walk.base.traces.now)
 
 -- what they leave: no line is open, or they put more
-abbrev pub Leaves : Walk → Walk → Position → Span → Type 0
+abbrev pub Leaves : Walk → Walk → Destination → Span → Type 0
 Leaves old new Same lines = changes_in new.replay.log.present ≡ no_change
 Leaves old new (Behind place) lines =
     PutsAlso old.replay.log new.replay.log (puts_of (traces_from (front_at old (Behind place) lines.from) (stretch lines.from lines.to old.base.lines.now)))
 
 -- the lines of a span were gone along
-pub record GoesAlong (old new : Walk) (position : Position) (lines : Span) : Type 0 where
+pub record GoesAlong (old new : Walk) (position : Destination) (lines : Span) : Type 0 where
   pub news : new.replay.news.items ≡ old.replay.news.items ++ replayed_along old position lines
   pub state : front_at new position lines.to ≡ state_after (front_at old position lines.from) (stretch lines.from lines.to old.base.lines.now)
   pub leaves : Leaves old new position lines
@@ -83,12 +83,12 @@ abbrev pub looks_of_part : Span → ℕ → ℕ → State → List Trace → ℕ
 looks_of_part part at end state traces =
     if nat_eq part.from at && nat_eq part.to end then (if holds (run_of traces).asks state then 0 else end - at) else part.to - part.from
 
-abbrev pub looks_of : Walk → Position → Cursor → Span → ℕ
+abbrev pub looks_of : Walk → Destination → Cursor → Span → ℕ
 looks_of walk position cursor part =
     let end = sum (take (cursor.chunk + 1) (lengths_of walk.chunks.items)) in
     looks_of_part part cursor.line end (front_at walk position cursor.line) (stretch cursor.line end walk.base.traces.now)
 
-abbrev pub looks_whole : Walk → Position → ℕ → ℕ → ℕ
+abbrev pub looks_whole : Walk → Destination → ℕ → ℕ → ℕ
 looks_whole walk position at end = if holds (run_of (stretch at end walk.base.traces.now)).asks (front_at walk position at) then 0 else end - at
 
 -- of chunks of these lengths, the first of which begins at a place; that stands in front of each line
@@ -98,8 +98,8 @@ looks_along lines (n ∷ lengths) at stands traces =
     looks_of_part (span (reached lines at) (reached lines (at + n))) at (at + n) (stands at) (take n traces) + looks_along lines lengths (at + n) stands (drop n traces)
 
 -- what stands now in front of each line of a span
-abbrev pub fronts_along : Walk → Position → Span → ℕ → State
+abbrev pub fronts_along : Walk → Destination → Span → ℕ → State
 fronts_along walk position lines at = state_after (front_at walk position lines.from) (stretch lines.from at walk.base.lines.now)
 
-abbrev pub looks_in_span : Walk → Position → Span → ℕ
+abbrev pub looks_in_span : Walk → Destination → Span → ℕ
 looks_in_span walk position lines = looks_along lines (lengths_of walk.chunks.items) 0 (fronts_along walk position lines) walk.base.traces.now

@@ -3,9 +3,9 @@ use Rattle.std.specs.Prelude.{◌≡◌, ℕ, ◌≤◌, List, [], ◌∷◌, le
 use Rattle.cps_state.specs.declared.hashing.Hashing.{Hashing}
 use Rattle.cps_state.specs.Course.{Trace}
 use Rattle.cps_final.specs.Code.RunGathering.{kept_run}
-use Rattle.cps_final.specs.Names.{names_in}
+use Rattle.cps_final.specs.NamedFinals.{names_in}
 use Rattle.cps_chunk.specs.declared.chunk.Chunk.{Chunk}
-use Rattle.cps_chunk.specs.Marks.{AreMarked, HasAll, keys_put, keys_asked, keys_named}
+use Rattle.cps_chunk.specs.KeyFilter.{AreMarked, HasAll, keys_put, keys_asked, keys_named}
 
 -- a chunk of lines which did this, and so is what was gathered
 pub record IsChunkOf (hashing : Hashing) (traces : List Trace) (chunk : Chunk) : Type 0 where

@@ -3,7 +3,7 @@ use Rattle.std.specs.Prelude.{ℕ, ◌+◌, ◌-◌, ◌*◌, ◌≤◌, nat_lt,
 use Rattle.cps_state.specs.Course.{Trace}
 use Rattle.cps_final.specs.Outcome.{Resolved}
 use Rattle.cps_chunk.specs.Recut.{recut}
-use Rattle.cps_final.specs.Names.{names_in}
+use Rattle.cps_final.specs.NamedFinals.{names_in}
 use Rattle.cps_edit.specs.Passes.{state_after, traces_of}
 use Rattle.cps_edit.specs.Splice.{Splice, spliced}
 use Rattle.cps_edit.specs.Disturbed.{finals_in}

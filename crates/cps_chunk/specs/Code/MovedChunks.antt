@@ -5,14 +5,14 @@ use Rattle.cps_state.specs.Course.{Trace}
 use Rattle.cps_edit.specs.declared.exchange.Exchange.{Exchange}
 use Rattle.cps_edit.specs.Exchange.{IsWithin, exchanged}
 use Rattle.cps_edit.specs.Numbers.{exchanged_numbers}
-use Rattle.cps_chunk.specs.declared.exchange.Piece.{Piece}
+use Rattle.cps_chunk.specs.declared.exchange.RecutChunk.{RecutChunk}
 use Rattle.cps_chunk.specs.Code.Pieces.{ArePieces}
 use Rattle.cps_chunk.specs.declared.chunk.Chunk.{Chunk}
 use Rattle.cps_chunk.specs.Code.Chunk.{IsChunkOf, AreChunksOf, lengths_of}
 
 -- The lines did this, and stand in the order that they have now that two runs of them have changed places. The old chunks are those of the order before, and
 -- the pieces are the new division, which names each old chunk whose lines stand together again.
-pub record AreMoved (hashing : Hashing) (olds : List Chunk) (pieces : List Piece) (traces : List Trace) : Type 0 where
+pub record AreMoved (hashing : Hashing) (olds : List Chunk) (pieces : List RecutChunk) (traces : List Trace) : Type 0 where
   pub before : List Trace
   pub exchange : Exchange
   pub within : IsWithin (length before) exchange

@@ -3,13 +3,13 @@ use Rattle.std.specs.Prelude.{◌≡◌, ℕ, ◌+◌, ◌-◌, ◌<◌, ◌≤�
 use Rattle.cps_edit.specs.Numbers.{numbers}
 use Rattle.cps_chunk.specs.Division.{AreChunks}
 use Rattle.cps_chunk.specs.Exchange.{numbers_of}
-use Rattle.cps_chunk.specs.declared.exchange.Piece.{Piece}
+use Rattle.cps_chunk.specs.declared.exchange.RecutChunk.{RecutChunk}
 
-abbrev pub lines_of : List Piece → List ℕ
-lines_of pieces = map (λ (piece : Piece). piece.lines) pieces
+abbrev pub lines_of : List RecutChunk → List ℕ
+lines_of pieces = map (λ (piece : RecutChunk). piece.lines) pieces
 
 -- of pieces that stand in the other order
-abbrev pub lines_in : List Piece → List ℕ
+abbrev pub lines_in : List RecutChunk → List ℕ
 lines_in pieces = reverse (lines_of pieces)
 
 -- so many, or as many as there are
@@ -26,7 +26,7 @@ AreNamed lengths None ms = AreOfNone lengths ms
 AreNamed lengths (Some i) ms = (i < length lengths) × (ms ≡ numbers_of i lengths)
 
 -- pieces have the lines of these numbers, one behind another
-abbrev pub ArePieces : List ℕ → List Piece → List ℕ → Type 0
+abbrev pub ArePieces : List ℕ → List RecutChunk → List ℕ → Type 0
 ArePieces lengths [] ms = ms ≡ []
 ArePieces lengths (piece ∷ pieces) ms =
     (1 ≤ piece.lines) × (piece.lines ≤ length ms) × AreNamed lengths piece.old (take piece.lines ms) × ArePieces lengths pieces (drop piece.lines ms)
@@ -52,17 +52,17 @@ part_lines from end = if nat_lt from end then (end - from) ∷ [] else []
 -- ---- lines set before pieces that stand in the other order, whatever numbers the lines of these have
 
 -- lines of one chunk or of none
-abbrev pub SetsOne : List Piece → List Piece → ℕ → Option ℕ → Type 0
+abbrev pub SetsOne : List RecutChunk → List RecutChunk → ℕ → Option ℕ → Type 0
 SetsOne old new lines chunk = (lengths ms more : List ℕ) → ArePieces lengths (reverse old) more
     → MayStandBefore lengths lines chunk ms more → ArePieces lengths (reverse new) (ms ++ more)
 
 -- the lines of a chunk of so many lines from one on up to another
-abbrev pub SetsPart : List Piece → List Piece → ℕ → ℕ → ℕ → ℕ → Type 0
+abbrev pub SetsPart : List RecutChunk → List RecutChunk → ℕ → ℕ → ℕ → ℕ → Type 0
 SetsPart old new chunk lines from end = (lengths more : List ℕ) → AreChunks lengths → chunk < length lengths → lines ≡ get_or lengths chunk 0
     → (from < end → end < lines → GoesNotOn (sum (take chunk lengths) + end) more)
     → ArePieces lengths (reverse old) more → ArePieces lengths (reverse new) (part_numbers lengths chunk from end ++ more)
 
 -- lines of several chunks from one number on up to another
-abbrev pub SetsRun : List ℕ → List Piece → List Piece → ℕ → ℕ → Type 0
+abbrev pub SetsRun : List ℕ → List RecutChunk → List RecutChunk → ℕ → ℕ → Type 0
 SetsRun lengths old new from to = (more : List ℕ) → GoesNotOn to more
     → ArePieces lengths (reverse old) more → ArePieces lengths (reverse new) (numbers from (to - from) ++ more)

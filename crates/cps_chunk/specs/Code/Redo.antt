@@ -2,7 +2,7 @@
 use Rattle.std.specs.Prelude.{◌≡◌, ℕ, nat_eq, Bool, ◌&&◌, length, List, [], ◌∷◌, ◌++◌, Option, None, Some, is_some, if◌then◌else◌}
 use Rattle.cps_state.specs.Course.{Trace}
 use Rattle.cps_final.specs.Outcome.{Outcome, Resolved}
-use Rattle.cps_final.specs.Names.{Names, all_pass}
+use Rattle.cps_final.specs.NamedFinals.{NamedFinals, all_pass}
 use Rattle.cps_final.specs.Agreeing.{same_at}
 use Rattle.cps_edit.specs.Disturbed.{is_redone}
 use Rattle.cps_final.specs.declared.ends.Ends.{Ends}
@@ -26,7 +26,7 @@ behind at [] = []
 behind at (new ∷ news) = if nat_eq new.at at then news else new ∷ news
 
 -- nothing is new of some lines, and all that their statements name has the same final values
-abbrev pub is_passed : Resolved → Resolved → Names → List (SparseItem Trace) → Bool
+abbrev pub is_passed : Resolved → Resolved → NamedFinals → List (SparseItem Trace) → Bool
 is_passed was now names news = nat_eq (length news) 0 && all_pass (same_at was now) names
 
 -- what pass two makes now of lines from a place on that are disturbed in it, and whether a line is

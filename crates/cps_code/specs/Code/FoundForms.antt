@@ -7,7 +7,7 @@ use Rattle.cps_expr.specs.declared.machine.Machine.TheVariants.{Cp}
 use Rattle.cps_expr.specs.OperandList.{only_one}
 use Rattle.cps_expr.specs.Term.{Term}
 use Rattle.cps_code.specs.declared.digits.Digits.{Digits}
-use Rattle.cps_code.specs.declared.fields.Found as kept
+use Rattle.cps_code.specs.declared.fields.ReadFields as kept
 use Rattle.cps_code.specs.declared.forms.SumForms.{SumForms}
 use Rattle.cps_code.specs.declared.forms.SumForms.TheVariants as sums
 use Rattle.cps_code.specs.declared.hole.HoleKind.TheVariants.{Value, Count}
@@ -35,7 +35,7 @@ abbrev pub registers_alone : List (List ℕ) → List (List ℕ) → Digits → 
 registers_alone registers texts digits = option_and_then with_none_left (registers_in registers texts digits)
 
 -- the digits of operands of registers, and K after them
-abbrev pub constant_in : Radix → List (List ℕ) → List (List ℕ) → Digits → Option kept.Found
+abbrev pub constant_in : Radix → List (List ℕ) → List (List ℕ) → Digits → Option kept.ReadFields
 constant_in radix registers texts digits =
     option_and_then (λ left. option_map (λ k. record { digits = left.0; operand = k }) (only_one (operand_of Cp radix) left.1)) (registers_in registers texts digits)
 

@@ -4,7 +4,7 @@ use Rattle.std.specs.Borrow.{Bor}
 use Rattle.std.specs.Option.{option_map_or}
 use Rattle.cps_code.specs.declared.piece.Piece as code
 use Rattle.cps_code.specs.Image.{Piece, ArePacked, piece_of}
-use Rattle.cps_compare.specs.declared.deck.Deck.{Deck}
+use Rattle.cps_compare.specs.declared.deck_words.DeckWords.{DeckWords}
 use Rattle.cps_compare.specs.declared.maker.Maker.{Maker}
 use Rattle.cps_compare.specs.declared.maker.Maker.TheVariants.{Nobody}
 use Rattle.cps_compare.specs.Makers.{Signed, maker_of}
@@ -51,7 +51,7 @@ pub record IsDeck (all : List Signed) (words : List (Option ℕ)) (slots : List 
   pub made : AreMade all slots
 
 -- bits are put over those of a deck
-abbrev pub PutsOver : List Signed → Deck → Deck → Type 0
+abbrev pub PutsOver : List Signed → DeckWords → DeckWords → Type 0
 PutsOver signed old new = (all : List Signed) → IsDeck all old.words old.makers → IsDeck (all ++ signed) new.words new.makers
 
 -- pieces are added to others

@@ -3,7 +3,7 @@ use Rattle.std.specs.Prelude.{◌≡◌, ℕ, ◌+◌, ◌++◌, Bool, List, Opt
 use Rattle.cps_code.specs.Image.{Piece, ArePacked}
 use Rattle.cps_compare.specs.declared.limits.Limits.{Limits}
 use Rattle.cps_compare.specs.declared.sides.Sides as code
-use Rattle.cps_compare.specs.declared.telling.Telling.{Telling}
+use Rattle.cps_compare.specs.declared.telling.DifferingWords.{DifferingWords}
 use Rattle.cps_compare.specs.Differences.{differs, is_compared, digits_in, IsLow, IsHigh}
 use Rattle.cps_compare.specs.Told.{Sides, told_text, count_compared, count_differing, digit_rows, rows_at}
 use Rattle.cps_compare.specs.Code.Reading.{digits_at, maker_at}
@@ -38,19 +38,19 @@ abbrev pub one_if : Bool → ℕ
 one_if test = if test then 1 else 0
 
 -- the words at an address, with these digits and this word, are counted
-pub record Counts (digits : List ℕ) (word : Option (List ℕ)) (old new : Telling) : Type 0 where
+pub record Counts (digits : List ℕ) (word : Option (List ℕ)) (old new : DifferingWords) : Type 0 where
   pub differing : new.differing ≡ old.differing + one_if (differs digits word)
   pub compared : new.compared ≡ old.compared + one_if (is_compared digits word)
 
 -- the words at an address of both sides are counted
-abbrev pub CountsAt : Sides → ℕ → Telling → Telling → Type 0
+abbrev pub CountsAt : Sides → ℕ → DifferingWords → DifferingWords → Type 0
 CountsAt sides address old new = Counts (sides.given address) (sides.deck address) old new
 
 -- the words at an address of both sides are told
-abbrev pub TellsAt : Sides → ℕ → Telling → Telling → Type 0
+abbrev pub TellsAt : Sides → ℕ → DifferingWords → DifferingWords → Type 0
 TellsAt sides address old new = new.text.items ≡ old.text.items ++ rows_at sides address
 
 -- all words from one address to another are told
-abbrev pub TellsAll : Sides → ℕ → ℕ → Telling → Type 0
+abbrev pub TellsAll : Sides → ℕ → ℕ → DifferingWords → Type 0
 TellsAll sides low high telling =
     (telling.text.items ≡ told_text sides low high) × (telling.differing ≡ count_differing sides low high) × (telling.compared ≡ count_compared sides low high)

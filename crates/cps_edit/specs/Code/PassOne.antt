@@ -2,7 +2,7 @@
 use Rattle.std.specs.Prelude.{◌≡◌, ℕ, List}
 use Rattle.cps_state.specs.Course.{Trace}
 use Rattle.cps_final.specs.Finals.{Finals}
-use Rattle.cps_final.specs.contracts.gather.GatherGathered.TheImpl.{gathered-value}
+use Rattle.cps_final.specs.contracts.finals.FinalsGathered.TheImpl.{gathered-value}
 use Rattle.cps_edit.specs.declared.pass_one.PassOne.{PassOne}
 use Rattle.cps_edit.specs.Passes.{state_after, traces_from, GathersMore}
 

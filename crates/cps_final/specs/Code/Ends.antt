@@ -5,7 +5,7 @@ use Rattle.cps_final.specs.Code.FormerFinals.{values_before}
 use Rattle.cps_final.specs.declared.ends.Ends.{Ends}
 
 abbrev pub was_of : Ends → Resolved
-was_of ends = values_before (record { finals = ends.finals; mend = ends.mend })
+was_of ends = values_before (record { finals = ends.finals; patch = ends.patch })
 
 abbrev pub now_of : Ends → Resolved
 now_of ends = resolved ends.finals.now

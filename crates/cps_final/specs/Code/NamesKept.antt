@@ -1,10 +1,10 @@
 -- For the code, not part of what a reader believes: names of which one alone is kept in place.
 use Rattle.std.specs.Prelude.{List, [], ◌∷◌}
 use Rattle.cps_text.specs.declared.name.Name.{Name}
-use Rattle.cps_final.specs.declared.kept_names.Kept.{Kept}
-use Rattle.cps_final.specs.declared.kept_names.Kept.TheVariants.{Empty, One, Several}
+use Rattle.cps_final.specs.declared.kept_names.NameSlots.{NameSlots}
+use Rattle.cps_final.specs.declared.kept_names.NameSlots.TheVariants.{Empty, One, Several}
 
-abbrev pub names_in : Kept → List Name
+abbrev pub names_in : NameSlots → List Name
 names_in Empty = []
 names_in (One name) = name ∷ []
 names_in (Several names) = names.value.items

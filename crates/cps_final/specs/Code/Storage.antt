@@ -30,13 +30,6 @@ IsStored storage traces = stored storage ≡ record (finals_of traces) { state =
 abbrev pub StoresMore : Storage → Storage → Trace → Type 0
 StoresMore old new trace = (traces : List Trace) → IsStored old traces → IsStored new (traces ++ trace ∷ [])
 
--- final values with one line more
-pub record HasGathered (old new : Finals) (trace : Trace) : Type 0 where
-  pub state : new.state ≡ overwritten old.state trace.puts
-  pub layout : new.layout ≡ grown_by old.layout trace.puts
-  pub pool : new.pool ≡ insert_all nat_eq old.pool (literals_in trace)
-  pub program : new.program ≡ option_or old.program (first_program trace.items)
-
 -- there is room for what a line puts, and for these literals
 pub record HasRoom (storage : Storage) (puts : List Put) (literals : List ℕ) : Type 0 where
   pub blocks : length (names_put puts) ≤ spare storage.blocks.named

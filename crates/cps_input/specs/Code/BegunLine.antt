@@ -2,8 +2,8 @@
 use Rattle.std.specs.Prelude.{◌≡◌, ℕ, List, [], ◌∷◌, take, drop, if◌then◌else◌, ◌==◌}
 use Rattle.cps_text.specs.declared.limits.TheConstants.{MOST_COMMAND_BYTES}
 use Rattle.cps_input.specs.declared.begun_line.BegunLine.{BegunLine}
-use Rattle.cps_input.specs.declared.begun_line.Past.{Past}
-use Rattle.cps_input.specs.declared.begun_line.Past.TheVariants.{Nothing, Return, More}
+use Rattle.cps_input.specs.declared.begun_line.Overrun.{Overrun}
+use Rattle.cps_input.specs.declared.begun_line.Overrun.TheVariants.{Nothing, Return, More}
 use Rattle.cps_input.specs.Lines.{carriage_return}
 
 -- the most bytes that are kept of a line
@@ -11,13 +11,13 @@ abbrev pub longest_kept : ℕ
 longest_kept = MOST_COMMAND_BYTES
 
 -- what stands past the room of a line
-abbrev pub past_of : List ℕ → Past
+abbrev pub past_of : List ℕ → Overrun
 past_of [] = Nothing
 past_of (b ∷ []) = if b == carriage_return then Return else More
 past_of (b ∷ c ∷ bytes) = More
 
 -- what stands past the room, and one byte more
-abbrev pub more_past : Past → ℕ → Past
+abbrev pub more_past : Overrun → ℕ → Overrun
 more_past Nothing byte = if byte == carriage_return then Return else More
 more_past Return byte = More
 more_past More byte = More

@@ -5,8 +5,8 @@ use Rattle.cps_state.specs.Keys.{State, first_state, overwritten}
 use Rattle.cps_state.specs.Work.{Counts}
 use Rattle.cps_final.specs.Changes.{changed}
 use Rattle.cps_final.specs.Code.Kept.{changes_in}
-use Rattle.cps_final.specs.Code.Mend.{mended}
-use Rattle.cps_final.specs.declared.mend.Mend.{Mend}
+use Rattle.cps_final.specs.Code.FinalsPatch.{patched}
+use Rattle.cps_final.specs.declared.finals_patch.FinalsPatch.{FinalsPatch}
 use Rattle.cps_final.specs.contracts.finals.FinalsGathered.TheImpl.{gathered-value}
 use Rattle.cps_final.specs.Finals.{final_value}
 use Rattle.cps_final.specs.Outcome.{Resolved, outcome_of}
@@ -40,9 +40,9 @@ pub record IsAppended (line : List ℕ) (old now : KeptSource) : Type 0 where
   pub lengths : lengths_of now.chunks.items ≡ inserted_at (length old.lines.items) (lengths_of old.chunks.items)
 
 -- what a line that does this changes behind the last
-pub record IsMendOf (kept : KeptSource) (trace : Trace) (mend : Mend) : Type 0 where
-  pub state : (state : State) → changed (changes_in mend.changes) state ≡ overwritten state trace.puts
-  pub storage : IsStoredBehind kept.traces.items mend.storage (kept.traces.items ++ trace ∷ [])
+pub record IsPatchOf (kept : KeptSource) (trace : Trace) (patch : FinalsPatch) : Type 0 where
+  pub state : (state : State) → changed (changes_in patch.changes) state ≡ overwritten state trace.puts
+  pub storage : IsStoredBehind kept.traces.items patch.storage (kept.traces.items ++ trace ∷ [])
 
 -- there is room for one line more
 pub record HasRoomForOne (kept : KeptSource) : Type 0 where
@@ -57,9 +57,9 @@ pub record AreOutcomesUnder (was now : Resolved) (traces : List Trace) (trace : 
   pub renewed : made.renewed.items ≡ redone was now 0 [] traces
 
 -- the final values that are kept, and those that what was given back says stood before
-abbrev pub AreOutcomesBy : KeptSource → Mend → Trace → OutcomesWith → Type 0
-AreOutcomesBy kept mend trace made =
-    AreOutcomesUnder (final_value (mended mend (gathered-value.it kept.finals))) (final_value (gathered-value.it kept.finals)) kept.traces.items trace made
+abbrev pub AreOutcomesBy : KeptSource → FinalsPatch → Trace → OutcomesWith → Type 0
+AreOutcomesBy kept patch trace made =
+    AreOutcomesUnder (final_value (patched patch (gathered-value.it kept.finals))) (final_value (gathered-value.it kept.finals)) kept.traces.items trace made
 
 -- those of the source, and of the source with the line
 abbrev pub AreOutcomesWith : KeptSource → List ℕ → OutcomesWith → Type 0
@@ -67,9 +67,9 @@ AreOutcomesWith kept line made =
     AreOutcomesUnder (finals_in kept.lines.items) (finals_in (kept.lines.items ++ line ∷ [])) kept.traces.items (trace_behind kept line) made
 
 -- what pass two steps and compares
-pub record HasPassedWith {T E : Type 0} (result : Result T E) (kept : KeptSource) (mend : Mend) (old new : Counts) : Type 0 where
-  pub steps : Steps result old new 0 (1 + length (redone_by kept mend []))
-  pub looked : ComparesUpTo old new (looks_by kept mend [])
+pub record HasPassedWith {T E : Type 0} (result : Result T E) (kept : KeptSource) (patch : FinalsPatch) (old new : Counts) : Type 0 where
+  pub steps : Steps result old new 0 (1 + length (redone_by kept patch []))
+  pub looked : ComparesUpTo old new (looks_by kept patch [])
 
 -- the symbols that the line reads, and those that pass two makes anew
 pub record HasReadWith (read : NamesRead) (made : OutcomesWith) : Type 0 where

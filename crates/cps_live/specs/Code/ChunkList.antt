@@ -7,7 +7,7 @@ use Rattle.cps_chunk.specs.Recut.{recut}
 use Rattle.cps_chunk.specs.Staying.{IsTight}
 use Rattle.cps_chunk.specs.Code.Chunk.{AreChunksOf, lengths_of}
 use Rattle.cps_chunk.specs.declared.chunk.Chunk.{Chunk}
-use Rattle.cps_live.specs.declared.cut.Cut.{Cut}
+use Rattle.cps_chunk.specs.declared.put.ChunkSplice.{ChunkSplice}
 
 -- chunks of the lengths `ns` come in the place of those from `start` up to `end`, around lines from `keep` up to `from`
 pub record IsDivided (keep from start end : ℕ) (ns olds news : List ℕ) : Type 0 where
@@ -19,7 +19,7 @@ pub record IsDivided (keep from start end : ℕ) (ns olds news : List ℕ) : Typ
   pub tight : IsTight keep (sum olds - from) start end ns olds
 
 -- lines that did one thing in these chunks, and do another in those of the edit: the same in front of the chunks that go, and behind them
-pub record Fits (hashing : Hashing) (cut : Cut) (cs : List Chunk) (olds news : List Trace) : Type 0 where
+pub record Fits (hashing : Hashing) (cut : ChunkSplice) (cs : List Chunk) (olds news : List Trace) : Type 0 where
   pub chunks : AreChunksOf hashing cs olds
   pub ordered : cut.start ≤ cut.end
   pub within : cut.end ≤ length cs
@@ -30,6 +30,6 @@ pub record Fits (hashing : Hashing) (cut : Cut) (cs : List Chunk) (olds news : L
   pub count : cut.before + sum cut.lengths.items + (length olds - cut.behind) ≡ length news
 
 -- there is room for the chunks of the edit, and a list for them
-pub record HasRoom {Z : Type 0} (cut : Cut) (cs : Vec Chunk Z) (news : List Trace) (room : Vec Chunk Z) : Type 0 where
+pub record HasRoom {Z : Type 0} (cut : ChunkSplice) (cs : Vec Chunk Z) (news : List Trace) (room : Vec Chunk Z) : Type 0 where
   pub chunks : vec_len cs + length cut.lengths.items ≤ vec_capacity cs
   pub list : length cut.lengths.items ≤ vec_capacity room

@@ -10,7 +10,7 @@ use Rattle.cps_final.specs.Agreeing.{same_at}
 use Rattle.cps_final.specs.Code.Ends.{was_of, now_of}
 use Rattle.cps_final.specs.declared.ends.Ends.{Ends}
 use Rattle.cps_state.specs.Course.{Trace}
-use Rattle.cps_final.specs.Names.{all_pass, names_in}
+use Rattle.cps_final.specs.NamedFinals.{all_pass, names_in}
 use Rattle.cps_live.specs.Code.NamesRead.{HasReadBy}
 use Rattle.cps_live.specs.declared.names_read.NamesRead.{NamesRead}
 use Rattle.cps_live.specs.declared.differences.Differences.{Differences}
@@ -42,5 +42,5 @@ pub record PlacesStandIn (ends : Ends) : Type 0 where
 -- these are the labels that are changed and have other final values
 pub record IsListed (ends : Ends) (labels : List Name) : Type 0 where
   pub differ : (name : Name) → list_any (λ other. same_name other name) labels ≡ true → same_at (was_of ends) (now_of ends) (label name) ≡ false
-  pub changed : (name : Name) → is_some (changes_in ends.mend.now.changes (key.Label name)) ≡ true → same_at (was_of ends) (now_of ends) (label name) ≡ false
+  pub changed : (name : Name) → is_some (changes_in ends.patch.now.changes (key.Label name)) ≡ true → same_at (was_of ends) (now_of ends) (label name) ≡ false
       → list_any (λ other. same_name other name) labels ≡ true

@@ -10,8 +10,8 @@ use Rattle.cps_final.specs.Changes.{changed}
 use Rattle.cps_final.specs.Code.Kept.{changes_in, count_of}
 use Rattle.cps_final.specs.Finals.{final_value, finals_of}
 use Rattle.cps_final.specs.Outcome.{Outcome, Resolved}
-use Rattle.cps_final.specs.Code.Mend.{mended}
-use Rattle.cps_final.specs.declared.mend.Mend.{Mend}
+use Rattle.cps_final.specs.Code.FinalsPatch.{patched}
+use Rattle.cps_final.specs.declared.finals_patch.FinalsPatch.{FinalsPatch}
 use Rattle.cps_final.specs.contracts.finals.FinalsGathered.TheImpl.{gathered-value}
 use Rattle.cps_chunk.specs.Division.{AreChunks}
 use Rattle.cps_chunk.specs.Recut.{recut}
@@ -26,24 +26,24 @@ use Rattle.cps_chunk.specs.Replayed.{redone_behind, redone_front, replayed_behin
 use Rattle.cps_chunk.specs.Code.Recuts.{Recuts}
 use Rattle.cps_chunk.specs.Touched.{touched_of}
 use Rattle.cps_live.specs.Code.NamesRead.{HasRead, items_of}
-use Rattle.cps_live.specs.declared.cut.Cut.{Cut}
+use Rattle.cps_chunk.specs.declared.put.ChunkSplice.{ChunkSplice}
 use Rattle.cps_live.specs.declared.first_pass.FirstPass.{FirstPass}
 use Rattle.cps_live.specs.declared.kept_source.KeptSource.{KeptSource}
 use Rattle.cps_live.specs.declared.names_read.NamesRead.{NamesRead}
 use Rattle.cps_live.specs.declared.news.News.{News}
 
 -- new lines in their places, as a splice
-abbrev pub splice_of : Cut → Splice
+abbrev pub splice_of : ChunkSplice → Splice
 splice_of cut = splice_at cut.keep cut.from cut.lines.items
 
 -- what an edit of a source, in chunks of these lengths, makes of its division
-pub record IsCut (lines : List (List ℕ)) (olds : List ℕ) (cut : Cut) : Type 0 where
+pub record IsSplice (lines : List (List ℕ)) (olds : List ℕ) (cut : ChunkSplice) : Type 0 where
   pub recuts : Recuts lines (splice_of cut) cut.start cut.end cut.lengths.items olds
   pub before : cut.before ≡ sum (take cut.start olds)
   pub behind : cut.behind ≡ sum (take cut.end olds)
 
 -- what the new lines do
-abbrev pub traces_of_new : List (List ℕ) → Cut → List Trace
+abbrev pub traces_of_new : List (List ℕ) → ChunkSplice → List Trace
 traces_of_new lines cut = traces_from (state_front lines (splice_of cut)) cut.lines.items
 
 -- items in the place of those after the first `keep` up to the first `from`
@@ -67,7 +67,7 @@ pub record IsKept (kept : KeptSource) : Type 0 where
   pub finals : gathered-value.it kept.finals ≡ finals_of (traces_of kept.lines.items)
 
 -- there is room for the lines and chunks of an edit, and in a list for the chunks
-pub record HasRoomFor {Z : Type 0} (kept : KeptSource) (cut : Cut) (news : Vec Chunk Z) : Type 0 where
+pub record HasRoomFor {Z : Type 0} (kept : KeptSource) (cut : ChunkSplice) (news : Vec Chunk Z) : Type 0 where
   pub lines : vec_len kept.lines + vec_len cut.lines ≤ vec_capacity kept.lines
   pub traces : vec_len kept.traces + vec_len cut.lines ≤ vec_capacity kept.traces
   pub outcomes : vec_len kept.outcomes + vec_len cut.lines ≤ vec_capacity kept.outcomes
@@ -76,8 +76,8 @@ pub record HasRoomFor {Z : Type 0} (kept : KeptSource) (cut : Cut) (news : Vec C
   pub list : vec_len cut.lengths ≤ vec_capacity news
 
 -- and for what an edit changes behind the last line, once and back
-abbrev pub HasRoomToMend : KeptSource → Mend → Type 0
-HasRoomToMend kept mend = count_of mend.changes + count_of mend.changes ≤ room_of kept.finals.state
+abbrev pub HasRoomToPatch : KeptSource → FinalsPatch → Type 0
+HasRoomToPatch kept patch = count_of patch.changes + count_of patch.changes ≤ room_of kept.finals.state
 
 -- the same is kept, whatever was gathered of chunks, and whatever room there is
 pub record IsStill (old new : KeptSource) : Type 0 where
@@ -125,7 +125,7 @@ pub record HasReadNews (read : NamesRead) (news : News Outcome) : Type 0 where
 -- ---- an edit
 
 -- the new lines stand in their places, and the chunks that come there
-pub record IsEdited (cut : Cut) (old now : KeptSource) : Type 0 where
+pub record IsEdited (cut : ChunkSplice) (old now : KeptSource) : Type 0 where
   pub lines : now.lines.items ≡ spliced old.lines.items (splice_of cut)
   pub lengths : lengths_of now.chunks.items ≡ recut cut.start cut.end cut.lengths.items (lengths_of old.chunks.items)
 
@@ -135,40 +135,40 @@ pub record AreEnds (lines : List (List ℕ)) (splice : Splice) (was now : Resolv
   pub after : now ≡ finals_in (spliced lines splice)
 
 -- the final values that are kept, and what was given back of those before
-abbrev pub AreMendedEnds : KeptSource → Mend → Cut → Type 0
-AreMendedEnds kept mend cut =
-    AreEnds kept.lines.items (splice_of cut) (final_value (mended mend (gathered-value.it kept.finals))) (final_value (gathered-value.it kept.finals))
+abbrev pub ArePatchedEnds : KeptSource → FinalsPatch → ChunkSplice → Type 0
+ArePatchedEnds kept patch cut =
+    AreEnds kept.lines.items (splice_of cut) (final_value (patched patch (gathered-value.it kept.finals))) (final_value (gathered-value.it kept.finals))
 
 -- what pass two makes of an edit
-abbrev pub AreOutcomesOf : KeptSource → Cut → News Outcome → Type 0
+abbrev pub AreOutcomesOf : KeptSource → ChunkSplice → News Outcome → Type 0
 AreOutcomesOf kept cut news = AreNewOutcomes (finals_in kept.lines.items) (finals_in (spliced kept.lines.items (splice_of cut))) kept.lines.items (splice_of cut) news
 
 -- each line that is disturbed is stepped, once in each pass
-abbrev pub StepsOfSplice : {T E : Type 0} → Result T E → KeptSource → Cut → Counts → Counts → Type 0
+abbrev pub StepsOfSplice : {T E : Type 0} → Result T E → KeptSource → ChunkSplice → Counts → Counts → Type 0
 StepsOfSplice result kept cut old new = Steps result old new (ones_of kept.lines.items (splice_of cut)) (twos_of kept.lines.items (splice_of cut))
 
 -- in pass one alone, and in pass two alone
-abbrev pub StepsOfFirst : {T E : Type 0} → Result T E → List (List ℕ) → Cut → Counts → Counts → Type 0
+abbrev pub StepsOfFirst : {T E : Type 0} → Result T E → List (List ℕ) → ChunkSplice → Counts → Counts → Type 0
 StepsOfFirst result lines cut old new = Steps result old new (ones_of lines (splice_of cut)) 0
 
-abbrev pub StepsOfSecond : {T E : Type 0} → Result T E → List (List ℕ) → Cut → Counts → Counts → Type 0
+abbrev pub StepsOfSecond : {T E : Type 0} → Result T E → List (List ℕ) → ChunkSplice → Counts → Counts → Type 0
 StepsOfSecond result lines cut old new = Steps result old new 0 (twos_of lines (splice_of cut))
 
 -- how many lines each pass compares
-abbrev pub LooksOfFirst : List (List ℕ) → List ℕ → Cut → Counts → Counts → Type 0
+abbrev pub LooksOfFirst : List (List ℕ) → List ℕ → ChunkSplice → Counts → Counts → Type 0
 LooksOfFirst lines olds cut old new = ComparesUpTo old new (first_looks lines (splice_of cut) (cut.behind - cut.from) (drop cut.end olds))
 
-abbrev pub LooksOfSecond : List (List ℕ) → List ℕ → Cut → Counts → Counts → Type 0
+abbrev pub LooksOfSecond : List (List ℕ) → List ℕ → ChunkSplice → Counts → Counts → Type 0
 LooksOfSecond lines olds cut old new =
     ComparesUpTo old new (second_looks lines (splice_of cut) (take cut.start olds) (cut.keep - cut.before) (cut.behind - cut.from) (drop cut.end olds))
 
 -- at most 64 lines are compared in each pass for each chunk that is touched
-abbrev pub LooksOfSplice : KeptSource → Cut → Counts → Counts → Type 0
+abbrev pub LooksOfSplice : KeptSource → ChunkSplice → Counts → Counts → Type 0
 LooksOfSplice kept cut old new =
     let olds = lengths_of kept.chunks.items in
     ComparesUpTo old new (128 * touched_of kept.lines.items (splice_of cut) olds (recut cut.start cut.end cut.lengths.items olds))
 
 -- what pass two steps and compares
-pub record HasPassedAgain {T E : Type 0} (result : Result T E) (kept : KeptSource) (cut : Cut) (old new : Counts) : Type 0 where
+pub record HasPassedAgain {T E : Type 0} (result : Result T E) (kept : KeptSource) (cut : ChunkSplice) (old new : Counts) : Type 0 where
   pub steps : StepsOfSecond result kept.lines.items cut old new
   pub looked : LooksOfSecond kept.lines.items (lengths_of kept.chunks.items) cut old new

@@ -10,12 +10,12 @@ use Rattle.cps_edit.specs.Exchange.{exchanged}
 use Rattle.cps_edit.specs.Numbers.{exchanged_numbers}
 use Rattle.cps_final.specs.Finals.{final_value}
 use Rattle.cps_final.specs.Outcome.{Outcome}
-use Rattle.cps_final.specs.Code.Mend.{mended}
-use Rattle.cps_final.specs.declared.mend.Mend.{Mend}
+use Rattle.cps_final.specs.Code.FinalsPatch.{patched}
+use Rattle.cps_final.specs.declared.finals_patch.FinalsPatch.{FinalsPatch}
 use Rattle.cps_final.specs.contracts.finals.FinalsGathered.TheImpl.{gathered-value}
 use Rattle.cps_chunk.specs.Exchange.{exchanged_at}
 use Rattle.cps_chunk.specs.Code.Pieces.{ArePieces, lines_of}
-use Rattle.cps_chunk.specs.declared.exchange.Piece.{Piece}
+use Rattle.cps_chunk.specs.declared.exchange.RecutChunk.{RecutChunk}
 use Rattle.cps_edit.specs.Compares.{ComparesUpTo, Steps}
 use Rattle.cps_edit.specs.Disturbed.{finals_in, ones_of_exchange, twos_of_exchange}
 use Rattle.cps_edit.specs.Passes.{state_after, traces_of}
@@ -48,17 +48,17 @@ pub record IsMovedPass (lines : List (List ℕ)) (e : Exchange) (pass : FirstPas
   pub state : changed (changes_in pass.changes) (state_after first_state lines) ≡ state_after first_state (exchanged e lines)
 
 -- the chunks of an exchange, with the old ones that they are
-pub record IsRecutMoved (kept : KeptSource) (e : Exchange) (pieces : List Piece) : Type 0 where
+pub record IsRecutMoved (kept : KeptSource) (e : Exchange) (pieces : List RecutChunk) : Type 0 where
   pub lengths : lines_of pieces ≡ exchanged_at e (lengths_of kept.chunks.items)
   pub named : ArePieces (lengths_of kept.chunks.items) pieces (exchanged_numbers (sum (lengths_of kept.chunks.items)) e)
 
 -- what pass two makes of lines of which these do something new, under the final values that are kept, and how many of them it compares
-abbrev pub redone_by : KeptSource → Mend → List (SparseItem Trace) → List (SparseItem Outcome)
-redone_by kept mend news = redone (final_value (mended mend (gathered-value.it kept.finals))) (final_value (gathered-value.it kept.finals)) 0 news kept.traces.items
+abbrev pub redone_by : KeptSource → FinalsPatch → List (SparseItem Trace) → List (SparseItem Outcome)
+redone_by kept patch news = redone (final_value (patched patch (gathered-value.it kept.finals))) (final_value (gathered-value.it kept.finals)) 0 news kept.traces.items
 
-abbrev pub looks_by : KeptSource → Mend → List (SparseItem Trace) → ℕ
-looks_by kept mend news =
-    looks_again (final_value (mended mend (gathered-value.it kept.finals))) (final_value (gathered-value.it kept.finals)) (lengths_of kept.chunks.items) 0 news kept.traces.items
+abbrev pub looks_by : KeptSource → FinalsPatch → List (SparseItem Trace) → ℕ
+looks_by kept patch news =
+    looks_again (final_value (patched patch (gathered-value.it kept.finals))) (final_value (gathered-value.it kept.finals)) (lengths_of kept.chunks.items) 0 news kept.traces.items
 
 -- what pass two makes of a move
 abbrev pub redone_moved : List (List ℕ) → Exchange → List (SparseItem Outcome)

@@ -6,7 +6,7 @@ use Rattle.cps_state.specs.Work.{Counts}
 use Rattle.cps_final.specs.Finals.{Named}
 use Rattle.cps_final.specs.Outcome.{Outcome}
 use Rattle.cps_final.specs.Agreeing.{same_at, same_named}
-use Rattle.cps_final.specs.Names.{names_in}
+use Rattle.cps_final.specs.NamedFinals.{names_in}
 use Rattle.cps_edit.specs.Compares.{Steps}
 use Rattle.cps_chunk.specs.Code.Chunk.{AreChunksOf, IsChunkOf, lengths_of}
 use Rattle.cps_chunk.specs.declared.chunk.Chunk.{Chunk}
@@ -17,9 +17,9 @@ use Rattle.cps_chunk.specs.Code.Redo.{is_passed}
 use Rattle.cps_chunk.specs.Replayed.{redone}
 use Rattle.cps_chunk.specs.Code.Walk.{stretch}
 use Rattle.cps_live.specs.Code.Differences.{AreExact}
-use Rattle.cps_live.specs.declared.cut.Cut.{Cut}
+use Rattle.cps_chunk.specs.declared.put.ChunkSplice.{ChunkSplice}
 use Rattle.cps_live.specs.declared.second_pass.SecondPass.{SecondPass}
-use Rattle.cps_live.specs.declared.second_pass.Stretch.{Stretch}
+use Rattle.cps_live.specs.declared.second_pass.ComparedSpan.{ComparedSpan}
 
 -- all that lines name has the same final values
 abbrev pub NameTheSame : SecondPass → List Trace → Type 0
@@ -70,13 +70,13 @@ abbrev pub is_same_in : SecondPass → Named → Bool
 is_same_in pass named = same_at (was_of pass.redo.ends) (now_of pass.redo.ends) named
 
 -- nothing that these lines name has another final value, if that is known
-abbrev pub NoneDiffers : SecondPass → Stretch → Type 0
+abbrev pub NoneDiffers : SecondPass → ComparedSpan → Type 0
 NoneDiffers pass lines = lines.none_differs ≡ true → NameTheSame pass (stretch lines.from lines.to pass.base.traces.now)
 
 -- ---- around an edit
 
 -- chunks of all lines, of which some go, with lines in front of the edit and behind it
-pub record CutsAround (pass : SecondPass) (cut : Cut) (olds : List Chunk) : Type 0 where
+pub record CutsAround (pass : SecondPass) (cut : ChunkSplice) (olds : List Chunk) : Type 0 where
   pub chunks : AreChunksOf pass.base.hashing olds pass.base.traces.now
   pub ordered : cut.start ≤ cut.end
   pub within : cut.end ≤ length olds
@@ -87,16 +87,16 @@ pub record CutsAround (pass : SecondPass) (cut : Cut) (olds : List Chunk) : Type
   pub ends : cut.from ≤ cut.behind
   pub few : length pass.base.traces.now < 2 ^ 64
 
-abbrev pub redone_around : SecondPass → Cut → List (SparseItem Trace) → List (SparseItem Outcome)
+abbrev pub redone_around : SecondPass → ChunkSplice → List (SparseItem Trace) → List (SparseItem Outcome)
 redone_around pass cut news = redone_in pass 0 cut.keep [] ++ redone_in pass cut.from (length pass.base.traces.now) news
 
-pub record GoesAround (old new : SecondPass) (cut : Cut) (news : List (SparseItem Trace)) : Type 0 where
+pub record GoesAround (old new : SecondPass) (cut : ChunkSplice) (news : List (SparseItem Trace)) : Type 0 where
   pub made : new.redo.news.items ≡ old.redo.news.items ++ redone_around old cut news
   pub ends : new.redo.ends ≡ old.redo.ends
 
-abbrev pub StepsAround : {T E : Type 0} → Result T E → SecondPass → Cut → List (SparseItem Trace) → Counts → Counts → Type 0
+abbrev pub StepsAround : {T E : Type 0} → Result T E → SecondPass → ChunkSplice → List (SparseItem Trace) → Counts → Counts → Type 0
 StepsAround result pass cut news old new = Steps result old new 0 (length (redone_around pass cut news))
 
-abbrev pub looks_around : SecondPass → Cut → List ℕ → List (SparseItem Trace) → ℕ
+abbrev pub looks_around : SecondPass → ChunkSplice → List ℕ → List (SparseItem Trace) → ℕ
 looks_around pass cut olds news =
     looks_in pass (take cut.start olds) 0 [] + (cut.keep - cut.before) + (cut.behind - cut.from + looks_in pass (drop cut.end olds) cut.behind (items_from cut.behind news))

@@ -5,11 +5,11 @@ use Rattle.cps_final.specs.Code.Storage.{IsStored}
 use Rattle.cps_final.specs.declared.storage.Storage.{Storage}
 use Rattle.cps_chunk.specs.Sparse.{renewed}
 use Rattle.cps_chunk.specs.Code.Storing.{Left, left_by, stored_by}
-use Rattle.cps_live.specs.declared.cut.Cut.{Cut}
+use Rattle.cps_chunk.specs.declared.put.ChunkSplice.{ChunkSplice}
 use Rattle.cps_live.specs.declared.news.News.{News}
 
 -- what the lines do behind an edit
-abbrev pub edited : Cut → News Trace → List Trace → List Trace
+abbrev pub edited : ChunkSplice → News Trace → List Trace → List Trace
 edited cut news traces = take cut.keep traces ++ (news.entered.items ++ renewed cut.from news.renewed.items (drop cut.from traces))
 
 -- where blocks and literals stand behind these lines now; None: where they stood before

@@ -1,7 +1,7 @@
 -- For the code of pass one, not part of what a reader believes: the values that SET gave to symbols, after those that are held already.
 use Rattle.std.specs.Prelude.{List, ◌++◌, None, All, IfSome}
 use Rattle.cps_text.specs.declared.name.Name.{Name}
-use Rattle.cps_state.specs.declared.made.Held.{Held}
+use Rattle.cps_state.specs.declared.made.SetValue.{SetValue}
 use Rattle.cps_state.specs.Course.{Part}
 use Rattle.cps_state.specs.Keys.{State}
 use Rattle.cps_state.specs.Code.Line.{Line, Hands}
@@ -9,7 +9,7 @@ use Rattle.cps_state.specs.Made.{IsHeld}
 use Rattle.cps_pass.specs.declared.holding.Holding.{Holding}
 use Rattle.cps_pass.specs.Placing.{setting_now, settings_now}
 
-abbrev pub holding_after : List Held → List Name → (List Held → Part) → Part
+abbrev pub holding_after : List SetValue → List Name → (List SetValue → Part) → Part
 holding_after held names next = settings_now names (λ later. next (held ++ later))
 
 -- the values of more symbols are held

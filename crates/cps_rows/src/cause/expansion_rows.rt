@@ -1,6 +1,6 @@
 //! Where causes in expansions show.
 use super::assertions::assert_rows;
-use super::told::Telling;
+use super::told::CauseDetail;
 
 /// Statements of expansions. What a cause quotes of them shows in the arguments of the line's call; where it stands in none the operation shows.
 const EXPANSIONS: &str = "
@@ -173,5 +173,5 @@ P         CON     1                  .................................._R_R_R_R_
 
 #[test]
 fn shows_expansions(rt: HostRuntime) {
-    assert_rows(&rt, rt.alloc(), Telling::Places, EXPANSIONS);
+    assert_rows(&rt, rt.alloc(), CauseDetail::Places, EXPANSIONS);
 }

@@ -1,6 +1,6 @@
 //! Where causes show of operands that can't be read.
 use super::assertions::assert_rows;
-use super::told::Telling;
+use super::told::CauseDetail;
 
 /// Sources, and where each cause shows.
 const OPERANDS: &str = "
@@ -223,5 +223,5 @@ M         MACRO   P
 
 #[test]
 fn shows_unreadable_operands(rt: HostRuntime) {
-    assert_rows(&rt, rt.alloc(), Telling::Places, OPERANDS);
+    assert_rows(&rt, rt.alloc(), CauseDetail::Places, OPERANDS);
 }

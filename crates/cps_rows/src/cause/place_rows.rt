@@ -1,6 +1,6 @@
 //! Where causes show of all other flags.
 use super::assertions::assert_rows;
-use super::told::Telling;
+use super::told::CauseDetail;
 
 /// Operations and location fields.
 const FIELDS: &str = "
@@ -136,7 +136,7 @@ M         MACRO
 
 #[test]
 fn shows_fields(rt: HostRuntime) {
-    assert_rows(&rt, rt.alloc(), Telling::Places, FIELDS);
+    assert_rows(&rt, rt.alloc(), CauseDetail::Places, FIELDS);
 }
 
 /// Symbols with a value, widths, and cut values.
@@ -228,7 +228,7 @@ A         BSS     1
 
 #[test]
 fn shows_definitions(rt: HostRuntime) {
-    assert_rows(&rt, rt.alloc(), Telling::Places, DEFINITIONS);
+    assert_rows(&rt, rt.alloc(), CauseDetail::Places, DEFINITIONS);
 }
 
 /// Symbols without a value.
@@ -309,7 +309,7 @@ Q         SET     1
 
 #[test]
 fn shows_symbols(rt: HostRuntime) {
-    assert_rows(&rt, rt.alloc(), Telling::Places, SYMBOLS);
+    assert_rows(&rt, rt.alloc(), CauseDetail::Places, SYMBOLS);
 }
 
 /// Values that a statement doesn't take.
@@ -453,7 +453,7 @@ A         BSS     -1
 
 #[test]
 fn shows_values(rt: HostRuntime) {
-    assert_rows(&rt, rt.alloc(), Telling::Places, VALUES);
+    assert_rows(&rt, rt.alloc(), CauseDetail::Places, VALUES);
 }
 
 /// Where statements stand.
@@ -589,7 +589,7 @@ T         END
 
 #[test]
 fn shows_structure(rt: HostRuntime) {
-    assert_rows(&rt, rt.alloc(), Telling::Places, STRUCTURE);
+    assert_rows(&rt, rt.alloc(), CauseDetail::Places, STRUCTURE);
 }
 
 /// Limits.
@@ -663,5 +663,5 @@ const LIMITS: &str = "
 
 #[test]
 fn shows_limits(rt: HostRuntime) {
-    assert_rows(&rt, rt.alloc(), Telling::Places, LIMITS);
+    assert_rows(&rt, rt.alloc(), CauseDetail::Places, LIMITS);
 }

@@ -1,5 +1,5 @@
 //! What is told of the lines of a source.
-use cps_batch::PassOne;
+use cps_batch::KeptPassOne;
 use cps_cause::{Diagnostic, LinesAbove, explain, explain_end, line_of_opener};
 use cps_state::Hashing;
 use cps_text::Line;
@@ -8,7 +8,7 @@ use std::alloc::{AllocError, Global};
 
 /// A line of which it is told.
 #[derive(Clone, Copy)]
-struct ToldLine<'a> {
+struct ExplainedLine<'a> {
     /// From 1.
     number: usize,
     line: &'a [u8],
@@ -17,17 +17,17 @@ struct ToldLine<'a> {
 
 /// Whether words are told beside columns and letters.
 #[derive(Clone, Copy)]
-pub enum Telling {
+pub enum CauseDetail {
     Places,
     Words,
 }
 
 /// What is told of all lines, a row for each cause: `LINE:FIRST-LAST LETTER`, and the words behind a blank. Where the source is open at its end,
 /// `end E` and the number of the line that opened it.
-pub fn told_of(alloc: Global, telling: Telling, texts: &[&str]) -> Option<Vec<u8>> {
+pub fn told_of(alloc: Global, detail: CauseDetail, texts: &[&str]) -> Option<Vec<u8>> {
     let lines = lines_of(alloc, texts)?;
-    let told = match PassOne::of(alloc, Hashing::by(1), &lines) {
-        Ok(one) => told_by(alloc, telling, &lines, &one).ok(),
+    let told = match KeptPassOne::of(alloc, Hashing::by(1), &lines) {
+        Ok(one) => told_by(alloc, detail, &lines, &one).ok(),
         Err(_) => None,
     };
     drop(lines);
@@ -45,22 +45,22 @@ fn lines_of(alloc: Global, texts: &[&str]) -> Option<Vec<Line>> {
 
 fn told_by(
     alloc: Global,
-    telling: Telling,
+    detail: CauseDetail,
     lines: &[Line],
-    one: &PassOne,
+    one: &KeptPassOne,
 ) -> Result<Vec<u8>, AllocError> {
     let mut text = Vec::new(alloc);
     for (at, trace) in one.traces().iter().enumerate() {
         if let Some(line) = lines.get(at) {
             let told = explain(alloc, line, trace, one.finals())?;
-            let line = ToldLine {
+            let line = ExplainedLine {
                 number: at.saturating_add(1),
                 line: line.bytes(),
                 above: LinesAbove {
                     traces: &one.traces()[..at],
                 },
             };
-            tell_all(alloc, &mut text, telling, line, &told)?;
+            tell_all(alloc, &mut text, detail, line, &told)?;
         }
     }
     tell_end(&mut text, one)?;
@@ -70,12 +70,12 @@ fn told_by(
 fn tell_all(
     alloc: Global,
     text: &mut Vec<u8>,
-    telling: Telling,
-    line: ToldLine<'_>,
+    detail: CauseDetail,
+    line: ExplainedLine<'_>,
     told: &[Diagnostic],
 ) -> Result<(), AllocError> {
     for diagnostic in told {
-        tell(alloc, text, telling, line, diagnostic)?;
+        tell(alloc, text, detail, line, diagnostic)?;
     }
     Ok(())
 }
@@ -83,8 +83,8 @@ fn tell_all(
 fn tell(
     alloc: Global,
     text: &mut Vec<u8>,
-    telling: Telling,
-    line: ToldLine<'_>,
+    detail: CauseDetail,
+    line: ExplainedLine<'_>,
     diagnostic: &Diagnostic,
 ) -> Result<(), AllocError> {
     push_number(text, line.number)?;
@@ -94,7 +94,7 @@ fn tell(
     push_number(text, diagnostic.columns.last)?;
     text.push(b' ')?;
     text.push(diagnostic.cause.letter().byte())?;
-    if let Telling::Words = telling {
+    if let CauseDetail::Words = detail {
         text.push(b' ')?;
         let words = diagnostic.words(alloc, line.line, &line.above)?;
         text.extend_from_slice(words.as_slice())?;
@@ -107,7 +107,7 @@ fn push_number(text: &mut Vec<u8>, number: usize) -> Result<(), AllocError> {
     text.extend_from_slice(Buffer::new().format(number).as_bytes())
 }
 
-fn tell_end(text: &mut Vec<u8>, one: &PassOne) -> Result<(), AllocError> {
+fn tell_end(text: &mut Vec<u8>, one: &KeptPassOne) -> Result<(), AllocError> {
     if explain_end(one.finals())?.is_none() {
         return Ok(());
     }

@@ -1,6 +1,6 @@
 //! The words of causes.
 use super::assertions::assert_rows;
-use super::told::Telling;
+use super::told::CauseDetail;
 
 /// Sources, and what is told of them.
 const WORDS: &str = "
@@ -298,5 +298,5 @@ M         MACRO
 
 #[test]
 fn tells_words(rt: HostRuntime) {
-    assert_rows(&rt, rt.alloc(), Telling::Words, WORDS);
+    assert_rows(&rt, rt.alloc(), CauseDetail::Words, WORDS);
 }

@@ -8,10 +8,10 @@ use std::alloc::Global;
 use std::process::Abort;
 
 /// What a document is: the session's lines, each with a bar behind it; how many lines the text has, and how many of the session's lines are flagged.
-type State = (&'static str, [usize; 2]);
+type DocumentState = (&'static str, [usize; 2]);
 
 /// The line and character where a range begins and where it ends, or None for all of the text; the new text; and what the document is then.
-type Row = (Option<[u32; 4]>, &'static [u8], State);
+type DocumentRow = (Option<[u32; 4]>, &'static [u8], DocumentState);
 
 /// The range from a line and character to others.
 fn range_of(places: [u32; 4]) -> Range {
@@ -35,7 +35,13 @@ fn push_lines(rt: &impl Abort, told: &mut Vec<u8>, session: &Session) {
 }
 
 /// Asserts what a document is.
-fn assert_document(rt: &impl Abort, alloc: Global, at: usize, document: &Document, want: &State) {
+fn assert_document(
+    rt: &impl Abort,
+    alloc: Global,
+    at: usize,
+    document: &Document,
+    want: &DocumentState,
+) {
     let (lines, counts) = want;
     let session = document.session();
     let mut told = Vec::new(alloc);
@@ -47,7 +53,13 @@ fn assert_document(rt: &impl Abort, alloc: Global, at: usize, document: &Documen
 }
 
 /// Opens a text, makes the changes of rows one after another, and asserts what the document is at first and after each.
-fn assert_changes(rt: &impl Abort, alloc: Global, text: &[u8], first: &State, rows: &[Row]) {
+fn assert_changes(
+    rt: &impl Abort,
+    alloc: Global,
+    text: &[u8],
+    first: &DocumentState,
+    rows: &[DocumentRow],
+) {
     let opened = Document::open(alloc, Hashing::by(1), text);
     let mut document = opened.expect(rt, "memory");
     assert_document(rt, alloc, 0, &document, first);
@@ -64,13 +76,13 @@ const TEXT: &[u8] =
     b"A\tCON\tB\r\nB        CON     1            *23456789012345678901234567890123456789012345678901234567890VWXYZ\n   CON A";
 
 /// A blank stands for a tab, and 90 bytes of the second line are left.
-const OPENED: State = (
+const OPENED: DocumentState = (
     "A CON B|B        CON     1            *23456789012345678901234567890123456789012345678901234567890|   CON A|",
     [3, 0],
 );
 
 /// What is done in an editor.
-const CHANGES: [Row; 9] = [
+const CHANGES: [DocumentRow; 9] = [
     // a key is typed: no line defines AB
     (
         Some([2, 8, 2, 8]),

@@ -47,7 +47,7 @@ fn compare_traces(alloc: Global, one: &[Trace], other: &[Trace]) -> Option<(bool
     let before = gathered(alloc, one)?;
     match gathered(alloc, other) {
         Some(after) => {
-            let told = compare_last(one, before.finals(), after.finals());
+            let told = compare_last(one, &before, &after);
             drop(after);
             drop(before);
             told

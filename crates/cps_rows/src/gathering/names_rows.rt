@@ -1,14 +1,14 @@
 //! What a run of a few lines names: how many labels, blocks and literals.
 //! What a function holds is dropped by calls, whose proofs stand once.
 use super::given::take_text;
-use cps_final::Names;
+use cps_final::NamedFinals;
 use cps_state::{Hashing, State, Trace};
 use std::alloc::Global;
 
 /// How many labels, blocks and literals a run names.
-type Counts = [usize; 3];
+type NameCounts = [usize; 3];
 
-fn counts_of(names: &Names) -> Counts {
+fn counts_of(names: &NamedFinals) -> NameCounts {
     [
         names.labels().len(),
         names.blocks().len(),
@@ -16,8 +16,8 @@ fn counts_of(names: &Names) -> Counts {
     ]
 }
 
-fn count(alloc: Global, traces: &[Trace]) -> Option<Counts> {
-    match Names::of(alloc, Hashing::by(1), traces) {
+fn count(alloc: Global, traces: &[Trace]) -> Option<NameCounts> {
+    match NamedFinals::of(alloc, Hashing::by(1), traces) {
         Ok(names) => {
             let counts = counts_of(&names);
             drop(names);
@@ -28,7 +28,7 @@ fn count(alloc: Global, traces: &[Trace]) -> Option<Counts> {
 }
 
 /// Of the run of these lines, the first of a source.
-fn counts_over(alloc: Global, lines: &[&str]) -> Option<Counts> {
+fn counts_over(alloc: Global, lines: &[&str]) -> Option<NameCounts> {
     let mut state = State::first(alloc, Hashing::by(1));
     let mut traces = Vec::new(alloc);
     let mut is_taken = true;

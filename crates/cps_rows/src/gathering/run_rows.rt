@@ -1,39 +1,49 @@
-//! The chunk of a few lines: how many they are, how many keys their run asks, and where it stands.
+//! The chunk of a few lines: how many they are, how many keys their run asks, and in which states these have the same answers.
 //! What a function holds is dropped by calls, whose proofs stand once.
 use super::given::{gathered_chunk, take_text};
 use cps_chunk::Chunk;
-use cps_final::Run;
+use cps_final::{RunAsks, same_answers};
 use cps_state::{Hashing, Lookup, State, Trace};
 use std::alloc::Global;
 
-/// How many lines a chunk has, how many keys their run asks, and whether it stands in the state in front of it and in the one behind it.
-type Seen = (usize, usize, bool, bool);
+/// How many lines a chunk has, how many keys their run asks, and whether these have the same answers in the state in front of it and in the one behind it.
+type ChunkFacts = (usize, usize, bool, bool);
 
-fn seen_of(lines: usize, run: &Run, front: &State, behind: &State) -> Seen {
-    let keys = run.asks().len();
-    (lines, keys, run.stands_in(front), run.stands_in(behind))
+fn facts_of(lines: usize, run: &RunAsks, front: &State, behind: &State) -> ChunkFacts {
+    let asks = run.asks();
+    (
+        lines,
+        asks.len(),
+        same_answers(asks, front),
+        same_answers(asks, behind),
+    )
 }
 
-fn seen_in(chunk: &Chunk, front: &State, behind: &State) -> Option<Seen> {
+fn facts_in(chunk: &Chunk, front: &State, behind: &State) -> Option<ChunkFacts> {
     match &chunk.run {
-        Some(run) => Some(seen_of(chunk.lines, run, front, behind)),
+        Some(run) => Some(facts_of(chunk.lines, run, front, behind)),
         None => None,
     }
 }
 
-fn see(alloc: Global, traces: &[Trace], front: &State, behind: &State) -> Option<Seen> {
+fn find_facts(
+    alloc: Global,
+    traces: &[Trace],
+    front: &State,
+    behind: &State,
+) -> Option<ChunkFacts> {
     match gathered_chunk(alloc, front.hashing(), traces) {
         Ok(chunk) => {
-            let seen = seen_in(&chunk, front, behind);
+            let facts = facts_in(&chunk, front, behind);
             drop(chunk);
-            seen
+            facts
         }
         Err(_) => None,
     }
 }
 
 /// The run of these lines, the first of a source.
-fn run_over(alloc: Global, lines: &[&str]) -> Option<Seen> {
+fn run_over(alloc: Global, lines: &[&str]) -> Option<ChunkFacts> {
     let front = State::first(alloc, Hashing::by(1));
     let mut state = State::first(alloc, Hashing::by(1));
     let mut traces = Vec::new(alloc);
@@ -41,11 +51,11 @@ fn run_over(alloc: Global, lines: &[&str]) -> Option<Seen> {
     for text in lines {
         is_taken = take_text(alloc, &mut state, &mut traces, text) && is_taken;
     }
-    let seen = see(alloc, &traces, &front, &state);
+    let facts = find_facts(alloc, &traces, &front, &state);
     drop(traces);
     drop(state);
     drop(front);
-    if is_taken { seen } else { None }
+    if is_taken { facts } else { None }
 }
 
 /// They ask six keys: the part of the program, the counter, and of A and of B the label and what SET gave. The second line asks three of these once more, the

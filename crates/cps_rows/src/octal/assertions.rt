@@ -2,14 +2,14 @@
 ghost use Rattle.std.specs.Prelude.{◌<◌, ◌^◌};
 ghost use Rattle.std.specs.Option.{ForSome};
 
-use super::running::{ALL, Ran, joined, run};
+use super::running::{ALL, OctalRun, joined, run};
 use cps_compare::{Limits, OctalFault};
 use std::alloc::Global;
 use std::fmt::Debug;
 use std::process::Abort;
 
 /// Lines of an octal text and of a source, how many words differ, and what is told.
-pub type Row = (
+pub type OctalRow = (
     &'static [&'static str],
     &'static [&'static str],
     u32,
@@ -17,14 +17,14 @@ pub type Row = (
 );
 
 /// Asserts of each row of a table that all words are compared as it says.
-pub fn assert_rows(rt: &impl Abort, alloc: Global, rows: &[Row]) {
+pub fn assert_rows(rt: &impl Abort, alloc: Global, rows: &[OctalRow]) {
     for (at, row) in rows.iter().enumerate() {
         assert_told(rt, alloc, at, row, ALL);
     }
 }
 
 /// Asserts of a row that words are compared as it says within limits.
-pub fn assert_told(rt: &impl Abort, alloc: Global, at: usize, row: &Row, limits: Limits)
+pub fn assert_told(rt: &impl Abort, alloc: Global, at: usize, row: &OctalRow, limits: Limits)
     requires { ForSome limits.to (λ to. to < 2 ^ 18) }
 {
     let (octal, source, differing, told) = *row;
@@ -57,7 +57,7 @@ pub fn assert_fault_within(rt: &impl Abort, alloc: Global, limits: Limits, fault
     drop(ran);
 }
 
-fn ran(rt: &impl Abort, alloc: Global, octal: &[&str], source: &[&str], limits: Limits) -> Ran
+fn ran(rt: &impl Abort, alloc: Global, octal: &[&str], source: &[&str], limits: Limits) -> OctalRun
     requires { ForSome limits.to (λ to. to < 2 ^ 18) }
 {
     let octal = joined(rt, alloc, octal);
@@ -65,7 +65,13 @@ fn ran(rt: &impl Abort, alloc: Global, octal: &[&str], source: &[&str], limits: 
     run(alloc, &octal, &source, limits)
 }
 
-fn assert_ran(rt: &impl Abort, at: usize, got: &Ran, want: Result<u32, OctalFault>, told: &str) {
+fn assert_ran(
+    rt: &impl Abort,
+    at: usize,
+    got: &OctalRun,
+    want: Result<u32, OctalFault>,
+    told: &str,
+) {
     assert_row(rt, at, &got.text, told);
     assert_same(rt, "the end", &got.end, &want);
 }

@@ -1,10 +1,10 @@
 //! Addresses and columns that are asked for.
-use super::assertions::{Row, assert_fault_within, assert_told};
+use super::assertions::{OctalRow, assert_fault_within, assert_told};
 use super::running::ALL;
-use cps_compare::{Columns, Limits, OctalFault};
+use cps_compare::{Limits, OctalColumns, OctalFault};
 
 /// Of four words the first and the last differ.
-const AMONG_FOUR: Row = (
+const AMONG_FOUR: OctalRow = (
     &["000100 00000000000000000007 00000000000000000002 00000000000000000003 00000000000000000007"],
     &["          ORG     100B", "          DATA    1,2,3,4"],
     0,
@@ -23,7 +23,7 @@ fn compares_between_addresses(rt: HostRuntime) {
 }
 
 /// A word past the octal text, which lacks it.
-const BEHIND: Row = (
+const BEHIND: OctalRow = (
     &["000100 00000000000000000001"],
     &["          ORG     100B", "          DATA    1,2"],
     1,
@@ -62,7 +62,7 @@ fn tells_that_nothing_is_compared(rt: HostRuntime) {
 }
 
 /// A row whose first columns number it, and whose last ones have a remark of digits.
-const NUMBERED: Row = (
+const NUMBERED: OctalRow = (
     &["00017  000100 00000000000000000001      77"],
     &["          ORG     100B", "          DATA    1"],
     0,
@@ -73,7 +73,7 @@ const NUMBERED: Row = (
 #[test]
 fn reads_columns(rt: HostRuntime) {
     let limits = Limits {
-        columns: Some(Columns { first: 8, last: 34 }),
+        columns: Some(OctalColumns { first: 8, last: 34 }),
         ..ALL
     };
     assert_told(&rt, rt.alloc(), 0, &NUMBERED, limits);

@@ -1,8 +1,8 @@
 //! Rows of octal texts in their forms. The words agree, but for one in some rows.
-use super::assertions::{Row, assert_rows};
+use super::assertions::{OctalRow, assert_rows};
 
 /// Octal texts in their forms.
-const FORMS: [Row; 8] = [
+const FORMS: [OctalRow; 8] = [
     // a dump of two words a row
     (
         &["000100 00000000000000000001 00000000000000000002"],

@@ -18,7 +18,7 @@ pub const ALL: Limits = Limits {
 
 /// What came of a comparison, and what was written.
 #[derive(Drop)]
-pub struct Ran {
+pub struct OctalRun {
     pub end: Result<u32, OctalFault>,
     pub text: Vec<u8>,
 }
@@ -34,14 +34,14 @@ pub fn joined(rt: &impl Abort, alloc: Global, lines: &[&str]) -> Vec<u8> {
 }
 
 /// Compares texts that are read at once.
-pub fn run(alloc: Global, octal: &[u8], source: &[u8], limits: Limits) -> Ran
+pub fn run(alloc: Global, octal: &[u8], source: &[u8], limits: Limits) -> OctalRun
     requires { ForSome limits.to (λ to. to < 2 ^ 18) }
 {
     let mut octal = Counted::new(octal);
     let mut source = Counted::new(source);
     let mut writer = Counted::new(Vec::new(alloc));
     let end = run_between(alloc, limits, &mut octal, &mut source, &mut writer);
-    Ran {
+    OctalRun {
         end,
         text: writer.into_inner(),
     }

@@ -1,10 +1,10 @@
 //! Words that differ, and what made their digits.
-use super::assertions::{Row, assert_fault, assert_rows};
+use super::assertions::{OctalRow, assert_fault, assert_rows};
 use cps_compare::OctalFault;
 use cps_input::InputFault;
 
 /// Words that differ.
-const DIFFERENCES: [Row; 4] = [
+const DIFFERENCES: [OctalRow; 4] = [
     // a digit
     (
         &["000225 51300002621363146000"],
@@ -54,7 +54,7 @@ fn tells_differences(rt: HostRuntime) {
 }
 
 /// What made words that differ in their last digit.
-const MAKERS: [Row; 3] = [
+const MAKERS: [OctalRow; 3] = [
     // a literal, which stands behind the last word
     (
         &["000100 51100001014600046000 00000000000000000003"],

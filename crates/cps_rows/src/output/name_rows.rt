@@ -6,14 +6,14 @@ use std::alloc::Global;
 use std::process::Abort;
 
 /// The name of the source, those of a listing and of a flags text, and what is told of them.
-type Row = (
+type NameRow = (
     Option<&'static str>,
     Option<&'static str>,
     Option<&'static str>,
     Option<&'static str>,
 );
 
-const ROWS: [Row; 7] = [
+const ROWS: [NameRow; 7] = [
     (Some("deck"), Some("list"), Some("flags"), None),
     (None, Some("list"), None, None),
     (
@@ -46,7 +46,7 @@ const ROWS: [Row; 7] = [
 ];
 
 /// Asserts what is told of names.
-fn assert_row(rt: &impl Abort, alloc: Global, row: &Row) {
+fn assert_row(rt: &impl Abort, alloc: Global, row: &NameRow) {
     let (source, listing, flags, told) = *row;
     let calls = Calls::failing_at(0);
     let shelf = Shelf::new(alloc, &calls);

@@ -1,5 +1,5 @@
 //! A source, and what becomes of its texts.
-use super::shelf::{Calls, Placed, Shelf};
+use super::shelf::{Calls, PlacedFile, Shelf};
 use cps_batch::Source;
 use cps_state::Hashing;
 use cps_text::Line;
@@ -10,10 +10,10 @@ use std::process::Abort;
 
 /// What became of the texts of a source.
 #[derive(Drop)]
-pub struct Ran {
+pub struct OutputRun {
     /// What is told of the fault, None where there is none.
     pub told: Option<String>,
-    pub placed: Vec<Placed>,
+    pub placed: Vec<PlacedFile>,
     /// How many drafts wait at the end.
     pub waiting: u64,
 }
@@ -25,14 +25,14 @@ pub fn run(
     source: &str,
     outputs: Outputs<'_>,
     failing: u64,
-) -> Ran {
+) -> OutputRun {
     let source = assemble(rt, alloc, source);
     let calls = Calls::failing_at(failing);
     let mut shelf = Shelf::new(alloc, &calls);
     let told = tell(rt, alloc, &mut shelf, &source, outputs);
     drop(source);
     let (placed, waiting) = shelf.into_parts();
-    Ran {
+    OutputRun {
         told,
         placed,
         waiting,

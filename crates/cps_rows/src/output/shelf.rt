@@ -37,12 +37,12 @@ impl Calls {
 
 /// A file that isn't in its place.
 #[derive(Drop)]
-pub struct Draft<'a> {
+pub struct ShelfDraft<'a> {
     calls: &'a Calls,
     bytes: Vec<u8>,
 }
 
-impl Write for Draft<'_> {
+impl Write for ShelfDraft<'_> {
     ghost use Rattle.std.specs.Prelude.{Some};
 
     ghost contents = { λ draft. Some draft.bytes.items };
@@ -60,7 +60,7 @@ impl Write for Draft<'_> {
 
 /// A file in its place.
 #[derive(Drop)]
-pub struct Placed {
+pub struct PlacedFile {
     pub name: String,
     pub bytes: Vec<u8>,
 }
@@ -71,7 +71,7 @@ pub struct Shelf<'a> {
     alloc: Global,
     calls: &'a Calls,
     /// In the order in which they were placed.
-    placed: Vec<Placed>,
+    placed: Vec<PlacedFile>,
     /// How many drafts were neither placed nor discarded.
     waiting: u64,
 }
@@ -88,7 +88,7 @@ impl<'a> Shelf<'a> {
     }
 
     /// The files that were placed, and how many drafts wait.
-    pub fn into_parts(self) -> (Vec<Placed>, u64) {
+    pub fn into_parts(self) -> (Vec<PlacedFile>, u64) {
         let Shelf {
             placed,
             waiting,
@@ -101,7 +101,7 @@ impl<'a> Shelf<'a> {
 impl<'a> Targets for Shelf<'a> {
     ghost use Rattle.std.specs.Prelude.{Some, bytes_eq, map, string_bytes};
 
-    type Draft = Draft<'a>;
+    type Draft = ShelfDraft<'a>;
 
     ghost placed = { λ shelf.
         Some (map (λ file. record { name = string_bytes file.name; bytes = file.bytes.items }) shelf.placed.items) };
@@ -115,28 +115,28 @@ impl<'a> Targets for Shelf<'a> {
         one == other
     }
 
-    fn create(&mut self, _name: &str) -> io::Result<Draft<'a>> {
+    fn create(&mut self, _name: &str) -> io::Result<ShelfDraft<'a>> {
         self.calls.call()?;
         if self.waiting == u64::MAX {
             return Err(io::Error::from_raw_os_error(NO_SPACE));
         }
         self.waiting += 1;
-        Ok(Draft {
+        Ok(ShelfDraft {
             calls: self.calls,
             bytes: Vec::new(self.alloc),
         })
     }
 
-    fn place(&mut self, name: &str, draft: Draft<'a>) -> io::Result<()> {
+    fn place(&mut self, name: &str, draft: ShelfDraft<'a>) -> io::Result<()> {
         self.waiting = self.waiting.saturating_sub(1);
         self.calls.call()?;
-        let Draft { bytes, .. } = draft;
+        let ShelfDraft { bytes, .. } = draft;
         let name = String::from_str(self.alloc, name)?;
-        self.placed.push(Placed { name, bytes })?;
+        self.placed.push(PlacedFile { name, bytes })?;
         Ok(())
     }
 
-    fn discard(&mut self, _name: &str, draft: Draft<'a>) {
+    fn discard(&mut self, _name: &str, draft: ShelfDraft<'a>) {
         self.waiting = self.waiting.saturating_sub(1);
         drop(draft);
     }

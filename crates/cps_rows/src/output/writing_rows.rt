@@ -49,10 +49,16 @@ const ALL: Outputs<'static> = Outputs {
 };
 
 /// A call that fails, and what is told then.
-type Row = (u64, Option<&'static str>);
+type WriteRow = (u64, Option<&'static str>);
 
 /// Asserts what is told where one call fails, and that these files are placed and no other, and no draft is left.
-fn assert_row(rt: &impl Abort, alloc: Global, outputs: Outputs<'_>, row: &Row, files: &[File]) {
+fn assert_row(
+    rt: &impl Abort,
+    alloc: Global,
+    outputs: Outputs<'_>,
+    row: &WriteRow,
+    files: &[File],
+) {
     let (failing, told) = *row;
     let ran = run(rt, alloc, PROGRAM, outputs, failing);
     assert_text(rt, failing, ran.told.as_deref(), told);
@@ -76,7 +82,7 @@ fn assert_count(rt: &impl Abort, failing: u64, got: usize, want: usize) {
 /// Each text is made as a draft, written and flushed, the last one first: calls 1 to 12. No file is placed where one of these fails.
 #[test]
 fn places_nothing_after_a_failed_write(rt: HostRuntime) {
-    const ROWS: [Row; 12] = [
+    const ROWS: [WriteRow; 12] = [
         (1, Some("cannot write t1.flags: No space left on device")),
         (2, Some("cannot write t1.flags: No space left on device")),
         (3, Some("cannot write t1.flags: No space left on device")),
@@ -98,7 +104,7 @@ fn places_nothing_after_a_failed_write(rt: HostRuntime) {
 /// The files are placed at calls 13 to 16. Those before a failed one stay.
 #[test]
 fn places_files_in_order(rt: HostRuntime) {
-    const ROWS: [(Row, usize); 6] = [
+    const ROWS: [(WriteRow, usize); 6] = [
         (
             (13, Some("cannot write t1.list: No space left on device")),
             0,

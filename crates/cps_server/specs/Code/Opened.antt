@@ -1,7 +1,7 @@
 -- For the code, not part of what a reader believes: open texts, and where one stands.
 use Rattle.std.specs.Prelude.{◌≡◌, ℕ, true, List, map, slice_get, Some}
 use Rattle.std.specs.String.{string_bytes}
-use Rattle.cps_server.specs.Standing.{OpenText, is_under, open_under}
+use Rattle.cps_server.specs.ServerState.{OpenText, is_under, open_under}
 use Rattle.cps_server.specs.declared.open_texts.OpenText as code
 
 abbrev pub value_of : code.OpenText → OpenText

@@ -4,7 +4,7 @@ use Rattle.serde_json.specs.Data.{Data}
 use Rattle.serde_json.specs.Written.{has_float}
 use Rattle.cps_rpc.specs.Message.{Message, request, notification, response, invalid}
 use Rattle.cps_server.specs.Frames.{text_of}
-use Rattle.cps_server.specs.Standing.{Standing}
+use Rattle.cps_server.specs.ServerState.{ServerState}
 
 -- values are added of which this holds
 pub record Adds (says : List Data → Type 0) (old new : List ℕ) : Type 0 where
@@ -12,8 +12,8 @@ pub record Adds (says : List Data → Type 0) (old new : List ℕ) : Type 0 wher
   pub right : says said
   pub added : new ≡ old ++ text_of said
 
--- from one standing to another, values are added that were said on the way
-abbrev pub Into : (Standing → List Data → Standing → Type 0) → Standing → Standing → List ℕ → List ℕ → Type 0
+-- from one state to another, values are added that were said on the way
+abbrev pub Into : (ServerState → List Data → ServerState → Type 0) → ServerState → ServerState → List ℕ → List ℕ → Type 0
 Into does old new said now = Adds (λ news. does old news new) said now
 
 -- whether the identifier of a message has a float

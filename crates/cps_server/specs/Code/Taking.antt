@@ -4,12 +4,12 @@ use Rattle.serde_json.specs.Data.{Data}
 use Rattle.cps_rpc.specs.Params.{Change}
 use Rattle.cps_server.specs.declared.diagnostics.ToldText.{ToldText}
 use Rattle.cps_server.specs.Notices.{ChangesUnder, TakesText}
-use Rattle.cps_server.specs.Standing.{Standing}
+use Rattle.cps_server.specs.ServerState.{ServerState}
 
 -- a text is open under this name, and its marks are told
-abbrev pub Takes : ToldText → List ℕ → Standing → List Data → Standing → Type 0
+abbrev pub Takes : ToldText → List ℕ → ServerState → List Data → ServerState → Type 0
 Takes told text old said new = TakesText old told.uri.now told.version text said new
 
 -- the text under this name is changed, if one is open there
-abbrev pub Changes : ToldText → List Change → Standing → List Data → Standing → Type 0
+abbrev pub Changes : ToldText → List Change → ServerState → List Data → ServerState → Type 0
 Changes told changes old said new = ChangesUnder told.uri.now told.version changes old said new

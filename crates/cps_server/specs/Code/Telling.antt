@@ -9,7 +9,7 @@ use Rattle.serde_json.specs.declared.value.Value.{Value}
 use Rattle.cps_list.specs.declared.mention.Mention.{Mention}
 use Rattle.cps_rpc.specs.declared.position.Position.{Position}
 use Rattle.cps_server.specs.Symbols.{mentions_at}
-use Rattle.cps_server.specs.declared.deck.Deck.{Deck}
+use Rattle.cps_server.specs.declared.queried_text.QueriedText.{QueriedText}
 use Rattle.cps_server.specs.declared.ranges.Units.{Units}
 use Rattle.cps_server.specs.Results.{IsCompletion, hint_at}
 
@@ -32,9 +32,9 @@ abbrev pub AddsTold : List Data → List Value → List Value → Type 0
 AddsTold more old new = map view new ≡ map view old ++ more
 
 -- the lines on which the symbol around a position of a deck stands
-abbrev pub mentions_of_deck : Deck → Position → List Mention
+abbrev pub mentions_of_deck : QueriedText → Position → List Mention
 mentions_of_deck deck position = mentions_at deck.encoding deck.document.now position
 
 -- what is shown beside a line of a deck, from 0
-abbrev pub hint_of_deck : Deck → ℕ → List Data
+abbrev pub hint_of_deck : QueriedText → ℕ → List Data
 hint_of_deck deck = hint_at deck.encoding deck.document.now

@@ -5,8 +5,8 @@ use Rattle.serde_json.specs.Find.{of_integer}
 use Rattle.serde_json.specs.View.{items_of}
 use Rattle.serde_json.specs.Written.{compact_text, items_text}
 use Rattle.cps_rpc.specs.declared.encoding.Encoding.{Encoding}
-use Rattle.cps_server.specs.declared.kind.Kind.{Kind}
-use Rattle.cps_server.specs.declared.kind.Kind.TheVariants.{Flag, Wrong}
+use Rattle.cps_server.specs.declared.mark_kind.MarkKind.{MarkKind}
+use Rattle.cps_server.specs.declared.mark_kind.MarkKind.TheVariants.{Flag, Wrong}
 use Rattle.cps_server.specs.Marks.{Mark}
 use Rattle.cps_server.specs.declared.diagnostic.Stretch.{Stretch}
 use Rattle.cps_server.specs.Diagnostics.{TellsMark, TellsMarks, TellsText, letter_name, told_of_more}
@@ -28,7 +28,7 @@ abbrev pub report_text : ℕ → Stretch → List ℕ → List ℕ
 report_text severity at message =
     message_text at message ++ codes ",\"severity\":" ++ decimal severity ++ codes ",\"source\":\"compass\"}"
 
-abbrev pub diagnostic_text : Kind → Stretch → List ℕ → List ℕ
+abbrev pub diagnostic_text : MarkKind → Stretch → List ℕ → List ℕ
 diagnostic_text (Flag letter) at message = codes "{\"code\":\"" ++ letter_name letter ++ codes "\"," ++ report_text 1 at message
 diagnostic_text Wrong at message = codes "{" ++ report_text 1 at message
 

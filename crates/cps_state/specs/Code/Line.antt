@@ -6,7 +6,7 @@ use Rattle.cps_state.specs.declared.key.Key.{Key}
 use Rattle.cps_state.specs.declared.key.Answer.{Answer}
 use Rattle.cps_state.specs.declared.key.Put.{Put}
 use Rattle.cps_state.specs.declared.item.Item.{Item}
-use Rattle.cps_state.specs.declared.log.Known.{Known}
+use Rattle.cps_state.specs.declared.log.LogPlace.{LogPlace}
 use Rattle.cps_state.specs.Course.{Course, stop, ask, put, stand, fill, mark, tell, settle, begin, Part, Running, started, answer_at, with_ask, with_put_made, stood, filled, marked, with_read, settled_by, begun, too_much}
 use Rattle.cps_state.specs.Keys.{State}
 use Rattle.cps_state.specs.Code.Log.{found_in}
@@ -50,7 +50,7 @@ abbrev pub line_begun : {S : Type 0} → Line S → ℕ → List ℕ → Line S
 line_begun line depth text = record { state = line.state; before = line.before; done = begun line.done depth text }
 
 -- the answer at a place of the log
-abbrev pub known_answer : {S : Type 0} → Line S → Known → Option Answer
+abbrev pub known_answer : {S : Type 0} → Line S → LogPlace → Option Answer
 known_answer line known = unwrap_or (found_in line.done.asks line.done.puts known) None
 
 -- what a course makes of a line, and whether all of it was done

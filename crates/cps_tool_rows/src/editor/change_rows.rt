@@ -7,7 +7,7 @@ use std::process::Abort;
 
 /// A text, the line and character where a range begins and where it ends, or None for all of the text, and the new text. Then the lines of the
 /// changed text, each with a bar behind it; and of the lines that gave way the first, the first behind them, and how many came.
-type Row = (
+type BufferRow = (
     &'static [u8],
     Option<[u32; 4]>,
     &'static [u8],
@@ -32,7 +32,7 @@ fn numbers_of(replacement: Replacement) -> [usize; 3] {
 }
 
 /// Makes the change of a row, and asserts what comes of it.
-fn assert_change(rt: &impl Abort, alloc: Global, encoding: Encoding, at: usize, row: &Row) {
+fn assert_change(rt: &impl Abort, alloc: Global, encoding: Encoding, at: usize, row: &BufferRow) {
     let (text, places, new, lines, replaced) = row;
     let mut buffer = Buffer::of(alloc, text).expect(rt, "memory");
     let replacement = buffer
@@ -44,7 +44,7 @@ fn assert_change(rt: &impl Abort, alloc: Global, encoding: Encoding, at: usize, 
 }
 
 /// What is done in an editor.
-const CHANGES: [Row; 8] = [
+const CHANGES: [BufferRow; 8] = [
     // a key is typed
     (b"AB\nCD\n", Some([1, 1, 1, 1]), b"X", "AB|CXD||", [1, 2, 1]),
     // Enter in the middle of a line
@@ -89,7 +89,7 @@ fn changes_a_text(rt: HostRuntime) {
 }
 
 /// Positions that stand nowhere.
-const NOWHERE: [Row; 5] = [
+const NOWHERE: [BufferRow; 5] = [
     // behind a line's end: before its carriage return
     (
         b"AB\r\nCD\r\n",
@@ -130,7 +130,7 @@ fn changes_at_positions_that_stand_nowhere(rt: HostRuntime) {
 const PAIR: &[u8] = b"\xF0\x9F\x98\x80BC";
 
 /// The character has two units.
-const UTF16: [Row; 3] = [
+const UTF16: [BufferRow; 3] = [
     (PAIR, Some([0, 2, 0, 3]), b"X", "\u{1F600}XC|", [0, 1, 1]),
     // between the two units: before the character
     (PAIR, Some([0, 1, 0, 1]), b"X", "X\u{1F600}BC|", [0, 1, 1]),
@@ -145,7 +145,7 @@ fn counts_units_of_utf16(rt: HostRuntime) {
 }
 
 /// The character has four units.
-const UTF8: [Row; 2] = [
+const UTF8: [BufferRow; 2] = [
     (PAIR, Some([0, 4, 0, 5]), b"X", "\u{1F600}XC|", [0, 1, 1]),
     // inside the character: before it
     (PAIR, Some([0, 3, 0, 3]), b"X", "X\u{1F600}BC|", [0, 1, 1]),

@@ -46,15 +46,15 @@ fn run<R: Read, W: Write>(
 }
 
 /// How serving ends, and what is said.
-type Outcome = (Result<(), ServerFault>, &'static str);
+type EchoRun = (Result<(), ServerFault>, &'static str);
 
 /// Serves what a reader gives, and asserts what comes of it.
-fn assert_outcome<R: Read>(
+fn assert_served<R: Read>(
     rt: &impl Abort,
     alloc: Global,
     at: usize,
     reader: &mut Counted<R>,
-    want: Outcome,
+    want: EchoRun,
 ) {
     let (end, said) = want;
     let mut writer = Counted::new(Vec::new(alloc));
@@ -65,7 +65,7 @@ fn assert_outcome<R: Read>(
 }
 
 /// Inputs, what comes of serving them, and the number of reads where all bytes come at once and where each comes alone.
-const INPUTS: [(&[u8], Outcome, [u64; 2]); 6] = [
+const INPUTS: [(&[u8], EchoRun, [u64; 2]); 6] = [
     (b"", (Ok(()), ""), [1, 1]),
     (TWO, (Ok(()), SAID), [2, 46]),
     // nothing is said to a message of no bytes
@@ -110,7 +110,7 @@ Content-Length: 2\r\n\r\nBCContent-Length: 2\r\n\r\nBC";
 fn serves_bytes_that_come_at_once(rt: HostRuntime) {
     for (at, (input, want, reads)) in INPUTS.iter().enumerate() {
         let mut reader = Counted::new(*input);
-        assert_outcome(&rt, rt.alloc(), at, &mut reader, *want);
+        assert_served(&rt, rt.alloc(), at, &mut reader, *want);
         assert_same(&rt, at, &reader.calls(), &reads[0]);
     }
 }
@@ -122,7 +122,7 @@ fn serves_bytes_that_come_alone(rt: HostRuntime) {
             rest: input,
             fails: false,
         });
-        assert_outcome(&rt, rt.alloc(), at, &mut reader, *want);
+        assert_served(&rt, rt.alloc(), at, &mut reader, *want);
         assert_same(&rt, at, &reader.calls(), &reads[1]);
     }
 }
@@ -142,7 +142,7 @@ fn tells_a_failed_read(rt: HostRuntime) {
     for (came, failing) in (1..=46).enumerate() {
         let mut reader = Counted::new(FailsAt::new(TWO, failing));
         let want = (Err(ServerFault::ReadFault), said_to(came));
-        assert_outcome(&rt, rt.alloc(), came, &mut reader, want);
+        assert_served(&rt, rt.alloc(), came, &mut reader, want);
         assert_same(&rt, came, &reader.calls(), &failing);
     }
 }

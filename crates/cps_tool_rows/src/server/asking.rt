@@ -1,6 +1,6 @@
 //! Questions about an open text.
 use super::conversation::{
-    INITIALIZE, INITIALIZE_UTF8, Outcome, UTF8, UTF16, assert_outcome, assert_same, framed, run,
+    INITIALIZE, INITIALIZE_UTF8, ServerRun, UTF8, UTF16, assert_same, assert_served, framed, run,
 };
 use cps_rpc::push_frame;
 use cps_text::Counted;
@@ -101,11 +101,11 @@ pub fn assert_answers(rt: &impl Abort, alloc: Global, at: usize, inquiry: &Inqui
     let input = asked(rt, alloc, inquiry);
     let want = answered(rt, alloc, inquiry);
     let end = Ok(false);
-    let outcome = Outcome {
+    let served = ServerRun {
         end: &end,
         said: &want,
     };
-    assert_outcome(rt, alloc, at, &mut Counted::new(input.as_slice()), outcome);
+    assert_served(rt, alloc, at, &mut Counted::new(input.as_slice()), served);
     drop(want);
     drop(input);
 }

@@ -13,13 +13,13 @@ pub type End = Result<bool, ServerFault>;
 
 /// How a server ends, and the bytes that it says.
 #[derive(Clone, Copy)]
-pub struct Outcome<'a> {
+pub struct ServerRun<'a> {
     pub end: &'a End,
     pub said: &'a [u8],
 }
 
 /// The messages of an editor, how the server ends, and its messages.
-pub type Row = (&'static [&'static str], End, &'static [&'static str]);
+pub type ConversationRow = (&'static [&'static str], End, &'static [&'static str]);
 
 /// From an editor that names no encodings.
 pub const INITIALIZE: &str =
@@ -93,12 +93,12 @@ pub fn framed(rt: &impl Abort, alloc: Global, messages: &[&str]) -> Vec<u8> {
 }
 
 /// Serves what a reader gives, and asserts how the server ends and what it says.
-pub fn assert_outcome<R: Read>(
+pub fn assert_served<R: Read>(
     rt: &impl Abort,
     alloc: Global,
     at: usize,
     reader: &mut Counted<R>,
-    want: Outcome<'_>,
+    want: ServerRun<'_>,
 ) {
     let mut writer = Counted::new(Vec::new(alloc));
     assert_same(rt, at, &run(alloc, reader, &mut writer), want.end);
@@ -108,12 +108,12 @@ pub fn assert_outcome<R: Read>(
 }
 
 /// Has the conversation of a row, all bytes of which come at once.
-pub fn assert_row(rt: &impl Abort, alloc: Global, at: usize, row: &Row) {
+pub fn assert_row(rt: &impl Abort, alloc: Global, at: usize, row: &ConversationRow) {
     let (messages, end, said) = row;
     let input = framed(rt, alloc, messages);
     let want = framed(rt, alloc, said);
     let mut reader = Counted::new(input.as_slice());
-    assert_outcome(rt, alloc, at, &mut reader, Outcome { end, said: &want });
+    assert_served(rt, alloc, at, &mut reader, ServerRun { end, said: &want });
     drop(want);
     drop(input);
 }

@@ -1,5 +1,5 @@
 //! Where the bytes of a conversation come in pieces, and where a read or a write fails.
-use super::conversation::{Outcome, assert_outcome, assert_same, run};
+use super::conversation::{ServerRun, assert_same, assert_served, run};
 use crate::assertions::assert_taken;
 use cps_rows::{FailsAt, SlowReader, SlowWriter};
 use cps_rpc::ServerFault;
@@ -49,11 +49,11 @@ fn answers_what_comes_in_two_pieces(rt: HostRuntime) {
             second: &INPUT[cut..],
         });
         let end = Ok(false);
-        let want = Outcome {
+        let want = ServerRun {
             end: &end,
             said: SAID.as_bytes(),
         };
-        assert_outcome(&rt, rt.alloc(), cut, &mut reader, want);
+        assert_served(&rt, rt.alloc(), cut, &mut reader, want);
     }
 }
 
@@ -65,11 +65,11 @@ fn answers_bytes_that_come_alone(rt: HostRuntime) {
         fails: true,
     });
     let end = Ok(false);
-    let want = Outcome {
+    let want = ServerRun {
         end: &end,
         said: SAID.as_bytes(),
     };
-    assert_outcome(&rt, rt.alloc(), 0, &mut reader, want);
+    assert_served(&rt, rt.alloc(), 0, &mut reader, want);
     assert_same(&rt, 0, &reader.calls(), &262);
 }
 
@@ -88,11 +88,11 @@ fn tells_a_failed_read(rt: HostRuntime) {
     for (came, failing) in (1..=262).enumerate() {
         let mut reader = Counted::new(FailsAt::new(INPUT, failing));
         let end = Err(ServerFault::ReadFault);
-        let want = Outcome {
+        let want = ServerRun {
             end: &end,
             said: said_to(came).as_bytes(),
         };
-        assert_outcome(&rt, rt.alloc(), came, &mut reader, want);
+        assert_served(&rt, rt.alloc(), came, &mut reader, want);
         assert_same(&rt, came, &reader.calls(), &failing);
     }
 }

@@ -38,7 +38,7 @@ const PROGRAM: Inquiry = Inquiry {
     ],
 };
 
-/// Lines that make several words and fields. `examples/data.texts` has the listing.
+/// Lines that make several words and fields. `examples/programs/data.texts` has the listing.
 const DATA: Inquiry = Inquiry {
     begins: BY_UTF16,
     lines: &[

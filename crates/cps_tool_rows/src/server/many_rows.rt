@@ -1,5 +1,5 @@
 //! Texts with as many marks as are told one by one, and with more.
-use super::conversation::{EXIT, INITIALIZE, Outcome, UTF16, assert_outcome};
+use super::conversation::{EXIT, INITIALIZE, ServerRun, UTF16, assert_served};
 use cps_rpc::push_frame;
 use cps_text::Counted;
 use std::alloc::Global;
@@ -82,11 +82,11 @@ fn tells_how_many_more(rt: HostRuntime) {
         push_answer(&rt, alloc, &mut want, *told, *more);
         let end = Ok(false);
         let mut reader = Counted::new(input.as_slice());
-        let outcome = Outcome {
+        let served = ServerRun {
             end: &end,
             said: &want,
         };
-        assert_outcome(&rt, alloc, at, &mut reader, outcome);
+        assert_served(&rt, alloc, at, &mut reader, served);
         drop(want);
         drop(input);
     }

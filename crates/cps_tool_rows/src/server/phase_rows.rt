@@ -1,7 +1,7 @@
 //! How conversations begin and end: by JSON-RPC 2.0 and the Language Server Protocol.
 use super::conversation::{
-    EXIT, End, INITIALIZE, INITIALIZE_UTF8, Outcome, Row, SHUTDOWN, SHUTDOWN_SAID, UTF8, UTF16,
-    assert_outcome, assert_row,
+    ConversationRow, EXIT, End, INITIALIZE, INITIALIZE_UTF8, SHUTDOWN, SHUTDOWN_SAID, ServerRun,
+    UTF8, UTF16, assert_row, assert_served,
 };
 use cps_rpc::ServerFault;
 use cps_text::Counted;
@@ -11,7 +11,7 @@ const RENAME: &str =
     "{\"jsonrpc\":\"2.0\",\"id\":\"r\",\"method\":\"textDocument/rename\",\"params\":{}}";
 
 /// Conversations that open no text.
-const CONVERSATIONS: [Row; 9] = [
+const CONVERSATIONS: [ConversationRow; 9] = [
     // all requests in each phase; nothing behind `exit` is answered
     (
         &[
@@ -117,10 +117,10 @@ const BYTES: [(&[u8], End, &str); 3] = [
 fn reads_frames(rt: HostRuntime) {
     for (at, (input, end, said)) in BYTES.iter().enumerate() {
         let mut reader = Counted::new(*input);
-        let want = Outcome {
+        let want = ServerRun {
             end,
             said: said.as_bytes(),
         };
-        assert_outcome(&rt, rt.alloc(), at, &mut reader, want);
+        assert_served(&rt, rt.alloc(), at, &mut reader, want);
     }
 }

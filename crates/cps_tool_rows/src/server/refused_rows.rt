@@ -1,5 +1,7 @@
 //! Requests about texts that are refused: before `initialize`, behind `shutdown`, about a text that isn't open, or with wrong parameters; and which of two texts, and which state of one, is asked about.
-use super::conversation::{EXIT, INITIALIZE, Row, SHUTDOWN, SHUTDOWN_SAID, UTF16, assert_row};
+use super::conversation::{
+    ConversationRow, EXIT, INITIALIZE, SHUTDOWN, SHUTDOWN_SAID, UTF16, assert_row,
+};
 
 /// Two texts. Each defines L.
 const OPEN_A: &str =
@@ -35,7 +37,7 @@ const COMPLETION: &str =
     r#"{"jsonrpc":"2.0","id":16,"method":"textDocument/completion","params":{"textDocument":{"uri":"a"},"position":{"line":0,"character":0}}}"#;
 
 /// Conversations with requests that are refused.
-const REFUSALS: [Row; 4] = [
+const REFUSALS: [ConversationRow; 4] = [
     // before `initialize`, though the text was sent
     (
         &[
@@ -144,7 +146,7 @@ fn refuses_requests(rt: HostRuntime) {
 }
 
 /// Conversations about two texts, and about a text before a change and behind it, which is told too: no line has a flag.
-const STATES: [Row; 2] = [
+const STATES: [ConversationRow; 2] = [
     (
         &[
             INITIALIZE,

@@ -1,6 +1,7 @@
 //! What is told of open texts: a diagnostic for each flag, and for each byte that no line may have.
 use super::conversation::{
-    EXIT, INITIALIZE, INITIALIZE_UTF8, Row, SHUTDOWN, SHUTDOWN_SAID, UTF8, UTF16, assert_row,
+    ConversationRow, EXIT, INITIALIZE, INITIALIZE_UTF8, SHUTDOWN, SHUTDOWN_SAID, UTF8, UTF16,
+    assert_row,
 };
 
 /// A text of one line: no line defines Q, which stands in column 19.
@@ -18,7 +19,7 @@ const CLOSED: &str =
     "{\"jsonrpc\":\"2.0\",\"method\":\"textDocument/publishDiagnostics\",\"params\":{\"diagnostics\":[],\"uri\":\"a\"}}";
 
 /// Conversations about texts.
-const CONVERSATIONS: [Row; 8] = [
+const CONVERSATIONS: [ConversationRow; 8] = [
     // opened before `initialize` and behind `shutdown`: nothing is told, and no text is open
     (
         &[OPEN, INITIALIZE, CLOSE, SHUTDOWN, OPEN, CLOSE, EXIT],

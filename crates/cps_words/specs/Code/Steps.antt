@@ -5,13 +5,13 @@ use Rattle.cps_list.specs.Assembly.{Assembly}
 use Rattle.cps_list.specs.Texts.{text_of}
 use Rattle.cps_words.specs.declared.fault.OutputFault.{OutputFault}
 use Rattle.cps_words.specs.declared.fault.OutputFault.TheVariants.{Memory, Uncreated, Unwritten, Unplaced}
-use Rattle.cps_words.specs.declared.outputs.Output.{Output}
+use Rattle.cps_words.specs.declared.outputs.FileOutput.{FileOutput}
 use Rattle.cps_words.specs.declared.outputs.Outputs.{Outputs}
 use Rattle.cps_words.specs.Outputs.{file_of, name_of}
 use Rattle.cps_words.specs.Placing.{Placed}
 
 -- the four texts, the last one first
-abbrev pub last_first : Outputs → List Output
+abbrev pub last_first : Outputs → List FileOutput
 last_first outputs =
     record { part = part.Flags; name = outputs.flags }
     ∷ record { part = part.Symbols; name = outputs.symbols }
@@ -20,7 +20,7 @@ last_first outputs =
     ∷ []
 
 -- the files of texts of which the last is placed first
-abbrev pub files_from : Assembly → List Output → List Placed
+abbrev pub files_from : Assembly → List FileOutput → List Placed
 files_from assembly [] = []
 files_from assembly (output ∷ rest) = files_from assembly rest ++ file_of (text_of output.part assembly) (name_of output.name)
 

@@ -7,6 +7,6 @@ use Rattle.cps_batch.proofs.passes.keep.Goals as goal
 
 pub returns-in_ok-push-in-Some : goal.returns-in_ok-push-in-Some
 returns-in_ok-push-in-Some c = λ parts so.
-    let sheet = c.args.sheet.now in
-    let kept = subst (λ ends. IfSome ends (λ ends. AreParts ends.items sheet.before parts)) c.in-Some.is so in
-    part-kept c.in-Some.ends.items c.push.new.self.items sheet.before sheet.line.items parts _ c.in_ok-push-in-Some.ensures.items (ap (λ (items : List Item). length items) c.all_items.ensures) kept
+    let scratch = c.args.scratch.now in
+    let kept = subst (λ ends. IfSome ends (λ ends. AreParts ends.items scratch.before parts)) c.in-Some.is so in
+    part-kept c.in-Some.ends.items c.push.new.self.items scratch.before scratch.line.items parts _ c.in_ok-push-in-Some.ensures.items (ap (λ (items : List Item). length items) c.all_items.ensures) kept

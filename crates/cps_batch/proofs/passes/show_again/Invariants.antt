@@ -1,6 +1,6 @@
 use Rattle.std.proofs.Common.{◌≡◌, ◌≤◌, take}
 use Rattle.cps_final.specs.Finals.{Gathers}
-use Rattle.cps_final.specs.contracts.gather.GatherGathered.TheImpl.{gathered-value}
+use Rattle.cps_final.specs.contracts.finals.FinalsGathered.TheImpl.{gathered-value}
 use Rattle.cps_edit.specs.Assembly.{traces_of}
 use Rattle.cps_batch.specs.Code.Passes.{IsShown}
 use Rattle.cps_batch.proofs.passes.show_again.Given as goal

@@ -1,6 +1,6 @@
 use Rattle.std.proofs.Common.{refl}
 use Rattle.std.proofs.lemmas.Result.{on_ok_weaker}
-use Rattle.cps_final.specs.contracts.gather.GatherGathered.TheImpl.{gathered-value}
+use Rattle.cps_final.specs.contracts.finals.FinalsGathered.TheImpl.{gathered-value}
 use Rattle.cps_batch.proofs.PassLemmas.{step-next}
 use Rattle.cps_batch.proofs.passes.step_next.Goals as goal
 

@@ -5,7 +5,7 @@ use Rattle.std.proofs.lemmas.Bool.Decides.{nat_tests}
 use Rattle.cps_cause.specs.Sentence.{IsSentence}
 use Rattle.cps_edit.specs.Limits.{most_lines}
 use Rattle.cps_check.specs.Code.Adding.{Adds}
-use Rattle.cps_check.specs.declared.kind.Kind.TheVariants as kinds
+use Rattle.cps_check.specs.declared.report_kind.ReportKind.TheVariants as kinds
 use Rattle.cps_check.specs.Reports.{Report, excess_report}
 use Rattle.cps_check.specs.Texts.{head_of}
 use Rattle.cps_check.proofs.TextLemmas.{Adds-one, three-pieces}

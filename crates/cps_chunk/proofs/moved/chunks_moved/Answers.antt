@@ -1,6 +1,6 @@
 use Rattle.std.proofs.Common.{arith, refl, ◌≡◌, ◌∙◌, List, [], length, take, drop, subst, sym, ap}
 use Rattle.std.proofs.lemmas.List.{nil_from_length, take_all, drop_all, length-map, length-take-le}
-use Rattle.cps_chunk.specs.declared.exchange.Piece.{Piece}
+use Rattle.cps_chunk.specs.declared.exchange.RecutChunk.{RecutChunk}
 use Rattle.cps_chunk.specs.Code.Pieces.{lines_of}
 use Rattle.cps_chunk.specs.declared.chunk.Chunk.{Chunk}
 use Rattle.cps_chunk.specs.Code.Chunk.{lengths_of}
@@ -30,7 +30,7 @@ pub push_reserved-requires : goal.push_reserved-requires
 push_reserved-requires c =
     let so_far = ap length c.loop-piece.invariant.lengths in
     let long = length-map c.loop-piece.chunks.items (λ (d : Chunk). d.lines) in
-    let lines = length-map (take c.loop-piece.piece-index c.args.pieces.now) (λ (p : Piece). p.lines) in
+    let lines = length-map (take c.loop-piece.piece-index c.args.pieces.now) (λ (p : RecutChunk). p.lines) in
     let taken = length-take-le c.loop-piece.piece-index c.args.pieces.now (omega arith) in
     omega (arith, so_far, long, lines, taken, c.loop-piece.chunks.ok.0, c.loop-piece.invariant.room, c.requires.room)
 

@@ -8,5 +8,5 @@ use Rattle.cps_expr.proofs.reads.read_all.Given as goal
 abbrev pub invariant-loop-operand : goal.invariant-loop-operand
 invariant-loop-operand g l =
     Continues (option_map (λ kept. kept.items) l.kept)
-    (all_some (g.T.Operand.written l.radix) (operands_left l.operand-iterator))
-    (all_some (g.T.Operand.written l.radix) (operands_of l.tail))
+    (all_some (g.T.ListOperand.written l.radix) (operands_left l.operand-iterator))
+    (all_some (g.T.ListOperand.written l.radix) (operands_of l.tail))

@@ -8,5 +8,5 @@ use Rattle.cps_final.proofs.rows.has_far_literal.Given as goal
 
 abbrev pub invariant-loop-hole : goal.invariant-loop-hole
 invariant-loop-hole l =
-    list_any (λ word. nat_le (limit (view_of l.standing).machine) ((view_of l.standing).known.literals word)) (flat_map (λ hole. operand_literals hole.operand) (drop l.hole-index l.holes))
-    ≡ list_any (λ word. nat_le (limit (view_of l.standing).machine) ((view_of l.standing).known.literals word)) (flat_map (λ hole. operand_literals hole.operand) l.holes)
+    list_any (λ word. nat_le (limit (view_of l.statement).machine) ((view_of l.statement).known.literals word)) (flat_map (λ hole. operand_literals hole.operand) (drop l.hole-index l.holes))
+    ≡ list_any (λ word. nat_le (limit (view_of l.statement).machine) ((view_of l.statement).known.literals word)) (flat_map (λ hole. operand_literals hole.operand) l.holes)

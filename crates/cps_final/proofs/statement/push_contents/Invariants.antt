@@ -11,10 +11,10 @@ use Rattle.cps_final.proofs.statement.push_contents.Given as goal
 abbrev pub invariant-loop-content : goal.invariant-loop-content
 invariant-loop-content l = record {
   room : HaveRoom l.machine l.at (drop l.content-index l.item.made.contents);
-  rows : l.rows.items ++ map (row_of l.item) (rows_from (view_of l.standing) l.flags l.is_later l.at (drop l.content-index l.item.made.contents))
+  rows : l.rows.items ++ map (row_of l.item) (rows_from (view_of l.statement) l.flags l.is_later l.at (drop l.content-index l.item.made.contents))
       ≡ l.fn.rows.items ++ map (row_of l.item)
-      (content_rows (view_of l.standing) l.item.made.flags (with_places (view_of l.standing).machine l.item.made.start l.item.made.contents));
-  pieces : map piece_of l.pieces.items ++ flat_map (placed l.machine l.base) (content_pieces (view_of l.standing) l.at (drop l.content-index l.item.made.contents))
+      (content_rows (view_of l.statement) l.item.made.flags (with_places (view_of l.statement).machine l.item.made.start l.item.made.contents));
+  pieces : map piece_of l.pieces.items ++ flat_map (placed l.machine l.base) (content_pieces (view_of l.statement) l.at (drop l.content-index l.item.made.contents))
       ≡ map piece_of l.fn.pieces.items
-      ++ flat_map (placed (view_of l.standing).machine (view_of l.standing).base) (content_pieces (view_of l.standing) l.item.made.start l.item.made.contents);
+      ++ flat_map (placed (view_of l.statement).machine (view_of l.statement).base) (content_pieces (view_of l.statement) l.item.made.start l.item.made.contents);
 }

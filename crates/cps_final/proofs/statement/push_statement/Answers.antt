@@ -13,7 +13,7 @@ returns-else-is_empty-clause-rows c =
     let item = c.args.item.now in
     let some : 0 < length item.made.contents = search rules in
     let are_bits : item.made.only_flags ≡ false = search rules in
-    let shows = contents-rows (resolved c.args.finals.now) item (view_of c.of-standing.result) item.made.contents some are_bits c.of-standing.ensures in
+    let shows = contents-rows (resolved c.args.finals.now) item (view_of c.of-statement.result) item.made.contents some are_bits c.of-statement.ensures in
     on_ok_weaker c.push_contents.result
     (λ pushed. pushed ∙ ap (λ (l : List Row). c.args.rows.now.items ++ map (row_of item) l) (sym shows)) c.push_contents.ensures.rows
 
@@ -21,5 +21,5 @@ pub returns-else-is_empty-clause-pieces : goal.returns-else-is_empty-clause-piec
 returns-else-is_empty-clause-pieces c =
     let are_bits : c.args.item.now.made.only_flags ≡ false = search rules in
     on_ok_weaker c.push_contents.result
-    (statement-pieces (resolved c.args.finals.now) c.args.item.now (view_of c.of-standing.result) c.base-base.result (map piece_of c.args.pieces.now.items) (map piece_of c.push_skipped.new.pieces.items) _
-    c.of-standing.ensures c.base-base.ensures.base are_bits c.in_ok-push_skipped.ensures) c.push_contents.ensures.pieces
+    (statement-pieces (resolved c.args.finals.now) c.args.item.now (view_of c.of-statement.result) c.base-base.result (map piece_of c.args.pieces.now.items) (map piece_of c.push_skipped.new.pieces.items) _
+    c.of-statement.ensures c.base-base.ensures.base are_bits c.in_ok-push_skipped.ensures) c.push_contents.ensures.pieces

@@ -8,7 +8,7 @@ use Rattle.cps_final.proofs.valued.value_instruction.Goals as goal
 
 pub returns-in-len2-clause-number : goal.returns-in-len2-clause-number
 returns-in-len2-clause-number c =
-    let standing = view_of c.args.standing.now in
+    let statement = view_of c.args.statement.now in
     let hole = c.hole-item-then-this-lt3 in
     let other = c.other_hole-item in
     let value = c.value_hole-value-in-len2 in
@@ -18,12 +18,12 @@ returns-in-len2-clause-number c =
     let next_fits : SFits w64 next.result.number = search rules in
     let filled = rw (to_z-of_z w64 value.result.number value_fits, to_z-of_z w64 next.result.number next_fits) at c.fill-in-len2.ensures.filled in
     let holes = sym c.holes.ensures.holes ∙ two_items c.holes.result.now hole.result other.result two hole.is other.is in
-    number-two standing.known standing.here c.args.form.now hole.result other.result value.result.number next.result.number c.fill-in-len2.result _
+    number-two statement.known statement.here c.args.form.now hole.result other.result value.result.number next.result.number c.fill-in-len2.result _
     holes value.ensures.number next.ensures.number filled c.valued_form-in-len2.ensures.number
 
 pub returns-in-len2-clause-flags : goal.returns-in-len2-clause-flags
 returns-in-len2-clause-flags c =
-    let standing = view_of c.args.standing.now in
+    let statement = view_of c.args.statement.now in
     let hole = c.hole-item-then-this-lt3 in
     let other = c.other_hole-item in
     let value = c.value_hole-value-in-len2 in
@@ -33,5 +33,5 @@ returns-in-len2-clause-flags c =
     let next_fits : SFits w64 next.result.number = search rules in
     let filled = rw (to_z-of_z w64 value.result.number value_fits, to_z-of_z w64 next.result.number next_fits) at c.fill-in-len2.ensures.filled in
     let holes = sym c.holes.ensures.holes ∙ two_items c.holes.result.now hole.result other.result two hole.is other.is in
-    flags-two standing.known standing.here c.args.form.now hole.result other.result value.result.number next.result.number c.fill-in-len2.result value.result.flags next.result.flags c.joined.result _
+    flags-two statement.known statement.here c.args.form.now hole.result other.result value.result.number next.result.number c.fill-in-len2.result value.result.flags next.result.flags c.joined.result _
     holes value.ensures.number next.ensures.number filled value.ensures.flags next.ensures.flags c.joined.ensures c.valued_form-in-len2.ensures.flags

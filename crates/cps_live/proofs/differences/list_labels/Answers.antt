@@ -7,12 +7,12 @@ use Rattle.cps_live.proofs.differences.list_labels.Goals.{in-Label+then-not-labe
 
 pub loop-i-init : goal.loop-i-init
 loop-i-init c =
-    subst (λ (ls : List Name). AreListedOf c.args.ends [] ls) (sym c.new-labels.ensures.items) (listed-none c.args.ends (keys_in c.args.ends.mend.now.changes))
+    subst (λ (ls : List Name). AreListedOf c.args.ends [] ls) (sym c.new-labels.ensures.items) (listed-none c.args.ends (keys_in c.args.ends.patch.now.changes))
 
 pub loop-i-preserved : goal.loop-i-preserved
 loop-i-preserved c =
     let ends = c.args.ends in
-    let keys = keys_in ends.mend.now.changes in
+    let keys = keys_in ends.patch.now.changes in
     let i = c.loop-i.i in
     let listed : List Name → Type 0 = λ ls. AreListedOf ends (take (i + 1) keys) ls in
     elim c.match-key.branch [
@@ -30,5 +30,5 @@ loop-i-preserved c =
 
 pub returns : goal.returns
 returns c =
-    let past : count_of c.args.ends.mend.now.changes ≤ c.loop-i.i = omega arith in
+    let past : count_of c.args.ends.patch.now.changes ≤ c.loop-i.i = omega arith in
     listed-all c.args.ends c.loop-i.i c.loop-i.labels.items past c.loop-i.invariant

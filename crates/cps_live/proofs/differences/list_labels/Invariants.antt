@@ -5,4 +5,4 @@ use Rattle.cps_live.proofs.differences.list_labels.Given as goal
 
 -- those of the keys so far
 abbrev pub invariant-loop-i : goal.invariant-loop-i
-invariant-loop-i l = AreListedOf l.ends (take l.i (keys_in l.ends.mend.now.changes)) l.labels.items
+invariant-loop-i l = AreListedOf l.ends (take l.i (keys_in l.ends.patch.now.changes)) l.labels.items

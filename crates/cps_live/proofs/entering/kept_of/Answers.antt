@@ -33,9 +33,9 @@ returns-clause-kept c =
     let begun : start.state ≡ first_state = gathered-state start [] c.new-one.ensures in
     let l = c.deref.ensures.value in
     let did : c.in_ok-traces.traces.items ≡ traces_of lines = c.in_ok-traces.ensures.ok.did ∙ (λ i. traces_from (begun i) (l i)) in
-    let finals : gathered-finals.it c.in-Ok.finals ≡ finals_of (traces_of lines) =
-    c.in-Ok.ensures.finals ∙ c.in_ok-traces.ensures.ok.gathers [] c.new-one.ensures ∙ ap finals_of did in
-    let now : resolved c.in-Ok.finals ≡ finals_in lines = ap final_value finals in
+    let finals : gathered-finals.it c.finish-finals.result ≡ finals_of (traces_of lines) =
+    c.finish-finals.ensures ∙ c.in_ok-traces.ensures.ok.gathers [] c.new-one.ensures ∙ ap finals_of did in
+    let now : resolved c.finish-finals.result ≡ finals_in lines = ap final_value finals in
     let all = c.deref-2.ensures.value ∙ did in
     let count : c.len.result ≡ length lines = omega (arith, c.len.ensures, c.args.lines.ok.0) in
     let lengths = c.deref-4.ensures.value ∙ c.in_ok-lengths.ensures ∙ ap full_chunks count in

@@ -1,7 +1,7 @@
 use Rattle.std.proofs.Common.{arith, ◌≡◌, ℕ, length, ap, subst, ◌∙◌}
 use Rattle.cps_edit.specs.Exchange.{IsWithin}
 use Rattle.cps_chunk.specs.declared.walk.Baseline.{Baseline}
-use Rattle.cps_chunk.specs.declared.walk.Position.TheVariants.{Same}
+use Rattle.cps_chunk.specs.declared.walk.Destination.TheVariants.{Same}
 use Rattle.cps_chunk.specs.Code.Along.{GoesAlong, looks_in_span, replayed_along, span}
 use Rattle.cps_chunk.proofs.CountingLemmas.{looks-then, looks-wider, steps-as, steps-stop, steps-then}
 use Rattle.cps_chunk.proofs.OverLemmas.{still-still}

@@ -11,6 +11,6 @@ returns-in_ok-tell_if-in-Some g c = λ next rest.
     let name = c.in-Some.name in
     let is : symbol_in c.args.location ≡ Some name = sym c.symbol_in.ensures ∙ c.in-Some.is in
     ap (λ (symbol : Option Name). runs (asking_taken symbol next rest) state c.args.recorder.now) is
-    ∙ c.in_ok-standing-in-Some.ensures (λ standing. telling_if (has_value standing) name before next (has_value standing)) rest
-    ∙ ap (λ (taken : Bool). runs (telling_if taken name (next taken rest)) state c.ask_standing.new.recorder) (sym c.has_value-is_taken.ensures)
+    ∙ c.in_ok-definition-in-Some.ensures (λ definition. telling_if (has_value definition) name before next (has_value definition)) rest
+    ∙ ap (λ (taken : Bool). runs (telling_if taken name (next taken rest)) state c.ask_definition.new.recorder) (sym c.has_value-is_taken.ensures)
     ∙ c.in_ok-tell_if-in-Some.ensures (next c.has_value-is_taken.result rest)

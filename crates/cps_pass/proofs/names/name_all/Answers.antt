@@ -1,7 +1,7 @@
 use Rattle.std.proofs.Common.{sym, ◌∙◌, true, false}
 use Rattle.cps_state.specs.Course.{begin}
 use Rattle.cps_state.specs.Code.Line.{Goes}
-use Rattle.cps_pass.specs.Cards.{card_in}
+use Rattle.cps_text.specs.CardIn.{card_in}
 use Rattle.cps_pass.specs.Locals.{local_in}
 use Rattle.cps_pass.specs.Code.Naming.{Names}
 use Rattle.cps_pass.proofs.LocalLemmas.{named, named-cut, named-all, begins-as, names-as}

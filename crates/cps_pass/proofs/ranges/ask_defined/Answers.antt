@@ -10,7 +10,7 @@ pub returns : goal.returns
 returns g c = λ next rest.
     let state = g.L.Lookup.answer in
     let test = c.args.test.now in
-    let standing = c.in_ok-standing.standing in
-    c.in_ok-standing.ensures (λ s. tell test.symbol before next (defined test.is_defined (has_value s))) rest
-    ∙ ap (λ r. runs (next (defined test.is_defined (has_value standing)) rest) state r) (sym c.in_ok-tell.ensures)
+    let definition = c.in_ok-definition.definition in
+    c.in_ok-definition.ensures (λ s. tell test.symbol before next (defined test.is_defined (has_value s))) rest
+    ∙ ap (λ r. runs (next (defined test.is_defined (has_value definition)) rest) state r) (sym c.in_ok-tell.ensures)
     ∙ ap (λ (t : Tested). runs (next t rest) state c.tell.new.self) (sym (c.defined.ensures ∙ ap (defined test.is_defined) c.has_value.ensures))

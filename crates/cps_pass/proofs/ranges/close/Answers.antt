@@ -1,6 +1,6 @@
 use Rattle.std.proofs.Common.{◌≡◌, ◌-◌, ◌≤◌, arith, ap, subst, ◌∙◌, List, [], ◌∷◌, length, take, drop}
 use Rattle.std.proofs.lemmas.List.{take_all}
-use Rattle.cps_state.specs.declared.key.Range.{Range}
+use Rattle.cps_state.specs.declared.key.OpenRange.{OpenRange}
 use Rattle.cps_state.specs.Course.{Part, ◌before◌, fill}
 use Rattle.cps_state.specs.Code.Line.{Hands}
 use Rattle.cps_state.specs.Made.{nothing_made}
@@ -13,10 +13,10 @@ use Rattle.cps_pass.proofs.ScopeLemmas.{handed-flagged}
 use Rattle.cps_pass.proofs.ranges.close.Goals as goal
 
 -- these ranges are left open
-abbrev closing : Scope → Location → List Range → (Scope → Part) → Part
+abbrev closing : Scope → Location → List OpenRange → (Scope → Part) → Part
 closing scope location left next = putting_ranges scope left (λ later. fill (nothing_made (present_flags location)) before next later)
 
-closed-some : (scope : Scope) (location : Location) (ranges others : List Range) → 1 ≤ length ranges → others ≡ take (length ranges - 1) (drop 1 ranges)
+closed-some : (scope : Scope) (location : Location) (ranges others : List OpenRange) → 1 ≤ length ranges → others ≡ take (length ranges - 1) (drop 1 ranges)
     → closing scope location others ≡ closed scope location ranges
 closed-some scope location [] others some is = absurd (omega (arith, some))
 closed-some scope location (range ∷ ranges) others some is =

@@ -1,6 +1,6 @@
 use Rattle.std.proofs.Common.{List, subst}
 use Rattle.std.specs.Prelude.{OnOk}
-use Rattle.cps_state.specs.declared.key.Range.{Range}
+use Rattle.cps_state.specs.declared.key.OpenRange.{OpenRange}
 use Rattle.cps_state.specs.Code.Line.{Hands}
 use Rattle.cps_pass.specs.Ranges.{closed}
 use Rattle.cps_pass.specs.Scope.{asking_ranges}
@@ -13,6 +13,6 @@ returns g c =
     let asked = c.ask_ranges.new.recorder in
     let new = c.close.new.recorder in
     let with_ranges = closed c.args.scope.now c.args.location in
-    let does : List Range → Type 0 = λ ranges. OnOk c.close.result (Hands (with_ranges ranges) c.close.new.scope state asked new) in
+    let does : List OpenRange → Type 0 = λ ranges. OnOk c.close.result (Hands (with_ranges ranges) c.close.new.scope state asked new) in
     handed-on (asking_ranges c.args.scope.now) c.in_ok-ranges.ranges with_ranges c.close.new.scope state c.args.recorder.now asked new c.close.result
     c.in_ok-ranges.ensures (subst does c.as_slice.ensures c.close.ensures)

@@ -4,5 +4,5 @@ use Rattle.cps_pass.proofs.ranges.if_defined.Goals as goal
 
 pub returns : goal.returns
 returns g c =
-    handed-on (asking_defined c.args.test.now) c.in_ok-tested.tested (hanging c.args.front.control c.args.scope.now c.args.front.location c.args.test.now.lines) c.hang.new.scope
+    handed-on (asking_defined c.args.test.now) c.in_ok-tested.tested (hanging c.args.context.control c.args.scope.now c.args.context.location c.args.test.now.lines) c.hang.new.scope
     g.L.Lookup.answer c.args.recorder.now c.ask_defined.new.recorder c.hang.new.recorder c.hang.result c.in_ok-tested.ensures c.hang.ensures

@@ -16,8 +16,8 @@ returns g c =
     let scope = c.args.scope.now in
     let ranges = c.args.others.now in
     let test = c.args.test in
-    let part = beginning_range c.args.front.control scope test.holds ranges in
-    let flags = test_flags c.args.front.location test in
+    let part = beginning_range c.args.context.control scope test.holds ranges in
+    let flags = test_flags c.args.context.location test in
     handed-else (nat_le most_ranges (length ranges)) (λ next. fill (nothing_made (record flags { structure = true })) before next scope)
     (λ next. part (λ later. fill (nothing_made flags) before next later)) c.begin_range.new.scope state c.args.recorder.now c.flag-2.new.recorder
     (lt-leb most_ranges (length ranges) c.if-others-ge-MOST_RANGES.false)

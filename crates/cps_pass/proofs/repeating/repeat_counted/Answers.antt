@@ -5,6 +5,6 @@ use Rattle.cps_pass.proofs.repeating.repeat_counted.Goals as goal
 
 pub returns : goal.returns
 returns g c =
-    handed-on (now_here c.args.front.control c.args.lines.now) c.in_ok-value.value
-    (λ value. repeating_lines c.args.front.control c.args.scope.now c.args.front.location c.args.times value (body_count value)) c.repeat_lines.new.scope g.L.Lookup.answer
+    handed-on (now_here c.args.context.control c.args.lines.now) c.in_ok-value.value
+    (λ value. repeating_lines c.args.context.control c.args.scope.now c.args.context.location c.args.times value (body_count value)) c.repeat_lines.new.scope g.L.Lookup.answer
     c.args.recorder.now c.value_here.new.recorder c.repeat_lines.new.recorder c.repeat_lines.result c.in_ok-value.ensures c.repeat_lines.ensures

@@ -1,6 +1,6 @@
 use Rattle.std.proofs.Common.{rules, None, Ok, sym, ap, ◌∙◌}
 use Rattle.cps_text.specs.CardFields.{statement_value}
-use Rattle.cps_pass.specs.declared.reading.Stating.TheVariants.{Stated, Unreadable}
+use Rattle.cps_pass.specs.declared.reading.Reading.TheVariants.{Stated, Unreadable}
 use Rattle.cps_pass.specs.Reading.{row_or_none}
 use Rattle.cps_pass.specs.Meaning.{row_stays}
 use Rattle.cps_pass.specs.Scope.{opens_nothing}

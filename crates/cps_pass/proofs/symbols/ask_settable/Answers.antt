@@ -10,9 +10,9 @@ pub returns-in_ok-tell_if-in-Some : goal.returns-in_ok-tell_if-in-Some
 returns-in_ok-tell_if-in-Some g c = λ next rest.
     let state = g.L.Lookup.answer in
     let name = c.in-Some.name in
-    let standing = c.in_ok-standing-in-Some.standing in
+    let definition = c.in_ok-definition-in-Some.definition in
     let is : symbol_in c.args.location ≡ Some name = sym c.symbol_in.ensures ∙ c.in-Some.is in
     ap (λ (symbol : Option Name). runs (asking_settable symbol next rest) state c.args.recorder.now) is
-    ∙ c.in_ok-standing-in-Some.ensures (λ s. telling_if (is_labelled s) name before next s) rest
-    ∙ ap (λ (labelled : Bool). runs (telling_if labelled name (next standing rest)) state c.ask_standing.new.recorder) (sym c.is_labelled.ensures)
-    ∙ c.in_ok-tell_if-in-Some.ensures (next standing rest)
+    ∙ c.in_ok-definition-in-Some.ensures (λ s. telling_if (is_labelled s) name before next s) rest
+    ∙ ap (λ (labelled : Bool). runs (telling_if labelled name (next definition rest)) state c.ask_definition.new.recorder) (sym c.is_labelled.ensures)
+    ∙ c.in_ok-tell_if-in-Some.ensures (next definition rest)

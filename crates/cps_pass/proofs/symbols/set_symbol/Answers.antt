@@ -10,13 +10,13 @@ use Rattle.cps_pass.proofs.symbols.set_symbol.Goals as goal
 pub returns : goal.returns
 returns g c = λ rest.
     let f = g.L.Lookup.answer in
-    let location = c.args.front.location in
-    let standing = c.in_ok-standing.standing in
+    let location = c.args.context.location in
+    let definition = c.in_ok-definition.definition in
     let value = c.in_ok-value.value in
     let given = c.set_known.new.recorder in
-    c.in_ok-standing.ensures (λ stands. now_here c.args.front.control c.args.operand.now (λ v. set_to location stands v)) rest
-    ∙ c.in_ok-value.ensures (λ v. set_to location standing v) rest
-    ∙ c.in_ok-set_known.ensures (fill (listing_value (equate_flags location (is_labelled standing)) value) rest)
+    c.in_ok-definition.ensures (λ stands. now_here c.args.context.control c.args.operand.now (λ v. set_to location stands v)) rest
+    ∙ c.in_ok-value.ensures (λ v. set_to location definition v) rest
+    ∙ c.in_ok-set_known.ensures (fill (listing_value (equate_flags location (is_labelled definition)) value) rest)
     ∙ ap (λ (labelled : Bool). runs rest f (line_filled given (listing_value (equate_flags location labelled) value))) (sym c.is_labelled.ensures)
     ∙ ap (λ (flags : Flags). runs rest f (line_filled given (listing_value flags value))) (sym c.equate_flags-flags.ensures)
     ∙ ap (λ r. runs rest f r) (sym c.list_value.ensures)

@@ -7,7 +7,7 @@ use Rattle.cps_cause.specs.declared.letter.Letter.{Letter}
 use Rattle.cps_cause.specs.declared.letter.Letter.TheVariants.{E}
 use Rattle.cps_cause.specs.Letters.{letter_of}
 use Rattle.cps_server.specs.Document.{source_of_text}
-use Rattle.cps_server.specs.declared.kind.Kind.TheVariants as kinds
+use Rattle.cps_server.specs.declared.mark_kind.MarkKind.TheVariants as kinds
 use Rattle.cps_server.specs.Marks.{Mark, MarksEnd}
 use Rattle.cps_server.proofs.MarkLemmas.{Adds-one}
 use Rattle.cps_server.proofs.marking.push_end.Goals as goal

@@ -1,7 +1,7 @@
 use Rattle.std.proofs.Common.{rules, ◌≡◌, refl, true, Some, slice_get, map, sym, ap, ◌∙◌}
 use Rattle.std.proofs.lemmas.Option.{slice_get_read}
 use Rattle.cps_server.specs.Code.Opened.{value_of}
-use Rattle.cps_server.specs.Standing.{is_under, open_under}
+use Rattle.cps_server.specs.ServerState.{is_under, open_under}
 use Rattle.cps_server.proofs.TextLemmas.{drop-there, open-first}
 use Rattle.cps_server.proofs.open_texts.place_of.Goals as goal
 

@@ -1,6 +1,6 @@
 use Rattle.std.proofs.Common.{◌≡◌, drop, map}
 use Rattle.cps_server.specs.Code.Opened.{value_of}
-use Rattle.cps_server.specs.Standing.{open_under}
+use Rattle.cps_server.specs.ServerState.{open_under}
 use Rattle.cps_server.proofs.open_texts.place_of.Given as goal
 
 -- none of the texts so far stands under the URI

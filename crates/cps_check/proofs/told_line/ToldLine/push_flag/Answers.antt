@@ -1,7 +1,7 @@
 use Rattle.std.proofs.Common.{◌++◌, codes, ap, ◌∙◌}
 use Rattle.cps_cause.specs.declared.letter.Letter.{Letter}
 use Rattle.cps_cause.specs.Letters.{letter_of}
-use Rattle.cps_check.specs.declared.kind.Kind.TheVariants as kinds
+use Rattle.cps_check.specs.declared.report_kind.ReportKind.TheVariants as kinds
 use Rattle.cps_check.specs.Reports.{flag_report}
 use Rattle.cps_check.specs.Rows.{flag_rows}
 use Rattle.cps_check.specs.Texts.{head_of}

@@ -1,5 +1,5 @@
 use Rattle.std.proofs.Common.{◌++◌, codes, ap, ◌∙◌}
-use Rattle.cps_check.specs.declared.kind.Kind.TheVariants as kinds
+use Rattle.cps_check.specs.declared.report_kind.ReportKind.TheVariants as kinds
 use Rattle.cps_check.specs.Reports.{note_report}
 use Rattle.cps_check.specs.Rows.{note_rows}
 use Rattle.cps_check.specs.Texts.{head_of}

@@ -3,7 +3,7 @@ use Rattle.cps_state.specs.declared.key.Put.{Put}
 use Rattle.cps_state.specs.declared.trace.Trace.{Trace}
 use Rattle.cps_state.specs.Work.{Counts}
 use Rattle.cps_final.specs.declared.changes.Changes.{Changes}
-use Rattle.cps_final.specs.Changes.{Changed, changed, settled}
+use Rattle.cps_final.specs.Changes.{Changed, changed, agreed}
 use Rattle.cps_final.specs.Code.Kept.{changes_in}
 use Rattle.cps_final.specs.Layout.{puts_of}
 use Rattle.cps_pass.specs.Expansion.{trace_of}
@@ -34,7 +34,7 @@ returns-then-still_stands-clause-state g c =
     let line = c.args.old.line.now in
     let t = c.args.old.trace.now in
     let standing = c.still_stands.ensures.stands ∙ ap (λ (now : Changes). stands (changes_in now) t.asks) c.changes.ensures in
-    ap (λ (now : Changed). changed now (after past line)) (c.settle.ensures.changes ∙ ap (λ (ps : List Put). settled was ps) c.puts.ensures)
+    ap (λ (now : Changed). changed now (after past line)) (c.agree.ensures.changes ∙ ap (λ (ps : List Put). agreed was ps) c.puts.ensures)
     ∙ after-stands was past line t c.requires.did (sym standing ∙ c.if-still_stands.true)
 
 pub returns-then-still_stands-clause-steps : goal.returns-then-still_stands-clause-steps

@@ -7,8 +7,8 @@ use Rattle.cps_pass.specs.Expansion.{trace_of}
 use Rattle.cps_edit.specs.Disturbed.{is_disturbed}
 use Rattle.cps_edit.specs.Passes.{state_after}
 use Rattle.cps_chunk.specs.declared.walk.Baseline.{Baseline}
-use Rattle.cps_chunk.specs.contracts.past.PastLookup.TheImpl.{answer-value}
-use Rattle.cps_chunk.specs.declared.walk.Position.TheVariants.{Behind}
+use Rattle.cps_chunk.specs.contracts.state_before.StateBeforeLookup.TheImpl.{answer-value}
+use Rattle.cps_chunk.specs.declared.walk.Destination.TheVariants.{Behind}
 use Rattle.cps_chunk.specs.declared.walk.Walk.{Walk}
 use Rattle.cps_chunk.specs.Code.Along.{front_at}
 use Rattle.cps_chunk.specs.Code.Replay.{PutsAlso, now_with}

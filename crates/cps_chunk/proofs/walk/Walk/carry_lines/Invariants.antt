@@ -1,6 +1,6 @@
 use Rattle.std.proofs.Common.{◌≡◌, ◌≤◌, ◌-◌, length}
 use Rattle.cps_state.specs.Work.{counted_on}
-use Rattle.cps_chunk.specs.declared.walk.Position.TheVariants.{Behind}
+use Rattle.cps_chunk.specs.declared.walk.Destination.TheVariants.{Behind}
 use Rattle.cps_chunk.specs.Code.Along.{GoesAlong, replayed_along, span}
 use Rattle.cps_chunk.proofs.walk.Walk.carry_lines.Given as goal
 

@@ -5,7 +5,7 @@ use Rattle.cps_state.specs.Course.{Trace}
 use Rattle.cps_state.specs.declared.key.Put.{Put}
 use Rattle.cps_final.specs.Code.Kept.{changes_in}
 use Rattle.cps_final.specs.Layout.{puts_of}
-use Rattle.cps_chunk.specs.contracts.past.PastLookup.TheImpl.{answer-value}
+use Rattle.cps_chunk.specs.contracts.state_before.StateBeforeLookup.TheImpl.{answer-value}
 use Rattle.cps_chunk.specs.Noted.{AreHeld, last_puts, noted}
 use Rattle.cps_chunk.specs.Code.Walk.{state_at, stretch}
 use Rattle.cps_chunk.proofs.WalkLemmas.{as-long, stretch-held}

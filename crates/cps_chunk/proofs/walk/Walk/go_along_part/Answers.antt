@@ -4,7 +4,7 @@ use Rattle.cps_edit.specs.Compares.{ComparesUpTo}
 use Rattle.cps_chunk.specs.Code.Chunk.{lengths_of}
 use Rattle.cps_chunk.specs.Code.Along.{MayGo, front_at}
 use Rattle.cps_chunk.specs.Code.Walk.{stretch}
-use Rattle.cps_chunk.specs.declared.walk.Position.{Position}
+use Rattle.cps_chunk.specs.declared.walk.Destination.{Destination}
 use Rattle.cps_chunk.proofs.SpanLemmas.{part-some}
 use Rattle.cps_chunk.proofs.OverLemmas.{still-walk}
 use Rattle.cps_chunk.proofs.WalkLemmas.{lengths-next}
@@ -27,7 +27,7 @@ go_over_from-requires-clause-may c = record {
   walk = c.requires.walk;
   ordered = c.requires.part.ordered;
   within = c.requires.part.within;
-  present = subst (λ (p : Position). MayGo c.args.self.now p) c.in-Same.is c.requires.part.may;
+  present = subst (λ (p : Destination). MayGo c.args.self.now p) c.in-Same.is c.requires.part.may;
 }
 
 pub returns-in-Same-clause-walk : goal.returns-in-Same-clause-walk

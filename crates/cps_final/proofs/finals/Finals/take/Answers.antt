@@ -6,7 +6,7 @@ use Rattle.cps_state.specs.Keys.{State, overwritten}
 use Rattle.cps_final.specs.Finals.{first_program}
 use Rattle.cps_final.specs.Code.Gathering.{grown_by}
 use Rattle.cps_final.specs.Pool.{literals_among}
-use Rattle.cps_final.proofs.GatherLemmas.{same-but-state, on_err}
+use Rattle.cps_final.proofs.GatherLemmas.{gathered-more, same-but-state, on_err}
 use Rattle.cps_final.proofs.finals.Finals.take.Goals as goal
 
 pub returns-in_err-literals-clause-err : goal.returns-in_err-literals-clause-err
@@ -18,9 +18,7 @@ returns-in_err-reserve-clause-err c = on_err c.from_residual-in_err-reserve.resu
 pub returns-clause-ok : goal.returns-clause-ok
 returns-clause-ok c =
     let same = c.make_room.ensures.same in
-    record {
-      state = c.put_into.ensures.state ∙ ap (λ (state : State). overwritten state c.args.sheet.now.line.puts) c.reserve.ensures.answer;
-      layout = c.take.ensures.layout ∙ (λ i. grown_by (same i).layout (c.puts-3.ensures i));
-      pool = c.take.ensures.pool ∙ (λ i. insert_all nat_eq (same i).pool (literals_among (c.items-2.ensures i)));
-      program = c.take.ensures.program ∙ (λ i. option_or (same i).program (first_program (c.items-2.ensures i)));
-    }
+    gathered-more _ _ c.args.scratch.now.line (c.put_into.ensures.state ∙ ap (λ (state : State). overwritten state c.args.scratch.now.line.puts) c.reserve.ensures.answer)
+    (c.take.ensures.layout ∙ (λ i. grown_by (same i).layout (c.puts-3.ensures i)))
+    (c.take.ensures.pool ∙ (λ i. insert_all nat_eq (same i).pool (literals_among (c.items-2.ensures i))))
+    (c.take.ensures.program ∙ (λ i. option_or (same i).program (first_program (c.items-2.ensures i))))

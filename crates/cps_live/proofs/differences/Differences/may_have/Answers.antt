@@ -2,7 +2,7 @@ use Rattle.std.proofs.Common.{◌≡◌, Vec, Global, Option, false, sym, ap, �
 use Rattle.std.specs.Prelude.{option_map}
 use Rattle.std.specs.List.{list_any}
 use Rattle.cps_text.specs.declared.name.Name.{Name}
-use Rattle.cps_final.specs.Names.{names_in, all_pass}
+use Rattle.cps_final.specs.NamedFinals.{names_in, all_pass}
 use Rattle.cps_live.specs.Code.Differences.{passes_by}
 use Rattle.cps_live.proofs.DifferenceLemmas.{label-has, labels-pass, none-among}
 use Rattle.cps_live.proofs.differences.Differences.may_have.Goals as goal

@@ -3,7 +3,7 @@ use Rattle.std.specs.Prelude.{vec_len}
 use Rattle.cps_state.specs.Course.{Trace}
 use Rattle.cps_chunk.specs.Division.{AreChunks}
 use Rattle.cps_chunk.specs.Code.Pieces.{lines_of}
-use Rattle.cps_chunk.specs.declared.exchange.Piece.{Piece}
+use Rattle.cps_chunk.specs.declared.exchange.RecutChunk.{RecutChunk}
 use Rattle.cps_edit.specs.Exchange.{exchanged}
 use Rattle.cps_final.specs.Outcome.{Outcome}
 use Rattle.cps_edit.specs.Disturbed.{finals_in}
@@ -54,7 +54,7 @@ chunks_moved-requires-clause-moved c =
     ∙ turned-items h.kept h.runs h.parts c.put_all.new.items _ _ c.turn-2.ensures c.deref_mut-2.ensures.value (ap length c.put_all.ensures.items ∙ moved-traces_long h.kept h.runs h.parts)
     ∙ ap (exchanged c.args.exchange) c.put_all.ensures.items in
     subst (λ (cs : List Chunk). AreMoved c.args.self.now.hashing cs c.deref-2.result.now c.deref-3.result.now) (sym were)
-    (subst (λ (ps : List Piece). AreMoved c.args.self.now.hashing c.mark_all.new.chunks.items ps c.deref-3.result.now) (sym c.deref-2.ensures.value)
+    (subst (λ (ps : List RecutChunk). AreMoved c.args.self.now.hashing c.mark_all.new.chunks.items ps c.deref-3.result.now) (sym c.deref-2.ensures.value)
     (moved-chunks h.kept h.runs h.parts c.args.self.now.hashing c.mark_all.new.chunks.items c.deref-3.result.now c.mark_all.ensures.lengths marked moved))
 
 pub returns-clause-kept : goal.returns-clause-kept

@@ -13,8 +13,8 @@ returns-clause-kept c = record {
     did = search rules;
     made = search rules;
     chunks = search rules;
-    divided = subst (λ (cs : List Chunk). AreChunks (lengths_of cs)) (sym c.new-5.ensures.items) tt;
+    divided = subst (λ (cs : List Chunk). AreChunks (lengths_of cs)) (sym c.new-4.ensures.items) tt;
     read = search rules;
   };
-  finals = c.in-Ok.ensures.finals ∙ c.new.ensures ∙ ap (λ ls. finals_of (traces_of ls)) (sym c.new-2.ensures.items);
+  finals = c.new-5.ensures ∙ ap (λ ls. finals_of (traces_of ls)) (sym c.new.ensures.items);
 }

@@ -52,7 +52,7 @@ returns-in_err-go_over_chunks-clause-steps c =
     let same = ap (λ (b : Baseline). b.hashing) pass.base in
     let all = all-redone c.args.self.now c.requires.kept c.in_ok-pass.pass _ c.deref_mut.ensures.value did same _ _ (ap (λ (e : Ends). was_of e) pass.ends) (ap (λ (e : Ends). now_of e) pass.ends)
     c.args.traces.now in
-    let most : length (redone_in c.in_ok-pass.pass 0 (0 + sum (lengths_of c.deref_mut.result.now)) c.args.traces.now) ≤ length (redone_by c.args.self.now c.args.mend.now c.args.traces.now) =
+    let most : length (redone_in c.in_ok-pass.pass 0 (0 + sum (lengths_of c.deref_mut.result.now)) c.args.traces.now) ≤ length (redone_by c.args.self.now c.args.patch.now c.args.traces.now) =
     omega (arith, ap length all) in
     steps-of c.from_residual-in_err-go_over_chunks.ensures.0 (steps-fail c.args.work.now c.go_over_chunks.new.work _ _ most c.go_over_chunks.ensures.steps)
 
@@ -81,7 +81,7 @@ returns-in_err-add_renewed-clause-steps c =
     let same = ap (λ (b : Baseline). b.hashing) pass.base in
     let all = all-redone c.args.self.now c.requires.kept c.in_ok-pass.pass _ c.deref_mut.ensures.value did same _ _ (ap (λ (e : Ends). was_of e) pass.ends) (ap (λ (e : Ends). now_of e) pass.ends)
     c.args.traces.now in
-    let most : length (redone_in c.in_ok-pass.pass 0 (0 + sum (lengths_of c.deref_mut.result.now)) c.args.traces.now) ≤ length (redone_by c.args.self.now c.args.mend.now c.args.traces.now) =
+    let most : length (redone_in c.in_ok-pass.pass 0 (0 + sum (lengths_of c.deref_mut.result.now)) c.args.traces.now) ≤ length (redone_by c.args.self.now c.args.patch.now c.args.traces.now) =
     omega (arith, ap length all) in
     steps-of c.from_residual-in_err-add_renewed.ensures.0 (steps-fail c.args.work.now c.go_over_chunks.new.work _ _ most c.go_over_chunks.ensures.steps)
 

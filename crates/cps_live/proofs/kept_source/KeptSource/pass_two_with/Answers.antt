@@ -8,12 +8,12 @@ use Rattle.cps_live.proofs.kept_source.KeptSource.pass_two_with.Goals as goal
 
 pub returns-in_err-own-clause-work : goal.returns-in_err-own-clause-work
 returns-in_err-own-clause-work c =
-    let n = length (redone_by c.args.self.now c.args.mend.now []) in
+    let n = length (redone_by c.args.self.now c.args.patch.now []) in
     record { steps = twos-first n c.from_residual.ensures.0 c.step_two.ensures.step; looked = looks-step _ c.step_two.ensures.step }
 
 pub returns-in_err-renewed-clause-work : goal.returns-in_err-renewed-clause-work
 returns-in_err-renewed-clause-work c =
-    let n = length (redone_by c.args.self.now c.args.mend.now []) in
+    let n = length (redone_by c.args.self.now c.args.patch.now []) in
     record {
       steps = twos-part n c.from_residual-in_err-renewed.ensures.0 c.step_two.ensures.step c.pass_again.ensures.steps;
       looked = looks-with _ c.step_two.ensures.step c.pass_again.ensures.looked;
@@ -26,7 +26,7 @@ returns-in_err-add_one-clause-kept c =
 
 pub returns-in_err-add_one-clause-work : goal.returns-in_err-add_one-clause-work
 returns-in_err-add_one-clause-work c =
-    let n = length (redone_by c.args.self.now c.args.mend.now []) in
+    let n = length (redone_by c.args.self.now c.args.patch.now []) in
     record {
       steps = twos-part n c.from_residual-in_err-add_one.ensures.0 c.step_two.ensures.step c.pass_again.ensures.steps;
       looked = looks-with _ c.step_two.ensures.step c.pass_again.ensures.looked;
@@ -46,5 +46,5 @@ returns-clause-read c =
 
 pub returns-clause-work : goal.returns-clause-work
 returns-clause-work c =
-    let n = length (redone_by c.args.self.now c.args.mend.now []) in
+    let n = length (redone_by c.args.self.now c.args.patch.now []) in
     record { steps = twos-with n c.step_two.ensures.step c.in_ok-renewed.ensures.steps; looked = looks-with _ c.step_two.ensures.step c.in_ok-renewed.ensures.looked }

@@ -4,7 +4,7 @@ use Rattle.cps_state.specs.Keys.{first_state}
 use Rattle.cps_final.specs.Code.Kept.{changes_in}
 use Rattle.cps_final.specs.Finals.{Finals, final_value, finals_of}
 use Rattle.cps_final.specs.Code.Storage.{IsStored}
-use Rattle.cps_final.specs.Code.Mend.{mended}
+use Rattle.cps_final.specs.Code.FinalsPatch.{patched}
 use Rattle.cps_final.specs.contracts.finals.FinalsGathered.TheImpl.{gathered-value}
 use Rattle.cps_edit.specs.Disturbed.{finals_in}
 use Rattle.cps_edit.specs.Passes.{traces_of}
@@ -19,7 +19,7 @@ use Rattle.std.specs.declared.alloc.AllocError.{AllocError}
 use Rattle.cps_edit.proofs.SpliceLemmas.{length-traces_from}
 use Rattle.cps_live.specs.Code.Storing.{IsStoredBehind}
 use Rattle.cps_live.proofs.EditLemmas.{looked-both, looked-first, room-still}
-use Rattle.cps_live.proofs.MendedLemmas.{are-ends, edited-is, finals-mended, may-stand}
+use Rattle.cps_live.proofs.PatchedLemmas.{are-ends, edited-is, finals-patched, may-stand}
 use Rattle.cps_live.proofs.kept_source.KeptSource.splice.Goals as goal
 
 pub returns-in_err-pass-clause-looked : goal.returns-in_err-pass-clause-looked
@@ -83,10 +83,10 @@ pass_two-requires-clause-ends c =
     let stored = subst (λ (ts : List Trace). IsStoredBehind ts c.in_ok-storage.storage (traces_of (spliced lines (splice_of cut)))) did
     (subst (λ (ts : List Trace). IsStoredBehind c.baseline.result.traces.now c.in_ok-storage.storage ts) (edited-is lines cut c.in_ok-pass.pass.traces pass.traces c.baseline.result.traces.now did) c.in_ok-storage.ensures) in
     let there : gathered-value.it c.exchange.new.self ≡ finals_of (traces_of (spliced lines (splice_of cut))) =
-    c.exchange.ensures.now ∙ ap (mended (record { changes = c.in_ok-pass.pass.changes; storage = c.in_ok-storage.storage })) kept
-    ∙ finals-mended lines (spliced lines (splice_of cut)) c.in_ok-storage.storage (changes_in c.in_ok-pass.pass.changes) stored pass.state in
-    subst (λ (ls : List (List ℕ)). AreEnds ls (splice_of cut) (final_value (mended c.exchange.new.mend (gathered-value.it c.exchange.new.self))) (final_value (gathered-value.it c.exchange.new.self))) (sym (two.lines ∙ one.lines))
-    (are-ends lines (splice_of cut) (mended c.exchange.new.mend (gathered-value.it c.exchange.new.self)) (gathered-value.it c.exchange.new.self) (gathered-value.it c.make_room.new.self.finals)
+    c.exchange.ensures.now ∙ ap (patched (record { changes = c.in_ok-pass.pass.changes; storage = c.in_ok-storage.storage })) kept
+    ∙ finals-patched lines (spliced lines (splice_of cut)) c.in_ok-storage.storage (changes_in c.in_ok-pass.pass.changes) stored pass.state in
+    subst (λ (ls : List (List ℕ)). AreEnds ls (splice_of cut) (final_value (patched c.exchange.new.patch (gathered-value.it c.exchange.new.self))) (final_value (gathered-value.it c.exchange.new.self))) (sym (two.lines ∙ one.lines))
+    (are-ends lines (splice_of cut) (patched c.exchange.new.patch (gathered-value.it c.exchange.new.self)) (gathered-value.it c.exchange.new.self) (gathered-value.it c.make_room.new.self.finals)
     c.exchange.ensures.back kept there)
 
 -- ---- it is put in its place
@@ -115,8 +115,8 @@ returns-in-Ok-clause-kept c =
     let stored = subst (λ (ts : List Trace). IsStoredBehind ts c.in_ok-storage.storage (traces_of (spliced lines (splice_of cut)))) did
     (subst (λ (ts : List Trace). IsStoredBehind c.baseline.result.traces.now c.in_ok-storage.storage ts) (edited-is lines cut c.in_ok-pass.pass.traces pass.traces c.baseline.result.traces.now did) c.in_ok-storage.ensures) in
     let there : gathered-value.it c.exchange.new.self ≡ finals_of (traces_of (spliced lines (splice_of cut))) =
-    c.exchange.ensures.now ∙ ap (mended (record { changes = c.in_ok-pass.pass.changes; storage = c.in_ok-storage.storage })) kept
-    ∙ finals-mended lines (spliced lines (splice_of cut)) c.in_ok-storage.storage (changes_in c.in_ok-pass.pass.changes) stored pass.state in
+    c.exchange.ensures.now ∙ ap (patched (record { changes = c.in_ok-pass.pass.changes; storage = c.in_ok-storage.storage })) kept
+    ∙ finals-patched lines (spliced lines (splice_of cut)) c.in_ok-storage.storage (changes_in c.in_ok-pass.pass.changes) stored pass.state in
     let three = c.pass_two.ensures.still in
     let behind = c.commit.ensures.edited.lines ∙ ap (λ ls. spliced ls (splice_of cut)) (three.still.lines ∙ two.lines ∙ one.lines) in
     record {
@@ -164,12 +164,12 @@ returns-in-Err-clause-kept c =
     let stored = subst (λ (ts : List Trace). IsStoredBehind ts c.in_ok-storage.storage (traces_of (spliced lines (splice_of cut)))) did
     (subst (λ (ts : List Trace). IsStoredBehind c.baseline.result.traces.now c.in_ok-storage.storage ts) (edited-is lines cut c.in_ok-pass.pass.traces pass.traces c.baseline.result.traces.now did) c.in_ok-storage.ensures) in
     let there : gathered-value.it c.exchange.new.self ≡ finals_of (traces_of (spliced lines (splice_of cut))) =
-    c.exchange.ensures.now ∙ ap (mended (record { changes = c.in_ok-pass.pass.changes; storage = c.in_ok-storage.storage })) kept
-    ∙ finals-mended lines (spliced lines (splice_of cut)) c.in_ok-storage.storage (changes_in c.in_ok-pass.pass.changes) stored pass.state in
+    c.exchange.ensures.now ∙ ap (patched (record { changes = c.in_ok-pass.pass.changes; storage = c.in_ok-storage.storage })) kept
+    ∙ finals-patched lines (spliced lines (splice_of cut)) c.in_ok-storage.storage (changes_in c.in_ok-pass.pass.changes) stored pass.state in
     let all = c.pass_two.ensures.kept in
     record {
       lines = record { first = all.first; did = all.did; made = all.made; chunks = all.chunks; divided = all.divided; read = all.read };
-      finals = c.exchange-in-Err.ensures.now ∙ ap (λ finals. mended c.exchange.new.mend (gathered-value.it finals)) c.pass_two.ensures.still.finals ∙ c.exchange.ensures.back ∙ kept
+      finals = c.exchange-in-Err.ensures.now ∙ ap (λ finals. patched c.exchange.new.patch (gathered-value.it finals)) c.pass_two.ensures.still.finals ∙ c.exchange.ensures.back ∙ kept
           ∙ ap (λ ls. finals_of (traces_of ls)) (sym (c.pass_two.ensures.still.still.lines ∙ two.lines ∙ one.lines));
     }
 

@@ -4,7 +4,7 @@ use Rattle.std.proofs.Math.Bool.{and-false}
 use Rattle.std.proofs.lemmas.Bool.{eqb-true}
 use Rattle.std.proofs.lemmas.List.{nil_from_length}
 use Rattle.cps_state.specs.Course.{Trace}
-use Rattle.cps_final.specs.Names.{all_pass, names_in}
+use Rattle.cps_final.specs.NamedFinals.{all_pass, names_in}
 use Rattle.cps_final.specs.Agreeing.{same_at}
 use Rattle.cps_edit.specs.Compares.{Steps}
 use Rattle.cps_chunk.specs.Code.Chunk.{IsChunkOf}

@@ -1,5 +1,5 @@
 use Rattle.std.proofs.Common.{sym, ◌∙◌}
-use Rattle.cps_final.specs.Names.{names_in}
+use Rattle.cps_final.specs.NamedFinals.{names_in}
 use Rattle.cps_final.specs.Code.Ends.{was_of, now_of}
 use Rattle.cps_live.specs.declared.second_pass.SecondPass.{SecondPass}
 use Rattle.cps_live.proofs.SecondPassLemmas.{exact-same, names-same}

@@ -3,7 +3,7 @@ use Rattle.cps_chunk.specs.Division.{inserted_at}
 use Rattle.cps_chunk.specs.Put.{put_at}
 use Rattle.cps_edit.specs.Splice.{insertion, splice_at}
 use Rattle.cps_live.specs.Edits.{Source, LooksOfEdit}
-use Rattle.cps_live.proofs.CuttingLemmas.{put-one}
+use Rattle.cps_live.proofs.SplicingLemmas.{put-one}
 use Rattle.cps_live.proofs.session.Session.insert.Goals as goal
 
 pub returns-clause-looked : goal.returns-clause-looked

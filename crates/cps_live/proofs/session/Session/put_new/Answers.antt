@@ -1,22 +1,44 @@
-use Rattle.std.proofs.Common.{subst, ◌∙◌, List, ℕ}
-use Rattle.cps_live.specs.Code.Cutting.{IsCutFor, edit_of, lengths_with}
-use Rattle.cps_live.proofs.CuttingLemmas.{cut-is, cut-looks}
+use Rattle.std.proofs.Common.{◌-◌, ◌≤◌, arith, refl, ap, subst, ◌∙◌, List, ℕ, length, take}
+use Rattle.std.specs.Prelude.{sum}
+use Rattle.cps_chunk.specs.Put.{IsRecut, put_at}
+use Rattle.cps_edit.specs.Splice.{splice_at}
+use Rattle.cps_live.proofs.SplicingLemmas.{splice-for, splice-is, splice-looks}
 use Rattle.cps_live.proofs.session.Session.put_new.Goals as goal
 
 pub splice-requires-clause-cut : goal.splice-requires-clause-cut
 splice-requires-clause-cut c =
     let source = c.args.self.now in
-    let new = c.args.new in
-    let cut = c.in-Ok-cut_for.cut in
+    let olds = source.lengths in
+    let keep = c.args.keep in
+    let from = c.args.from in
+    let come = c.args.lines.items in
+    let by = c.in-Ok-of.splice in
+    let division = c.in-Ok.ensures.division in
     let same = c.deref.ensures.value ∙ c.in-Ok.ensures.lengths in
-    let made = subst (λ (ms : List ℕ). IsCutFor (edit_of new) ms (lengths_with new ms) cut) same c.in-Ok-cut_for.ensures in
-    cut-is source.lines (edit_of new) source.lengths (lengths_with new source.lengths) cut made c.in-Ok.ensures.division
+    let within : from ≤ sum olds = omega (arith, c.requires.places.1, division.total) in
+    let is = subst (λ (ms : List ℕ). IsRecut keep from ms (put_at keep (from - keep) (length come) ms) by) same c.in-Ok-of.ensures.chunks in
+    let again = c.a_put_divides_again.ensures keep (from - keep) (length come) (sum olds) olds (record { chunks = division.chunks; total = refl })
+    (omega (arith, c.requires.places.0, within)) in
+    let places = c.in-Ok-of.ensures.lines in
+    let made = splice-for keep from come olds by c.requires.places.0 within is again (λ i. splice_at (places.0 i) (places.1 i) (places.2 i).items)
+    (c.in-Ok-of.ensures.behind ∙ ap (λ (ms : List ℕ). sum (take by.end ms)) same) in
+    splice-is source.lines (splice_at keep from come) olds (put_at keep (from - keep) (length come) olds) by made division
 
 pub returns-clause-looked : goal.returns-clause-looked
 returns-clause-looked c =
     let source = c.args.self.now in
-    let new = c.args.new in
-    let cut = c.in-Ok-cut_for.cut in
+    let olds = source.lengths in
+    let keep = c.args.keep in
+    let from = c.args.from in
+    let come = c.args.lines.items in
+    let by = c.in-Ok-of.splice in
+    let division = c.in-Ok.ensures.division in
     let same = c.deref.ensures.value ∙ c.in-Ok.ensures.lengths in
-    let made = subst (λ (ms : List ℕ). IsCutFor (edit_of new) ms (lengths_with new ms) cut) same c.in-Ok-cut_for.ensures in
-    cut-looks source (edit_of new) (lengths_with new source.lengths) cut c.args.work.now c.splice.new.work made c.splice.ensures.looked
+    let within : from ≤ sum olds = omega (arith, c.requires.places.1, division.total) in
+    let is = subst (λ (ms : List ℕ). IsRecut keep from ms (put_at keep (from - keep) (length come) ms) by) same c.in-Ok-of.ensures.chunks in
+    let again = c.a_put_divides_again.ensures keep (from - keep) (length come) (sum olds) olds (record { chunks = division.chunks; total = refl })
+    (omega (arith, c.requires.places.0, within)) in
+    let places = c.in-Ok-of.ensures.lines in
+    let made = splice-for keep from come olds by c.requires.places.0 within is again (λ i. splice_at (places.0 i) (places.1 i) (places.2 i).items)
+    (c.in-Ok-of.ensures.behind ∙ ap (λ (ms : List ℕ). sum (take by.end ms)) same) in
+    splice-looks source (splice_at keep from come) (put_at keep (from - keep) (length come) olds) by c.args.work.now c.splice.new.work made c.splice.ensures.looked

@@ -3,7 +3,7 @@ use Rattle.std.specs.Prelude.{OnOk}
 use Rattle.cps_chunk.specs.Put.{put_at}
 use Rattle.cps_edit.specs.Splice.{replacement, splice_at, spliced}
 use Rattle.cps_live.specs.Edits.{HasLine, LooksOfEdit}
-use Rattle.cps_live.proofs.CuttingLemmas.{put-same}
+use Rattle.cps_live.proofs.SplicingLemmas.{put-same}
 use Rattle.cps_live.proofs.SessionLemmas.{replaced}
 use Rattle.cps_live.proofs.session.Session.replace.Goals as goal
 

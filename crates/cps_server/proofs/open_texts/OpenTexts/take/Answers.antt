@@ -2,7 +2,7 @@ use Rattle.std.proofs.Common.{rules, map, sym, ap, ◌∙◌}
 use Rattle.std.proofs.lemmas.Fn.{filter_same}
 use Rattle.std.specs.Prelude.{option_map}
 use Rattle.cps_server.specs.Code.Opened.{value_of}
-use Rattle.cps_server.specs.Standing.{without}
+use Rattle.cps_server.specs.ServerState.{without}
 use Rattle.cps_server.proofs.TextLemmas.{without-kept, without-none}
 use Rattle.cps_server.proofs.open_texts.OpenTexts.take.Goals as goal
 

@@ -1,7 +1,7 @@
 use Rattle.std.proofs.Common.{map, sym, ap, ◌∙◌}
 use Rattle.std.specs.Prelude.{slice_get}
 use Rattle.cps_server.specs.Code.Opened.{value_of}
-use Rattle.cps_server.specs.Standing.{without}
+use Rattle.cps_server.specs.ServerState.{without}
 use Rattle.cps_server.proofs.TextLemmas.{without-removed}
 use Rattle.cps_server.proofs.open_texts.OpenTexts.take_first.Goals as goal
 

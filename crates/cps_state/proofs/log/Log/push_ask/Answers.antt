@@ -2,7 +2,7 @@ use Rattle.std.proofs.Common.{rules, ◌≡◌, ◌++◌, ◌∷◌, [], List, l
 use Rattle.std.specs.HashMap as hash
 use Rattle.cps_state.specs.declared.key.Key.{Key}
 use Rattle.cps_state.specs.contracts.key.KeyPartialEq.TheImpl.{eq-value}
-use Rattle.cps_state.specs.declared.log.Known.TheVariants.{Asked}
+use Rattle.cps_state.specs.declared.log.LogPlace.TheVariants.{Asked}
 use Rattle.cps_state.specs.Code.Log.{Log, asked_in, known_of, asked_at, Indexes}
 use Rattle.cps_state.proofs.LogLemmas.{indexes-key, key-last}
 use Rattle.cps_state.proofs.log.Log.push_ask.Goals as goal

@@ -3,7 +3,7 @@ use Rattle.std.specs.HashMap as hash
 use Rattle.cps_state.specs.declared.key.Key.{Key}
 use Rattle.cps_state.specs.declared.key.Put.{Put as APut}
 use Rattle.cps_state.specs.contracts.key.KeyPartialEq.TheImpl.{eq-value}
-use Rattle.cps_state.specs.declared.log.Known.TheVariants.{Put}
+use Rattle.cps_state.specs.declared.log.LogPlace.TheVariants.{Put}
 use Rattle.cps_state.specs.Code.Log.{asked_in, Indexes}
 use Rattle.cps_state.proofs.LogLemmas.{indexes-put}
 use Rattle.cps_state.proofs.log.Log.push_put.Goals as goal

@@ -1,0 +1,112 @@
+//! Words that tell something, in one row.
+ghost use Rattle.std.specs.Prelude.{◌≡◌, ◌++◌, [], true, OnOk};
+ghost use Rattle.cps_input.specs.Shown.{has_no_control};
+ghost use Rattle.cps_cause.specs.Sentence.{cleaned, cleaned_byte};
+
+use itoa::Buffer;
+use std::alloc::{AllocError, Global};
+use std::marker::Model;
+
+/// Words in one row: no control character stands in them.
+#[derive(Drop)]
+pub struct Wording {
+    text: Vec<u8>,
+}
+
+impl Model for Wording {
+    ghost use Rattle.std.specs.Prelude.{◌≡◌, ℕ, List, true};
+    ghost use Rattle.cps_input.specs.Shown.{has_no_control};
+
+    ghost Value = { List ℕ };
+
+    ghost view = { λ words. words.text.items };
+
+    ghost invariant = { λ words. has_no_control words.text.items ≡ true };
+}
+
+impl Wording {
+    /// No words. Takes no memory.
+    pub fn new(alloc: Global) -> Wording
+        ensures { result ≡ [] }
+    {
+        Wording {
+            text: Vec::new(alloc),
+        }
+    }
+
+    /// The bytes.
+    pub fn as_slice(&self) -> &[u8]
+        ensures { result.now ≡ self.now }
+    {
+        self.text.as_slice()
+    }
+
+    /// The bytes, as a text of their own. Takes no memory.
+    pub fn into_bytes(self) -> Vec<u8>
+        ensures { result.items ≡ self }
+    {
+        let Wording { text } = self;
+        text
+    }
+
+    /// Appends a text, with `?` in the place of each control character.
+    pub fn push(&mut self, more: &[u8]) -> Result<(), AllocError>
+        ensures { OnOk result (self.new ≡ self.old ++ cleaned more.now) }
+    {
+        push_cleaned(&mut self.text, more)
+    }
+}
+
+/// Appends a text to another, with `?` in the place of each control character.
+pub fn push_cleaned(text: &mut Vec<u8>, more: &[u8]) -> Result<(), AllocError>
+    ensures ok { OnOk result (text.new.items ≡ text.old.items ++ cleaned more.now) }
+    ensures clean { has_no_control text.old.items ≡ true → has_no_control text.new.items ≡ true }
+{
+    for byte in more {
+        text.push(cleaned_byte(*byte))?;
+    }
+    Ok(())
+}
+
+/// The byte, or `?` for a control character.
+fn cleaned_byte(byte: u8) -> u8
+    ensures { result ≡ cleaned_byte byte }
+{
+    if byte < b' ' || byte == 0x7F {
+        b'?'
+    } else {
+        byte
+    }
+}
+
+/// Appends what is quoted between two texts.
+pub fn push_quoted(
+    text: &mut Wording,
+    before: &[u8],
+    quoted: &[u8],
+    behind: &[u8],
+) -> Result<(), AllocError> {
+    text.push(before)?;
+    text.push(quoted)?;
+    text.push(behind)
+}
+
+/// Appends a number between two texts.
+pub fn push_number(
+    text: &mut Wording,
+    before: &[u8],
+    number: i64,
+    behind: &[u8],
+) -> Result<(), AllocError> {
+    text.push(before)?;
+    text.push(Buffer::new().format(number).as_bytes())?;
+    text.push(behind)
+}
+
+/// Appends the number of a line behind a text, if the line is known.
+pub fn push_line(text: &mut Wording, before: &[u8], line: Option<u32>) -> Result<(), AllocError> {
+    match line {
+        Some(line) => push_number(text, before, i64::from(line), b""),
+        None => Ok(()),
+    }
+}

@@ -1,0 +1,13 @@
+use Rattle.std.proofs.Common.{refl}
+use Rattle.cps_state.specs.Made.{content_names}
+use Rattle.cps_chunk.proofs.MarkLemmas.{names-more, names-all}
+use Rattle.cps_chunk.proofs.key_filter.KeyFilter.mark_contents.Goals as goal
+
+pub loop-content-preserved : goal.loop-content-preserved
+loop-content-preserved c =
+    names-more c.args.hashing content_names c.args.contents.now c.loop-content.content-index c.content-item.result c.args.self.now c.loop-content.self c.mark_content.new.self c.loop-content-test.true
+    c.content-item.is c.loop-content.invariant c.mark_content.ensures.marked c.mark_content.ensures.kept
+
+pub returns-clause-marked : goal.returns-clause-marked
+returns-clause-marked c =
+    names-all c.args.hashing content_names c.args.contents.now c.args.contents.now c.loop-content.content-index c.args.self.now c.loop-content.self c.loop-content-test.false refl c.loop-content.invariant

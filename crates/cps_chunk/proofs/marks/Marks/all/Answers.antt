@@ -1,5 +1,0 @@
-use Rattle.cps_chunk.proofs.MarkLemmas.{full-marked}
-use Rattle.cps_chunk.proofs.marks.Marks.all.Goals as goal
-
-pub returns : goal.returns
-returns c = full-marked

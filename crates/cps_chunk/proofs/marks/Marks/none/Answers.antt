@@ -1,5 +1,0 @@
-use Rattle.cps_chunk.proofs.MarkLemmas.{none-has}
-use Rattle.cps_chunk.proofs.marks.Marks.none.Goals as goal
-
-pub returns : goal.returns
-returns c = none-has

@@ -1,7 +1,0 @@
-use Rattle.std.proofs.Common.{◌≡◌}
-use Rattle.cps_state.specs.Course.{last_put}
-use Rattle.cps_final.specs.Layout.{puts_of}
-use Rattle.cps_chunk.proofs.past.last_put.Given as goal
-
-abbrev pub invariant-loop-trace : goal.invariant-loop-trace
-invariant-loop-trace l = last_put (puts_of l.trace-iterator.iter.rest.now) l.key ≡ last_put (puts_of l.traces) l.key

@@ -1,0 +1,146 @@
+//! A filter of keys.
+ghost use Rattle.std.specs.Prelude.{◌≡◌, ◌<◌, ℕ, [], ◌∷◌, true, false, flat_map, map, List};
+ghost use Rattle.cps_state.specs.declared.hashing.Hashing.{Hashing as AHashing};
+ghost use Rattle.cps_state.specs.declared.key.Key.{Key as AKey};
+ghost use Rattle.cps_state.specs.declared.key.Key.TheVariants as key;
+ghost use Rattle.cps_state.specs.Made.{content_names};
+ghost use Rattle.cps_code.specs.Operand.{operand_names};
+ghost use Rattle.cps_chunk.specs.KeyFilter.{has, bit_of, AreMarked, HasAll, keys_put, keys_asked, keys_named};
+
+use cps_code::Hole;
+use cps_state::{Content, Hashing, Item, Key, Trace};
+use cps_text::Name;
+use std::hash::BuildHasher;
+
+/// The bits of a filter.
+pub const FILTER_BITS: usize = 2_048;
+
+const WORDS: usize = 32;
+
+/// A Bloom filter of keys, one bit a key: a key whose bit is 0 is none of those that were marked. Several keys may have one bit.
+#[derive(Clone, Copy)]
+pub struct KeyFilter {
+    bits: [u64; WORDS],
+}
+
+/// The number of a key's bit, from 0.
+pub fn bit_of(hashing: Hashing, key: Key) -> usize
+    ensures mark { result ≡ bit_of hashing key }
+    ensures bound { result < FILTER_BITS }
+{
+    (hashing.hash_one(key) >> 53) as usize
+}
+
+impl KeyFilter {
+    /// Of no key.
+    pub fn none() -> KeyFilter
+        ensures { (mark : ℕ) → has result mark ≡ false }
+    {
+        KeyFilter { bits: [0; WORDS] }
+    }
+
+    /// Of all keys.
+    pub fn all() -> KeyFilter
+        ensures { (hashing : AHashing) (keys : List AKey) → AreMarked hashing result keys }
+    {
+        KeyFilter {
+            bits: [u64::MAX; WORDS],
+        }
+    }
+
+    /// Whether a bit is 1.
+    pub fn has(&self, mark: usize) -> bool
+        requires { mark < FILTER_BITS }
+        ensures { result ≡ has self.now mark }
+    {
+        (self.bits[mark / 64] >> (mark % 64)) & 1 == 1
+    }
+
+    /// Marks a key.
+    fn mark(&mut self, hashing: Hashing, key: Key)
+        ensures marked { has self.new (bit_of hashing key) ≡ true }
+        ensures kept { HasAll self.old self.new }
+    {
+        let mark = bit_of(hashing, key);
+        self.bits[mark / 64] |= 1 << (mark % 64);
+    }
+
+    /// With all marks of others.
+    pub fn join(&mut self, other: &KeyFilter)
+        ensures kept { HasAll self.old self.new }
+        ensures joined { HasAll other.now self.new }
+    {
+        for i in 0..WORDS {
+            self.bits[i] |= other.bits[i];
+        }
+    }
+
+    /// Marks what a line puts.
+    pub fn mark_puts(&mut self, hashing: Hashing, trace: &Trace)
+        ensures marked { AreMarked hashing self.new (keys_put (trace.now ∷ [])) }
+        ensures kept { HasAll self.old self.new }
+    {
+        for put in trace.puts() {
+            self.mark(hashing, put.key);
+        }
+    }
+
+    /// Marks what a line asks.
+    pub fn mark_asks(&mut self, hashing: Hashing, trace: &Trace)
+        ensures marked { AreMarked hashing self.new (keys_asked (trace.now ∷ [])) }
+        ensures kept { HasAll self.old self.new }
+    {
+        for asked in trace.asks() {
+            self.mark(hashing, asked.key);
+        }
+    }
+
+    /// Marks the labels that the contents of a line name.
+    pub fn mark_names(&mut self, hashing: Hashing, trace: &Trace)
+        ensures marked { AreMarked hashing self.new (keys_named (trace.now ∷ [])) }
+        ensures kept { HasAll self.old self.new }
+    {
+        for item in trace.items() {
+            self.mark_contents(hashing, item.made.contents());
+        }
+    }
+
+    fn mark_contents(&mut self, hashing: Hashing, contents: &[Content])
+        ensures marked { AreMarked hashing self.new (map key.Label (flat_map content_names contents.now)) }
+        ensures kept { HasAll self.old self.new }
+    {
+        for content in contents {
+            self.mark_content(hashing, content);
+        }
+    }
+
+    fn mark_content(&mut self, hashing: Hashing, content: &Content)
+        ensures marked { AreMarked hashing self.new (map key.Label (content_names content.now)) }
+        ensures kept { HasAll self.old self.new }
+    {
+        match content {
+            Content::Instruction(form) => self.mark_holes(hashing, form.holes()),
+            Content::Value(_, expression) => self.mark_labels(hashing, expression.names()),
+            Content::Number(..) => {}
+            Content::Unsized(expression) => self.mark_labels(hashing, expression.names()),
+        }
+    }
+
+    fn mark_holes(&mut self, hashing: Hashing, holes: &[Hole])
+        ensures marked { AreMarked hashing self.new (map key.Label (flat_map (λ hole. operand_names hole.operand) holes.now)) }
+        ensures kept { HasAll self.old self.new }
+    {
+        for hole in holes {
+            self.mark_labels(hashing, hole.operand.names());
+        }
+    }
+
+    fn mark_labels(&mut self, hashing: Hashing, names: &[Name])
+        ensures marked { AreMarked hashing self.new (map key.Label names.now) }
+        ensures kept { HasAll self.old self.new }
+    {
+        for name in names {
+            self.mark(hashing, Key::Label(*name));
+        }
+    }
+}

@@ -1,0 +1,7 @@
+mod WorkedRows
+pub mod PartLemmas
+pub mod CutLemmas
+pub mod NumberLemmas
+pub mod SlotLemmas
+pub mod ReadingLemmas
+pub mod ShownLemmas

@@ -1,0 +1,196 @@
+-- An octal text, row after row.
+use Rattle.std.proofs.Common.{◌≡◌, ℕ, ◌+◌, ◌%◌, ◌<◌, Bool, true, false, cond, List, [], ◌∷◌, ◌++◌, Option, None, Some, refl, sym, ap, ◌∙◌, arith, append_assoc, append-nil}
+use Rattle.std.specs.List.{count_by, AllByRecursion}
+use Rattle.std.specs.Option.{option_or}
+use Rattle.std.proofs.lemmas.List.Sums.{fold-append, sum_by-cons}
+use Rattle.std.proofs.lemmas.Nat.{mod_below}
+use Rattle.cps_claims.specs.declared.layout.WordForm.{WordForm}
+use Rattle.cps_claims.specs.declared.layout.WordForm.TheVariants.{Central, Peripheral}
+use Rattle.cps_claims.specs.declared.layout.OctalLayout.{OctalLayout}
+use Rattle.cps_claims.specs.declared.reading.OctalReading.{OctalReading}
+use Rattle.cps_claims.specs.declared.reading.OctalReader.{OctalReader}
+use Rattle.cps_claims.specs.Words.{size_of}
+use Rattle.cps_claims.specs.Columns.{columns_read}
+use Rattle.cps_claims.specs.Parts.{parts_of}
+use Rattle.cps_claims.specs.Rows.{Row, read, blank, other, unread, row_of, rows_from}
+use Rattle.cps_claims.specs.Claims.{Claimed, digits_from, claims_from}
+use Rattle.cps_claims.specs.Reading.{is_read, is_blank_row, is_other, is_unread, unread_from, first_other_from, IsReading}
+use Rattle.cps_claims.specs.Code.Slots.{WordState, with_claim, after}
+use Rattle.cps_claims.specs.Code.States.{ReadingState, at_first, state_of, with_row, with_rows, Reads}
+
+-- one row, and then those behind it
+pub reads-more : (layout : OctalLayout) (old new : OctalReader) (row : List ℕ) (rows : List (List ℕ)) → old.layout ≡ layout → Reads old row new
+    → with_rows layout.form (new.number + 1) (state_of new.reading) (rows_from layout new.stand rows)
+    ≡ with_rows layout.form (old.number + 1) (state_of old.reading) (rows_from layout old.stand (row ∷ rows))
+reads-more layout old new row rows same reads =
+    (λ i. with_rows layout.form (reads.number i + 1) (reads.state i) (rows_from layout (reads.stand i) rows))
+    ∙ (λ i. with_rows layout.form (old.number + 1 + 1)
+    (with_row (same i).form (old.number + 1) (state_of old.reading) (row_of (same i) old.stand (parts_of (columns_read (same i).columns row))).0)
+    (rows_from layout (row_of (same i) old.stand (parts_of (columns_read (same i).columns row))).1 rows))
+
+-- behind the last row
+pub at-end : (layout : OctalLayout) (reader : OctalReader) (rows : List (List ℕ)) → rows ≡ []
+    → state_of reader.reading ≡ with_rows layout.form (reader.number + 1) (state_of reader.reading) (rows_from layout reader.stand rows)
+at-end layout reader rows none = ap (λ l. with_rows layout.form (reader.number + 1) (state_of reader.reading) (rows_from layout reader.stand l)) (sym none)
+
+-- ---- all rows
+
+after-append : (states : ℕ → WordState) (claims more : List Claimed) → after states (claims ++ more) ≡ after (after states claims) more
+after-append states claims more = fold-append with_claim states claims more
+
+all_words : (form : WordForm) (number : ℕ) (state : ReadingState) (rows : List Row)
+    → (with_rows form number state rows).words ≡ after state.words (claims_from (size_of form) number rows)
+all_words form number state [] = refl
+all_words form number state (read claim ∷ rows) =
+    all_words form (number + 1) (with_row form number state (read claim)) rows
+    ∙ sym (after-append state.words (digits_from (size_of form) number claim.address claim.place claim.digits) (claims_from (size_of form) (number + 1) rows))
+all_words form number state (blank ∷ rows) = all_words form (number + 1) (with_row form number state blank) rows
+all_words form number state (other ∷ rows) = all_words form (number + 1) (with_row form number state other) rows
+all_words form number state (unread reason ∷ rows) = all_words form (number + 1) (with_row form number state (unread reason)) rows
+
+one-more : (test : Row → Bool) (row : Row) (rows : List Row) (old later : ℕ) → test row ≡ true → later ≡ old + 1 + count_by test rows
+    → later ≡ old + count_by test (row ∷ rows)
+one-more test row rows old later is h =
+    let e : count_by test (row ∷ rows) ≡ 1 + count_by test rows =
+    sum_by-cons (λ x. cond (test x) 1 0) row rows ∙ ap (λ b. cond b 1 0 + count_by test rows) is in
+    omega (arith, e, h)
+
+none-more : (test : Row → Bool) (row : Row) (rows : List Row) (old later : ℕ) → test row ≡ false → later ≡ old + count_by test rows
+    → later ≡ old + count_by test (row ∷ rows)
+none-more test row rows old later is h =
+    let e : count_by test (row ∷ rows) ≡ 0 + count_by test rows =
+    sum_by-cons (λ x. cond (test x) 1 0) row rows ∙ ap (λ b. cond b 1 0 + count_by test rows) is in
+    omega (arith, e, h)
+
+all_read : (form : WordForm) (number : ℕ) (state : ReadingState) (rows : List Row) → (with_rows form number state rows).counts.read ≡ state.counts.read + count_by is_read rows
+all_read form number state [] = omega arith
+all_read form number state (read claim ∷ rows) =
+    one-more is_read (read claim) rows state.counts.read _ refl (all_read form (number + 1) (with_row form number state (read claim)) rows)
+all_read form number state (blank ∷ rows) =
+    none-more is_read blank rows state.counts.read _ refl (all_read form (number + 1) (with_row form number state blank) rows)
+all_read form number state (other ∷ rows) =
+    none-more is_read other rows state.counts.read _ refl (all_read form (number + 1) (with_row form number state other) rows)
+all_read form number state (unread reason ∷ rows) =
+    none-more is_read (unread reason) rows state.counts.read _ refl (all_read form (number + 1) (with_row form number state (unread reason)) rows)
+
+all_blank : (form : WordForm) (number : ℕ) (state : ReadingState) (rows : List Row) → (with_rows form number state rows).counts.blank ≡ state.counts.blank + count_by is_blank_row rows
+all_blank form number state [] = omega arith
+all_blank form number state (read claim ∷ rows) =
+    none-more is_blank_row (read claim) rows state.counts.blank _ refl (all_blank form (number + 1) (with_row form number state (read claim)) rows)
+all_blank form number state (blank ∷ rows) =
+    one-more is_blank_row blank rows state.counts.blank _ refl (all_blank form (number + 1) (with_row form number state blank) rows)
+all_blank form number state (other ∷ rows) =
+    none-more is_blank_row other rows state.counts.blank _ refl (all_blank form (number + 1) (with_row form number state other) rows)
+all_blank form number state (unread reason ∷ rows) =
+    none-more is_blank_row (unread reason) rows state.counts.blank _ refl (all_blank form (number + 1) (with_row form number state (unread reason)) rows)
+
+all_other : (form : WordForm) (number : ℕ) (state : ReadingState) (rows : List Row) → (with_rows form number state rows).counts.other ≡ state.counts.other + count_by is_other rows
+all_other form number state [] = omega arith
+all_other form number state (read claim ∷ rows) =
+    none-more is_other (read claim) rows state.counts.other _ refl (all_other form (number + 1) (with_row form number state (read claim)) rows)
+all_other form number state (blank ∷ rows) =
+    none-more is_other blank rows state.counts.other _ refl (all_other form (number + 1) (with_row form number state blank) rows)
+all_other form number state (other ∷ rows) =
+    one-more is_other other rows state.counts.other _ refl (all_other form (number + 1) (with_row form number state other) rows)
+all_other form number state (unread reason ∷ rows) =
+    none-more is_other (unread reason) rows state.counts.other _ refl (all_other form (number + 1) (with_row form number state (unread reason)) rows)
+
+all_unread : (form : WordForm) (number : ℕ) (state : ReadingState) (rows : List Row) → (with_rows form number state rows).counts.unread ≡ state.counts.unread + count_by is_unread rows
+all_unread form number state [] = omega arith
+all_unread form number state (read claim ∷ rows) =
+    none-more is_unread (read claim) rows state.counts.unread _ refl (all_unread form (number + 1) (with_row form number state (read claim)) rows)
+all_unread form number state (blank ∷ rows) =
+    none-more is_unread blank rows state.counts.unread _ refl (all_unread form (number + 1) (with_row form number state blank) rows)
+all_unread form number state (other ∷ rows) =
+    none-more is_unread other rows state.counts.unread _ refl (all_unread form (number + 1) (with_row form number state other) rows)
+all_unread form number state (unread reason ∷ rows) =
+    one-more is_unread (unread reason) rows state.counts.unread _ refl (all_unread form (number + 1) (with_row form number state (unread reason)) rows)
+
+all_rows : (form : WordForm) (number : ℕ) (state : ReadingState) (rows : List Row) → (with_rows form number state rows).unread_rows ≡ state.unread_rows ++ unread_from number rows
+all_rows form number state [] = sym (append-nil state.unread_rows)
+all_rows form number state (read claim ∷ rows) = all_rows form (number + 1) (with_row form number state (read claim)) rows
+all_rows form number state (blank ∷ rows) = all_rows form (number + 1) (with_row form number state blank) rows
+all_rows form number state (other ∷ rows) = all_rows form (number + 1) (with_row form number state other) rows
+all_rows form number state (unread reason ∷ rows) =
+    all_rows form (number + 1) (with_row form number state (unread reason)) rows
+    ∙ append_assoc state.unread_rows (record { number = number; reason = reason } ∷ []) (unread_from (number + 1) rows)
+
+or-none : (first : Option ℕ) → first ≡ option_or first None
+or-none None = refl
+or-none (Some first) = refl
+
+or-more : (first : Option ℕ) (number : ℕ) (later : Option ℕ) → option_or (option_or first (Some number)) later ≡ option_or first (Some number)
+or-more None number later = refl
+or-more (Some first) number later = refl
+
+all_first : (form : WordForm) (number : ℕ) (state : ReadingState) (rows : List Row) → (with_rows form number state rows).first_other ≡ option_or state.first_other (first_other_from number rows)
+all_first form number state [] = or-none state.first_other
+all_first form number state (read claim ∷ rows) = all_first form (number + 1) (with_row form number state (read claim)) rows
+all_first form number state (blank ∷ rows) = all_first form (number + 1) (with_row form number state blank) rows
+all_first form number state (other ∷ rows) =
+    all_first form (number + 1) (with_row form number state other) rows ∙ or-more state.first_other number (first_other_from (number + 1) rows)
+all_first form number state (unread reason ∷ rows) = all_first form (number + 1) (with_row form number state (unread reason)) rows
+
+-- ---- places
+
+some_size : (form : WordForm) → (0 < size_of form) × (size_of form < 21)
+some_size Central = (omega arith, omega arith)
+some_size Peripheral = (omega arith, omega arith)
+
+place-below : (form : WordForm) (at : ℕ) → at % size_of form < 20
+place-below form at = let size = some_size form in let below = mod_below at (size_of form) size.0 in omega (arith, below, size.1)
+
+places_append : (xs ys : List Claimed) → AllByRecursion (λ (claim : Claimed). claim.place < 20) xs → AllByRecursion (λ (claim : Claimed). claim.place < 20) ys
+    → AllByRecursion (λ (claim : Claimed). claim.place < 20) (xs ++ ys)
+places_append [] ys px py = py
+places_append (x ∷ xs) ys px py = (px.0, places_append xs ys px.1 py)
+
+places_digits : (form : WordForm) (row address at : ℕ) (digits : List ℕ) → AllByRecursion (λ (claim : Claimed). claim.place < 20) (digits_from (size_of form) row address at digits)
+places_digits form row address at [] = tt
+places_digits form row address at (digit ∷ digits) = (place-below form at, places_digits form row address (at + 1) digits)
+
+places_all : (form : WordForm) (number : ℕ) (rows : List Row) → AllByRecursion (λ (claim : Claimed). claim.place < 20) (claims_from (size_of form) number rows)
+places_all form number [] = tt
+places_all form number (read claim ∷ rows) =
+    places_append (digits_from (size_of form) number claim.address claim.place claim.digits) (claims_from (size_of form) (number + 1) rows)
+    (places_digits form number claim.address claim.place claim.digits) (places_all form (number + 1) rows)
+places_all form number (blank ∷ rows) = places_all form (number + 1) rows
+places_all form number (other ∷ rows) = places_all form (number + 1) rows
+places_all form number (unread reason ∷ rows) = places_all form (number + 1) rows
+
+rows_append : (xs ys : List Claimed) → AllByRecursion (λ (claim : Claimed). 0 < claim.row) xs → AllByRecursion (λ (claim : Claimed). 0 < claim.row) ys
+    → AllByRecursion (λ (claim : Claimed). 0 < claim.row) (xs ++ ys)
+rows_append [] ys px py = py
+rows_append (x ∷ xs) ys px py = (px.0, rows_append xs ys px.1 py)
+
+rows_digits : (size row address at : ℕ) (digits : List ℕ) → 0 < row → AllByRecursion (λ (claim : Claimed). 0 < claim.row) (digits_from size row address at digits)
+rows_digits size row address at [] some = tt
+rows_digits size row address at (digit ∷ digits) some = (some, rows_digits size row address (at + 1) digits some)
+
+rows_all : (size number : ℕ) (rows : List Row) → 0 < number → AllByRecursion (λ (claim : Claimed). 0 < claim.row) (claims_from size number rows)
+rows_all size number [] some = tt
+rows_all size number (read claim ∷ rows) some =
+    rows_append (digits_from size number claim.address claim.place claim.digits) (claims_from size (number + 1) rows)
+    (rows_digits size number claim.address claim.place claim.digits some) (rows_all size (number + 1) rows (omega arith))
+rows_all size number (blank ∷ rows) some = rows_all size (number + 1) rows (omega arith)
+rows_all size number (other ∷ rows) some = rows_all size (number + 1) rows (omega arith)
+rows_all size number (unread reason ∷ rows) some = rows_all size (number + 1) rows (omega arith)
+
+zero-more : (a b : ℕ) → a ≡ 0 + b → a ≡ b
+zero-more a b h = omega arith
+
+-- a whole text
+pub is-reading : (layout : OctalLayout) (rows : List Row) (reading : OctalReading) → state_of reading ≡ with_rows layout.form 1 at_first rows → IsReading layout rows reading
+is-reading layout rows reading is = record {
+  count_read = zero-more _ _ (ap (λ (s : ReadingState). s.counts.read) is ∙ all_read layout.form 1 at_first rows);
+  count_blank = zero-more _ _ (ap (λ (s : ReadingState). s.counts.blank) is ∙ all_blank layout.form 1 at_first rows);
+  count_other = zero-more _ _ (ap (λ (s : ReadingState). s.counts.other) is ∙ all_other layout.form 1 at_first rows);
+  count_unread = zero-more _ _ (ap (λ (s : ReadingState). s.counts.unread) is ∙ all_unread layout.form 1 at_first rows);
+  first_other = ap (λ (s : ReadingState). s.first_other) is ∙ all_first layout.form 1 at_first rows;
+  unread_rows = ap (λ (s : ReadingState). s.unread_rows) is ∙ all_rows layout.form 1 at_first rows;
+  words = record {
+    states = ap (λ (s : ReadingState). s.words) is ∙ all_words layout.form 1 at_first rows;
+    places = places_all layout.form 1 rows;
+    rows = rows_all (size_of layout.form) 1 rows (omega arith);
+  };
+}

@@ -1,0 +1,307 @@
+-- Worked rows. What each gives was worked out by hand.
+use Prim.Native.Char.{code}
+use Rattle.std.proofs.Common.{◌≡◌, ℕ, true, false, List, [], ◌∷◌, refl, Option, None, Some, codes}
+use Rattle.std.specs.Prelude.{◌==◌, if◌then◌else◌}
+use Rattle.cps_claims.specs.Columns.{columns_read}
+use Rattle.cps_claims.specs.Counts.{is_known_at, is_mark_at}
+use Rattle.cps_claims.specs.Shown.{shown_digit, again_digit, first_row as first_row_of, last_row, again_row}
+use Rattle.cps_claims.specs.Reading.{unread_from}
+use Rattle.cps_claims.specs.Claims.{Claimed, claims_from, Words, differs}
+use Rattle.cps_claims.specs.Parts.{Part, parts_of, looks_like_digits, address_in}
+use Rattle.cps_claims.specs.declared.layout.OctalLayout.{OctalLayout}
+use Rattle.cps_claims.specs.declared.layout.WordForm.TheVariants.{Central, Peripheral}
+use Rattle.cps_claims.specs.declared.layout.WordOffset.{WordOffset}
+use Rattle.cps_claims.specs.declared.layout.WordOffset.TheVariants.{Up, Down}
+use Rattle.cps_claims.specs.declared.stand.RowStand.{RowStand}
+use Rattle.cps_claims.specs.declared.stand.WordPlace.{WordPlace}
+use Rattle.cps_claims.specs.declared.row.UnreadReason.TheVariants.{DamagedDigits, GroupOf, NoAddress, BehindUnread, NoSuchAddress}
+use Rattle.cps_claims.specs.Rows.{Row, row_of, at_first, read, blank, other, unread}
+
+-- ---- parts
+
+colon : address_in (codes "001000:") ≡ Some 512
+colon = refl
+
+letters : looks_like_digits (codes "46OOO") ≡ true
+letters = refl
+
+operation : looks_like_digits (codes "SX1") ≡ false
+operation = refl
+
+parts : parts_of (codes "0\t76110 +") ≡ record { column = 0; text = codes "0" } ∷ record { column = 8; text = codes "76110" } ∷ record { column = 14; text = codes "+" } ∷ []
+parts = refl
+
+-- ---- a row
+
+-- what a row is, of these parts, where it stands first
+abbrev central : OctalLayout
+central = record { form = Central; columns = None; offset = Up 0 }
+
+abbrev first_row : List ℕ → Row
+first_row row = (row_of central at_first (parts_of row)).0
+
+abbrev stand : Option WordPlace → Option ℕ → Option ℕ → RowStand
+stand place column lost = record { place = place; column = column; lost = lost }
+
+abbrev place : ℕ → ℕ → Option WordPlace
+place address count = Some (record { address = address; count = count })
+
+abbrev claim : ℕ → ℕ → List ℕ → Row
+claim address place digits = read (record { address = address; place = place; digits = digits })
+
+with-address : row_of central at_first (parts_of (codes "   0  76110  SX1")) ≡ (claim 0 0 (codes "76110"), stand (place 0 5) (Some 6) None)
+with-address = refl
+
+-- in the layout of COMPASS: behind it, in the same column
+continued : row_of central (stand (place 0 5) (Some 6) None) (parts_of (codes "      76330  SX3")) ≡ (claim 0 5 (codes "76330"), stand (place 0 10) (Some 6) None)
+continued = refl
+
+-- ten digits are no address, wherever they stand
+long : row_of central (stand (place 0 5) (Some 6) None) (parts_of (codes "7120002000 +")) ≡ (claim 0 5 (codes "7120002000"), stand (place 0 15) (Some 6) None)
+long = refl
+
+-- they stay in their word
+too-long : row_of central (stand (place 0 15) (Some 6) None) (parts_of (codes "7120002000 +")) ≡ (unread NoAddress, stand None (Some 6) (Some 0))
+too-long = refl
+
+-- behind a row that wasn't read nothing goes on, up to another address
+behind-lost : row_of central (stand None (Some 6) (Some 0)) (parts_of (codes "      76330")) ≡ (unread BehindUnread, stand None (Some 6) (Some 0))
+behind-lost = refl
+
+headings-of-a-page : first_row (codes "1975 03 14 PAGE 12") ≡ unread NoAddress
+headings-of-a-page = refl
+
+headings-of-columns : first_row (codes " 0 1 2") ≡ unread (GroupOf 1)
+headings-of-columns = refl
+
+title : first_row (codes "1 DUMP 75/03") ≡ other
+title = refl
+
+lost-digit : row_of central at_first (parts_of (codes "10 7611 71200")) ≡ (unread (GroupOf 4), stand None (Some 3) (Some 8))
+lost-digit = refl
+
+-- an address on each row of a word
+same-address : row_of central (stand (place 64 10) (Some 4) None) (parts_of (codes "100 6120000002")) ≡ (claim 64 10 (codes "6120000002"), stand (place 64 20) (Some 4) None)
+same-address = refl
+
+-- a word that stands once more
+once-more : row_of central (stand (place 64 20) (Some 4) None) (parts_of (codes "100 6120000002")) ≡ (claim 64 0 (codes "6120000002"), stand (place 64 10) (Some 4) None)
+once-more = refl
+
+letters-in-digits : first_row (codes "0 76110 7l200") ≡ unread DamagedDigits
+letters-in-digits = refl
+
+characters-behind : first_row (codes "0 76110 *AB 12*") ≡ claim 0 0 (codes "76110")
+characters-behind = refl
+
+nothing : first_row (codes "  \t ") ≡ blank
+nothing = refl
+
+-- ---- rows of listings and dumps; a long row is written as its parts
+
+abbrev part : ℕ → List ℕ → Part
+part column text = record { column = column; text = text }
+
+-- a word
+whole-word : row_of central at_first (part 0 (codes "000000") ∷ part 7 (codes "76110712000100076330") ∷ [])
+    ≡ (claim 0 0 (codes "76110712000100076330"), stand (place 0 20) (Some 7) None)
+whole-word = refl
+
+-- two words of a dump; behind them stands the second
+two-words : row_of central at_first
+    (part 0 (codes "000000") ∷ part 8 (codes "76110") ∷ part 14 (codes "71200") ∷ part 20 (codes "01000") ∷ part 26 (codes "76330")
+    ∷ part 33 (codes "73412") ∷ part 39 (codes "46000") ∷ part 45 (codes "46000") ∷ part 51 (codes "46000") ∷ [])
+    ≡ (claim 0 0 (codes "7611071200010007633073412460004600046000"), stand (place 1 20) (Some 8) None)
+two-words = refl
+
+-- an address that stands twice: both rows are read
+twice : row_of central (stand (place 0 20) (Some 7) None) (part 0 (codes "000000") ∷ part 7 (codes "76110712000200076330") ∷ [])
+    ≡ (claim 0 0 (codes "76110712000200076330"), stand (place 0 20) (Some 7) None)
+twice = refl
+
+-- the row of an instruction, in the layout of COMPASS
+instruction : row_of central at_first (part 16 (codes "0") ∷ part 19 (codes "76110") ∷ part 48 (codes "SX1") ∷ part 55 (codes "B1") ∷ [])
+    ≡ (claim 0 0 (codes "76110"), stand (place 0 5) (Some 19) None)
+instruction = refl
+
+-- the next one, whose code has 30 bits
+second-instruction : row_of central (stand (place 0 5) (Some 19) None) (part 19 (codes "7120002000") ∷ part 30 (codes "+") ∷ part 48 (codes "SX2") ∷ [])
+    ≡ (claim 0 5 (codes "7120002000"), stand (place 0 15) (Some 19) None)
+second-instruction = refl
+
+-- a digit is lost from a word
+lost-in-word : row_of central at_first (part 0 (codes "000000") ∷ part 7 (codes "76110") ∷ part 13 (codes "7120") ∷ part 18 (codes "01000") ∷ part 24 (codes "76330") ∷ [])
+    ≡ (unread (GroupOf 4), stand None (Some 7) (Some 0))
+lost-in-word = refl
+
+-- illegible digits are claimed as marks
+illegible : row_of central at_first (part 0 (codes "000000") ∷ part 7 (codes "76110") ∷ part 13 (codes "71200") ∷ part 19 (codes "0?0._") ∷ part 25 (codes "76330") ∷ [])
+    ≡ (claim 0 0 (codes "76110712000?0._76330"), stand (place 0 20) (Some 7) None)
+illegible = refl
+
+-- groups of other lengths that fill a word, as of 42 and 18 bits
+fields : row_of central at_first (part 0 (codes "10") ∷ part 3 (codes "04000001034600") ∷ part 18 (codes "046000") ∷ [])
+    ≡ (claim 8 0 (codes "04000001034600046000"), stand (place 8 20) (Some 3) None)
+fields = refl
+
+-- a row of this program's own listing
+own-listing : row_of central at_first (part 9 (codes "000000") ∷ part 16 (codes "1") ∷ part 42 (codes "1") ∷ part 54 (codes "VFD") ∷ [])
+    ≡ (unread (GroupOf 1), stand None (Some 16) (Some 0))
+own-listing = refl
+
+-- a letter among the digits, and the row behind it
+letter : row_of central at_first (part 16 (codes "0") ∷ part 19 (codes "7611O") ∷ part 48 (codes "SX1") ∷ [])
+    ≡ (unread DamagedDigits, stand None (Some 19) (Some 0))
+letter = refl
+
+behind-letter : row_of central (stand None (Some 19) (Some 0)) (part 19 (codes "7120001000") ∷ part 30 (codes "+") ∷ [])
+    ≡ (unread BehindUnread, stand None (Some 19) (Some 0))
+behind-letter = refl
+
+-- another address is read again; so is a whole word at the same one
+other-address : row_of central (stand None (Some 19) (Some 0)) (part 16 (codes "1") ∷ part 19 (codes "73412") ∷ [])
+    ≡ (claim 1 0 (codes "73412"), stand (place 1 5) (Some 19) None)
+other-address = refl
+
+same-parcel : row_of central (stand None (Some 19) (Some 0)) (part 16 (codes "0") ∷ part 19 (codes "73412") ∷ [])
+    ≡ (unread BehindUnread, stand None (Some 19) (Some 0))
+same-parcel = refl
+
+same-word : row_of central (stand None (Some 19) (Some 0)) (part 0 (codes "000000") ∷ part 7 (codes "76110712000100076330") ∷ [])
+    ≡ (claim 0 0 (codes "76110712000100076330"), stand (place 0 20) (Some 7) None)
+same-word = refl
+
+-- rows without an address stay in their word
+behind-word : row_of central (stand (place 0 20) (Some 7) None) (part 7 (codes "73412") ∷ part 13 (codes "46000") ∷ part 19 (codes "46000") ∷ part 25 (codes "46000") ∷ [])
+    ≡ (unread NoAddress, stand None (Some 7) (Some 0))
+behind-word = refl
+
+-- characters behind the words; a part that may be a group which was misread
+characters : row_of central at_first (part 0 (codes "000002") ∷ part 8 (codes "73510460004600046000") ∷ part 34 (codes "#E") ∷ part 37 (codes "12") ∷ [])
+    ≡ (claim 2 0 (codes "73510460004600046000"), stand (place 2 20) (Some 8) None)
+characters = refl
+
+misread : row_of central at_first (part 0 (codes "000001") ∷ part 8 (codes "73412460004600046000") ∷ part 34 (codes "46OOO") ∷ [])
+    ≡ (unread DamagedDigits, stand None (Some 8) (Some 1))
+misread = refl
+
+first-misread : row_of central at_first (part 0 (codes "000002") ∷ part 7 (codes "735l0") ∷ part 13 (codes "46000") ∷ [])
+    ≡ (unread DamagedDigits, stand None (Some 7) (Some 2))
+first-misread = refl
+
+-- an address with a comment, and a statement of a listing
+storage : first_row (codes "100 BSS 5") ≡ other
+storage = refl
+
+comment : first_row (codes "* DUMP") ≡ other
+comment = refl
+
+-- ---- a peripheral processor
+
+abbrev peripheral : OctalLayout
+peripheral = record { form = Peripheral; columns = None; offset = Up 0 }
+
+words-of-four : row_of peripheral at_first (parts_of (codes "0100 1400 3411")) ≡ (claim 64 0 (codes "14003411"), stand (place 65 4) (Some 5) None)
+words-of-four = refl
+
+headings-of-words : row_of peripheral at_first (parts_of (codes "   0 1 2 3 4")) ≡ (unread (GroupOf 1), stand None (Some 5) (Some 0))
+headings-of-words = refl
+
+-- ---- an offset
+
+abbrev moved_by : WordOffset → OctalLayout
+moved_by offset = record { form = Central; columns = None; offset = offset }
+
+-- where the row stands is the text's address
+down : row_of (moved_by (Down 2048)) at_first (parts_of (codes "004001: 73412")) ≡ (claim 1 0 (codes "73412"), stand (place 2049 5) (Some 8) None)
+down = refl
+
+too-low : row_of (moved_by (Down 2048)) at_first (parts_of (codes "003777: 73412")) ≡ (unread NoSuchAddress, stand None (Some 8) (Some 2047))
+too-low = refl
+
+up : row_of (moved_by (Up 1)) at_first (parts_of (codes "777776 73412")) ≡ (claim 262143 0 (codes "73412"), stand (place 262142 5) (Some 7) None)
+up = refl
+
+too-high : row_of (moved_by (Up 1)) at_first (parts_of (codes "777777 73412")) ≡ (unread NoSuchAddress, stand None (Some 7) (Some 262143))
+too-high = refl
+
+-- ---- columns
+
+cut-columns : columns_read (Some (record { first = 3; last = 9 })) (codes "AE 0 7611 3") ≡ codes " 0 7611"
+cut-columns = refl
+
+-- ---- claims
+
+abbrev said : ℕ → ℕ → ℕ → ℕ → Claimed
+said row address place digit = record { row = row; address = address; place = place; digit = digit }
+
+-- digits reach into the next word
+reaching : claims_from 4 7 (blank ∷ claim 64 3 (codes "01") ∷ []) ≡ said 8 64 3 48 ∷ said 8 65 0 49 ∷ []
+reaching = refl
+
+-- a deck of one word, with one digit of it
+abbrev deck : List ℕ → Words
+deck word address = if address == 0 then Some word else None
+
+agreeing : differs (deck (codes "7611")) (said 1 0 1 (code "6") ∷ said 2 0 1 (code "6") ∷ said 3 0 2 (code "?") ∷ []) 0 ≡ false
+agreeing = refl
+
+-- two values of one digit never both agree
+contrary : differs (deck (codes "7611")) (said 1 0 1 (code "6") ∷ said 2 0 1 (code "7") ∷ []) 0 ≡ true
+contrary = refl
+
+no-word : differs (deck (codes "7611")) (said 1 5 0 (code "0") ∷ []) 5 ≡ true
+no-word = refl
+
+no-digit : differs (deck (codes "7611")) (said 1 0 4 (code "0") ∷ []) 0 ≡ true
+no-digit = refl
+
+nothing-said : differs (deck (codes "7611")) [] 0 ≡ false
+nothing-said = refl
+
+-- ---- what is shown: at place 0 the same digit twice and then another, at place 1 a mark and then a digit, at place 2 a mark
+
+abbrev claims : List Claimed
+claims = said 2 0 0 (code "7") ∷ said 2 0 1 (code ".") ∷ said 3 0 0 (code "7") ∷ said 4 0 1 (code "5") ∷ said 5 0 2 (code "_") ∷ said 6 0 0 (code "3") ∷ said 7 0 0 (code "1") ∷ []
+
+first-shown : shown_digit claims 0 0 ≡ code "7"
+first-shown = refl
+
+known-shown : shown_digit claims 0 1 ≡ code "5"
+known-shown = refl
+
+mark-shown : shown_digit claims 0 2 ≡ code "?"
+mark-shown = refl
+
+nothing-shown : shown_digit claims 0 3 ≡ code " "
+nothing-shown = refl
+
+denied : again_digit claims 0 0 ≡ code "3"
+denied = refl
+
+not-denied : again_digit claims 0 1 ≡ code " "
+not-denied = refl
+
+first-row : first_row_of claims 0 ≡ 2
+first-row = refl
+
+last-row : last_row claims 0 ≡ 5
+last-row = refl
+
+again-row : again_row claims 0 ≡ 6
+again-row = refl
+
+known-there : is_known_at claims 0 0 ≡ true
+known-there = refl
+
+mark-replaced : is_mark_at claims 0 1 ≡ false
+mark-replaced = refl
+
+mark-there : is_mark_at claims 0 2 ≡ true
+mark-there = refl
+
+-- ---- the rows of a text, one after another
+
+listed : unread_from 1 (other ∷ unread (GroupOf 4) ∷ claim 1 0 (codes "73412") ∷ unread DamagedDigits ∷ blank ∷ [])
+    ≡ record { number = 2; reason = GroupOf 4 } ∷ record { number = 4; reason = DamagedDigits } ∷ []
+listed = refl

@@ -1,0 +1,26 @@
+-- For the functions that read a row, not part of what a reader believes: what they found.
+use Rattle.std.specs.Prelude.{ℕ, ◌+◌, ◌≤◌, List, length}
+use Rattle.cps_claims.specs.declared.layout.WordForm.{WordForm}
+use Rattle.cps_claims.specs.declared.row.RowReading.{RowReading}
+use Rattle.cps_claims.specs.declared.row.RowReading.TheVariants as code
+use Rattle.cps_claims.specs.declared.stand.RowStand.{RowStand}
+use Rattle.cps_claims.specs.Words.{size_of, most_words}
+use Rattle.cps_claims.specs.Rows.{Row, read, blank, other, unread, words_in}
+
+-- a row that has these digits
+abbrev pub row_with : List ℕ → RowReading → Row
+row_with digits (code.Read address place) = read (record { address = address; place = place; digits = digits })
+row_with digits code.Blank = blank
+row_with digits code.Other = other
+row_with digits (code.Unread reason) = unread reason
+
+-- and where it stands then
+abbrev pub row_found : List ℕ → RowReading × RowStand → Row × RowStand
+row_found digits found = (row_with digits found.0, found.1)
+
+-- a row that is read begins in a word, and its words have addresses
+abbrev pub IsWithin : WordForm → List ℕ → RowReading → Type 0
+IsWithin form digits (code.Read address place) = (place ≤ 20) × (address + words_in (size_of form) (place + length digits) ≤ most_words)
+IsWithin form digits code.Blank = Unit {0}
+IsWithin form digits code.Other = Unit {0}
+IsWithin form digits (code.Unread reason) = Unit {0}

@@ -1,0 +1,10 @@
+pub mod Words
+pub mod Columns
+pub mod Parts
+pub mod Rows
+pub mod Claims
+pub mod Counts
+pub mod Shown
+pub mod Reading
+pub mod Agreement
+pub mod Code

@@ -1,8 +1,0 @@
-use Rattle.std.proofs.Common.{◌≡◌, drop}
-use Rattle.cps_final.specs.Changes.{settled}
-use Rattle.cps_final.specs.Code.Kept.{changes_in}
-use Rattle.cps_final.proofs.changes.Changes.settle.Given as goal
-
--- what is left settles what is there to the same end
-abbrev pub invariant-loop-put : goal.invariant-loop-put
-invariant-loop-put l = settled (changes_in l.self) (drop l.put-index l.puts) ≡ settled (changes_in l.fn.self) l.puts

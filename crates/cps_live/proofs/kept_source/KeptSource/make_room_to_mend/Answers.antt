@@ -1,6 +1,0 @@
-use Rattle.std.proofs.Common.{refl}
-use Rattle.cps_live.proofs.KeptLemmas.{kept-same}
-use Rattle.cps_live.proofs.kept_source.KeptSource.make_room_to_mend.Goals as goal
-
-pub returns-clause-kept : goal.returns-clause-kept
-returns-clause-kept c = kept-same c.requires refl refl refl refl refl refl c.make_room.ensures.same refl

@@ -1,0 +1,6 @@
+use Rattle.std.proofs.Common.{refl}
+use Rattle.cps_live.proofs.KeptLemmas.{kept-same}
+use Rattle.cps_live.proofs.kept_source.KeptSource.make_room_to_patch.Goals as goal
+
+pub returns-clause-kept : goal.returns-clause-kept
+returns-clause-kept c = kept-same c.requires refl refl refl refl refl refl c.make_room.ensures.same refl

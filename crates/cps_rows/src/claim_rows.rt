@@ -1,0 +1,154 @@
+//! What the rows of an octal text are, and which digits they claim.
+use super::assertions::{assert_row, assert_row_text};
+use cps_claims::{
+    OctalLayout, OctalReading, ReadColumns, UnreadReason, WordForm, WordOffset, read_octal,
+};
+use cps_text::push_octal;
+use std::alloc::Global;
+use std::process::Abort;
+
+/// The words of the central processor, all columns, and addresses as they are written.
+const CENTRAL: OctalLayout = OctalLayout {
+    form: WordForm::Central,
+    columns: None,
+    offset: WordOffset::Up(0),
+};
+
+fn reading(rt: &impl Abort, alloc: Global, text: &str, layout: OctalLayout) -> OctalReading {
+    read_octal(alloc, text.as_bytes(), layout).expect(rt, "memory")
+}
+
+/// How many rows are read, blank, other text, and not read.
+fn counts_of(reading: &OctalReading) -> (usize, usize, usize, usize) {
+    let counts = reading.counts;
+    (counts.read, counts.blank, counts.other, counts.unread)
+}
+
+/// The number of a row that isn't read, and why: a letter, and the digits of a group that is wrong.
+fn unread_at(reading: &OctalReading, at: usize) -> Option<(usize, u8, usize)> {
+    let row = reading.unread.get(at)?;
+    let (reason, digits) = match row.reason {
+        UnreadReason::DamagedDigits => (b'D', 0),
+        UnreadReason::GroupOf(digits) => (b'G', digits),
+        UnreadReason::NoAddress => (b'A', 0),
+        UnreadReason::BehindUnread => (b'B', 0),
+        UnreadReason::NoSuchAddress => (b'S', 0),
+    };
+    Some((row.number, reason, digits))
+}
+
+/// The digits that are shown of a word, and the contrary ones.
+fn shown_at(rt: &impl Abort, alloc: Global, reading: &OctalReading, address: u32) -> Vec<u8> {
+    let word = reading.words.word(address);
+    let mut text = Vec::new(alloc);
+    for digit in &word.digits {
+        text.push(digit.shown).expect(rt, "memory");
+    }
+    text.push(b'|').expect(rt, "memory");
+    for digit in &word.digits {
+        text.push(digit.again).expect(rt, "memory");
+    }
+    text
+}
+
+/// A listing of a few words: rows without an address, a group of four digits and the row behind it, a heading, a blank row, a letter for a
+/// digit, and a digit that nobody can read.
+const LISTING: &str =
+    "   225   51300 00262  SA3     262B\n         12631        BX6     X3+X1\n         4600\n         46000\nCOMPASS  PAGE   1\n\n   226   5130O\n   227   0000?0000\n   230   0000?00000";
+
+#[test]
+fn tells_what_each_row_is(rt: HostRuntime) {
+    let listing = reading(&rt, rt.alloc(), LISTING, CENTRAL);
+    assert_row(&rt, 0, &counts_of(&listing), &(3, 1, 1, 4));
+    assert_row(&rt, 1, &listing.first_other, &Some(5));
+    let unread = [
+        Some((3, b'G', 4)),
+        Some((4, b'B', 0)),
+        Some((7, b'D', 0)),
+        Some((8, b'G', 9)),
+        None,
+    ];
+    for (at, want) in unread.iter().enumerate() {
+        assert_row(&rt, at, &unread_at(&listing, at), want);
+    }
+}
+
+#[test]
+fn keeps_what_rows_claim(rt: HostRuntime) {
+    let listing = reading(&rt, rt.alloc(), LISTING, CENTRAL);
+    let words = &listing.words;
+    let ends = (words.first(), words.last());
+    assert_row(&rt, 0, &ends, &(Some(0o225), Some(0o230)));
+    let known = (
+        words.known_count(0, 0o777_777),
+        words.mark_count(0, 0o777_777),
+    );
+    assert_row(&rt, 1, &known, &(24, 1));
+    let shown = shown_at(&rt, rt.alloc(), &listing, 0o225);
+    assert_row_text(&rt, 2, &shown, "513000026212631     |                    ");
+    let shown = shown_at(&rt, rt.alloc(), &listing, 0o230);
+    assert_row_text(&rt, 3, &shown, "0000?00000          |                    ");
+    let agrees = !words.differs(0o225, Some(b"51300002621263146000"));
+    let differs = words.differs(0o225, Some(b"51300002621263246000"));
+    let lacks = words.differs(0o225, None);
+    assert_row(&rt, 4, &(agrees, differs, lacks), &(true, true, true));
+    assert_row(&rt, 5, &words.differs(0o226, None), &false);
+}
+
+#[test]
+fn keeps_contrary_digits(rt: HostRuntime) {
+    let text = "000000 00000000000000000001\n000000 00000000000000000002\n";
+    let twice = reading(&rt, rt.alloc(), text, CENTRAL);
+    let shown = shown_at(&rt, rt.alloc(), &twice, 0);
+    assert_row_text(&rt, 0, &shown, "00000000000000000001|                   2");
+    let first = twice.words.differs(0, Some(b"00000000000000000001"));
+    let second = twice.words.differs(0, Some(b"00000000000000000002"));
+    assert_row(&rt, 1, &(first, second), &(true, true));
+    let word = twice.words.word(0);
+    let rows = (word.first_row, word.last_row, word.again_row);
+    assert_row(&rt, 2, &rows, &(1, 1, 2));
+}
+
+#[test]
+fn moves_addresses_and_cuts_columns(rt: HostRuntime) {
+    let text = "000010 00000000000000000007\n000007 00000000000000000006";
+    let mut layout = CENTRAL;
+    layout.offset = WordOffset::Down(8);
+    let down = reading(&rt, rt.alloc(), text, layout);
+    assert_row(&rt, 0, &down.words.first(), &Some(0));
+    assert_row(&rt, 1, &unread_at(&down, 0), &Some((2, b'S', 0)));
+    layout.offset = WordOffset::Up(0o777_770);
+    let up = reading(&rt, rt.alloc(), text, layout);
+    assert_row(&rt, 2, &up.words.last(), &Some(0o777_777));
+    assert_row(&rt, 3, &unread_at(&up, 0), &Some((1, b'S', 0)));
+    layout.offset = WordOffset::Up(0);
+    layout.form = WordForm::Peripheral;
+    let text = "12: 1 0070 5";
+    let whole = reading(&rt, rt.alloc(), text, layout);
+    assert_row(&rt, 4, &unread_at(&whole, 0), &Some((1, b'G', 1)));
+    layout.columns = Some(ReadColumns { first: 5, last: 10 });
+    let cut = reading(&rt, rt.alloc(), text, layout);
+    let shown = shown_at(&rt, rt.alloc(), &cut, 1);
+    assert_row_text(&rt, 5, &shown, "0070                |                    ");
+    assert_row(&rt, 6, &cut.words.differs(1, Some(b"0070")), &false);
+}
+
+/// Where a program of 32,768 words ends.
+const END: u32 = 0o100_000;
+
+#[test]
+fn reads_a_whole_memory(rt: HostRuntime) {
+    let mut text = Vec::new(rt.alloc());
+    for address in 0..END {
+        push_octal(&mut text, u64::from(address), 6).expect(&rt, "memory");
+        text.push(b' ').expect(&rt, "memory");
+        push_octal(&mut text, u64::from(address), 20).expect(&rt, "memory");
+        text.push(b'\n').expect(&rt, "memory");
+    }
+    let all = read_octal(rt.alloc(), &text, CENTRAL).expect(&rt, "memory");
+    assert_row(&rt, 0, &counts_of(&all), &(32_768, 1, 0, 0));
+    assert_row(&rt, 1, &all.words.known_count(0, END), &655_360);
+    assert_row(&rt, 2, &all.words.last(), &Some(END - 1));
+    let last = !all.words.differs(END - 1, Some(b"00000000000000077777"));
+    assert_row(&rt, 3, &last, &true);
+}
