@@ -15,6 +15,7 @@ use Rattle.cps_claims.specs.Parts.{parts_of}
 use Rattle.cps_claims.specs.Rows.{Row, read, blank, other, unread, row_of, rows_from}
 use Rattle.cps_claims.specs.Claims.{Claimed, digits_from, claims_from}
 use Rattle.cps_claims.specs.Reading.{is_read, is_blank_row, is_other, is_unread, unread_from, first_other_from, IsReading}
+use Rattle.cps_claims.specs.Code.Held.{Holds}
 use Rattle.cps_claims.specs.Code.Slots.{WordState, with_claim, after}
 use Rattle.cps_claims.specs.Code.States.{ReadingState, at_first, state_of, with_row, with_rows, Reads}
 
@@ -180,7 +181,7 @@ zero-more : (a b : ℕ) → a ≡ 0 + b → a ≡ b
 zero-more a b h = omega arith
 
 -- a whole text
-pub is-reading : (layout : OctalLayout) (rows : List Row) (reading : OctalReading) → state_of reading ≡ with_rows layout.form 1 at_first rows → IsReading layout rows reading
+pub is-reading : (layout : OctalLayout) (rows : List Row) (reading : OctalReading) → state_of reading ≡ with_rows layout.form 1 at_first rows → IsReading rows reading
 is-reading layout rows reading is = record {
   count_read = zero-more _ _ (ap (λ (s : ReadingState). s.counts.read) is ∙ all_read layout.form 1 at_first rows);
   count_blank = zero-more _ _ (ap (λ (s : ReadingState). s.counts.blank) is ∙ all_blank layout.form 1 at_first rows);
@@ -188,9 +189,13 @@ is-reading layout rows reading is = record {
   count_unread = zero-more _ _ (ap (λ (s : ReadingState). s.counts.unread) is ∙ all_unread layout.form 1 at_first rows);
   first_other = ap (λ (s : ReadingState). s.first_other) is ∙ all_first layout.form 1 at_first rows;
   unread_rows = ap (λ (s : ReadingState). s.unread_rows) is ∙ all_rows layout.form 1 at_first rows;
-  words = record {
-    states = ap (λ (s : ReadingState). s.words) is ∙ all_words layout.form 1 at_first rows;
-    places = places_all layout.form 1 rows;
-    rows = rows_all (size_of layout.form) 1 rows (omega arith);
-  };
+}
+
+-- and what the rows claim is kept
+pub holds-claims : (layout : OctalLayout) (rows : List Row) (reading : OctalReading) → state_of reading ≡ with_rows layout.form 1 at_first rows
+    → Holds reading.words (claims_from (size_of layout.form) 1 rows)
+holds-claims layout rows reading is = record {
+  states = ap (λ (s : ReadingState). s.words) is ∙ all_words layout.form 1 at_first rows;
+  places = places_all layout.form 1 rows;
+  rows = rows_all (size_of layout.form) 1 rows (omega arith);
 }

@@ -1,12 +1,8 @@
 -- What is known of an octal text behind its last row. Our own.
 use Rattle.std.specs.Prelude.{◌≡◌, ℕ, ◌+◌, Bool, true, false, List, [], ◌∷◌, count_by, Option, None, Some}
-use Rattle.cps_claims.specs.declared.layout.OctalLayout.{OctalLayout}
 use Rattle.cps_claims.specs.declared.reading.UnreadRow.{UnreadRow}
 use Rattle.cps_claims.specs.declared.reading.OctalReading.{OctalReading}
-use Rattle.cps_claims.specs.Words.{size_of}
 use Rattle.cps_claims.specs.Rows.{Row, read, blank, other, unread}
-use Rattle.cps_claims.specs.Claims.{claims_from}
-use Rattle.cps_claims.specs.Code.Held.{Holds}
 
 abbrev pub is_read : Row → Bool
 is_read (read claim) = true
@@ -48,13 +44,11 @@ first_other_from number (blank ∷ rows) = first_other_from (number + 1) rows
 first_other_from number (other ∷ rows) = Some number
 first_other_from number (unread reason ∷ rows) = first_other_from (number + 1) rows
 
--- Rows are counted by what they are, those that aren't read are listed, and what the others claim is kept. Rows count from 1.
-pub record IsReading (layout : OctalLayout) (rows : List Row) (reading : OctalReading) : Type 0 where
+-- Rows are counted by what they are, and those that aren't read are listed. Rows count from 1.
+pub record IsReading (rows : List Row) (reading : OctalReading) : Type 0 where
   pub count_read : reading.counts.read ≡ count_by is_read rows
   pub count_blank : reading.counts.blank ≡ count_by is_blank_row rows
   pub count_other : reading.counts.other ≡ count_by is_other rows
   pub count_unread : reading.counts.unread ≡ count_by is_unread rows
   pub first_other : reading.first_other ≡ first_other_from 1 rows
   pub unread_rows : reading.unread.items ≡ unread_from 1 rows
-  -- what the functions of `reading.words` say of these claims is theirs
-  pub words : Holds reading.words (claims_from (size_of layout.form) 1 rows)

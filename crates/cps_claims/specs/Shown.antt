@@ -1,13 +1,13 @@
 -- What is shown of the digits that are claimed for a word, and of the rows that have them. Our own.
 use Prim.Native.Char.{code}
-use Rattle.std.specs.Prelude.{◌≡◌, ℕ, Bool, not, ◌==◌, ◌&&◌, ◌||◌, List, [], ◌∷◌, ◌++◌, fold, find, Option, if◌then◌else◌}
+use Rattle.std.specs.Prelude.{◌≡◌, ℕ, Bool, not, ◌==◌, ◌&&◌, ◌||◌, List, [], ◌∷◌, ◌++◌, fold, find, Option, if◌then◌else◌, slice_index_or}
 use Rattle.std.specs.List.{list_any}
 use Rattle.std.specs.Option.{option_map_or}
+use Rattle.cps_claims.specs.declared.claimed_word.ClaimedDigit.{ClaimedDigit}
 use Rattle.cps_claims.specs.declared.claimed_word.ClaimedWord.{ClaimedWord}
 use Rattle.cps_claims.specs.Parts.{is_octal}
 use Rattle.cps_claims.specs.Claims.{Claimed, known}
 use Rattle.cps_claims.specs.Counts.{is_for}
-use Rattle.cps_claims.specs.Code.Slots.{state_of}
 
 -- the first claim for a digit that can be read
 abbrev pub first_known : List Claimed → ℕ → ℕ → Option Claimed
@@ -72,10 +72,18 @@ last_row claims address = last_of_rows (rows_passing is_news address [] claims)
 abbrev pub again_row : List Claimed → ℕ → ℕ
 again_row claims address = first_of_rows (rows_passing is_denial address [] claims)
 
+-- nothing is claimed of a digit
+abbrev pub nothing : ClaimedDigit
+nothing = record { shown = code " "; again = code " " }
+
+-- what is kept of the digit at a place
+abbrev pub kept_digit : ClaimedWord → ℕ → ClaimedDigit
+kept_digit word place = slice_index_or word.digits place nothing
+
 -- a word as it is shown; places count from 0
 pub record Shows (claims : List Claimed) (address : ℕ) (word : ClaimedWord) : Type 0 where
-  pub digits : (place : ℕ) → ((state_of word).slots place).shown ≡ shown_digit claims address place
-  pub contrary : (place : ℕ) → ((state_of word).slots place).again ≡ again_digit claims address place
+  pub digits : (place : ℕ) → (kept_digit word place).shown ≡ shown_digit claims address place
+  pub contrary : (place : ℕ) → (kept_digit word place).again ≡ again_digit claims address place
   pub first : word.first_row ≡ first_row claims address
   pub last : word.last_row ≡ last_row claims address
   pub again : word.again_row ≡ again_row claims address

@@ -5,7 +5,9 @@ ghost use Rattle.std.specs.Option.{option_map_or, option_or};
 ghost use Rattle.cps_claims.specs.Columns.{columns_read};
 ghost use Rattle.cps_claims.specs.Parts.{parts_of};
 ghost use Rattle.cps_claims.specs.Rows as rows;
+ghost use Rattle.cps_claims.specs.Claims.{claims_in};
 ghost use Rattle.cps_claims.specs.Reading.{IsReading};
+ghost use Rattle.cps_claims.specs.Code.Held.{Holds};
 ghost use Rattle.cps_claims.specs.Code.Found.{row_with, IsWithin};
 ghost use Rattle.cps_claims.specs.Code.States as states;
 
@@ -162,7 +164,8 @@ pub fn read_octal(
     text: &[u8],
     layout: OctalLayout,
 ) -> Result<OctalReading, AllocError>
-    ensures { IfOk result (λ reading. IsReading layout (rows.rows_in layout text.now) reading) }
+    ensures reading { IfOk result (IsReading (rows.rows_in layout text.now)) }
+    ensures words { IfOk result (λ reading. Holds reading.words (claims_in layout text.now)) }
 {
     let mut reader = OctalReader::new(alloc, layout);
     let mut rest = Some(text);

@@ -7,11 +7,9 @@ use Rattle.cps_claims.specs.declared.claimed_word.ClaimedDigit.{ClaimedDigit}
 use Rattle.cps_claims.specs.declared.claimed_word.ClaimedWord.{ClaimedWord}
 use Rattle.cps_claims.specs.Parts.{is_octal}
 use Rattle.cps_claims.specs.Claims.{Claimed}
+pub use Rattle.cps_claims.specs.Shown.{nothing, kept_digit}
 
 -- ---- a digit
-
-abbrev pub nothing : ClaimedDigit
-nothing = record { shown = code " "; again = code " " }
 
 abbrev pub with_known : ClaimedDigit → ℕ → ClaimedDigit
 with_known slot digit =
@@ -66,7 +64,7 @@ empty_word = record {
 
 abbrev pub state_of : ClaimedWord → WordState
 state_of word = record {
-  slots = λ place. slice_index_or word.digits place nothing;
+  slots = kept_digit word;
   first = word.first_row;
   last = word.last_row;
   again = word.again_row;
