@@ -1,5 +1,5 @@
 -- Claims put into the slots of words.
-use Rattle.std.proofs.Common.{◌≡◌, ◌≢◌, refl, zero, suc, ℕ, ◌+◌, ◌/◌, ◌%◌, ◌<◌, ◌≤◌, Bool, true, false, cond, ◌&&◌, ◌||◌, ◌==◌, eqb, not, Option, None, Some, List, [], ◌∷◌, length, get_or, set, drop, subst, sym, ap, ◌∙◌, arith, ⊎_elim, inl, inr, get_or-set_same, get_or-set_other}
+use Rattle.std.proofs.Common.{◌≡◌, ◌≢◌, refl, zero, suc, ℕ, ◌+◌, ◌*◌, ◌/◌, ◌%◌, ◌<◌, ◌≤◌, Bool, true, false, cond, ◌&&◌, ◌||◌, ◌==◌, eqb, not, Option, None, Some, List, [], ◌∷◌, ◌++◌, length, get_or, set, take, drop, subst, sym, ap, ◌∙◌, arith, ⊎_elim, inl, inr, get_or-set_same, get_or-set_other}
 use Rattle.std.specs.Prelude.{slice_get, option_map}
 use Rattle.std.specs.Borrow.{Bor}
 use Rattle.std.specs.Option.{option_map_or}
@@ -8,7 +8,9 @@ use Rattle.std.proofs.lemmas.List.FromFn.{sum_by-map-range_with_len_more}
 use Rattle.std.proofs.Math.Path.{fun_ext}
 use Rattle.std.proofs.lemmas.Bool.{cases_eq, or_cases, and_parts, and_from, eqb-true, eq-eqb}
 use Rattle.std.proofs.lemmas.Bool.Decides.{nat_tests}
-use Rattle.std.proofs.lemmas.List.{get_or_default, drop_more, drop_all, get_or_past, map-id}
+use Rattle.std.proofs.lemmas.List.{get_or_default, get_or_past, map-id, take-append-drop, length-take-le}
+use Rattle.std.proofs.lemmas.List.Sums.{fold-append}
+use Rattle.std.proofs.lemmas.Nat.{div-mul-add, mod-mul-add, div-add-mod'}
 use Rattle.cps_claims.specs.declared.claimed_word.ClaimedDigit.{ClaimedDigit}
 use Rattle.cps_claims.specs.declared.claimed_word.ClaimedWord.{ClaimedWord}
 use Rattle.cps_claims.specs.Claims.{Claimed, digits_from, Words, digit_at, agrees, differs}
@@ -19,7 +21,7 @@ use Rattle.cps_claims.specs.declared.claimed_words.DigitKind.TheVariants.{Known,
 use Rattle.cps_claims.specs.Code.Held.{Holds}
 use Rattle.cps_claims.specs.Code.Kinds.{passes, deck_digit, count_kept}
 use Rattle.cps_claims.specs.Parts.{is_octal}
-use Rattle.cps_claims.specs.Code.Slots.{is_known, is_claimed, is_other, slot_differs, AnyPlace, none_claimed, nothing, with_digit, WordState, empty_word, state_of, with_claim_here, with_claim, after, state_at}
+use Rattle.cps_claims.specs.Code.Slots.{is_known, is_claimed, is_other, slot_differs, AnyPlace, none_claimed, nothing, with_digit, WordState, empty_word, state_of, with_claim_here, with_digits_here, with_claim, with_digits, after, state_at}
 
 -- what a place has, whatever is read past the end
 pub slot-read : (digits : List ClaimedDigit) (place : ℕ) (other : ClaimedDigit) → place < length digits → get_or digits place other ≡ get_or digits place nothing
@@ -40,38 +42,74 @@ slots-put digits place digit slot within is = fun_ext (λ other. ⊎_elim
     rw test (get_or-set_other digits place other slot nothing apart))
     (cases_eq other place))
 
--- a claim is put into the word at an address
-pub words-put : (words : List ClaimedWord) (address place digit row : ℕ) (old new : ClaimedWord) → address < length words → old ≡ get_or words address empty_word
-    → state_of new ≡ with_claim_here (state_of old) place digit row
-    → state_at (set words address new) ≡ with_claim (state_at words) (record { row = row; address = address; place = place; digit = digit })
-words-put words address place digit row old new within read is = fun_ext (λ other. ⊎_elim
+-- digits are put into the word at an address
+pub words-put : (words : List ClaimedWord) (row address place : ℕ) (digits : List ℕ) (old new : ClaimedWord) → address < length words
+    → old ≡ get_or words address empty_word → state_of new ≡ with_digits_here row place digits (state_of old)
+    → state_at (set words address new) ≡ with_digits (state_at words) row address place digits
+words-put words row address place digits old new within read is = fun_ext (λ other. ⊎_elim
     (λ (here : other ≡ address).
     let test : eqb address other ≡ true = grind (arith, nat_tests) in
     rw test (ap (λ n. state_of (get_or (set words address new) n empty_word)) here
     ∙ ap state_of (get_or-set_same words address new empty_word within)
     ∙ is
-    ∙ ap (λ word. with_claim_here (state_of word) place digit row) (read ∙ ap (λ n. get_or words n empty_word) (sym here))))
+    ∙ ap (λ word. with_digits_here row place digits (state_of word)) (read ∙ ap (λ n. get_or words n empty_word) (sym here))))
     (λ (apart : other ≢ address).
     let test : eqb address other ≡ false = grind (arith, nat_tests) in
     rw test (ap state_of (get_or-set_other words address other new empty_word apart)))
     (cases_eq other address))
 
--- one digit of a row, and then those behind it
-pub after-more : (size row address at before : ℕ) (digits : List ℕ) (states next : ℕ → WordState) → before < length digits
-    → next ≡ with_claim states (record { row = row; address = address + (at + before) / size; place = (at + before) % size; digit = get_or digits before 0 })
-    → after next (digits_from size row address (at + (before + 1)) (drop (before + 1) digits)) ≡ after states (digits_from size row address (at + before) (drop before digits))
-after-more size row address at before digits states next within is =
-    let place : at + (before + 1) ≡ at + before + 1 = omega arith in
-    (λ i. after (is i) (digits_from size row address (place i) (drop (before + 1) digits)))
-    ∙ ap (λ l. after states (digits_from size row address (at + before) l)) (sym (drop_more digits before 0 within))
+-- ---- the digits of a row, word by word
 
-pub after-start : (size row address at : ℕ) (digits : List ℕ) (states : ℕ → WordState)
-    → after states (digits_from size row address (at + 0) (drop 0 digits)) ≡ after states (digits_from size row address at digits)
-after-start size row address at digits states = let place : at + 0 ≡ at = omega arith in ap (λ n. after states (digits_from size row address n digits)) place
+cond-same : (b : Bool) (state : WordState) → state ≡ cond b state state
+cond-same true state = refl
+cond-same false state = refl
 
-pub after-end : (size row address at before : ℕ) (digits : List ℕ) (states : ℕ → WordState) → length digits ≤ before
-    → states ≡ after states (digits_from size row address (at + before) (drop before digits))
-after-end size row address at before digits states past = ap (λ l. after states (digits_from size row address (at + before) l)) (sym (drop_all before digits past))
+cond-twice : (b : Bool) (f : WordState → WordState) (one other : WordState) → cond b (f (cond b one other)) (cond b one other) ≡ cond b (f one) other
+cond-twice true f one other = refl
+cond-twice false f one other = refl
+
+-- the claims of digits that stay in one word
+in-word : (size row address q r : ℕ) (digits : List ℕ) (states : ℕ → WordState) → r + length digits ≤ size → (other : ℕ)
+    → after states (digits_from size row address (q * size + r) digits) other ≡ with_digits states row (address + q) r digits other
+in-word size row address q r [] states fit other = cond-same (address + q == other) (states other)
+in-word size row address q r (digit ∷ digits) states fit other =
+    let small : r < size = omega arith in
+    let word = div-mul-add q size r small in
+    let place = mod-mul-add q size r small in
+    let next : q * size + r + 1 ≡ q * size + (r + 1) = omega arith in
+    let states_then = with_claim states (record { row = row; address = address + q; place = r; digit = digit }) in
+    (λ i. after (with_claim states (record { row = row; address = address + word i; place = place i; digit = digit }))
+    (digits_from size row address (next i) digits) other)
+    ∙ in-word size row address q (r + 1) digits states_then (omega arith) other
+    ∙ cond-twice (address + q == other) (with_digits_here row (r + 1) digits) (with_claim_here (states other) r digit row) (states other)
+
+digits-append : (size row address at : ℕ) (xs ys : List ℕ)
+    → digits_from size row address at (xs ++ ys) ≡ digits_from size row address at xs ++ digits_from size row address (at + length xs) ys
+digits-append size row address at [] ys =
+    let same : at ≡ at + 0 = omega arith in
+    ap (λ n. digits_from size row address n ys) same
+digits-append size row address at (x ∷ xs) ys =
+    let same : at + 1 + length xs ≡ at + suc (length xs) = omega arith in
+    ap (λ l. record { row = row; address = address + at / size; place = at % size; digit = x } ∷ l)
+    (digits-append size row address (at + 1) xs ys ∙ ap (λ n. digits_from size row address (at + 1) xs ++ digits_from size row address n ys) same)
+
+-- the digits for one word, and then those behind them
+pub after-word : (size row address at count : ℕ) (digits : List ℕ) (states next : ℕ → WordState) → count ≤ length digits → at % size + count ≤ size
+    → next ≡ with_digits states row (address + at / size) (at % size) (take count digits)
+    → after next (digits_from size row address (at + count) (drop count digits)) ≡ after states (digits_from size row address at digits)
+after-word size row address at count digits states next within fit is =
+    let here = take count digits in
+    let behind = drop count digits in
+    let long : length here ≡ count = length-take-le count digits within in
+    let fits : at % size + length here ≤ size = omega (arith, long, fit) in
+    let split = div-add-mod' at size in
+    let word : with_digits states row (address + at / size) (at % size) here ≡ after states (digits_from size row address at here) =
+    fun_ext (λ other. sym (in-word size row address (at / size) (at % size) here states fits other))
+    ∙ ap (λ n. after states (digits_from size row address n here)) split in
+    (λ i. after ((is ∙ word) i) (digits_from size row address (at + sym long i) behind))
+    ∙ sym (fold-append with_claim states (digits_from size row address at here) (digits_from size row address (at + length here) behind))
+    ∙ ap (after states) (sym (digits-append size row address at here behind))
+    ∙ ap (λ l. after states (digits_from size row address at l)) (take-append-drop count digits)
 
 -- ---- what the slots tell of the claims
 
@@ -134,7 +172,7 @@ known-case false false same again slot digit hd hs = refl
 pub known-step : (slot : ClaimedDigit) (digit : ℕ) → is_known (with_digit slot digit) ≡ (is_known slot || is_octal digit)
 known-step slot digit = known-case (is_octal digit) (is_octal slot.shown) (digit == slot.shown) (is_octal slot.again) slot digit refl refl
 
-or-true : (b : Bool) → (b || true) ≡ true
+pub or-true : (b : Bool) → (b || true) ≡ true
 or-true true = refl
 or-true false = refl
 

@@ -9,13 +9,14 @@ use Rattle.cps_claims.specs.Reading.{unread_from}
 use Rattle.cps_claims.specs.Claims.{Claimed, claims_from, Words, differs}
 use Rattle.cps_claims.specs.Parts.{Part, parts_of, looks_like_digits, address_in}
 use Rattle.cps_claims.specs.declared.layout.OctalLayout.{OctalLayout}
+use Rattle.cps_claims.specs.declared.layout.OctalFormat.TheVariants.{Rows, Dump}
 use Rattle.cps_claims.specs.declared.layout.WordForm.TheVariants.{Central, Peripheral}
 use Rattle.cps_claims.specs.declared.layout.WordOffset.{WordOffset}
 use Rattle.cps_claims.specs.declared.layout.WordOffset.TheVariants.{Up, Down}
 use Rattle.cps_claims.specs.declared.stand.RowStand.{RowStand}
 use Rattle.cps_claims.specs.declared.stand.WordPlace.{WordPlace}
-use Rattle.cps_claims.specs.declared.row.UnreadReason.TheVariants.{DamagedDigits, GroupOf, NoAddress, BehindUnread, NoSuchAddress}
-use Rattle.cps_claims.specs.Rows.{Row, row_of, at_first, read, blank, other, unread}
+use Rattle.cps_claims.specs.declared.reason.UnreadReason.TheVariants.{DamagedDigits, GroupOf, NoAddress, BehindUnread, NoSuchAddress, NoWholeWords, EndlessRepetition, UnevenRepetition, TooManyRepetitions}
+use Rattle.cps_claims.specs.Rows.{Row, row_of, row_among, rows_from, is_repetition, at_first, read, blank, other, unread}
 
 -- ---- parts
 
@@ -35,13 +36,13 @@ parts = refl
 
 -- what a row is, of these parts, where it stands first
 abbrev central : OctalLayout
-central = record { form = Central; columns = None; offset = Up 0 }
+central = record { format = Rows; form = Central; columns = None; offset = Up 0 }
 
 abbrev first_row : List ℕ → Row
 first_row row = (row_of central at_first (parts_of row)).0
 
 abbrev stand : Option WordPlace → Option ℕ → Option ℕ → RowStand
-stand place column lost = record { place = place; column = column; lost = lost }
+stand place column lost = record { place = place; column = column; lost = lost; repeated = 0 }
 
 abbrev place : ℕ → ℕ → Option WordPlace
 place address count = Some (record { address = address; count = count })
@@ -199,7 +200,7 @@ comment = refl
 -- ---- a peripheral processor
 
 abbrev peripheral : OctalLayout
-peripheral = record { form = Peripheral; columns = None; offset = Up 0 }
+peripheral = record { format = Rows; form = Peripheral; columns = None; offset = Up 0 }
 
 words-of-four : row_of peripheral at_first (parts_of (codes "0100 1400 3411")) ≡ (claim 64 0 (codes "14003411"), stand (place 65 4) (Some 5) None)
 words-of-four = refl
@@ -207,10 +208,101 @@ words-of-four = refl
 headings-of-words : row_of peripheral at_first (parts_of (codes "   0 1 2 3 4")) ≡ (unread (GroupOf 1), stand None (Some 5) (Some 0))
 headings-of-words = refl
 
+-- ---- a dump
+
+abbrev central_dump : OctalLayout
+central_dump = record { format = Dump; form = Central; columns = None; offset = Up 0 }
+
+abbrev dump : WordOffset → OctalLayout
+dump offset = record { format = Dump; form = Peripheral; columns = None; offset = offset }
+
+-- where a row stands behind one that is read, and so many words that stand again
+abbrev stand_again : Option WordPlace → Option ℕ → ℕ → RowStand
+stand_again place column repeated = record { place = place; column = column; lost = None; repeated = repeated }
+
+-- three parcels are no word
+three-parcels : row_of central_dump at_first (part 0 (codes "0") ∷ part 2 (codes "76110") ∷ part 8 (codes "71200") ∷ part 14 (codes "01000") ∷ [])
+    ≡ (unread NoWholeWords, stand None (Some 2) (Some 0))
+three-parcels = refl
+
+-- nineteen digits are no parcels
+nineteen : row_of central_dump at_first (part 0 (codes "0") ∷ part 2 (codes "7611071200010007633") ∷ []) ≡ (unread (GroupOf 19), stand None (Some 2) (Some 0))
+nineteen = refl
+
+-- the next word
+next-word : row_of central_dump (stand (place 0 20) (Some 7) None) (part 7 (codes "73412") ∷ part 13 (codes "46000") ∷ part 19 (codes "46000") ∷ part 25 (codes "46000") ∷ [])
+    ≡ (claim 1 0 (codes "73412460004600046000"), stand (place 1 20) (Some 7) None)
+next-word = refl
+
+-- and the next two
+next-words : row_of (dump (Up 0)) (stand (place 64 4) (Some 5) None) (parts_of (codes "     0003 0004")) ≡ (claim 65 0 (codes "00030004"), stand (place 66 4) (Some 5) None)
+next-words = refl
+
+asterisk : is_repetition (parts_of (codes " *")) ≡ true
+asterisk = refl
+
+asterisk-and-more : is_repetition (parts_of (codes "* 4")) ≡ false
+asterisk-and-more = refl
+
+small-letters : is_repetition (parts_of (codes "Duplicate lines")) ≡ true
+small-letters = refl
+
+shorter-word : is_repetition (parts_of (codes "REPEA")) ≡ false
+shorter-word = refl
+
+-- two words stand again, twice
+twice-more : row_among (dump (Up 0)) (stand (place 65 4) (Some 5) None) (codes "00010002") (part 0 (codes "*") ∷ []) (Some 70)
+    ≡ (claim 66 0 (codes "0001000200010002"), stand_again (place 69 4) (Some 5) 4)
+twice-more = refl
+
+-- where the text's addresses are moved
+moved-repetition : row_among (dump (Down 64)) (stand (place 65 4) (Some 5) None) (codes "0001") (part 0 (codes "SAME") ∷ []) (Some 67)
+    ≡ (claim 2 0 (codes "0001"), stand_again (place 66 4) (Some 5) 1)
+moved-repetition = refl
+
+-- two words don't fill three; none at all are none
+uneven : row_among (dump (Up 0)) (stand (place 65 4) (Some 5) None) (codes "00010002") (part 0 (codes "*") ∷ []) (Some 69)
+    ≡ (unread UnevenRepetition, stand None (Some 5) (Some 65))
+uneven = refl
+
+no-words-again : row_among (dump (Up 0)) (stand (place 65 4) (Some 5) None) (codes "00010002") (part 0 (codes "*") ∷ []) (Some 66)
+    ≡ (unread UnevenRepetition, stand None (Some 5) (Some 65))
+no-words-again = refl
+
+endless : row_among (dump (Up 0)) (stand (place 65 4) (Some 5) None) (codes "0001") (part 0 (codes "*") ∷ []) None
+    ≡ (unread EndlessRepetition, stand None (Some 5) (Some 65))
+endless = refl
+
+nothing-above : row_among (dump (Up 0)) at_first [] (part 0 (codes "*") ∷ []) (Some 1) ≡ (unread EndlessRepetition, at_first)
+nothing-above = refl
+
+-- 262,143 words stand again already
+too-many : row_among (dump (Up 0)) (stand_again (place 65 4) (Some 5) 262143) (codes "0001") (part 0 (codes "*") ∷ []) (Some 68)
+    ≡ (unread TooManyRepetitions, record { place = None; column = Some 5; lost = Some 65; repeated = 262143 })
+too-many = refl
+
+last-one : row_among (dump (Up 0)) (stand_again (place 65 4) (Some 5) 262143) (codes "0001") (part 0 (codes "*") ∷ []) (Some 67)
+    ≡ (claim 66 0 (codes "0001"), stand_again (place 66 4) (Some 5) 262144)
+last-one = refl
+
+-- elsewhere an asterisk begins a comment
+no-dump : row_among peripheral (stand (place 65 4) (Some 5) None) (codes "0001") (part 0 (codes "*") ∷ []) (Some 67) ≡ (other, stand (place 65 4) (Some 5) None)
+no-dump = refl
+
+-- the end is the address of the row right behind it
+right-behind : rows_from (dump (Up 0)) (stand (place 65 4) (Some 5) None) (codes "0001") (codes "*" ∷ [] ∷ codes "103" ∷ [])
+    ≡ unread EndlessRepetition ∷ blank ∷ other ∷ []
+right-behind = refl
+
+-- what stood again stands again
+again-and-again : rows_from (dump (Up 0)) (stand (place 65 4) (Some 5) None) (codes "0001") (codes "*" ∷ codes "104 A" ∷ codes "*" ∷ codes "106" ∷ [])
+    ≡ claim 66 0 (codes "00010001") ∷ other ∷ claim 68 0 (codes "00010001") ∷ other ∷ []
+again-and-again = refl
+
 -- ---- an offset
 
 abbrev moved_by : WordOffset → OctalLayout
-moved_by offset = record { form = Central; columns = None; offset = offset }
+moved_by offset = record { format = Rows; form = Central; columns = None; offset = offset }
 
 -- where the row stands is the text's address
 down : row_of (moved_by (Down 2048)) at_first (parts_of (codes "004001: 73412")) ≡ (claim 1 0 (codes "73412"), stand (place 2049 5) (Some 8) None)

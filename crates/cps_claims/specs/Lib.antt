@@ -2,6 +2,7 @@ pub mod Words
 pub mod Columns
 pub mod Parts
 pub mod Rows
+pub mod Reasons
 pub mod Claims
 pub mod Counts
 pub mod Shown

@@ -76,6 +76,14 @@ again_row claims address = first_of_rows (rows_passing is_denial address [] clai
 abbrev pub nothing : ClaimedDigit
 nothing = record { shown = code " "; again = code " " }
 
+-- whether a digit is claimed that nobody can read
+abbrev pub is_unknown : ClaimedDigit → Bool
+is_unknown digit = digit.shown == code "?"
+
+-- whether a later row has another digit
+abbrev pub is_denied : ClaimedDigit → Bool
+is_denied digit = is_octal digit.again
+
 -- what is kept of the digit at a place
 abbrev pub kept_digit : ClaimedWord → ℕ → ClaimedDigit
 kept_digit word place = slice_index_or word.digits place nothing

@@ -1,7 +1,9 @@
 -- The words of the two machines, in octal digits. Our own.
-use Rattle.std.specs.Prelude.{ℕ, ◌+◌, ◌-◌, ◌%◌, Bool, false, ◌==◌, nat_le, Option, None, Some, if◌then◌else◌}
+use Rattle.std.specs.Prelude.{ℕ, ◌+◌, ◌-◌, ◌%◌, Bool, false, true, ◌==◌, nat_le, Option, None, Some, if◌then◌else◌}
 use Rattle.cps_claims.specs.declared.layout.WordForm.{WordForm}
 use Rattle.cps_claims.specs.declared.layout.WordForm.TheVariants.{Central, Peripheral}
+use Rattle.cps_claims.specs.declared.layout.OctalFormat.{OctalFormat}
+use Rattle.cps_claims.specs.declared.layout.OctalFormat.TheVariants as formats
 use Rattle.cps_claims.specs.declared.layout.WordOffset.{WordOffset}
 use Rattle.cps_claims.specs.declared.layout.WordOffset.TheVariants.{Up, Down}
 
@@ -19,6 +21,11 @@ parcel_of Peripheral = 4
 abbrev pub need_no_groups : WordForm → ℕ → Bool
 need_no_groups Central count = count % 20 == 0
 need_no_groups Peripheral count = false
+
+-- whether rows have whole words, behind which the next words go on, and may say that words stand again
+abbrev pub is_dump : OctalFormat → Bool
+is_dump formats.Rows = false
+is_dump formats.Dump = true
 
 -- addresses have six octal digits
 abbrev pub most_words : ℕ

@@ -1,5 +1,6 @@
 //! The digits that an octal text claims for one word.
-ghost use Rattle.std.specs.Prelude.{◌≡◌, ◌<◌, ◌==◌, ◌&&◌, not, if◌then◌else◌};
+ghost use Rattle.std.specs.Prelude.{◌≡◌, true, ◌+◌, ◌<◌, ◌≤◌, length, ◌==◌, ◌&&◌, not, if◌then◌else◌};
+ghost use Rattle.cps_claims.specs.Shown.{is_unknown, is_denied};
 ghost use Rattle.cps_claims.specs.Code.Slots as slots;
 
 use super::part::is_octal;
@@ -39,6 +40,24 @@ impl ClaimedDigit {
         }
     }
 
+    /// The first claim.
+    fn with_first(self, digit: u8) -> ClaimedDigit
+        requires { slots.is_free self ≡ true }
+        ensures { result ≡ slots.with_digit self digit }
+    {
+        if is_octal(digit) {
+            ClaimedDigit {
+                shown: digit,
+                again: b' ',
+            }
+        } else {
+            ClaimedDigit {
+                shown: b'?',
+                again: self.again,
+            }
+        }
+    }
+
     /// One more digit that can be read.
     fn with_known(self, digit: u8) -> ClaimedDigit
         ensures { result ≡ slots.with_known self digit }
@@ -58,6 +77,13 @@ impl ClaimedDigit {
         }
     }
 
+    /// Whether no digit is claimed.
+    fn is_free(self) -> bool
+        ensures { result ≡ slots.is_free self }
+    {
+        self.shown == b' '
+    }
+
     /// Whether a digit is claimed that can be read.
     pub fn is_known(self) -> bool
         ensures { result ≡ slots.is_known self }
@@ -70,6 +96,20 @@ impl ClaimedDigit {
         ensures { result ≡ slots.is_claimed self }
     {
         is_octal(self.shown) || self.shown == b'?'
+    }
+
+    /// Whether a digit is claimed that nobody can read.
+    pub fn is_unknown(self) -> bool
+        ensures { result ≡ is_unknown self }
+    {
+        self.shown == b'?'
+    }
+
+    /// Whether a later row has another digit.
+    pub fn is_denied(self) -> bool
+        ensures { result ≡ is_denied self }
+    {
+        is_octal(self.again)
     }
 
     /// Whether a digit that is claimed isn't the deck's.
@@ -127,8 +167,41 @@ impl ClaimedWord {
         self.digits[place]
     }
 
+    /// Digits that a row claims, from a place on.
+    pub fn put_digits(&mut self, place: usize, digits: &[u8], row: usize)
+        requires { place + length digits.now ≤ MOST_DIGITS }
+        ensures { slots.state_of self.new ≡ slots.with_digits_here row place digits.now (slots.state_of self.old) }
+    {
+        for (before, digit) in digits.iter().enumerate() {
+            self.put(place + before, *digit, row);
+        }
+    }
+
     /// One more claim of a row.
-    pub fn put(&mut self, place: usize, digit: u8, row: usize)
+    fn put(&mut self, place: usize, digit: u8, row: usize)
+        requires { place < MOST_DIGITS }
+        ensures { slots.state_of self.new ≡ slots.with_claim_here (slots.state_of self.old) place digit row }
+    {
+        if self.digits[place].is_free() {
+            self.put_first(place, digit, row);
+        } else {
+            self.put_again(place, digit, row);
+        }
+    }
+
+    /// The first claim for a digit.
+    fn put_first(&mut self, place: usize, digit: u8, row: usize)
+        requires place { place < MOST_DIGITS }
+        requires free { slots.is_free ((slots.state_of self.old).slots place) ≡ true }
+        ensures { slots.state_of self.new ≡ slots.with_claim_here (slots.state_of self.old) place digit row }
+    {
+        self.first_row = first_of(self.first_row, row);
+        self.last_row = row;
+        self.digits[place] = self.digit(place).with_first(digit);
+    }
+
+    /// Another claim for a digit.
+    fn put_again(&mut self, place: usize, digit: u8, row: usize)
         requires { place < MOST_DIGITS }
         ensures { slots.state_of self.new ≡ slots.with_claim_here (slots.state_of self.old) place digit row }
     {

@@ -56,10 +56,16 @@ impl ClaimedWords {
             self.old.words.items self.new.words.items) }
     {
         let size = word_size(form);
-        for (before, digit) in digits.iter().enumerate() {
-            let at = claim.place + before;
+        let mut at = claim.place;
+        let mut left = digits;
+        while !left.is_empty() {
             let address = claim.address as usize + at / size;
-            put(&mut self.words, address, at % size, *digit, claim.row)?;
+            let place = at % size;
+            let count = fewer(size - place, left.len());
+            let (here, behind) = left.split_at(count);
+            put(&mut self.words, address, place, here, claim.row)?;
+            at += count;
+            left = behind;
         }
         Ok(())
     }
@@ -237,22 +243,31 @@ fn digit_in(deck: Option<&[u8]>, place: usize) -> Option<u8>
     }
 }
 
-/// Adds a claim of a row for a digit.
+/// The less of two counts.
+fn fewer(count: usize, other: usize) -> usize
+    ensures first { result ≤ count }
+    ensures second { result ≤ other }
+    ensures some { 0 < count → 0 < other → 0 < result }
+{
+    if count < other { count } else { other }
+}
+
+/// Adds digits of a row for one word, from a place of it on.
 fn put(
     words: &mut Vec<ClaimedWord>,
     address: usize,
     place: usize,
-    digit: u8,
+    digits: &[u8],
     row: usize,
 ) -> Result<(), AllocError>
-    requires place { place < MOST_DIGITS }
+    requires place { place + length digits.now ≤ MOST_DIGITS }
     requires address { address < MOST_WORDS }
     ensures few { vec_len words.old ≤ MOST_WORDS → vec_len words.new ≤ MOST_WORDS }
     ensures state { OnOk result (slots.state_at words.new.items
-        ≡ slots.with_claim (slots.state_at words.old.items) (record { row = row; address = address; place = place; digit = digit })) }
+        ≡ slots.with_digits (slots.state_at words.old.items) row address place digits.now) }
 {
     make_room(words, address + 1)?;
-    words[address].put(place, digit, row);
+    words[address].put_digits(place, digits, row);
     Ok(())
 }
 

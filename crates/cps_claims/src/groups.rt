@@ -5,9 +5,9 @@ ghost use Rattle.cps_claims.specs.Words as words;
 ghost use Rattle.cps_claims.specs.Code.Walk.{parts_left};
 ghost use Rattle.cps_claims.specs.Code.Groups as spec;
 
-use super::layout::{WordForm, parcel_size};
+use super::layout::{OctalLayout, WordForm, is_dump, parcel_size, word_size};
 use super::part::{RowRest, are_digits, looks_like_digits};
-use super::row::UnreadReason;
+use super::reason::UnreadReason;
 use std::alloc::AllocError;
 
 /// What may be wrong with the groups of a row.
@@ -21,16 +21,16 @@ struct RowGroups {
 
 /// Puts the digits that a rest begins with in the place of what `digits` has, and tells why they aren't read.
 pub fn read_digits(
-    form: WordForm,
+    layout: OctalLayout,
     rest: RowRest<'_>,
     digits: &mut Vec<u8>,
 ) -> Result<Option<UnreadReason>, AllocError>
     ensures digits { OnOk result (digits.new.items ≡ rows.digits_of (parts_left rest.entry)) }
-    ensures fault { IfOk result (λ fault. fault ≡ rows.fault_in form (parts_left rest.entry)) }
+    ensures fault { IfOk result (λ fault. fault ≡ rows.fault_in layout (parts_left rest.entry)) }
 {
     digits.clear();
-    let groups = read_groups(parcel_size(form), rest, digits)?;
-    Ok(fault_by(form, digits.len(), groups))
+    let groups = read_groups(parcel_size(layout.form), rest, digits)?;
+    Ok(fault_by(layout, digits.len(), groups))
 }
 
 /// Appends the digits that a rest begins with.
@@ -72,18 +72,29 @@ fn first_wrong(parcel: usize, wrong: Option<usize>, count: usize) -> Option<usiz
 }
 
 /// Why so many digits aren't read.
-fn fault_by(form: WordForm, count: usize, groups: RowGroups) -> Option<UnreadReason>
-    ensures { result ≡ spec.fault_by form count groups }
+fn fault_by(layout: OctalLayout, count: usize, groups: RowGroups) -> Option<UnreadReason>
+    ensures { result ≡ spec.fault_by layout count groups }
 {
     if groups.damaged {
         return Some(UnreadReason::DamagedDigits);
     }
-    if need_no_groups(form, count) {
+    if need_no_groups(layout.form, count) {
         return None;
     }
     match groups.wrong {
         Some(count) => Some(UnreadReason::GroupOf(count)),
-        None => None,
+        None => part_of_word(layout, count),
+    }
+}
+
+/// Why so many digits aren't read in a dump, where rows have whole words.
+fn part_of_word(layout: OctalLayout, count: usize) -> Option<UnreadReason>
+    ensures { result ≡ rows.part_of_word layout count }
+{
+    if is_dump(layout.format) && count % word_size(layout.form) != 0 {
+        Some(UnreadReason::NoWholeWords)
+    } else {
+        None
     }
 }
 

@@ -1,6 +1,7 @@
 //! How an octal text is laid out: the words that it has, the columns that are read, and how far its addresses are moved.
 ghost use Rattle.std.specs.Prelude.{◌≡◌, ◌<◌, ◌≤◌, take, drop};
 ghost use Rattle.cps_claims.specs.Columns.{columns_read};
+ghost use Rattle.cps_claims.specs.Words as words;
 ghost use Rattle.cps_claims.specs.Words.{size_of, parcel_of};
 
 /// The words of the central processor have 20 octal digits, those of a peripheral processor 4.
@@ -24,9 +25,20 @@ pub enum WordOffset {
     Down(u32),
 }
 
+/// What stands in the rows of an octal text.
+#[derive(Clone, Copy, Debug, PartialEq, Eq)]
+pub enum OctalFormat {
+    /// A listing, typed words or a dump. A row without an address goes on in the word of the row before. An asterisk begins a comment.
+    Rows,
+    /// A dump. Rows have whole words; one without an address goes on with the next word. A row `*`, or one that begins with DUPL, REPEAT
+    /// or SAME, says that the words of the row before stand again, up to the address of the row behind.
+    Dump,
+}
+
 /// How an octal text is laid out.
 #[derive(Clone, Copy)]
 pub struct OctalLayout {
+    pub format: OctalFormat,
     pub form: WordForm,
     /// None: all columns are read.
     pub columns: Option<ReadColumns>,
@@ -53,6 +65,16 @@ pub fn parcel_size(form: WordForm) -> usize
     match form {
         WordForm::Central => 5,
         WordForm::Peripheral => 4,
+    }
+}
+
+/// Whether rows have whole words, and may say that words stand again.
+pub fn is_dump(format: OctalFormat) -> bool
+    ensures { result ≡ words.is_dump format }
+{
+    match format {
+        OctalFormat::Rows => false,
+        OctalFormat::Dump => true,
     }
 }
 

@@ -8,12 +8,13 @@ ghost use Rattle.cps_claims.specs.Rows as rows;
 ghost use Rattle.cps_claims.specs.Claims.{claims_in};
 ghost use Rattle.cps_claims.specs.Reading.{IsReading};
 ghost use Rattle.cps_claims.specs.Code.Held.{Holds};
-ghost use Rattle.cps_claims.specs.Code.Found.{row_with, IsWithin};
+ghost use Rattle.cps_claims.specs.Code.Found.{row_with, IsWithin, rows_left, reached};
 ghost use Rattle.cps_claims.specs.Code.States as states;
 
 use super::claimed_words::{ClaimedWords, RowClaim};
 use super::layout::{OctalLayout, WordForm, cut_row};
-use super::row::{RowReading, UnreadReason, read_row};
+use super::reason::UnreadReason;
+use super::row::{RowReading, read_row};
 use super::stand::RowStand;
 use std::alloc::{AllocError, Global};
 
@@ -116,7 +117,7 @@ struct OctalReader {
     stand: RowStand,
     /// How many rows are behind it.
     number: usize,
-    /// The digits of the last row.
+    /// The digits of the last row that is read; none behind one that isn't read.
     digits: Vec<u8>,
     reading: OctalReading,
 }
@@ -126,6 +127,7 @@ impl OctalReader {
         ensures layout { result.layout ≡ layout }
         ensures stand { result.stand ≡ rows.at_first }
         ensures number { result.number ≡ 0 }
+        ensures digits { result.digits.items ≡ [] }
         ensures state { states.state_of result.reading ≡ states.at_first }
     {
         OctalReader {
@@ -134,6 +136,7 @@ impl OctalReader {
                 place: None,
                 column: None,
                 lost: None,
+                repeated: 0,
             },
             number: 0,
             digits: Vec::new(alloc),
@@ -141,23 +144,29 @@ impl OctalReader {
         }
     }
 
-    /// Reads one row more.
-    fn read(&mut self, row: &[u8]) -> Result<(), AllocError>
+    /// Reads one row more, by what stands behind it too.
+    fn read(&mut self, row: &[u8], behind: Option<&[u8]>) -> Result<(), AllocError>
         requires few { self.old.number < 2 ^ 63 }
         requires total { states.total self.old.reading.counts ≡ self.old.number }
-        ensures row { OnOk result (states.Reads self.old row.now self.new) }
+        requires near { reached self.old.stand < 2 ^ 40 }
+        ensures row { OnOk result (states.Reads self.old row.now (rows_left behind.entry) self.new) }
         ensures total { OnOk result (states.total self.new.reading.counts ≡ self.new.number) }
+        ensures near { OnOk result (reached self.new.stand < 2 ^ 40) }
     {
         let cut = cut_row(row, self.layout.columns);
-        let (found, stand) = read_row(self.layout, self.stand, cut, &mut self.digits)?;
+        let (found, stand) = read_row(self.layout, self.stand, cut, behind, &mut self.digits)?;
         self.number += 1;
         self.stand = stand;
         self.reading
-            .add(self.layout.form, self.number, found, &self.digits)
+            .add(self.layout.form, self.number, found, &self.digits)?;
+        if let RowReading::Unread(_) = found {
+            self.digits.clear();
+        }
+        Ok(())
     }
 }
 
-/// Reads an octal text in the default format: what each row is, and what it claims. Rows end in newlines; behind a last newline
+/// Reads an octal text: what each row is, and what it claims. Rows end in newlines; behind a last newline
 /// stands one row more, which is blank. The rules are our own. The error is that there was no memory.
 pub fn read_octal(
     alloc: Global,
@@ -171,14 +180,14 @@ pub fn read_octal(
     let mut rest = Some(text);
     while let Some(left) = rest {
         let (row, behind) = first_row(left);
-        reader.read(row)?;
+        reader.read(row, behind)?;
         rest = behind;
     }
     Ok(reader.reading)
 }
 
 /// The first row of a text, and what stands behind it.
-fn first_row(text: &[u8]) -> (&[u8], Option<&[u8]>)
+pub fn first_row(text: &[u8]) -> (&[u8], Option<&[u8]>)
     ensures rows { slice_split rows.is_newline text.now
         ≡ result.0.now ∷ option_map_or (λ rest. slice_split rows.is_newline rest.now) result.1 [] }
     ensures shorter { IfSome result.1 (λ rest. length rest.now < length text.now) }

@@ -4,13 +4,15 @@ ghost use Rattle.std.specs.Option.{option_map_or};
 ghost use Rattle.cps_claims.specs.Rows as rows;
 ghost use Rattle.cps_claims.specs.Words as words;
 ghost use Rattle.cps_claims.specs.Code.Walk.{parts_left};
-ghost use Rattle.cps_claims.specs.Code.Found.{row_found, IsWithin};
+ghost use Rattle.cps_claims.specs.Code.Found.{row_found, has_digits, reached, IsWithin, rows_left};
 ghost use Rattle.cps_claims.specs.Parts.{parts_of};
 ghost use Rattle.cps_claims.specs.declared.layout.WordForm.{WordForm};
 
 use super::groups::read_digits;
-use super::layout::{OctalLayout, WordOffset, word_size};
+use super::layout::{OctalLayout, WordOffset, is_dump, word_size};
 use super::part::{RowRest, address_in, are_digits, looks_like_digits};
+use super::reason::UnreadReason;
+use super::repetition::{is_repetition, read_repetition};
 use super::stand::{RowStand, WordPlace};
 use std::alloc::AllocError;
 
@@ -19,21 +21,6 @@ pub const MOST_WORDS: usize = 262_144;
 
 /// The most digits of an address.
 const ADDRESS_DIGITS: usize = 6;
-
-/// Why a row isn't read.
-#[derive(Clone, Copy)]
-pub enum UnreadReason {
-    /// A part looks like digits, but has other characters.
-    DamagedDigits,
-    /// The first group of digits that isn't whole parcels has so many.
-    GroupOf(usize),
-    /// The row has digits but no address, and goes on nowhere.
-    NoAddress,
-    /// The row goes on behind one that isn't read.
-    BehindUnread,
-    /// The row's words reach past the addresses 0 to 777777, in octal.
-    NoSuchAddress,
-}
 
 /// What a row is.
 #[derive(Clone, Copy)]
@@ -48,21 +35,29 @@ pub enum RowReading {
     Unread(UnreadReason),
 }
 
-/// Reads a row, by where the rows above it stand: tells what it is, and where it stands then. Its digits take the place of what
-/// `digits` has.
+/// Reads a row, by where the rows above it stand, and by what stands behind it: tells what it is, and where it stands then. Its digits
+/// take the place of what `digits` has, which is the digits of the last row that is read.
 pub fn read_row(
     layout: OctalLayout,
     stand: RowStand,
     row: &[u8],
+    behind: Option<&[u8]>,
     digits: &mut Vec<u8>,
 ) -> Result<(RowReading, RowStand), AllocError>
-    ensures row { IfOk result (λ found. row_found digits.new.items found ≡ rows.row_of layout stand (parts_of row.now)) }
+    requires near { reached stand < 2 ^ 40 }
+    ensures row { IfOk result (λ found. row_found digits.new.items found
+        ≡ rows.row_among layout stand digits.old.items (parts_of row.now) (rows.first_address layout (rows_left behind.entry))) }
+    ensures kept { IfOk result (λ found. has_digits found.0 ≡ false → digits.new.items ≡ digits.old.items) }
+    ensures near { IfOk result (λ found. reached found.1 < 2 ^ 40) }
     ensures within { IfOk result (λ found. IsWithin layout.form digits.new.items found.0) }
 {
     let whole = RowRest::of(row);
     let Some((part, rest)) = whole.next() else {
         return Ok((RowReading::Blank, stand));
     };
+    if is_dump(layout.format) && is_repetition(part, rest) {
+        return read_repetition(layout, stand, behind, digits);
+    }
     if goes_on(stand, part.column, part.text) {
         return read_digit_row(layout, stand, whole, digits);
     }
@@ -79,10 +74,13 @@ fn read_digit_row(
     rest: RowRest<'_>,
     digits: &mut Vec<u8>,
 ) -> Result<(RowReading, RowStand), AllocError>
+    requires near { reached stand < 2 ^ 40 }
     ensures row { IfOk result (λ found. row_found digits.new.items found ≡ rows.digit_row layout stand (parts_left rest.entry)) }
+    ensures digits { IfOk result (λ found. has_digits found.0 ≡ true) }
+    ensures near { IfOk result (λ found. reached found.1 < 2 ^ 40) }
     ensures within { IfOk result (λ found. IsWithin layout.form digits.new.items found.0) }
 {
-    let fault = read_digits(layout.form, rest, digits)?;
+    let fault = read_digits(layout, rest, digits)?;
     match fault {
         Some(reason) => Ok(unread_at(stand, None, reason)),
         None => Ok(going_on(layout, stand, digits)),
@@ -97,8 +95,11 @@ fn read_behind_address(
     rest: RowRest<'_>,
     digits: &mut Vec<u8>,
 ) -> Result<(RowReading, RowStand), AllocError>
+    requires near { reached stand < 2 ^ 40 }
     ensures row { IfOk result (λ found. row_found digits.new.items found
         ≡ rows.behind_address layout stand address (parts_left rest.entry)) }
+    ensures kept { IfOk result (λ found. has_digits found.0 ≡ false → digits.new.items ≡ digits.old.items) }
+    ensures near { IfOk result (λ found. reached found.1 < 2 ^ 40) }
     ensures within { IfOk result (λ found. IsWithin layout.form digits.new.items found.0) }
 {
     let Some((part, _)) = rest.next() else {
@@ -123,9 +124,11 @@ fn read_address_row(
     digits: &mut Vec<u8>,
 ) -> Result<(RowReading, RowStand), AllocError>
     ensures row { IfOk result (λ found. row_found digits.new.items found ≡ rows.address_row layout stand address (parts_left rest.entry)) }
+    ensures digits { IfOk result (λ found. has_digits found.0 ≡ true) }
+    ensures near { IfOk result (λ found. reached found.1 < 2 ^ 40) }
     ensures within { IfOk result (λ found. IsWithin layout.form digits.new.items found.0) }
 {
-    let fault = read_digits(layout.form, rest, digits)?;
+    let fault = read_digits(layout, rest, digits)?;
     match fault {
         Some(reason) => Ok(unread_at(stand, Some(address), reason)),
         None => Ok(beginning(layout, stand, address, digits)),
@@ -134,8 +137,10 @@ fn read_address_row(
 
 /// What a row is that begins with neither digits that go on nor an address.
 fn text_row(stand: RowStand, text: &[u8]) -> (RowReading, RowStand)
+    requires near { reached stand < 2 ^ 40 }
     ensures row { (column : ℕ) (digits : List ℕ) → row_found digits result
         ≡ rows.text_row stand (record { column = column; text = text.now }) }
+    ensures near { reached result.1 < 2 ^ 40 }
     ensures within { (form : WordForm) (digits : List ℕ) → IsWithin form digits result.0 }
 {
     if looks_like_digits(text) {
@@ -163,13 +168,19 @@ fn is_digit_column(stand: RowStand, column: u128) -> bool
 
 /// A row that goes on behind the row above.
 fn going_on(layout: OctalLayout, stand: RowStand, digits: &[u8]) -> (RowReading, RowStand)
+    requires near { reached stand < 2 ^ 40 }
     ensures row { row_found digits.now result ≡ rows.going_on layout stand digits.now }
+    ensures digits { has_digits result.0 ≡ true }
+    ensures near { reached result.1 < 2 ^ 40 }
     ensures within { IsWithin layout.form digits.now result.0 }
 {
     let Some(place) = stand.place else {
         return unread_at(stand, None, nowhere(stand));
     };
-    if fits(word_size(layout.form), place.count, digits.len()) {
+    let size = word_size(layout.form);
+    if is_dump(layout.format) && place.count == size {
+        claimed(layout, stand, place.address + 1, 0, digits)
+    } else if fits(size, place.count, digits.len()) {
         claimed(layout, stand, place.address, place.count, digits)
     } else {
         unread_at(stand, None, UnreadReason::NoAddress)
@@ -194,6 +205,8 @@ fn beginning(
     digits: &[u8],
 ) -> (RowReading, RowStand)
     ensures row { row_found digits.now result ≡ rows.beginning layout stand address digits.now }
+    ensures digits { has_digits result.0 ≡ true }
+    ensures near { reached result.1 < 2 ^ 40 }
     ensures within { IsWithin layout.form digits.now result.0 }
 {
     let size = word_size(layout.form);
@@ -225,7 +238,7 @@ fn first_place(size: usize, stand: RowStand, address: u64, count: usize) -> usiz
 }
 
 /// Digits that are claimed, from a place of the word at an address of the text on.
-fn claimed(
+pub fn claimed(
     layout: OctalLayout,
     stand: RowStand,
     address: u64,
@@ -234,6 +247,8 @@ fn claimed(
 ) -> (RowReading, RowStand)
     requires { place ≤ 20 }
     ensures row { row_found digits.now result ≡ rows.claimed layout stand address place digits.now }
+    ensures digits { has_digits result.0 ≡ true }
+    ensures near { reached result.1 < 2 ^ 40 }
     ensures within { IsWithin layout.form digits.now result.0 }
 {
     let size = word_size(layout.form);
@@ -249,6 +264,7 @@ fn claimed(
                 place: Some(last),
                 column: stand.column,
                 lost: None,
+                repeated: stand.repeated,
             };
             (RowReading::Read { address: at, place }, stand)
         }
@@ -281,14 +297,21 @@ fn moved(offset: WordOffset, address: u64) -> Option<u128>
 }
 
 /// A row that isn't read, of which the address may be known.
-fn unread_at(stand: RowStand, address: Option<u64>, reason: UnreadReason) -> (RowReading, RowStand)
+pub fn unread_at(
+    stand: RowStand,
+    address: Option<u64>,
+    reason: UnreadReason,
+) -> (RowReading, RowStand)
     ensures row { (digits : List ℕ) → row_found digits result ≡ rows.unread_at stand address reason }
+    ensures digits { has_digits result.0 ≡ true }
+    ensures near { reached result.1 < 2 ^ 40 }
     ensures within { (form : WordForm) (digits : List ℕ) → IsWithin form digits result.0 }
 {
     let left = RowStand {
         place: None,
         column: stand.column,
         lost: lost_at(stand, address),
+        repeated: stand.repeated,
     };
     (RowReading::Unread(reason), left)
 }
@@ -311,11 +334,12 @@ fn begun_at(stand: RowStand, column: u128) -> RowStand
         place: stand.place,
         column: Some(column),
         lost: stand.lost,
+        repeated: stand.repeated,
     }
 }
 
 /// Whether a word that has so many digits has room for more.
-fn fits(size: usize, count: usize, more: usize) -> bool
+pub fn fits(size: usize, count: usize, more: usize) -> bool
     ensures { result ≡ rows.fits size count more }
 {
     count <= size && more <= size - count

@@ -18,4 +18,6 @@ pub struct RowStand {
     pub column: Option<u128>,
     /// The address, as the text has it, of a row that isn't read. Behind it nothing goes on.
     pub lost: Option<u64>,
+    /// How many words stand again by the rows above.
+    pub repeated: usize,
 }

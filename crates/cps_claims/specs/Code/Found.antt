@@ -1,11 +1,14 @@
 -- For the functions that read a row, not part of what a reader believes: what they found.
-use Rattle.std.specs.Prelude.{ℕ, ◌+◌, ◌≤◌, List, length}
+use Rattle.std.specs.Prelude.{ℕ, ◌+◌, ◌≤◌, Bool, true, false, List, [], length, Option}
+use Rattle.std.specs.List.{slice_split}
+use Rattle.std.specs.Option.{option_map_or}
+use Rattle.std.specs.Borrow.{Bor}
 use Rattle.cps_claims.specs.declared.layout.WordForm.{WordForm}
 use Rattle.cps_claims.specs.declared.row.RowReading.{RowReading}
 use Rattle.cps_claims.specs.declared.row.RowReading.TheVariants as code
 use Rattle.cps_claims.specs.declared.stand.RowStand.{RowStand}
 use Rattle.cps_claims.specs.Words.{size_of, most_words}
-use Rattle.cps_claims.specs.Rows.{Row, read, blank, other, unread, words_in}
+use Rattle.cps_claims.specs.Rows.{Row, read, blank, other, unread, words_in, is_newline}
 
 -- a row that has these digits
 abbrev pub row_with : List ℕ → RowReading → Row
@@ -24,3 +27,18 @@ IsWithin form digits (code.Read address place) = (place ≤ 20) × (address + wo
 IsWithin form digits code.Blank = Unit {0}
 IsWithin form digits code.Other = Unit {0}
 IsWithin form digits (code.Unread reason) = Unit {0}
+
+-- whether the digits of a row were looked at
+abbrev pub has_digits : RowReading → Bool
+has_digits (code.Read address place) = true
+has_digits code.Blank = false
+has_digits code.Other = false
+has_digits (code.Unread reason) = true
+
+-- the last address that the rows above claim
+abbrev pub reached : RowStand → ℕ
+reached stand = option_map_or (λ place. place.address) stand.place 0
+
+-- the rows of what stands behind a row
+abbrev pub rows_left : Option (Bor (List ℕ)) → List (List ℕ)
+rows_left behind = option_map_or (λ text. slice_split is_newline text.now) behind []

@@ -1,6 +1,6 @@
 -- For the claims that are kept by address, not part of what a reader believes: what one claim more leaves.
 use Prim.Native.Char.{code}
-use Rattle.std.specs.Prelude.{◌≡◌, ℕ, ◌<◌, Bool, not, ◌==◌, ◌&&◌, ◌||◌, List, [], ◌∷◌, fold, slice_index_or, if◌then◌else◌, Option, false, true}
+use Rattle.std.specs.Prelude.{◌≡◌, ℕ, ◌+◌, ◌<◌, Bool, not, ◌==◌, ◌&&◌, ◌||◌, List, [], ◌∷◌, fold, slice_index_or, if◌then◌else◌, Option, false, true}
 use Rattle.std.specs.Option.{option_map_or}
 use Rattle.std.specs.Bool.{MatchBool}
 use Rattle.cps_claims.specs.declared.claimed_word.ClaimedDigit.{ClaimedDigit}
@@ -28,6 +28,10 @@ is_new slot digit = not (is_octal slot.shown) && (is_octal digit || not (slot.sh
 
 abbrev pub is_contrary : ClaimedDigit → ℕ → Bool
 is_contrary slot digit = is_octal slot.shown && is_octal digit && not (digit == slot.shown)
+
+-- whether no digit is claimed
+abbrev pub is_free : ClaimedDigit → Bool
+is_free slot = slot.shown == code " "
 
 -- whether a digit that can be read is claimed; whether any is
 abbrev pub is_known : ClaimedDigit → Bool
@@ -82,6 +86,11 @@ with_claim_here state place digit row = record {
   again = if is_contrary (state.slots place) digit then first_of state.again row else state.again;
 }
 
+-- digits of a row, from a place on
+abbrev pub with_digits_here : ℕ → ℕ → List ℕ → WordState → WordState
+with_digits_here row place [] state = state
+with_digits_here row place (digit ∷ digits) state = with_digits_here row (place + 1) digits (with_claim_here state place digit row)
+
 -- whether some place of a word passes
 abbrev pub AnyPlace : Bool → (ℕ → Bool) → Type 0
 AnyPlace result test = MatchBool result ((place : ℕ) × (place < 20) × (test place ≡ true)) ((place : ℕ) → place < 20 → test place ≡ false)
@@ -91,6 +100,11 @@ AnyPlace result test = MatchBool result ((place : ℕ) × (place < 20) × (test 
 abbrev pub with_claim : (ℕ → WordState) → Claimed → ℕ → WordState
 with_claim states claim address =
     if claim.address == address then with_claim_here (states address) claim.place claim.digit claim.row else states address
+
+-- digits of a row for one word, from a place of it on
+abbrev pub with_digits : (ℕ → WordState) → ℕ → ℕ → ℕ → List ℕ → ℕ → WordState
+with_digits states row address place digits other =
+    if address == other then with_digits_here row place digits (states other) else states other
 
 abbrev pub none_claimed : ℕ → WordState
 none_claimed address = state_of empty_word

@@ -10,7 +10,7 @@ use Rattle.cps_claims.specs.declared.stand.RowStand.{RowStand}
 use Rattle.cps_claims.specs.Words.{size_of}
 use Rattle.cps_claims.specs.Columns.{columns_read}
 use Rattle.cps_claims.specs.Parts.{parts_of}
-use Rattle.cps_claims.specs.Rows.{Row, read, blank, other, unread, row_of}
+use Rattle.cps_claims.specs.Rows.{Row, read, blank, other, unread, row_among, first_address, digits_behind}
 use Rattle.cps_claims.specs.Claims.{digits_from}
 use Rattle.cps_claims.specs.Code.Slots.{WordState, none_claimed, after, state_at}
 
@@ -58,17 +58,19 @@ with_rows form number state (row ∷ rows) = with_rows form (number + 1) (with_r
 abbrev pub total : RowCounts → ℕ
 total counts = counts.read + counts.blank + counts.other + counts.unread
 
--- what a reader finds in a row
-abbrev pub found_by : OctalReader → List ℕ → Row × RowStand
-found_by reader row = row_of reader.layout reader.stand (parts_of (columns_read reader.layout.columns row))
+-- what a reader finds in a row, with those behind it
+abbrev pub found_by : OctalReader → List ℕ → List (List ℕ) → Row × RowStand
+found_by reader row rows =
+    row_among reader.layout reader.stand reader.digits.items (parts_of (columns_read reader.layout.columns row)) (first_address reader.layout rows)
 
 -- a row is added to what is known
 abbrev pub AddsRow : WordForm → ℕ → Row → OctalReading → OctalReading → Type 0
 AddsRow form number row old new = state_of new ≡ with_row form number (state_of old) row
 
 -- a reader reads a row
-pub record Reads (old : OctalReader) (row : List ℕ) (new : OctalReader) : Type 0 where
+pub record Reads (old : OctalReader) (row : List ℕ) (rows : List (List ℕ)) (new : OctalReader) : Type 0 where
   pub layout : new.layout ≡ old.layout
   pub number : new.number ≡ old.number + 1
-  pub stand : new.stand ≡ (found_by old row).1
-  pub state : AddsRow old.layout.form (old.number + 1) (found_by old row).0 old.reading new.reading
+  pub stand : new.stand ≡ (found_by old row rows).1
+  pub digits : new.digits.items ≡ digits_behind old.digits.items (found_by old row rows).0
+  pub state : AddsRow old.layout.form (old.number + 1) (found_by old row rows).0 old.reading new.reading

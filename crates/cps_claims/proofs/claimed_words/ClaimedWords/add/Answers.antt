@@ -1,28 +1,33 @@
-use Rattle.std.proofs.Common.{◌+◌, ◌/◌, ◌%◌, get_or, ap, ◌∙◌, arith}
+use Rattle.std.proofs.Common.{◌+◌, ◌/◌, ◌%◌, ◌≤◌, length, ap, ◌∙◌, subst, arith}
+use Rattle.std.proofs.lemmas.Nat.{mod_below}
 use Rattle.cps_claims.specs.Words.{size_of}
-use Rattle.cps_claims.specs.Code.Slots.{state_at, with_claim}
-use Rattle.cps_claims.proofs.SlotLemmas.{after-start, after-more, after-end}
+use Rattle.cps_claims.specs.Claims.{digits_from}
+use Rattle.cps_claims.specs.Code.Slots.{state_at, with_digits, after}
+use Rattle.cps_claims.proofs.SlotLemmas.{after-word}
 use Rattle.cps_claims.proofs.claimed_words.ClaimedWords.add.Goals as goal
 
-pub loop-before-init : goal.loop-before-init
-loop-before-init c =
-    after-start (size_of c.args.form) c.args.claim.row c.args.claim.address c.args.claim.place c.args.digits.now (state_at c.args.self.now.words.items)
-
-pub loop-before-preserved : goal.loop-before-preserved
-loop-before-preserved c =
+pub loop-left-preserved : goal.loop-left-preserved
+loop-left-preserved c =
     let claim = c.args.claim in
-    let digits = c.args.digits.now in
-    let before = c.loop-before.before in
-    let at = claim.place + before in
-    let states = state_at c.loop-before.self.words.items in
-    after-more (size_of c.args.form) claim.row claim.address claim.place before digits states _ c.loop-before-test.true
-    (c.in_ok-put.ensures.state
-    ∙ ap (λ size. with_claim states (record { row = claim.row; address = claim.address + at / size; place = at % size; digit = get_or digits before 0 })) c.word_size-size.ensures.size)
-    ∙ c.loop-before.invariant
-
-pub returns : goal.returns
-returns c =
-    let claim = c.args.claim in
-    let past = c.loop-before-test.false in
-    after-end (size_of c.args.form) claim.row claim.address claim.place c.loop-before.before c.args.digits.now (state_at c.loop-before.self.words.items) (omega arith)
-    ∙ c.loop-before.invariant
+    let at = c.loop-left.at in
+    let left = c.loop-left.left.now in
+    let count = c.fewer-count.result in
+    let states = state_at c.loop-left.self.words.items in
+    let same = c.word_size-size.ensures.size in
+    let below = mod_below at c.word_size-size.result c.word_size-size.ensures.some in
+    let first = c.fewer-count.ensures.first in
+    let second = c.fewer-count.ensures.second in
+    let in_code : at % c.word_size-size.result + count ≤ c.word_size-size.result = omega (arith, below, first) in
+    let fit : at % size_of c.args.form + count ≤ size_of c.args.form = subst (λ n. at % n + count ≤ n) same in_code in
+    let within : count ≤ length left = omega (arith, second) in
+    let back_len = c.split_at.ensures.back_len in
+    let counted = c.loop-left.invariant.count in
+    record {
+      claims =
+          ap (λ behind. after (state_at c.put.new.words.items) (digits_from (size_of c.args.form) claim.row claim.address (at + count) behind)) c.split_at.ensures.back
+          ∙ after-word (size_of c.args.form) claim.row claim.address at count left states (state_at c.put.new.words.items) within fit
+          (c.in_ok-put.ensures.state
+          ∙ (λ i. with_digits states claim.row (claim.address + at / same i) (at % same i) (c.split_at.ensures.front i)))
+          ∙ c.loop-left.invariant.claims;
+      count = omega (arith, back_len, counted, within);
+    }

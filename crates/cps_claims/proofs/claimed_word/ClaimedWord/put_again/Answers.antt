@@ -1,7 +1,7 @@
 use Rattle.std.proofs.Common.{◌≡◌, ◌<◌, cond, length, ap, ◌∙◌, arith, rules}
 use Rattle.cps_claims.specs.Code.Slots.{with_digit, is_new, is_contrary}
 use Rattle.cps_claims.proofs.SlotLemmas.{slot-read, slots-put}
-use Rattle.cps_claims.proofs.claimed_word.ClaimedWord.put.Goals as goal
+use Rattle.cps_claims.proofs.claimed_word.ClaimedWord.put_again.Goals as goal
 
 pub returns : goal.returns
 returns c =
