@@ -1,0 +1,2 @@
+pub mod Drift
+pub mod Code
