@@ -8,7 +8,7 @@ _compass_words() {
     batch) echo '--part --listing --binary --symbols --flags -h --help' ;;
     session) echo '--source -h --help' ;;
     check) echo '-h --help' ;;
-    compare) echo '--from --to --columns -h --help' ;;
+    compare) echo '--format --columns --offset --from --to --whole --all -h --help' ;;
     explain) echo '-h --help' ;;
     server) echo '--stdio -h --help' ;;
     help) echo '-h --help' ;;
@@ -34,7 +34,8 @@ _compass() {
   case $command$before in
     batch--part) _compass_offer -W 'listing binary symbols flags all' ;;
     batch--listing | batch--binary | batch--symbols | batch--flags | session--source) _compass_offer_files ;;
-    compare--from | compare--to | compare--columns) ;;
+    compare--format) _compass_offer -W 'rows dump' ;;
+    compare--columns | compare--offset | compare--from | compare--to) ;;
     *)
       case $command,$word in
         *,-*) _compass_offer -W "$(_compass_words "$command")" ;;

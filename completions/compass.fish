@@ -20,9 +20,13 @@ complete -c compass -n '__fish_seen_subcommand_from check' -F
 
 complete -c compass -n __fish_use_subcommand -a compare -d 'Compare the words of a source with an octal listing or dump'
 complete -c compass -n '__fish_seen_subcommand_from compare' -F
+complete -c compass -n '__fish_seen_subcommand_from compare' -l format -x -a 'rows dump' -d 'How rows of the octal text are read'
+complete -c compass -n '__fish_seen_subcommand_from compare' -l columns -x -d 'Columns of each row that are read, first-last'
+complete -c compass -n '__fish_seen_subcommand_from compare' -l offset -x -d 'What is added to each address, in octal'
 complete -c compass -n '__fish_seen_subcommand_from compare' -l from -x -d 'First address, in octal'
 complete -c compass -n '__fish_seen_subcommand_from compare' -l to -x -d 'Last address, in octal'
-complete -c compass -n '__fish_seen_subcommand_from compare' -l columns -x -d 'Columns of each row that are read, first-last'
+complete -c compass -n '__fish_seen_subcommand_from compare' -l whole -d 'Each word has to be given, and all of it'
+complete -c compass -n '__fish_seen_subcommand_from compare' -l all -d 'Tell all words that differ, and all rows not read'
 
 complete -c compass -n __fish_use_subcommand -a explain -d 'Explain a flag or an operation'
 complete -c compass -n '__fish_seen_subcommand_from explain' -a 'A D E L O T U V' -d 'Flag'

@@ -1,12 +1,12 @@
 -- The pieces of a source, line by line.
 use Rattle.std.proofs.Common.{◌≡◌, ℕ, suc, ◌+◌, ◌-◌, ◌<◌, get_or, List, [], ◌∷◌, ◌++◌, length, take, refl, sym, ap, subst, ◌∙◌, arith, append_assoc, append-nil}
-use Rattle.std.specs.Prelude.{map, slice_get, Some, Option}
+use Rattle.std.specs.Prelude.{map, slice_get, is_some, None, Some, Option, false}
 use Rattle.std.specs.List.{flat_map}
 use Rattle.std.proofs.lemmas.List.{map-append, map_push, take_more}
 use Rattle.std.proofs.lemmas.Grind.{flat_map-append}
 use Rattle.cps_code.specs.declared.piece.Piece as code
 use Rattle.cps_code.specs.Image.{piece_of, Piece, ArePacked}
-use Rattle.cps_compare.specs.Code.Reading.{AreMade, IsDeck}
+use Rattle.cps_compare.specs.Code.Deck.{AreMade, IsDeck}
 use Rattle.cps_final.specs.Outcome.{Outcome}
 use Rattle.cps_list.specs.Assembly.{Assembly}
 use Rattle.cps_list.specs.Binary.{pieces_in, pieces_of, pool_pieces}
@@ -86,3 +86,8 @@ pool-next f items pool i old new same within was is =
     ∙ sym (ap (flat_map f) (take_more pool i 0 there)
     ∙ flat_map-append f (take i pool) (get_or pool i 0 ∷ [])
     ∙ ap (λ (l : List Piece). flat_map f (take i pool) ++ l) (append-nil (f (get_or pool i 0))))
+
+-- no word
+pub none-is : (word : Option ℕ) → is_some word ≡ false → word ≡ None
+none-is None is = refl
+none-is (Some word) is = cc

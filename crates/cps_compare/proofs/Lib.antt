@@ -1,10 +1,11 @@
 pub mod CutLemmas
-pub mod NumberLemmas
-pub mod GivenLemmas
-pub mod WordLemmas
 pub mod MakerLemmas
 pub mod DeckLemmas
 pub mod ToldLemmas
+pub mod GivenLemmas
+pub mod SurveyLemmas
+pub mod RunLemmas
 pub mod TextLemmas
 mod WorkedRows
+pub mod KeptLemmas
 pub mod OctalLemmas

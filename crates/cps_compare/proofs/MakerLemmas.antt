@@ -9,7 +9,7 @@ use Rattle.cps_code.specs.Image.{Piece}
 use Rattle.cps_compare.specs.declared.maker.Maker.{Maker}
 use Rattle.cps_compare.specs.declared.maker.Maker.TheVariants.{Nobody}
 use Rattle.cps_compare.specs.Makers.{Signed, signed_by, meets}
-use Rattle.cps_compare.specs.Code.Reading.{AreMade, slot_at}
+use Rattle.cps_compare.specs.Code.Deck.{AreMade, slot_at}
 
 abbrev pub is_inside : Piece → ℕ → Bool
 is_inside piece digit = ltb piece.first (3 * digit + 3) && ltb (3 * digit) (piece.first + piece.width)

@@ -1,11 +1,10 @@
 -- A text, piece by piece.
-use Rattle.std.proofs.Common.{◌≡◌, ℕ, ◌<◌, ◌≤◌, zero, suc, ◌+◌, ◌/◌, ◌%◌, Bool, List, [], ◌∷◌, ◌++◌, length, filter, Option, None, Some, refl, ap, ◌∙◌, arith, append_assoc, length-append}
+use Rattle.std.proofs.Common.{◌≡◌, ℕ, ◌<◌, ◌≤◌, Bool, List, ◌++◌, filter, Option, None, Some, refl, ap, ◌∙◌, arith, append_assoc}
 use Rattle.std.specs.Prelude.{unwrap_or, All}
 use Rattle.std.specs.List.{range_with_len}
 use Rattle.std.specs.Option.{ForSome}
 use Rattle.std.proofs.lemmas.List.Elements.{All-filter, All-from_get_or}
 use Rattle.std.proofs.lemmas.List.FromFn.{length-range_with_len, get_or-range_with_len}
-use Rattle.cps_text.specs.Octal.{octal}
 
 pub five-pieces : (t a b c d e r1 r2 r3 r4 r5 : List ℕ) → r1 ≡ t ++ a → r2 ≡ r1 ++ b → r3 ≡ r2 ++ c → r4 ≡ r3 ++ d → r5 ≡ r4 ++ e → r5 ≡ t ++ (a ++ b ++ c ++ d ++ e)
 five-pieces t a b c d e r1 r2 r3 r4 r5 e1 e2 e3 e4 e5 =
@@ -14,7 +13,17 @@ five-pieces t a b c d e r1 r2 r3 r4 r5 e1 e2 e3 e4 e5 =
 pub six-pieces : (t a b c d e f r1 r2 r3 r4 r5 r6 : List ℕ) → r1 ≡ t ++ a → r2 ≡ r1 ++ b → r3 ≡ r2 ++ c → r4 ≡ r3 ++ d → r5 ≡ r4 ++ e → r6 ≡ r5 ++ f
     → r6 ≡ t ++ (a ++ b ++ c ++ d ++ e ++ f)
 six-pieces t a b c d e f r1 r2 r3 r4 r5 r6 e1 e2 e3 e4 e5 e6 =
-    e6 ∙ ap (λ (l : List ℕ). l ++ f) (five-pieces t a b c d e r1 r2 r3 r4 r5 e1 e2 e3 e4 e5) ∙ append_assoc t (a ++ b ++ c ++ d ++ e) f
+    e6 ∙ ap (λ (l : List ℕ). l ++ f) (five-pieces t a b c d e r1 r2 r3 r4 r5 e1 e2 e3 e4 e5) ∙ simp append_assoc
+
+pub seven-pieces : (t a b c d e f g r1 r2 r3 r4 r5 r6 r7 : List ℕ) → r1 ≡ t ++ a → r2 ≡ r1 ++ b → r3 ≡ r2 ++ c → r4 ≡ r3 ++ d → r5 ≡ r4 ++ e
+    → r6 ≡ r5 ++ f → r7 ≡ r6 ++ g → r7 ≡ t ++ (a ++ b ++ c ++ d ++ e ++ f ++ g)
+seven-pieces t a b c d e f g r1 r2 r3 r4 r5 r6 r7 e1 e2 e3 e4 e5 e6 e7 =
+    e7 ∙ ap (λ (l : List ℕ). l ++ g) (six-pieces t a b c d e f r1 r2 r3 r4 r5 r6 e1 e2 e3 e4 e5 e6) ∙ simp append_assoc
+
+pub eight-pieces : (t a b c d e f g h r1 r2 r3 r4 r5 r6 r7 r8 : List ℕ) → r1 ≡ t ++ a → r2 ≡ r1 ++ b → r3 ≡ r2 ++ c → r4 ≡ r3 ++ d → r5 ≡ r4 ++ e
+    → r6 ≡ r5 ++ f → r7 ≡ r6 ++ g → r8 ≡ r7 ++ h → r8 ≡ t ++ (a ++ b ++ c ++ d ++ e ++ f ++ g ++ h)
+eight-pieces t a b c d e f g h r1 r2 r3 r4 r5 r6 r7 r8 e1 e2 e3 e4 e5 e6 e7 e8 =
+    e8 ∙ ap (λ (l : List ℕ). l ++ h) (seven-pieces t a b c d e f g r1 r2 r3 r4 r5 r6 r7 e1 e2 e3 e4 e5 e6 e7) ∙ simp append_assoc
 
 -- a chosen value, or another
 pub unwrap-below : (o : Option ℕ) (d n : ℕ) → ForSome o (λ x. x < n) → d < n → unwrap_or o d < n

@@ -1,3 +1,5 @@
 -- What serves the code alone, and no reader need believe.
-pub mod Reading
-pub mod Shown
+pub mod Deck
+pub mod Runs
+pub mod Surveys
+pub mod Kept

@@ -1,39 +1,46 @@
--- The digits that an octal text gives for the words at each address. Our own.
-use Rattle.std.specs.Prelude.{ℕ, ◌-◌, ◌*◌, ◌&&◌, nat_le, nat_lt, List, [], ◌++◌, length, take, drop, fold, map, Option, if◌then◌else◌}
-use Rattle.std.specs.List.{slice_split}
-use Rattle.cps_compare.specs.declared.limits.OctalColumns.{OctalColumns}
-use Rattle.cps_compare.specs.Rows.{OctalRow, row_given, is_newline}
+-- What an octal text gives of a word, as it is told. Our own.
+use Rattle.std.specs.Prelude.{ℕ, Bool, List, map, count_by, if◌then◌else◌}
+use Rattle.std.specs.List.{list_any}
+use Rattle.cps_claims.specs.declared.claimed_word.ClaimedDigit.{ClaimedDigit}
+use Rattle.cps_claims.specs.Parts.{is_octal}
+use Rattle.cps_claims.specs.Claims.{Claimed}
+use Rattle.cps_claims.specs.Counts.{places}
+use Rattle.cps_claims.specs.Shown.{shown_digit, again_digit, is_unknown, is_denied}
+use Rattle.cps_list.specs.Listing.{trimmed}
 
--- addresses have six octal digits
-abbrev pub most_words : ℕ
-most_words = 262144
+-- what is shown of each digit of a word; the first has place 0
+abbrev pub Given : Type 0
+Given = ℕ → ClaimedDigit
 
--- what a row goes on behind: the digits at its address, unless the word there has all of its digits
-abbrev pub begun : ℕ → List ℕ → List ℕ
-begun size word = if nat_lt (length word) size then word else []
+abbrev pub given_at : List Claimed → ℕ → Given
+given_at claims address place = record { shown = shown_digit claims address place; again = again_digit claims address place }
 
--- digits cut into words: those of one of them
-abbrev pub cut_word : ℕ → List ℕ → ℕ → List ℕ
-cut_word size digits number = take size (drop (number * size) digits)
+-- the digits that are given, from the first on
+abbrev pub shown_word : Given → List ℕ
+shown_word given = trimmed (map (λ place. (given place).shown) places)
 
--- the digits of a word, and later ones: at each place what stands first counts
-abbrev pub joined : List ℕ → List ℕ → List ℕ
-joined first later = first ++ drop (length first) later
+-- ---- digits that are given twice
 
--- What stands at an address after one row more. Its words have `size` digits each, the first at its address and the next ones behind it.
-abbrev pub with_row : ℕ → (ℕ → List ℕ) → OctalRow → ℕ → List ℕ
-with_row size given row address =
-    if nat_le row.address address && nat_lt address most_words
-    then joined (given address) (cut_word size (begun size (given row.address) ++ row.digits) (address - row.address))
-    else given address
+abbrev pub said_again : ClaimedDigit → ℕ
+said_again digit = if is_denied digit then digit.again else digit.shown
 
-abbrev pub none_given : ℕ → List ℕ
-none_given address = []
+-- the same word with the digits that are said again
+abbrev pub again_word : Given → List ℕ
+again_word given = trimmed (map (λ place. said_again (given place)) places)
 
--- the digits that rows give, one row after another
-abbrev pub given_by : ℕ → (ℕ → List ℕ) → List OctalRow → ℕ → List ℕ
-given_by size given rows = fold (with_row size) given rows
+-- whether some digit is given twice, with two values
+abbrev pub has_denied : Given → Bool
+has_denied given = list_any (λ place. is_denied (given place)) places
 
--- the digits that a text gives
-abbrev pub given_in : ℕ → Option OctalColumns → List ℕ → ℕ → List ℕ
-given_in size columns text = given_by size none_given (map (row_given columns) (slice_split is_newline text))
+-- ---- how many
+
+-- digits that can be read
+abbrev pub known_in : Given → ℕ
+known_in given = count_by (λ place. is_octal (given place).shown) places
+
+-- digits that can't be read
+abbrev pub unknown_in : Given → ℕ
+unknown_in given = count_by (λ place. is_unknown (given place)) places
+
+abbrev pub denied_in : Given → ℕ
+denied_in given = count_by (λ place. is_denied (given place)) places

@@ -1,8 +1,9 @@
-pub mod Rows
-pub mod Given
 pub mod Makers
+pub mod Statements
+pub mod Given
 pub mod Differences
 pub mod Told
+pub mod Summary
 pub mod Comparison
 pub mod Octal
 pub mod Code

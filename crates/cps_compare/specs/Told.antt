@@ -1,20 +1,34 @@
 -- What is told of words that differ. The layout is our own.
-use Rattle.std.specs.Prelude.{ℕ, zero, suc, ◌+◌, ◌-◌, Bool, true, false, ◌==◌, List, [], ◌∷◌, ◌++◌, map, flat_map, drop, codes, decimal, slice_index_or, Option, None, Some, if◌then◌else◌}
-use Rattle.std.specs.List.{range_with_len, count_by, position_or_len}
+use Rattle.std.specs.Prelude.{ℕ, zero, suc, ◌+◌, ◌-◌, Bool, true, false, not, ◌==◌, ◌&&◌, ◌||◌, nat_le, nat_lt, List, [], ◌∷◌, ◌++◌, length, map, filter, flat_map, take, drop, codes, bytes_eq, decimal, slice_index, slice_index_or, Option, None, Some, is_some, if◌then◌else◌}
+use Rattle.std.specs.List.{range_with_len, position_or_len, slice_split}
+use Rattle.std.specs.Option.{option_map_or}
 use Rattle.cps_text.specs.Octal.{octal}
 use Rattle.cps_text.specs.Text.{is_filled}
 use Rattle.cps_list.specs.Columns.{Column, laid_out}
+use Rattle.cps_claims.specs.Rows.{Row}
+use Rattle.cps_claims.specs.Claims.{Claimed, Words, differs}
+use Rattle.cps_claims.specs.Counts.{is_given}
+use Rattle.cps_claims.specs.Shown.{first_row, last_row, again_row}
 use Rattle.cps_compare.specs.declared.maker.Maker.{Maker}
 use Rattle.cps_compare.specs.declared.maker.Maker.TheVariants.{Nobody, Line, Literal}
-use Rattle.cps_compare.specs.Differences.{differs, is_compared, has_digits, places}
+use Rattle.cps_compare.specs.Given.{Given, given_at, shown_word, again_word, has_denied}
+use Rattle.cps_compare.specs.Differences.{lacks, places_of}
 
--- an octal text and a source: the digits that the one gives for each address; the digits of the words of the other, what made them, and
--- its lines
+-- an octal text and a source
 pub record Sides : Type 0 where
-  pub given : ℕ → List ℕ
-  pub deck : ℕ → Option (List ℕ)
+  -- of the text: what each of its rows is, and what they claim
+  pub rows : List Row
+  pub claims : List Claimed
+  -- of the source: its words; what made their digits; its lines; and the statements of expansions, by line and address
+  pub words : Words
   pub maker : ℕ → ℕ → Maker
   pub lines : List (List ℕ)
+  pub statements : ℕ → ℕ → List (List ℕ)
+  -- whether all words must be given
+  pub whole : Bool
+
+abbrev pub given_for : Sides → ℕ → Given
+given_for sides address = given_at sides.claims address
 
 -- ---- the two words
 
@@ -22,12 +36,37 @@ abbrev pub deck_text : Option (List ℕ) → List ℕ
 deck_text None = codes "(no word)"
 deck_text (Some word) = word
 
-abbrev pub octal_text : List ℕ → List ℕ
-octal_text digits = if has_digits digits then digits else codes "(no digits)"
+-- the rows of the text that have the digits of a word; rows count from 1
+pub record GivenRows : Type 0 where
+  -- the first and the last that tell something of it, and the first that says otherwise
+  pub first : ℕ
+  pub last : ℕ
+  pub again : ℕ
 
-abbrev pub word_rows : ℕ → List ℕ → Option (List ℕ) → List ℕ
-word_rows address digits word =
-    octal 6 address ++ codes " deck  " ++ deck_text word ++ codes "\n       octal " ++ octal_text digits ++ codes "\n"
+abbrev pub rows_for : List Claimed → ℕ → GivenRows
+rows_for claims address = record { first = first_row claims address; last = last_row claims address; again = again_row claims address }
+
+abbrev pub rows_text : GivenRows → List ℕ
+rows_text rows =
+    if rows.first == rows.last then codes "  row " ++ decimal rows.first
+    else codes "  rows " ++ decimal rows.first ++ codes " to " ++ decimal rows.last
+
+abbrev pub has_bytes : List ℕ → Bool
+has_bytes text = nat_lt 0 (length text)
+
+abbrev pub octal_text : Given → GivenRows → List ℕ
+octal_text given rows = if has_bytes (shown_word given) then shown_word given ++ rows_text rows else codes "(no digits)"
+
+abbrev pub again_told : Given → GivenRows → List ℕ
+again_told given rows = codes "       again " ++ again_word given ++ codes "  row " ++ decimal rows.again ++ codes "\n"
+
+abbrev pub again_text : Given → GivenRows → List ℕ
+again_text given rows = if has_denied given then again_told given rows else []
+
+abbrev pub word_rows : ℕ → Option (List ℕ) → Given → GivenRows → List ℕ
+word_rows address word given rows =
+    octal 6 address ++ codes " deck  " ++ deck_text word ++ codes "\n       octal " ++ octal_text given rows ++ codes "\n"
+    ++ again_text given rows
 
 -- a caret below a digit; the first one stands in column 14
 abbrev pub caret_at : ℕ → Column
@@ -57,56 +96,85 @@ trimmed line = drop (position_or_len is_filled line) line
 abbrev pub line_row : ℕ → List ℕ → List ℕ
 line_row number line = codes "       line " ++ decimal number ++ codes ": " ++ trimmed line ++ codes "\n"
 
-abbrev pub maker_row : List (List ℕ) → Maker → List ℕ
-maker_row lines Nobody = []
-maker_row lines (Line number) = line_row number (line_at lines number)
-maker_row lines Literal = codes "       a literal\n"
+abbrev pub statement_row : List ℕ → List ℕ
+statement_row text = codes "       + " ++ trimmed text ++ codes "\n"
+
+-- the statements of an expansion, each that isn't the same as the one before
+abbrev pub statement_rows : List ℕ → List (List ℕ) → List ℕ
+statement_rows last [] = []
+statement_rows last (text ∷ texts) = (if bytes_eq last text then [] else statement_row text) ++ statement_rows text texts
+
+-- what made a digit of a word: its lines, and the statements of expansions that show a code there, by line
+abbrev pub maker_row : List (List ℕ) → (ℕ → List (List ℕ)) → Maker → List ℕ
+maker_row lines statements Nobody = []
+maker_row lines statements (Line number) = line_row number (line_at lines number) ++ statement_rows [] (statements number)
+maker_row lines statements Literal = codes "       a literal\n"
 
 -- the rows of makers, each that isn't the same as the one before
-abbrev pub maker_rows : List (List ℕ) → Maker → List Maker → List ℕ
-maker_rows lines last [] = []
-maker_rows lines last (maker ∷ makers) = (if is_same last maker then [] else maker_row lines maker) ++ maker_rows lines maker makers
+abbrev pub maker_rows : List (List ℕ) → (ℕ → List (List ℕ)) → Maker → List Maker → List ℕ
+maker_rows lines statements last [] = []
+maker_rows lines statements last (maker ∷ makers) =
+    (if is_same last maker then [] else maker_row lines statements maker) ++ maker_rows lines statements maker makers
 
 -- the rows of what made the digits at places of a word
-abbrev pub made_rows : List (List ℕ) → (ℕ → Maker) → List ℕ → List ℕ
-made_rows lines maker at = maker_rows lines Nobody (map maker at)
+abbrev pub made_rows : List (List ℕ) → (ℕ → List (List ℕ)) → (ℕ → Maker) → List ℕ → List ℕ
+made_rows lines statements maker at = maker_rows lines statements Nobody (map maker at)
 
--- ---- the rows of an address
+-- ---- the rows of a word
 
--- the rows below two words: carets, where there are digits, and what made those that differ
-abbrev pub digit_rows : List (List ℕ) → (ℕ → Maker) → List ℕ → List ℕ → List ℕ
-digit_rows lines maker digits word =
-    (if has_digits digits then caret_row (places digits word) else []) ++ made_rows lines maker (places digits word)
-
-abbrev pub rows_with : Sides → ℕ → List ℕ → Option (List ℕ) → List ℕ
-rows_with sides address digits None = word_rows address digits None
-rows_with sides address digits (Some word) =
-    word_rows address digits (Some word) ++ digit_rows sides.lines (sides.maker address) digits word
-
-abbrev pub differs_at : Sides → ℕ → Bool
-differs_at sides address = differs (sides.given address) (sides.deck address)
+-- the rows below two words: carets, where digits are given, and what made those that differ
+abbrev pub digit_rows : Sides → ℕ → List ℕ → List ℕ
+digit_rows sides address word =
+    let given = given_for sides address in
+    let at = places_of sides.whole word given in
+    (if has_bytes (shown_word given) then caret_row at else [])
+    ++ made_rows sides.lines (λ number. sides.statements number address) (sides.maker address) at
 
 abbrev pub rows_at : Sides → ℕ → List ℕ
-rows_at sides address = if differs_at sides address then rows_with sides address (sides.given address) (sides.deck address) else []
+rows_at sides address =
+    word_rows address (sides.words address) (given_for sides address) (rows_for sides.claims address)
+    ++ option_map_or (digit_rows sides address) (sides.words address) []
 
--- ---- all rows
+-- ---- the words that differ
+
+-- a word is compared where some digit of it can be read; where all words must be given, each word of the source is
+abbrev pub is_compared : Sides → ℕ → Bool
+is_compared sides address = is_given sides.claims address || (sides.whole && is_some (sides.words address))
+
+abbrev pub lacks_at : Sides → ℕ → Bool
+lacks_at sides address = option_map_or (λ word. lacks word (given_for sides address)) (sides.words address) false
+
+-- a word differs where a known claim isn't the source's digit; where all words must be given, also where digits lack
+abbrev pub differs_at : Sides → ℕ → Bool
+differs_at sides address = differs sides.words sides.claims address || (sides.whole && lacks_at sides address)
 
 -- the addresses from one to another
 abbrev pub addresses : ℕ → ℕ → List ℕ
 addresses low high = range_with_len low (high + 1 - low)
 
-abbrev pub count_differing : Sides → ℕ → ℕ → ℕ
-count_differing sides low high = count_by (differs_at sides) (addresses low high)
+abbrev pub compared : Sides → ℕ → ℕ → List ℕ
+compared sides low high = filter (is_compared sides) (addresses low high)
 
-abbrev pub count_compared : Sides → ℕ → ℕ → ℕ
-count_compared sides low high = count_by (λ address. is_compared (sides.given address) (sides.deck address)) (addresses low high)
+-- ---- runs of words that differ one after another
 
-abbrev pub last_row : ℕ → ℕ → ℕ → ℕ → List ℕ
-last_row differing compared low high =
-    decimal differing ++ codes " of " ++ decimal compared ++ codes " words differ (" ++ octal 6 low ++ codes " to " ++ octal 6 high ++ codes ")\n"
+-- how many more words differ, from one address to another
+abbrev pub more_row : ℕ → ℕ → ℕ → List ℕ
+more_row first last count =
+    octal 6 first ++ codes " to " ++ octal 6 last ++ codes ": " ++ decimal count ++ codes " more words differ\n"
 
--- what is told: the words that differ, by rising addresses, and how many they are
-abbrev pub told_text : Sides → ℕ → ℕ → List ℕ
-told_text sides low high =
-    flat_map (rows_at sides) (addresses low high)
-    ++ last_row (count_differing sides low high) (count_compared sides low high) low high
+abbrev pub rest_row : List ℕ → List ℕ
+rest_row rest = more_row (slice_index rest 0) (slice_index rest (length rest - 1)) (length rest)
+
+-- Of more than five the first four are told, and how many are left, unless all are to be told.
+abbrev pub run_rows : Sides → Bool → List ℕ → List ℕ
+run_rows sides all run =
+    if all || nat_le (length run) 5 then flat_map (rows_at sides) run
+    else flat_map (rows_at sides) (take 4 run) ++ rest_row (drop 4 run)
+
+-- the words of a run are compared one after another, and each differs
+abbrev pub runs_of : Sides → List ℕ → List (List ℕ)
+runs_of sides run = slice_split (λ address. not (differs_at sides address)) run
+
+-- the rows of all words that differ, by rising addresses
+abbrev pub differing_rows : Sides → Bool → ℕ → ℕ → List ℕ
+differing_rows sides all low high = flat_map (run_rows sides all) (runs_of sides (compared sides low high))

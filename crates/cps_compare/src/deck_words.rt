@@ -1,11 +1,14 @@
 //! The words of a source, and what made their digits.
-ghost use Rattle.std.specs.Prelude.{◌≡◌, ◌∷◌, [], ◌<◌, ◌%◌, ◌^◌, ℕ, IfOk, OnOk, map};
+ghost use Rattle.std.specs.Prelude.{◌≡◌, ◌∷◌, [], ◌<◌, ◌%◌, ◌^◌, ℕ, List, IfOk, IfSome, OnOk, MatchOption, is_some, map};
 ghost use Rattle.cps_expr.specs.Item.{bits_of};
-ghost use Rattle.cps_code.specs.Image.{piece_of};
+ghost use Rattle.cps_code.specs.Image as image;
+ghost use Rattle.cps_code.specs.Image.{ArePacked, piece_of};
 ghost use Rattle.cps_state.specs.Machines.{limit};
 ghost use Rattle.cps_list.specs.Binary as texts;
 ghost use Rattle.cps_compare.specs.Makers.{signed_by, signed_of};
-ghost use Rattle.cps_compare.specs.Code.Reading.{AddsPieces, IsDeck, PutsOver};
+ghost use Rattle.cps_compare.specs.Differences.{word_of};
+ghost use Rattle.cps_compare.specs.Comparison.{IsFirst, IsLast};
+ghost use Rattle.cps_compare.specs.Code.Deck.{AddsPieces, HasNoWord, IsDeck, PutsOver};
 
 use super::maker::Maker;
 use super::makers::Makers;
@@ -25,7 +28,7 @@ pub struct DeckWords {
 
 impl DeckWords {
     ghost use Rattle.cps_compare.specs.Makers.{signed_of, signed_by};
-    ghost use Rattle.cps_compare.specs.Code.Reading.{IsDeck, PutsOver};
+    ghost use Rattle.cps_compare.specs.Code.Deck.{IsDeck, PutsOver};
 
     /// Of an assembled source.
     pub fn of<V: View>(alloc: Global, view: &V) -> Result<DeckWords, AllocError>
@@ -41,6 +44,44 @@ impl DeckWords {
         let pool = pool_pieces(alloc, view.finals())?;
         deck.add(Maker::Literal, &pool)?;
         Ok(deck)
+    }
+
+    /// The word at an address; none stands past the machine's limit.
+    pub fn word(&self, machine: Machine, address: u32) -> Option<u64>
+        ensures { (pieces : List image.Piece) → ArePacked pieces self.now.words → result ≡ word_of machine pieces address }
+    {
+        if address < limit_of(machine) {
+            self.words.get(address)
+        } else {
+            None
+        }
+    }
+
+    /// The first address at which a word stands.
+    pub fn first(&self, machine: Machine) -> Option<u32>
+        ensures { (pieces : List image.Piece) → ArePacked pieces self.now.words
+            → MatchOption result (HasNoWord (word_of machine pieces)) (IsFirst (λ address. is_some (word_of machine pieces address))) }
+    {
+        for address in 0..limit_of(machine) {
+            if self.word(machine, address).is_some() {
+                return Some(address);
+            }
+        }
+        None
+    }
+
+    /// The last address at which a word stands.
+    pub fn last(&self, machine: Machine) -> Option<u32>
+        ensures last { (pieces : List image.Piece) → ArePacked pieces self.now.words
+            → MatchOption result (HasNoWord (word_of machine pieces)) (IsLast (λ address. is_some (word_of machine pieces address))) }
+        ensures few { IfSome result (λ address. address < 2 ^ 18) }
+    {
+        for address in (0..limit_of(machine)).rev() {
+            if self.word(machine, address).is_some() {
+                return Some(address);
+            }
+        }
+        None
     }
 
     /// No word.

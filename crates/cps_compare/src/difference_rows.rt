@@ -1,13 +1,21 @@
 //! The rows that tell a difference.
-ghost use Rattle.std.specs.Prelude.{◌≡◌, [], ◌++◌, ◌<◌, length, OnOk, IfSome, All};
+ghost use Rattle.std.specs.Prelude.{◌≡◌, ℕ, [], ◌++◌, ◌<◌, length, OnOk, IfSome, All, if◌then◌else◌};
 ghost use Rattle.std.specs.List.{position};
 ghost use Rattle.std.specs.Option.{option_map};
 ghost use Rattle.cps_text.specs.Text.{is_filled};
+ghost use Rattle.cps_claims.specs.Shown.{kept_digit};
+ghost use Rattle.cps_compare.specs.Statements.{statements_of, texts_from};
 ghost use Rattle.cps_compare.specs.Told as told;
-ghost use Rattle.cps_compare.specs.Code.Reading.{maker_at};
+ghost use Rattle.cps_compare.specs.Told.{statement_rows};
+ghost use Rattle.cps_compare.specs.Code.Deck.{maker_at};
+ghost use Rattle.cps_compare.specs.Code.Kept.{kept_rows, statements_at};
 
+use super::given_word::{has_denied, has_shown, push_again, push_shown};
 use super::maker::Maker;
 use super::makers::Makers;
+use super::statements::push_statements;
+use cps_claims::{ClaimedWord, MOST_DIGITS};
+use cps_final::Row;
 use cps_list::{View, fill_columns, push_decimal};
 use cps_text::push_octal;
 use std::alloc::AllocError;
@@ -18,22 +26,23 @@ const ADDRESS_DIGITS: u8 = 6;
 /// The columns before a word.
 const BEFORE_WORD: usize = 13;
 
-/// The rows of a word of a source, and of the digits of an octal text for it.
+/// The rows of a word of a source, and of the digits that an octal text gives of it.
 pub fn push_words(
     text: &mut Vec<u8>,
     address: u32,
-    digits: &[u8],
     word: Option<&[u8]>,
+    given: &ClaimedWord,
 ) -> Result<(), AllocError>
     ensures { OnOk result (text.new.items ≡ text.old.items
-        ++ told.word_rows address digits.now (option_map (λ word. word.now) word.entry)) }
+        ++ told.word_rows address (option_map (λ word. word.now) word.entry) (kept_digit given.now) (kept_rows given.now)) }
 {
     push_octal(text, u64::from(address), ADDRESS_DIGITS)?;
     text.extend_from_slice(b" deck  ")?;
     text.extend_from_slice(deck_text(word))?;
     text.extend_from_slice(b"\n       octal ")?;
-    text.extend_from_slice(octal_text(digits))?;
+    push_given(text, given)?;
     text.push(b'\n')?;
+    push_denied(text, given)?;
     Ok(())
 }
 
@@ -46,19 +55,67 @@ fn deck_text(word: Option<&[u8]>) -> &[u8]
     }
 }
 
-fn octal_text(digits: &[u8]) -> &[u8]
-    ensures { result.now ≡ told.octal_text digits.now }
+/// The digits that are given, and the rows that have them.
+fn push_given(text: &mut Vec<u8>, given: &ClaimedWord) -> Result<(), AllocError>
+    ensures { OnOk result (text.new.items ≡ text.old.items ++ told.octal_text (kept_digit given.now) (kept_rows given.now)) }
 {
-    if digits.is_empty() {
-        b"(no digits)"
+    if !has_shown(given) {
+        return text.extend_from_slice(b"(no digits)");
+    }
+    push_shown(text, given)?;
+    push_rows(text, given)
+}
+
+fn push_rows(text: &mut Vec<u8>, given: &ClaimedWord) -> Result<(), AllocError>
+    ensures { OnOk result (text.new.items ≡ text.old.items ++ told.rows_text (kept_rows given.now)) }
+{
+    let (first, last) = (given.first_row, given.last_row);
+    if first == last {
+        text.extend_from_slice(b"  row ")?;
+        return push_decimal(text, first as u64);
+    }
+    text.extend_from_slice(b"  rows ")?;
+    push_decimal(text, first as u64)?;
+    text.extend_from_slice(b" to ")?;
+    push_decimal(text, last as u64)
+}
+
+/// What later rows say otherwise, and the first that does, where one does.
+fn push_denied(text: &mut Vec<u8>, given: &ClaimedWord) -> Result<(), AllocError>
+    ensures { OnOk result (text.new.items ≡ text.old.items ++ told.again_text (kept_digit given.now) (kept_rows given.now)) }
+{
+    if has_denied(given) {
+        push_again_row(text, given)
     } else {
-        digits
+        Ok(())
     }
 }
 
-/// The row of carets below digits.
-pub fn push_carets(text: &mut Vec<u8>, places: &[usize]) -> Result<(), AllocError>
-    requires { All (λ place. place < 20) places.now }
+fn push_again_row(text: &mut Vec<u8>, given: &ClaimedWord) -> Result<(), AllocError>
+    ensures { OnOk result (text.new.items ≡ text.old.items ++ told.again_told (kept_digit given.now) (kept_rows given.now)) }
+{
+    text.extend_from_slice(b"       again ")?;
+    push_again(text, given)?;
+    text.extend_from_slice(b"  row ")?;
+    push_decimal(text, given.again_row as u64)?;
+    text.push(b'\n')?;
+    Ok(())
+}
+
+/// The row of carets below digits, where some are given.
+pub fn push_carets(text: &mut Vec<u8>, is_given: bool, places: &[usize]) -> Result<(), AllocError>
+    requires { All (λ place. place < MOST_DIGITS) places.now }
+    ensures { OnOk result (text.new.items ≡ text.old.items ++ (if is_given then told.caret_row places.now else [])) }
+{
+    if is_given {
+        push_caret_row(text, places)
+    } else {
+        Ok(())
+    }
+}
+
+fn push_caret_row(text: &mut Vec<u8>, places: &[usize]) -> Result<(), AllocError>
+    requires { All (λ place. place < MOST_DIGITS) places.now }
     ensures { OnOk result (text.new.items ≡ text.old.items ++ told.caret_row places.now) }
 {
     let before = text.len();
@@ -79,26 +136,46 @@ pub fn push_makers<V: View>(
     places: &[usize],
 ) -> Result<(), AllocError>
     ensures { OnOk result (text.new.items ≡ text.old.items
-        ++ told.made_rows (V.assembly view.now).lines (maker_at makers.now address) places.now) }
+        ++ told.made_rows (V.assembly view.now).lines (statements_at (V.assembly view.now) address) (maker_at makers.now address) places.now) }
 {
     let mut last = Maker::Nobody;
     for place in places {
         let maker = makers.get(address, *place);
         if !last.is_same(maker) {
-            push_maker(text, view, maker)?;
+            push_maker(text, view, address, maker)?;
         }
         last = maker;
     }
     Ok(())
 }
 
-fn push_maker<V: View>(text: &mut Vec<u8>, view: &V, maker: Maker) -> Result<(), AllocError>
-    ensures { OnOk result (text.new.items ≡ text.old.items ++ told.maker_row (V.assembly view.now).lines maker) }
+fn push_maker<V: View>(
+    text: &mut Vec<u8>,
+    view: &V,
+    address: u32,
+    maker: Maker,
+) -> Result<(), AllocError>
+    ensures { OnOk result (text.new.items ≡ text.old.items
+        ++ told.maker_row (V.assembly view.now).lines (statements_at (V.assembly view.now) address) maker) }
 {
     match maker {
         Maker::Nobody => Ok(()),
-        Maker::Line(number) => push_line(text, number, line_at(view, number)),
+        Maker::Line(number) => {
+            push_line(text, number, line_at(view, number))?;
+            push_statements(text, rows_of(view, number), address)
+        }
         Maker::Literal => text.extend_from_slice(b"       a literal\n"),
+    }
+}
+
+/// The rows of a line in a listing; none where there is no such line.
+fn rows_of<V: View>(view: &V, number: u32) -> &[Row]
+    ensures { (address : ℕ) → statement_rows [] (texts_from address [] result.now)
+        ≡ statement_rows [] (statements_of (V.assembly view.now).outcomes number address) }
+{
+    match view.outcome(number) {
+        Some(outcome) => outcome.rows(),
+        None => &[],
     }
 }
 
@@ -124,7 +201,7 @@ fn line_at<V: View>(view: &V, number: u32) -> &[u8]
 }
 
 /// A line from its first character on that is no blank.
-fn trimmed(line: &[u8]) -> &[u8]
+pub fn trimmed(line: &[u8]) -> &[u8]
     ensures { result.now ≡ told.trimmed line.now }
 {
     match filled_at(line) {

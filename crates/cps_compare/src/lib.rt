@@ -1,43 +1,52 @@
 //! A comparison of an octal listing or dump with the words of an assembled source: which words differ, in which digits, and which lines made these.
 //!
 //! - `compare_fault.rt`: why an octal text isn't compared with a source
+//! - `compare_options.rt`: what the words of a comparison ask
+//! - `compared_word.rt`: words that are compared, in runs that differ
 //! - `comparison.rt`: the comparison as a whole
 //! - `deck_words.rt`: the words of a source, and what made their digits
-//! - `difference.rt`: whether two words differ, and where
-//! - `difference_rows.rt`: the rows that tell a difference
-//! - `limits.rt`: the addresses and the columns that are compared
+//! - `difference.rt`: which digits of a word differ
+//! - `difference_rows.rt`: the rows that tell a word that differs
+//! - `given_word.rt`: what an octal text gives of a word
 //! - `maker.rt`: what made digits of a word
 //! - `makers.rt`: the makers of all digits
 //! - `octal_fault.rt`: why a comparison of two inputs ends without its text
-//! - `octal_text.rt`: the words that an octal text gives
-//! - `octal_words.rt`: digits by address
-//! - `row.rt`: a row of an octal text
 //! - `running.rt`: the run of a comparison: two inputs are read, and what is told is written
 //! - `setup.rt`: what a comparison is set up with
 //! - `sides.rt`: an octal text and a source, side by side
-//! - `telling.rt`: what is told so far
+//! - `statements.rt`: the statements of an expansion at an address
+//! - `survey.rt`: what is counted from one address to another
+//! - `telling.rt`: the rows that tell how much was compared
 #![tactic(auto)]
 
+ghost use Rattle.cps_compare.specs.Comparison.{NoWordDiffersSoEachDigitAgrees};
+
 mod compare_fault;
+mod compare_options;
+mod compared_word;
 mod comparison;
 mod deck_words;
 mod difference;
 mod difference_rows;
-mod limits;
+mod given_word;
 mod maker;
 mod makers;
 mod octal_fault;
-mod octal_text;
-mod octal_words;
-mod row;
 mod running;
 mod setup;
 mod sides;
+mod statements;
+mod survey;
 mod telling;
 
 pub use compare_fault::CompareFault;
+pub use compare_options::CompareOptions;
 pub use comparison::{Comparison, compare};
-pub use limits::{Limits, OctalColumns};
 pub use octal_fault::OctalFault;
 pub use running::compare_inputs;
 pub use setup::Setup;
+
+/// Where no word between two addresses differs, each digit that can be read and is claimed there is the source's.
+pub fn no_word_differs_so_each_digit_agrees()
+    ensures { NoWordDiffersSoEachDigitAgrees }
+{}

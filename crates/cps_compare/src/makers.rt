@@ -2,10 +2,10 @@
 ghost use Rattle.std.specs.Prelude.{◌≡◌, ◌∷◌, [], ◌++◌, ◌+◌, ◌*◌, ◌<◌, ◌≤◌, ◌&&◌, ℕ, List, length, nat_le, nat_lt, OnOk, if◌then◌else◌, vec_len};
 ghost use Rattle.cps_code.specs.Image.{piece_of};
 ghost use Rattle.cps_compare.specs.Makers.{Signed, signed_by};
-ghost use Rattle.cps_compare.specs.Code.Reading.{AreMade, maker_at, slot_at};
+ghost use Rattle.cps_compare.specs.Code.Deck.{AreMade, maker_at, slot_at};
 
 use super::maker::Maker;
-use super::octal_words::MOST_DIGITS;
+use cps_claims::MOST_DIGITS;
 use cps_code::Piece;
 use std::alloc::{AllocError, Global};
 use std::marker::Model;

@@ -1,5 +1,6 @@
 //! Why nothing is compared, or what is told not written.
 
+use super::compare_fault::CompareFault;
 use cps_input::InputFault;
 use thiserror::Error;
 
@@ -10,17 +11,11 @@ pub enum OctalFault {
     #[error("OCTAL: read fault")]
     ReadFault,
     /// The source can't be read to its end, or its lines are none of a source.
-    #[error("{0}")]
+    #[error("FILE: {0}")]
     Source(InputFault),
-    /// In no row of the octal text, or of the columns that are read, digits stand behind an address.
-    #[error("no row of OCTAL has an address and octal digits")]
-    NoRow,
-    /// From the first of these addresses to the second one the octal text gives no digits, and no word of the source stands there.
-    #[error("nothing is compared: no digits and no word ({0:06o} to {1:06o})")]
-    Nothing(u32, u32),
-    /// Nothing is wrong with the lines of the source, and there was no memory.
-    #[error("no memory")]
-    Memory,
+    /// Nothing is wrong with the lines of the source, and nothing is compared.
+    #[error("{0}")]
+    Compare(CompareFault),
     /// A write failed, or took none of the bytes it was given.
     #[error("write fault")]
     WriteFault,

@@ -21,8 +21,8 @@ use std::io::{Read, Write};
 /// Compares the octal text of one input with the words of the source of another, and writes what is told. It gives the
 /// number of words that differ.
 ///
-/// The octal text is read to its end, and then the source is; nothing is written before both are. `Memory` is answered only
-/// where nothing is wrong with the lines of the source.
+/// The octal text is read to its end, and then the source is; nothing is written before both are. Want of memory is answered
+/// only where nothing is wrong with the lines of the source.
 pub fn compare_inputs<O: Read, R: Read, W: Write>(
     alloc: Global,
     setup: Setup,
@@ -30,8 +30,8 @@ pub fn compare_inputs<O: Read, R: Read, W: Write>(
     source: &mut Counted<R>,
     writer: &mut Counted<W>,
 ) -> Result<u32, OctalFault>
-    requires { ForSome setup.limits.to (λ to. to < 2 ^ 18) }
-    ensures run { RunsComparison O.remaining R.remaining W.contents setup.limits result
+    requires { ForSome setup.options.to (λ to. to < 2 ^ 18) }
+    ensures run { RunsComparison O.remaining R.remaining W.contents setup.options result
         octal.old octal.new source.old source.new writer.old writer.new }
     ensures octal_reads { calls_of octal.new ≤ calls_of octal.old + MOST_READS }
     ensures source_reads { calls_of source.new ≤ calls_of source.old + MOST_READS }
@@ -68,22 +68,20 @@ fn compare_lines<W: Write>(
     lines: Vec<Line>,
     writer: &mut Counted<W>,
 ) -> Result<u32, OctalFault>
-    requires limits { ForSome setup.limits.to (λ to. to < 2 ^ 18) }
+    requires limits { ForSome setup.options.to (λ to. to < 2 ^ 18) }
     requires source { IsSource lines.items }
     ensures { (bytes : List ℕ) → IfSome text (λ text. text.items ≡ bytes)
-        → Reports W.contents setup.limits result bytes lines.items writer.old writer.new }
+        → Reports W.contents setup.options result bytes lines.items writer.old writer.new }
 {
     let Some(text) = text else {
-        return Err(OctalFault::Memory);
+        return Err(OctalFault::Compare(CompareFault::Memory));
     };
     let Ok(source) = Source::of(alloc, setup.hashing, lines) else {
-        return Err(OctalFault::Memory);
+        return Err(OctalFault::Compare(CompareFault::Memory));
     };
-    match compare(alloc, &source, &text, setup.limits) {
+    match compare(alloc, &source, &text, setup.options) {
         Ok(comparison) => write_comparison(writer, &comparison),
-        Err(CompareFault::NoRow) => Err(OctalFault::NoRow),
-        Err(CompareFault::Nothing(low, high)) => Err(OctalFault::Nothing(low, high)),
-        Err(CompareFault::Memory) => Err(OctalFault::Memory),
+        Err(fault) => Err(OctalFault::Compare(fault)),
     }
 }
 

@@ -1,12 +1,12 @@
 //! What a comparison is set up with.
 
-use crate::limits::Limits;
+use crate::compare_options::CompareOptions;
 use cps_state::Hashing;
 
 /// What a comparison is set up with, besides its inputs.
 #[derive(Clone, Copy)]
 pub struct Setup {
     pub hashing: Hashing,
-    /// The addresses and the columns that are compared.
-    pub limits: Limits,
+    /// What the words of the call ask.
+    pub options: CompareOptions,
 }

@@ -1,7 +1,8 @@
 //! What the rows of an octal text are, and which digits they claim.
 use super::assertions::{assert_row, assert_row_text};
 use cps_claims::{
-    OctalLayout, OctalReading, ReadColumns, UnreadReason, WordForm, WordOffset, read_octal,
+    OctalFormat, OctalLayout, OctalReading, ReadColumns, UnreadReason, WordForm, WordOffset,
+    read_octal,
 };
 use cps_text::push_octal;
 use std::alloc::Global;
@@ -9,7 +10,24 @@ use std::process::Abort;
 
 /// The words of the central processor, all columns, and addresses as they are written.
 const CENTRAL: OctalLayout = OctalLayout {
+    format: OctalFormat::Rows,
     form: WordForm::Central,
+    columns: None,
+    offset: WordOffset::Up(0),
+};
+
+/// The same in a dump.
+const CENTRAL_DUMP: OctalLayout = OctalLayout {
+    format: OctalFormat::Dump,
+    form: WordForm::Central,
+    columns: None,
+    offset: WordOffset::Up(0),
+};
+
+/// The words of a peripheral processor in a dump.
+const PERIPHERAL_DUMP: OctalLayout = OctalLayout {
+    format: OctalFormat::Dump,
+    form: WordForm::Peripheral,
     columns: None,
     offset: WordOffset::Up(0),
 };
@@ -33,6 +51,10 @@ fn unread_at(reading: &OctalReading, at: usize) -> Option<(usize, u8, usize)> {
         UnreadReason::NoAddress => (b'A', 0),
         UnreadReason::BehindUnread => (b'B', 0),
         UnreadReason::NoSuchAddress => (b'S', 0),
+        UnreadReason::NoWholeWords => (b'W', 0),
+        UnreadReason::EndlessRepetition => (b'E', 0),
+        UnreadReason::UnevenRepetition => (b'U', 0),
+        UnreadReason::TooManyRepetitions => (b'T', 0),
     };
     Some((row.number, reason, digits))
 }
@@ -151,4 +173,153 @@ fn reads_a_whole_memory(rt: HostRuntime) {
     assert_row(&rt, 2, &all.words.last(), &Some(END - 1));
     let last = !all.words.differs(END - 1, Some(b"00000000000000077777"));
     assert_row(&rt, 3, &last, &true);
+}
+
+/// Two words that stand again twice, behind another one.
+const AGAIN: &str =
+    "000100 00000000000000000001\n000101 00000000000000000003 00000000000000000004\n*\n000107 00000000000000000002\n";
+
+#[test]
+fn reads_repeated_words(rt: HostRuntime) {
+    let dump = reading(&rt, rt.alloc(), AGAIN, CENTRAL_DUMP);
+    assert_row(&rt, 0, &counts_of(&dump), &(4, 1, 0, 0));
+    assert_row(&rt, 1, &dump.words.known_count(0, 0o777_777), &160);
+    for (address, digit, row) in [
+        (0o102, b'4', 2),
+        (0o103, b'3', 3),
+        (0o106, b'4', 3),
+        (0o107, b'2', 4),
+    ] {
+        let word = dump.words.word(address);
+        let found = (word.digits[19].shown, word.first_row, word.last_row);
+        assert_row(&rt, address as usize, &found, &(digit, row, row));
+    }
+    let listing = reading(&rt, rt.alloc(), AGAIN, CENTRAL);
+    assert_row(&rt, 2, &counts_of(&listing), &(3, 1, 1, 0));
+    assert_row(&rt, 3, &listing.first_other, &Some(3));
+    assert_row(&rt, 4, &listing.words.known_count(0, 0o777_777), &80);
+}
+
+#[test]
+fn refuses_repetitions(rt: HostRuntime) {
+    let uneven =
+        "000100 00000000000000000001\n000101 00000000000000000000 00000000000000000000 00000000000000000000 00000000000000000000\nDUPLICATE LINES\n000107 00000000000000000002";
+    let first = "*\n000001 00000000000000000001";
+    let unaddressed = "000000 00000000000000000001\nsame\n       00000000000000000002";
+    let last = "000000 00000000000000000001\nRepeated\n\n000002 00000000000000000001";
+    let below = "000005 00000000000000000001\n*\n000003 00000000000000000002";
+    let texts = [
+        (uneven, (3, 0, 0, 1), [Some((3, b'U', 0)), None]),
+        (first, (1, 0, 0, 1), [Some((1, b'E', 0)), None]),
+        (
+            unaddressed,
+            (1, 0, 0, 2),
+            [Some((2, b'E', 0)), Some((3, b'B', 0))],
+        ),
+        (last, (2, 1, 0, 1), [Some((2, b'E', 0)), None]),
+        (below, (2, 0, 0, 1), [Some((2, b'U', 0)), None]),
+    ];
+    for (row, (text, counts, unread)) in texts.iter().enumerate() {
+        let dump = reading(&rt, rt.alloc(), text, CENTRAL_DUMP);
+        assert_row(&rt, row, &counts_of(&dump), counts);
+        for (at, want) in unread.iter().enumerate() {
+            assert_row(&rt, row, &unread_at(&dump, at), want);
+        }
+    }
+}
+
+#[test]
+fn goes_on_with_the_next_words(rt: HostRuntime) {
+    let text =
+        "000000 76110 71200 01000 76330\n       73412 46000 46000 46000\n       73510 46000 46000 46000";
+    let dump = reading(&rt, rt.alloc(), text, CENTRAL_DUMP);
+    assert_row(&rt, 0, &counts_of(&dump), &(3, 0, 0, 0));
+    assert_row(&rt, 1, &dump.words.known_count(0, 2), &60);
+    let differs = dump.words.differs(2, Some(b"73510460004600046000"));
+    assert_row(&rt, 2, &differs, &false);
+    let listing = reading(&rt, rt.alloc(), text, CENTRAL);
+    assert_row(&rt, 3, &counts_of(&listing), &(1, 0, 0, 2));
+    assert_row(&rt, 4, &unread_at(&listing, 0), &Some((2, b'A', 0)));
+}
+
+#[test]
+fn reads_whole_words_in_a_dump(rt: HostRuntime) {
+    let text =
+        "000000 76110 71200 01000\n       73412 46000 46000 46000\n*\n000001 7341246000460004600\n000002 73510 46000 46000 46000";
+    let dump = reading(&rt, rt.alloc(), text, CENTRAL_DUMP);
+    assert_row(&rt, 0, &counts_of(&dump), &(1, 0, 0, 4));
+    let unread = [
+        Some((1, b'W', 0)),
+        Some((2, b'B', 0)),
+        Some((3, b'E', 0)),
+        Some((4, b'G', 19)),
+        None,
+    ];
+    for (at, want) in unread.iter().enumerate() {
+        assert_row(&rt, at, &unread_at(&dump, at), want);
+    }
+    assert_row(&rt, 5, &dump.words.first(), &Some(2));
+}
+
+#[test]
+fn repeats_words_of_a_peripheral_processor(rt: HostRuntime) {
+    let mut layout = PERIPHERAL_DUMP;
+    layout.offset = WordOffset::Down(0o100);
+    let text = "0100 0001 0002\n*\n0106 0003";
+    let dump = reading(&rt, rt.alloc(), text, layout);
+    assert_row(&rt, 0, &counts_of(&dump), &(3, 0, 0, 0));
+    for (address, word) in [
+        b"0001", b"0002", b"0001", b"0002", b"0001", b"0002", b"0003",
+    ]
+    .iter()
+    .enumerate()
+    {
+        let differs = dump.words.differs(address as u32, Some(*word));
+        assert_row(&rt, address, &differs, &false);
+    }
+    assert_row(&rt, 7, &dump.words.last(), &Some(6));
+    let text = "0 0001\n*\n3 TEXT\n*\n11 0007\n*\n14 TEXT\n*\n17 0005\n";
+    let dump = reading(&rt, rt.alloc(), text, PERIPHERAL_DUMP);
+    assert_row(&rt, 8, &counts_of(&dump), &(6, 1, 2, 1));
+    assert_row(&rt, 9, &unread_at(&dump, 0), &Some((8, b'U', 0)));
+    assert_row(&rt, 10, &dump.words.known_count(0, 0o777_777), &52);
+}
+
+#[test]
+fn bounds_repetitions(rt: HostRuntime) {
+    let text = "0 0001\n*\n777777 0002\n0 0001\n*\n3 0003\n0 0001\n*\n2 0004";
+    let dump = reading(&rt, rt.alloc(), text, PERIPHERAL_DUMP);
+    assert_row(&rt, 0, &counts_of(&dump), &(8, 0, 0, 1));
+    assert_row(&rt, 1, &unread_at(&dump, 0), &Some((8, b'T', 0)));
+    assert_row(
+        &rt,
+        2,
+        &dump.words.known_count(0, 0o777_777),
+        &(4 * 262_144),
+    );
+}
+
+#[test]
+fn tells_reasons_in_words(rt: HostRuntime) {
+    let reasons = [
+        (UnreadReason::DamagedDigits, "damaged digits"),
+        (UnreadReason::GroupOf(14), "a group of 14 digits"),
+        (UnreadReason::NoAddress, "no address"),
+        (UnreadReason::BehindUnread, "behind a row that isn't read"),
+        (UnreadReason::NoSuchAddress, "no such address"),
+        (UnreadReason::NoWholeWords, "no whole words"),
+        (
+            UnreadReason::EndlessRepetition,
+            "a repetition without an end",
+        ),
+        (
+            UnreadReason::UnevenRepetition,
+            "a repetition that doesn't come out even",
+        ),
+        (UnreadReason::TooManyRepetitions, "too many repetitions"),
+    ];
+    for (row, (reason, want)) in reasons.iter().enumerate() {
+        let told = reason.to_string(rt.alloc()).expect(&rt, "memory");
+        assert_row_text(&rt, row, told.as_bytes(), want);
+    }
 }

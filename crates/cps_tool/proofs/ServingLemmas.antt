@@ -4,7 +4,7 @@ use Rattle.cps_text.specs.declared.counted.Counted.{Counted}
 use Rattle.clap.specs.Words.{Text}
 use Rattle.cps_words.specs.declared.unread.Unread.{Unread}
 use Rattle.cps_words.specs.declared.unread.Unread.TheVariants.{Told, Wrong, Memory}
-use Rattle.cps_compare.specs.declared.limits.Limits.{Limits}
+use Rattle.cps_compare.specs.declared.compare_options.CompareOptions.{CompareOptions}
 use Rattle.cps_compare.specs.declared.octal_fault.OctalFault.{OctalFault}
 use Rattle.cps_compare.specs.Octal.{RunsComparison}
 use Rattle.cps_words.specs.Request.{Answer, IsAnswer, answer_of, asks, refuses, tells}
@@ -52,15 +52,15 @@ module _ {R W : Type 0} (remaining : R → Option (List ℕ)) (contents : W → 
       go (asks check None) s = s
       go (asks (explain word) None) s = s
       go (asks server None) s = s
-      go (asks (compare octal limits) None) (inl idle) = inl idle
-      go (asks (compare octal limits) None) (inr calls) = elim calls [ ]
+      go (asks (compare octal options) None) (inl idle) = inl idle
+      go (asks (compare octal options) None) (inr calls) = elim calls [ ]
       go (asks (batch part) (Some name)) s = inl s
       go (asks (export names part) (Some name)) s = inl s
       go (asks session (Some name)) s = inl s
       go (asks check (Some name)) s = inl s
       go (asks (explain word) (Some name)) s = inl s
       go (asks server (Some name)) s = inl s
-      go (asks (compare octal limits) (Some name)) s = inl s
+      go (asks (compare octal options) (Some name)) s = inl s
       go tells s = s
       go refuses s = s
 
@@ -77,7 +77,7 @@ module _ {T F R W : Type 0} (holds : T → List ℕ → Option (List ℕ)) (plac
   serves_call (asks (batch part) file) s = (s, refl)
   serves_call (asks session file) s = (s, refl)
   serves_call (asks check file) s = (s, refl)
-  serves_call (asks (compare octal limits) file) s = (s, refl)
+  serves_call (asks (compare octal options) file) s = (s, refl)
   serves_call (asks (explain word) file) s = (s, refl)
   serves_call (asks server file) s = (s, refl)
   serves_call tells s = (s, refl)
@@ -116,10 +116,10 @@ module _ {T F R W : Type 0} (holds : T → List ℕ → Option (List ℕ)) (plac
 
 -- files that were opened by their names, and compared
 pub compares : {F R W : Type 0} (holds : List ℕ → Option (List ℕ)) (opened : F → Option (List ℕ)) (remaining : R → Option (List ℕ)) (contents : W → Option (List ℕ))
-    (limits : Limits) (octal source : Option Text) (status : ℕ) (result : Result ℕ OctalFault) (files : Files F) (reader reader' : Counted R) (writer writer' : Counted W)
-    → AreFiles holds opened octal source files → ComparesFiles opened remaining contents limits result files reader reader' writer writer' → status ≡ status_of result
-    → Compares holds opened remaining contents limits octal source status reader reader' writer writer'
-compares holds opened remaining contents limits (Some octal) (Some source) status result (Both file deck) reader reader' writer writer' are ran is = (
+    (options : CompareOptions) (octal source : Option Text) (status : ℕ) (result : Result ℕ OctalFault) (files : Files F) (reader reader' : Counted R) (writer writer' : Counted W)
+    → AreFiles holds opened octal source files → ComparesFiles opened remaining contents options result files reader reader' writer writer' → status ≡ status_of result
+    → Compares holds opened remaining contents options octal source status reader reader' writer writer'
+compares holds opened remaining contents options (Some octal) (Some source) status result (Both file deck) reader reader' writer writer' are ran is = (
   ran.0,
   record {
     file = file;
@@ -128,17 +128,17 @@ compares holds opened remaining contents limits (Some octal) (Some source) statu
     does = record { file = deck; file' = ran.1.1; is_opened = are.1; does = (result, is, ran.1.2) };
   },
 )
-compares holds opened remaining contents limits (Some octal) None status result (Octal file) reader reader' writer writer' are ran is =
+compares holds opened remaining contents options (Some octal) None status result (Octal file) reader reader' writer writer' are ran is =
     record { file = file; file' = ran.0; is_opened = are; does = (result, is, ran.1) }
-compares holds opened remaining contents limits None (Some source) status result (Source deck) reader reader' writer writer' are ran is =
+compares holds opened remaining contents options None (Some source) status result (Source deck) reader reader' writer writer' are ran is =
     record { file = deck; file' = ran.0; is_opened = are; does = (result, is, ran.1) }
-compares holds opened remaining contents limits None None status result files reader reader' writer writer' are ran is = elim are [ ]
-compares holds opened remaining contents limits None (Some source) status result (Octal file) reader reader' writer writer' are ran is = elim are [ ]
-compares holds opened remaining contents limits None (Some source) status result (Both file deck) reader reader' writer writer' are ran is = elim are [ ]
-compares holds opened remaining contents limits (Some octal) None status result (Source deck) reader reader' writer writer' are ran is = elim are [ ]
-compares holds opened remaining contents limits (Some octal) None status result (Both file deck) reader reader' writer writer' are ran is = elim are [ ]
-compares holds opened remaining contents limits (Some octal) (Some source) status result (Octal file) reader reader' writer writer' are ran is = elim are [ ]
-compares holds opened remaining contents limits (Some octal) (Some source) status result (Source deck) reader reader' writer writer' are ran is = elim are [ ]
+compares holds opened remaining contents options None None status result files reader reader' writer writer' are ran is = elim are [ ]
+compares holds opened remaining contents options None (Some source) status result (Octal file) reader reader' writer writer' are ran is = elim are [ ]
+compares holds opened remaining contents options None (Some source) status result (Both file deck) reader reader' writer writer' are ran is = elim are [ ]
+compares holds opened remaining contents options (Some octal) None status result (Source deck) reader reader' writer writer' are ran is = elim are [ ]
+compares holds opened remaining contents options (Some octal) None status result (Both file deck) reader reader' writer writer' are ran is = elim are [ ]
+compares holds opened remaining contents options (Some octal) (Some source) status result (Octal file) reader reader' writer writer' are ran is = elim are [ ]
+compares holds opened remaining contents options (Some octal) (Some source) status result (Source deck) reader reader' writer writer' are ran is = elim are [ ]
 
 -- a session over the lines of a file
 pub edits_file : {F R W : Type 0} (holds : Option (List ℕ)) (opened : F → Option (List ℕ)) (remaining : R → Option (List ℕ)) (contents : W → Option (List ℕ)) (status : ℕ)
@@ -181,31 +181,31 @@ checks_as remaining contents request named name status reader reader' writer wri
 
 -- ---- files that were compared, by the sides that are files
 
-module _ {F R W : Type 0} (opened : F → Option (List ℕ)) (remaining : R → Option (List ℕ)) (contents : W → Option (List ℕ)) (limits : Limits)
+module _ {F R W : Type 0} (opened : F → Option (List ℕ)) (remaining : R → Option (List ℕ)) (contents : W → Option (List ℕ)) (options : CompareOptions)
     (result : Result ℕ OctalFault) (files : Files F) (reader reader' : Counted R) (writer writer' : Counted W) where
-  compares_as : (sides : Files F) → files ≡ sides → ComparesFiles opened remaining contents limits result sides reader reader' writer writer'
-      → ComparesFiles opened remaining contents limits result files reader reader' writer writer'
-  compares_as sides is ran = subst (λ (files : Files F). ComparesFiles opened remaining contents limits result files reader reader' writer writer') (sym is) ran
+  compares_as : (sides : Files F) → files ≡ sides → ComparesFiles opened remaining contents options result sides reader reader' writer writer'
+      → ComparesFiles opened remaining contents options result files reader reader' writer writer'
+  compares_as sides is ran = subst (λ (files : Files F). ComparesFiles opened remaining contents options result files reader reader' writer writer') (sym is) ran
 
   pub octal_compared : (file file' : Counted F) → files ≡ Octal file
-      → RunsComparison opened remaining contents limits result file file' reader reader' writer writer'
-      → ComparesFiles opened remaining contents limits result files reader reader' writer writer'
+      → RunsComparison opened remaining contents options result file file' reader reader' writer writer'
+      → ComparesFiles opened remaining contents options result files reader reader' writer writer'
   octal_compared file file' is ran = compares_as (Octal file) is (file', ran)
 
   pub source_compared : (deck deck' : Counted F) → files ≡ Source deck
-      → RunsComparison remaining opened contents limits result reader reader' deck deck' writer writer'
-      → ComparesFiles opened remaining contents limits result files reader reader' writer writer'
+      → RunsComparison remaining opened contents options result reader reader' deck deck' writer writer'
+      → ComparesFiles opened remaining contents options result files reader reader' writer writer'
   source_compared deck deck' is ran = compares_as (Source deck) is (deck', ran)
 
   pub both_compared : (file file' deck deck' : Counted F) → files ≡ Both file deck → reader' ≡ reader
-      → RunsComparison opened opened contents limits result file file' deck deck' writer writer'
-      → ComparesFiles opened remaining contents limits result files reader reader' writer writer'
+      → RunsComparison opened opened contents options result file file' deck deck' writer writer'
+      → ComparesFiles opened remaining contents options result files reader reader' writer writer'
   both_compared file file' deck deck' is still ran = compares_as (Both file deck) is (still, (file', deck', ran))
 
 -- a comparison was asked, and done
 pub serves_compared : {F R W : Type 0} (holds : List ℕ → Option (List ℕ)) (opened : F → Option (List ℕ)) (remaining : R → Option (List ℕ)) (contents : W → Option (List ℕ))
     (request : Request) (comparand : Comparand) (named : Option Text) (status : ℕ) (reader reader' : Counted R) (writer writer' : Counted W) → request ≡ Compare comparand
-    → Compares holds opened remaining contents comparand.limits (option_map (λ (name : Bor Text). name.now) comparand.octal) named status reader reader' writer writer'
+    → Compares holds opened remaining contents comparand.options (option_map (λ (name : Bor Text). name.now) comparand.octal) named status reader reader' writer writer'
     → ServesWith holds opened remaining contents (asks (task_of request) named) status reader reader' writer writer'
 serves_compared holds opened remaining contents request comparand named status reader reader' writer writer' is done =
     subst (λ request. ServesWith holds opened remaining contents (asks (task_of request) named) status reader reader' writer writer') (sym is) (inr done)

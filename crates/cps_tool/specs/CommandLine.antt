@@ -6,7 +6,7 @@ use Rattle.cps_batch.specs.declared.fault.BatchFault.{BatchFault}
 use Rattle.cps_batch.specs.Batch.{RunsBatch}
 use Rattle.cps_check.specs.declared.fault.CheckFault.{CheckFault}
 use Rattle.cps_check.specs.Check.{RunsCheck}
-use Rattle.cps_compare.specs.declared.limits.Limits.{Limits}
+use Rattle.cps_compare.specs.declared.compare_options.CompareOptions.{CompareOptions}
 use Rattle.cps_compare.specs.declared.octal_fault.OctalFault.{OctalFault}
 use Rattle.cps_compare.specs.Octal.{RunsComparison}
 use Rattle.clap.specs.Words.{Text}
@@ -104,7 +104,7 @@ Calls remaining contents (explain word) named status reader reader' writer write
 Calls remaining contents server named status reader reader' writer writer' =
     (result : Result Bool ServerFault) × (status ≡ status_of_server result) × RunsServer remaining contents result reader reader' writer writer'
 Calls remaining contents (export names part) named status reader reader' writer writer' = ⊥
-Calls remaining contents (compare octal limits) named status reader reader' writer writer' = ⊥
+Calls remaining contents (compare octal options) named status reader reader' writer writer' = ⊥
 
 -- the help or the version is told
 abbrev pub Tells : {W : Type 0} → (W → Option (List ℕ)) → ℕ → Counted W → Counted W → Type 0
@@ -144,23 +144,23 @@ pub record WithFile {F : Type 0} (holds : Option (List ℕ)) (opened : F → Opt
   pub does : Does file file'
 
 -- the octal text and the source of a comparison were read, and words that differ were told
-abbrev pub Compared : {O R W : Type 0} → (O → Option (List ℕ)) → (R → Option (List ℕ)) → (W → Option (List ℕ)) → Limits → ℕ
+abbrev pub Compared : {O R W : Type 0} → (O → Option (List ℕ)) → (R → Option (List ℕ)) → (W → Option (List ℕ)) → CompareOptions → ℕ
     → Counted O → Counted O → Counted R → Counted R → Counted W → Counted W → Type 0
-Compared given remaining contents limits status octal octal' source source' writer writer' =
+Compared given remaining contents options status octal octal' source source' writer writer' =
     (result : Result ℕ OctalFault) × (status ≡ status_of result)
-    × RunsComparison given remaining contents limits result octal octal' source source' writer writer'
+    × RunsComparison given remaining contents options result octal octal' source source' writer writer'
 
 -- a comparison, by the names of the octal text and of the source: standard input is the one that has no name
 abbrev pub Compares : {F R W : Type 0} → (List ℕ → Option (List ℕ)) → (F → Option (List ℕ)) → (R → Option (List ℕ)) → (W → Option (List ℕ))
-    → Limits → Option Text → Option Text → ℕ → Counted R → Counted R → Counted W → Counted W → Type 0
-Compares holds opened remaining contents limits (Some octal) (Some source) status reader reader' writer writer' =
+    → CompareOptions → Option Text → Option Text → ℕ → Counted R → Counted R → Counted W → Counted W → Type 0
+Compares holds opened remaining contents options (Some octal) (Some source) status reader reader' writer writer' =
     (reader' ≡ reader) × WithFile (holds octal) opened (λ file file'. WithFile (holds source) opened (λ deck deck'.
-    Compared opened opened contents limits status file file' deck deck' writer writer'))
-Compares holds opened remaining contents limits (Some octal) None status reader reader' writer writer' =
-    WithFile (holds octal) opened (λ file file'. Compared opened remaining contents limits status file file' reader reader' writer writer')
-Compares holds opened remaining contents limits None (Some source) status reader reader' writer writer' =
-    WithFile (holds source) opened (λ deck deck'. Compared remaining opened contents limits status reader reader' deck deck' writer writer')
-Compares holds opened remaining contents limits None None status reader reader' writer writer' = ⊥
+    Compared opened opened contents options status file file' deck deck' writer writer'))
+Compares holds opened remaining contents options (Some octal) None status reader reader' writer writer' =
+    WithFile (holds octal) opened (λ file file'. Compared opened remaining contents options status file file' reader reader' writer writer')
+Compares holds opened remaining contents options None (Some source) status reader reader' writer writer' =
+    WithFile (holds source) opened (λ deck deck'. Compared remaining opened contents options status reader reader' deck deck' writer writer')
+Compares holds opened remaining contents options None None status reader reader' writer writer' = ⊥
 
 -- a session that begins with the lines of a file, which is read as batch reads it
 abbrev pub EditsFile : {F R W : Type 0} → (F → Option (List ℕ)) → (R → Option (List ℕ)) → (W → Option (List ℕ)) → ℕ
@@ -180,9 +180,9 @@ ServesOne holds opened remaining contents answer status reader reader' writer wr
 -- What a call does that may name files. The file of a session is its source, and standard input its script; a session whose file is no source does nothing.
 abbrev pub ServesWith : {F R W : Type 0} → (List ℕ → Option (List ℕ)) → (F → Option (List ℕ)) → (R → Option (List ℕ)) → (W → Option (List ℕ)) → Answer → ℕ
     → Counted R → Counted R → Counted W → Counted W → Type 0
-ServesWith holds opened remaining contents (asks (compare octal limits) source) status reader reader' writer writer' =
+ServesWith holds opened remaining contents (asks (compare octal options) source) status reader reader' writer writer' =
     IsUndone status reader reader' writer writer'
-    ⊎ Compares holds opened remaining contents limits octal source status reader reader' writer writer'
+    ⊎ Compares holds opened remaining contents options octal source status reader reader' writer writer'
 ServesWith holds opened remaining contents (asks session (Some name)) status reader reader' writer writer' =
     IsUndone status reader reader' writer writer'
     ⊎ WithFile (holds name) opened (λ file file'. EditsFile opened remaining contents status file file' reader reader' writer writer')

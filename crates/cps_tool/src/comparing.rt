@@ -62,11 +62,11 @@ pub fn compare_files<'a, S, F: Read + Drop, R: Read, W: Write>(
     reader: &mut Counted<R>,
     writer: &mut Counted<W>,
 ) -> Result<u32, OctalFault>
-    ensures { ComparesFiles F.remaining R.remaining W.contents comparand.entry.limits result files reader.old reader.new writer.old writer.new }
+    ensures { ComparesFiles F.remaining R.remaining W.contents comparand.entry.options result files reader.old reader.new writer.old writer.new }
 {
     let setup = Setup {
         hashing: host.hashing,
-        limits: comparand.limits,
+        options: comparand.options,
     };
     match files {
         Files::Octal(octal) => {

@@ -43,8 +43,11 @@ pub fn complain_of_comparison<E: Write>(
 ) -> u8
     ensures { result ≡ 2 }
 {
-    match fault {
-        OctalFault::Source(fault) => complain_of_source(alloc, file, fault, errors),
+    match (file, fault) {
+        (_, OctalFault::Source(InputFault::Memory)) => complain(errors, NO_MEMORY),
+        (Some(_), OctalFault::Source(source)) if wrong_line(source).is_some() => {
+            complain_of_source(alloc, file, source, errors)
+        }
         _ => complain_of(errors, fault),
     }
 }

@@ -1,6 +1,7 @@
 -- Numbers that words write.
 use Rattle.std.proofs.Common.{◌≡◌, ◌≢◌, ℕ, ◌^◌, ◌<◌, ◌≤◌, Bool, true, false, ◌&&◌, List, [], ◌∷◌, length, Some, None, Result, Ok, Err, refl, sym, ap, subst, arith, get_or, true≢false}
-use Rattle.std.specs.Prelude.{if◌then◌else◌, nat_le, nat_lt}
+use Prim.Native.Char.{code}
+use Rattle.std.specs.Prelude.{◌==◌, if◌then◌else◌, nat_le, nat_lt, option_map}
 use Rattle.std.specs.List.{list_all}
 use Rattle.std.specs.Char.{digit_value, is_digit}
 use Rattle.std.specs.Result.{OkIff}
@@ -9,7 +10,8 @@ use Rattle.std.proofs.lemmas.Bool.Decides.{nat_tests}
 use Rattle.std.proofs.lemmas.Int.Digits.{digits_value-lt}
 use Rattle.std.proofs.lemmas.Str.Parse.{without_leading_plus_none}
 use Rattle.std.proofs.Math.Nat.{pow-le-pow_right}
-use Rattle.cps_words.specs.Values.{number_named}
+use Rattle.cps_claims.specs.declared.layout.WordOffset.TheVariants.{Up}
+use Rattle.cps_words.specs.Values.{address_named, number_named, offset_named}
 
 -- ---- the digits
 
@@ -72,3 +74,17 @@ module _ (radix most : ℕ) (word : List ℕ) (few : radix ≤ 36) (some : 0 < l
       is_ok r (digits_value radix word)
       (subst (λ (ds : List ℕ). OkIff r (IsNumeral radix ds × (digits_value radix ds < 2 ^ 32)) (digits_value radix ds)) plain parses)
       ((some, digits), omega arith)
+
+-- ---- offsets
+
+is_other : (a b : ℕ) → a ≢ b → (a == b) ≡ false
+is_other a b differ = grind (arith, nat_tests)
+
+-- with no sign before its digits an offset is added
+pub plain_offset : (word : List ℕ) → ((rest : List ℕ) → word ≢ code "-" ∷ rest) → ((rest : List ℕ) → word ≢ code "+" ∷ rest)
+    → offset_named word ≡ option_map (λ count. Up count) (address_named word)
+plain_offset [] no_minus no_plus = refl
+plain_offset (sign ∷ digits) no_minus no_plus =
+    let minus : (sign == code "-") ≡ false = is_other sign (code "-") (λ is. no_minus digits (ap (λ c. c ∷ digits) is)) in
+    let plus : (sign == code "+") ≡ false = is_other sign (code "+") (λ is. no_plus digits (ap (λ c. c ∷ digits) is)) in
+    rw (minus, plus) refl

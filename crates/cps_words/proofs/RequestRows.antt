@@ -1,9 +1,11 @@
 -- Rows of what words ask.
-use Rattle.std.proofs.Common.{◌≡◌, ℕ, List, [], ◌∷◌, Option, Some, None, refl, codes}
+use Rattle.std.proofs.Common.{◌≡◌, ℕ, true, false, List, [], ◌∷◌, Option, Some, None, refl, codes}
 use Rattle.clap.specs.Words.{Text}
 use Rattle.clap.proofs.OnLiterals.{clap_on_literals}
-use Rattle.cps_compare.specs.declared.limits.OctalColumns.{OctalColumns}
-use Rattle.cps_compare.specs.declared.limits.Limits.{Limits}
+use Rattle.cps_claims.specs.declared.layout.OctalFormat.TheVariants.{Rows, Dump}
+use Rattle.cps_claims.specs.declared.layout.ReadColumns.{ReadColumns}
+use Rattle.cps_claims.specs.declared.layout.WordOffset.TheVariants.{Up, Down}
+use Rattle.cps_compare.specs.declared.compare_options.CompareOptions.{CompareOptions}
 use Rattle.cps_list.specs.declared.part.Part.TheVariants.{Listing, Binary, Symbols, Flags, All}
 use Rattle.cps_words.specs.Outputs.{Names}
 use Rattle.cps_words.specs.Request.{answer_of, asks, refuses, request_of, tells}
@@ -174,22 +176,22 @@ check_help = refl
 
 -- ---- `compare`
 
-abbrev all_of_it : Limits
-all_of_it = record { from = None; to = None; columns = None }
+abbrev default_options : CompareOptions
+default_options = record { format = Rows; columns = None; offset = Up 0; from = None; to = None; whole = false; all = false }
 
-abbrev columns_of : ℕ → ℕ → Option OctalColumns
+abbrev columns_of : ℕ → ℕ → Option ReadColumns
 columns_of first last = Some (record { first = first; last = last })
 
 compare_row : answer_of (call (codes "compare" ∷ codes "old.oct" ∷ codes "deck.cps" ∷ []))
-    ≡ asks (compare (Some (codes "old.oct")) all_of_it) (Some (codes "deck.cps"))
+    ≡ asks (compare (Some (codes "old.oct")) default_options) (Some (codes "deck.cps"))
 unfolding clap_on_literals
 compare_row = refl
 
-compare_of_standard_input : answer_of (call (codes "compare" ∷ codes "old.oct" ∷ [])) ≡ asks (compare (Some (codes "old.oct")) all_of_it) None
+compare_of_standard_input : answer_of (call (codes "compare" ∷ codes "old.oct" ∷ [])) ≡ asks (compare (Some (codes "old.oct")) default_options) None
 unfolding clap_on_literals
 compare_of_standard_input = refl
 
-octal_of_standard_input : answer_of (call (codes "compare" ∷ codes "-" ∷ codes "deck.cps" ∷ [])) ≡ asks (compare None all_of_it) (Some (codes "deck.cps"))
+octal_of_standard_input : answer_of (call (codes "compare" ∷ codes "-" ∷ codes "deck.cps" ∷ [])) ≡ asks (compare None default_options) (Some (codes "deck.cps"))
 unfolding clap_on_literals
 octal_of_standard_input = refl
 
@@ -206,7 +208,7 @@ unfolding clap_on_literals
 no_octal = refl
 
 limits_row : answer_of (call (codes "compare" ∷ codes "--from" ∷ codes "100" ∷ codes "--to=777777" ∷ codes "--columns" ∷ codes "10-36" ∷ codes "old.oct" ∷ []))
-    ≡ asks (compare (Some (codes "old.oct")) (record { from = Some 64; to = Some 262143; columns = columns_of 10 36 })) None
+    ≡ asks (compare (Some (codes "old.oct")) (record default_options { from = Some 64; to = Some 262143; columns = columns_of 10 36 })) None
 unfolding clap_on_literals
 limits_row = refl
 
@@ -215,12 +217,12 @@ unfolding clap_on_literals
 falling_addresses = refl
 
 one_address : answer_of (call (codes "compare" ∷ codes "--to=1000" ∷ codes "--from=1000" ∷ codes "old.oct" ∷ []))
-    ≡ asks (compare (Some (codes "old.oct")) (record { from = Some 512; to = Some 512; columns = None })) None
+    ≡ asks (compare (Some (codes "old.oct")) (record default_options { from = Some 512; to = Some 512 })) None
 unfolding clap_on_literals
 one_address = refl
 
 one_column : answer_of (call (codes "compare" ∷ codes "old.oct" ∷ codes "--columns" ∷ codes "7" ∷ []))
-    ≡ asks (compare (Some (codes "old.oct")) (record { from = None; to = None; columns = columns_of 7 7 })) None
+    ≡ asks (compare (Some (codes "old.oct")) (record default_options { columns = columns_of 7 7 })) None
 unfolding clap_on_literals
 one_column = refl
 
@@ -259,6 +261,75 @@ three_columns = refl
 six_digits_of_a_column : answer_of (call (codes "compare" ∷ codes "--columns" ∷ codes "000001" ∷ codes "old.oct" ∷ [])) ≡ refuses
 unfolding clap_on_literals
 six_digits_of_a_column = refl
+
+row_format : answer_of (call (codes "compare" ∷ codes "--format" ∷ codes "rows" ∷ codes "old.oct" ∷ [])) ≡ asks (compare (Some (codes "old.oct")) default_options) None
+unfolding clap_on_literals
+row_format = refl
+
+dump_format : answer_of (call (codes "compare" ∷ codes "--format=dump" ∷ codes "old.oct" ∷ [])) ≡ asks (compare (Some (codes "old.oct")) (record default_options { format = Dump })) None
+unfolding clap_on_literals
+dump_format = refl
+
+other_format : answer_of (call (codes "compare" ∷ codes "--format" ∷ codes "own" ∷ codes "old.oct" ∷ [])) ≡ refuses
+unfolding clap_on_literals
+other_format = refl
+
+missing_format : answer_of (call (codes "compare" ∷ codes "old.oct" ∷ codes "--format" ∷ [])) ≡ refuses
+unfolding clap_on_literals
+missing_format = refl
+
+offset_up : answer_of (call (codes "compare" ∷ codes "--offset" ∷ codes "4000" ∷ codes "old.oct" ∷ [])) ≡ asks (compare (Some (codes "old.oct")) (record default_options { offset = Up 2048 })) None
+unfolding clap_on_literals
+offset_up = refl
+
+offset_behind_a_plus : answer_of (call (codes "compare" ∷ codes "--offset" ∷ codes "+20" ∷ codes "old.oct" ∷ [])) ≡ asks (compare (Some (codes "old.oct")) (record default_options { offset = Up 16 })) None
+unfolding clap_on_literals
+offset_behind_a_plus = refl
+
+offset_down : answer_of (call (codes "compare" ∷ codes "--offset=-4000" ∷ codes "old.oct" ∷ [])) ≡ asks (compare (Some (codes "old.oct")) (record default_options { offset = Down 2048 })) None
+unfolding clap_on_literals
+offset_down = refl
+
+-- a minus begins an option where it begins a word
+parted_offset : answer_of (call (codes "compare" ∷ codes "--offset" ∷ codes "-4000" ∷ codes "old.oct" ∷ [])) ≡ refuses
+unfolding clap_on_literals
+parted_offset = refl
+
+empty_offset : answer_of (call (codes "compare" ∷ codes "--offset=" ∷ codes "old.oct" ∷ [])) ≡ refuses
+unfolding clap_on_literals
+empty_offset = refl
+
+sign_of_no_offset : answer_of (call (codes "compare" ∷ codes "--offset=-" ∷ codes "old.oct" ∷ [])) ≡ refuses
+unfolding clap_on_literals
+sign_of_no_offset = refl
+
+offset_behind_two_signs : answer_of (call (codes "compare" ∷ codes "--offset=+-1" ∷ codes "old.oct" ∷ [])) ≡ refuses
+unfolding clap_on_literals
+offset_behind_two_signs = refl
+
+offset_of_seven_digits : answer_of (call (codes "compare" ∷ codes "--offset=-0004000" ∷ codes "old.oct" ∷ [])) ≡ refuses
+unfolding clap_on_literals
+offset_of_seven_digits = refl
+
+offset_that_is_not_octal : answer_of (call (codes "compare" ∷ codes "--offset" ∷ codes "80" ∷ codes "old.oct" ∷ [])) ≡ refuses
+unfolding clap_on_literals
+offset_that_is_not_octal = refl
+
+whole_words : answer_of (call (codes "compare" ∷ codes "--whole" ∷ codes "old.oct" ∷ [])) ≡ asks (compare (Some (codes "old.oct")) (record default_options { whole = true })) None
+unfolding clap_on_literals
+whole_words = refl
+
+all_told : answer_of (call (codes "compare" ∷ codes "old.oct" ∷ codes "--all" ∷ [])) ≡ asks (compare (Some (codes "old.oct")) (record default_options { all = true })) None
+unfolding clap_on_literals
+all_told = refl
+
+value_of_whole : answer_of (call (codes "compare" ∷ codes "--whole=true" ∷ codes "old.oct" ∷ [])) ≡ refuses
+unfolding clap_on_literals
+value_of_whole = refl
+
+all_twice : answer_of (call (codes "compare" ∷ codes "--all" ∷ codes "--all" ∷ codes "old.oct" ∷ [])) ≡ refuses
+unfolding clap_on_literals
+all_twice = refl
 
 -- ---- `session --source`
 

@@ -1,5 +1,5 @@
 -- The command line. Our own; what words mean to one is `clap`'s.
-use Rattle.std.specs.Prelude.{true, false, [], ◌∷◌, Some, codes}
+use Rattle.std.specs.Prelude.{true, false, List, [], ◌∷◌, ◌++◌, Some, codes}
 use Rattle.clap.specs.Words.{App, Rule, Shape, Text, new_rule}
 use Rattle.clap.specs.Simple.{new_shape}
 use Rattle.clap.specs.declared.builder.action.ArgAction.TheVariants.{SetTrue}
@@ -44,15 +44,18 @@ session_shape = record (new_shape (codes "session")) { rules = option_rule (code
 abbrev pub check_shape : Shape
 check_shape = record (new_shape (codes "check")) { rules = operand_rule (codes "file") ∷ [] }
 
--- `compare [--from A] [--to B] [--columns F-L] OCTAL [FILE]`
+-- `[--format FORMAT] [--columns F-L] [--offset N]`
+abbrev pub reading_rules : List Rule
+reading_rules = option_rule (codes "format") ∷ option_rule (codes "columns") ∷ option_rule (codes "offset") ∷ []
+
+-- `[--from A] [--to B] [--whole] [--all]`
+abbrev pub limit_rules : List Rule
+limit_rules = option_rule (codes "from") ∷ option_rule (codes "to") ∷ flag_rule (codes "whole") ∷ flag_rule (codes "all") ∷ []
+
+-- `compare`, with these options, and `OCTAL [FILE]`
 abbrev pub compare_shape : Shape
 compare_shape = record (new_shape (codes "compare")) {
-  rules = option_rule (codes "from")
-      ∷ option_rule (codes "to")
-      ∷ option_rule (codes "columns")
-      ∷ wanted_rule (codes "octal")
-      ∷ operand_rule (codes "file")
-      ∷ [];
+  rules = reading_rules ++ limit_rules ++ wanted_rule (codes "octal") ∷ operand_rule (codes "file") ∷ [];
 }
 
 -- `explain WORD`

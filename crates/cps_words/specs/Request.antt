@@ -4,12 +4,12 @@ use Rattle.std.specs.Borrow.{Bor}
 use Rattle.clap.specs.Words.{Kinds, Row, Text, fault_of, first_of, subcommand_of}
 use Rattle.clap.specs.declared.error.kind.ErrorKind.{ErrorKind}
 use Rattle.clap.specs.declared.error.kind.ErrorKind.TheVariants.{DisplayHelp, DisplayVersion}
-use Rattle.cps_compare.specs.declared.limits.Limits.{Limits}
+use Rattle.cps_compare.specs.declared.compare_options.CompareOptions.{CompareOptions}
 use Rattle.cps_list.specs.declared.part.Part.{Part}
 use Rattle.cps_list.specs.declared.part.Part.TheVariants.{All}
 use Rattle.cps_words.specs.Outputs.{Names}
 use Rattle.cps_words.specs.Commands.{compass}
-use Rattle.cps_words.specs.Values.{are_apart, file_in, is_command, limits_in, names_in, octal_in, part_in, wants_no_file, word_explained}
+use Rattle.cps_words.specs.Values.{are_apart, file_in, is_command, names_in, octal_in, options_in, part_in, wants_no_file, word_explained}
 use Rattle.cps_words.specs.Task.{Task, batch, export, session, check, compare, explain, server, task_of}
 use Rattle.cps_words.specs.declared.request.Call.{Call}
 use Rattle.cps_words.specs.declared.unread.Unread.{Unread}
@@ -42,13 +42,13 @@ abbrev pub answer_of_session : List Row → Answer
 answer_of_session rows = answer_of_source (first_of (codes "source") rows)
 
 -- the octal text and the source can't both be standard input
-abbrev pub answer_of_limits : Option Limits → Option Text → Option Text → Answer
-answer_of_limits None octal file = refuses
-answer_of_limits (Some limits) None None = refuses
-answer_of_limits (Some limits) octal file = asks (compare octal limits) file
+abbrev pub answer_of_options : Option CompareOptions → Option Text → Option Text → Answer
+answer_of_options None octal file = refuses
+answer_of_options (Some options) None None = refuses
+answer_of_options (Some options) octal file = asks (compare octal options) file
 
 abbrev pub answer_of_compare : List Row → Answer
-answer_of_compare rows = answer_of_limits (limits_in rows) (octal_in rows) (file_in rows)
+answer_of_compare rows = answer_of_options (options_in rows) (octal_in rows) (file_in rows)
 
 -- the help of the program, or of a command
 abbrev pub answer_of_help : Option Text → Answer

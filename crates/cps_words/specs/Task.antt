@@ -3,7 +3,7 @@ use Rattle.std.specs.Prelude.{Option, option_map}
 use Rattle.std.specs.Borrow.{Bor}
 use Rattle.clap.specs.Words.{Text}
 use Rattle.cps_list.specs.declared.part.Part.{Part}
-use Rattle.cps_compare.specs.declared.limits.Limits.{Limits}
+use Rattle.cps_compare.specs.declared.compare_options.CompareOptions.{CompareOptions}
 use Rattle.cps_words.specs.Outputs.{Names, names_of}
 use Rattle.cps_words.specs.declared.request.Request.{Request}
 use Rattle.cps_words.specs.declared.request.Request.TheVariants.{Batch, Export, Session, Check, Compare, Explain, Server}
@@ -15,7 +15,7 @@ pub data Task : Type 0 where
   export : Names → Option Part → Task
   session : Task
   check : Task
-  compare : Option Text → Limits → Task
+  compare : Option Text → CompareOptions → Task
   explain : Text → Task
   server : Task
 
@@ -25,6 +25,6 @@ task_of (Batch part) = batch part
 task_of (Export outputs part) = export (names_of outputs) part
 task_of Session = session
 task_of Check = check
-task_of (Compare comparand) = compare (option_map (λ (name : Bor Text). name.now) comparand.octal) comparand.limits
+task_of (Compare comparand) = compare (option_map (λ (name : Bor Text). name.now) comparand.octal) comparand.options
 task_of (Explain word) = explain word.now
 task_of Server = server

@@ -5,8 +5,12 @@ use Rattle.std.specs.List.{after_first, before_first, list_all, list_any, positi
 use Rattle.std.specs.Char.{is_digit}
 use Rattle.std.specs.Str.Parse.{digits_value}
 use Rattle.clap.specs.Words.{Row, Text, first_of}
-use Rattle.cps_compare.specs.declared.limits.OctalColumns.{OctalColumns}
-use Rattle.cps_compare.specs.declared.limits.Limits.{Limits}
+use Rattle.cps_claims.specs.declared.layout.OctalFormat.{OctalFormat}
+use Rattle.cps_claims.specs.declared.layout.OctalFormat.TheVariants.{Rows, Dump}
+use Rattle.cps_claims.specs.declared.layout.ReadColumns.{ReadColumns}
+use Rattle.cps_claims.specs.declared.layout.WordOffset.{WordOffset}
+use Rattle.cps_claims.specs.declared.layout.WordOffset.TheVariants.{Up, Down}
+use Rattle.cps_compare.specs.declared.compare_options.CompareOptions.{CompareOptions}
 use Rattle.cps_list.specs.declared.part.Part.{Part}
 use Rattle.cps_list.specs.declared.part.Part.TheVariants.{Listing, Binary, Symbols, Flags, All}
 use Rattle.cps_words.specs.Outputs.{Names}
@@ -86,6 +90,16 @@ value_from named (Some word) = option_map (λ value. Some value) (named word)
 abbrev pub part_in : List Row → Option (Option Part)
 part_in rows = value_from part_named (first_of (codes "part") rows)
 
+-- ---- flags
+
+-- a flag that stands has the word `true`
+abbrev pub is_true : Option Text → Bool
+is_true None = false
+is_true (Some word) = bytes_eq word (codes "true")
+
+abbrev pub has_flag : Text → List Row → Bool
+has_flag name rows = is_true (first_of name rows)
+
 -- ---- what is compared
 
 -- the octal text, None where standard input is
@@ -102,12 +116,26 @@ number_named radix most word =
 abbrev pub address_named : Text → Option ℕ
 address_named word = number_named 8 6 word
 
+-- how rows are read, by its name
+abbrev pub format_named : Text → Option OctalFormat
+format_named word = if bytes_eq word (codes "rows") then Some Rows
+    else if bytes_eq word (codes "dump") then Some Dump
+    else None
+
+-- how far addresses are moved: 1 to 6 octal digits, taken away where a minus stands before them; a plus may stand there too
+abbrev pub offset_named : Text → Option WordOffset
+offset_named [] = None
+offset_named (sign ∷ digits) =
+    if sign == code "-" then option_map (λ count. Down count) (address_named digits)
+    else if sign == code "+" then option_map (λ count. Up count) (address_named digits)
+    else option_map (λ count. Up count) (address_named (sign ∷ digits))
+
 -- a column: 1 to 5 decimal digits
 abbrev pub column_named : Text → Option ℕ
 column_named word = number_named 10 5 word
 
 -- columns count from 1, and the first is not behind the last
-abbrev pub columns_between : Option ℕ → Option ℕ → Option OctalColumns
+abbrev pub columns_between : Option ℕ → Option ℕ → Option ReadColumns
 columns_between (Some first) (Some last) = if nat_le 1 first && nat_le first last then Some (record { first = first; last = last }) else None
 columns_between _ _ = None
 
@@ -119,12 +147,12 @@ abbrev pub halves_of : Text → Option (Text × Text)
 halves_of word = if nat_lt (position_or_len is_minus word) (length word) then Some (before_first is_minus word, after_first is_minus word) else None
 
 -- one column alone is the first and the last
-abbrev pub columns_from : Text → Option (Text × Text) → Option OctalColumns
+abbrev pub columns_from : Text → Option (Text × Text) → Option ReadColumns
 columns_from word None = columns_between (column_named word) (column_named word)
 columns_from word (Some halves) = columns_between (column_named halves.0) (column_named halves.1)
 
 -- the columns that a word names: two with a minus between them, or one
-abbrev pub columns_named : Text → Option OctalColumns
+abbrev pub columns_named : Text → Option ReadColumns
 columns_named word = columns_from word (halves_of word)
 
 -- the first address isn't above the last, where both are named
@@ -132,11 +160,23 @@ abbrev pub are_rising : Option ℕ → Option ℕ → Bool
 are_rising (Some from) (Some to) = nat_le from to
 are_rising _ _ = true
 
-abbrev pub limits_from : Option (Option ℕ) → Option (Option ℕ) → Option (Option OctalColumns) → Option Limits
-limits_from (Some from) (Some to) (Some columns) = if are_rising from to then Some (record { from = from; to = to; columns = columns }) else None
-limits_from _ _ _ = None
+-- what is asked by a format, columns, an offset, and a first and a last address, each of which may be left out, and by two flags
+abbrev pub options_from : Option (Option OctalFormat) → Option (Option ReadColumns) → Option (Option WordOffset) → Option (Option ℕ) → Option (Option ℕ)
+    → Bool → Bool → Option CompareOptions
+options_from (Some format) (Some columns) (Some offset) (Some from) (Some to) whole all =
+    if are_rising from to then Some (record {
+      format = unwrap_or format Rows;
+      columns = columns;
+      offset = unwrap_or offset (Up 0);
+      from = from;
+      to = to;
+      whole = whole;
+      all = all;
+    }) else None
+options_from _ _ _ _ _ _ _ = None
 
--- the limits that the options name, None where one of their values is wrong, or the first address above the last
-abbrev pub limits_in : List Row → Option Limits
-limits_in rows = limits_from (value_from address_named (first_of (codes "from") rows)) (value_from address_named (first_of (codes "to") rows))
-    (value_from columns_named (first_of (codes "columns") rows))
+-- what the options ask, None where one of their values is wrong, or the first address above the last
+abbrev pub options_in : List Row → Option CompareOptions
+options_in rows = options_from (value_from format_named (first_of (codes "format") rows)) (value_from columns_named (first_of (codes "columns") rows))
+    (value_from offset_named (first_of (codes "offset") rows)) (value_from address_named (first_of (codes "from") rows))
+    (value_from address_named (first_of (codes "to") rows)) (has_flag (codes "whole") rows) (has_flag (codes "all") rows)

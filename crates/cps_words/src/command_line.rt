@@ -1,9 +1,9 @@
 //! The command line, as `clap` has it.
-ghost use Rattle.std.specs.Prelude.{◌≡◌, IfOk, false};
+ghost use Rattle.std.specs.Prelude.{◌≡◌, IfOk, false, fold};
 ghost use Rattle.clap.specs.Words.{app_of, new_app, rule_of, with_rule, with_subcommand};
 ghost use Rattle.clap.specs.Simple.{shape_of};
 ghost use Rattle.clap.specs.declared.builder.command.Command.TheViews.{out-Command};
-ghost use Rattle.cps_words.specs.Commands.{bare_compass, batch_shape, check_shape, compare_shape, compass, explain_shape, flag_rule, help_shape, operand_rule, option_rule, server_shape, session_shape, wanted_rule};
+ghost use Rattle.cps_words.specs.Commands.{bare_compass, batch_shape, check_shape, compare_shape, compass, explain_shape, flag_rule, help_shape, limit_rules, operand_rule, option_rule, reading_rules, server_shape, session_shape, wanted_rule};
 
 use super::helps::{
     ABOUT, BATCH_ABOUT, BATCH_MORE, CHECK_ABOUT, CHECK_MORE, COMPARE_ABOUT, COMPARE_MORE,
@@ -115,6 +115,59 @@ fn compare_command<'a>(alloc: Global) -> Result<Command<'a>, AllocError>
     ensures local { IfOk result (λ command. (out-Command command).has_globals ≡ false) }
 {
     let command = bare_command(alloc, "compare", COMPARE_ABOUT, COMPARE_MORE);
+    let command = with_reading_options(alloc, command)?;
+    let command = with_limit_options(alloc, command)?;
+    let command = with_argument(
+        command,
+        wanted_operand(
+            alloc,
+            "octal",
+            "OCTAL",
+            "The octal listing or dump: standard input where it is '-'",
+        ),
+    )?;
+    with_argument(command, operand(alloc, "file", "FILE", FILE_ABOUT))
+}
+
+/// A command with the options that say how an octal text is read.
+fn with_reading_options<'a>(alloc: Global, command: Command<'a>) -> Result<Command<'a>, AllocError>
+    ensures app { IfOk result (λ more. app_of more ≡ fold with_rule (app_of command.entry) reading_rules) }
+    ensures local { IfOk result (λ more. (out-Command more).has_globals ≡ (out-Command command.entry).has_globals) }
+{
+    let command = with_argument(
+        command,
+        option(
+            alloc,
+            "format",
+            "FORMAT",
+            "How OCTAL is read: rows or dump [default: rows]",
+        ),
+    )?;
+    let command = with_argument(
+        command,
+        option(
+            alloc,
+            "columns",
+            "F-L",
+            "The columns of OCTAL that are read [default: all]",
+        ),
+    )?;
+    with_argument(
+        command,
+        option(
+            alloc,
+            "offset",
+            "N",
+            "Octal, added to OCTAL's addresses; '=-N' takes away",
+        ),
+    )
+}
+
+/// A command with the options that say which words are compared, and how much is told of them.
+fn with_limit_options<'a>(alloc: Global, command: Command<'a>) -> Result<Command<'a>, AllocError>
+    ensures app { IfOk result (λ more. app_of more ≡ fold with_rule (app_of command.entry) limit_rules) }
+    ensures local { IfOk result (λ more. (out-Command more).has_globals ≡ (out-Command command.entry).has_globals) }
+{
     let command = with_argument(
         command,
         option(
@@ -135,23 +188,16 @@ fn compare_command<'a>(alloc: Global) -> Result<Command<'a>, AllocError>
     )?;
     let command = with_argument(
         command,
-        option(
-            alloc,
-            "columns",
-            "F-L",
-            "The columns of OCTAL that are read [default: all]",
-        ),
+        flag(alloc, "whole", "OCTAL has to give each word, and all of it"),
     )?;
-    let command = with_argument(
+    with_argument(
         command,
-        wanted_operand(
+        flag(
             alloc,
-            "octal",
-            "OCTAL",
-            "The octal listing or dump: standard input where it is '-'",
+            "all",
+            "Tell all words that differ, and all rows not read",
         ),
-    )?;
-    with_argument(command, operand(alloc, "file", "FILE", FILE_ABOUT))
+    )
 }
 
 fn explain_command<'a>(alloc: Global) -> Result<Command<'a>, AllocError>

@@ -2,13 +2,13 @@
 ghost use Rattle.std.specs.Prelude.{◌<◌, ◌^◌};
 ghost use Rattle.std.specs.Option.{ForSome};
 
-use cps_compare::Limits;
+use cps_compare::CompareOptions;
 
 /// An octal text, and what of it is compared with a source. The last address has at most six octal digits.
 #[derive(Clone, Copy)]
 pub struct Comparand<'a> {
     /// The name of the text's file, None for standard input.
     pub octal: Option<&'a str>,
-    pub limits: Limits,
-    ghost low: { ForSome limits.to (λ to. to < 2 ^ 18) },
+    pub options: CompareOptions,
+    ghost low: { ForSome options.to (λ to. to < 2 ^ 18) },
 }

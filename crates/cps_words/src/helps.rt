@@ -78,24 +78,36 @@ Exit status:
 pub const COMPARE_ABOUT: &str = "Compare the words of a source with an octal listing or dump";
 
 pub const COMPARE_MORE: &str = "\
-The source is read from FILE. Where a word of its binary text differs from that
-of OCTAL at the same address, both are written, with the lines of the source
-that made the digits that differ; and at the end how many words differ.
+The source is read from FILE. Each octal digit that OCTAL gives for a word is
+compared with that of the source's binary text. Where one differs both words are
+written, with the lines of the source that made it; and at the end what was
+compared, and what OCTAL has that wasn't read.
 
-A row of OCTAL has an address, 1 to 6 octal digits, and behind it octal digits
-in any grouping. They are cut into words of 20 digits, of 4 for a peripheral
-processor, the first of them at the address, the next ones behind it. Other rows
-aren't read.
+OCTAL is a listing of COMPASS, a dump, or words that were typed:
+  000104  51300 00026 21263    an address, and digits behind it
+          1??00                digits without one go on in the word before
+An address has 1 to 6 octal digits, and perhaps a colon or B. The digits stand
+in groups of whole parcels, of 5 digits; for a peripheral processor of whole
+words, of 4. The marks ?, . and _ are digits that nobody can read. A row that
+looks like digits and fits no rule isn't read, which is told. Other text, as a
+heading, is passed over.
 
-The first group of nothing but octal digits in a row is taken as the address. So
-where a listing has other numbers beside the code, --columns must name those of
-the address and the code. A listing of this program has the numbers of the lines
-behind the code, and is read by --columns 10-36. In rows such as '100: 4000' put
-a blank in the place of the colon first, as by tr ':' ' '.
+  --format dump  a row has whole words, one without an address the next ones; a
+                 row '*', or that begins with DUPL, REPEAT or SAME, says that
+                 the words before stand again, up to the next address
+  --columns F-L  the columns of the address and the digits, where rows have
+                 other numbers: 10-36 for code in a listing of this program
+  --offset N     for a text whose addresses are N too low, or by --offset=-N
+                 too high
+  --whole        a word that OCTAL lacks, or gives in part, differs; without
+                 --from and --to that is each of the source
+  --all          each word that differs is told, and each row that isn't read;
+                 else some of many are counted
 
 Exit status:
-  0  all words agree, of which there is one at least
-  1  a word differs, is missing or too many
+  0  a known digit was compared, and each that OCTAL gives between the limits
+     agrees; with --whole nothing lacks
+  1  a word differs
   2  a fault, which is said on standard error, also that nothing is compared";
 
 pub const EXPLAIN_ABOUT: &str = "Explain a flag or an operation";

@@ -2,16 +2,16 @@
 //!
 //! - `command_line.rt`: the command line, as `clap` has it
 //! - `comparand.rt`: what a source is compared with
+//! - `compare_options.rt`: what the options of `compare` ask
 //! - `export.rt`: what is made of a source
 //! - `export_fault.rt`: why not all is made of a source that is wanted
 //! - `exporting.rt`: a source that is read whole, assembled, and written into files
 //! - `fault.rt`: why texts aren't in their files
 //! - `help.rt`: the command `help`
 //! - `helps.rt`: what the helps say
-//! - `limits.rt`: what is to be compared, by the options of `compare`
 //! - `message.rt`: texts, as a message shows them
 //! - `names.rt`: names of an export that lead to one file
-//! - `numbers.rt`: the addresses and the columns that words name
+//! - `numbers.rt`: the addresses, the offsets and the columns that words name
 //! - `output_options.rt`: which texts the options of `batch` want in files
 //! - `outputs.rt`: which texts are wanted, and in which files
 //! - `request.rt`: the words of a call, read
@@ -23,13 +23,13 @@
 
 mod command_line;
 mod comparand;
+mod compare_options;
 mod export;
 mod export_fault;
 mod exporting;
 mod fault;
 mod help;
 mod helps;
-mod limits;
 mod message;
 mod names;
 mod numbers;

@@ -1,10 +1,10 @@
-//! The addresses and the columns that words name.
+//! The addresses, the offsets and the columns that words name.
 ghost use Rattle.std.specs.Prelude.{◌≡◌, ◌<◌, ◌≤◌, ◌^◌, IfSome, length, option_map};
 ghost use Rattle.std.specs.List.{list_all};
 ghost use Rattle.std.specs.Char.{is_digit};
 ghost use Rattle.cps_words.specs.Values as values;
 
-use cps_compare::OctalColumns;
+use cps_claims::{ReadColumns, WordOffset};
 
 /// The most digits of an address.
 const ADDRESS_DIGITS: usize = 6;
@@ -20,8 +20,28 @@ pub fn read_address(word: &str) -> Option<u32>
     read_number(word, 8, ADDRESS_DIGITS)
 }
 
+/// How far a word says that addresses are moved: 1 to 6 octal digits, which a minus takes away; a plus may stand before them.
+pub fn read_offset(word: &str) -> Option<WordOffset>
+    ensures { result ≡ values.offset_named word.now }
+{
+    match word.strip_prefix('-') {
+        Some(digits) => read_address(digits).map(WordOffset::Down),
+        None => match word.strip_prefix('+') {
+            Some(digits) => read_added(digits),
+            None => read_added(word),
+        },
+    }
+}
+
+/// The offset that digits without a sign write.
+fn read_added(word: &str) -> Option<WordOffset>
+    ensures { result ≡ option_map (λ count. WordOffset.Up count) (values.address_named word.now) }
+{
+    read_address(word).map(WordOffset::Up)
+}
+
 /// The columns that a word names: a first and a last one with a minus between them, or one alone.
-pub fn read_columns(word: &str) -> Option<OctalColumns>
+pub fn read_columns(word: &str) -> Option<ReadColumns>
     ensures { result ≡ values.columns_named word.now }
 {
     match halves_of(word) {
@@ -37,11 +57,11 @@ fn halves_of(word: &str) -> Option<(&str, &str)>
     word.split_once('-')
 }
 
-fn columns_between(first: Option<u32>, last: Option<u32>) -> Option<OctalColumns>
+fn columns_between(first: Option<u32>, last: Option<u32>) -> Option<ReadColumns>
     ensures { result ≡ values.columns_between first last }
 {
     match (first, last) {
-        (Some(first), Some(last)) if 1 <= first && first <= last => Some(OctalColumns {
+        (Some(first), Some(last)) if 1 <= first && first <= last => Some(ReadColumns {
             first: first as usize,
             last: last as usize,
         }),

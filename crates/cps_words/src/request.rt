@@ -1,20 +1,21 @@
 //! The words of a call of the program, and what they ask.
 ghost use Rattle.std.specs.Prelude.{◌≡◌, ◌⊎◌, IfOk, IfErr, None, option_map};
-ghost use Rattle.clap.specs.Words.{found_of, rows_of, subcommand_rows_of};
+ghost use Rattle.clap.specs.Words.{found_of, kind_of, rows_of, subcommand_rows_of};
 ghost use Rattle.clap.specs.Walk.{texts};
 ghost use Rattle.cps_words.specs.Request.{IsAnswer, answer_from, answer_named, answer_of, answer_of_batch, answer_of_compare, answer_of_session, asked_by, request_of};
-ghost use Rattle.cps_words.specs.Code.Reading.{Reads, ReadsValue};
+ghost use Rattle.cps_words.specs.Code.Reading.{Reads, ReadsValue, Says};
 ghost use Rattle.cps_words.specs.Values.{part_named, value_from};
 
 use super::command_line::compass_command;
 use super::comparand::Comparand;
+use super::compare_options::{parted_offset, read_compare_options};
 use super::help::read_help;
-use super::limits::read_limits;
 use super::output_options::{are_apart, read_outputs, say_taken, wants_no_file};
-use super::unread::{Unread, say, say_no_part, say_wrong_value, wrong};
+use super::unread::{Unread, say, say_no_name, say_parted_offset, say_wrong_value, wrong};
 use super::values::{part_of_name, read_file, word_in};
 use crate::outputs::Outputs;
-use clap::ArgMatches;
+use clap::error::ErrorKind;
+use clap::{ArgMatches, Error};
 use cps_list::Part;
 use std::alloc::Global;
 
@@ -58,7 +59,17 @@ pub fn read_words<'a>(alloc: Global, words: &'a [&'a str]) -> Result<Call<'a>, U
     };
     match command.try_get_matches_from(words) {
         Ok(matches) => read_matches(alloc, &matches),
-        Err(error) => Err(say(alloc, &error)),
+        Err(error) => Err(say_fault(alloc, words, &error)),
+    }
+}
+
+/// What is said of words in which `clap` found a fault. It takes an offset with a minus for an option where that is a word of its own.
+fn say_fault(alloc: Global, words: &[&str], error: &Error) -> Unread
+    ensures { Says (kind_of error.now) result }
+{
+    match (error.kind(), parted_offset(words)) {
+        (ErrorKind::UnknownArgument, Some(word)) => say_parted_offset(alloc, word),
+        _ => say(alloc, error),
     }
 }
 
@@ -129,9 +140,12 @@ fn read_part(alloc: Global, word: Option<&str>) -> Result<Option<Part>, Unread>
     };
     match part_of_name(word) {
         Some(part) => Ok(Some(part)),
-        None => Err(say_no_part(alloc, word)),
+        None => Err(say_no_name(alloc, "--part <PART>", PARTS, word)),
     }
 }
+
+/// The words that name a part.
+const PARTS: &str = "listing, binary, symbols, flags, all";
 
 fn read_session<'a>(alloc: Global, values: &ArgMatches<'a>) -> Result<Call<'a>, Unread>
     ensures { Reads (answer_of_session (rows_of (found_of values.now))) result }
@@ -154,14 +168,14 @@ fn read_session<'a>(alloc: Global, values: &ArgMatches<'a>) -> Result<Call<'a>, 
 fn read_compare<'a>(alloc: Global, values: &ArgMatches<'a>) -> Result<Call<'a>, Unread>
     ensures { Reads (answer_of_compare (rows_of (found_of values.now))) result }
 {
-    let limits = read_limits(alloc, values)?;
+    let options = read_compare_options(alloc, values)?;
     let octal = read_file(word_in(values, "octal"));
     let file = read_file(word_in(values, "file"));
     if octal.is_none() && file.is_none() {
         return Err(wrong(alloc, TWICE_STANDARD_INPUT));
     }
     Ok(Call {
-        request: Request::Compare(Comparand { octal, limits }),
+        request: Request::Compare(Comparand { octal, options }),
         file,
     })
 }

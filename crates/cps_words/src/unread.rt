@@ -19,11 +19,11 @@ pub enum Unread {
     Memory,
 }
 
-/// What is said of a word that names no part.
-pub fn say_no_part(alloc: Global, word: &str) -> Unread
+/// What is said of a word that an option doesn't take. `names` are those that it takes, with a comma and a blank between two.
+pub fn say_no_name(alloc: Global, option: &str, names: &str, word: &str) -> Unread
     ensures { IsRefusal result }
 {
-    let tip = match similar_part(word) {
+    let tip = match similar_name(names, word) {
         Some(name) => format!(in alloc; "\n  tip: a similar value exists: '{name}'\n"),
         None => Ok(String::new(alloc)),
     };
@@ -31,7 +31,7 @@ pub fn say_no_part(alloc: Global, word: &str) -> Unread
         return Unread::Memory;
     };
     let text = format!(in alloc;
-        "error: invalid value '{word}' for '--part <PART>'\n  [possible values: listing, binary, symbols, flags, all]\n{tip}\nFor more information, try '--help'.\n"
+        "error: invalid value '{word}' for '{option}'\n  [possible values: {names}]\n{tip}\nFor more information, try '--help'.\n"
     );
     match text {
         Ok(text) => wrong(alloc, &text),
@@ -65,16 +65,27 @@ pub fn say_wrong_value(alloc: Global, option: &str, word: &str, wanted: &str) ->
     }
 }
 
-/// The first part whose name the word begins, or begins with.
-fn similar_part(word: &str) -> Option<&'static str> {
-    const NAMES: [&str; 5] = ["listing", "binary", "symbols", "flags", "all"];
+/// The first of these names that begins with the word, or that the word begins with.
+fn similar_name<'a>(names: &'a str, word: &str) -> Option<&'a str> {
     if word.is_empty() {
         return None;
     }
-    NAMES
-        .iter()
-        .copied()
+    names
+        .split(", ")
         .find(|name| name.starts_with(word) || word.starts_with(*name))
+}
+
+/// What is said of an offset with a minus that is a word of its own.
+pub fn say_parted_offset(alloc: Global, word: &str) -> Unread
+    ensures { IsRefusal result }
+{
+    let text = format!(in alloc;
+        "error: invalid value '{word}' for '--offset <N>': behind a minus write '--offset={word}'\n\nFor more information, try '--help'.\n"
+    );
+    match text {
+        Ok(text) => wrong(alloc, &text),
+        Err(_) => Unread::Memory,
+    }
 }
 
 /// What is wrong with the words.

@@ -1,9 +1,11 @@
 //! What the values of options and operands name.
 ghost use Rattle.std.specs.Prelude.{◌≡◌, option_map};
 ghost use Rattle.clap.specs.Words.{first_of, found_of, rows_of};
-ghost use Rattle.cps_words.specs.Values.{file_named, part_named};
+ghost use Rattle.cps_words.specs.Values as values;
+ghost use Rattle.cps_words.specs.Values.{file_named, format_named, part_named};
 
 use clap::ArgMatches;
+use cps_claims::OctalFormat;
 use cps_list::Part;
 
 /// The word that an option or an operand has, if any.
@@ -23,6 +25,16 @@ pub fn read_file(word: Option<&str>) -> Option<&str>
     }
 }
 
+/// Whether a flag stands: `clap` gives it the word `true` then.
+pub fn has_flag(matches: &ArgMatches, id: &str) -> bool
+    ensures { result ≡ values.has_flag id.now (rows_of (found_of matches.now)) }
+{
+    match word_in(matches, id) {
+        Some(word) => word == "true",
+        None => false,
+    }
+}
+
 /// The part that a word names.
 pub fn part_of_name(word: &str) -> Option<Part>
     ensures { result ≡ part_named word.now }
@@ -33,6 +45,17 @@ pub fn part_of_name(word: &str) -> Option<Part>
         "symbols" => Some(Part::Symbols),
         "flags" => Some(Part::Flags),
         "all" => Some(Part::All),
+        _ => None,
+    }
+}
+
+/// The format that a word names.
+pub fn format_of_name(word: &str) -> Option<OctalFormat>
+    ensures { result ≡ format_named word.now }
+{
+    match word {
+        "rows" => Some(OctalFormat::Rows),
+        "dump" => Some(OctalFormat::Dump),
         _ => None,
     }
 }

@@ -1,4 +1,4 @@
-"""Calls of `compass compare`: sources beside octal texts."""
+"""Calls of `compass compare`: sources beside octal texts. `examples/compare/rows` has more of these; here stand words that are refused, and faults."""
 from examples import program_path
 
 from .forms import NONE, TABBED, not_there, refused, tells_more
@@ -16,98 +16,64 @@ def failed(words, told, given=b""):
 
 
 WORDS = b"000000 76110712000100076330\n000001 73412460004600046000\n000002 73510460004600046000\n"
+WRONG_DIGIT = WORDS.replace(b"01000", b"02000")
 DIGIT = b"""\
 000000 deck  76110712000100076330
-       octal 76110712000200076330
+       octal 76110712000200076330  row 1
                         ^
        line 2: SX2    1000B
 """
 
-# rows of any form; what isn't read; words that lack digits; a flagged source
+# a binary text; words that lack parcels; a flagged source; a peripheral processor
 AGREEING = [
-    compared("parcels.cps", WORDS, b"0 of 3 words differ (000000 to 000002)\n"),
-    compared("parcels.cps", b"IDENT\n\n" + WORDS + b"0 flagged lines\n", b"0 of 3 words differ (000000 to 000002)\n"),
-    compared("parcels.cps", b"DUMP 0 76110 71200 01000 76330 73412 46000 46000 46000 * 1\r\n2\t7351046000\t4600046000", b"0 of 3 words differ (000000 to 000002)\n"),
-    compared("parcels.cps", b"000000 76110\n000000 7120001000\n000000 76330\n000001 73412\n000002 73510\n", b"0 of 3 words differ (000000 to 000002)\n"),
-    compared("parcels.cps", b"1 73412\n", b"0 of 1 words differ (000001 to 000001)\n"),
-    compared("flags.cps", b"0 61100000005110000000 00000000000000000002\n", b"0 of 2 words differ (000000 to 000001)\n"),
-    compared("reader.cps", b"1034 3021 0342\n", b"0 of 2 words differ (001034 to 001035)\n"),
+    compared("parcels.cps", WORDS, b"compared: 60 digits of 3 words, in 3 rows\n0 of 3 words differ (000000 to 000002)\n"),
+    compared("parcels.cps", b"IDENT\n\n" + WORDS + b"0 flagged lines\n", b"""\
+compared: 60 digits of 3 words, in 3 rows
+other text: 2 rows, first row 1
+0 of 3 words differ (000000 to 000002)
+"""),
+    compared("parcels.cps", WORDS[:-1], b"compared: 60 digits of 3 words, in 3 rows\n0 of 3 words differ (000000 to 000002)\n"),
+    compared("parcels.cps", b"1 73412\n", b"compared: 5 digits of 1 words, in 1 rows\n0 of 1 words differ (000001 to 000001)\n"),
+    compared("flags.cps", b"0 61100000005110000000 00000000000000000002\n", b"compared: 40 digits of 2 words, in 1 rows\n0 of 2 words differ (000000 to 000001)\n"),
+    compared("reader.cps", b"1034 3021 0342\n", b"compared: 8 digits of 2 words, in 1 rows\n0 of 2 words differ (001034 to 001035)\n"),
 ]
 
-# each kind of difference, and what made the digits
+# what made the digits; and parts of a parcel, which aren't read
 DIFFERING = [
-    compared("parcels.cps", WORDS.replace(b"01000", b"02000"), DIGIT + b"1 of 3 words differ (000000 to 000002)\n"),
+    compared("parcels.cps", WRONG_DIGIT, DIGIT + b"compared: 60 digits of 3 words, in 3 rows\n1 of 3 words differ (000000 to 000002)\n"),
     compared("parcels.cps", WORDS + b"000003 1\n", b"""\
-000003 deck  (no word)
-       octal 1
-1 of 4 words differ (000000 to 000003)
-"""),
-    compared("parcels.cps", b"000000 76110712000100076330\n000002 73510460004600046000\n", b"""\
-000001 deck  73412460004600046000
-       octal (no digits)
-       line 4: SX4    X1+B2
-       line 5: +         SX5    X1
-1 of 3 words differ (000000 to 000002)
+compared: 60 digits of 3 words, in 3 rows
+not read: 1 rows, first row 4: a group of 1 digits
+0 of 3 words differ (000000 to 000002)
 """),
     compared("parcels.cps", b"0 66110712000100076331\n", b"""\
 000000 deck  76110712000100076330
-       octal 66110712000100076331
+       octal 66110712000100076331  row 1
              ^                  ^
        line 1: SX1    B1
        line 3: SX3    B3
+compared: 20 digits of 1 words, in 1 rows
 1 of 1 words differ (000000 to 000000)
-"""),
-    compared("store.cps", b"0 71600010005160000004\n", b"""\
-000000 deck  71600010005160000003
-       octal 71600010005160000004
-                                ^
-       line 5: STORE  6,1000B,FIRST
-1 of 1 words differ (000000 to 000000)
-"""),
-    compared("repeat.cps", b"3 00000000000000000145\n", b"""\
-000003 deck  00000000000000000144
-       octal 00000000000000000145
-                                ^
-       a literal
-1 of 1 words differ (000003 to 000003)
 """),
     compared("reader.cps", b"1034 3021 0343\n", b"""\
 001035 deck  0342
-       octal 0343
+       octal 0343  row 1
                 ^
        line 56: UJN     READX
+compared: 8 digits of 2 words, in 1 rows
 1 of 2 words differ (001034 to 001035)
 """),
 ]
 
-# the addresses and the columns that are compared
+# The addresses that are compared. One address is a range. Where no digit that is known stands there, that is no agreement.
 LIMITED = [
-    compared("parcels.cps", WORDS.replace(b"01000", b"02000"), b"0 of 2 words differ (000001 to 000002)\n", "--from", "1"),
-    compared("parcels.cps", WORDS.replace(b"01000", b"02000"), DIGIT + b"1 of 1 words differ (000000 to 000000)\n", "--to=0"),
-    compared("parcels.cps", b"000001 73412460004600046000\n", b"""\
-000000 deck  76110712000100076330
-       octal (no digits)
-       line 1: SX1    B1
-       line 2: SX2    1000B
-       line 3: SX3    B3
-000002 deck  73510460004600046000
-       octal (no digits)
-       line 5: +         SX5    X1
-       line 6: END
-2 of 3 words differ (000000 to 000003)
-""", "--from", "000000", "--to", "3"),
-    compared("parcels.cps", b"         000000 76110                     1           SX1    B1\n         000000 7120001000                2           SX2    1000B\n",
-             b"0 of 1 words differ (000000 to 000000)\n", "--columns", "10-36"),
-    compared("parcels.cps", b"1 000001 73412\n2 000002 73510\n", b"0 of 2 words differ (000001 to 000002)\n", "--columns=3-90"),
-]
-
-# One address is a range. Where no word and no digits stand, nothing is compared, and that is no agreement.
-EMPTY = [
-    compared("parcels.cps", WORDS, b"0 of 1 words differ (000002 to 000002)\n", "--from", "2", "--to", "2"),
-    failed(["--from", "1000", "-", program_path("parcels.cps")], b"nothing is compared: no digits and no word (001000 to 000002)\n", WORDS),
-    failed(["--from", "10", "--to", "17", "-", program_path("parcels.cps")], b"nothing is compared: no digits and no word (000010 to 000017)\n", WORDS),
-    failed(["--from=3", "--to=3", "-", program_path("parcels.cps")], b"nothing is compared: no digits and no word (000003 to 000003)\n", WORDS),
-    failed(["--to", "0", "-", program_path("parcels.cps")], b"nothing is compared: no digits and no word (000001 to 000000)\n", WORDS.splitlines(True)[1]),
+    compared("parcels.cps", WRONG_DIGIT, b"compared: 40 digits of 2 words, in 3 rows\n0 of 2 words differ (000001 to 000002)\n", "--from", "1"),
+    compared("parcels.cps", WRONG_DIGIT, DIGIT + b"compared: 20 digits of 1 words, in 3 rows\n1 of 1 words differ (000000 to 000000)\n", "--to=0"),
+    compared("parcels.cps", WORDS, b"compared: 20 digits of 1 words, in 3 rows\n0 of 1 words differ (000002 to 000002)\n", "--from", "2", "--to", "2"),
+    failed(["--from", "1000", "-", program_path("parcels.cps")], b"no digit of OCTAL is compared between 001000 and 000002\n", WORDS),
+    failed(["--from", "10", "--to", "17", "-", program_path("parcels.cps")], b"no digit of OCTAL is compared between 000010 and 000017\n", WORDS),
+    failed(["--from=3", "--to=3", "-", program_path("parcels.cps")], b"no digit of OCTAL is compared between 000003 and 000003\n", WORDS),
+    failed(["--to", "0", "-", program_path("parcels.cps")], b"no digit of OCTAL is compared between 000001 and 000000\n", WORDS.splitlines(True)[1]),
     failed(["--from", "0", "-", program_path("parcels.cps")], b"no row of OCTAL has an address and octal digits\n"),
     failed(["--columns", "1-6", "-", program_path("parcels.cps")], b"no row of OCTAL has an address and octal digits\n", WORDS),
     refused(["compare", "--from", "1001", "--to", "1000", "-", program_path("parcels.cps")],
@@ -118,11 +84,11 @@ EMPTY = [
 
 # what isn't compared
 FAILING = [
-    failed(["-", program_path("parcels.cps")], b"no row of OCTAL has an address and octal digits\n", b"NO DIGITS\n000100\n1234567 1\n"),
+    failed(["-", program_path("parcels.cps")], b"no row of OCTAL is read, the first is row 3: a group of 7 digits\n", b"NO DIGITS\n000100\n1234567 1\n"),
     failed([NONE, program_path("parcels.cps")], not_there(NONE)),
     failed([program_path("parcels.octal"), NONE], not_there(NONE)),
-    failed([program_path("parcels.octal")], b"line 2: bad character\n", b"\n~\n"),
-    failed([program_path("parcels.octal"), "-"], b"line 1: line too long\n", b"*" * 91),
+    failed([program_path("parcels.octal")], b"FILE: line 2: bad character\n", b"\n~\n"),
+    failed([program_path("parcels.octal"), "-"], b"FILE: line 1: line too long\n", b"*" * 91),
     failed([program_path("parcels.octal"), TABBED], tells_more(TABBED, 2, b"bad character")),
     failed(["-", TABBED], tells_more(TABBED, 2, b"bad character"), WORDS),
     refused(["compare", "-"], b"OCTAL and FILE can't both be standard input"),
@@ -134,4 +100,4 @@ FAILING = [
     refused(["compare"], b"the following required arguments were not provided:\n  <OCTAL>\n\nUsage: compass compare <OCTAL> [FILE]"),
 ]
 
-COMPARISONS = AGREEING + DIFFERING + LIMITED + EMPTY + FAILING
+COMPARISONS = AGREEING + DIFFERING + LIMITED + FAILING

@@ -1,5 +1,5 @@
 """Calls of `compass explain`, of a server that is sent no message, words that ask nothing, and calls for help."""
-from .forms import DECK, PARTS, refused
+from .forms import DECK, NONE, PARTS, not_there, refused
 
 # words of the language; the forms and codes are the manuals'
 CENTRAL = b"An instruction of the central processor: i, j and k are digits of registers,\nK is an expression or a literal, n an expression.\n"
@@ -39,7 +39,29 @@ WORDS = [
     refused(["session", "name"], b"unexpected argument 'name' found\n\nUsage: compass session [OPTIONS]"),
 ]
 
-CALLS_BY_WORDS = EXPLAINED + EDITORS + WORDS
+# options of a comparison: words that aren't their values, and words that are, where the octal text isn't there
+OFFSET = b" for '--offset <N>': write 1 to 6 octal digits, behind a minus to take them away"
+OPTIONS = [
+    refused(["compare", "--format", "own", NONE], b"invalid value 'own' for '--format <FORMAT>'\n  [possible values: rows, dump]"),
+    refused(["compare", "--format=", NONE], b"invalid value '' for '--format <FORMAT>'\n  [possible values: rows, dump]"),
+    refused(["compare", "--format", "dumps", NONE], b"invalid value 'dumps' for '--format <FORMAT>'\n  [possible values: rows, dump]\n\n  tip: a similar value exists: 'dump'"),
+    refused(["compare", "--format", "row", NONE], b"invalid value 'row' for '--format <FORMAT>'\n  [possible values: rows, dump]\n\n  tip: a similar value exists: 'rows'"),
+    refused(["compare", "--offset", "8", NONE], b"invalid value '8'" + OFFSET),
+    refused(["compare", "--offset", "1234567", NONE], b"invalid value '1234567'" + OFFSET),
+    refused(["compare", "--offset=", NONE], b"invalid value ''" + OFFSET),
+    refused(["compare", "--offset=-", NONE], b"invalid value '-'" + OFFSET),
+    refused(["compare", "--offset=-+1", NONE], b"invalid value '-+1'" + OFFSET),
+    refused(["compare", "--offset", "-4000", NONE], b"invalid value '-4000' for '--offset <N>': behind a minus write '--offset=-4000'"),
+    refused(["compare", "--offset", "-x", NONE],
+            b"unexpected argument '-x' found\n\n  tip: to pass '-x' as a value, use '-- -x'\n\nUsage: compass compare [OPTIONS] <OCTAL> [FILE]"),
+    refused(["compare", "--whole=1", NONE], b"unexpected value '1' for '--whole' found; no more were expected\n\nUsage: compass compare --whole <OCTAL> [FILE]"),
+    refused(["compare", "--all", "--all", NONE], b"the argument '--all' cannot be used multiple times\n\nUsage: compass compare [OPTIONS] <OCTAL> [FILE]"),
+    *((["compare", *words, NONE], b"", 2, b"", not_there(NONE)) for words in (
+        ["--format", "rows", "--offset", "4000", "--whole"], ["--format=dump", "--offset=-777777", "--all"], ["--offset", "+20", "--all", "--whole"],
+    )),
+]
+
+CALLS_BY_WORDS = EXPLAINED + EDITORS + WORDS + OPTIONS
 
 # words that ask for help or the version, and what is written among other lines, none of which has more than 80 columns
 HELPS = [

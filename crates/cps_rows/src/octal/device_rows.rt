@@ -14,7 +14,8 @@ const OCTAL: &[u8] = b"000100 00000000000000000001\n";
 const SOURCE: &[u8] = b"          ORG     100B\n          DATA    1\n";
 
 /// What is told of these two.
-const TOLD: &[u8] = b"0 of 1 words differ (000100 to 000100)\n";
+const TOLD: &[u8] =
+    b"compared: 20 digits of 1 words, in 1 rows\n0 of 1 words differ (000100 to 000100)\n";
 
 /// Where a read of the octal text fails the source isn't read.
 #[test]
@@ -66,7 +67,7 @@ fn assert_failed_write(rt: &impl Abort, alloc: Global, room: usize, want: &[u8])
 /// At each write in turn: a front of the text stands, and the failed device is not tried again.
 #[test]
 fn tells_a_failed_write(rt: HostRuntime) {
-    for room in 0..39 {
+    for room in 0..TOLD.len() {
         assert_failed_write(&rt, rt.alloc(), room, &TOLD[..room]);
     }
 }

@@ -2,18 +2,45 @@
 ghost use Rattle.std.specs.Prelude.{◌<◌, ◌^◌};
 ghost use Rattle.std.specs.Option.{ForSome};
 
-use cps_compare::{Limits, OctalFault, Setup, compare_inputs};
+use cps_claims::{OctalFormat, WordOffset};
+use cps_compare::{CompareOptions, OctalFault, Setup, compare_inputs};
 use cps_state::Hashing;
 use cps_text::Counted;
 use std::alloc::Global;
 use std::io::{Read, Write};
 use std::process::Abort;
 
-/// All addresses for which the octal text gives digits, and all columns.
-pub const ALL: Limits = Limits {
+/// Rows in all their columns, and all addresses of which they have digits.
+pub const ALL: CompareOptions = CompareOptions {
+    format: OctalFormat::Rows,
+    columns: None,
+    offset: WordOffset::Up(0),
     from: None,
     to: None,
+    whole: false,
+    all: false,
+};
+
+/// A dump.
+pub const DUMP: CompareOptions = CompareOptions {
+    format: OctalFormat::Dump,
     columns: None,
+    offset: WordOffset::Up(0),
+    from: None,
+    to: None,
+    whole: false,
+    all: false,
+};
+
+/// All words of the source.
+pub const WHOLE: CompareOptions = CompareOptions {
+    format: OctalFormat::Rows,
+    columns: None,
+    offset: WordOffset::Up(0),
+    from: None,
+    to: None,
+    whole: true,
+    all: false,
 };
 
 /// What came of a comparison, and what was written.
@@ -34,13 +61,13 @@ pub fn joined(rt: &impl Abort, alloc: Global, lines: &[&str]) -> Vec<u8> {
 }
 
 /// Compares texts that are read at once.
-pub fn run(alloc: Global, octal: &[u8], source: &[u8], limits: Limits) -> OctalRun
-    requires { ForSome limits.to (λ to. to < 2 ^ 18) }
+pub fn run(alloc: Global, octal: &[u8], source: &[u8], options: CompareOptions) -> OctalRun
+    requires { ForSome options.to (λ to. to < 2 ^ 18) }
 {
     let mut octal = Counted::new(octal);
     let mut source = Counted::new(source);
     let mut writer = Counted::new(Vec::new(alloc));
-    let end = run_between(alloc, limits, &mut octal, &mut source, &mut writer);
+    let end = run_between(alloc, options, &mut octal, &mut source, &mut writer);
     OctalRun {
         end,
         text: writer.into_inner(),
@@ -50,13 +77,13 @@ pub fn run(alloc: Global, octal: &[u8], source: &[u8], limits: Limits) -> OctalR
 /// Compares what readers give. Only here a comparison is run.
 pub fn run_between<O: Read, R: Read, W: Write>(
     alloc: Global,
-    limits: Limits,
+    options: CompareOptions,
     octal: &mut Counted<O>,
     source: &mut Counted<R>,
     writer: &mut Counted<W>,
 ) -> Result<u32, OctalFault>
-    requires { ForSome limits.to (λ to. to < 2 ^ 18) }
+    requires { ForSome options.to (λ to. to < 2 ^ 18) }
 {
     let hashing = Hashing::by(1);
-    compare_inputs(alloc, Setup { hashing, limits }, octal, source, writer)
+    compare_inputs(alloc, Setup { hashing, options }, octal, source, writer)
 }

@@ -1,5 +1,5 @@
 use Rattle.std.proofs.Common.{◌≡◌, ◌&&◌, cond, leb, ltb, ap, ◌∙◌, arith}
-use Rattle.cps_compare.specs.Code.Reading.{slot_at}
+use Rattle.cps_compare.specs.Code.Deck.{slot_at}
 use Rattle.cps_compare.proofs.makers.mark_slots.Goals as goal
 
 pub returns : goal.returns

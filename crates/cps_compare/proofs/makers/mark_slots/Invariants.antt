@@ -1,5 +1,5 @@
 use Rattle.std.proofs.Common.{◌≡◌, ℕ, ◌&&◌, cond, leb, ltb}
-use Rattle.cps_compare.specs.Code.Reading.{slot_at}
+use Rattle.cps_compare.specs.Code.Deck.{slot_at}
 use Rattle.cps_compare.proofs.makers.mark_slots.Given as goal
 
 abbrev pub invariant-loop-slot : goal.invariant-loop-slot

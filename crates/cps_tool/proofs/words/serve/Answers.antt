@@ -9,7 +9,7 @@ returns-in-Ok-clause-serves g c =
     serves_compared (g.S.Sources.holds c.args.host.now.files) g.S.Reader.Read.remaining g.R.Read.remaining g.W.Write.contents c.args.call.request
     c.in-Compare-default.comparand (option_map (λ (name : Bor Text). name.now) c.args.call.file) c.status_of_count.result c.args.reader.now c.compare_files.new.reader c.args.writer.now
     c.compare_files.new.writer c.in-Compare-default.is-0
-    (compares (g.S.Sources.holds c.args.host.now.files) g.S.Reader.Read.remaining g.R.Read.remaining g.W.Write.contents c.in-Compare-default.comparand.limits
+    (compares (g.S.Sources.holds c.args.host.now.files) g.S.Reader.Read.remaining g.R.Read.remaining g.W.Write.contents c.in-Compare-default.comparand.options
     (option_map (λ (name : Bor Text). name.now) c.in-Compare-default.comparand.octal) (option_map (λ (name : Bor Text). name.now) c.args.call.file) c.status_of_count.result
     (Ok c.in-Ok.count) c.in-Some.files c.args.reader.now c.compare_files.new.reader c.args.writer.now c.compare_files.new.writer
     c.in-Some.ensures.files c.in-Ok.ensures c.status_of_count.ensures)
@@ -19,7 +19,7 @@ returns-in-Err-clause-serves g c =
     serves_compared (g.S.Sources.holds c.args.host.now.files) g.S.Reader.Read.remaining g.R.Read.remaining g.W.Write.contents c.args.call.request
     c.in-Compare-default.comparand (option_map (λ (name : Bor Text). name.now) c.args.call.file) c.complain_of_comparison.result c.args.reader.now c.compare_files.new.reader c.args.writer.now
     c.compare_files.new.writer c.in-Compare-default.is-0
-    (compares (g.S.Sources.holds c.args.host.now.files) g.S.Reader.Read.remaining g.R.Read.remaining g.W.Write.contents c.in-Compare-default.comparand.limits
+    (compares (g.S.Sources.holds c.args.host.now.files) g.S.Reader.Read.remaining g.R.Read.remaining g.W.Write.contents c.in-Compare-default.comparand.options
     (option_map (λ (name : Bor Text). name.now) c.in-Compare-default.comparand.octal) (option_map (λ (name : Bor Text). name.now) c.args.call.file) c.complain_of_comparison.result
     (Err c.in-Err.fault) c.in-Some.files c.args.reader.now c.compare_files.new.reader c.args.writer.now c.compare_files.new.writer
     c.in-Some.ensures.files c.in-Err.ensures c.complain_of_comparison.ensures)

@@ -28,5 +28,5 @@ returns-in-Err c =
     let words = texts c.args.words.now in
     let kinds = subst (λ a. HasKind (fault_of a words) c.in-Err.error) c.in-Ok.ensures
     (c.in-Err.ensures.kinds (ap is_simple_and_free c.in-Ok.ensures ∙ compass_free)) in
-    let answer = stopped_by words _ c.say.result kinds c.say.ensures in
-    record { asked = tt; unread = unread_asks words c.say.result answer; said = answer }
+    let answer = stopped_by words _ c.say_fault.result kinds c.say_fault.ensures in
+    record { asked = tt; unread = unread_asks words c.say_fault.result answer; said = answer }

@@ -2,7 +2,7 @@ use Rattle.std.proofs.Common.{◌++◌, List, take, subst}
 use Rattle.std.specs.Prelude.{map}
 use Rattle.cps_code.specs.Image.{piece_of}
 use Rattle.cps_compare.specs.Makers.{Signed, signed_by}
-use Rattle.cps_compare.specs.Code.Reading.{IsDeck}
+use Rattle.cps_compare.specs.Code.Deck.{IsDeck}
 use Rattle.cps_compare.proofs.DeckLemmas.{signed-push, deck-push}
 use Rattle.cps_compare.proofs.deck_words.DeckWords.add.Goals as goal
 

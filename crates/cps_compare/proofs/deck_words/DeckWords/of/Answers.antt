@@ -5,7 +5,7 @@ use Rattle.cps_code.specs.Image.{piece_of}
 use Rattle.cps_list.specs.Binary.{pool_pieces}
 use Rattle.cps_compare.specs.declared.maker.Maker.TheVariants.{Line, Literal}
 use Rattle.cps_compare.specs.Makers.{Signed, signed_by, signed_from}
-use Rattle.cps_compare.specs.Code.Reading.{IsDeck}
+use Rattle.cps_compare.specs.Code.Deck.{IsDeck}
 use Rattle.cps_compare.proofs.DeckLemmas.{signed-next}
 use Rattle.cps_compare.proofs.deck_words.DeckWords.of.Goals as goal
 

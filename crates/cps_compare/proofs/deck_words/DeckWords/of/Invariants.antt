@@ -1,6 +1,6 @@
 use Rattle.std.proofs.Common.{take}
 use Rattle.cps_compare.specs.Makers.{signed_from}
-use Rattle.cps_compare.specs.Code.Reading.{IsDeck}
+use Rattle.cps_compare.specs.Code.Deck.{IsDeck}
 use Rattle.cps_compare.proofs.deck_words.DeckWords.of.Given as goal
 
 abbrev pub invariant-loop-before : goal.invariant-loop-before

@@ -1,0 +1,139 @@
+//! What the options of `compare` ask.
+ghost use Rattle.std.specs.Prelude.{◌≡◌, ◌<◌, ◌^◌, IfOk, option_map};
+ghost use Rattle.std.specs.Option.{ForSome};
+ghost use Rattle.clap.specs.Words.{found_of, rows_of};
+ghost use Rattle.cps_words.specs.Values.{address_named, columns_named, format_named, offset_named, options_in, value_from};
+ghost use Rattle.cps_words.specs.Values as values;
+ghost use Rattle.cps_words.specs.Code.Reading.{ReadsValue};
+
+use super::numbers::{read_address, read_columns, read_offset};
+use super::unread::{Unread, say_no_name, say_wrong_value};
+use super::values::{format_of_name, has_flag, word_in};
+use clap::ArgMatches;
+use cps_claims::{OctalFormat, ReadColumns, WordOffset};
+use cps_compare::CompareOptions;
+use std::alloc::Global;
+
+/// What the options of `compare` ask. A last address has at most six octal digits.
+pub fn read_compare_options(alloc: Global, values: &ArgMatches) -> Result<CompareOptions, Unread>
+    ensures options { ReadsValue (options_in (rows_of (found_of values.now))) result }
+    ensures low { IfOk result (λ options. ForSome options.to (λ to. to < 2 ^ 18)) }
+{
+    let format = read_format_option(alloc, word_in(values, "format"))?;
+    let columns = read_columns_option(alloc, word_in(values, "columns"))?;
+    let offset = read_offset_option(alloc, word_in(values, "offset"))?;
+    let from = read_address_option(alloc, "--from <A>", word_in(values, "from"))?;
+    let to = read_address_option(alloc, "--to <B>", word_in(values, "to"))?;
+    if !are_rising(from, to) {
+        let last = word_in(values, "to").unwrap_or("");
+        return Err(say_wrong_value(
+            alloc,
+            "--to <B>",
+            last,
+            "it is below the address of '--from'",
+        ));
+    }
+    Ok(CompareOptions {
+        format: format.unwrap_or(OctalFormat::Rows),
+        columns,
+        offset: offset.unwrap_or(WordOffset::Up(0)),
+        from,
+        to,
+        whole: has_flag(values, "whole"),
+        all: has_flag(values, "all"),
+    })
+}
+
+/// Whether a first address isn't above a last one, where both are named.
+fn are_rising(from: Option<u32>, to: Option<u32>) -> bool
+    ensures { result ≡ values.are_rising from to }
+{
+    match (from, to) {
+        (Some(from), Some(to)) => from <= to,
+        _ => true,
+    }
+}
+
+/// The address that an option names, None where it is left out.
+fn read_address_option(
+    alloc: Global,
+    option: &str,
+    word: Option<&str>,
+) -> Result<Option<u32>, Unread>
+    ensures address { ReadsValue (value_from address_named (option_map (λ word. word.now) word.entry)) result }
+    ensures low { IfOk result (λ address. ForSome address (λ address. address < 2 ^ 18)) }
+{
+    let Some(word) = word else {
+        return Ok(None);
+    };
+    match read_address(word) {
+        Some(address) => Ok(Some(address)),
+        None => Err(say_wrong_value(alloc, option, word, "an address is 1 to 6 octal digits")),
+    }
+}
+
+/// The format that `--format` names, None where it is left out.
+fn read_format_option(alloc: Global, word: Option<&str>) -> Result<Option<OctalFormat>, Unread>
+    ensures { ReadsValue (value_from format_named (option_map (λ word. word.now) word.entry)) result }
+{
+    let Some(word) = word else {
+        return Ok(None);
+    };
+    match format_of_name(word) {
+        Some(format) => Ok(Some(format)),
+        None => Err(say_no_name(alloc, "--format <FORMAT>", "rows, dump", word)),
+    }
+}
+
+/// The offset that `--offset` names, None where it is left out.
+fn read_offset_option(alloc: Global, word: Option<&str>) -> Result<Option<WordOffset>, Unread>
+    ensures { ReadsValue (value_from offset_named (option_map (λ word. word.now) word.entry)) result }
+{
+    let Some(word) = word else {
+        return Ok(None);
+    };
+    match read_offset(word) {
+        Some(offset) => Ok(Some(offset)),
+        None => Err(say_wrong_value(
+            alloc,
+            "--offset <N>",
+            word,
+            "write 1 to 6 octal digits, behind a minus to take them away",
+        )),
+    }
+}
+
+/// The columns that `--columns` names, None where it is left out.
+fn read_columns_option(alloc: Global, word: Option<&str>) -> Result<Option<ReadColumns>, Unread>
+    ensures { ReadsValue (value_from columns_named (option_map (λ word. word.now) word.entry)) result }
+{
+    let Some(word) = word else {
+        return Ok(None);
+    };
+    match read_columns(word) {
+        Some(columns) => Ok(Some(columns)),
+        None => Err(say_wrong_value(
+            alloc,
+            "--columns <F-L>",
+            word,
+            "write columns from 1 on, as 10-36, or one column",
+        )),
+    }
+}
+
+/// The offset with a minus that stands as a word of its own behind `--offset`, in the words of a call of `compare`.
+pub fn parted_offset<'a>(words: &[&'a str]) -> Option<&'a str> {
+    let [_, command, rest @ ..] = words else {
+        return None;
+    };
+    if *command != "compare" {
+        return None;
+    }
+    let at = rest.iter().position(|word| *word == "--offset")?;
+    let word = rest.iter().nth(at + 1)?;
+    if word.starts_with('-') && read_offset(word).is_some() {
+        Some(*word)
+    } else {
+        None
+    }
+}
