@@ -15,12 +15,12 @@ pub runs : {R W : Type 0} (remaining : R → Option (List ℕ)) (contents : W �
     → Assembles contents part result lines writer writer' → RunsBatch remaining contents part result reader reader' writer writer'
 runs remaining contents part (Ok count) reader reader' writer writer' lines whole done = (lines, whole, done)
 runs remaining contents part (Err (faults.LineTooLong at)) reader reader' writer writer' lines whole done = (lines, whole, done)
-runs remaining contents part (Err (faults.BadCharacter at)) reader reader' writer writer' lines whole done = (lines, whole, done)
+runs remaining contents part (Err (faults.BadCharacter at column)) reader reader' writer writer' lines whole done = (lines, whole, done)
 runs remaining contents part (Err faults.TooManyLines) reader reader' writer writer' lines whole done = (lines, whole, done)
 runs remaining contents part (Err faults.Memory) reader reader' writer writer' lines whole done = (lines, whole, done)
 runs remaining contents part (Err faults.ReadFault) reader reader' writer writer' lines whole ((inputs.ReadFault, is, why), same) = absurd why
 runs remaining contents part (Err faults.ReadFault) reader reader' writer writer' lines whole ((inputs.LineTooLong at, is, why), same) = cc
-runs remaining contents part (Err faults.ReadFault) reader reader' writer writer' lines whole ((inputs.BadCharacter at, is, why), same) = cc
+runs remaining contents part (Err faults.ReadFault) reader reader' writer writer' lines whole ((inputs.BadCharacter at column, is, why), same) = cc
 runs remaining contents part (Err faults.ReadFault) reader reader' writer writer' lines whole ((inputs.TooManyLines, is, why), same) = cc
 runs remaining contents part (Err faults.ReadFault) reader reader' writer writer' lines whole ((inputs.Memory, is, why), same) = cc
 runs remaining contents part (Err faults.WriteFault) reader reader' writer writer' lines whole done = (lines, whole, done)

@@ -18,7 +18,7 @@ use Rattle.cps_edit.specs.Flagged.{flagged_lines}
 abbrev pub of_input : InputFault → BatchFault
 of_input inputs.ReadFault = faults.ReadFault
 of_input (inputs.LineTooLong at) = faults.LineTooLong at
-of_input (inputs.BadCharacter at) = faults.BadCharacter at
+of_input (inputs.BadCharacter at column) = faults.BadCharacter at column
 of_input inputs.TooManyLines = faults.TooManyLines
 of_input inputs.Memory = faults.Memory
 

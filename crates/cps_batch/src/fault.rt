@@ -14,9 +14,9 @@ pub enum BatchFault {
     /// That line has more than 90 bytes.
     #[error("line {0}: line too long")]
     LineTooLong(u32),
-    /// That line has a byte that no line may have.
-    #[error("line {0}: bad character")]
-    BadCharacter(u32),
+    /// That line has at most 90 bytes, and one that no line may have. The first of these stands in that column, in bytes from 1. The text tells the line alone.
+    #[error("line {line}: bad character")]
+    BadCharacter { line: u32, column: usize },
     /// There is a 100,000th line.
     #[error("too many lines")]
     TooManyLines,
@@ -36,7 +36,7 @@ impl BatchFault {
         match fault {
             InputFault::ReadFault => BatchFault::ReadFault,
             InputFault::LineTooLong(number) => BatchFault::LineTooLong(number),
-            InputFault::BadCharacter(number) => BatchFault::BadCharacter(number),
+            InputFault::BadCharacter { line, column } => BatchFault::BadCharacter { line, column },
             InputFault::TooManyLines => BatchFault::TooManyLines,
             InputFault::Memory => BatchFault::Memory,
         }

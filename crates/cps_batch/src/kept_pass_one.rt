@@ -1,7 +1,8 @@
 //! Pass one of all lines of a source.
-ghost use Rattle.std.specs.Prelude.{◌≡◌, ℕ, List, [], ◌∷◌, ◌++◌, IfOk, OnOk};
+ghost use Rattle.std.specs.Prelude.{◌≡◌, [], IfOk, OnOk};
 ghost use Rattle.cps_final.specs.Finals.{Gathers, finals_of};
 ghost use Rattle.cps_edit.specs.Assembly.{outcomes_under, traces_of};
+ghost use Rattle.cps_batch.specs.Code.Passes.{AreGathered, GathersLine};
 
 use cps_final::{Finals, Gather, Gathered, Outcome, step_two};
 use cps_pass::step_over;
@@ -85,9 +86,9 @@ impl KeptPassOne {
 
 /// What each line does, gathered one after another.
 fn step_all(alloc: Global, gather: &mut Gather, lines: &[Line]) -> Result<Vec<Trace>, AllocError>
-    requires { Gathers (⟦<Finals as Gathered>⟧.gathered gather.old) (traces_of []) }
+    requires { AreGathered [] gather.old }
     ensures traces { IfOk result (λ traces. traces.items ≡ traces_of lines.now) }
-    ensures gathered { OnOk result (Gathers (⟦<Finals as Gathered>⟧.gathered gather.new) (traces_of lines.now)) }
+    ensures gathered { OnOk result (AreGathered lines.now gather.new) }
 {
     let mut traces = Vec::with_capacity(alloc, lines.len())?;
     let mut scratch = Scratch::new(alloc);
@@ -105,9 +106,7 @@ fn step_next(
     gather: &mut Gather,
     line: &Line,
 ) -> Result<Trace, AllocError>
-    ensures { IfOk result (λ trace. (before : List (List ℕ)) → Gathers (⟦<Finals as Gathered>⟧.gathered gather.old) (traces_of before)
-        → (traces_of (before ++ line.now ∷ []) ≡ traces_of before ++ trace ∷ [])
-        × Gathers (⟦<Finals as Gathered>⟧.gathered gather.new) (traces_of (before ++ line.now ∷ []))) }
+    ensures { IfOk result (λ trace. GathersLine line.now trace gather.old gather.new) }
 {
     let trace = step_over(alloc, &mut Work::new(), scratch, line, gather.state())?;
     gather.add(&trace)?;

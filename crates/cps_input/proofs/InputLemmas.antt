@@ -126,7 +126,7 @@ lines-read lines_in remaining (Ok made) old new bytes source read text came =
     let same = sym came.0 in
     (record { bytes = bytes; read = read; text = subst (λ ls. HasText bytes ls) same text }, subst IsSource same came.1)
 lines-read lines_in remaining (Err (faults.LineTooLong at)) old new bytes source read text came = (source, record { bytes = bytes; read = read; text = text }, came)
-lines-read lines_in remaining (Err (faults.BadCharacter at)) old new bytes source read text came = (source, record { bytes = bytes; read = read; text = text }, came)
+lines-read lines_in remaining (Err (faults.BadCharacter at column)) old new bytes source read text came = (source, record { bytes = bytes; read = read; text = text }, came)
 lines-read lines_in remaining (Err faults.TooManyLines) old new bytes source read text came = (source, record { bytes = bytes; read = read; text = text }, came)
 lines-read lines_in remaining (Err faults.Memory) old new bytes source read text came = (source, record { bytes = bytes; read = read; text = text }, came)
 lines-read lines_in remaining (Err faults.ReadFault) old new bytes source read text came = absurd came
@@ -135,7 +135,7 @@ lines-read lines_in remaining (Err faults.ReadFault) old new bytes source read t
 pub fault-read : {R X Y : Type 0} (lines_in : X → List (List ℕ)) (parted_in : Y → List (List ℕ)) (remaining : R → Option (List ℕ)) (fault : InputFault) (old new : Counted R)
     → ReadsLines lines_in remaining (Err fault) old new → ReadsLines parted_in remaining (Err fault) old new
 fault-read lines_in parted_in remaining (faults.LineTooLong at) old new read = read
-fault-read lines_in parted_in remaining (faults.BadCharacter at) old new read = read
+fault-read lines_in parted_in remaining (faults.BadCharacter at column) old new read = read
 fault-read lines_in parted_in remaining faults.TooManyLines old new read = read
 fault-read lines_in parted_in remaining faults.Memory old new read = read
 fault-read lines_in parted_in remaining faults.ReadFault old new read = read

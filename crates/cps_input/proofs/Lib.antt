@@ -10,3 +10,5 @@ pub mod HexLemmas
 pub mod LineLemmas
 pub mod ShownLemmas
 pub mod WordLemmas
+pub mod BadLemmas
+pub mod WorkedRows

@@ -1,7 +1,7 @@
 //! A line of a source or of a script, as its bytes come.
-ghost use Rattle.std.specs.Prelude.{◌≡◌, ℕ, List, [], ◌∷◌, ◌++◌, ◌<◌, length, MatchOption, IsTrue, ◌↔◌};
+ghost use Rattle.std.specs.Prelude.{◌≡◌, ℕ, List, [], ◌∷◌, ◌++◌, IsTrue, ◌↔◌};
 ghost use Rattle.cps_input.specs.Lines.{without_return};
-ghost use Rattle.cps_input.specs.Code.BegunLine.{IsBegun, more_past};
+ghost use Rattle.cps_input.specs.Code.BegunLine.{IsBegun, IsGiven, more_past};
 
 use super::line_end::without_return;
 use arrayvec::ArrayVec;
@@ -76,8 +76,7 @@ impl BegunLine {
 
     /// The line without the carriage return at its end, None where it has more than 200 bytes.
     pub fn text(&self) -> Option<&[u8]>
-        ensures { (begun : List ℕ) → IsBegun self.now begun
-            → MatchOption result (MOST_COMMAND_BYTES < length (without_return begun)) (λ text. text.now ≡ without_return begun) }
+        ensures { (begun : List ℕ) → IsBegun self.now begun → IsGiven result (without_return begun) }
     {
         match self.past {
             Overrun::More => None,
@@ -89,7 +88,7 @@ impl BegunLine {
 
 /// What `BegunLine::text` gives of a line that has come at once.
 pub fn kept_text(line: &[u8]) -> Option<&[u8]>
-    ensures { MatchOption result (MOST_COMMAND_BYTES < length (without_return line.now)) (λ text. text.now ≡ without_return line.now) }
+    ensures { IsGiven result (without_return line.now) }
 {
     let text = without_return(line);
     if text.len() > MOST_COMMAND_BYTES {

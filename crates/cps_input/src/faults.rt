@@ -1,5 +1,5 @@
 //! All that is wrong in a line.
-ghost use Rattle.std.specs.Prelude.{◌≡◌, ◌↔◌, ◌+◌, ◌≤◌, ◌<◌, [], true, length, slice_index, IfOk, OnOk, MatchOption};
+ghost use Rattle.std.specs.Prelude.{◌≡◌, ◌↔◌, ◌+◌, ◌≤◌, ◌<◌, [], true, length, slice_index, IfOk, IfSome, OnOk, MatchOption};
 ghost use Rattle.std.specs.List.{All};
 ghost use Rattle.cps_text.specs.Line.{IsLine, is_accepted_byte};
 ghost use Rattle.cps_input.specs.Faults.{AreAll, AreColumns, AreFaults, IsStranger, misfit_of, told};
@@ -91,8 +91,8 @@ fn add_at(
 /// What is wrong with the character that begins at a place, from 0, or with the bytes that are none.
 fn stranger_at(line: &[u8], number: u32, at: usize) -> Option<CharacterFault>
     requires { at < length line.now }
-    ensures { MatchOption result (is_accepted_byte (slice_index line.now at) ≡ true)
-        (λ fault. IsStranger number line.now fault × (fault.first ≡ at + 1) × (fault.last ≤ length line.now)) }
+    ensures stranger { MatchOption result (is_accepted_byte (slice_index line.now at) ≡ true) (IsStranger number line.now) }
+    ensures place { IfSome result (λ fault. (fault.first ≡ at + 1) × (fault.last ≤ length line.now)) }
 {
     if is_accepted(line[at]) {
         return None;

@@ -1,8 +1,7 @@
 //! A source, as its bytes come.
-ghost use Rattle.std.specs.Prelude.{◌≡◌, ℕ, List, [], ◌∷◌, ◌++◌, true, MatchResult};
-ghost use Rattle.cps_input.specs.Sources.{IsSource, Refuses};
+ghost use Rattle.std.specs.Prelude.{◌≡◌, ℕ, List, [], ◌∷◌, ◌++◌, true};
 ghost use Rattle.cps_input.specs.Code.BegunLine.{IsBegun};
-ghost use Rattle.cps_input.specs.Code.Input.{HasCome};
+ghost use Rattle.cps_input.specs.Code.Input.{AnswersLines, HasCome};
 ghost use Rattle.cps_input.specs.Lines.{HasText, has_no_newline, newline};
 
 use super::begun_line::{BegunLine, kept_text};
@@ -70,8 +69,7 @@ impl Input {
     /// newline counts if it has a byte.
     pub fn finish(self) -> Result<LineText, InputFault>
         requires { (taken : List ℕ) × HasCome self taken }
-        ensures { (taken : List ℕ) → HasCome self taken → (source : List (List ℕ)) × HasText taken source
-            × MatchResult result (λ lines. (lines ≡ source) × IsSource source) (λ fault. Refuses fault source) }
+        ensures { (taken : List ℕ) → HasCome self taken → (source : List (List ℕ)) × HasText taken source × AnswersLines result source }
     {
         let Input { intake, begun } = self;
         if begun.is_empty() {

@@ -11,9 +11,9 @@ pub enum InputFault {
     /// That line has more than 90 bytes.
     #[error("line {0}: line too long")]
     LineTooLong(u32),
-    /// That line has a byte that no line may have.
-    #[error("line {0}: bad character")]
-    BadCharacter(u32),
+    /// That line has at most 90 bytes, and one that no line may have. The first of these stands in that column, in bytes from 1.
+    #[error("line {line}, column {column}: bad character")]
+    BadCharacter { line: u32, column: usize },
     /// There is a 100,000th line.
     #[error("too many lines")]
     TooManyLines,

@@ -1,9 +1,11 @@
 //! The lines of a source, as they come.
-ghost use Rattle.std.specs.Prelude.{◌≡◌, ℕ, List, [], ◌∷◌, ◌++◌, ◌+◌, ◌≤◌, length, MatchOption, MatchResult};
-ghost use Rattle.cps_text.specs.Line.{IsLine};
-ghost use Rattle.cps_input.specs.Sources.{IsSource, IsWrong, Refuses};
-ghost use Rattle.cps_input.specs.Code.Input.{IsGiven, IsIntake};
+ghost use Rattle.std.specs.Prelude.{◌≡◌, ℕ, List, [], ◌∷◌, ◌++◌, ◌+◌, ◌<◌, ◌≤◌, length, not, IfSome, MatchOption};
+ghost use Rattle.std.specs.List.{position};
+ghost use Rattle.cps_text.specs.Line.{HasBadCharacter, IsLine, is_accepted_byte};
+ghost use Rattle.cps_input.specs.Sources.{IsFirstBad, IsSource, IsWrong};
+ghost use Rattle.cps_input.specs.Code.Input.{AnswersLines, IsIntake, TakesLine};
 
+use super::cards::is_accepted;
 use super::input_fault::InputFault;
 use super::line_text::LineText;
 use cps_text::limits::{MOST_COMMAND_BYTES, MOST_LINES};
@@ -32,8 +34,7 @@ impl Intake {
     /// These lines and one more, None where it has more bytes than are kept of a line. It is checked also where there was no memory for them.
     pub fn with_line(self, text: Option<&[u8]>) -> Intake
         requires { (lines : List (List ℕ)) × IsIntake self lines }
-        ensures { (lines : List (List ℕ)) (line : List ℕ) → IsIntake self lines → IsGiven text.entry line
-            → IsIntake result (lines ++ line ∷ []) }
+        ensures { TakesLine self text.entry result }
     {
         match self {
             Intake::Kept(lines) => keep(lines, text),
@@ -44,7 +45,7 @@ impl Intake {
 
     /// The lines, if a source may have them and there was memory.
     pub fn into_lines(self) -> Result<LineText, InputFault>
-        ensures { (source : List (List ℕ)) → IsIntake self source → MatchResult result (λ lines. (lines ≡ source) × IsSource source) (λ fault. Refuses fault source) }
+        ensures { (source : List (List ℕ)) → IsIntake self source → AnswersLines result source }
     {
         match self {
             Intake::Kept(lines) => Ok(lines),
@@ -57,7 +58,7 @@ impl Intake {
 /// These lines and one more, None where more bytes came than are kept of a line. A line that there is no room for takes no memory.
 fn keep(lines: LineText, text: Option<&[u8]>) -> Intake
     requires { length lines ≤ MOST_LINES }
-    ensures { (line : List ℕ) → IsGiven text.entry line → IsSource lines → IsIntake result (lines ++ line ∷ []) }
+    ensures { TakesLine (Intake.Kept lines) text.entry result }
 {
     if lines.len() == MOST_LINES {
         return count_on(MOST_LINES as u32, text);
@@ -86,7 +87,7 @@ fn push_line(lines: LineText, number: u32, line: &[u8]) -> Intake
 /// One line more than so many, None where more bytes came than are kept of a line.
 fn count_on(count: u32, text: Option<&[u8]>) -> Intake
     requires { count ≤ MOST_LINES }
-    ensures { (lines : List (List ℕ)) (line : List ℕ) → IsGiven text.entry line → count ≡ length lines → IsSource lines → IsIntake result (lines ++ line ∷ []) }
+    ensures { TakesLine (Intake.Refused count) text.entry result }
 {
     let number = count + 1;
     let Some(text) = text else {
@@ -104,9 +105,31 @@ fn fault_of(number: u32, text: &[u8]) -> Option<InputFault>
 {
     match Line::check(text) {
         Err(LineFault::LineTooLong) => Some(InputFault::LineTooLong(number)),
-        Err(LineFault::BadCharacter) => Some(InputFault::BadCharacter(number)),
+        Err(LineFault::BadCharacter) => Some(InputFault::BadCharacter {
+            line: number,
+            column: bad_column(text),
+        }),
         Err(LineFault::Memory) => unreachable!(),
         Ok(()) if number as usize > MOST_LINES => Some(InputFault::TooManyLines),
         Ok(()) => None,
     }
+}
+
+/// The column of the first byte that no line may have.
+fn bad_column(text: &[u8]) -> usize
+    requires { HasBadCharacter text.now }
+    ensures { IsFirstBad text.now result }
+{
+    match first_bad(text) {
+        Some(before) => before + 1,
+        None => unreachable!(),
+    }
+}
+
+/// How many bytes stand before the first that no line may have, None where a line may have each.
+fn first_bad(text: &[u8]) -> Option<usize>
+    ensures place { result ≡ position (λ byte. not (is_accepted_byte byte)) text.now }
+    ensures within { IfSome result (λ before. before < length text.now) }
+{
+    text.iter().position(|byte| !is_accepted(*byte))
 }

@@ -20,16 +20,11 @@ pub fn complain_of_batch<E: Write>(
 ) -> u8
     ensures { result ≡ 2 }
 {
-    match fault {
-        BatchFault::LineTooLong(number) => {
-            complain_of_source(alloc, file, InputFault::LineTooLong(number), errors)
-        }
-        BatchFault::BadCharacter(number) => {
-            complain_of_source(alloc, file, InputFault::BadCharacter(number), errors)
-        }
-        BatchFault::TooManyLines => {
-            complain_of_source(alloc, file, InputFault::TooManyLines, errors)
-        }
+    match (file, wrong_line(fault)) {
+        (Some(name), Some(wrong)) => match line_text(alloc, name, wrong) {
+            Ok(text) => complain(errors, text.as_str()),
+            Err(_) => complain(errors, NO_MEMORY),
+        },
         _ => complain_of(errors, fault),
     }
 }
@@ -45,7 +40,7 @@ pub fn complain_of_comparison<E: Write>(
 {
     match (file, fault) {
         (_, OctalFault::Source(InputFault::Memory)) => complain(errors, NO_MEMORY),
-        (Some(_), OctalFault::Source(source)) if wrong_line(source).is_some() => {
+        (Some(_), OctalFault::Source(source)) if source != InputFault::ReadFault => {
             complain_of_source(alloc, file, source, errors)
         }
         _ => complain_of(errors, fault),
@@ -61,35 +56,42 @@ pub fn complain_of_source<E: Write>(
 ) -> u8
     ensures { result ≡ 2 }
 {
-    match (file, wrong_line(fault)) {
-        (Some(name), Some(wrong)) => match line_text(alloc, name, wrong) {
-            Ok(text) => complain(errors, text.as_str()),
-            Err(_) => complain(errors, NO_MEMORY),
-        },
-        _ => complain_of(errors, fault),
-    }
+    complain_of_batch(alloc, file, BatchFault::of_input(fault), errors)
 }
 
 /// The first line that no source may have.
 #[derive(Clone, Copy)]
 struct WrongLine {
     number: u32,
+    column: Option<usize>,
     what: &'static str,
 }
 
-fn wrong_line(fault: InputFault) -> Option<WrongLine> {
-    let (number, what) = match fault {
-        InputFault::LineTooLong(number) => (number, "line too long"),
-        InputFault::BadCharacter(number) => (number, "bad character"),
-        InputFault::TooManyLines => (MOST_LINES as u32 + 1, "too many lines"),
-        InputFault::ReadFault | InputFault::Memory => return None,
+fn wrong_line(fault: BatchFault) -> Option<WrongLine> {
+    let (number, column, what) = match fault {
+        BatchFault::LineTooLong(number) => (number, None, "line too long"),
+        BatchFault::BadCharacter { line, column } => (line, Some(column), "bad character"),
+        BatchFault::TooManyLines => (MOST_LINES as u32 + 1, None, "too many lines"),
+        BatchFault::ReadFault | BatchFault::Memory | BatchFault::WriteFault => return None,
     };
-    Some(WrongLine { number, what })
+    Some(WrongLine {
+        number,
+        column,
+        what,
+    })
 }
 
 /// What is told of a wrong line of a file, in the form in which a check tells places.
 fn line_text(alloc: Global, name: &str, line: WrongLine) -> Result<String, AllocError> {
-    let WrongLine { number, what } = line;
-    let text = format!(in alloc; "{name}:{number}: {what} (compass check {name} tells more)\n")?;
+    let WrongLine {
+        number,
+        column,
+        what,
+    } = line;
+    let place = match column {
+        Some(column) => format!(in alloc; "{name}:{number}:{column}")?,
+        None => format!(in alloc; "{name}:{number}")?,
+    };
+    let text = format!(in alloc; "{place}: {what} (compass check {name} tells more)\n")?;
     shown(alloc, &text)
 }

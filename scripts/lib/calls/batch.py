@@ -95,8 +95,8 @@ FILES = [
 
 # lines that no source may have
 BAD_LINES = [
-    (["batch", TABBED], b"", 2, b"", tells_more(TABBED, 2, b"bad character")),
-    (["batch", "--part", "flags", TABBED], b"A\n", 2, b"", tells_more(TABBED, 2, b"bad character")),
+    (["batch", TABBED], b"", 2, b"", tells_more(TABBED, "2:14", b"bad character")),
+    (["batch", "--part", "flags", TABBED], b"A\n", 2, b"", tells_more(TABBED, "2:14", b"bad character")),
     (["batch", "-"], b"A\n\t\n", 2, b"", b"line 2: bad character\n"),
 ]
 

@@ -38,10 +38,10 @@ def refused(words, told):
     return words, b"a A\n", 2, b"", b"error: " + told + HELP
 
 
-def tells_more(name, line, what):
-    """What is told of a line of a file that no source may have."""
+def tells_more(name, place, what):
+    """What is told of a line of a file that no source may have. The place is its number, with the column of a bad character: `2:14`."""
     name = name.encode()
-    return b"%s:%d: %s (compass check %s tells more)\n" % (name, line, what, name)
+    return b"%s:%s: %s (compass check %s tells more)\n" % (name, str(place).encode(), what, name)
 
 
 def not_there(name):

@@ -152,10 +152,13 @@ SHARED = [
 UNREAD = [
     failed(["--flags", "it", "--part", "flags"], b"line 2: bad character\n", {"it": OLD}, b"A\n~\n"),
     failed(["--flags", "it"], b"line 1: line too long\n", given=b"*" * 91),
-    failed(["--flags", "it", "t2.cps"], tells_more("t2.cps", 2, b"bad character"), {"it": OLD, "t2.cps": b"A\n~\n"}),
+    failed(["--flags", "it", "t2.cps"], tells_more("t2.cps", "2:1", b"bad character"), {"it": OLD, "t2.cps": b"A\n~\n"}),
+    failed(["--flags", "it", "t2.cps"], tells_more("t2.cps", "1:90", b"bad character"), {"it": OLD, "t2.cps": b"*" * 89 + b"~\n~\n"}),
+    failed(["--flags", "it", "t2.cps"], tells_more("t2.cps", "3:4", b"bad character"), {"it": OLD, "t2.cps": b"*\n\n* A\t\t\n"}),
+    failed(["--flags", "it", "t2.cps"], tells_more("t2.cps", 1, b"line too long"), {"it": OLD, "t2.cps": b"~" + b"*" * 90}),
     failed(["--flags", "it", "in/t2.cps"], tells_more("in/t2.cps", 1, b"line too long"), {"in": None, "in/t2.cps": b"*" * 91}),
     failed(["--flags", "it", "t2.cps"], tells_more("t2.cps", 100_000, b"too many lines"), {"t2.cps": b"\n" * 100_000}),
-    failed(["--flags", "it", "\x1b.cps"], tells_more("?.cps", 1, b"bad character"), {"\x1b.cps": b"\x1b"}),
+    failed(["--flags", "it", "\x1b.cps"], tells_more("?.cps", "1:1", b"bad character"), {"\x1b.cps": b"\x1b"}),
     failed(["--flags", "it", "none.cps"], b"cannot read none.cps: No such file or directory\n", {"it": OLD}),
 ]
 

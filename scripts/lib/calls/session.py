@@ -90,7 +90,7 @@ SOURCES = [
     (["session", "--source", DECK], b"flags\ni 0 *\nwork\n", 0, b"0 flagged lines\nok 7 lines\nones 1 twos 1\n", b""),
     (["session", "--source=" + DECK], b"work\nbinary\n", 0, b"ones 0 twos 0\nIDENT FIRST\n000000 71600000017276000002\n000001 00000000004600046000\n", b""),
     (["session", "--source", program_path("flags.cps")], b"", 1, b"", b""),
-    (["session", "--source", TABBED], b"flags\n", 2, b"", tells_more(TABBED, 2, b"bad character")),
+    (["session", "--source", TABBED], b"flags\n", 2, b"", tells_more(TABBED, "2:14", b"bad character")),
     (["session", "--source", NONE], b"flags\n", 2, b"", not_there(NONE)),
 ]
 

@@ -41,6 +41,10 @@ AreGathered lines gathered = Gathers (finals.gathered-value.it gathered) (traces
 abbrev pub IsTrace : List (List ℕ) → List ℕ → Trace → Type 0
 IsTrace before line trace = traces_of (before ++ line ∷ []) ≡ traces_of before ++ trace ∷ []
 
+-- behind any lines that were gathered a line does this, and is gathered
+abbrev pub GathersLine : List ℕ → Trace → Gather → Gather → Type 0
+GathersLine line trace old new = (before : List (List ℕ)) → AreGathered before old → IsTrace before line trace × AreGathered (before ++ line ∷ []) new
+
 -- these are the statements of a line behind these lines
 abbrev pub AreStatements : List (List ℕ) → List ℕ → List Item → Type 0
 AreStatements before line items = (trace : Trace) × IsTrace before line trace × (items ≡ trace.items)

@@ -1,5 +1,6 @@
 -- For the loops over bytes, not part of what a reader believes: a line of which some bytes have come.
-use Rattle.std.specs.Prelude.{◌≡◌, ℕ, List, [], ◌∷◌, take, drop, if◌then◌else◌, ◌==◌}
+use Rattle.std.specs.Prelude.{◌≡◌, ◌<◌, ℕ, List, [], ◌∷◌, Option, MatchOption, length, take, drop, if◌then◌else◌, ◌==◌}
+use Rattle.std.specs.Borrow.{Bor}
 use Rattle.cps_text.specs.declared.limits.TheConstants.{MOST_COMMAND_BYTES}
 use Rattle.cps_input.specs.declared.begun_line.BegunLine.{BegunLine}
 use Rattle.cps_input.specs.declared.begun_line.Overrun.{Overrun}
@@ -26,3 +27,7 @@ more_past More byte = More
 pub record IsBegun (line : BegunLine) (begun : List ℕ) : Type 0 where
   pub kept : line.bytes.items ≡ take longest_kept begun
   pub past : line.past ≡ past_of (drop longest_kept begun)
+
+-- what is given of a line that came: all of it, None where it has more bytes than are kept
+abbrev pub IsGiven : Option (Bor (List ℕ)) → List ℕ → Type 0
+IsGiven text line = MatchOption text (longest_kept < length line) (λ text. text.now ≡ line)

@@ -71,7 +71,7 @@ const FAULTS: [OctalFaultRow; 11] = [
     (
         &[],
         &["          DATA    1", "`"],
-        OctalFault::Source(InputFault::BadCharacter(2)),
+        OctalFault::Source(InputFault::BadCharacter { line: 2, column: 1 }),
     ),
 ];
 
@@ -122,8 +122,8 @@ const FAULT_TEXTS: [(OctalFault, &str); 10] = [
         "FILE: read fault",
     ),
     (
-        OctalFault::Source(InputFault::BadCharacter(2)),
-        "FILE: line 2: bad character",
+        OctalFault::Source(InputFault::BadCharacter { line: 2, column: 7 }),
+        "FILE: line 2, column 7: bad character",
     ),
     (OctalFault::WriteFault, "write fault"),
 ];
