@@ -1,10 +1,10 @@
 //! What is told of the lines of a source, one after another.
-ghost use Rattle.std.specs.Prelude.{◌≡◌, ◌≤◌, length, map, take, IfOk};
-ghost use Rattle.cps_final.specs.Finals.{final_value, finals_of};
-ghost use Rattle.cps_final.specs.Outcome.{outcome_of};
+ghost use Rattle.std.specs.Prelude.{◌≡◌, ◌≤◌, length, map, IfOk};
+ghost use Rattle.cps_final.specs.Finals.{finals_of};
 ghost use Rattle.cps_input.specs.Card.{card_of, cards_of};
-ghost use Rattle.cps_edit.specs.Assembly.{outcomes_under, traces_of};
-ghost use Rattle.cps_check.specs.Code.Adding.{AddsLine, AddsLines, AddsEnd};
+ghost use Rattle.cps_edit.specs.Assembly.{traces_of};
+ghost use Rattle.cps_check.specs.Code.Adding.{AddsEnd};
+ghost use Rattle.cps_check.specs.Code.Telling.{TellsLine, TellsLines};
 
 use crate::known_places::KnownPlaces;
 use crate::notes::find_notes;
@@ -48,8 +48,7 @@ impl LineTelling<'_> {
     ) -> Result<bool, AllocError>
         requires cards { cards.now ≡ cards_of (map (λ line. line.now) lines.now) }
         requires traces { traces.now ≡ traces_of cards.now }
-        ensures { IfOk result (λ is_wrong. AddsLines self.now.name.now (take MOST_LINES (map (λ line. line.now) lines.now))
-            (outcomes_under (⟦<Finals as Gathered>⟧.gathered self.now.finals.now) traces.now) is_wrong text.old.items text.new.items) }
+        ensures { IfOk result (λ is_wrong. TellsLines self.now lines.now traces.now is_wrong text.old.items text.new.items) }
     {
         let mut places = KnownPlaces::of(self.alloc, self.finals.hashing(), traces)?;
         let mut is_wrong = false;
@@ -75,9 +74,7 @@ impl LineTelling<'_> {
         text: &mut Vec<u8>,
     ) -> Result<bool, AllocError>
         requires { line.now.card.now ≡ card_of line.now.line.now }
-        ensures { IfOk result (λ is_wrong. AddsLine self.now.name.now line.now.number line.now.line.now
-            (outcome_of (final_value (⟦<Finals as Gathered>⟧.gathered self.now.finals.now)) line.now.trace.now)
-            is_wrong text.old.items text.new.items) }
+        ensures { IfOk result (λ is_wrong. TellsLine self.now line.now is_wrong text.old.items text.new.items) }
     {
         let told = ToldLine {
             name: self.name,

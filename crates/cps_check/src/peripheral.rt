@@ -1,10 +1,10 @@
 //! What is told of an instruction of a peripheral processor.
-ghost use Rattle.std.specs.Prelude.{◌≡◌, ◌++◌, ℕ, IfOk, OnOk, codes};
+ghost use Rattle.std.specs.Prelude.{◌≡◌, ◌++◌, IfOk, OnOk, codes};
 ghost use Rattle.cps_expr.specs.declared.radix.Radix.TheVariants.{Decimal};
 ghost use Rattle.cps_code.specs.declared.layout.Layout.{Layout};
 ghost use Rattle.cps_code.specs.PeripheralTable.{form_of, is_operation};
 ghost use Rattle.cps_check.specs.Peripheral.{peripheral_head, peripheral_text, row_text};
-ghost use Rattle.cps_check.specs.Code.Kept.{IsShown, zero_form, zero_holes};
+ghost use Rattle.cps_check.specs.Code.Kept.{IfZeroForm, IsShown, zero_holes};
 
 use crate::front::push_front;
 use crate::names::row_name;
@@ -56,8 +56,7 @@ fn push_head(text: &mut Vec<u8>) -> Result<(), AllocError>
 
 /// Appends the row of an operation, by its form with the operand 0.
 fn push_form(text: &mut Vec<u8>, name: &[u8], form: &PpForm) -> Result<(), AllocError>
-    ensures { (layout : Layout) (number : ℕ) → form.now ≡ zero_form layout number
-        → OnOk result (text.new.items ≡ text.old.items ++ row_text name.now layout number) }
+    ensures { IfZeroForm form.now (λ layout number. OnOk result (text.new.items ≡ text.old.items ++ row_text name.now layout number)) }
 {
     let shown = shown_by(form.holes());
     push_front(text, name, shown.operands, form.bits())?;
@@ -70,7 +69,7 @@ fn push_form(text: &mut Vec<u8>, name: &[u8], form: &PpForm) -> Result<(), Alloc
 /// The number of an operation, by its form with the operand 0.
 #[tactic(auto, using(crate::proofs::Zero::number_told))]
 fn number_of(form: &PpForm) -> u64
-    ensures { (layout : Layout) (number : ℕ) → form.now ≡ zero_form layout number → result ≡ number }
+    ensures { IfZeroForm form.now (λ layout number. result ≡ number) }
 {
     let zeros = [0; 2];
     let filled = form.fill(&zeros[..form.holes().len()]);

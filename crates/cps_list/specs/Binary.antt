@@ -22,11 +22,15 @@ use Rattle.cps_list.specs.Assembly.{Assembly}
 abbrev pub pieces_in : List Outcome → List Piece
 pieces_in outcomes = flat_map (λ outcome. outcome.pieces) outcomes
 
--- a literal at its final address, one word of the machine
+-- one word of a machine at an address: the low bits of a number
+abbrev pub word_piece : Machine → ℕ → ℕ → Piece
+word_piece machine address number =
+    record { address = address; first = 0; width = bits_of machine; number = number % 2 ^ bits_of machine; times = 1 }
+
+-- a literal at its final address
 abbrev pub literal_piece : Finals → ℕ → List Piece
 literal_piece finals word =
-    placed (machine_of finals) (address_of (final_value finals (literal word)))
-    (record { address = 0; first = 0; width = bits_of (machine_of finals); number = word % 2 ^ bits_of (machine_of finals); times = 1 })
+    placed (machine_of finals) (address_of (final_value finals (literal word))) (word_piece (machine_of finals) 0 word)
 
 -- the words of the pool
 abbrev pub pool_pieces : Finals → List Piece

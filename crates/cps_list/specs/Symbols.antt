@@ -1,6 +1,6 @@
 -- The cross-reference: each symbol that a line defines or reads, in the order of its characters, with its final value and its lines.
 -- From the manual's symbolic reference table; the layout is our profile's.
-use Rattle.std.specs.Prelude.{ℕ, ◌+◌, true, false, List, [], ◌∷◌, ◌++◌, not, map, flat_map, filter, find, codes, decimal, Option, None, Some, if◌then◌else◌}
+use Rattle.std.specs.Prelude.{ℕ, ◌+◌, Bool, true, false, List, [], ◌∷◌, ◌++◌, not, map, flat_map, filter, find, codes, decimal, Option, None, Some, if◌then◌else◌}
 use Rattle.std.specs.FinMap.{FinMap, from_entries, keys}
 use Rattle.std.specs.Option.{option_or, option_map_or}
 use Rattle.std.specs.Cmp.Lexicographic.{slice_cmp}
@@ -25,11 +25,13 @@ use Rattle.cps_list.specs.Columns.{Column, laid_out}
 abbrev pub shown_names : List Name → List Name
 shown_names names = filter (λ name. not (was_generated name)) names
 
+-- the symbols of these names on a line, which defines them or reads them
+abbrev pub mentions_as : Bool → ℕ → List Name → List Mention
+mentions_as is_definition line names = map (λ name. record { name = name; line = line; is_definition = is_definition }) (shown_names names)
+
 -- the symbols that a line defines, and those that it reads
 abbrev pub mentions_on : ℕ → List Name → List Name → List Mention
-mentions_on line defined read =
-    map (λ name. record { name = name; line = line; is_definition = true }) (shown_names defined)
-    ++ map (λ name. record { name = name; line = line; is_definition = false }) (shown_names read)
+mentions_on line defined read = mentions_as true line defined ++ mentions_as false line read
 
 -- on lines that have numbers from one on
 abbrev pub mentions_from : ℕ → List Outcome → List Mention

@@ -1,13 +1,11 @@
 //! The binary text.
-ghost use Rattle.std.specs.Prelude.{◌≡◌, ◌++◌, ◌<◌, ◌%◌, ◌^◌, OnOk, List, Option, map, codes};
+ghost use Rattle.std.specs.Prelude.{◌≡◌, ◌++◌, ◌<◌, OnOk, map, codes};
 ghost use Rattle.cps_text.specs.Octal.{octal};
-ghost use Rattle.cps_expr.specs.Item.{bits_of};
-ghost use Rattle.cps_code.specs.Image as image;
-ghost use Rattle.cps_code.specs.Image.{piece_of, ArePacked};
+ghost use Rattle.cps_code.specs.Image.{piece_of};
 ghost use Rattle.cps_state.specs.Machines.{limit};
-ghost use Rattle.cps_final.specs.Finals.{final_value, literal, machine_of};
+ghost use Rattle.cps_final.specs.Finals.{final_value, literal};
 ghost use Rattle.cps_final.specs.Values.{address_of};
-ghost use Rattle.cps_list.specs.Code.Making.{Adds};
+ghost use Rattle.cps_list.specs.Code.Making.{Adds, AddsRows, binary_of};
 ghost use Rattle.cps_list.specs.Binary as texts;
 
 use cps_code::{Piece, Words};
@@ -32,9 +30,7 @@ const BITS_BEHIND: u32 = 48;
 
 /// The binary text, with the words of all lines.
 pub fn push_binary(text: &mut Vec<u8>, words: Words, finals: &Finals) -> Result<(), AllocError>
-    ensures { let finals = ⟦<Finals as Gathered>⟧.gathered finals.now in (pieces : List image.Piece) → ArePacked pieces words
-        → OnOk result (text.new.items ≡ text.old.items ++ (texts.first_row finals.program
-        ++ texts.rows_below (limit (machine_of finals)) (machine_of finals) (pieces ++ texts.pool_pieces finals))) }
+    ensures { AddsRows result text.old.items text.new.items words (binary_of (⟦<Finals as Gathered>⟧.gathered finals.now)) }
 {
     let mut words = words;
     put_pool(&mut words, finals)?;
@@ -77,7 +73,7 @@ fn put_literal(words: &mut Words, finals: &Finals, word: u64) -> Result<(), Allo
 /// One word of a machine at an address: the low bits of a number.
 fn word_piece(machine: Machine, address: u32, number: u64) -> Piece
     requires { address < limit machine }
-    ensures { piece_of result ≡ record { address = address; first = 0; width = bits_of machine; number = number % 2 ^ bits_of machine; times = 1 } }
+    ensures { piece_of result ≡ texts.word_piece machine address number }
 {
     let width = word_bits(machine);
     Piece {
@@ -112,8 +108,7 @@ fn push_first_row(text: &mut Vec<u8>, program: Option<Name>) -> Result<(), Alloc
 }
 
 fn push_rows(text: &mut Vec<u8>, machine: Machine, words: &Words) -> Result<(), AllocError>
-    ensures { (pieces : List image.Piece) → ArePacked pieces words.now
-        → OnOk result (text.new.items ≡ text.old.items ++ texts.rows_below (limit machine) machine pieces) }
+    ensures { AddsRows result text.old.items text.new.items words.now (texts.rows_below (limit machine) machine) }
 {
     let end = words.end().min(limit_of(machine) as usize) as u32;
     for address in 0..end {

@@ -2,6 +2,7 @@
 ghost use Rattle.std.specs.Prelude.{◌≡◌, ◌++◌, ◌+◌, ◌≤◌, ℕ, List, IsTrue, OnOk, true, length, take};
 ghost use Rattle.cps_list.specs.Columns.{with_columns, at_right, laid_out};
 ghost use Rattle.cps_list.specs.Code.Front.{HasFront, HasRow, IsNarrow, RowBecomes, front_columns, with_text};
+ghost use Rattle.cps_list.specs.Listing.{code_text, second_text};
 ghost use Rattle.cps_list.specs.Listing as texts;
 
 use crate::columns::{
@@ -138,7 +139,7 @@ fn push_code(
 ) -> Result<(), AllocError>
     requires { before ≤ length text.old.items }
     ensures { RowBecomes result text.old.items text.new.items before
-        (λ row. with_text row (BEFORE_CODE + 1) (texts.code_text code ++ texts.second_text second)) }
+        (λ row. with_text row (BEFORE_CODE + 1) (code_text code ++ second_text second)) }
 {
     fill_columns(text, before, BEFORE_CODE)?;
     if let Some(digits) = code {

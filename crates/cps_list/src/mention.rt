@@ -1,5 +1,5 @@
 //! The lines on which symbols stand.
-ghost use Rattle.std.specs.Prelude.{◌≡◌, ◌++◌, ◌<◌, IfOk, OnOk, map, true, false};
+ghost use Rattle.std.specs.Prelude.{◌≡◌, ◌++◌, ◌<◌, IfOk, OnOk, true, false};
 ghost use Rattle.cps_list.specs.Symbols as texts;
 
 use crate::view::View;
@@ -53,7 +53,7 @@ fn push_names(
     line: u32,
     is_definition: bool,
 ) -> Result<(), AllocError>
-    ensures { OnOk result (mentions.new.items ≡ mentions.old.items ++ map (λ name. record { name = name; line = line; is_definition = is_definition }) (texts.shown_names names.now)) }
+    ensures { OnOk result (mentions.new.items ≡ mentions.old.items ++ texts.mentions_as is_definition line names.now) }
 {
     for name in names {
         if !name.was_generated() {

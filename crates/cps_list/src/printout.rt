@@ -1,16 +1,10 @@
 //! The texts of a source, made in one walk over its lines.
-ghost use Rattle.std.specs.Prelude.{◌≡◌, ℕ, List, [], ◌∷◌, ◌++◌, ◌+◌, ◌<◌, ◌≤◌, ◌^◌, length, map, IfOk, OnOk};
-ghost use Rattle.cps_code.specs.Image as image;
-ghost use Rattle.cps_code.specs.Image.{piece_of, ArePacked};
-ghost use Rattle.cps_state.specs.Machines.{limit};
-ghost use Rattle.cps_final.specs.Finals.{machine_of};
-ghost use Rattle.cps_final.specs.Outcome.{Outcome};
-ghost use Rattle.cps_list.specs.Binary.{first_row, rows_below, pool_pieces};
-ghost use Rattle.cps_list.specs.Flagged.{flag_row, flagged_with, end_row, count_row};
+ghost use Rattle.std.specs.Prelude.{◌≡◌, [], ◌++◌, ◌+◌, ◌<◌, ◌≤◌, ◌^◌, map, IfOk, OnOk};
+ghost use Rattle.cps_code.specs.Image.{piece_of};
+ghost use Rattle.cps_list.specs.Flagged.{flag_row, end_row, count_row};
 ghost use Rattle.cps_list.specs.ListingText.{line_rows, open_row};
-ghost use Rattle.cps_list.specs.Code.Making.{Adds, IsPrintoutOf, shown, shows_symbols};
-ghost use Rattle.cps_list.specs.Symbols.{mentions_from, symbol_rows};
-ghost use Rattle.cps_list.specs.Texts.{text_of};
+ghost use Rattle.cps_list.specs.Code.Making.{Adds, AddsLine, AddsRows, Finishes, IsPrintoutOf, binary_of, shown};
+ghost use Rattle.cps_list.specs.Symbols.{symbol_rows};
 
 use crate::binary::{push_binary, put_pieces};
 use crate::flagged::{count_of, push_end, push_row, with_end};
@@ -67,9 +61,7 @@ impl Printout {
         pieces: &[Piece],
     ) -> Result<(), AllocError>
         requires { self.old.flagged < number }
-        ensures printout { OnOk result ((lines : List (List ℕ)) (outcomes : List Outcome) (outcome : Outcome) → IsPrintoutOf lines outcomes self.old
-            → number ≡ length lines + 1 → rows.now ≡ outcome.rows → map piece_of pieces.now ≡ outcome.pieces
-            → IsPrintoutOf (lines ++ line.now ∷ []) (outcomes ++ outcome ∷ []) self.new) }
+        ensures printout { OnOk result (AddsLine number line.now rows.now (map piece_of pieces.now) self.old self.new) }
         ensures part { OnOk result (self.new.part ≡ self.old.part) }
         ensures few { OnOk result (self.new.flagged ≤ number) }
     {
@@ -90,10 +82,7 @@ impl Printout {
         mentions: Vec<Mention>,
     ) -> Result<(Vec<u8>, u64), AllocError>
         requires { self.flagged < 2 ^ 32 }
-        ensures text { IfOk result (λ made. (lines : List (List ℕ)) (outcomes : List Outcome) → IsPrintoutOf lines outcomes self
-            → mentions.items ≡ shown (shows_symbols self.part) (mentions_from 1 outcomes)
-            → (made.0.items ≡ text_of self.part (record { lines = lines; outcomes = outcomes; finals = ⟦<Finals as Gathered>⟧.gathered finals.now; is_open = is_open }))
-            × (made.1 ≡ flagged_with is_open outcomes)) }
+        ensures text { IfOk result (λ made. Finishes self (⟦<Finals as Gathered>⟧.gathered finals.now) is_open mentions.items made.0.items made.1) }
         ensures few { IfOk result (λ made. made.1 ≤ self.flagged + 1) }
     {
         let Printout {
@@ -166,9 +155,8 @@ fn show_words(
     words: Words,
     finals: &Finals,
 ) -> Result<(), AllocError>
-    ensures { let finals = ⟦<Finals as Gathered>⟧.gathered finals.now in (pieces : List image.Piece) → ArePacked pieces words
-        → OnOk result (text.new.items ≡ text.old.items ++ shown is_shown (first_row finals.program
-        ++ rows_below (limit (machine_of finals)) (machine_of finals) (pieces ++ pool_pieces finals))) }
+    ensures { AddsRows result text.old.items text.new.items words
+        (λ bits. shown is_shown (binary_of (⟦<Finals as Gathered>⟧.gathered finals.now) bits)) }
 {
     if is_shown {
         push_binary(text, words, finals)?;

@@ -1,8 +1,8 @@
 //! What stands at the front of a stream.
-ghost use Rattle.std.specs.Prelude.{◌≡◌, ◌+◌, ◌-◌, ◌<◌, ◌≤◌, All, IsSomeAnd, None, Some, drop, length, slice_range};
+ghost use Rattle.std.specs.Prelude.{◌≡◌, ◌+◌, ◌<◌, ◌≤◌, All, IsSomeAnd, None, drop, length, slice_range};
 ghost use Rattle.httparse.specs.Spans.{IsHeaderWithin};
 ghost use Rattle.cps_rpc.specs.Messages.{BeginsWithMessage, IsPart, NeverHasMessage};
-ghost use Rattle.cps_rpc.specs.Code.Front.{IfMessage, told_by};
+ghost use Rattle.cps_rpc.specs.Code.Front.{IfMessage, IsBehindHeader, told_by};
 
 use crate::length::length_told;
 use httparse::Status;
@@ -47,8 +47,7 @@ pub fn front_of(bytes: &[u8]) -> Front
 fn front_behind(bytes: &[u8], start: usize, headers: &[HeaderSpan]) -> Front
     requires within { start ≤ length bytes.now }
     requires spans { All (IsHeaderWithin start) headers.now }
-    ensures message { IfMessage result (λ from end.
-        (from ≡ start) × (start ≤ end) × (end ≤ length bytes.now) × (told_by bytes.now headers.now ≡ Some (end - start))) }
+    ensures message { IfMessage result (IsBehindHeader bytes.now headers.now start) }
     ensures part { result ≡ Front.Part → IsSomeAnd (told_by bytes.now headers.now) (λ told. length bytes.now < start + told) }
     ensures malformed { result ≡ Front.Malformed → told_by bytes.now headers.now ≡ None }
 {

@@ -1,5 +1,5 @@
 //! A stream, as its bytes come.
-ghost use Rattle.std.specs.Prelude.{◌≡◌, ◌<◌, [], ◌++◌, IfOk, IsErrOf, MatchOption, OnErr, OnOk, OnSome, length};
+ghost use Rattle.std.specs.Prelude.{◌≡◌, ◌<◌, [], ◌++◌, IfNone, IfOk, IfSome, IsErrOf, OnErr, OnOk, OnSome, length};
 ghost use Rattle.cps_rpc.specs.Messages.{BeginsWithMessage, HasMessage, IsPart, NeverHasMessage};
 
 use crate::front::{Front, front_of};
@@ -63,9 +63,8 @@ impl Stream {
 
     /// Takes the next message, None where it hasn't come whole.
     pub fn take(&mut self) -> Result<Option<Vec<u8>>, StreamFault>
-        ensures ok { IfOk result (λ taken. MatchOption taken
-            (IsPart self.old × (self.new ≡ self.old))
-            (λ message. BeginsWithMessage self.old message.items self.new)) }
+        ensures message { IfOk result (λ taken. IfSome taken (λ message. BeginsWithMessage self.old message.items self.new)) }
+        ensures part { IfOk result (λ taken. IfNone taken (IsPart self.old × (self.new ≡ self.old))) }
         ensures shorter { IfOk result (λ taken. OnSome taken (length self.new < length self.old)) }
         ensures header { IsErrOf result StreamFault.BadHeader → NeverHasMessage self.old }
         ensures memory { IsErrOf result StreamFault.Memory → HasMessage self.old }

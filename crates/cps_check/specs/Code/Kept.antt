@@ -76,6 +76,10 @@ zero_form layout.Short number = one_word number (zero_holes layout.Short)
 zero_form layout.Constant number = two_words number (zero_holes layout.Constant)
 zero_form layout.Memory number = two_words number (zero_holes layout.Memory)
 
+-- P of a layout and a number, where a form is that of an operation with them
+abbrev pub IfZeroForm : Form → (Layout → ℕ → Type 0) → Type 0
+IfZeroForm form P = (layout : Layout) (number : ℕ) → form ≡ zero_form layout number → P layout number
+
 -- what is shown of a layout
 pub record IsShown (layout : Layout) (shown : LayoutRow) : Type 0 where
   pub operands : shown.operands.now ≡ operands_text layout

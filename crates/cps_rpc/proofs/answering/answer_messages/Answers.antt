@@ -14,7 +14,7 @@ returns-in_err-message g c =
 pub loop-message-preserved : goal.loop-message-preserved
 loop-message-preserved g c =
     let now = c.loop-message.invariant in
-    let begins : BeginsWithMessage c.loop-message.stream c.in-Some.message.items c.take.new.self = rw c.in-Some.is at c.in_ok-message.ensures.ok in record {
+    let begins : BeginsWithMessage c.loop-message.stream c.in-Some.message.items c.take.new.self = rw c.in-Some.is at c.in_ok-message.ensures.message in record {
       told = writes-more g.S.Service.answers g.S.Service.has_ended g.W.Write.contents c.args.stream.now c.loop-message.stream c.take.new.self c.in-Some.message.items
           c.args.service.now c.loop-message.service c.answer_message.new.service c.args.writer.now c.loop-message.writer c.answer_message.new.writer
           now.told now.going begins (rw c.deref.ensures.value at c.in_ok-answer_message.ensures);
@@ -24,7 +24,7 @@ loop-message-preserved g c =
 pub returns-then-has_ended : goal.returns-then-has_ended
 returns-then-has_ended g c =
     let now = c.loop-message.invariant in
-    let begins : BeginsWithMessage c.loop-message.stream c.in-Some.message.items c.take.new.self = rw c.in-Some.is at c.in_ok-message.ensures.ok in (
+    let begins : BeginsWithMessage c.loop-message.stream c.in-Some.message.items c.take.new.self = rw c.in-Some.is at c.in_ok-message.ensures.message in (
       writes-more g.S.Service.answers g.S.Service.has_ended g.W.Write.contents c.args.stream.now c.loop-message.stream c.take.new.self c.in-Some.message.items
           c.args.service.now c.loop-message.service c.answer_message.new.service c.args.writer.now c.loop-message.writer c.answer_message.new.writer
           now.told now.going begins (rw c.deref.ensures.value at c.in_ok-answer_message.ensures),
