@@ -24,6 +24,12 @@ setlocal formatoptions-=t
 setlocal formatoptions+=croql
 setlocal colorcolumn=73
 setlocal comments=:*
+" `=` moves no line, and `gq` lays out comments alone.
+setlocal indentexpr=-1
+function! CompassFormat() abort
+  return mode() =~# '[iR]' || empty(filter(getline(v:lnum, v:lnum + v:count - 1), {_, line -> line[0] !=# '*'}))
+endfunction
+setlocal formatexpr=CompassFormat()
 setlocal commentstring=*%s
 
 " A symbol is one word. `_` joins words in the body of a macro.
@@ -31,17 +37,32 @@ setlocal iskeyword=@,48-57,.,=
 
 setlocal suffixesadd=.cps
 
+" `gc` and a motion puts `*` into column 1 of its lines, or takes it away where all have it; `gcc` does so in this line.
+function! CompassComment(...) abort
+  if !a:0
+    let &operatorfunc = 'CompassComment'
+    return 'g@'
+  endif
+  let lines = getline("'[", "']")
+  let are_comments = empty(filter(copy(lines), {_, line -> line[0] !=# '*'}))
+  call setline("'[", map(lines, {_, line -> are_comments ? line[1:] : '*' . line}))
+endfunction
+nnoremap <buffer> <expr> gc CompassComment()
+xnoremap <buffer> <expr> gc CompassComment()
+nnoremap <buffer> <expr> gcc CompassComment() . '_'
+
 " `K` explains the operation or the letter of a flag under the cursor.
 setlocal keywordprg=compass\ explain
 
 " `:make` checks the source.
 compiler compass
 
-let b:undo_ftplugin = 'setlocal expandtab< shiftwidth< textwidth< formatoptions< colorcolumn< comments< commentstring< iskeyword< suffixesadd< keywordprg<'
+let b:undo_ftplugin = 'setlocal expandtab< shiftwidth< textwidth< formatoptions< colorcolumn< comments< indentexpr< formatexpr< commentstring< iskeyword< suffixesadd< keywordprg<'
 if has('vartabs')
   let b:undo_ftplugin .= ' vartabstop< varsofttabstop<'
 endif
-let b:undo_ftplugin .= ' makeprg< errorformat< | unlet! b:current_compiler'
+let b:undo_ftplugin .= ' | execute "nunmap <buffer> gc" | execute "xunmap <buffer> gc" | execute "nunmap <buffer> gcc"'
+let b:undo_ftplugin .= ' | setlocal makeprg< errorformat< | unlet! b:current_compiler'
 
 let &cpoptions = s:cpo
 unlet s:cpo

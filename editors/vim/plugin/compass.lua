@@ -13,6 +13,13 @@ local function is_served(source, is_starting)
   return false
 end
 
+-- Rows are asked for as plain text: in Markdown they would be coloured as lines of a source.
+local function capabilities()
+  local found = vim.lsp.protocol.make_client_capabilities()
+  found.textDocument.hover.contentFormat = { 'plaintext' }
+  return found
+end
+
 -- A client of this name is taken, also one that the user's own configuration starts. So no source has two servers.
 local function serve(source)
   if not vim.api.nvim_buf_is_loaded(source) or vim.fn.executable('compass') == 0 or is_served(source, true) then return end
@@ -20,6 +27,7 @@ local function serve(source)
     if views[buffer] then refresh(views[buffer]) end
   end
   local config = { name = 'compass', cmd = { 'compass', 'server' }, root_dir = vim.fn.getcwd(), on_attach = on_attach }
+  config.capabilities = capabilities()
   if vim.lsp.start then
     vim.lsp.start(config, { bufnr = source, reuse_client = function(client) return client.name == 'compass' end })
     return

@@ -3,6 +3,7 @@ with what a batch and a check tell of the same text."""
 import json
 import re
 import subprocess
+import textwrap
 import time
 
 from .shared import COLUMNED, DOCUMENT, SECONDS, TYPED, Terminal, printed, run, same, until
@@ -166,8 +167,26 @@ def try_servers(room, program):
     return in_emacs(room, ["flags.cps"], tried)
 
 
+def try_layout(room, program):
+    """No key lays out statements, and M-q breaks a comment where column 72 ends."""
+    def tried(editor):
+        text = room.read("sum.cps")
+        for keys in ["M-q"], ["C-x", "h", "C-M-\\"], ["C-M-q"]:
+            editor.go(29)
+            editor.keys(*keys)
+            editor.go(30)
+            same("the text", editor.text, text)
+        words = "*         " + 12 * "LONG WORDS "
+        editor.go(1)
+        editor.type(words + "\n")
+        editor.go(1)
+        editor.keys("M-q")
+        same("a comment", lambda: editor.text().removesuffix(text).splitlines(), textwrap.wrap(words, 72, subsequent_indent=words[:10]))
+    in_emacs(room, ["sum.cps"], tried)
+
+
 def try_keys(room, program):
-    """The tab key makes blanks, no line is moved by the enter key, and C-M-i completes a name with a point."""
+    """The tab key makes blanks, no line is moved by the enter key, M-; makes comments, and C-M-i completes a name with a point."""
     def tried(editor):
         editor.open("new.cps")
         # a line whose words stand in other columns
@@ -177,6 +196,11 @@ def try_keys(room, program):
             editor.type(part)
         editor.type("\nX")
         same("what is typed", editor.text, f"* A B C D\n{COLUMNED}\nX")
+        for star in "*", "":
+            editor.go(2)
+            # tmux takes a semicolon for its own
+            editor.keys("C-a", "C-Space", "C-e", "M-\\;")
+            same("a comment", editor.text, f"* A B C D\n{star}{COLUMNED}\nX")
         editor.open("reader.cps")
         editor.is_served()
         editor.go(12)
@@ -188,9 +212,9 @@ def try_keys(room, program):
     return in_emacs(room, ["flags.cps"], tried)
 
 
-TRIES = [try_marks, try_symbols, try_servers, try_keys]
+TRIES = [try_marks, try_symbols, try_servers, try_layout, try_keys]
 
 
 def try_all(program):
     """The status of all tries."""
-    return run("emacs", ["emacs", "emacsclient"], TRIES, program)
+    return run("emacs", ["emacs", "emacsclient", "tmux"], TRIES, program)

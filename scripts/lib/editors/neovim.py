@@ -36,6 +36,21 @@ LEAST = 50
 MARKS = "vim.tbl_map(function(one) return { one.lnum + 1, one.col + 1, one.code or '' } end, vim.diagnostic.get(0))"
 
 
+# The groups of colours in a floating window.
+COLOURS = """\
+(function()
+  local found = {}
+  for _, window in ipairs(vim.api.nvim_list_wins()) do
+    if vim.api.nvim_win_get_config(window).relative ~= '' then
+      vim.api.nvim_win_call(window, function()
+        for column = 1, vim.fn.col('$') - 1 do found[vim.fn.synIDattr(vim.fn.synID(1, column, 1), 'name')] = true end
+      end)
+    end
+  end
+  return vim.tbl_keys(found)
+end)()"""
+
+
 class Neovim(Terminal):
     """Neovim with its own configuration alone."""
 
@@ -123,6 +138,7 @@ def try_symbols(room, program):
         editor.shows(row)
         editor.shows(program.rows(text)[reads[-1] - 1][0][:60])
         editor.hides("```")
+        same("colours of a hover", lambda: editor.asked(COLOURS), [""])
         editor.type("h")
         for keys in "\x1d", ":lua vim.lsp.buf.definition()\n":
             editor.type(f"{reads[-1]}Gf,l{keys}")
@@ -180,7 +196,7 @@ def try_own(room, program):
 
 
 def try_keys(room, program):
-    """The tab key makes blanks, K explains, CTRL-X CTRL-O completes a name with a point, and :make finds the flags."""
+    """The tab key makes blanks, gc makes comments, = and gq leave statements, K explains, CTRL-X CTRL-O completes a name with a point, and :make finds the flags."""
     def tried(editor):
         editor.has_marks(program)
         editor.command("edit new.cps")
@@ -190,6 +206,16 @@ def try_keys(room, program):
             editor.type(part)
         editor.keys("Escape")
         same("what is typed", lambda: editor.text().splitlines(), [COLUMNED])
+        for is_comment in True, False:
+            editor.type("gcc")
+            same("a comment", lambda: editor.text().splitlines(), ["*" * is_comment + COLUMNED])
+        editor.command("edit! sum.cps")
+        for keys in "gg=G", "gggqG", "29Ggqj":
+            editor.type(keys)
+            same("statements that are laid out", editor.text, room.read("sum.cps"))
+        editor.command("edit! new.cps")
+        editor.type("i" + COLUMNED)
+        editor.keys("Escape")
         editor.type("0wK")
         editor.shows("SXi   K         30 bits  71i0K")
         editor.type("q")
@@ -286,4 +312,4 @@ TRIES = [try_marks, try_symbols, try_servers, try_own, try_keys, try_listing]
 
 def try_all(program):
     """The status of all tries."""
-    return run("neovim", ["nvim"], TRIES, program)
+    return run("neovim", ["nvim", "tmux"], TRIES, program)

@@ -158,7 +158,7 @@ def same(what, found, wanted):
 
 def run(name, tools, tries, program):
     """Runs all tries; the status. Each is told."""
-    missing = [tool for tool in (*tools, "tmux") if not shutil.which(tool)]
+    missing = [tool for tool in tools if not shutil.which(tool)]
     if missing:
         print(f"{name}: there is no {', no '.join(missing)}; nothing was tried")
         return LEFT_OUT

@@ -4,9 +4,9 @@ since jq has the engine of the editors that read such grammars.
 - Vim has the `.vimrc` that `editors/README.md` prints. It opens sources, and the group of each place that is told below must be the one
   of its kind. The grammar is tried on the same places, by a reader that stands here and knows as much of grammars as this one uses.
 - What is typed in vim must come to stand in the columns of the language, also where 'smarttab' is set.
+- `=` and `gq` must leave statements as they are.
 - `K` must call `compass explain` for the operation under the cursor.
 - `:make` must find the place of each flag in a text that is told here, which stands for what `compass check` writes.
-- The file by which VS Code takes the grammar names it.
 """
 import json
 import os
@@ -19,7 +19,7 @@ from examples import program_path
 
 from .shared import DOCUMENT, LEFT_OUT, ROOT, printed
 
-FOLDER = os.path.join(ROOT, "editors/textmate")
+GRAMMAR = "editors/vscode/compass.tmLanguage.json"
 SECONDS = 60
 
 # The kinds of places: a letter, the groups of vim, and the innermost scope of the grammar.
@@ -259,6 +259,9 @@ STUB = """\
 # A line, and the operation in it that is to be explained.
 LOOKED_UP = ["TAG       BX1     X1", "BX1"], ["          SA1     F.READ", "SA1"], ["          =       5", "="]
 
+# What must leave a source as it is: it lays out all lines, and two statements.
+LAID_OUT = ["gg=G", "gggqG", "29Ggqj"]
+
 VIM = """\
 let result = {}
 function Groups(file)
@@ -285,6 +288,13 @@ function LookedUp(line)
   return readfile('explained')
 endfunction
 let result.explained = map(copy(g:looked_up), {_, line -> LookedUp(line)})
+function LaidOut(file, keys)
+  execute 'edit! ' . fnameescape(a:file)
+  let before = getline(1, '$')
+  execute 'normal ' . a:keys
+  return getline(1, '$') ==# before
+endfunction
+let result.laid_out = map(copy(g:laid_out), {_, keys -> LaidOut(g:sources[0], keys)})
 function Made(file)
   execute 'edit! ' . fnameescape(a:file)
   silent make!
@@ -338,6 +348,7 @@ def run_vim(room, sources):
         file.write(f"let g:sources = {json.dumps([path for path, _, _ in sources])}\n")
         file.write(f"let g:typed = {json.dumps([keys.replace('>', chr(9)) for keys, _ in TYPED])}\n")
         file.write(f"let g:checked = {json.dumps(CHECKED)}\n")
+        file.write(f"let g:laid_out = {json.dumps(LAID_OUT)}\n")
         file.write(f"let g:looked_up = {json.dumps([line for line, _ in LOOKED_UP])}\n")
     home = os.path.join(room, "home")
     os.mkdir(home)
@@ -368,6 +379,9 @@ def try_vim(room, sources):
     for (line, operation), told in zip(LOOKED_UP, result["explained"]):
         if told != [operation]:
             yield f"K on the operation of {line!r} asks for {told}"
+    for keys, is_same in zip(LAID_OUT, result["laid_out"]):
+        if not is_same:
+            yield f"{keys} changes {sources[0][0]}"
     if result["made"] != [[CHECKED, each] for each in FOUND]:
         yield f":make finds {result['made']}, and not {FOUND}"
 
@@ -420,21 +434,9 @@ def expressions_in(part):
         yield from expressions_in(each)
 
 
-def read_json(name):
-    with open(os.path.join(FOLDER, name), encoding="utf-8") as file:
-        return json.load(file)
-
-
-def try_package():
-    """What the file for VS Code says of the grammar."""
-    package = read_json("package.json")
-    for grammar in package["contributes"]["grammars"]:
-        if read_json(grammar["path"])["scopeName"] != grammar["scopeName"]:
-            yield f"package.json: {grammar['path']} has another scope"
-
-
 def try_grammar(sources):
-    grammar = read_json("compass.tmLanguage.json")
+    with open(os.path.join(ROOT, GRAMMAR), encoding="utf-8") as file:
+        grammar = json.load(file)
     for path, lines, told in sources:
         scopes = [scopes_of(grammar, line) for line in lines]
         yield from differences(path, lines, told, lambda kind, scope: scope == KINDS[kind][1], scopes)
@@ -470,7 +472,7 @@ def try_all(_program):
         return LEFT_OUT
     with tempfile.TemporaryDirectory() as room:
         sources = list(read_sources(room))
-        told = list(try_vim(room, sources)) + list(try_grammar(sources)) + list(try_package())
+        told = list(try_vim(room, sources)) + list(try_grammar(sources))
     print(*told, sep="\n", end="\n" if told else "")
     places = sum(len(kinds) - kinds.count(" ") for _, _, each in sources for _, kinds in each)
     tried = f"{places} places in vim and in the grammar, {len(TYPED)} texts that are typed, and {len(FOUND)} flags that :make finds"
