@@ -11,6 +11,7 @@ from random_lines import MOST_BYTES, MOST_LINES, WRONG
 MOST_ROWS = 40
 MOST_CAUSES = 10
 END, OPEN_END = "the source ends ", "open range at end of source"
+REGISTERS = [letter + digit for letter in "ABX" for digit in "01234567"]
 WORD, SYMBOL, REGISTER = re.compile(rb"[A-Za-z0-9.=]+"), re.compile(r"[A-Z.][A-Z0-9.=]{0,7}"), re.compile(r"[ABX][0-7]")
 
 
@@ -189,6 +190,13 @@ class Shown:
             found += [(number, 0) for number in self.defined if name in self.defined[number]]
         return [{"range": self.word(number, name), "uri": uri} for number, _ in sorted(found)]
 
+    def highlights(self, position):
+        name = self.pointed(position)
+        if name is None:
+            return []
+        found = [(number - 1, 2) for number in self.numbers(name)[1:]] + [(number, 3) for number in self.defined if name in self.defined[number]]
+        return [{"kind": kind, "range": self.word(number, name)} for number, kind in sorted(found, key=lambda one: (one[0], -one[1]))]
+
     def outline(self):
         return [{"detail": self.value(name), "kind": 14, "name": name, "range": self.whole(number), "selectionRange": self.word(number, name)}
                 for number, names in self.defined.items() for name in sorted(names)]
@@ -205,10 +213,42 @@ class Shown:
     def listings(self, first, last):
         return ["".join(row + "\n" for row in self.rows[number]) for number in range(first, min(last + 1, len(self.rows)))]
 
+    def field(self, position):
+        """The field of a letter where the word around a position begins: 0 for a location, 1 an operation, 2 operands, and 3 for all else."""
+        number = position["line"]
+        line = self.lines[number] if number < len(self.lines) else b""
+        at = place(line + b"\r", 0, position["character"], self.is_utf8)
+        at = next((one.start() for one in WORD.finditer(line) if one.start() <= at <= one.end()), at)
+        text = bytes(32 if byte in WRONG else byte for byte in line[:at]).decode() + "A"
+        begun = [one.start() for one in re.finditer(r"\S+", text)]
+        if len(text) > 72 or len(text) > 1 and text[0] in "*,":
+            return 3
+        field = len(begun) - (begun[0] < 2)
+        return 3 if field > 2 or field == 2 and begun[-1] > 28 else field
+
     def completions(self, position):
-        """The symbols alone, in the place of the word around a position."""
-        names, around = dict.fromkeys(name for names in self.defined.values() for name in sorted(names)), self.around(position)
-        return [{"detail": self.value(name), "kind": 21, "label": name, "textEdit": {"newText": name, "range": around}} for name in names]
+        """The symbols that are offered in the place of the word around a position, each with the first line that defines it, or that reads it."""
+        field, around, lines = self.field(position), self.around(position), {}
+        if field == 2:
+            for number, names in self.defined.items():
+                for name in names:
+                    lines.setdefault(name, number)
+        if field == 0:
+            defined = set().union(*self.defined.values())
+            lines = {name: self.numbers(name)[1] for name in self.symbols if name not in defined}
+        names = sorted(lines, key=lambda name: (lines[name], name))
+        return [{"detail": self.value(name), "kind": 21, "label": name, "textEdit": {"newText": name, "range": around}} for name in names], lines
+
+    def may_be_offered(self, others, position):
+        """Whether words may be offered behind the symbols: macros and operations in their field, and registers in operands, unless a line above may have PERIPH."""
+        field, around = self.field(position), self.around(position)
+        if any(one != self.offered(one, around) for one in others):
+            return False
+        labels = [one["label"] for one in others]
+        if field == 1:
+            return {one["kind"] for one in others} <= {3, 14} and len(set(labels)) == len(labels) and "IDENT" in labels and ("LDN" in labels) != ("SA0" in labels)
+        is_declared = any(b"PERIPH" in line.upper() for line in self.lines[: position["line"]])
+        return field == 2 and labels == REGISTERS and {one["kind"] for one in others} == {6} or labels == [] and (field != 2 or is_declared)
 
     def answer(self, uri, method, more):
         """The answer to a request that has this beside the text's URI."""
@@ -218,13 +258,15 @@ class Shown:
             return self.definition(uri, more["position"])
         if method == "references":
             return self.references(uri, more["position"], more.get("context", {}).get("includeDeclaration", False))
+        if method == "documentHighlight":
+            return self.highlights(more["position"])
         if method == "documentSymbol":
             return self.outline()
         if method == "inlayHint":
             return self.hints(more["range"]["start"]["line"], more["range"]["end"]["line"])
         if method == "compass/rows":
             return self.listings(more["range"]["start"]["line"], more["range"]["end"]["line"])
-        return self.completions(more["position"])
+        return self.completions(more["position"])[0]
 
     def offered(self, one, around):
         """What is offered with the label, the kind and the detail of another, in the place of a range."""
@@ -232,17 +274,13 @@ class Shown:
         return {"label": label, "kind": kind, "detail": detail, "textEdit": {"newText": label, "range": around}} if isinstance(label, str) else None
 
     def in_order(self, method, more, answer):
-        """An answer with the symbols of one line in the order of their names; of completions the symbols alone, if other words stand behind them."""
+        """An answer with the symbols of one line in the order of their names; of completions the symbols alone, if what stands behind them may."""
         if method == "documentSymbol" and isinstance(answer, list):
             return by_line(answer, lambda one: (one["range"]["start"]["line"], one["name"]))
         if method == "completion" and isinstance(answer, list):
-            lines = {}
-            for number, names in self.defined.items():
-                for name in names:
-                    lines.setdefault(name, number)
+            lines = self.completions(more["position"])[1]
             symbols, others = answer[: len(lines)], answer[len(lines) :]
-            around = self.around(more["position"])
-            if others and all(one.get("kind") != 21 and one == self.offered(one, around) for one in others):
+            if self.may_be_offered(others, more["position"]):
                 return by_line(symbols, lambda one: (lines.get(one.get("label"), -1), one.get("label")))
         return answer
 

@@ -1,7 +1,7 @@
 -- No float is in what is told.
-use Rattle.std.proofs.Common.{◌≡◌, refl, subst, ap, ◌∙◌, arith, ℕ, suc, Bool, true, false, ◌||◌, List, [], ◌∷◌, ◌++◌, Option, None, Some}
+use Rattle.std.proofs.Common.{◌≡◌, refl, subst, ap, ◌∙◌, ℕ, Bool, true, false, ◌||◌, List, [], ◌∷◌, ◌++◌, Option, None, Some}
 use Rattle.std.specs.Prelude.{flat_map, length, map}
-use Rattle.std.specs.List.{All, AllZip, range_with_len}
+use Rattle.std.specs.List.{AllZip, range_with_len}
 use Rattle.serde_json.specs.Data.{Data}
 use Rattle.serde_json.specs.View.{items_of}
 use Rattle.serde_json.specs.Written.{has_float, items_have_float}
@@ -9,12 +9,13 @@ use Rattle.cps_list.specs.declared.mention.Mention.{Mention}
 use Rattle.cps_final.specs.Finals.{Finals}
 use Rattle.cps_rpc.specs.declared.encoding.Encoding.{Encoding}
 use Rattle.cps_server.specs.declared.query.Query.{Query}
-use Rattle.cps_server.specs.declared.query.Query.TheVariants.{Hover, Definition, References, Symbols, Hints, Completions, Listing}
+use Rattle.cps_server.specs.declared.query.Query.TheVariants.{Hover, Definition, References, Highlights, Symbols, Hints, Completions, Listing}
 use Rattle.cps_rpc.specs.Params.{position_at, range_at}
 use Rattle.cps_server.specs.Queries.{Tells, TellsOf}
 use Rattle.cps_rpc.specs.declared.markup.Markup.{Markup}
 use Rattle.cps_server.specs.Ranges.{IsInLine, told_units, word_at}
-use Rattle.cps_server.specs.Results.{IsCompletion, TellsEach, TellsFirst, TellsMention, TellsSymbol, hint_at, hint_in, hover, lines_within, listing_json, text_beside}
+use Rattle.cps_server.specs.Completions.{Offer, completion, offered_at}
+use Rattle.cps_server.specs.Results.{TellsEach, TellsFirst, TellsHighlight, TellsMention, TellsSymbol, hint_at, hint_in, hover, lines_within, listing_json, text_beside}
 use Rattle.cps_server.specs.Code.Telling.{has_float_told}
 use Rattle.cps_edit.specs.Assembly.{assembly_of}
 use Rattle.cps_server.specs.Document.{source_of_text}
@@ -63,6 +64,9 @@ range-no-float line range is = ap has_float is.2
 mention-no-float : (uri : List ℕ) (mention : Mention) (json : Data) → TellsMention uri mention json → has_float json ≡ false
 mention-no-float uri mention json tells = ap has_float tells.2 ∙ ap (λ b. b || false) (range-no-float _ tells.0 tells.1)
 
+highlight-no-float : (mention : Mention) (json : Data) → TellsHighlight mention json → has_float json ≡ false
+highlight-no-float mention json tells = ap has_float tells.2 ∙ ap (λ b. b || false) (range-no-float _ tells.0 tells.1)
+
 first-no-float : (uri : List ℕ) (mentions : List Mention) (json : Data) → TellsFirst uri mentions json → has_float json ≡ false
 first-no-float uri [] json tells = ap has_float tells
 first-no-float uri (mention ∷ mentions) json tells = mention-no-float uri mention json tells
@@ -89,14 +93,10 @@ listings-no-float : (text : List ℕ) (numbers : List ℕ) → items_have_float 
 listings-no-float text [] = refl
 listings-no-float text (number ∷ numbers) = listings-no-float text numbers
 
-completion-no-float : (range json : Data) → has_float range ≡ false → IsCompletion range json → has_float json ≡ false
-completion-no-float range json none is = ap has_float is.3 ∙ ap (λ b. (b || false) || false) none
-
-completions-no-float : (range : Data) (told : List Data) → has_float range ≡ false → All (IsCompletion range) told → items_have_float (items_of told) ≡ false
-completions-no-float range [] none each = refl
-completions-no-float range (json ∷ told) none each =
-    ap (λ b. b || items_have_float (items_of told)) (completion-no-float range json none (each 0 json (omega arith)))
-    ∙ completions-no-float range told none (λ k d within. each (suc k) d (omega (arith, within)))
+completions-no-float : (range : Data) → has_float range ≡ false → (offers : List Offer) → items_have_float (items_of (map (completion range) offers)) ≡ false
+completions-no-float range none [] = refl
+completions-no-float range none (offer ∷ offers) =
+    ap (λ b. ((b || false) || false) || items_have_float (items_of (map (completion range) offers))) none ∙ completions-no-float range none offers
 
 -- ---- queries
 
@@ -114,12 +114,14 @@ tells-no-float Definition params encoding markup uri text told tells =
     of-no-float (position_at params) _ (λ position json is. first-no-float uri _ json is) told tells
 tells-no-float References params encoding markup uri text told tells =
     of-no-float (position_at params) _ (λ position json is. list-no-float (TellsMention uri) (mention-no-float uri) _ json is) told tells
+tells-no-float Highlights params encoding markup uri text told tells =
+    of-no-float (position_at params) _ (λ position json is. list-no-float TellsHighlight highlight-no-float _ json is) told tells
 tells-no-float Symbols params encoding markup uri text told tells =
     ap has_float_told tells.1 ∙ symbols-no-float (assembly_of (source_of_text text)).finals (definitions (mentions_in text)) tells.0 tells.2
 tells-no-float Hints params encoding markup uri text told tells =
     of-no-float (range_at params) _ (λ range json is. ap has_float is ∙ hints-no-float encoding text _) told tells
 tells-no-float Completions params encoding markup uri text told tells =
     of-no-float (position_at params) _
-    (λ position json is. ap has_float is.2 ∙ completions-no-float (word_at encoding text position) is.0 refl is.1) told tells
+    (λ position json is. ap has_float is ∙ completions-no-float (word_at encoding text position) refl (offered_at encoding text position)) told tells
 tells-no-float Listing params encoding markup uri text told tells =
     of-no-float (range_at params) _ (λ range json is. ap has_float is ∙ listings-no-float text (range_with_len range.start.line (lines_within (length (source_of_text text)) range))) told tells

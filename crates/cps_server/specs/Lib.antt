@@ -6,6 +6,9 @@ pub mod Symbols
 pub mod Rows
 pub mod Ranges
 pub mod Results
+pub mod Fields
+pub mod MachineAbove
+pub mod Completions
 pub mod Queries
 pub mod Frames
 pub mod ServerState

@@ -9,9 +9,9 @@ use Rattle.cps_rpc.specs.Params.{position_at, range_at, wants_definitions}
 use Rattle.cps_server.specs.Symbols.{definitions, mentions_at}
 use Rattle.cps_server.specs.declared.queried_text.QueriedText.{QueriedText}
 use Rattle.cps_server.specs.declared.query.Query.{Query}
-use Rattle.cps_server.specs.declared.query.Query.TheVariants.{Hover, Definition, References, Symbols, Hints, Completions, Listing}
-use Rattle.cps_server.specs.Ranges.{word_at}
-use Rattle.cps_server.specs.Results.{TellsCompletions, TellsEach, TellsFirst, TellsMention, TellsShown, TellsSymbols, hints_in, listings_in}
+use Rattle.cps_server.specs.declared.query.Query.TheVariants.{Hover, Definition, References, Highlights, Symbols, Hints, Completions, Listing}
+use Rattle.cps_server.specs.Completions.{completions_at}
+use Rattle.cps_server.specs.Results.{TellsEach, TellsFirst, TellsHighlight, TellsMention, TellsShown, TellsSymbols, hints_in, listings_in}
 
 -- the query of a method
 abbrev pub query_named : List ℕ → Option Query
@@ -19,10 +19,11 @@ query_named method =
     if bytes_eq method (codes "textDocument/hover") then Some Hover
     else (if bytes_eq method (codes "textDocument/definition") then Some Definition
     else (if bytes_eq method (codes "textDocument/references") then Some References
+    else (if bytes_eq method (codes "textDocument/documentHighlight") then Some Highlights
     else (if bytes_eq method (codes "textDocument/documentSymbol") then Some Symbols
     else (if bytes_eq method (codes "textDocument/inlayHint") then Some Hints
     else (if bytes_eq method (codes "textDocument/completion") then Some Completions
-    else (if bytes_eq method (codes "compass/rows") then Some Listing else None))))))
+    else (if bytes_eq method (codes "compass/rows") then Some Listing else None)))))))
 
 -- the mentions that are wanted: those that read a symbol, or all
 abbrev pub wanted : Bool → List Mention → List Mention
@@ -40,10 +41,12 @@ Tells Definition params encoding markup uri text told =
     TellsOf (position_at params) (λ position json. TellsFirst uri (definitions (mentions_at encoding text position)) json) told
 Tells References params encoding markup uri text told =
     TellsOf (position_at params) (λ position json. TellsEach (TellsMention uri) (wanted (wants_definitions params) (mentions_at encoding text position)) json) told
+Tells Highlights params encoding markup uri text told =
+    TellsOf (position_at params) (λ position json. TellsEach TellsHighlight (mentions_at encoding text position) json) told
 Tells Symbols params encoding markup uri text told = (json : Data) × (told ≡ Some json) × TellsSymbols text json
 Tells Hints params encoding markup uri text told = TellsOf (range_at params) (λ range json. json ≡ array (items_of (hints_in encoding text range))) told
 Tells Completions params encoding markup uri text told =
-    TellsOf (position_at params) (λ position json. TellsCompletions (word_at encoding text position) json) told
+    TellsOf (position_at params) (λ position json. json ≡ array (items_of (completions_at encoding text position))) told
 Tells Listing params encoding markup uri text told = TellsOf (range_at params) (λ range json. json ≡ array (items_of (listings_in text range))) told
 
 -- what is told of a deck

@@ -41,9 +41,10 @@ synchronization = object (member (codes "change") (number (unsigned 2)) (member 
 -- and it asks what queries there are
 abbrev pub capabilities : Encoding → Data
 capabilities encoding = object (member (codes "completionProvider") (object no_members) (member (codes "definitionProvider") (boolean true)
-    (member (codes "documentSymbolProvider") (boolean true) (member (codes "hoverProvider") (boolean true) (member (codes "inlayHintProvider") (boolean true)
+    (member (codes "documentHighlightProvider") (boolean true) (member (codes "documentSymbolProvider") (boolean true)
+    (member (codes "hoverProvider") (boolean true) (member (codes "inlayHintProvider") (boolean true)
     (member (codes "positionEncoding") (string (encoding_name encoding)) (member (codes "referencesProvider") (boolean true)
-    (member (codes "textDocumentSync") synchronization no_members))))))))
+    (member (codes "textDocumentSync") synchronization no_members)))))))))
 
 -- the result of `initialize`
 abbrev pub introduction : Encoding → Data

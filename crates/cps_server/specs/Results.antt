@@ -1,6 +1,6 @@
 -- What a server tells of a text that an editor has open, in JSON. From the Language Server Protocol 3.17; what is shown of a line is our own.
-use Rattle.std.specs.Prelude.{◌≡◌, ◌≤◌, ℕ, ◌+◌, ◌-◌, min, true, List, [], ◌∷◌, ◌++◌, length, map, codes, flat_map, Option, Some, None, option_and_then, slice_get}
-use Rattle.std.specs.List.{All, AllZip, range_with_len}
+use Rattle.std.specs.Prelude.{◌≡◌, ◌≤◌, ℕ, ◌+◌, ◌-◌, min, Bool, true, List, [], ◌∷◌, ◌++◌, length, map, codes, flat_map, Option, Some, None, option_and_then, slice_get, if◌then◌else◌}
+use Rattle.std.specs.List.{AllZip, range_with_len}
 use Rattle.std.specs.Str.Lossy.{utf8_lossy}
 use Rattle.serde_json.specs.Data.{Data, unsigned, null, boolean, number, string, array, object, no_members, member}
 use Rattle.serde_json.specs.View.{items_of}
@@ -59,6 +59,16 @@ TellsMention uri mention json = (range : Data) × IsInLine (mention.line - 1) ra
 abbrev pub TellsFirst : List ℕ → List Mention → Data → Type 0
 TellsFirst uri [] json = json ≡ null
 TellsFirst uri (mention ∷ mentions) json = TellsMention uri mention json
+
+-- the range of a mention in its line; its kind is 3 where the line defines the symbol, and 2 where it reads it
+abbrev pub highlight_kind : Bool → ℕ
+highlight_kind is_definition = if is_definition then 3 else 2
+
+abbrev pub highlight : ℕ → Data → Data
+highlight kind range = object (member (codes "kind") (number (unsigned kind)) (member (codes "range") range no_members))
+
+abbrev pub TellsHighlight : Mention → Data → Type 0
+TellsHighlight mention json = (range : Data) × IsInLine (mention.line - 1) range × (json ≡ highlight (highlight_kind mention.is_definition) range)
 
 -- ---- the symbols of a text
 
@@ -121,23 +131,3 @@ listing_json text line = text_json (line_listing text line)
 -- those of each line of a range
 abbrev pub listings_in : List ℕ → Range → List Data
 listings_in text range = map (listing_json text) (range_with_len range.start.line (lines_within (length (source_of_text text)) range))
-
--- ---- what may be written next
-
--- a text that comes in the place of a range
-abbrev pub edit : Data → Data → Data
-edit range text = object (member (codes "newText") text (member (codes "range") range no_members))
-
--- what may be written in the place of a range: its kind, as the protocol counts kinds, its text, and what stands beside it
-abbrev pub completion : Data → ℕ → List ℕ → List ℕ → Data
-completion range kind label detail =
-    object (member (codes "detail") (text_json detail) (member (codes "kind") (number (unsigned kind))
-    (member (codes "label") (text_json label) (member (codes "textEdit") (edit range (text_json label)) no_members))))
-
--- one is told; which is free
-abbrev pub IsCompletion : Data → Data → Type 0
-IsCompletion range json = (kind : ℕ) × (label detail : List ℕ) × (json ≡ completion range kind label detail)
-
--- some are, all in the place of one range
-abbrev pub TellsCompletions : Data → Data → Type 0
-TellsCompletions range json = (told : List Data) × All (IsCompletion range) told × (json ≡ array (items_of told))

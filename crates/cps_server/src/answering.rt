@@ -9,7 +9,7 @@ use crate::completions::tell_completions;
 use crate::hints::hints_in;
 use crate::hovering::hover_at;
 use crate::listing::listings_in;
-use crate::locations::{definition_at, references_at};
+use crate::locations::{definition_at, highlights_at, references_at};
 use crate::queried_text::QueriedText;
 use crate::query::Query;
 use crate::symbols::tell_symbols;
@@ -31,6 +31,7 @@ pub fn answer(
         Query::Hover => answer_hover(alloc, params, deck),
         Query::Definition => answer_definition(alloc, params, deck),
         Query::References => answer_references(alloc, params, deck),
+        Query::Highlights => answer_highlights(alloc, params, deck),
         Query::Symbols => answer_symbols(alloc, params, deck),
         Query::Hints => answer_hints(alloc, params, deck),
         Query::Completions => answer_completions(alloc, params, deck),
@@ -77,6 +78,20 @@ fn answer_references(
         return Ok(None);
     };
     let told = references_at(alloc, deck, position, wants_definitions(params))?;
+    Ok(Some(told))
+}
+
+fn answer_highlights(
+    alloc: Global,
+    params: &Value,
+    deck: QueriedText<'_>,
+) -> Result<Option<Value>, AllocError>
+    ensures { IfOk result (λ told. TellsOfDeck queries.Highlights (view params.now) deck.entry (option_map view told)) }
+{
+    let Some(position) = position_at(params) else {
+        return Ok(None);
+    };
+    let told = highlights_at(alloc, deck, position)?;
     Ok(Some(told))
 }
 

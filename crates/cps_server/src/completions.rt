@@ -1,221 +1,241 @@
 //! What may be written next.
-ghost use Rattle.std.specs.Prelude.{◌≡◌, map, IfOk, OnOk};
-ghost use Rattle.serde_json.specs.Data.{string};
-ghost use Rattle.serde_json.specs.View.{view};
-ghost use Rattle.cps_server.specs.Ranges.{word_at};
-ghost use Rattle.cps_server.specs.Results.{TellsCompletions, completion, edit};
-ghost use Rattle.cps_server.specs.Code.Telling.{KeepsCompletions};
+ghost use Rattle.std.specs.Prelude.{◌≡◌, ◌∷◌, [], IfOk, OnOk};
+ghost use Rattle.serde_json.specs.Data.{array};
+ghost use Rattle.serde_json.specs.View.{items_of, view};
+ghost use Rattle.cps_server.specs.Completions as completions;
+ghost use Rattle.cps_server.specs.Code.Telling.{AddsOffers, completions_of_deck, offers_for};
 
 use crate::document::Document;
-use crate::mentions::definitions_in;
-use crate::operations::{CENTRAL, CENTRAL_WITH_REGISTER, PERIPHERAL, STATEMENTS};
+use crate::field::{Field, field_at};
+use crate::machine_above::machine_at;
+use crate::names::{defined_in, macros_in, missing_in};
+use crate::offers::{Sort, push_item, push_spelled, push_with_digits};
+use crate::operations::{instruction_names, machine_name, register_letters, statement_names};
 use crate::queried_text::QueriedText;
 use crate::ranges::word_range;
-use cps_list::{View, push_value, symbol_value};
+use crate::symbols::value_text;
+use cps_expr::Machine;
 use cps_rpc::Position;
-use cps_state::{Hashing, Key};
 use cps_text::Name;
-use indexmap::IndexSet;
-use serde_json::{Value, json};
+use serde_json::Value;
 use std::alloc::{AllocError, Global};
 
 /// The kinds of what is offered, as the protocol counts them.
 const FUNCTION: u32 = 3;
 
+const VARIABLE: u32 = 6;
+
 const KEYWORD: u32 = 14;
 
 const CONSTANT: u32 = 21;
 
-/// What is told beside macros and operations.
-const MACRO: Sort<'static> = Sort {
-    kind: FUNCTION,
-    detail: b"macro",
-};
-
-const STATEMENT: Sort<'static> = Sort {
-    kind: KEYWORD,
-    detail: b"statement",
-};
-
-const INSTRUCTION: Sort<'static> = Sort {
-    kind: KEYWORD,
-    detail: b"central processor",
-};
-
-const PERIPHERAL_INSTRUCTION: Sort<'static> = Sort {
-    kind: KEYWORD,
-    detail: b"peripheral processor",
-};
-
-/// The registers of a kind.
-const REGISTERS: [&str; 8] = ["0", "1", "2", "3", "4", "5", "6", "7"];
-
-/// What is told beside a word that is offered.
+/// Where a word is to stand: in which field, of a line for which machine.
 #[derive(Clone, Copy)]
-struct Sort<'a> {
-    kind: u32,
-    detail: &'a [u8],
+pub struct Seat {
+    pub field: Field,
+    pub machine: Machine,
 }
 
-/// What may be written in the place of the word around a position of a deck: its symbols with their values, its macros, and the operations of both processors.
+/// What may be written in the place of the word around a position of a deck, by the field in which it stands: symbols that lines read and none
+/// defines; macros, and the operations of the line's machine; symbols with their values, and registers; or nothing.
 pub fn tell_completions(
     alloc: Global,
     deck: QueriedText<'_>,
     position: Position,
 ) -> Result<Value, AllocError>
-    ensures { IfOk result (λ json. TellsCompletions (word_at deck.entry.encoding deck.entry.document.now position) (view json)) }
+    ensures { IfOk result (λ json. view json ≡ array (items_of (completions_of_deck deck.entry position))) }
 {
     let range = word_range(alloc, deck, position)?;
+    let field = field_at(alloc, deck, position)?;
+    let seat = Seat {
+        field,
+        machine: machine_at(deck.document, position.line),
+    };
     let mut told = Vec::new(alloc);
-    push_symbols(alloc, deck.document, &range, &mut told)?;
-    push_macros(alloc, deck.document, &range, &mut told)?;
-    push_operations(alloc, &range, &mut told)?;
+    push_offered(alloc, deck.document, seat, &range, &mut told)?;
     Ok(Value::from(told))
 }
 
-/// Appends the symbols that lines define, each once.
-fn push_symbols(
+/// Appends what is offered.
+fn push_offered(
+    alloc: Global,
+    document: &Document,
+    seat: Seat,
+    range: &Value,
+    told: &mut Vec<Value>,
+) -> Result<(), AllocError>
+    ensures { OnOk result (AddsOffers range.now (offers_for seat document.now) told.old.items told.new.items) }
+{
+    match seat.field {
+        Field::Location => push_missing(alloc, document, range, told),
+        Field::Operation => push_operations(alloc, document, seat.machine, range, told),
+        Field::Operand => push_operands(alloc, document, seat.machine, range, told),
+        Field::Remark => Ok(()),
+    }
+}
+
+// ---- symbols
+
+/// Appends the symbols that lines read and none defines.
+fn push_missing(
     alloc: Global,
     document: &Document,
     range: &Value,
     told: &mut Vec<Value>,
 ) -> Result<(), AllocError>
-    ensures { OnOk result (KeepsCompletions (view range.now) (map view told.old.items) (map view told.new.items)) }
+    ensures { OnOk result (AddsOffers range.now (completions.missing_offers document.now) told.old.items told.new.items) }
 {
-    let finals = document.session().finals();
-    let definitions = definitions_in(alloc, document)?;
-    let mut names: IndexSet<Name, Hashing> = IndexSet::with_hasher(alloc, finals.hashing());
-    for definition in &definitions {
-        names.insert(definition.name)?;
+    let names = missing_in(alloc, document)?;
+    push_symbols(alloc, document, names.as_slice(), range, told)
+}
+
+/// Appends what operands name: the symbols that lines define, and the registers of a machine.
+fn push_operands(
+    alloc: Global,
+    document: &Document,
+    machine: Machine,
+    range: &Value,
+    told: &mut Vec<Value>,
+) -> Result<(), AllocError>
+    ensures { OnOk result (AddsOffers range.now (completions.operand_offers machine document.now) told.old.items told.new.items) }
+{
+    let names = defined_in(alloc, document)?;
+    push_symbols(alloc, document, names.as_slice(), range, told)?;
+    push_registers(alloc, machine, range, told)
+}
+
+/// Appends symbols with their values.
+fn push_symbols(
+    alloc: Global,
+    document: &Document,
+    names: &[Name],
+    range: &Value,
+    told: &mut Vec<Value>,
+) -> Result<(), AllocError>
+    ensures { OnOk result (AddsOffers range.now (completions.symbol_offers document.now names.now) told.old.items told.new.items) }
+{
+    for name in names {
+        push_symbol(alloc, document, *name, range, told)?;
     }
-    let mut value = Vec::new(alloc);
-    for name in names.as_slice() {
-        value.clear();
-        push_value(&mut value, symbol_value(finals, *name))?;
-        let sort = Sort {
-            kind: CONSTANT,
-            detail: &value,
-        };
+    Ok(())
+}
+
+fn push_symbol(
+    alloc: Global,
+    document: &Document,
+    name: Name,
+    range: &Value,
+    told: &mut Vec<Value>,
+) -> Result<(), AllocError>
+    ensures { OnOk result (AddsOffers range.now (completions.symbol_offers document.now (name ∷ [])) told.old.items told.new.items) }
+{
+    let value = value_text(alloc, document, name)?;
+    push_constant(alloc, range, told, name.text(), &value)?;
+    Ok(())
+}
+
+/// Appends a symbol with its final value beside it.
+fn push_constant(
+    alloc: Global,
+    range: &Value,
+    told: &mut Vec<Value>,
+    name: &[u8],
+    value: &[u8],
+) -> Result<(), AllocError>
+    ensures { OnOk result (AddsOffers range.now (completions.valued_offer name.now value.now ∷ []) told.old.items told.new.items) }
+{
+    let sort = Sort {
+        kind: CONSTANT,
+        detail: value,
+    };
+    push_item(alloc, range, told, name, sort)
+}
+
+/// Appends the registers that operands for a machine name.
+fn push_registers(
+    alloc: Global,
+    machine: Machine,
+    range: &Value,
+    told: &mut Vec<Value>,
+) -> Result<(), AllocError>
+    ensures { OnOk result (AddsOffers range.now (completions.register_offers machine) told.old.items told.new.items) }
+{
+    let sort = Sort {
+        kind: VARIABLE,
+        detail: b"register",
+    };
+    let letters = register_letters(machine);
+    for letter in letters {
+        push_with_digits(alloc, range, told, letter.as_bytes(), sort)?;
+    }
+    Ok(())
+}
+
+// ---- operations
+
+/// Appends the macros, the statements, and the instructions of a machine.
+fn push_operations(
+    alloc: Global,
+    document: &Document,
+    machine: Machine,
+    range: &Value,
+    told: &mut Vec<Value>,
+) -> Result<(), AllocError>
+    ensures { OnOk result (AddsOffers range.now (completions.operation_offers machine document.now) told.old.items told.new.items) }
+{
+    let macros = macros_in(alloc, document)?;
+    push_macros(alloc, macros.as_slice(), range, told)?;
+    push_statements(alloc, range, told)?;
+    push_instructions(alloc, machine, range, told)
+}
+
+fn push_macros(
+    alloc: Global,
+    names: &[Name],
+    range: &Value,
+    told: &mut Vec<Value>,
+) -> Result<(), AllocError>
+    ensures { OnOk result (AddsOffers range.now (completions.macro_offers names.now) told.old.items told.new.items) }
+{
+    let sort = Sort {
+        kind: FUNCTION,
+        detail: b"macro",
+    };
+    for name in names {
         push_item(alloc, range, told, name.text(), sort)?;
     }
     Ok(())
 }
 
-/// Appends the macros that lines define, each once.
-fn push_macros(
-    alloc: Global,
-    document: &Document,
-    range: &Value,
-    told: &mut Vec<Value>,
-) -> Result<(), AllocError>
-    ensures { OnOk result (KeepsCompletions (view range.now) (map view told.old.items) (map view told.new.items)) }
+fn push_statements(alloc: Global, range: &Value, told: &mut Vec<Value>) -> Result<(), AllocError>
+    ensures { OnOk result (AddsOffers range.now completions.statement_offers told.old.items told.new.items) }
 {
-    let names = macros_in(alloc, document)?;
-    for name in names.as_slice() {
-        push_item(alloc, range, told, name.text(), MACRO)?;
-    }
-    Ok(())
-}
-
-fn macros_in(alloc: Global, document: &Document) -> Result<IndexSet<Name, Hashing>, AllocError> {
-    let session = document.session();
-    let mut names = IndexSet::with_hasher(alloc, session.finals().hashing());
-    for trace in session.traces() {
-        for put in trace.puts() {
-            if let Key::Macro(name) = put.key {
-                names.insert(name)?;
-            }
-        }
-    }
-    Ok(names)
-}
-
-/// Appends the operations.
-fn push_operations(alloc: Global, range: &Value, told: &mut Vec<Value>) -> Result<(), AllocError>
-    ensures { OnOk result (KeepsCompletions (view range.now) (map view told.old.items) (map view told.new.items)) }
-{
-    push_names(alloc, range, told, &STATEMENTS, STATEMENT)?;
-    push_names(alloc, range, told, &CENTRAL, INSTRUCTION)?;
-    push_register_names(alloc, range, told)?;
-    push_names(alloc, range, told, &PERIPHERAL, PERIPHERAL_INSTRUCTION)
-}
-
-/// Appends names of operations.
-fn push_names(
-    alloc: Global,
-    range: &Value,
-    told: &mut Vec<Value>,
-    names: &[&str],
-    sort: Sort<'_>,
-) -> Result<(), AllocError>
-    ensures { OnOk result (KeepsCompletions (view range.now) (map view told.old.items) (map view told.new.items)) }
-{
+    let sort = Sort {
+        kind: KEYWORD,
+        detail: b"statement",
+    };
+    let names = statement_names();
     for name in names {
         push_item(alloc, range, told, name.as_bytes(), sort)?;
     }
     Ok(())
 }
 
-/// Appends the names of instructions that have the digit of a register.
-fn push_register_names(
+fn push_instructions(
     alloc: Global,
+    machine: Machine,
     range: &Value,
     told: &mut Vec<Value>,
 ) -> Result<(), AllocError>
-    ensures { OnOk result (KeepsCompletions (view range.now) (map view told.old.items) (map view told.new.items)) }
+    ensures { OnOk result (AddsOffers range.now (completions.instruction_offers machine) told.old.items told.new.items) }
 {
-    for letters in &CENTRAL_WITH_REGISTER {
-        push_with_registers(alloc, range, told, letters)?;
+    let sort = Sort {
+        kind: KEYWORD,
+        detail: machine_name(machine),
+    };
+    let names = instruction_names(machine);
+    for name in names {
+        push_spelled(alloc, range, told, name.as_bytes(), sort)?;
     }
     Ok(())
-}
-
-/// Appends a name with the digit of each register.
-fn push_with_registers(
-    alloc: Global,
-    range: &Value,
-    told: &mut Vec<Value>,
-    letters: &str,
-) -> Result<(), AllocError>
-    ensures { OnOk result (KeepsCompletions (view range.now) (map view told.old.items) (map view told.new.items)) }
-{
-    let mut name = Vec::new(alloc);
-    for register in &REGISTERS {
-        name.clear();
-        name.extend_from_slice(letters.as_bytes())?;
-        name.extend_from_slice(register.as_bytes())?;
-        push_item(alloc, range, told, &name, INSTRUCTION)?;
-    }
-    Ok(())
-}
-
-/// Appends what may be written in the place of a range, and what is told beside it.
-fn push_item(
-    alloc: Global,
-    range: &Value,
-    told: &mut Vec<Value>,
-    label: &[u8],
-    sort: Sort<'_>,
-) -> Result<(), AllocError>
-    ensures { OnOk result (KeepsCompletions (view range.now) (map view told.old.items) (map view told.new.items)) }
-{
-    told.push(item(alloc, range, label, sort)?)?;
-    Ok(())
-}
-
-fn item(alloc: Global, range: &Value, label: &[u8], sort: Sort<'_>) -> Result<Value, AllocError>
-    ensures { IfOk result (λ json. view json ≡ completion (view range.now) sort.entry.kind label.now sort.entry.detail.now) }
-{
-    let kind = sort.kind;
-    let label = String::from_utf8_lossy(alloc, label)?;
-    let detail = String::from_utf8_lossy(alloc, sort.detail)?;
-    let edit = edit_of(alloc, range, &label)?;
-    json!(in alloc; {"detail": (&detail), "kind": kind, "label": (&label), "textEdit": edit})
-}
-
-/// A text that comes in the place of a range.
-fn edit_of(alloc: Global, range: &Value, text: &str) -> Result<Value, AllocError>
-    ensures { IfOk result (λ json. view json ≡ edit (view range.now) (string text.now)) }
-{
-    json!(in alloc; {"newText": text, "range": range})
 }

@@ -22,6 +22,7 @@ fn capabilities(alloc: Global, encoding: Encoding) -> Result<Value, AllocError>
     json!(in alloc; {
         "completionProvider": {},
         "definitionProvider": true,
+        "documentHighlightProvider": true,
         "documentSymbolProvider": true,
         "hoverProvider": true,
         "inlayHintProvider": true,

@@ -9,6 +9,7 @@
 //! - `diagnostics.rt`: the diagnostics of a text, and how an editor is told them
 //! - `document.rt`: the document
 //! - `document_laws.rt`: what holds of the source of a text
+//! - `field.rt`: the field of a line in which a word stands
 //! - `hint.rt`: what is shown beside a line
 //! - `hints.rt`: what is shown beside lines, as it is told
 //! - `hovering.rt`: what is shown at a position
@@ -16,12 +17,15 @@
 //! - `line_marks.rt`: the marks of a line
 //! - `listing.rt`: the listing of lines
 //! - `locations.rt`: the places of a symbol, as they are told
+//! - `machine_above.rt`: the machine for which a line is assembled
 //! - `mark.rt`: a mark
 //! - `mark_kind.rt`: what a mark marks
 //! - `marking.rt`: the marks of a text
 //! - `marks_laws.rt`: what holds of the marks of a text
 //! - `mentions.rt`: the symbol at a position, and the lines on which it stands
+//! - `names.rt`: names that lines define or read
 //! - `notice.rt`: the notifications that a server hears
+//! - `offers.rt`: words that are offered
 //! - `open_texts.rt`: the texts that are open
 //! - `operations.rt`: the names of operations
 //! - `owed.rt`: what is owed to a request
@@ -48,6 +52,7 @@ mod diagnostic;
 mod diagnostics;
 mod document;
 mod document_laws;
+mod field;
 mod hint;
 mod hints;
 mod hovering;
@@ -55,12 +60,15 @@ mod introducing;
 mod line_marks;
 mod listing;
 mod locations;
+mod machine_above;
 mod mark;
 mod mark_kind;
 mod marking;
 mod marks_laws;
 mod mentions;
+mod names;
 mod notice;
+mod offers;
 mod open_texts;
 mod operations;
 mod owed;

@@ -1,10 +1,11 @@
 //! The lines on which a symbol stands.
-ghost use Rattle.std.specs.Prelude.{◌≡◌, IfOk};
+ghost use Rattle.std.specs.Prelude.{◌≡◌, ◌-◌, IfOk};
 ghost use Rattle.serde_json.specs.View.{view};
 ghost use Rattle.cps_server.specs.Symbols.{definitions};
 ghost use Rattle.cps_server.specs.Queries.{wanted};
 ghost use Rattle.cps_server.specs.Ranges as ranges;
-ghost use Rattle.cps_server.specs.Results.{TellsEach, TellsFirst, TellsMention};
+ghost use Rattle.cps_server.specs.Ranges.{IsInLine};
+ghost use Rattle.cps_server.specs.Results.{TellsEach, TellsFirst, TellsHighlight, TellsMention, highlight, highlight_kind as kind_of};
 ghost use Rattle.cps_server.specs.Code.Telling.{mentions_of_deck};
 
 use crate::columns::columns_of;
@@ -44,6 +45,18 @@ pub fn references_at(
     tell_mentions(alloc, deck, &mentions)
 }
 
+/// The same with those that define it, each as it counts.
+pub fn highlights_at(
+    alloc: Global,
+    deck: QueriedText<'_>,
+    position: Position,
+) -> Result<Value, AllocError>
+    ensures { IfOk result (λ json. TellsEach TellsHighlight (mentions_of_deck deck.entry position) (view json)) }
+{
+    let mentions = mentions_at(alloc, deck.document, deck.encoding, position)?;
+    tell_highlights(alloc, deck, &mentions)
+}
+
 /// The line of the first mention; null where there is none.
 fn tell_first(
     alloc: Global,
@@ -81,11 +94,61 @@ fn tell_mention(
 ) -> Result<Value, AllocError>
     ensures { IfOk result (λ json. TellsMention deck.entry.uri.now mention.now (view json)) }
 {
+    let range = mention_range(alloc, deck, mention)?;
+    location(alloc, deck.uri, range)
+}
+
+/// Mentions, each as it counts.
+fn tell_highlights(
+    alloc: Global,
+    deck: QueriedText<'_>,
+    mentions: &[Mention],
+) -> Result<Value, AllocError>
+    ensures { IfOk result (λ json. TellsEach TellsHighlight mentions.now (view json)) }
+{
+    let mut told = Vec::new(alloc);
+    for mention in mentions {
+        told.push(tell_highlight(alloc, deck, mention)?)?;
+    }
+    Ok(Value::from(told))
+}
+
+fn tell_highlight(
+    alloc: Global,
+    deck: QueriedText<'_>,
+    mention: &Mention,
+) -> Result<Value, AllocError>
+    ensures { IfOk result (λ json. TellsHighlight mention.now (view json)) }
+{
+    let range = mention_range(alloc, deck, mention)?;
+    highlight(alloc, highlight_kind(mention.is_definition), range)
+}
+
+/// How a mention counts, as the protocol has it: that it writes, or that it reads.
+fn highlight_kind(is_definition: bool) -> u32
+    ensures { result ≡ kind_of is_definition }
+{
+    if is_definition { 3 } else { 2 }
+}
+
+fn highlight(alloc: Global, kind: u32, range: Value) -> Result<Value, AllocError>
+    ensures { IfOk result (λ json. view json ≡ highlight kind (view range)) }
+{
+    json!(in alloc; {"kind": kind, "range": range})
+}
+
+/// Where a symbol stands in the line of its mention.
+fn mention_range(
+    alloc: Global,
+    deck: QueriedText<'_>,
+    mention: &Mention,
+) -> Result<Value, AllocError>
+    ensures { IfOk result (λ json. IsInLine (mention.now.line - 1) (view json)) }
+{
     let number = mention.line.saturating_sub(1);
     let line = line_of(deck.document, number);
     let columns = columns_of(line, mention.name);
-    let range = columns_range(alloc, deck.encoding, line, number, columns)?;
-    location(alloc, deck.uri, range)
+    columns_range(alloc, deck.encoding, line, number, columns)
 }
 
 /// A range in a document.

@@ -53,8 +53,16 @@ pub fn mentions_of(
 ) -> Result<Vec<Mention>, AllocError>
     ensures { IfOk result (λ mentions. mentions.items ≡ symbols.mentions_under (Some name) (symbols.mentions_in document.now)) }
 {
-    let mut mentions = list_mentions(alloc, document.session())?;
+    let mut mentions = mentions_in(alloc, document)?;
     mentions.retain(|mention| mention.name == name);
+    Ok(mentions)
+}
+
+/// The symbols that lines of a document's text define and read, in the order of the lines. It takes time for each line of the text.
+pub fn mentions_in(alloc: Global, document: &Document) -> Result<Vec<Mention>, AllocError>
+    ensures { IfOk result (λ mentions. mentions.items ≡ symbols.mentions_in document.now) }
+{
+    let mentions = list_mentions(alloc, document.session())?;
     Ok(mentions)
 }
 
@@ -62,7 +70,7 @@ pub fn mentions_of(
 pub fn definitions_in(alloc: Global, document: &Document) -> Result<Vec<Mention>, AllocError>
     ensures { IfOk result (λ mentions. mentions.items ≡ symbols.definitions (symbols.mentions_in document.now)) }
 {
-    let mut mentions = list_mentions(alloc, document.session())?;
+    let mut mentions = mentions_in(alloc, document)?;
     mentions.retain(|mention| mention.is_definition);
     Ok(mentions)
 }

@@ -11,6 +11,8 @@ pub enum Query {
     Definition,
     /// Where the symbol at a position stands.
     References,
+    /// Where the symbol at a position is shown in another colour.
+    Highlights,
     /// All symbols that lines define.
     Symbols,
     /// What is shown beside the lines of a range.
@@ -30,6 +32,7 @@ impl Query {
             "textDocument/hover" => Some(Query::Hover),
             "textDocument/definition" => Some(Query::Definition),
             "textDocument/references" => Some(Query::References),
+            "textDocument/documentHighlight" => Some(Query::Highlights),
             "textDocument/documentSymbol" => Some(Query::Symbols),
             "textDocument/inlayHint" => Some(Query::Hints),
             "textDocument/completion" => Some(Query::Completions),

@@ -57,7 +57,7 @@ fn tell_symbol(
 }
 
 /// The final value of a symbol, as the cross-reference has it.
-fn value_text(alloc: Global, document: &Document, name: Name) -> Result<Vec<u8>, AllocError>
+pub fn value_text(alloc: Global, document: &Document, name: Name) -> Result<Vec<u8>, AllocError>
     ensures { IfOk result (λ value. value.items ≡ texts.value_text (texts.value_of (finals_in document.now) name)) }
 {
     let mut text = Vec::new(alloc);

@@ -1,6 +1,7 @@
 //! Tests of a server for editors, by rows of conversations: what it says is that of the Language Server Protocol and of the definitions.
 //!
 //! - `asking.rt`: questions about an open text
+//! - `completion_rows.rt`: words that may be typed
 //! - `conversation.rt`: conversations with a server
 //! - `decks.rt`: decks that an editor opens
 //! - `device_rows.rt`: where bytes come in pieces, and where a read or a write fails
@@ -15,6 +16,7 @@
 //! - `text_rows.rt`: what is told of open texts
 
 mod asking;
+mod completion_rows;
 mod conversation;
 mod decks;
 mod device_rows;

@@ -53,6 +53,17 @@ const LABELS: Inquiry = Inquiry {
             r#","position":{"line":7,"character":3},"context":{"includeDeclaration":true}"#,
             r#"[{"range":{"end":{"character":22,"line":3},"start":{"character":17,"line":3}},"uri":"a"},{"range":{"end":{"character":5,"line":7},"start":{"character":0,"line":7}},"uri":"a"}]"#,
         ),
+        (
+            "documentHighlight",
+            r#","position":{"line":7,"character":3}"#,
+            r#"[{"kind":2,"range":{"end":{"character":22,"line":3},"start":{"character":17,"line":3}}},{"kind":3,"range":{"end":{"character":5,"line":7},"start":{"character":0,"line":7}}}]"#,
+        ),
+        // an operation
+        (
+            "documentHighlight",
+            r#","position":{"line":4,"character":11}"#,
+            "[]",
+        ),
         // without a context
         (
             "references",
@@ -108,6 +119,12 @@ const EXPANSION: Inquiry = Inquiry {
     lines: PAIR,
     told: "[]",
     questions: &[
+        // the call defines SECOND
+        (
+            "documentHighlight",
+            r#","position":{"line":6,"character":17}"#,
+            r#"[{"kind":3,"range":{"end":{"character":22,"line":4},"start":{"character":10,"line":4}}},{"kind":2,"range":{"end":{"character":23,"line":6},"start":{"character":17,"line":6}}}]"#,
+        ),
         (
             "definition",
             r#","position":{"line":5,"character":17}"#,
@@ -160,6 +177,11 @@ const SET: Inquiry = Inquiry {
     lines: SETTINGS,
     told: "[]",
     questions: &[
+        (
+            "documentHighlight",
+            r#","position":{"line":3,"character":17}"#,
+            r#"[{"kind":3,"range":{"end":{"character":1,"line":0},"start":{"character":0,"line":0}}},{"kind":2,"range":{"end":{"character":18,"line":1},"start":{"character":17,"line":1}}},{"kind":3,"range":{"end":{"character":1,"line":2},"start":{"character":0,"line":2}}},{"kind":2,"range":{"end":{"character":1,"line":2},"start":{"character":0,"line":2}}},{"kind":2,"range":{"end":{"character":18,"line":3},"start":{"character":17,"line":3}}}]"#,
+        ),
         (
             "definition",
             r#","position":{"line":3,"character":17}"#,

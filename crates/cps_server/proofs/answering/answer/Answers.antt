@@ -15,6 +15,11 @@ returns-in-References-clause-floats c =
     if-ok-as c.answer_references.result
     (λ told. tells-no-float queries.References (view c.args.params.now) c.args.deck.encoding c.args.deck.markup c.args.deck.uri.now c.args.deck.document.now (option_map view told)) c.answer_references.ensures
 
+pub returns-in-Highlights-clause-floats : goal.returns-in-Highlights-clause-floats
+returns-in-Highlights-clause-floats c =
+    if-ok-as c.answer_highlights.result
+    (λ told. tells-no-float queries.Highlights (view c.args.params.now) c.args.deck.encoding c.args.deck.markup c.args.deck.uri.now c.args.deck.document.now (option_map view told)) c.answer_highlights.ensures
+
 pub returns-in-Symbols-clause-floats : goal.returns-in-Symbols-clause-floats
 returns-in-Symbols-clause-floats c =
     if-ok-as c.answer_symbols.result

@@ -1,7 +1,0 @@
-use Rattle.std.proofs.Common.{map}
-use Rattle.serde_json.specs.View.{view}
-use Rattle.cps_server.specs.Code.Telling.{KeepsCompletions}
-use Rattle.cps_server.proofs.completions.push_with_registers.Given as goal
-
-abbrev pub invariant-loop-register : goal.invariant-loop-register
-invariant-loop-register l = KeepsCompletions (view l.range) (map view l.fn.told.items) (map view l.told.items)
