@@ -1,0 +1,2 @@
+pub mod CheckingLemmas
+mod WorkedRows
