@@ -34,7 +34,7 @@ _compass() {
   case $command$before in
     batch--part) _compass_offer -W 'listing binary symbols flags all' ;;
     batch--listing | batch--binary | batch--symbols | batch--flags | session--source) _compass_offer_files ;;
-    compare--format) _compass_offer -W 'rows dump' ;;
+    compare--format) _compass_offer -W 'rows dump own' ;;
     compare--columns | compare--offset | compare--from | compare--to) ;;
     *)
       case $command,$word in

@@ -20,7 +20,7 @@ complete -c compass -n '__fish_seen_subcommand_from check' -F
 
 complete -c compass -n __fish_use_subcommand -a compare -d 'Compare the words of a source with an octal listing or dump'
 complete -c compass -n '__fish_seen_subcommand_from compare' -F
-complete -c compass -n '__fish_seen_subcommand_from compare' -l format -x -a 'rows dump' -d 'How rows of the octal text are read'
+complete -c compass -n '__fish_seen_subcommand_from compare' -l format -x -a 'rows dump own' -d 'How rows of the octal text are read'
 complete -c compass -n '__fish_seen_subcommand_from compare' -l columns -x -d 'Columns of each row that are read, first-last'
 complete -c compass -n '__fish_seen_subcommand_from compare' -l offset -x -d 'What is added to each address, in octal'
 complete -c compass -n '__fish_seen_subcommand_from compare' -l from -x -d 'First address, in octal'

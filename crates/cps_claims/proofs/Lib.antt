@@ -1,3 +1,4 @@
+pub mod ListedLemmas
 mod WorkedRows
 pub mod PartLemmas
 pub mod CutLemmas

@@ -8,6 +8,7 @@ use Rattle.cps_claims.specs.declared.layout.WordForm.{WordForm}
 use Rattle.cps_claims.specs.declared.layout.WordForm.TheVariants.{Central, Peripheral}
 use Rattle.cps_claims.specs.declared.layout.OctalLayout.{OctalLayout}
 use Rattle.cps_claims.specs.declared.reading.OctalReading.{OctalReading}
+use Rattle.cps_claims.specs.declared.reading.RowKinds.{RowKinds}
 use Rattle.cps_claims.specs.declared.reading.OctalReader.{OctalReader}
 use Rattle.cps_claims.specs.Words.{size_of}
 use Rattle.cps_claims.specs.Columns.{columns_read}
@@ -17,7 +18,7 @@ use Rattle.cps_claims.specs.Claims.{Claimed, digits_from, claims_from}
 use Rattle.cps_claims.specs.Reading.{is_read, is_blank_row, is_other, is_unread, unread_from, first_other_from, IsReading}
 use Rattle.cps_claims.specs.Code.Held.{Holds}
 use Rattle.cps_claims.specs.Code.Slots.{WordState, with_claim, after}
-use Rattle.cps_claims.specs.Code.States.{ReadingState, at_first, state_of, with_row, with_rows, found_by, Reads}
+use Rattle.cps_claims.specs.Code.States.{ReadingState, KindsState, at_first, no_kinds, state_of, kinds_of, with_kind, with_kinds, with_row, with_rows, found_by, Reads}
 
 -- what a reader finds in a row is what the row is
 found-same : (layout : OctalLayout) (old : OctalReader) (row : List ℕ) (rows : List (List ℕ)) → old.layout ≡ layout → found_by old row rows
@@ -69,58 +70,58 @@ none-more test row rows old later is h =
     sum_by-cons (λ x. cond (test x) 1 0) row rows ∙ ap (λ b. cond b 1 0 + count_by test rows) is in
     omega (arith, e, h)
 
-all_read : (form : WordForm) (number : ℕ) (state : ReadingState) (rows : List Row) → (with_rows form number state rows).counts.read ≡ state.counts.read + count_by is_read rows
-all_read form number state [] = omega arith
-all_read form number state (read claim ∷ rows) =
-    one-more is_read (read claim) rows state.counts.read _ refl (all_read form (number + 1) (with_row form number state (read claim)) rows)
-all_read form number state (blank ∷ rows) =
-    none-more is_read blank rows state.counts.read _ refl (all_read form (number + 1) (with_row form number state blank) rows)
-all_read form number state (other ∷ rows) =
-    none-more is_read other rows state.counts.read _ refl (all_read form (number + 1) (with_row form number state other) rows)
-all_read form number state (unread reason ∷ rows) =
-    none-more is_read (unread reason) rows state.counts.read _ refl (all_read form (number + 1) (with_row form number state (unread reason)) rows)
+all_read : (number : ℕ) (kinds : KindsState) (rows : List Row) → (with_kinds number kinds rows).counts.read ≡ kinds.counts.read + count_by is_read rows
+all_read number kinds [] = omega arith
+all_read number kinds (read claim ∷ rows) =
+    one-more is_read (read claim) rows kinds.counts.read _ refl (all_read (number + 1) (with_kind number kinds (read claim)) rows)
+all_read number kinds (blank ∷ rows) =
+    none-more is_read blank rows kinds.counts.read _ refl (all_read (number + 1) (with_kind number kinds blank) rows)
+all_read number kinds (other ∷ rows) =
+    none-more is_read other rows kinds.counts.read _ refl (all_read (number + 1) (with_kind number kinds other) rows)
+all_read number kinds (unread reason ∷ rows) =
+    none-more is_read (unread reason) rows kinds.counts.read _ refl (all_read (number + 1) (with_kind number kinds (unread reason)) rows)
 
-all_blank : (form : WordForm) (number : ℕ) (state : ReadingState) (rows : List Row) → (with_rows form number state rows).counts.blank ≡ state.counts.blank + count_by is_blank_row rows
-all_blank form number state [] = omega arith
-all_blank form number state (read claim ∷ rows) =
-    none-more is_blank_row (read claim) rows state.counts.blank _ refl (all_blank form (number + 1) (with_row form number state (read claim)) rows)
-all_blank form number state (blank ∷ rows) =
-    one-more is_blank_row blank rows state.counts.blank _ refl (all_blank form (number + 1) (with_row form number state blank) rows)
-all_blank form number state (other ∷ rows) =
-    none-more is_blank_row other rows state.counts.blank _ refl (all_blank form (number + 1) (with_row form number state other) rows)
-all_blank form number state (unread reason ∷ rows) =
-    none-more is_blank_row (unread reason) rows state.counts.blank _ refl (all_blank form (number + 1) (with_row form number state (unread reason)) rows)
+all_blank : (number : ℕ) (kinds : KindsState) (rows : List Row) → (with_kinds number kinds rows).counts.blank ≡ kinds.counts.blank + count_by is_blank_row rows
+all_blank number kinds [] = omega arith
+all_blank number kinds (read claim ∷ rows) =
+    none-more is_blank_row (read claim) rows kinds.counts.blank _ refl (all_blank (number + 1) (with_kind number kinds (read claim)) rows)
+all_blank number kinds (blank ∷ rows) =
+    one-more is_blank_row blank rows kinds.counts.blank _ refl (all_blank (number + 1) (with_kind number kinds blank) rows)
+all_blank number kinds (other ∷ rows) =
+    none-more is_blank_row other rows kinds.counts.blank _ refl (all_blank (number + 1) (with_kind number kinds other) rows)
+all_blank number kinds (unread reason ∷ rows) =
+    none-more is_blank_row (unread reason) rows kinds.counts.blank _ refl (all_blank (number + 1) (with_kind number kinds (unread reason)) rows)
 
-all_other : (form : WordForm) (number : ℕ) (state : ReadingState) (rows : List Row) → (with_rows form number state rows).counts.other ≡ state.counts.other + count_by is_other rows
-all_other form number state [] = omega arith
-all_other form number state (read claim ∷ rows) =
-    none-more is_other (read claim) rows state.counts.other _ refl (all_other form (number + 1) (with_row form number state (read claim)) rows)
-all_other form number state (blank ∷ rows) =
-    none-more is_other blank rows state.counts.other _ refl (all_other form (number + 1) (with_row form number state blank) rows)
-all_other form number state (other ∷ rows) =
-    one-more is_other other rows state.counts.other _ refl (all_other form (number + 1) (with_row form number state other) rows)
-all_other form number state (unread reason ∷ rows) =
-    none-more is_other (unread reason) rows state.counts.other _ refl (all_other form (number + 1) (with_row form number state (unread reason)) rows)
+all_other : (number : ℕ) (kinds : KindsState) (rows : List Row) → (with_kinds number kinds rows).counts.other ≡ kinds.counts.other + count_by is_other rows
+all_other number kinds [] = omega arith
+all_other number kinds (read claim ∷ rows) =
+    none-more is_other (read claim) rows kinds.counts.other _ refl (all_other (number + 1) (with_kind number kinds (read claim)) rows)
+all_other number kinds (blank ∷ rows) =
+    none-more is_other blank rows kinds.counts.other _ refl (all_other (number + 1) (with_kind number kinds blank) rows)
+all_other number kinds (other ∷ rows) =
+    one-more is_other other rows kinds.counts.other _ refl (all_other (number + 1) (with_kind number kinds other) rows)
+all_other number kinds (unread reason ∷ rows) =
+    none-more is_other (unread reason) rows kinds.counts.other _ refl (all_other (number + 1) (with_kind number kinds (unread reason)) rows)
 
-all_unread : (form : WordForm) (number : ℕ) (state : ReadingState) (rows : List Row) → (with_rows form number state rows).counts.unread ≡ state.counts.unread + count_by is_unread rows
-all_unread form number state [] = omega arith
-all_unread form number state (read claim ∷ rows) =
-    none-more is_unread (read claim) rows state.counts.unread _ refl (all_unread form (number + 1) (with_row form number state (read claim)) rows)
-all_unread form number state (blank ∷ rows) =
-    none-more is_unread blank rows state.counts.unread _ refl (all_unread form (number + 1) (with_row form number state blank) rows)
-all_unread form number state (other ∷ rows) =
-    none-more is_unread other rows state.counts.unread _ refl (all_unread form (number + 1) (with_row form number state other) rows)
-all_unread form number state (unread reason ∷ rows) =
-    one-more is_unread (unread reason) rows state.counts.unread _ refl (all_unread form (number + 1) (with_row form number state (unread reason)) rows)
+all_unread : (number : ℕ) (kinds : KindsState) (rows : List Row) → (with_kinds number kinds rows).counts.unread ≡ kinds.counts.unread + count_by is_unread rows
+all_unread number kinds [] = omega arith
+all_unread number kinds (read claim ∷ rows) =
+    none-more is_unread (read claim) rows kinds.counts.unread _ refl (all_unread (number + 1) (with_kind number kinds (read claim)) rows)
+all_unread number kinds (blank ∷ rows) =
+    none-more is_unread blank rows kinds.counts.unread _ refl (all_unread (number + 1) (with_kind number kinds blank) rows)
+all_unread number kinds (other ∷ rows) =
+    none-more is_unread other rows kinds.counts.unread _ refl (all_unread (number + 1) (with_kind number kinds other) rows)
+all_unread number kinds (unread reason ∷ rows) =
+    one-more is_unread (unread reason) rows kinds.counts.unread _ refl (all_unread (number + 1) (with_kind number kinds (unread reason)) rows)
 
-all_rows : (form : WordForm) (number : ℕ) (state : ReadingState) (rows : List Row) → (with_rows form number state rows).unread_rows ≡ state.unread_rows ++ unread_from number rows
-all_rows form number state [] = sym (append-nil state.unread_rows)
-all_rows form number state (read claim ∷ rows) = all_rows form (number + 1) (with_row form number state (read claim)) rows
-all_rows form number state (blank ∷ rows) = all_rows form (number + 1) (with_row form number state blank) rows
-all_rows form number state (other ∷ rows) = all_rows form (number + 1) (with_row form number state other) rows
-all_rows form number state (unread reason ∷ rows) =
-    all_rows form (number + 1) (with_row form number state (unread reason)) rows
-    ∙ append_assoc state.unread_rows (record { number = number; reason = reason } ∷ []) (unread_from (number + 1) rows)
+all_rows : (number : ℕ) (kinds : KindsState) (rows : List Row) → (with_kinds number kinds rows).unread_rows ≡ kinds.unread_rows ++ unread_from number rows
+all_rows number kinds [] = sym (append-nil kinds.unread_rows)
+all_rows number kinds (read claim ∷ rows) = all_rows (number + 1) (with_kind number kinds (read claim)) rows
+all_rows number kinds (blank ∷ rows) = all_rows (number + 1) (with_kind number kinds blank) rows
+all_rows number kinds (other ∷ rows) = all_rows (number + 1) (with_kind number kinds other) rows
+all_rows number kinds (unread reason ∷ rows) =
+    all_rows (number + 1) (with_kind number kinds (unread reason)) rows
+    ∙ append_assoc kinds.unread_rows (record { number = number; reason = reason } ∷ []) (unread_from (number + 1) rows)
 
 or-none : (first : Option ℕ) → first ≡ option_or first None
 or-none None = refl
@@ -130,13 +131,13 @@ or-more : (first : Option ℕ) (number : ℕ) (later : Option ℕ) → option_or
 or-more None number later = refl
 or-more (Some first) number later = refl
 
-all_first : (form : WordForm) (number : ℕ) (state : ReadingState) (rows : List Row) → (with_rows form number state rows).first_other ≡ option_or state.first_other (first_other_from number rows)
-all_first form number state [] = or-none state.first_other
-all_first form number state (read claim ∷ rows) = all_first form (number + 1) (with_row form number state (read claim)) rows
-all_first form number state (blank ∷ rows) = all_first form (number + 1) (with_row form number state blank) rows
-all_first form number state (other ∷ rows) =
-    all_first form (number + 1) (with_row form number state other) rows ∙ or-more state.first_other number (first_other_from (number + 1) rows)
-all_first form number state (unread reason ∷ rows) = all_first form (number + 1) (with_row form number state (unread reason)) rows
+all_first : (number : ℕ) (kinds : KindsState) (rows : List Row) → (with_kinds number kinds rows).first_other ≡ option_or kinds.first_other (first_other_from number rows)
+all_first number kinds [] = or-none kinds.first_other
+all_first number kinds (read claim ∷ rows) = all_first (number + 1) (with_kind number kinds (read claim)) rows
+all_first number kinds (blank ∷ rows) = all_first (number + 1) (with_kind number kinds blank) rows
+all_first number kinds (other ∷ rows) =
+    all_first (number + 1) (with_kind number kinds other) rows ∙ or-more kinds.first_other number (first_other_from (number + 1) rows)
+all_first number kinds (unread reason ∷ rows) = all_first (number + 1) (with_kind number kinds (unread reason)) rows
 
 -- ---- places
 
@@ -186,16 +187,25 @@ rows_all size number (unread reason ∷ rows) some = rows_all size (number + 1) 
 zero-more : (a b : ℕ) → a ≡ 0 + b → a ≡ b
 zero-more a b h = omega arith
 
+-- what the rows are, of all rows
+pub all-kinds : (form : WordForm) (number : ℕ) (state : ReadingState) (rows : List Row) → (with_rows form number state rows).kinds ≡ with_kinds number state.kinds rows
+all-kinds form number state [] = refl
+all-kinds form number state (row ∷ rows) = all-kinds form (number + 1) (with_row form number state row) rows
+
 -- a whole text
-pub is-reading : (layout : OctalLayout) (rows : List Row) (reading : OctalReading) → state_of reading ≡ with_rows layout.form 1 at_first rows → IsReading rows reading
-is-reading layout rows reading is = record {
-  count_read = zero-more _ _ (ap (λ (s : ReadingState). s.counts.read) is ∙ all_read layout.form 1 at_first rows);
-  count_blank = zero-more _ _ (ap (λ (s : ReadingState). s.counts.blank) is ∙ all_blank layout.form 1 at_first rows);
-  count_other = zero-more _ _ (ap (λ (s : ReadingState). s.counts.other) is ∙ all_other layout.form 1 at_first rows);
-  count_unread = zero-more _ _ (ap (λ (s : ReadingState). s.counts.unread) is ∙ all_unread layout.form 1 at_first rows);
-  first_other = ap (λ (s : ReadingState). s.first_other) is ∙ all_first layout.form 1 at_first rows;
-  unread_rows = ap (λ (s : ReadingState). s.unread_rows) is ∙ all_rows layout.form 1 at_first rows;
+pub are-kinds : (rows : List Row) (kinds : RowKinds) → kinds_of kinds ≡ with_kinds 1 no_kinds rows → IsReading rows kinds
+are-kinds rows kinds is = record {
+  count_read = zero-more _ _ (ap (λ (s : KindsState). s.counts.read) is ∙ all_read 1 no_kinds rows);
+  count_blank = zero-more _ _ (ap (λ (s : KindsState). s.counts.blank) is ∙ all_blank 1 no_kinds rows);
+  count_other = zero-more _ _ (ap (λ (s : KindsState). s.counts.other) is ∙ all_other 1 no_kinds rows);
+  count_unread = zero-more _ _ (ap (λ (s : KindsState). s.counts.unread) is ∙ all_unread 1 no_kinds rows);
+  first_other = ap (λ (s : KindsState). s.first_other) is ∙ all_first 1 no_kinds rows;
+  unread_rows = ap (λ (s : KindsState). s.unread_rows) is ∙ all_rows 1 no_kinds rows;
 }
+
+pub is-reading : (layout : OctalLayout) (rows : List Row) (reading : OctalReading) → state_of reading ≡ with_rows layout.form 1 at_first rows → IsReading rows reading.rows
+is-reading layout rows reading is =
+    are-kinds rows reading.rows (ap (λ (s : ReadingState). s.kinds) is ∙ all-kinds layout.form 1 at_first rows)
 
 -- and what the rows claim is kept
 pub holds-claims : (layout : OctalLayout) (rows : List Row) (reading : OctalReading) → state_of reading ≡ with_rows layout.form 1 at_first rows

@@ -6,3 +6,4 @@ pub mod Slots
 pub mod Held
 pub mod States
 pub mod Kinds
+pub mod Listed

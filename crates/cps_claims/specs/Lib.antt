@@ -8,4 +8,6 @@ pub mod Counts
 pub mod Shown
 pub mod Reading
 pub mod Agreement
+pub mod Listed
+pub mod ListedPlaces
 pub mod Code

@@ -1,7 +1,7 @@
 -- What is known of an octal text behind its last row. Our own.
 use Rattle.std.specs.Prelude.{◌≡◌, ℕ, ◌+◌, Bool, true, false, List, [], ◌∷◌, count_by, Option, None, Some}
 use Rattle.cps_claims.specs.declared.reading.UnreadRow.{UnreadRow}
-use Rattle.cps_claims.specs.declared.reading.OctalReading.{OctalReading}
+use Rattle.cps_claims.specs.declared.reading.RowKinds.{RowKinds}
 use Rattle.cps_claims.specs.Rows.{Row, read, blank, other, unread}
 
 abbrev pub is_read : Row → Bool
@@ -45,10 +45,10 @@ first_other_from number (other ∷ rows) = Some number
 first_other_from number (unread reason ∷ rows) = first_other_from (number + 1) rows
 
 -- Rows are counted by what they are, and those that aren't read are listed. Rows count from 1.
-pub record IsReading (rows : List Row) (reading : OctalReading) : Type 0 where
-  pub count_read : reading.counts.read ≡ count_by is_read rows
-  pub count_blank : reading.counts.blank ≡ count_by is_blank_row rows
-  pub count_other : reading.counts.other ≡ count_by is_other rows
-  pub count_unread : reading.counts.unread ≡ count_by is_unread rows
-  pub first_other : reading.first_other ≡ first_other_from 1 rows
-  pub unread_rows : reading.unread.items ≡ unread_from 1 rows
+pub record IsReading (rows : List Row) (kinds : RowKinds) : Type 0 where
+  pub count_read : kinds.counts.read ≡ count_by is_read rows
+  pub count_blank : kinds.counts.blank ≡ count_by is_blank_row rows
+  pub count_other : kinds.counts.other ≡ count_by is_other rows
+  pub count_unread : kinds.counts.unread ≡ count_by is_unread rows
+  pub first_other : kinds.first_other ≡ first_other_from 1 rows
+  pub unread_rows : kinds.unread.items ≡ unread_from 1 rows

@@ -107,10 +107,17 @@ fn blank_at(bytes: &[u8]) -> Option<usize>
     bytes.iter().position(|byte| is_blank(*byte))
 }
 
-fn is_blank(byte: u8) -> bool
+pub fn is_blank(byte: u8) -> bool
     ensures { result ≡ parts.is_blank byte }
 {
     byte == b' ' || byte == b'\t' || byte == b'\r' || byte == 12 || byte == 11
+}
+
+/// Whether bytes are blanks alone.
+pub fn are_blank(text: &[u8]) -> bool
+    ensures { result ≡ list_all parts.is_blank text.now }
+{
+    text.iter().all(|byte| is_blank(*byte))
 }
 
 pub fn is_octal(byte: u8) -> bool
@@ -176,7 +183,14 @@ pub fn address_in(text: &[u8]) -> Option<u32>
     ensures address { result ≡ parts.address_in text.now }
     ensures few { IfSome result (λ address. address < 2 ^ 18) }
 {
-    let digits = without_end(text);
+    number_in(without_end(text))
+}
+
+/// The number that 1 to 6 octal digits spell.
+pub fn number_in(digits: &[u8]) -> Option<u32>
+    ensures number { result ≡ parts.number_in digits.now }
+    ensures few { IfSome result (λ number. number < 2 ^ 18) }
+{
     if digits.is_empty() || digits.len() > ADDRESS_DIGITS || !are_octal(digits) {
         return None;
     }

@@ -1,5 +1,5 @@
 //! An octal text, row after row.
-ghost use Rattle.std.specs.Prelude.{◌≡◌, ◌∷◌, [], ◌+◌, ◌^◌, ◌<◌, ◌≤◌, IfOk, IfSome, OnOk, length};
+ghost use Rattle.std.specs.Prelude.{◌≡◌, ℕ, List, ◌∷◌, [], ◌+◌, ◌^◌, ◌<◌, ◌≤◌, IfOk, IfSome, OnOk, length};
 ghost use Rattle.std.specs.List.{position, slice_split};
 ghost use Rattle.std.specs.Option.{option_map_or, option_or};
 ghost use Rattle.cps_claims.specs.Columns.{columns_read};
@@ -34,11 +34,9 @@ pub struct UnreadRow {
     pub reason: UnreadReason,
 }
 
-/// What was read of an octal text.
+/// What the rows of a text are.
 #[derive(Drop)]
-pub struct OctalReading {
-    /// The digits that are claimed.
-    pub words: ClaimedWords,
+pub struct RowKinds {
     pub counts: RowCounts,
     /// The number of the first row of other text.
     pub first_other: Option<usize>,
@@ -46,13 +44,12 @@ pub struct OctalReading {
     pub unread: Vec<UnreadRow>,
 }
 
-impl OctalReading {
-    /// No row is read yet. Takes no memory.
-    fn new(alloc: Global) -> OctalReading
-        ensures { states.state_of result ≡ states.at_first }
+impl RowKinds {
+    /// No row yet. Takes no memory.
+    pub(crate) fn new(alloc: Global) -> RowKinds
+        ensures { states.kinds_of result ≡ states.no_kinds }
     {
-        OctalReading {
-            words: ClaimedWords::new(alloc),
+        RowKinds {
             counts: RowCounts {
                 read: 0,
                 blank: 0,
@@ -65,28 +62,14 @@ impl OctalReading {
     }
 
     /// Adds what the row of a number is.
-    fn add(
-        &mut self,
-        form: WordForm,
-        number: usize,
-        row: RowReading,
-        digits: &[u8],
-    ) -> Result<(), AllocError>
+    pub(crate) fn add(&mut self, number: usize, row: RowReading) -> Result<(), AllocError>
         requires few { states.total self.old.counts < 2 ^ 63 }
-        requires within { IsWithin form digits.now row }
-        ensures state { OnOk result (states.AddsRow form number (row_with digits.now row) self.old self.new) }
+        ensures kinds { (digits : List ℕ) → OnOk result (states.kinds_of self.new
+            ≡ states.with_kind number (states.kinds_of self.old) (row_with digits row)) }
         ensures one { OnOk result (states.total self.new.counts ≡ states.total self.old.counts + 1) }
     {
         match row {
-            RowReading::Read { address, place } => {
-                self.counts.read += 1;
-                let claim = RowClaim {
-                    row: number,
-                    address,
-                    place,
-                };
-                self.words.add(form, claim, digits)?;
-            }
+            RowReading::Read { .. } => self.counts.read += 1,
             RowReading::Blank => self.counts.blank += 1,
             RowReading::Other => {
                 self.counts.other += 1;
@@ -96,6 +79,51 @@ impl OctalReading {
                 self.counts.unread += 1;
                 self.unread.push(UnreadRow { number, reason })?;
             }
+        }
+        Ok(())
+    }
+}
+
+/// What was read of an octal text.
+#[derive(Drop)]
+pub struct OctalReading {
+    /// The digits that are claimed.
+    pub words: ClaimedWords,
+    pub rows: RowKinds,
+}
+
+impl OctalReading {
+    /// No row is read yet. Takes no memory.
+    fn new(alloc: Global) -> OctalReading
+        ensures { states.state_of result ≡ states.at_first }
+    {
+        OctalReading {
+            words: ClaimedWords::new(alloc),
+            rows: RowKinds::new(alloc),
+        }
+    }
+
+    /// Adds what the row of a number is.
+    fn add(
+        &mut self,
+        form: WordForm,
+        number: usize,
+        row: RowReading,
+        digits: &[u8],
+    ) -> Result<(), AllocError>
+        requires few { states.total self.old.rows.counts < 2 ^ 63 }
+        requires within { IsWithin form digits.now row }
+        ensures state { OnOk result (states.AddsRow form number (row_with digits.now row) self.old self.new) }
+        ensures one { OnOk result (states.total self.new.rows.counts ≡ states.total self.old.rows.counts + 1) }
+    {
+        self.rows.add(number, row)?;
+        if let RowReading::Read { address, place } = row {
+            let claim = RowClaim {
+                row: number,
+                address,
+                place,
+            };
+            self.words.add(form, claim, digits)?;
         }
         Ok(())
     }
@@ -147,10 +175,10 @@ impl OctalReader {
     /// Reads one row more, by what stands behind it too.
     fn read(&mut self, row: &[u8], behind: Option<&[u8]>) -> Result<(), AllocError>
         requires few { self.old.number < 2 ^ 63 }
-        requires total { states.total self.old.reading.counts ≡ self.old.number }
+        requires total { states.total self.old.reading.rows.counts ≡ self.old.number }
         requires near { reached self.old.stand < 2 ^ 40 }
         ensures row { OnOk result (states.Reads self.old row.now (rows_left behind.entry) self.new) }
-        ensures total { OnOk result (states.total self.new.reading.counts ≡ self.new.number) }
+        ensures total { OnOk result (states.total self.new.reading.rows.counts ≡ self.new.number) }
         ensures near { OnOk result (reached self.new.stand < 2 ^ 40) }
     {
         let cut = cut_row(row, self.layout.columns);
@@ -173,7 +201,7 @@ pub fn read_octal(
     text: &[u8],
     layout: OctalLayout,
 ) -> Result<OctalReading, AllocError>
-    ensures reading { IfOk result (IsReading (rows.rows_in layout text.now)) }
+    ensures reading { IfOk result (λ reading. IsReading (rows.rows_in layout text.now) reading.rows) }
     ensures words { IfOk result (λ reading. Holds reading.words (claims_in layout text.now)) }
 {
     let mut reader = OctalReader::new(alloc, layout);

@@ -273,7 +273,7 @@ pub fn claimed(
 }
 
 /// The address that is meant by one of the text, if so many words from there on have addresses.
-fn meant(offset: WordOffset, address: u64, count: usize) -> Option<u32>
+pub fn meant(offset: WordOffset, address: u64, count: usize) -> Option<u32>
     ensures at { result ≡ rows.meant offset address count }
     ensures few { IfSome result (λ at. at + count ≤ MOST_WORDS) }
     ensures small { IfSome result (λ at. address < 2 ^ 33) }

@@ -9,6 +9,7 @@ use Rattle.cps_code.specs.Image.{Piece, ArePacked}
 use Rattle.cps_final.specs.Finals.{machine_of}
 use Rattle.cps_list.specs.Assembly.{Assembly}
 use Rattle.cps_list.specs.Binary.{pieces_of}
+use Rattle.cps_claims.specs.declared.layout.OctalFormat.{OctalFormat}
 use Rattle.cps_claims.specs.declared.layout.OctalLayout.{OctalLayout}
 use Rattle.cps_claims.specs.declared.reading.OctalReading.{OctalReading}
 use Rattle.cps_claims.specs.Rows.{rows_in}
@@ -26,7 +27,7 @@ use Rattle.cps_compare.specs.Code.Deck.{IsDeck}
 use Rattle.cps_compare.proofs.DeckLemmas.{pieces-of}
 use Rattle.cps_compare.specs.Given.{given_at}
 use Rattle.cps_compare.specs.Told.{rows_for}
-use Rattle.cps_compare.specs.Code.Kept.{AreKept, kept_rows}
+use Rattle.cps_compare.specs.Code.Kept.{AreWords, kept_rows}
 
 pub kept-given : (claims : List Claimed) (address : ℕ) (word : ClaimedWord) → Shows claims address word → kept_digit word ≡ given_at claims address
 kept-given claims address word shows = fun_ext (λ place. (λ i. record { shown = shows.digits place i; again = shows.contrary place i }))
@@ -46,16 +47,16 @@ word-same f (Some word) b = refl
 -- ---- both sides
 
 -- the octal text as it is read, and the words of a source
-pub are-kept : (options : CompareOptions) (octal : List ℕ) (assembly : Assembly) (machine : Machine) (layout : OctalLayout) (reading : OctalReading) (deck : DeckWords)
+pub are-words : (options : CompareOptions) (format : OctalFormat) (octal : List ℕ) (assembly : Assembly) (machine : Machine) (layout : OctalLayout) (reading : OctalReading) (deck : DeckWords)
     → machine ≡ machine_of assembly.finals
-    → layout ≡ record { form = form_of machine; format = options.format; columns = options.columns; offset = options.offset }
-    → IsReading (rows_in layout octal) reading → Holds reading.words (claims_in layout octal) → IsDeck (signed_of assembly) deck.words deck.makers
-    → AreKept (record { machine = machine; reading = reading; deck = deck; options = options }) assembly (sides_of options octal assembly)
-are-kept options octal assembly machine layout reading deck same is rows claims made =
-    let laid : layout ≡ layout_of options assembly =
-    is ∙ (λ i. record { form = form_of (same i); format = options.format; columns = options.columns; offset = options.offset }) in
+    → layout ≡ record { form = form_of machine; format = format; columns = options.columns; offset = options.offset }
+    → IsReading (rows_in layout octal) reading.rows → Holds reading.words (claims_in layout octal) → IsDeck (signed_of assembly) deck.words deck.makers
+    → AreWords (record { machine = machine; reading = reading; deck = deck; whole = options.whole }) assembly (sides_of options format octal assembly)
+are-words options format octal assembly machine layout reading deck same is rows claims made =
+    let laid : layout ≡ layout_of options format assembly =
+    is ∙ (λ i. record { form = form_of (same i); format = format; columns = options.columns; offset = options.offset }) in
     record {
-      rows = subst (λ (layout : OctalLayout). IsReading (rows_in layout octal) reading) laid rows;
+      rows = subst (λ (layout : OctalLayout). IsReading (rows_in layout octal) reading.rows) laid rows;
       claims = subst (λ (layout : OctalLayout). Holds reading.words (claims_in layout octal)) laid claims;
       pieces = pieces_of assembly;
       packed = subst (λ (l : List Piece). ArePacked l deck.words) (pieces-of assembly) made.packed;

@@ -6,6 +6,7 @@ pub mod GivenLemmas
 pub mod SurveyLemmas
 pub mod RunLemmas
 pub mod TextLemmas
+pub mod ListingLemmas
 mod WorkedRows
 pub mod KeptLemmas
 pub mod OctalLemmas

@@ -6,7 +6,8 @@ use Rattle.std.proofs.lemmas.Grind.{flat_map-append}
 use Rattle.std.proofs.lemmas.List.Folds.{flat_map-map}
 use Rattle.std.proofs.lemmas.List.Elements.{filter-append}
 use Rattle.cps_compare.specs.declared.compared_word.ComparedWord.{ComparedWord}
-use Rattle.cps_compare.specs.Told.{Sides, differs_at, is_compared, runs_of}
+use Rattle.cps_compare.specs.Findings.{Findings}
+use Rattle.cps_compare.specs.Runs.{runs_of}
 use Rattle.cps_compare.specs.Code.Runs.{ends_run, addresses_in, AreCompared}
 
 -- ---- runs
@@ -19,50 +20,50 @@ onto-map : (word : ComparedWord) (runs : List (List ComparedWord)) → map addre
 onto-map word [] = refl
 onto-map word (run ∷ runs) = refl
 
-split-map : (sides : Sides) (words : List ComparedWord) → AllByRecursion (λ (word : ComparedWord). word.differs ≡ differs_at sides word.address) words
-    → map addresses_in (slice_split ends_run words) ≡ runs_of sides (addresses_in words)
-split-map sides [] all = refl
-split-map sides (word ∷ words) all =
+split-map : (found : Findings) (words : List ComparedWord) → AllByRecursion (λ (word : ComparedWord). word.differs ≡ found.differs word.address) words
+    → map addresses_in (slice_split ends_run words) ≡ runs_of found (addresses_in words)
+split-map found [] all = refl
+split-map found (word ∷ words) all =
     cond-map (map addresses_in) (ends_run word) ([] ∷ slice_split ends_run words) (onto_first word (slice_split ends_run words))
     ∙ ap (λ b. cond b ([] ∷ map addresses_in (slice_split ends_run words)) (map addresses_in (onto_first word (slice_split ends_run words)))) (ap not all.0)
-    ∙ ap (λ l. cond (not (differs_at sides word.address)) ([] ∷ map addresses_in (slice_split ends_run words)) l) (onto-map word (slice_split ends_run words))
-    ∙ ap (λ (l : List (List ℕ)). cond (not (differs_at sides word.address)) ([] ∷ l) (onto_first word.address l)) (split-map sides words all.1)
+    ∙ ap (λ l. cond (not (found.differs word.address)) ([] ∷ map addresses_in (slice_split ends_run words)) l) (onto-map word (slice_split ends_run words))
+    ∙ ap (λ (l : List (List ℕ)). cond (not (found.differs word.address)) ([] ∷ l) (onto_first word.address l)) (split-map found words all.1)
 
 -- the rows of all runs
-pub runs-same : (sides : Sides) (rows : List ℕ → List ℕ) (among : List ℕ) (words : List ComparedWord) → AreCompared sides among words
-    → flat_map (λ run. rows (addresses_in run)) (slice_split ends_run words) ≡ flat_map rows (runs_of sides among)
-runs-same sides rows among words is =
-    sym (flat_map-map rows addresses_in (slice_split ends_run words)) ∙ ap (flat_map rows) (split-map sides words is.differ)
-    ∙ ap (λ l. flat_map rows (runs_of sides l)) is.addresses
+pub runs-same : (found : Findings) (rows : List ℕ → List ℕ) (among : List ℕ) (words : List ComparedWord) → AreCompared found among words
+    → flat_map (λ run. rows (addresses_in run)) (slice_split ends_run words) ≡ flat_map rows (runs_of found among)
+runs-same found rows among words is =
+    sym (flat_map-map rows addresses_in (slice_split ends_run words)) ∙ ap (flat_map rows) (split-map found words is.differ)
+    ∙ ap (λ l. flat_map rows (runs_of found l)) is.addresses
 
 -- ---- one word more
 
-all-more : (sides : Sides) (words : List ComparedWord) (word : ComparedWord) → AllByRecursion (λ (word : ComparedWord). word.differs ≡ differs_at sides word.address) words
-    → word.differs ≡ differs_at sides word.address → AllByRecursion (λ (word : ComparedWord). word.differs ≡ differs_at sides word.address) (words ++ word ∷ [])
-all-more sides [] word all is = (is, tt)
-all-more sides (x ∷ words) word all is = (all.0, all-more sides words word all.1 is)
+all-more : (found : Findings) (words : List ComparedWord) (word : ComparedWord) → AllByRecursion (λ (word : ComparedWord). word.differs ≡ found.differs word.address) words
+    → word.differs ≡ found.differs word.address → AllByRecursion (λ (word : ComparedWord). word.differs ≡ found.differs word.address) (words ++ word ∷ [])
+all-more found [] word all is = (is, tt)
+all-more found (x ∷ words) word all is = (all.0, all-more found words word all.1 is)
 
-pub compared-none : (sides : Sides) → AreCompared sides [] []
-compared-none sides = record { addresses = refl; differ = tt }
+pub compared-none : (found : Findings) → AreCompared found [] []
+compared-none found = record { addresses = refl; differ = tt }
 
 -- a word that is compared
-pub compared-more : (sides : Sides) (among : List ℕ) (words : List ComparedWord) (word : ComparedWord) → AreCompared sides (filter (is_compared sides) among) words
-    → is_compared sides word.address ≡ true → word.differs ≡ differs_at sides word.address
-    → AreCompared sides (filter (is_compared sides) (among ++ word.address ∷ [])) (words ++ word ∷ [])
-compared-more sides among words word was here is = record {
+pub compared-more : (found : Findings) (among : List ℕ) (words : List ComparedWord) (word : ComparedWord) → AreCompared found (filter found.is_compared among) words
+    → found.is_compared word.address ≡ true → word.differs ≡ found.differs word.address
+    → AreCompared found (filter found.is_compared (among ++ word.address ∷ [])) (words ++ word ∷ [])
+compared-more found among words word was here is = record {
   addresses = map-append (λ (word : ComparedWord). word.address) words (word ∷ []) ∙ ap (λ l. l ++ word.address ∷ []) was.addresses
-      ∙ ap (λ b. filter (is_compared sides) among ++ cond b (word.address ∷ []) []) (sym here)
-      ∙ sym (filter-append (is_compared sides) among (word.address ∷ []));
-  differ = all-more sides words word was.differ is;
+      ∙ ap (λ b. filter found.is_compared among ++ cond b (word.address ∷ []) []) (sym here)
+      ∙ sym (filter-append found.is_compared among (word.address ∷ []));
+  differ = all-more found words word was.differ is;
 }
 
 -- one that isn't
-pub compared-same : (sides : Sides) (among : List ℕ) (address : ℕ) (words : List ComparedWord) → AreCompared sides (filter (is_compared sides) among) words
-    → is_compared sides address ≡ false → AreCompared sides (filter (is_compared sides) (among ++ address ∷ [])) words
-compared-same sides among address words was absent = record {
-  addresses = was.addresses ∙ sym (append-nil (filter (is_compared sides) among))
-      ∙ ap (λ b. filter (is_compared sides) among ++ cond b (address ∷ []) []) (sym absent)
-      ∙ sym (filter-append (is_compared sides) among (address ∷ []));
+pub compared-same : (found : Findings) (among : List ℕ) (address : ℕ) (words : List ComparedWord) → AreCompared found (filter found.is_compared among) words
+    → found.is_compared address ≡ false → AreCompared found (filter found.is_compared (among ++ address ∷ [])) words
+compared-same found among address words was absent = record {
+  addresses = was.addresses ∙ sym (append-nil (filter found.is_compared among))
+      ∙ ap (λ b. filter found.is_compared among ++ cond b (address ∷ []) []) (sym absent)
+      ∙ sym (filter-append found.is_compared among (address ∷ []));
   differ = was.differ;
 }
 

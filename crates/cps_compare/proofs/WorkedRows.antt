@@ -19,8 +19,10 @@ use Rattle.cps_compare.specs.Comparison.{form_of}
 use Rattle.cps_compare.specs.Differences.{digits_of, differs_in, is_filled_up, lacking, places_of}
 use Rattle.cps_compare.specs.Given.{Given, given_at, shown_word, again_word, known_in, unknown_in, denied_in}
 use Rattle.cps_compare.specs.Statements.{texts_from}
-use Rattle.cps_compare.specs.Told.{Sides, rows_at, rows_text, word_rows, caret_row, line_at, trimmed, maker_row, maker_rows, statement_rows, is_compared, differs_at, runs_of, run_rows, more_row}
-use Rattle.cps_compare.specs.Summary.{tally_row, unread_row, other_row, differing_row, is_absent, is_in_part, count_differing}
+use Rattle.cps_compare.specs.Findings.{Findings}
+use Rattle.cps_compare.specs.Told.{Sides, rows_text, word_rows, caret_row, line_at, trimmed, maker_row, maker_rows, statement_rows, is_compared, differs_at, is_absent, is_in_part, findings_of}
+use Rattle.cps_compare.specs.Runs.{runs_of, run_rows, more_row}
+use Rattle.cps_compare.specs.Summary.{tally_row, unread_row, other_row, differing_row, count_differing}
 
 -- ---- the words of a source
 
@@ -249,21 +251,21 @@ unfolding places
 in-part = refl
 
 -- the word at 65 agrees, so it ends a run; words that are compared one after another make one, wherever they stand
-two-runs : runs_of (sides_of false (said 1 70 0 (code "2") ∷ said 1 72 0 (code "0") ∷ few)) (64 ∷ 65 ∷ 70 ∷ 72 ∷ []) ≡ (64 ∷ []) ∷ (70 ∷ 72 ∷ []) ∷ []
+two-runs : runs_of (findings_of (sides_of false (said 1 70 0 (code "2") ∷ said 1 72 0 (code "0") ∷ few))) (64 ∷ 65 ∷ 70 ∷ 72 ∷ []) ≡ (64 ∷ []) ∷ (70 ∷ 72 ∷ []) ∷ []
 two-runs = refl
 
-differing : count_differing (sides_of false few) 63 66 ≡ 1
+differing : count_differing (findings_of (sides_of false few)) 63 66 ≡ 1
 differing = refl
 
 -- of five words each is told, of six four
-five-words : (sides : Sides) → run_rows sides false (1 ∷ 2 ∷ 3 ∷ 4 ∷ 5 ∷ []) ≡ flat_map (rows_at sides) (1 ∷ 2 ∷ 3 ∷ 4 ∷ 5 ∷ [])
-five-words sides = refl
+five-words : (found : Findings) → run_rows found false (1 ∷ 2 ∷ 3 ∷ 4 ∷ 5 ∷ []) ≡ flat_map found.told (1 ∷ 2 ∷ 3 ∷ 4 ∷ 5 ∷ [])
+five-words found = refl
 
-six-words : (sides : Sides) → run_rows sides false (1 ∷ 2 ∷ 3 ∷ 4 ∷ 7 ∷ 8 ∷ []) ≡ flat_map (rows_at sides) (1 ∷ 2 ∷ 3 ∷ 4 ∷ []) ++ more_row 7 8 2
-six-words sides = refl
+six-words : (found : Findings) → run_rows found false (1 ∷ 2 ∷ 3 ∷ 4 ∷ 7 ∷ 8 ∷ []) ≡ flat_map found.told (1 ∷ 2 ∷ 3 ∷ 4 ∷ []) ++ more_row 7 8 2
+six-words found = refl
 
-all-words : (sides : Sides) → run_rows sides true (1 ∷ 2 ∷ 3 ∷ 4 ∷ 7 ∷ 8 ∷ []) ≡ flat_map (rows_at sides) (1 ∷ 2 ∷ 3 ∷ 4 ∷ 7 ∷ 8 ∷ [])
-all-words sides = refl
+all-words : (found : Findings) → run_rows found true (1 ∷ 2 ∷ 3 ∷ 4 ∷ 7 ∷ 8 ∷ []) ≡ flat_map found.told (1 ∷ 2 ∷ 3 ∷ 4 ∷ 7 ∷ 8 ∷ [])
+all-words found = refl
 
 more : more_row 64 65 2 ≡ codes "000100 to 000101: " ++ decimal 2 ++ codes " more words differ\n"
 unfolding octal

@@ -2,7 +2,10 @@ pub mod Makers
 pub mod Statements
 pub mod Given
 pub mod Differences
+pub mod Findings
 pub mod Told
+pub mod ListedSides
+pub mod Runs
 pub mod Summary
 pub mod Comparison
 pub mod Octal

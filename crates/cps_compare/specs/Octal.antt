@@ -9,14 +9,14 @@ use Rattle.cps_input.specs.Sources.{IsSource, Refuses, IsReadWhole}
 use Rattle.cps_edit.specs.Assembly.{assembly_of}
 use Rattle.cps_compare.specs.declared.compare_options.CompareOptions.{CompareOptions}
 use Rattle.cps_compare.specs.declared.comparison.Comparison.{Comparison}
-use Rattle.cps_compare.specs.Comparison.{Compares, Tells, sides_of}
-use Rattle.cps_compare.specs.Told.{Sides}
+use Rattle.cps_compare.specs.Comparison.{Compares, Tells, findings_in}
+use Rattle.cps_compare.specs.Findings.{Findings}
 use Rattle.cps_compare.specs.declared.octal_fault.OctalFault.{OctalFault}
 use Rattle.cps_compare.specs.declared.octal_fault.OctalFault.TheVariants as faults
 
 -- an octal text, and a source of these lines
-abbrev pub sides_with : CompareOptions → List ℕ → List (List ℕ) → Sides
-sides_with options octal lines = sides_of options octal (assembly_of lines)
+abbrev pub found_with : CompareOptions → List ℕ → List (List ℕ) → Findings
+found_with options octal lines = findings_in options octal (assembly_of lines)
 
 -- What was told is written, and its words that differ are counted; or a front of it is written, where a write failed.
 abbrev pub WritesTold : {W : Type 0} → (W → Option (List ℕ)) → Result ℕ OctalFault → Comparison → Counted W → Counted W → Type 0
@@ -30,10 +30,10 @@ WritesTold contents (Err _) told old new = ⊥
 -- a write failed; or nothing is written, since nothing is compared, or since the lines are none of a source.
 abbrev pub Reports : {W : Type 0} → (W → Option (List ℕ)) → CompareOptions → Result ℕ OctalFault → List ℕ → List (List ℕ) → Counted W → Counted W → Type 0
 Reports contents options (Err (faults.Compare fault)) octal lines old new =
-    IsSource lines × Compares options (sides_with options octal lines) (Err fault) × (new ≡ old)
+    IsSource lines × Compares options (found_with options octal lines) (Err fault) × (new ≡ old)
 Reports contents options (Err (faults.Source fault)) octal lines old new = Refuses fault lines × (new ≡ old)
 Reports contents options result octal lines old new =
-    IsSource lines × ((told : Comparison) × Tells options (sides_with options octal lines) told × WritesTold contents result told old new)
+    IsSource lines × ((told : Comparison) × Tells options (found_with options octal lines) told × WritesTold contents result told old new)
 
 -- What a run does, by its result. The octal text is read to its end, and then the source; then its lines decide. Where one of them can't
 -- be read to its end nothing is written.

@@ -11,7 +11,8 @@ use Rattle.cps_claims.specs.Counts.{is_given}
 use Rattle.cps_claims.specs.Shown.{first_row, last_row, again_row}
 use Rattle.cps_compare.specs.declared.maker.Maker.{Maker}
 use Rattle.cps_compare.specs.declared.maker.Maker.TheVariants.{Nobody, Line, Literal}
-use Rattle.cps_compare.specs.Given.{Given, given_at, shown_word, again_word, has_denied}
+use Rattle.cps_compare.specs.Findings.{Findings}
+use Rattle.cps_compare.specs.Given.{Given, given_at, shown_word, again_word, has_denied, known_in, unknown_in, denied_in}
 use Rattle.cps_compare.specs.Differences.{lacks, places_of}
 
 -- an octal text and a source
@@ -148,33 +149,34 @@ lacks_at sides address = option_map_or (λ word. lacks word (given_for sides add
 abbrev pub differs_at : Sides → ℕ → Bool
 differs_at sides address = differs sides.words sides.claims address || (sides.whole && lacks_at sides address)
 
--- the addresses from one to another
-abbrev pub addresses : ℕ → ℕ → List ℕ
-addresses low high = range_with_len low (high + 1 - low)
+-- ---- what is counted of the word at an address
 
-abbrev pub compared : Sides → ℕ → ℕ → List ℕ
-compared sides low high = filter (is_compared sides) (addresses low high)
+abbrev pub is_absent : Sides → ℕ → Bool
+is_absent sides address = is_some (sides.words address) && not (has_bytes (shown_word (given_for sides address)))
 
--- ---- runs of words that differ one after another
+abbrev pub is_in_part : Sides → ℕ → Bool
+is_in_part sides address = has_bytes (shown_word (given_for sides address)) && lacks_at sides address
 
--- how many more words differ, from one address to another
-abbrev pub more_row : ℕ → ℕ → ℕ → List ℕ
-more_row first last count =
-    octal 6 first ++ codes " to " ++ octal 6 last ++ codes ": " ++ decimal count ++ codes " more words differ\n"
+abbrev pub count_known : Sides → ℕ → ℕ
+count_known sides address = known_in (given_for sides address)
 
-abbrev pub rest_row : List ℕ → List ℕ
-rest_row rest = more_row (slice_index rest 0) (slice_index rest (length rest - 1)) (length rest)
+abbrev pub count_unknown : Sides → ℕ → ℕ
+count_unknown sides address = unknown_in (given_for sides address)
 
--- Of more than five the first four are told, and how many are left, unless all are to be told.
-abbrev pub run_rows : Sides → Bool → List ℕ → List ℕ
-run_rows sides all run =
-    if all || nat_le (length run) 5 then flat_map (rows_at sides) run
-    else flat_map (rows_at sides) (take 4 run) ++ rest_row (drop 4 run)
+abbrev pub count_denied : Sides → ℕ → ℕ
+count_denied sides address = denied_in (given_for sides address)
 
--- the words of a run are compared one after another, and each differs
-abbrev pub runs_of : Sides → List ℕ → List (List ℕ)
-runs_of sides run = slice_split (λ address. not (differs_at sides address)) run
-
--- the rows of all words that differ, by rising addresses
-abbrev pub differing_rows : Sides → Bool → ℕ → ℕ → List ℕ
-differing_rows sides all low high = flat_map (run_rows sides all) (runs_of sides (compared sides low high))
+-- what is found where the text is read as words
+abbrev pub findings_of : Sides → Findings
+findings_of sides = record {
+  rows = sides.rows;
+  known = count_known sides;
+  unknown = count_unknown sides;
+  denied = count_denied sides;
+  is_given = is_given sides.claims;
+  is_absent = is_absent sides;
+  is_in_part = is_in_part sides;
+  is_compared = is_compared sides;
+  differs = differs_at sides;
+  told = rows_at sides;
+}

@@ -1,13 +1,14 @@
 //! What the words of a comparison ask.
 
-use cps_claims::{OctalFormat, ReadColumns, WordOffset};
+use super::compare_format::CompareFormat;
+use cps_claims::{ReadColumns, WordOffset};
 
 /// What the words of a comparison ask.
 #[derive(Clone, Copy)]
 pub struct CompareOptions {
     /// How the rows of the octal text are read.
-    pub format: OctalFormat,
-    /// None: all columns are read.
+    pub format: CompareFormat,
+    /// None: all columns are read. This program's own listing has its own ones.
     pub columns: Option<ReadColumns>,
     /// How far each address of the octal text is moved.
     pub offset: WordOffset,

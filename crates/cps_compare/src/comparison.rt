@@ -2,19 +2,24 @@
 ghost use Rattle.std.specs.Prelude.{◌≡◌, ◌<◌, ◌^◌, slice_get, IfOk, IfSome, MatchOption};
 ghost use Rattle.std.specs.Option.{ForSome};
 ghost use Rattle.cps_list.specs.Assembly.{Assembly};
-ghost use Rattle.cps_claims.specs.Counts.{GivesNone};
 ghost use Rattle.cps_drift.specs.Drift.{IsDriftText};
-ghost use Rattle.cps_compare.specs.Comparison.{AreLimits, Compares, form_of, sides_of};
-ghost use Rattle.cps_compare.specs.Told as told;
-ghost use Rattle.cps_compare.specs.Code.Kept.{AreKept, IsToldOf, why_unread};
+ghost use Rattle.cps_compare.specs.Findings.{Findings};
+ghost use Rattle.cps_compare.specs.Comparison as specs;
+ghost use Rattle.cps_compare.specs.Comparison.{Compares, findings_in};
+ghost use Rattle.cps_compare.specs.Code.Kept.{AreKept, AreListed, AreWords, IsToldOf, why_unread};
 
+use super::address_span::AddressSpan;
 use super::compare_fault::CompareFault;
+use super::compare_format::CompareFormat;
 use super::compare_options::CompareOptions;
 use super::deck_words::DeckWords;
+use super::listed_deck::list_deck;
+use super::listed_sides::ListedSides;
 use super::sides::Sides;
 use super::survey::Tallies;
 use super::telling::{Telling, first_unread, push_summary, push_unread_rows};
-use cps_claims::{OctalLayout, OctalReading, WordForm, read_octal};
+use super::word_sides::WordSides;
+use cps_claims::{OctalFormat, OctalLayout, RowKinds, WordForm, read_octal, read_own};
 use cps_drift::drift_rows;
 use cps_expr::Machine;
 use cps_list::View;
@@ -29,7 +34,8 @@ pub struct Comparison {
     pub differing: u32,
 }
 
-/// Compares an octal listing or dump with the words of an assembled source, those of its binary text.
+/// Compares an octal listing or dump with the words of an assembled source, those of its binary text; or a listing of this program with the
+/// one of the source.
 ///
 /// Each row of the octal text is read, blank, of other text, or not read; each digit that is read is compared. A word differs where a digit
 /// that can be read isn't the source's; with `whole` also where digits lack.
@@ -43,50 +49,99 @@ pub fn compare<V: View>(
     options: CompareOptions,
 ) -> Result<Comparison, CompareFault>
     requires { ForSome options.to (λ to. to < 2 ^ 18) }
-    ensures { Compares options (sides_of options octal.now (V.assembly view.now)) result }
+    ensures { Compares options (findings_in options octal.now (V.assembly view.now)) result }
 {
-    let machine = view.finals().machine();
-    let Ok(reading) = read_octal(alloc, octal, layout_of(machine, options)) else {
+    let Ok(sides) = sides_of(alloc, view, octal, options) else {
         return Err(CompareFault::Memory);
     };
-    if reading.counts.read == 0 {
-        return Err(why_no_row(&reading));
+    if sides.rows().counts.read == 0 {
+        return Err(why_no_row(sides.rows()));
     }
-    let Ok(deck) = DeckWords::of(alloc, view) else {
-        return Err(CompareFault::Memory);
-    };
-    let sides = Sides {
-        machine,
-        reading,
-        deck,
-        options,
-    };
-    let Some((low, high)) = span(&sides) else {
+    let Some(span) = span(&sides, options) else {
         return Err(CompareFault::NoDigit);
     };
-    if !sides.reading.words.gives_some(low, high) {
-        return Err(CompareFault::Nothing(low, high));
+    if !sides.gives_some(span) {
+        return Err(CompareFault::Nothing(span.low, span.high));
     }
-    match tell_all(alloc, view, &sides, low, high) {
+    match tell_all(alloc, view, &sides, options.all, span) {
         Ok(comparison) => Ok(comparison),
         Err(_) => Err(CompareFault::Memory),
     }
 }
 
+/// Reads an octal text beside an assembled source.
+fn sides_of<V: View>(
+    alloc: Global,
+    view: &V,
+    octal: &[u8],
+    options: CompareOptions,
+) -> Result<Sides, AllocError>
+    ensures { IfOk result (λ sides. AreKept sides (V.assembly view.now) (findings_in options octal.now (V.assembly view.now))) }
+{
+    match options.format {
+        CompareFormat::Words(format) => {
+            let sides = word_sides(alloc, view, octal, format, options)?;
+            Ok(Sides::Words(sides))
+        }
+        CompareFormat::Own => {
+            let sides = listed_sides(alloc, view, octal, options)?;
+            Ok(Sides::Listed(sides))
+        }
+    }
+}
+
+fn word_sides<V: View>(
+    alloc: Global,
+    view: &V,
+    octal: &[u8],
+    format: OctalFormat,
+    options: CompareOptions,
+) -> Result<WordSides, AllocError>
+    ensures { IfOk result (λ sides. AreWords sides (V.assembly view.now) (specs.sides_of options format octal.now (V.assembly view.now))) }
+{
+    let machine = view.finals().machine();
+    let layout = layout_of(machine, format, options);
+    let reading = read_octal(alloc, octal, layout)?;
+    let deck = DeckWords::of(alloc, view)?;
+    Ok(WordSides {
+        machine,
+        reading,
+        deck,
+        whole: options.whole,
+    })
+}
+
+fn listed_sides<V: View>(
+    alloc: Global,
+    view: &V,
+    octal: &[u8],
+    options: CompareOptions,
+) -> Result<ListedSides, AllocError>
+    ensures { IfOk result (λ sides. AreListed sides (V.assembly view.now) (specs.listed_sides options octal.now (V.assembly view.now))) }
+{
+    let reading = read_own(alloc, octal, options.offset)?;
+    let deck = list_deck(alloc, view)?;
+    Ok(ListedSides {
+        reading,
+        deck,
+        whole: options.whole,
+    })
+}
+
 /// How an octal text is laid out.
-fn layout_of(machine: Machine, options: CompareOptions) -> OctalLayout
-    ensures { result ≡ record { form = form_of machine; format = options.format; columns = options.columns; offset = options.offset } }
+fn layout_of(machine: Machine, format: OctalFormat, options: CompareOptions) -> OctalLayout
+    ensures { result ≡ record { form = specs.form_of machine; format = format; columns = options.columns; offset = options.offset } }
 {
     OctalLayout {
         form: form_of(machine),
-        format: options.format,
+        format,
         columns: options.columns,
         offset: options.offset,
     }
 }
 
 fn form_of(machine: Machine) -> WordForm
-    ensures { result ≡ form_of machine }
+    ensures { result ≡ specs.form_of machine }
 {
     match machine {
         Machine::Cp => WordForm::Central,
@@ -95,31 +150,32 @@ fn form_of(machine: Machine) -> WordForm
 }
 
 /// Why no row of an octal text is read.
-fn why_no_row(reading: &OctalReading) -> CompareFault
-    ensures { result ≡ why_unread (slice_get reading.now.unread.items 0) }
+fn why_no_row(rows: &RowKinds) -> CompareFault
+    ensures { result ≡ why_unread (slice_get rows.now.unread.items 0) }
 {
-    match first_unread(reading) {
+    match first_unread(rows) {
         Some(row) => CompareFault::Unread(row.number, row.reason),
         None => CompareFault::NoRow,
     }
 }
 
-/// The first and the last address that are compared. None: no digit of the octal text can be read.
-fn span(sides: &Sides) -> Option<(u32, u32)>
-    requires { ForSome sides.now.options.to (λ to. to < 2 ^ 18) }
-    ensures span { (assembly : Assembly) (shown : told.Sides) → AreKept sides.now assembly shown
-        → MatchOption result (GivesNone shown.claims) (λ span. AreLimits sides.now.options shown span.0 span.1) }
-    ensures few { IfSome result (λ span. span.1 < 2 ^ 18) }
+/// The addresses that are compared. None: no digit of the octal text can be read.
+fn span(sides: &Sides, options: CompareOptions) -> Option<AddressSpan>
+    requires { ForSome options.to (λ to. to < 2 ^ 18) }
+    ensures span { (assembly : Assembly) (found : Findings) → AreKept sides.now assembly found
+        → MatchOption result (specs.NoneGiven found) (λ span. specs.AreLimits options found span.low span.high) }
+    ensures few { IfSome result (λ span. span.high < 2 ^ 18) }
 {
-    let Some(first) = sides.reading.words.first() else {
+    let Some(first) = sides.first() else {
         return None;
     };
-    let Some(last) = sides.reading.words.last() else {
+    let Some(last) = sides.last() else {
         return None;
     };
-    let low = sides.options.from.unwrap_or(sides.first(first));
-    let high = sides.options.to.unwrap_or(sides.last(last));
-    Some((low, high))
+    Some(AddressSpan {
+        low: options.from.unwrap_or(first),
+        high: options.to.unwrap_or(last),
+    })
 }
 
 /// Tells what differs from one address to another, and how much was compared.
@@ -127,39 +183,42 @@ fn tell_all<V: View>(
     alloc: Global,
     view: &V,
     sides: &Sides,
-    low: u32,
-    high: u32,
+    all: bool,
+    span: AddressSpan,
 ) -> Result<Comparison, AllocError>
-    requires { high < 2 ^ 18 }
-    ensures { (shown : told.Sides) → AreKept sides.now (V.assembly view.now) shown
-        → IfOk result (IsToldOf shown sides.now.options.all low high) }
+    requires { span.high < 2 ^ 18 }
+    ensures { (found : Findings) → AreKept sides.now (V.assembly view.now) found
+        → IfOk result (IsToldOf found all span.low span.high) }
 {
-    let survey = sides.survey(alloc, low, high)?;
+    let survey = sides.survey(alloc, span)?;
     let mut telling = Telling::new(alloc);
-    sides.tell_runs(view, &survey.words, &mut telling)?;
+    sides.tell_runs(view, all, &survey.words, &mut telling)?;
     let mut text = telling.text;
-    let drift = drift_of(alloc, view, sides, &survey.tallies, (low, high))?;
+    let drift = drift_of(alloc, view, sides, &survey.tallies, span)?;
     text.extend_from_slice(&drift)?;
-    push_unread_rows(&mut text, sides.options.all, &sides.reading.unread)?;
-    push_summary(&mut text, &sides.reading, &survey.tallies, low, high)?;
+    let rows = sides.rows();
+    push_unread_rows(&mut text, all, &rows.unread)?;
+    push_summary(&mut text, rows, &survey.tallies, span)?;
     Ok(Comparison {
         text,
         differing: survey.tallies.differing.count as u32,
     })
 }
 
-/// Where code moved, if more than one word differs.
+/// Where code moved, if more than one word differs. Of this program's own listing nothing is told.
 fn drift_of<V: View>(
     alloc: Global,
     view: &V,
     sides: &Sides,
     tallies: &Tallies,
-    span: (u32, u32),
+    span: AddressSpan,
 ) -> Result<Vec<u8>, AllocError>
     ensures { IfOk result (λ text. IsDriftText text.items) }
 {
-    if tallies.differing.count < 2 {
-        return Ok(Vec::new(alloc));
+    match sides {
+        Sides::Words(sides) if tallies.differing.count >= 2 => {
+            drift_rows(alloc, view, &sides.reading.words, span.low, span.high)
+        }
+        _ => Ok(Vec::new(alloc)),
     }
-    drift_rows(alloc, view, &sides.reading.words, span.0, span.1)
 }

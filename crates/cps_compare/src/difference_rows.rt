@@ -1,5 +1,5 @@
 //! The rows that tell a difference.
-ghost use Rattle.std.specs.Prelude.{◌≡◌, ℕ, [], ◌++◌, ◌<◌, length, OnOk, IfSome, All, if◌then◌else◌};
+ghost use Rattle.std.specs.Prelude.{◌≡◌, ℕ, [], ◌++◌, ◌<◌, ◌^◌, length, OnOk, IfSome, All, if◌then◌else◌};
 ghost use Rattle.std.specs.List.{position};
 ghost use Rattle.std.specs.Option.{option_map};
 ghost use Rattle.cps_text.specs.Text.{is_filled};
@@ -14,9 +14,10 @@ use super::given_word::{has_denied, has_shown, push_again, push_shown};
 use super::maker::Maker;
 use super::makers::Makers;
 use super::statements::push_statements;
-use cps_claims::{ClaimedWord, MOST_DIGITS};
+use super::wide_rows::fill_wide;
+use cps_claims::ClaimedWord;
 use cps_final::Row;
-use cps_list::{View, fill_columns, push_decimal};
+use cps_list::{View, push_decimal};
 use cps_text::push_octal;
 use std::alloc::AllocError;
 
@@ -69,7 +70,14 @@ fn push_given(text: &mut Vec<u8>, given: &ClaimedWord) -> Result<(), AllocError>
 fn push_rows(text: &mut Vec<u8>, given: &ClaimedWord) -> Result<(), AllocError>
     ensures { OnOk result (text.new.items ≡ text.old.items ++ told.rows_text (kept_rows given.now)) }
 {
-    let (first, last) = (given.first_row, given.last_row);
+    push_row_numbers(text, given.first_row, given.last_row)
+}
+
+/// The first and the last row that have digits.
+pub fn push_row_numbers(text: &mut Vec<u8>, first: usize, last: usize) -> Result<(), AllocError>
+    ensures { (again : ℕ) → OnOk result (text.new.items ≡ text.old.items
+        ++ told.rows_text (record { first = first; last = last; again = again })) }
+{
     if first == last {
         text.extend_from_slice(b"  row ")?;
         return push_decimal(text, first as u64);
@@ -104,7 +112,7 @@ fn push_again_row(text: &mut Vec<u8>, given: &ClaimedWord) -> Result<(), AllocEr
 
 /// The row of carets below digits, where some are given.
 pub fn push_carets(text: &mut Vec<u8>, is_given: bool, places: &[usize]) -> Result<(), AllocError>
-    requires { All (λ place. place < MOST_DIGITS) places.now }
+    requires { All (λ place. place < 2 ^ 32) places.now }
     ensures { OnOk result (text.new.items ≡ text.old.items ++ (if is_given then told.caret_row places.now else [])) }
 {
     if is_given {
@@ -115,12 +123,12 @@ pub fn push_carets(text: &mut Vec<u8>, is_given: bool, places: &[usize]) -> Resu
 }
 
 fn push_caret_row(text: &mut Vec<u8>, places: &[usize]) -> Result<(), AllocError>
-    requires { All (λ place. place < MOST_DIGITS) places.now }
+    requires { All (λ place. place < 2 ^ 32) places.now }
     ensures { OnOk result (text.new.items ≡ text.old.items ++ told.caret_row places.now) }
 {
     let before = text.len();
     for place in places {
-        fill_columns(text, before, BEFORE_WORD + *place)?;
+        fill_wide(text, before, BEFORE_WORD + *place)?;
         text.push(b'^')?;
     }
     text.push(b'\n')?;
@@ -149,7 +157,8 @@ pub fn push_makers<V: View>(
     Ok(())
 }
 
-fn push_maker<V: View>(
+/// The rows of what made a digit of a word at an address.
+pub fn push_maker<V: View>(
     text: &mut Vec<u8>,
     view: &V,
     address: u32,

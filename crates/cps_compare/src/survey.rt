@@ -27,11 +27,11 @@ impl Tally {
     }
 
     /// So many more, at an address.
-    pub fn add(&mut self, address: u32, count: u8)
-        requires { self.old.count < 2 ^ 40 }
+    pub fn add(&mut self, address: u32, count: u32)
+        requires { self.old.count < 2 ^ 60 }
         ensures tally { (counts : ℕ → ℕ) (among : List ℕ) → IsTally counts among self.old → count ≡ counts address
             → IsTally counts (among ++ address ∷ []) self.new }
-        ensures few { self.new.count ≤ self.old.count + 255 }
+        ensures few { self.new.count ≡ self.old.count + count }
     {
         self.first = first_with(self.first, address, count);
         self.count += u64::from(count);
@@ -39,7 +39,7 @@ impl Tally {
 }
 
 /// The first address with some, where so many are at one more.
-fn first_with(first: Option<u32>, address: u32, count: u8) -> Option<u32>
+fn first_with(first: Option<u32>, address: u32, count: u32) -> Option<u32>
     ensures { result ≡ option_or first (if nat_lt 0 count then Some address else None) }
 {
     match first {
@@ -49,17 +49,17 @@ fn first_with(first: Option<u32>, address: u32, count: u8) -> Option<u32>
     }
 }
 
-/// What is counted of the word at an address.
+/// What is counted at an address.
 #[derive(Clone, Copy)]
 pub struct WordCounts {
     /// Digits that can be read.
-    pub known: u8,
+    pub known: u32,
     /// Whether there are some.
     pub is_given: bool,
     /// Digits that can't be read.
-    pub unknown: u8,
+    pub unknown: u32,
     /// Digits that are given twice, with two values.
-    pub denied: u8,
+    pub denied: u32,
     /// Whether the source has a word of which nothing is given.
     pub is_absent: bool,
     /// Whether the source has a word that is given, but not whole.
@@ -92,12 +92,12 @@ pub struct Tallies {
 }
 
 impl Tallies {
-    ghost use Rattle.cps_compare.specs.Told.{Sides};
+    ghost use Rattle.cps_compare.specs.Findings.{Findings};
     ghost use Rattle.cps_compare.specs.Code.Surveys.{AreTallies, AreCounts, AreFew};
 
     /// Nothing is counted.
     pub fn new() -> Tallies
-        ensures tallies { (sides : Sides) → AreTallies sides [] result }
+        ensures tallies { (found : Findings) → AreTallies found [] result }
         ensures few { AreFew result 0 }
     {
         Tallies {
@@ -114,10 +114,10 @@ impl Tallies {
 
     /// Counts the word at an address.
     pub fn add(&mut self, address: u32, counts: WordCounts)
-        requires { AreFew self.old (2 ^ 30) }
-        ensures tallies { (sides : Sides) (among : List ℕ) → AreTallies sides among self.old → AreCounts sides address counts
-            → AreTallies sides (among ++ address ∷ []) self.new }
-        ensures few { (most : ℕ) → AreFew self.old most → AreFew self.new (most + 255) }
+        requires { AreFew self.old (2 ^ 20) }
+        ensures tallies { (found : Findings) (among : List ℕ) → AreTallies found among self.old → AreCounts found address counts
+            → AreTallies found (among ++ address ∷ []) self.new }
+        ensures few { (among : ℕ) → AreFew self.old among → AreFew self.new (among + 1) }
     {
         self.known.add(address, counts.known);
         self.given.add(address, one_if(counts.is_given));
@@ -138,7 +138,7 @@ pub struct Survey {
     pub tallies: Tallies,
 }
 
-fn one_if(test: bool) -> u8
+fn one_if(test: bool) -> u32
     ensures { result ≡ one_if test }
 {
     if test { 1 } else { 0 }

@@ -5,13 +5,15 @@ ghost use Rattle.cps_text.specs.Octal.{octal};
 ghost use Rattle.cps_claims.specs.Reading.{IsReading, is_read};
 ghost use Rattle.cps_claims.specs.Reasons.{reason_text};
 ghost use Rattle.cps_compare.specs.Summary as summary;
-ghost use Rattle.cps_compare.specs.Told.{Sides, addresses, more_row, rest_row};
+ghost use Rattle.cps_compare.specs.Findings.{Findings};
+ghost use Rattle.cps_compare.specs.Runs.{addresses, more_row, rest_row};
 ghost use Rattle.cps_compare.specs.Code.Runs.{addresses_in};
 ghost use Rattle.cps_compare.specs.Code.Surveys.{AreTallies, IsTally};
 
+use super::address_span::AddressSpan;
 use super::compared_word::ComparedWord;
 use super::survey::{Tallies, Tally};
-use cps_claims::{OctalReading, UnreadReason, UnreadRow};
+use cps_claims::{RowKinds, UnreadReason, UnreadRow};
 use cps_list::push_decimal;
 use cps_text::push_octal;
 use std::alloc::{AllocError, Global};
@@ -59,7 +61,8 @@ fn push_more(text: &mut Vec<u8>, first: u32, last: u32, count: usize) -> Result<
     Ok(())
 }
 
-fn push_address(text: &mut Vec<u8>, address: u32) -> Result<(), AllocError>
+/// The six octal digits of an address.
+pub fn push_address(text: &mut Vec<u8>, address: u32) -> Result<(), AllocError>
     ensures { OnOk result (text.new.items ≡ text.old.items ++ octal 6 address) }
 {
     push_octal(text, u64::from(address), ADDRESS_DIGITS)
@@ -68,41 +71,40 @@ fn push_address(text: &mut Vec<u8>, address: u32) -> Result<(), AllocError>
 /// Tells how much was compared, and what was not.
 pub fn push_summary(
     text: &mut Vec<u8>,
-    reading: &OctalReading,
+    rows: &RowKinds,
     tallies: &Tallies,
-    low: u32,
-    high: u32,
+    span: AddressSpan,
 ) -> Result<(), AllocError>
-    ensures { (sides : Sides) → IsReading sides.rows reading.now → AreTallies sides (addresses low high) tallies.now
-        → OnOk result (text.new.items ≡ text.old.items ++ summary.summary sides low high) }
+    ensures { (found : Findings) → IsReading found.rows rows.now → AreTallies found (addresses span.low span.high) tallies.now
+        → OnOk result (text.new.items ≡ text.old.items ++ summary.summary found span.low span.high) }
 {
-    push_compared(text, tallies, reading.counts.read)?;
+    push_compared(text, tallies, rows.counts.read)?;
     push_tally(text, b"unknown: ", tallies.unknown, b" digits")?;
     push_tally(text, b"twice: ", tallies.denied, b" digits with two values")?;
     push_tally(text, b"not given: ", tallies.absent, b" words of the deck")?;
     push_tally(text, b"in part: ", tallies.in_part, b" words")?;
-    push_unread(text, unread_count(reading), first_unread(reading))?;
-    push_other(text, reading.counts.other, reading.first_other)?;
-    push_differing(text, tallies, low, high)?;
+    push_unread(text, unread_count(rows), first_unread(rows))?;
+    push_other(text, rows.counts.other, rows.first_other)?;
+    push_differing(text, tallies, span)?;
     Ok(())
 }
 
-fn unread_count(reading: &OctalReading) -> usize
-    ensures { result ≡ length reading.now.unread.items }
+fn unread_count(rows: &RowKinds) -> usize
+    ensures { result ≡ length rows.now.unread.items }
 {
-    reading.unread.len()
+    rows.unread.len()
 }
 
 /// The first row that isn't read.
-pub fn first_unread(reading: &OctalReading) -> Option<UnreadRow>
-    ensures { result ≡ slice_get reading.now.unread.items 0 }
+pub fn first_unread(rows: &RowKinds) -> Option<UnreadRow>
+    ensures { result ≡ slice_get rows.now.unread.items 0 }
 {
-    reading.unread.first().copied()
+    rows.unread.first().copied()
 }
 
 fn push_compared(text: &mut Vec<u8>, tallies: &Tallies, rows: usize) -> Result<(), AllocError>
-    ensures { (sides : Sides) (among : List ℕ) → AreTallies sides among tallies.now → rows ≡ count_by is_read sides.rows
-        → OnOk result (text.new.items ≡ text.old.items ++ summary.compared_row sides among) }
+    ensures { (found : Findings) (among : List ℕ) → AreTallies found among tallies.now → rows ≡ count_by is_read found.rows
+        → OnOk result (text.new.items ≡ text.old.items ++ summary.compared_row found among) }
 {
     text.extend_from_slice(b"compared: ")?;
     push_decimal(text, tallies.known.count)?;
@@ -170,19 +172,18 @@ fn push_other(text: &mut Vec<u8>, count: usize, first: Option<usize>) -> Result<
 fn push_differing(
     text: &mut Vec<u8>,
     tallies: &Tallies,
-    low: u32,
-    high: u32,
+    span: AddressSpan,
 ) -> Result<(), AllocError>
     ensures { OnOk result (text.new.items ≡ text.old.items
-        ++ summary.differing_row tallies.now.differing.count tallies.now.compared.count low high) }
+        ++ summary.differing_row tallies.now.differing.count tallies.now.compared.count span.low span.high) }
 {
     push_decimal(text, tallies.differing.count)?;
     text.extend_from_slice(b" of ")?;
     push_decimal(text, tallies.compared.count)?;
     text.extend_from_slice(b" words differ (")?;
-    push_address(text, low)?;
+    push_address(text, span.low)?;
     text.extend_from_slice(b" to ")?;
-    push_address(text, high)?;
+    push_address(text, span.high)?;
     text.extend_from_slice(b")\n")
 }
 

@@ -38,13 +38,13 @@ fn reading(rt: &impl Abort, alloc: Global, text: &str, layout: OctalLayout) -> O
 
 /// How many rows are read, blank, other text, and not read.
 fn counts_of(reading: &OctalReading) -> (usize, usize, usize, usize) {
-    let counts = reading.counts;
+    let counts = reading.rows.counts;
     (counts.read, counts.blank, counts.other, counts.unread)
 }
 
 /// The number of a row that isn't read, and why: a letter, and the digits of a group that is wrong.
 fn unread_at(reading: &OctalReading, at: usize) -> Option<(usize, u8, usize)> {
-    let row = reading.unread.get(at)?;
+    let row = reading.rows.unread.get(at)?;
     let (reason, digits) = match row.reason {
         UnreadReason::DamagedDigits => (b'D', 0),
         UnreadReason::GroupOf(digits) => (b'G', digits),
@@ -82,7 +82,7 @@ const LISTING: &str =
 fn tells_what_each_row_is(rt: HostRuntime) {
     let listing = reading(&rt, rt.alloc(), LISTING, CENTRAL);
     assert_row(&rt, 0, &counts_of(&listing), &(3, 1, 1, 4));
-    assert_row(&rt, 1, &listing.first_other, &Some(5));
+    assert_row(&rt, 1, &listing.rows.first_other, &Some(5));
     let unread = [
         Some((3, b'G', 4)),
         Some((4, b'B', 0)),
@@ -196,7 +196,7 @@ fn reads_repeated_words(rt: HostRuntime) {
     }
     let listing = reading(&rt, rt.alloc(), AGAIN, CENTRAL);
     assert_row(&rt, 2, &counts_of(&listing), &(3, 1, 1, 0));
-    assert_row(&rt, 3, &listing.first_other, &Some(3));
+    assert_row(&rt, 3, &listing.rows.first_other, &Some(3));
     assert_row(&rt, 4, &listing.words.known_count(0, 0o777_777), &80);
 }
 

@@ -16,10 +16,13 @@
 //! - `failing.rt`: a device that fails at one call
 //! - `gathering.rt`: what is gathered of a chunk
 //! - `given.rt`: names and lines that tests are given
+//! - `input_rows.rt`: what is wrong with the lines of a source that is read
 //! - `lines_again.rt`: lines that are put and gathered, once more where memory was refused
 //! - `manual.rt`: what is told of words
 //! - `many_edits.rt`: a thousand edits of a few lines, and a thousand of some chunks of lines
 //! - `octal.rt`: a comparison with an octal text
+//! - `mention.rt`: the mentions of a source, as a text and beside its cross-reference
+//! - `mention_rows.rt`: where sources write names, and what these mean there
 //! - `order.rt`: a reader and a writer that tell in which order they are called
 //! - `output.rt`: texts that go into files, where one call of the files fails
 //! - `part_rows.rt`: the texts of a session
@@ -65,11 +68,17 @@ mod gathering;
 #[cfg(test)]
 mod given;
 #[cfg(test)]
+mod input_rows;
+#[cfg(test)]
 mod lines_again;
 #[cfg(test)]
 mod manual;
 #[cfg(test)]
 mod many_edits;
+#[cfg(test)]
+mod mention;
+#[cfg(test)]
+mod mention_rows;
 #[cfg(test)]
 mod octal;
 mod order;

@@ -6,6 +6,7 @@
 //! - `fault_rows.rt`: why nothing is compared
 //! - `given_rows.rt`: words of which several rows have digits, and digits that nobody can read
 //! - `limit_rows.rt`: addresses, columns and an offset that are asked for
+//! - `own_rows.rt`: listings of this program
 //! - `row_rows.rt`: rows of octal texts in their forms
 //! - `run_rows.rt`: words that differ one after another, and all that may be told
 //! - `running.rt`: the run of a comparison
@@ -18,6 +19,7 @@ mod dump_rows;
 mod fault_rows;
 mod given_rows;
 mod limit_rows;
+mod own_rows;
 mod row_rows;
 mod run_rows;
 mod running;

@@ -5,6 +5,7 @@ use Rattle.clap.proofs.OnLiterals.{clap_on_literals}
 use Rattle.cps_claims.specs.declared.layout.OctalFormat.TheVariants.{Rows, Dump}
 use Rattle.cps_claims.specs.declared.layout.ReadColumns.{ReadColumns}
 use Rattle.cps_claims.specs.declared.layout.WordOffset.TheVariants.{Up, Down}
+use Rattle.cps_compare.specs.declared.compare_format.CompareFormat.TheVariants.{Words, Own}
 use Rattle.cps_compare.specs.declared.compare_options.CompareOptions.{CompareOptions}
 use Rattle.cps_list.specs.declared.part.Part.TheVariants.{Listing, Binary, Symbols, Flags, All}
 use Rattle.cps_words.specs.Outputs.{Names}
@@ -177,7 +178,7 @@ check_help = refl
 -- ---- `compare`
 
 abbrev default_options : CompareOptions
-default_options = record { format = Rows; columns = None; offset = Up 0; from = None; to = None; whole = false; all = false }
+default_options = record { format = Words Rows; columns = None; offset = Up 0; from = None; to = None; whole = false; all = false }
 
 abbrev columns_of : ℕ → ℕ → Option ReadColumns
 columns_of first last = Some (record { first = first; last = last })
@@ -266,11 +267,15 @@ row_format : answer_of (call (codes "compare" ∷ codes "--format" ∷ codes "ro
 unfolding clap_on_literals
 row_format = refl
 
-dump_format : answer_of (call (codes "compare" ∷ codes "--format=dump" ∷ codes "old.oct" ∷ [])) ≡ asks (compare (Some (codes "old.oct")) (record default_options { format = Dump })) None
+dump_format : answer_of (call (codes "compare" ∷ codes "--format=dump" ∷ codes "old.oct" ∷ [])) ≡ asks (compare (Some (codes "old.oct")) (record default_options { format = Words Dump })) None
 unfolding clap_on_literals
 dump_format = refl
 
-other_format : answer_of (call (codes "compare" ∷ codes "--format" ∷ codes "own" ∷ codes "old.oct" ∷ [])) ≡ refuses
+own_format : answer_of (call (codes "compare" ∷ codes "--format" ∷ codes "own" ∷ codes "old.oct" ∷ [])) ≡ asks (compare (Some (codes "old.oct")) (record default_options { format = Own })) None
+unfolding clap_on_literals
+own_format = refl
+
+other_format : answer_of (call (codes "compare" ∷ codes "--format" ∷ codes "octal" ∷ codes "old.oct" ∷ [])) ≡ refuses
 unfolding clap_on_literals
 other_format = refl
 

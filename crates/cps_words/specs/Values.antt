@@ -5,11 +5,12 @@ use Rattle.std.specs.List.{after_first, before_first, list_all, list_any, positi
 use Rattle.std.specs.Char.{is_digit}
 use Rattle.std.specs.Str.Parse.{digits_value}
 use Rattle.clap.specs.Words.{Row, Text, first_of}
-use Rattle.cps_claims.specs.declared.layout.OctalFormat.{OctalFormat}
 use Rattle.cps_claims.specs.declared.layout.OctalFormat.TheVariants.{Rows, Dump}
 use Rattle.cps_claims.specs.declared.layout.ReadColumns.{ReadColumns}
 use Rattle.cps_claims.specs.declared.layout.WordOffset.{WordOffset}
 use Rattle.cps_claims.specs.declared.layout.WordOffset.TheVariants.{Up, Down}
+use Rattle.cps_compare.specs.declared.compare_format.CompareFormat.{CompareFormat}
+use Rattle.cps_compare.specs.declared.compare_format.CompareFormat.TheVariants.{Words, Own}
 use Rattle.cps_compare.specs.declared.compare_options.CompareOptions.{CompareOptions}
 use Rattle.cps_list.specs.declared.part.Part.{Part}
 use Rattle.cps_list.specs.declared.part.Part.TheVariants.{Listing, Binary, Symbols, Flags, All}
@@ -117,9 +118,10 @@ abbrev pub address_named : Text → Option ℕ
 address_named word = number_named 8 6 word
 
 -- how rows are read, by its name
-abbrev pub format_named : Text → Option OctalFormat
-format_named word = if bytes_eq word (codes "rows") then Some Rows
-    else if bytes_eq word (codes "dump") then Some Dump
+abbrev pub format_named : Text → Option CompareFormat
+format_named word = if bytes_eq word (codes "rows") then Some (Words Rows)
+    else if bytes_eq word (codes "dump") then Some (Words Dump)
+    else if bytes_eq word (codes "own") then Some Own
     else None
 
 -- how far addresses are moved: 1 to 6 octal digits, taken away where a minus stands before them; a plus may stand there too
@@ -160,12 +162,18 @@ abbrev pub are_rising : Option ℕ → Option ℕ → Bool
 are_rising (Some from) (Some to) = nat_le from to
 are_rising _ _ = true
 
+-- this program's own listing has its own columns
+abbrev pub may_cut : CompareFormat → Option ReadColumns → Bool
+may_cut Own (Some columns) = false
+may_cut _ _ = true
+
 -- what is asked by a format, columns, an offset, and a first and a last address, each of which may be left out, and by two flags
-abbrev pub options_from : Option (Option OctalFormat) → Option (Option ReadColumns) → Option (Option WordOffset) → Option (Option ℕ) → Option (Option ℕ)
+abbrev pub options_from : Option (Option CompareFormat) → Option (Option ReadColumns) → Option (Option WordOffset) → Option (Option ℕ) → Option (Option ℕ)
     → Bool → Bool → Option CompareOptions
 options_from (Some format) (Some columns) (Some offset) (Some from) (Some to) whole all =
-    if are_rising from to then Some (record {
-      format = unwrap_or format Rows;
+    let asked = unwrap_or format (Words Rows) in
+    if may_cut asked columns && are_rising from to then Some (record {
+      format = asked;
       columns = columns;
       offset = unwrap_or offset (Up 0);
       from = from;
@@ -175,7 +183,7 @@ options_from (Some format) (Some columns) (Some offset) (Some from) (Some to) wh
     }) else None
 options_from _ _ _ _ _ _ _ = None
 
--- what the options ask, None where one of their values is wrong, or the first address above the last
+-- what the options ask, None where one of their values is wrong, the first address above the last, or columns named for the own listing
 abbrev pub options_in : List Row → Option CompareOptions
 options_in rows = options_from (value_from format_named (first_of (codes "format") rows)) (value_from columns_named (first_of (codes "columns") rows))
     (value_from offset_named (first_of (codes "offset") rows)) (value_from address_named (first_of (codes "from") rows))

@@ -140,7 +140,7 @@ fn with_reading_options<'a>(alloc: Global, command: Command<'a>) -> Result<Comma
             alloc,
             "format",
             "FORMAT",
-            "How OCTAL is read: rows or dump [default: rows]",
+            "How OCTAL is read: rows, dump or own [default: rows]",
         ),
     )?;
     let command = with_argument(

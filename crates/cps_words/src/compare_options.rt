@@ -11,7 +11,7 @@ use super::unread::{Unread, say_no_name, say_wrong_value};
 use super::values::{format_of_name, has_flag, word_in};
 use clap::ArgMatches;
 use cps_claims::{OctalFormat, ReadColumns, WordOffset};
-use cps_compare::CompareOptions;
+use cps_compare::{CompareFormat, CompareOptions};
 use std::alloc::Global;
 
 /// What the options of `compare` ask. A last address has at most six octal digits.
@@ -24,6 +24,16 @@ pub fn read_compare_options(alloc: Global, values: &ArgMatches) -> Result<Compar
     let offset = read_offset_option(alloc, word_in(values, "offset"))?;
     let from = read_address_option(alloc, "--from <A>", word_in(values, "from"))?;
     let to = read_address_option(alloc, "--to <B>", word_in(values, "to"))?;
+    let format = format.unwrap_or(CompareFormat::Words(OctalFormat::Rows));
+    if !may_cut(format, columns) {
+        let word = word_in(values, "columns").unwrap_or("");
+        return Err(say_wrong_value(
+            alloc,
+            "--columns <F-L>",
+            word,
+            "'--format own' has its own columns",
+        ));
+    }
     if !are_rising(from, to) {
         let last = word_in(values, "to").unwrap_or("");
         return Err(say_wrong_value(
@@ -34,7 +44,7 @@ pub fn read_compare_options(alloc: Global, values: &ArgMatches) -> Result<Compar
         ));
     }
     Ok(CompareOptions {
-        format: format.unwrap_or(OctalFormat::Rows),
+        format,
         columns,
         offset: offset.unwrap_or(WordOffset::Up(0)),
         from,
@@ -42,6 +52,16 @@ pub fn read_compare_options(alloc: Global, values: &ArgMatches) -> Result<Compar
         whole: has_flag(values, "whole"),
         all: has_flag(values, "all"),
     })
+}
+
+/// Whether these columns may be named: this program's own listing has its own.
+fn may_cut(format: CompareFormat, columns: Option<ReadColumns>) -> bool
+    ensures { result ≡ values.may_cut format columns }
+{
+    match (format, columns) {
+        (CompareFormat::Own, Some(_)) => false,
+        _ => true,
+    }
 }
 
 /// Whether a first address isn't above a last one, where both are named.
@@ -73,7 +93,7 @@ fn read_address_option(
 }
 
 /// The format that `--format` names, None where it is left out.
-fn read_format_option(alloc: Global, word: Option<&str>) -> Result<Option<OctalFormat>, Unread>
+fn read_format_option(alloc: Global, word: Option<&str>) -> Result<Option<CompareFormat>, Unread>
     ensures { ReadsValue (value_from format_named (option_map (λ word. word.now) word.entry)) result }
 {
     let Some(word) = word else {
@@ -81,7 +101,7 @@ fn read_format_option(alloc: Global, word: Option<&str>) -> Result<Option<OctalF
     };
     match format_of_name(word) {
         Some(format) => Ok(Some(format)),
-        None => Err(say_no_name(alloc, "--format <FORMAT>", "rows, dump", word)),
+        None => Err(say_no_name(alloc, "--format <FORMAT>", "rows, dump, own", word)),
     }
 }
 

@@ -1,6 +1,7 @@
 //! Why not all is made of a source that is wanted.
 
 use crate::fault::OutputFault;
+use cps_batch::BatchFault;
 use cps_input::InputFault;
 use std::alloc::{AllocError, Global};
 
@@ -21,7 +22,7 @@ impl ExportFault<'_> {
     /// What is told of the fault, with no newline. Control characters of a file's name stand in it as they are.
     pub fn text(&self, alloc: Global) -> Result<String, AllocError> {
         match self {
-            ExportFault::Source(fault) => format!(in alloc; "{fault}"),
+            ExportFault::Source(fault) => format!(in alloc; "{}", BatchFault::of_input(*fault)),
             ExportFault::Memory => String::from_str(alloc, "no memory"),
             ExportFault::Output(fault) => fault.text(alloc),
             ExportFault::WriteFault => String::from_str(alloc, "write fault"),

@@ -1,5 +1,5 @@
 //! A source that is read whole, assembled, and written into files.
-ghost use Rattle.std.specs.Prelude.{◌≡◌, ◌≤◌, ◌+◌, IfOk, MatchResult, option_map};
+ghost use Rattle.std.specs.Prelude.{◌≡◌, ◌≤◌, ◌+◌, IfOk, OnOk, OnErr, option_map};
 ghost use Rattle.cps_text.specs.Counted.{calls_of};
 ghost use Rattle.cps_input.specs.Sources.{IsSource};
 ghost use Rattle.cps_words.specs.Export.{Exports, Makes, WritesAll, WritesFront, part_text, wanted_of};
@@ -83,8 +83,8 @@ fn wanted_text(
 
 /// Writes all of a text, or a front of it where a write fails; nothing where there is none.
 fn write_wanted<W: Write>(writer: &mut Counted<W>, text: &Option<Vec<u8>>) -> Result<(), ListFault>
-    ensures { let text = option_map (λ text. text.items) text.now in MatchResult result
-        (λ _. WritesAll W.contents text writer.old writer.new) (λ _. WritesFront W.contents text writer.old writer.new) }
+    ensures ok { OnOk result (WritesAll W.contents (option_map (λ text. text.items) text.now) writer.old writer.new) }
+    ensures err { OnErr result (WritesFront W.contents (option_map (λ text. text.items) text.now) writer.old writer.new) }
 {
     match text {
         Some(text) => write_text(writer, text),

@@ -95,8 +95,10 @@ heading, is passed over.
   --format dump  a row has whole words, one without an address the next ones; a
                  row '*', or that begins with DUPL, REPEAT or SAME, says that
                  the words before stand again, up to the next address
+  --format own   a listing of this program, compared with the source's: each
+                 digit of columns 17-36, at the address in 10-15
   --columns F-L  the columns of the address and the digits, where rows have
-                 other numbers: 10-36 for code in a listing of this program
+                 other numbers
   --offset N     for a text whose addresses are N too low, or by --offset=-N
                  too high
   --whole        a word that OCTAL lacks, or gives in part, differs; without

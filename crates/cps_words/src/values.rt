@@ -6,6 +6,7 @@ ghost use Rattle.cps_words.specs.Values.{file_named, format_named, part_named};
 
 use clap::ArgMatches;
 use cps_claims::OctalFormat;
+use cps_compare::CompareFormat;
 use cps_list::Part;
 
 /// The word that an option or an operand has, if any.
@@ -50,12 +51,13 @@ pub fn part_of_name(word: &str) -> Option<Part>
 }
 
 /// The format that a word names.
-pub fn format_of_name(word: &str) -> Option<OctalFormat>
+pub fn format_of_name(word: &str) -> Option<CompareFormat>
     ensures { result ≡ format_named word.now }
 {
     match word {
-        "rows" => Some(OctalFormat::Rows),
-        "dump" => Some(OctalFormat::Dump),
+        "rows" => Some(CompareFormat::Words(OctalFormat::Rows)),
+        "dump" => Some(CompareFormat::Words(OctalFormat::Dump)),
+        "own" => Some(CompareFormat::Own),
         _ => None,
     }
 }

@@ -1,5 +1,5 @@
 //! Writing texts into drafts, and placing these where all texts are written.
-ghost use Rattle.std.specs.Prelude.{◌≡◌, Some, IfSome, IfOk, IfErr, OnOk, MatchResult};
+ghost use Rattle.std.specs.Prelude.{◌≡◌, Some, IfSome, IfOk, IfErr, OnOk, OnErr};
 ghost use Rattle.std.specs.Io.KnownBytes.{Appends};
 ghost use Rattle.cps_list.specs.Texts.{text_of};
 ghost use Rattle.cps_words.specs.Outputs.{files_of, names_of, Places};
@@ -64,9 +64,9 @@ fn place<'a, T: Targets>(
     name: &'a str,
     draft: T::Draft,
 ) -> Result<(), OutputFault<'a>>
-    ensures placed { MatchResult result
-        (λ _. T.placed targets.new ≡ with_placed name.now (T.Draft.contents draft) (T.placed targets.old))
-        (λ fault. IsUnplaced name.now fault × (T.placed targets.new ≡ T.placed targets.old)) }
+    ensures placed { OnOk result (T.placed targets.new ≡ with_placed name.now (T.Draft.contents draft) (T.placed targets.old)) }
+    ensures unplaced { OnErr result (T.placed targets.new ≡ T.placed targets.old) }
+    ensures fault { IfErr result (IsUnplaced name.now) }
     ensures waiting { T.waiting targets.new ≡ one_less (T.waiting targets.old) }
 {
     match targets.place(name, draft) {

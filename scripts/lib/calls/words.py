@@ -42,10 +42,10 @@ WORDS = [
 # options of a comparison: words that aren't their values, and words that are, where the octal text isn't there
 OFFSET = b" for '--offset <N>': write 1 to 6 octal digits, behind a minus to take them away"
 OPTIONS = [
-    refused(["compare", "--format", "own", NONE], b"invalid value 'own' for '--format <FORMAT>'\n  [possible values: rows, dump]"),
-    refused(["compare", "--format=", NONE], b"invalid value '' for '--format <FORMAT>'\n  [possible values: rows, dump]"),
-    refused(["compare", "--format", "dumps", NONE], b"invalid value 'dumps' for '--format <FORMAT>'\n  [possible values: rows, dump]\n\n  tip: a similar value exists: 'dump'"),
-    refused(["compare", "--format", "row", NONE], b"invalid value 'row' for '--format <FORMAT>'\n  [possible values: rows, dump]\n\n  tip: a similar value exists: 'rows'"),
+    refused(["compare", "--format", "owl", NONE], b"invalid value 'owl' for '--format <FORMAT>'\n  [possible values: rows, dump, own]"),
+    refused(["compare", "--format=", NONE], b"invalid value '' for '--format <FORMAT>'\n  [possible values: rows, dump, own]"),
+    refused(["compare", "--format", "dumps", NONE], b"invalid value 'dumps' for '--format <FORMAT>'\n  [possible values: rows, dump, own]\n\n  tip: a similar value exists: 'dump'"),
+    refused(["compare", "--format", "row", NONE], b"invalid value 'row' for '--format <FORMAT>'\n  [possible values: rows, dump, own]\n\n  tip: a similar value exists: 'rows'"),
     refused(["compare", "--offset", "8", NONE], b"invalid value '8'" + OFFSET),
     refused(["compare", "--offset", "1234567", NONE], b"invalid value '1234567'" + OFFSET),
     refused(["compare", "--offset=", NONE], b"invalid value ''" + OFFSET),

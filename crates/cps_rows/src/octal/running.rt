@@ -3,7 +3,7 @@ ghost use Rattle.std.specs.Prelude.{◌<◌, ◌^◌};
 ghost use Rattle.std.specs.Option.{ForSome};
 
 use cps_claims::{OctalFormat, WordOffset};
-use cps_compare::{CompareOptions, OctalFault, Setup, compare_inputs};
+use cps_compare::{CompareFormat, CompareOptions, OctalFault, Setup, compare_inputs};
 use cps_state::Hashing;
 use cps_text::Counted;
 use std::alloc::Global;
@@ -12,7 +12,7 @@ use std::process::Abort;
 
 /// Rows in all their columns, and all addresses of which they have digits.
 pub const ALL: CompareOptions = CompareOptions {
-    format: OctalFormat::Rows,
+    format: CompareFormat::Words(OctalFormat::Rows),
     columns: None,
     offset: WordOffset::Up(0),
     from: None,
@@ -23,7 +23,7 @@ pub const ALL: CompareOptions = CompareOptions {
 
 /// A dump.
 pub const DUMP: CompareOptions = CompareOptions {
-    format: OctalFormat::Dump,
+    format: CompareFormat::Words(OctalFormat::Dump),
     columns: None,
     offset: WordOffset::Up(0),
     from: None,
@@ -34,12 +34,23 @@ pub const DUMP: CompareOptions = CompareOptions {
 
 /// All words of the source.
 pub const WHOLE: CompareOptions = CompareOptions {
-    format: OctalFormat::Rows,
+    format: CompareFormat::Words(OctalFormat::Rows),
     columns: None,
     offset: WordOffset::Up(0),
     from: None,
     to: None,
     whole: true,
+    all: false,
+};
+
+/// A listing of this program.
+pub const OWN: CompareOptions = CompareOptions {
+    format: CompareFormat::Own,
+    columns: None,
+    offset: WordOffset::Up(0),
+    from: None,
+    to: None,
+    whole: false,
     all: false,
 };
 

@@ -12,7 +12,7 @@ invariant-loop-rest l = record {
   state : with_rows l.fn.layout.form (l.reader.number + 1) (state_of l.reader.reading) (rows_from l.fn.layout l.reader.stand l.reader.digits.items (option_map_or (λ text. slice_split is_newline text.now) l.rest []))
       ≡ with_rows l.fn.layout.form 1 at_first (rows_in l.fn.layout l.fn.text);
   near : reached l.reader.stand < 2 ^ 40;
-  total : total l.reader.reading.counts ≡ l.reader.number;
+  total : total l.reader.reading.rows.counts ≡ l.reader.number;
   few : l.reader.number + option_map_or (λ text. length text.now + 1) l.rest 0 ≤ length l.fn.text + 1;
 }
 

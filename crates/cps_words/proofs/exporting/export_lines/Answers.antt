@@ -22,7 +22,7 @@ returns-in-Ok-write_wanted-clause-made g c =
       c.flagged_lines.ensures ∙ ap (λ (lines : List (List ℕ)). flagged_lines lines) c.in-Ok.ensures,
       subst (λ (lines : List (List ℕ)). PlacesAll (names_of c.args.export.outputs) lines (g.T.Targets.placed c.args.targets.now)
           (g.T.Targets.placed c.write_outputs.new.targets)) c.in-Ok.ensures c.in_default-write_outputs.ensures.placed,
-      subst (λ (text : Option (List ℕ)). WritesAll g.W.Write.contents text c.args.writer.now c.write_wanted.new.writer) text c.in-Ok-write_wanted.ensures,
+      subst (λ (text : Option (List ℕ)). WritesAll g.W.Write.contents text c.args.writer.now c.write_wanted.new.writer) text c.in-Ok-write_wanted.ensures.ok,
     )
 
 pub returns-clause-made : goal.returns-clause-made
@@ -32,5 +32,5 @@ returns-clause-made g c =
       c.requires,
       subst (λ (lines : List (List ℕ)). PlacesAll (names_of c.args.export.outputs) lines (g.T.Targets.placed c.args.targets.now)
           (g.T.Targets.placed c.write_outputs.new.targets)) c.in-Ok.ensures c.in_default-write_outputs.ensures.placed,
-      subst (λ (text : Option (List ℕ)). WritesFront g.W.Write.contents text c.args.writer.now c.write_wanted.new.writer) text c.in-Err-write_wanted.ensures,
+      subst (λ (text : Option (List ℕ)). WritesFront g.W.Write.contents text c.args.writer.now c.write_wanted.new.writer) text c.in-Err-write_wanted.ensures.err,
     )

@@ -1,12 +1,17 @@
-use Rattle.std.proofs.Common.{cond, None, Some, sym, ap, ◌∙◌}
+use Rattle.std.proofs.Common.{◌≡◌, ◌++◌, OnOk, sym, subst}
+use Rattle.std.specs.Prelude.{IfOk}
+use Rattle.cps_compare.specs.declared.sides.Sides.{Sides}
+use Rattle.cps_compare.specs.Findings.{Findings}
+use Rattle.cps_compare.specs.Code.Kept.{AreKept}
+use Rattle.cps_compare.specs.Code.Surveys.{AreCounts}
 use Rattle.cps_compare.proofs.sides.Sides.count.Goals as goal
 
-pub returns-then-branch : goal.returns-then-branch
-returns-then-branch c = λ assembly sides kept.
-    c.counts_beside.ensures assembly sides kept
-    (c.in_ok-show.ensures.word assembly sides kept ∙ ap (λ b. cond b (Some c.show.new.digits.items) None) c.if-branch.true ∙ ap Some (sym c.deref.ensures.value))
+pub returns-in-Words : goal.returns-in-Words
+returns-in-Words c = λ assembly found are.
+    let kept = subst (λ (s : Sides). AreKept s assembly found) c.in-Words.is are in
+    subst (λ (f : Findings). IfOk c.count.result (AreCounts f c.args.address)) (sym kept.2) (c.count.ensures assembly kept.0 kept.1)
 
-pub returns-else-branch : goal.returns-else-branch
-returns-else-branch c = λ assembly sides kept.
-    c.counts_beside-else-branch.ensures assembly sides kept
-    (c.in_ok-show.ensures.word assembly sides kept ∙ ap (λ b. cond b (Some c.show.new.digits.items) None) c.if-branch.false)
+pub returns-in-Listed : goal.returns-in-Listed
+returns-in-Listed c = λ assembly found are.
+    let kept = subst (λ (s : Sides). AreKept s assembly found) c.in-Listed.is are in
+    subst (λ (f : Findings). IfOk c.count-in-Listed.result (AreCounts f c.args.address)) (sym kept.2) (c.count-in-Listed.ensures assembly kept.0 kept.1)

@@ -1,6 +1,5 @@
-use Rattle.std.proofs.Common.{◌≡◌, ◌+◌, ◌-◌, ◌*◌, ◌≤◌, [], ◌∷◌, ◌++◌, subst, sym, ap, ◌∙◌, arith}
+use Rattle.std.proofs.Common.{◌≡◌, ◌+◌, ◌-◌, ◌≤◌, [], ◌∷◌, ◌++◌, subst, sym, ap, ◌∙◌, arith}
 use Rattle.std.specs.List.{filter, range_with_len}
-use Rattle.cps_compare.specs.Told.{is_compared}
 use Rattle.cps_compare.specs.Code.Runs.{AreCompared}
 use Rattle.cps_compare.specs.Code.Surveys.{AreFew, ListsAndCounts}
 use Rattle.cps_compare.proofs.ToldLemmas.{range-more}
@@ -10,54 +9,53 @@ use Rattle.cps_compare.proofs.sides.Sides.survey.Goals.{then-counts+in_ok-push, 
 
 pub loop-address-init : goal.loop-address-init
 loop-address-init c =
-    let none : 0 ≡ c.args.low - c.args.low = omega arith in
+    let none : 0 ≡ c.args.span.low - c.args.span.low = omega arith in
     record {
-      few = subst (λ n. AreFew c.new-tallies.result (255 * n)) none c.new-tallies.ensures.few;
+      few = subst (AreFew c.new-tallies.result) none c.new-tallies.ensures.few;
       within = omega arith;
-      survey = λ assembly sides kept.
-          subst (λ n. ListsAndCounts sides (range_with_len c.args.low n) c.new-words.result.items c.new-tallies.result) none
-          (record { listed = subst (AreCompared sides []) (sym c.new-words.ensures.items) (compared-none sides); counted = c.new-tallies.ensures.tallies sides });
+      survey = λ assembly found kept.
+          subst (λ n. ListsAndCounts found (range_with_len c.args.span.low n) c.new-words.result.items c.new-tallies.result) none
+          (record { listed = subst (AreCompared found []) (sym c.new-words.ensures.items) (compared-none found); counted = c.new-tallies.ensures.tallies found });
     }
 
 pub loop-address-preserved : goal.loop-address-preserved
 loop-address-preserved c =
-    let low = c.args.low in
+    let low = c.args.span.low in
     let at = c.loop-address.address in
     let from : low ≤ at = c.loop-address.auto.address in
     let below = c.loop-address-test.true in
     let was = c.loop-address.invariant in
     let next : at + 1 - low ≡ at - low + 1 = omega (arith, from) in
     let here : low + (at - low) ≡ at = omega (arith, from) in
-    let more : 255 * (at - low) + 255 ≡ 255 * (at + 1 - low) = omega (arith, from) in
     let range : range_with_len low (at - low) ++ at ∷ [] ≡ range_with_len low (at + 1 - low) =
     ap (λ n. range_with_len low (at - low) ++ n ∷ []) (sym here) ∙ sym (range-more low (at - low)) ∙ ap (range_with_len low) (sym next) in
     record {
-      few = subst (AreFew c.add.new.self) more (c.add.ensures.few (255 * (at - low)) was.few);
+      few = subst (AreFew c.add.new.self) (sym next) (c.add.ensures.few (at - low) was.few);
       within = omega (arith, from, below);
-      survey = λ assembly sides kept.
+      survey = λ assembly found kept.
           let among = range_with_len low (at - low) in
-          let before = was.survey assembly sides kept in
-          let counts = c.in_ok-counts.ensures assembly sides kept in
-          subst (λ among. ListsAndCounts sides among c.if-counts.words.items c.add.new.self) range
+          let before = was.survey assembly found kept in
+          let counts = c.in_ok-counts.ensures assembly found kept in
+          subst (λ among. ListsAndCounts found among c.if-counts.words.items c.add.new.self) range
           (record {
             listed = elim c.if-counts.branch [
               | then-counts+in_ok-push w ↦
-                  subst (AreCompared sides (filter (is_compared sides) (among ++ at ∷ []))) (sym ((λ i. (w.words-is i).items) ∙ w.in_ok-push.ensures.items))
-                  (compared-more sides among c.loop-address.words.items (record { address = at; differs = c.in_ok-counts.counts.differs }) before.listed
+                  subst (AreCompared found (filter found.is_compared (among ++ at ∷ []))) (sym ((λ i. (w.words-is i).items) ∙ w.in_ok-push.ensures.items))
+                  (compared-more found among c.loop-address.words.items (record { address = at; differs = c.in_ok-counts.counts.differs }) before.listed
                   (sym counts.compared ∙ w.if-counts.true) counts.differs)
               | else-counts w ↦
-                  subst (AreCompared sides (filter (is_compared sides) (among ++ at ∷ []))) (sym (λ i. (w.words-is i).items))
-                  (compared-same sides among at c.loop-address.words.items before.listed (sym counts.compared ∙ w.if-counts.false))
+                  subst (AreCompared found (filter found.is_compared (among ++ at ∷ []))) (sym (λ i. (w.words-is i).items))
+                  (compared-same found among at c.loop-address.words.items before.listed (sym counts.compared ∙ w.if-counts.false))
             ];
-            counted = c.add.ensures.tallies sides among before.counted counts;
+            counted = c.add.ensures.tallies found among before.counted counts;
           });
     }
 
 pub returns-clause-survey : goal.returns-clause-survey
-returns-clause-survey c = λ assembly sides kept.
+returns-clause-survey c = λ assembly found kept.
     let within = c.loop-address.invariant.within in
     let past = c.loop-address-test.false in
     let from = c.loop-address.auto.address in
-    let end : c.loop-address.address - c.args.low ≡ c.args.high + 1 - c.args.low = omega (arith, within, past, from) in
-    subst (λ n. ListsAndCounts sides (range_with_len c.args.low n) c.loop-address.words.items c.loop-address.tallies) end
-    (c.loop-address.invariant.survey assembly sides kept)
+    let end : c.loop-address.address - c.args.span.low ≡ c.args.span.high + 1 - c.args.span.low = omega (arith, within, past, from) in
+    subst (λ n. ListsAndCounts found (range_with_len c.args.span.low n) c.loop-address.words.items c.loop-address.tallies) end
+    (c.loop-address.invariant.survey assembly found kept)

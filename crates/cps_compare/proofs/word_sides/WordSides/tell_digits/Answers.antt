@@ -2,7 +2,7 @@ use Rattle.std.proofs.Common.{◌≡◌, [], ◌++◌, cond, ltb, length, sym, a
 use Rattle.cps_compare.specs.Given.{shown_word}
 use Rattle.cps_compare.specs.Differences.{places_of}
 use Rattle.cps_compare.specs.Told.{caret_row, given_for, made_rows}
-use Rattle.cps_compare.proofs.sides.Sides.tell_digits.Goals as goal
+use Rattle.cps_compare.proofs.word_sides.WordSides.tell_digits.Goals as goal
 
 pub returns : goal.returns
 returns g c = λ sides kept same.

@@ -5,7 +5,7 @@ use Rattle.cps_compare.specs.Given.{shown_word, known_in, unknown_in, denied_in}
 use Rattle.cps_compare.specs.Differences.{lacks}
 use Rattle.cps_compare.specs.Told.{given_for, lacks_at}
 use Rattle.cps_compare.proofs.KeptLemmas.{kept-given, stands-same, word-same}
-use Rattle.cps_compare.proofs.sides.Sides.counts_beside.Goals as goal
+use Rattle.cps_compare.proofs.word_sides.WordSides.counts_beside.Goals as goal
 
 pub returns : goal.returns
 returns c = λ assembly sides kept word.
@@ -21,10 +21,10 @@ returns c = λ assembly sides kept word.
     let gives = c.gives-is_given.ensures sides.claims kept.claims in
     let differing = c.differs-differs.ensures sides.claims sides.words kept.claims word in
     record {
-      known = counts.known ∙ ap known_in same;
+      known = c.from.ensures ∙ counts.known ∙ ap known_in same;
       given = gives;
-      unknown = counts.unknown ∙ ap unknown_in same;
-      denied = counts.denied ∙ ap denied_in same;
+      unknown = c.from-2.ensures ∙ counts.unknown ∙ ap unknown_in same;
+      denied = c.from-3.ensures ∙ counts.denied ∙ ap denied_in same;
       absent = c.both.ensures ∙ (λ i. stands i && not (is_shown i));
       in_part = c.both-2.ensures ∙ (λ i. is_shown i && lacking i);
       compared = c.either.ensures ∙ (λ i. gives i || (c.both-3.ensures ∙ (λ i. sym kept.whole i && stands i)) i);
