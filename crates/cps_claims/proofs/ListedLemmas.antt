@@ -1,5 +1,5 @@
 -- Digits that are kept by address, one code more.
-use Rattle.std.proofs.Common.{◌≡◌, ◌≢◌, ℕ, zero, suc, ◌+◌, ◌<◌, ◌≤◌, Bool, true, false, not, ◌&&◌, cond, eqb, set, List, [], ◌∷◌, ◌++◌, length, Option, None, Some, map, flat_map, inl, inr, refl, sym, ap, ◌∙◌, arith, append-nil, append_assoc, rules}
+use Rattle.std.proofs.Common.{◌≡◌, ◌≢◌, ℕ, zero, suc, ◌+◌, ◌<◌, ◌≤◌, Bool, true, false, not, ◌&&◌, cond, eqb, set, List, [], ◌∷◌, ◌++◌, length, Option, Some, map, inl, inr, refl, sym, ap, ◌∙◌, arith, append-nil, append_assoc, rules}
 use Rattle.std.specs.List.{slice_get, range_with_len, filter}
 use Rattle.std.specs.Option.{option_map_or}
 use Rattle.std.proofs.lemmas.Bool.{cases_eq}

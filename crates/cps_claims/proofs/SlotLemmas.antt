@@ -1,9 +1,9 @@
 -- Claims put into the slots of words.
 use Rattle.std.proofs.Common.{◌≡◌, ◌≢◌, refl, zero, suc, ℕ, ◌+◌, ◌*◌, ◌/◌, ◌%◌, ◌<◌, ◌≤◌, Bool, true, false, cond, ◌&&◌, ◌||◌, ◌==◌, eqb, not, Option, None, Some, List, [], ◌∷◌, ◌++◌, length, get_or, set, take, drop, subst, sym, ap, ◌∙◌, arith, ⊎_elim, inl, inr, get_or-set_same, get_or-set_other}
-use Rattle.std.specs.Prelude.{slice_get, option_map}
+use Rattle.std.specs.Prelude.{slice_get}
 use Rattle.std.specs.Borrow.{Bor}
 use Rattle.std.specs.Option.{option_map_or}
-use Rattle.std.specs.List.{AllByRecursion, list_any, filter, sum_by, count_by, range_with_len}
+use Rattle.std.specs.List.{AllByRecursion, list_any, filter, sum_by, range_with_len}
 use Rattle.std.proofs.lemmas.List.FromFn.{sum_by-map-range_with_len_more}
 use Rattle.std.proofs.Math.Path.{fun_ext}
 use Rattle.std.proofs.lemmas.Bool.{cases_eq, or_cases, and_parts, and_from, eqb-true, eq-eqb}
@@ -13,15 +13,12 @@ use Rattle.std.proofs.lemmas.List.Sums.{fold-append}
 use Rattle.std.proofs.lemmas.Nat.{div-mul-add, mod-mul-add, div-add-mod'}
 use Rattle.cps_claims.specs.declared.claimed_word.ClaimedDigit.{ClaimedDigit}
 use Rattle.cps_claims.specs.declared.claimed_word.ClaimedWord.{ClaimedWord}
-use Rattle.cps_claims.specs.Claims.{Claimed, digits_from, Words, digit_at, agrees, differs}
-use Rattle.cps_claims.specs.Counts.{is_for, is_known_at, is_mark_at, is_given, places, count_in_word}
+use Rattle.cps_claims.specs.Claims.{Claimed, digits_from, known, Words, IsWordAt, digit_at, agrees, differs}
+use Rattle.cps_claims.specs.Counts.{is_for, is_given, places}
 use Rattle.cps_claims.specs.declared.claimed_words.ClaimedWords.{ClaimedWords}
-use Rattle.cps_claims.specs.declared.claimed_words.DigitKind.{DigitKind}
-use Rattle.cps_claims.specs.declared.claimed_words.DigitKind.TheVariants.{Known, Mark}
 use Rattle.cps_claims.specs.Code.Held.{Holds}
-use Rattle.cps_claims.specs.Code.Kinds.{passes, deck_digit, count_kept}
 use Rattle.cps_claims.specs.Parts.{is_octal}
-use Rattle.cps_claims.specs.Code.Slots.{is_known, is_claimed, is_other, slot_differs, AnyPlace, none_claimed, nothing, with_digit, WordState, empty_word, state_of, with_claim_here, with_digits_here, with_claim, with_digits, after, state_at}
+use Rattle.cps_claims.specs.Code.Slots.{is_known, is_other, deck_digit, slot_differs, AnyPlace, none_claimed, nothing, with_digit, WordState, empty_word, state_of, with_claim_here, with_digits_here, with_claim, with_digits, after, state_at}
 
 -- what a place has, whatever is read past the end
 pub slot-read : (digits : List ClaimedDigit) (place : ℕ) (other : ClaimedDigit) → place < length digits → get_or digits place other ≡ get_or digits place nothing
@@ -176,19 +173,6 @@ pub or-true : (b : Bool) → (b || true) ≡ true
 or-true true = refl
 or-true false = refl
 
-claimed-case : (new known same again : Bool) (slot : ClaimedDigit) (digit : ℕ) → is_octal digit ≡ new → is_octal slot.shown ≡ known
-    → is_claimed (with_tests new known same again slot digit) ≡ true
-claimed-case true true true again slot digit hd hs = ap (λ b. b || (slot.shown == 63)) hs
-claimed-case true true false true slot digit hd hs = ap (λ b. b || (slot.shown == 63)) hs
-claimed-case true true false false slot digit hd hs = ap (λ b. b || (slot.shown == 63)) hs
-claimed-case true false same again slot digit hd hs = ap (λ b. b || (digit == 63)) hd
-claimed-case false true same again slot digit hd hs = ap (λ b. b || (slot.shown == 63)) hs
-claimed-case false false same again slot digit hd hs = refl
-
-pub claimed-step : (slot : ClaimedDigit) (digit : ℕ) → is_claimed (with_digit slot digit) ≡ (is_claimed slot || true)
-claimed-step slot digit =
-    claimed-case (is_octal digit) (is_octal slot.shown) (digit == slot.shown) (is_octal slot.again) slot digit refl refl ∙ sym (or-true (is_claimed slot))
-
 or-twice : (a b : Bool) → (a || b) ≡ ((a || b) || b)
 or-twice true b = refl
 or-twice false true = refl
@@ -303,8 +287,11 @@ kept_at words address place = (state_at words.words.items address).slots place
 held-slot : (words : ClaimedWords) (claims : List Claimed) → Holds words claims → (address place : ℕ) → kept_at words address place ≡ (after none_claimed claims address).slots place
 held-slot words claims holds address place = ap (λ (states : ℕ → WordState). (states address).slots place) holds.states
 
--- a digit that can be read
-pub known-held : (words : ClaimedWords) (claims : List Claimed) → Holds words claims → (address place : ℕ) → is_known (kept_at words address place) ≡ is_known_at claims address place
+-- whether a digit is claimed that can be read
+abbrev is_known_at : List Claimed → ℕ → ℕ → Bool
+is_known_at claims address place = list_any (is_for address place) (known claims)
+
+known-held : (words : ClaimedWords) (claims : List Claimed) → Holds words claims → (address place : ℕ) → is_known (kept_at words address place) ≡ is_known_at claims address place
 known-held words claims holds address place =
     ap is_known (held-slot words claims holds address place)
     ∙ all-claims is_known is_octal known-step claims none_claimed address place
@@ -312,23 +299,6 @@ known-held words claims holds address place =
     ∙ sym (filter-any (is_for address place) (λ (claim : Claimed). is_octal claim.digit) claims
     ∙ any-same (λ (claim : Claimed). is_for address place claim && is_octal claim.digit) (λ (claim : Claimed). (claim.address == address) && ((claim.place == place) && is_octal claim.digit)) claims
     (λ claim. and-assoc (claim.address == address) (claim.place == place) (is_octal claim.digit)))
-
--- a digit
-claimed-held : (words : ClaimedWords) (claims : List Claimed) → Holds words claims → (address place : ℕ)
-    → is_claimed (kept_at words address place) ≡ list_any (λ (claim : Claimed). (claim.address == address) && ((claim.place == place) && true)) claims
-claimed-held words claims holds address place =
-    ap is_claimed (held-slot words claims holds address place)
-    ∙ all-claims is_claimed (λ digit. true) claimed-step claims none_claimed address place
-    ∙ ap (λ slot. is_claimed slot || list_any (λ (claim : Claimed). (claim.address == address) && ((claim.place == place) && true)) claims) (empty-slot place)
-
--- a digit that can't be read
-pub mark-held : (words : ClaimedWords) (claims : List Claimed) → Holds words claims → (address place : ℕ)
-    → (is_claimed (kept_at words address place) && not (is_known (kept_at words address place))) ≡ is_mark_at claims address place
-mark-held words claims holds address place = λ i.
-    (claimed-held words claims holds address place
-    ∙ any-same (λ (claim : Claimed). (claim.address == address) && ((claim.place == place) && true)) (is_for address place) claims
-    (λ claim. ap (λ b. (claim.address == address) && b) (sym (and-true (claim.place == place))))) i
-    && not (known-held words claims holds address place i)
 
 -- a word of which a digit is claimed that can be read
 pub given-held : (words : ClaimedWords) (claims : List Claimed) → Holds words claims → (address : ℕ) (result : Bool)
@@ -368,17 +338,6 @@ differs-held words claims deck holds address result any =
     (λ claim. same-where deck address claim (claim.address == address) refl)
     ∙ sym (filter-any (λ (claim : Claimed). (claim.address == address) && not (agrees deck claim)) (λ (claim : Claimed). is_octal claim.digit) claims)
 
--- ---- digits of words
-
-abbrev pub held_test : DigitKind → List Claimed → ℕ → ℕ → Bool
-held_test Known claims = is_known_at claims
-held_test Mark claims = is_mark_at claims
-
-pub kind-held : (kind : DigitKind) (words : ClaimedWords) (claims : List Claimed) → Holds words claims → (address place : ℕ)
-    → passes kind (kept_at words address place) ≡ held_test kind claims address place
-kind-held Known words claims holds address place = known-held words claims holds address place
-kind-held Mark words claims holds address place = mark-held words claims holds address place
-
 -- one word more
 pub count-more : (f : ℕ → ℕ) (low n address : ℕ) → low + n ≡ address → sum_by f (range_with_len low (n + 1)) ≡ sum_by f (range_with_len low n) + f address
 count-more f low n address at =
@@ -386,7 +345,7 @@ count-more f low n address at =
     ∙ ap (λ l. sum_by f l + f address) (map-id (range_with_len low n))
 
 -- a digit that the deck has
-pub deck-digit : (deck : Words) (address place : ℕ) (word : Option (Bor (List ℕ))) → deck address ≡ option_map (λ w. w.now) word
+pub deck-digit : (deck : Words) (address place : ℕ) (word : Option (Bor (List ℕ))) → IsWordAt deck address word
     → deck_digit word place ≡ digit_at deck address place
 deck-digit deck address place None is = ap (λ (w : Option (List ℕ)). option_map_or (λ word. slice_get word place) w None) (sym is)
 deck-digit deck address place (Some word) is = ap (λ (w : Option (List ℕ)). option_map_or (λ word. slice_get word place) w None) (sym is)
@@ -398,17 +357,6 @@ one-few false = omega arith
 pub all-places : range_with_len 0 20 ≡ places
 unfolding places
 all-places = refl
-
--- counts of words one by one
-pub same-sums : (f g : ℕ → ℕ) → ((n : ℕ) → f n ≡ g n) → (ns : List ℕ) → sum_by f ns ≡ sum_by g ns
-same-sums f g same ns = ap (λ (h : ℕ → ℕ). sum_by h ns) (fun_ext same)
-
-pub counts-held : (kind : DigitKind) (words : ClaimedWords) (claims : List Claimed) → Holds words claims → (low n : ℕ)
-    → sum_by (λ address. count_kept kind (state_at words.words.items address)) (range_with_len low n)
-    ≡ sum_by (count_in_word (held_test kind claims)) (range_with_len low n)
-counts-held kind words claims holds low n =
-    same-sums (λ address. count_kept kind (state_at words.words.items address)) (count_in_word (held_test kind claims))
-    (λ address. ap (λ (test : ℕ → Bool). count_by test places) (fun_ext (kind-held kind words claims holds address))) (range_with_len low n)
 
 -- past the end nothing is claimed
 pub past-given : (words : ClaimedWords) (claims : List Claimed) → Holds words claims → (address : ℕ) → length words.words.items ≤ address → is_given claims address ≡ false

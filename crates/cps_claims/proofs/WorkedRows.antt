@@ -3,7 +3,9 @@ use Prim.Native.Char.{code}
 use Rattle.std.proofs.Common.{◌≡◌, ℕ, true, false, List, [], ◌∷◌, refl, Option, None, Some, codes}
 use Rattle.std.specs.Prelude.{◌==◌, if◌then◌else◌}
 use Rattle.cps_claims.specs.Columns.{columns_read}
-use Rattle.cps_claims.specs.Counts.{is_known_at, is_mark_at}
+use Rattle.cps_claims.specs.declared.listed_digit.ListedDigit.{ListedDigit}
+use Rattle.cps_claims.specs.Listed.{own_row, codes_from, listed_at}
+use Rattle.cps_claims.specs.ListedPlaces.{listed_places, listed_text}
 use Rattle.cps_claims.specs.Shown.{shown_digit, again_digit, first_row as first_row_of, last_row, again_row}
 use Rattle.cps_claims.specs.Reading.{unread_from}
 use Rattle.cps_claims.specs.Claims.{Claimed, claims_from, Words, differs}
@@ -351,6 +353,77 @@ no-digit = refl
 nothing-said : differs (deck (codes "7611")) [] 0 ≡ false
 nothing-said = refl
 
+-- ---- the rows of this program's own listing
+
+abbrev own : List ℕ → Row
+own row = own_row (Up 0) row
+
+-- the address in columns 10 to 15, the digits in columns 17 to 36
+own-code : own (codes "         000100 5112000001                +           SA1    B2+1") ≡ claim 64 0 (codes "5112000001")
+own-code = refl
+
+-- a second word stands behind a blank
+own-words : own (codes "U        000100 1234 5670") ≡ claim 64 0 (codes "12345670")
+own-words = refl
+
+own-address-alone : own (codes "         000100                           2           ORG    100B") ≡ other
+own-address-alone = refl
+
+own-code-alone : own (codes "                5112000001") ≡ other
+own-code-alone = refl
+
+own-blank : own (codes "    ") ≡ blank
+own-blank = refl
+
+own-letter : own (codes "         000100 51120000O1") ≡ unread DamagedDigits
+own-letter = refl
+
+-- 20 digits fill the columns, and one more stands in column 37
+own-too-long : own (codes "         000100 123456701234567012340") ≡ unread DamagedDigits
+own-too-long = refl
+
+own-before : own (codes "         00010015112000001") ≡ unread DamagedDigits
+own-before = refl
+
+own-no-address : own (codes "         00x100 5112000001") ≡ unread NoAddress
+own-no-address = refl
+
+own-moved : own_row (Down 64) (codes "         000100 1234") ≡ claim 0 0 (codes "1234")
+own-moved = refl
+
+own-too-low : own_row (Down 65) (codes "         000100 1234") ≡ unread NoSuchAddress
+own-too-low = refl
+
+-- the codes at an address stand one behind another, each with the number of its row
+abbrev listed : ℕ → ℕ → ListedDigit
+listed digit by = record { digit = digit; by = by }
+
+own-digits : listed_at (codes_from 1 (claim 64 0 (codes "12") ∷ other ∷ claim 65 0 (codes "7") ∷ claim 64 0 (codes "3?") ∷ [])) 64
+    ≡ listed (code "1") 1 ∷ listed (code "2") 1 ∷ listed (code "3") 4 ∷ listed (code "?") 4 ∷ []
+own-digits = refl
+
+-- ---- where two listings differ: in a digit that can be read, and isn't the source's
+
+abbrev deck-listed : List ListedDigit
+deck-listed = listed (code "1") 1 ∷ listed (code "4") 1 ∷ listed (code "5") 2 ∷ []
+
+one-place : listed_places false deck-listed (listed (code "1") 7 ∷ listed (code "?") 7 ∷ listed (code "6") 9 ∷ []) ≡ 2 ∷ []
+one-place = refl
+
+-- a digit more is one that the source doesn't list
+one-more : listed_places false deck-listed (listed (code "1") 7 ∷ listed (code "4") 7 ∷ listed (code "5") 9 ∷ listed (code "0") 9 ∷ []) ≡ 3 ∷ []
+one-more = refl
+
+-- digits lack where all codes must be given
+none-lacks : listed_places false deck-listed (listed (code "1") 7 ∷ []) ≡ []
+none-lacks = refl
+
+two-lack : listed_places true deck-listed (listed (code "1") 7 ∷ []) ≡ 1 ∷ 2 ∷ []
+two-lack = refl
+
+shown-listed : listed_text (listed (code "1") 7 ∷ listed (code ".") 7 ∷ []) ≡ codes "1?"
+shown-listed = refl
+
 -- ---- what is shown: at place 0 the same digit twice and then another, at place 1 a mark and then a digit, at place 2 a mark
 
 abbrev claims : List Claimed
@@ -383,17 +456,8 @@ last-row = refl
 again-row : again_row claims 0 ≡ 6
 again-row = refl
 
-known-there : is_known_at claims 0 0 ≡ true
-known-there = refl
-
-mark-replaced : is_mark_at claims 0 1 ≡ false
-mark-replaced = refl
-
-mark-there : is_mark_at claims 0 2 ≡ true
-mark-there = refl
-
 -- ---- the rows of a text, one after another
 
-listed : unread_from 1 (other ∷ unread (GroupOf 4) ∷ claim 1 0 (codes "73412") ∷ unread DamagedDigits ∷ blank ∷ [])
+unread-listed : unread_from 1 (other ∷ unread (GroupOf 4) ∷ claim 1 0 (codes "73412") ∷ unread DamagedDigits ∷ blank ∷ [])
     ≡ record { number = 2; reason = GroupOf 4 } ∷ record { number = 4; reason = DamagedDigits } ∷ []
-listed = refl
+unread-listed = refl

@@ -5,5 +5,4 @@ pub mod Found
 pub mod Slots
 pub mod Held
 pub mod States
-pub mod Kinds
 pub mod Listed

@@ -1,5 +1,5 @@
--- How many digits an octal text claims, and for which words. Our own.
-use Rattle.std.specs.Prelude.{◌≡◌, ℕ, ◌+◌, ◌-◌, ◌<◌, ◌≤◌, Bool, true, false, not, ◌==◌, ◌&&◌, List, count_by, sum_by}
+-- For which words an octal text claims digits. Our own.
+use Rattle.std.specs.Prelude.{◌≡◌, ℕ, ◌<◌, ◌≤◌, Bool, true, false, ◌==◌, ◌&&◌, List}
 use Rattle.std.specs.List.{list_any, range_with_len}
 use Rattle.std.specs.Bool.{MatchBool}
 use Rattle.cps_claims.specs.Claims.{Claimed, known}
@@ -7,24 +7,9 @@ use Rattle.cps_claims.specs.Claims.{Claimed, known}
 abbrev pub is_for : ℕ → ℕ → Claimed → Bool
 is_for address place claim = (claim.address == address) && (claim.place == place)
 
--- whether a digit is claimed that can be read
-abbrev pub is_known_at : List Claimed → ℕ → ℕ → Bool
-is_known_at claims address place = list_any (is_for address place) (known claims)
-
--- whether a digit is claimed that can't be read, and none that can
-abbrev pub is_mark_at : List Claimed → ℕ → ℕ → Bool
-is_mark_at claims address place = list_any (is_for address place) claims && not (is_known_at claims address place)
-
 -- a word has at most 20 digits
 unfoldable pub places : List ℕ
 places = range_with_len 0 20
-
-abbrev pub count_in_word : (ℕ → ℕ → Bool) → ℕ → ℕ
-count_in_word test address = count_by (test address) places
-
--- from one address to another, both counted
-abbrev pub count_between : (ℕ → ℕ → Bool) → ℕ → ℕ → ℕ
-count_between test low high = sum_by (count_in_word test) (range_with_len low (high + 1 - low))
 
 -- whether a digit of a word is claimed that can be read
 abbrev pub is_given : List Claimed → ℕ → Bool

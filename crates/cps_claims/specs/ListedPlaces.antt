@@ -1,6 +1,6 @@
 -- Where two listings differ at an address: that of a text from that of a source, digit by digit. Our own.
 use Prim.Native.Char.{code}
-use Rattle.std.specs.Prelude.{◌≡◌, ℕ, ◌-◌, Bool, false, true, not, ◌&&◌, ◌==◌, nat_lt, List, [], ◌++◌, length, map, filter, slice_get, Some, if◌then◌else◌}
+use Rattle.std.specs.Prelude.{◌≡◌, ℕ, ◌-◌, Bool, false, true, not, ◌&&◌, ◌==◌, List, [], ◌++◌, length, map, filter, slice_get, Some, if◌then◌else◌}
 use Rattle.std.specs.List.{range_with_len, count_by, list_any}
 use Rattle.std.specs.Option.{option_map_or}
 use Rattle.cps_claims.specs.declared.listed_digit.ListedDigit.{ListedDigit}

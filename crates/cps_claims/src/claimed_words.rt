@@ -1,12 +1,11 @@
 //! The digits that an octal text claims, by address.
-ghost use Rattle.std.specs.Prelude.{◌≡◌, ℕ, ◌<◌, ◌≤◌, ◌^◌, ◌+◌, ◌-◌, List, OnOk, option_map, sum_by, vec_len, if◌then◌else◌, length, max, IfSome, MatchOption};
-ghost use Rattle.std.specs.List.{range_with_len};
-ghost use Rattle.cps_claims.specs.Code.Kinds.{passes, deck_digit, count_kept, count_all};
-ghost use Rattle.cps_claims.specs.Claims.{Claimed, Words, digits_from, differs};
+ghost use Rattle.std.specs.Prelude.{◌≡◌, ℕ, ◌<◌, ◌≤◌, ◌^◌, ◌+◌, ◌-◌, List, OnOk, vec_len, length, max, IfSome, MatchOption};
+ghost use Rattle.cps_claims.specs.Code.Slots.{deck_digit};
+ghost use Rattle.cps_claims.specs.Claims.{Claimed, Words, IsWordAt, differs};
 ghost use Rattle.cps_claims.specs.Words.{size_of};
 ghost use Rattle.cps_claims.specs.Code.Slots as slots;
 
-use super::claimed_word::{ClaimedDigit, ClaimedWord, MOST_DIGITS};
+use super::claimed_word::{ClaimedWord, MOST_DIGITS};
 use super::layout::{WordForm, word_size};
 use super::row::MOST_WORDS;
 use std::alloc::{AllocError, Global};
@@ -30,7 +29,7 @@ pub struct ClaimedWords {
 
 impl ClaimedWords {
     ghost use Rattle.cps_claims.specs.Rows.{words_in};
-    ghost use Rattle.cps_claims.specs.Counts.{is_known_at, is_mark_at, count_between, SomeBetween, is_given, GivesNone, IsFirst, IsLast};
+    ghost use Rattle.cps_claims.specs.Counts.{SomeBetween, is_given, GivesNone, IsFirst, IsLast};
     ghost use Rattle.cps_claims.specs.Shown.{Shows};
     ghost use Rattle.cps_claims.specs.Code.Held.{Holds};
 
@@ -52,8 +51,7 @@ impl ClaimedWords {
     ) -> Result<(), AllocError>
         requires place { claim.place ≤ MOST_DIGITS }
         requires within { claim.address + words_in (size_of form) (claim.place + length digits.now) ≤ MOST_WORDS }
-        ensures { OnOk result (slots.AddsClaims (digits_from (size_of form) claim.row claim.address claim.place digits.now)
-            self.old.words.items self.new.words.items) }
+        ensures { OnOk result (slots.AddsClaims (slots.digits_claimed form claim digits.now) self.old.words.items self.new.words.items) }
     {
         let size = word_size(form);
         let mut at = claim.place;
@@ -73,24 +71,10 @@ impl ClaimedWords {
     /// Whether a digit that is claimed for the word at an address is another than the deck's. `word` has the deck's octal digits, 20 or 4;
     /// None: the deck has no word there.
     pub fn differs(&self, address: u32, word: Option<&[u8]>) -> bool
-        ensures { (claims : List Claimed) (words : Words) → Holds self.now claims → words address ≡ option_map (λ word. word.now) word.entry
+        ensures { (claims : List Claimed) (words : Words) → Holds self.now claims → IsWordAt words address word.entry
             → result ≡ differs words claims address }
     {
         word_differs(&self.word(address), word)
-    }
-
-    /// How many digits are claimed that can be read, of the words from one address to another, both counted.
-    pub fn known_count(&self, low: u32, high: u32) -> u64
-        ensures { (claims : List Claimed) → Holds self.now claims → result ≡ count_between (is_known_at claims) low high }
-    {
-        self.count(DigitKind::Known, low, high)
-    }
-
-    /// How many digits are claimed that can't be read, while no other row has one that can.
-    pub fn mark_count(&self, low: u32, high: u32) -> u64
-        ensures { (claims : List Claimed) → Holds self.now claims → result ≡ count_between (is_mark_at claims) low high }
-    {
-        self.count(DigitKind::Mark, low, high)
     }
 
     /// Whether a digit that can be read is claimed between two addresses, both counted.
@@ -161,51 +145,6 @@ impl ClaimedWords {
             Some(word) => *word,
             None => ClaimedWord::new(),
         }
-    }
-
-    /// How many digits of a kind the words have from one address to another.
-    fn count(&self, kind: DigitKind, low: u32, high: u32) -> u64
-        ensures { result ≡ count_all kind self.now.words.items low high }
-    {
-        let mut count = 0;
-        for address in u64::from(low)..u64::from(high) + 1 {
-            count += count_in(kind, &self.word(address as u32));
-        }
-        count
-    }
-}
-
-/// Which digits are counted.
-#[derive(Clone, Copy)]
-enum DigitKind {
-    Known,
-    Mark,
-}
-
-/// How many digits of a kind a word has.
-fn count_in(kind: DigitKind, word: &ClaimedWord) -> u64
-    ensures count { result ≡ count_kept kind (slots.state_of word.now) }
-    ensures few { result ≤ MOST_DIGITS }
-{
-    let mut count = 0;
-    for place in 0..MOST_DIGITS {
-        count += one_if(is_of(kind, word.digit(place)));
-    }
-    count
-}
-
-fn one_if(test: bool) -> u64
-    ensures { result ≡ (if test then 1 else 0) }
-{
-    if test { 1 } else { 0 }
-}
-
-fn is_of(kind: DigitKind, digit: ClaimedDigit) -> bool
-    ensures { result ≡ passes kind digit }
-{
-    match kind {
-        DigitKind::Known => digit.is_known(),
-        DigitKind::Mark => digit.is_claimed() && !digit.is_known(),
     }
 }
 

@@ -1,5 +1,5 @@
 //! The digits that a listing has at each address.
-ghost use Rattle.std.specs.Prelude.{◌≡◌, ℕ, List, [], ◌∷◌, ◌++◌, ◌<◌, ◌≤◌, ◌^◌, OnOk, length, vec_len, max};
+ghost use Rattle.std.specs.Prelude.{◌≡◌, ℕ, List, [], ◌<◌, ◌≤◌, ◌^◌, OnOk, length, vec_len, max};
 
 use super::listed_digit::ListedDigit;
 use super::listed_word::ListedWord;
@@ -15,7 +15,7 @@ pub struct ListedWords {
 
 impl ListedWords {
     ghost use Rattle.cps_claims.specs.Listed.{ListedCode, listed_at};
-    ghost use Rattle.cps_claims.specs.Code.Listed.{digits_at, Lists};
+    ghost use Rattle.cps_claims.specs.Code.Listed.{digits_at, Lists, AddsCode};
 
     /// No digits. Takes no memory yet.
     pub fn new(alloc: Global) -> ListedWords
@@ -29,8 +29,7 @@ impl ListedWords {
     /// Adds the digits of a code at an address, behind those that stand there. The error is that there was no memory; then some of the digits may be kept.
     pub fn add(&mut self, by: u32, address: u32, digits: &[u8]) -> Result<(), AllocError>
         requires { address < MOST_WORDS }
-        ensures { (codes : List ListedCode) → Lists self.old codes
-            → OnOk result (Lists self.new (codes ++ record { by = by; address = address; digits = digits.now } ∷ [])) }
+        ensures { OnOk result (AddsCode (record { by = by; address = address; digits = digits.now }) self.old self.new) }
     {
         let at = address as usize;
         Self::make_room(&mut self.words, at + 1)?;

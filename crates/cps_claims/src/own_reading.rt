@@ -1,10 +1,9 @@
 //! A listing of this program, row after row.
-ghost use Rattle.std.specs.Prelude.{◌≡◌, List, [], ◌∷◌, ◌++◌, ◌+◌, ◌^◌, ◌<◌, IfOk, OnOk, length};
-ghost use Rattle.cps_claims.specs.Rows.{Row};
+ghost use Rattle.std.specs.Prelude.{◌≡◌, List, [], ◌++◌, ◌+◌, ◌^◌, ◌<◌, IfOk, OnOk};
 ghost use Rattle.cps_claims.specs.Listed.{ListedCode, own_rows, code_of, codes_from};
 ghost use Rattle.cps_claims.specs.Reading.{IsReading};
 ghost use Rattle.cps_claims.specs.Code.Found.{row_with};
-ghost use Rattle.cps_claims.specs.Code.Listed.{IsBelow, Lists, HasRead};
+ghost use Rattle.cps_claims.specs.Code.Listed.{IsBelow, Lists, HasRead, AddsOwnRow};
 ghost use Rattle.cps_claims.specs.Code.States.{total};
 
 use super::layout::WordOffset;
@@ -41,8 +40,7 @@ impl OwnReading {
     fn add(&mut self, number: u32, row: RowReading, digits: &[u8]) -> Result<(), AllocError>
         requires few { total self.old.rows.counts < 2 ^ 63 }
         requires below { IsBelow row }
-        ensures row { (before : List Row) → number ≡ length before + 1 → HasRead before self.old
-            → OnOk result (HasRead (before ++ row_with digits.now row ∷ []) self.new) }
+        ensures row { OnOk result (AddsOwnRow number (row_with digits.now row) self.old self.new) }
         ensures one { OnOk result (total self.new.rows.counts ≡ total self.old.rows.counts + 1) }
     {
         self.rows.add(number as usize, row)?;

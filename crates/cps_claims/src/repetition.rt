@@ -4,7 +4,7 @@ ghost use Rattle.std.specs.List.{starts_with, repeat};
 ghost use Rattle.std.specs.Char.{eq_ignore_ascii_case};
 ghost use Rattle.cps_claims.specs.Rows as rows;
 ghost use Rattle.cps_claims.specs.Code.Walk.{part_shown, parts_left};
-ghost use Rattle.cps_claims.specs.Code.Found.{row_found, has_digits, reached, IsWithin, rows_left};
+ghost use Rattle.cps_claims.specs.Code.Found.{Finds, has_digits, reached, IsWithin, address_behind};
 
 use super::layout::{OctalLayout, cut_row, word_size};
 use super::part::{RowPart, RowRest, address_in};
@@ -51,8 +51,7 @@ pub fn read_repetition(
     digits: &mut Vec<u8>,
 ) -> Result<(RowReading, RowStand), AllocError>
     requires near { reached stand < 2 ^ 40 }
-    ensures row { IfOk result (λ found. row_found digits.new.items found
-        ≡ rows.repetition layout stand digits.old.items (rows.first_address layout (rows_left behind.entry))) }
+    ensures row { Finds result digits.new.items (rows.repetition layout stand digits.old.items (address_behind layout behind.entry)) }
     ensures digits { IfOk result (λ found. has_digits found.0 ≡ true) }
     ensures near { IfOk result (λ found. reached found.1 < 2 ^ 40) }
     ensures within { IfOk result (λ found. IsWithin layout.form digits.new.items found.0) }
@@ -78,7 +77,7 @@ fn read_words_again(
     digits: &mut Vec<u8>,
 ) -> Result<(RowReading, RowStand), AllocError>
     requires { begin < 2 ^ 41 }
-    ensures row { IfOk result (λ found. row_found digits.new.items found ≡ rows.words_again layout stand digits.old.items begin count) }
+    ensures row { Finds result digits.new.items (rows.words_again layout stand digits.old.items begin count) }
     ensures digits { IfOk result (λ found. has_digits found.0 ≡ true) }
     ensures near { IfOk result (λ found. reached found.1 < 2 ^ 40) }
     ensures within { IfOk result (λ found. IsWithin layout.form digits.new.items found.0) }
@@ -117,7 +116,7 @@ fn repeat_digits(digits: &mut Vec<u8>, times: usize) -> Result<(), AllocError>
 
 /// The address with which the row behind begins.
 fn first_address(layout: OctalLayout, behind: Option<&[u8]>) -> Option<u32>
-    ensures { result ≡ rows.first_address layout (rows_left behind.entry) }
+    ensures { result ≡ address_behind layout behind.entry }
 {
     let (row, _) = first_row(behind?);
     let (part, _) = RowRest::of(cut_row(row, layout.columns)).next()?;

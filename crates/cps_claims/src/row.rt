@@ -4,7 +4,7 @@ ghost use Rattle.std.specs.Option.{option_map_or};
 ghost use Rattle.cps_claims.specs.Rows as rows;
 ghost use Rattle.cps_claims.specs.Words as words;
 ghost use Rattle.cps_claims.specs.Code.Walk.{parts_left};
-ghost use Rattle.cps_claims.specs.Code.Found.{row_found, has_digits, reached, IsWithin, rows_left};
+ghost use Rattle.cps_claims.specs.Code.Found.{Finds, row_found, has_digits, reached, IsWithin, address_behind};
 ghost use Rattle.cps_claims.specs.Parts.{parts_of};
 ghost use Rattle.cps_claims.specs.declared.layout.WordForm.{WordForm};
 
@@ -45,8 +45,7 @@ pub fn read_row(
     digits: &mut Vec<u8>,
 ) -> Result<(RowReading, RowStand), AllocError>
     requires near { reached stand < 2 ^ 40 }
-    ensures row { IfOk result (λ found. row_found digits.new.items found
-        ≡ rows.row_among layout stand digits.old.items (parts_of row.now) (rows.first_address layout (rows_left behind.entry))) }
+    ensures row { Finds result digits.new.items (rows.row_among layout stand digits.old.items (parts_of row.now) (address_behind layout behind.entry)) }
     ensures kept { IfOk result (λ found. has_digits found.0 ≡ false → digits.new.items ≡ digits.old.items) }
     ensures near { IfOk result (λ found. reached found.1 < 2 ^ 40) }
     ensures within { IfOk result (λ found. IsWithin layout.form digits.new.items found.0) }
@@ -75,7 +74,7 @@ fn read_digit_row(
     digits: &mut Vec<u8>,
 ) -> Result<(RowReading, RowStand), AllocError>
     requires near { reached stand < 2 ^ 40 }
-    ensures row { IfOk result (λ found. row_found digits.new.items found ≡ rows.digit_row layout stand (parts_left rest.entry)) }
+    ensures row { Finds result digits.new.items (rows.digit_row layout stand (parts_left rest.entry)) }
     ensures digits { IfOk result (λ found. has_digits found.0 ≡ true) }
     ensures near { IfOk result (λ found. reached found.1 < 2 ^ 40) }
     ensures within { IfOk result (λ found. IsWithin layout.form digits.new.items found.0) }
@@ -96,8 +95,7 @@ fn read_behind_address(
     digits: &mut Vec<u8>,
 ) -> Result<(RowReading, RowStand), AllocError>
     requires near { reached stand < 2 ^ 40 }
-    ensures row { IfOk result (λ found. row_found digits.new.items found
-        ≡ rows.behind_address layout stand address (parts_left rest.entry)) }
+    ensures row { Finds result digits.new.items (rows.behind_address layout stand address (parts_left rest.entry)) }
     ensures kept { IfOk result (λ found. has_digits found.0 ≡ false → digits.new.items ≡ digits.old.items) }
     ensures near { IfOk result (λ found. reached found.1 < 2 ^ 40) }
     ensures within { IfOk result (λ found. IsWithin layout.form digits.new.items found.0) }
@@ -123,7 +121,7 @@ fn read_address_row(
     rest: RowRest<'_>,
     digits: &mut Vec<u8>,
 ) -> Result<(RowReading, RowStand), AllocError>
-    ensures row { IfOk result (λ found. row_found digits.new.items found ≡ rows.address_row layout stand address (parts_left rest.entry)) }
+    ensures row { Finds result digits.new.items (rows.address_row layout stand address (parts_left rest.entry)) }
     ensures digits { IfOk result (λ found. has_digits found.0 ≡ true) }
     ensures near { IfOk result (λ found. reached found.1 < 2 ^ 40) }
     ensures within { IfOk result (λ found. IsWithin layout.form digits.new.items found.0) }

@@ -1,14 +1,16 @@
 -- For the functions that read a row, not part of what a reader believes: what they found.
-use Rattle.std.specs.Prelude.{ℕ, ◌+◌, ◌≤◌, Bool, true, false, List, [], length, Option}
+use Rattle.std.specs.Prelude.{◌≡◌, ℕ, ◌+◌, ◌≤◌, Bool, true, false, List, [], length, Option, Result, IfOk}
 use Rattle.std.specs.List.{slice_split}
 use Rattle.std.specs.Option.{option_map_or}
 use Rattle.std.specs.Borrow.{Bor}
+use Rattle.std.specs.declared.alloc.AllocError.{AllocError}
+use Rattle.cps_claims.specs.declared.layout.OctalLayout.{OctalLayout}
 use Rattle.cps_claims.specs.declared.layout.WordForm.{WordForm}
 use Rattle.cps_claims.specs.declared.row.RowReading.{RowReading}
 use Rattle.cps_claims.specs.declared.row.RowReading.TheVariants as code
 use Rattle.cps_claims.specs.declared.stand.RowStand.{RowStand}
 use Rattle.cps_claims.specs.Words.{size_of, most_words}
-use Rattle.cps_claims.specs.Rows.{Row, read, blank, other, unread, words_in, is_newline}
+use Rattle.cps_claims.specs.Rows.{Row, read, blank, other, unread, words_in, is_newline, first_address}
 
 -- a row that has these digits
 abbrev pub row_with : List ℕ → RowReading → Row
@@ -20,6 +22,10 @@ row_with digits (code.Unread reason) = unread reason
 -- and where it stands then
 abbrev pub row_found : List ℕ → RowReading × RowStand → Row × RowStand
 row_found digits found = (row_with digits found.0, found.1)
+
+-- this is found, if there was memory
+abbrev pub Finds : Result (RowReading × RowStand) AllocError → List ℕ → Row × RowStand → Type 0
+Finds result digits found = IfOk result (λ got. row_found digits got ≡ found)
 
 -- a row that is read begins in a word, and its words have addresses
 abbrev pub IsWithin : WordForm → List ℕ → RowReading → Type 0
@@ -42,3 +48,7 @@ reached stand = option_map_or (λ place. place.address) stand.place 0
 -- the rows of what stands behind a row
 abbrev pub rows_left : Option (Bor (List ℕ)) → List (List ℕ)
 rows_left behind = option_map_or (λ text. slice_split is_newline text.now) behind []
+
+-- the address with which the first of them begins
+abbrev pub address_behind : OctalLayout → Option (Bor (List ℕ)) → Option ℕ
+address_behind layout behind = first_address layout (rows_left behind)

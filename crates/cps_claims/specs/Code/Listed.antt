@@ -1,5 +1,5 @@
 -- For the digits of listings that are kept by address, not part of what a reader believes: they are kept.
-use Rattle.std.specs.Prelude.{◌≡◌, ◌<◌, ℕ, List, [], slice_get}
+use Rattle.std.specs.Prelude.{◌≡◌, ◌+◌, ◌<◌, ℕ, List, [], ◌∷◌, ◌++◌, length, slice_get}
 use Rattle.std.specs.Option.{option_map_or}
 use Rattle.cps_claims.specs.declared.listed_digit.ListedDigit.{ListedDigit}
 use Rattle.cps_claims.specs.declared.listed_word.ListedWord.{ListedWord}
@@ -18,6 +18,10 @@ digits_at words address = option_map_or (λ word. word.digits.items) (slice_get 
 abbrev pub Lists : ListedWords → List ListedCode → Type 0
 Lists words codes = (address : ℕ) → digits_at words.words.items address ≡ listed_at codes address
 
+-- a code is added to those that are kept
+abbrev pub AddsCode : ListedCode → ListedWords → ListedWords → Type 0
+AddsCode code old new = (codes : List ListedCode) → Lists old codes → Lists new (codes ++ code ∷ [])
+
 -- a row that is read has an address
 abbrev pub IsBelow : RowReading → Type 0
 IsBelow (Read address place) = address < 262144
@@ -29,3 +33,7 @@ IsBelow (Unread reason) = Unit {0}
 pub record HasRead (rows : List Row) (reading : OwnReading) : Type 0 where
   pub kinds : kinds_of reading.rows ≡ with_kinds 1 no_kinds rows
   pub words : Lists reading.words (codes_from 1 rows)
+
+-- the row of a number is added to those that are read
+abbrev pub AddsOwnRow : ℕ → Row → OwnReading → OwnReading → Type 0
+AddsOwnRow number row old new = (before : List Row) → number ≡ length before + 1 → HasRead before old → HasRead (before ++ row ∷ []) new

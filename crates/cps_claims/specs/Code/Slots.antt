@@ -1,12 +1,16 @@
 -- For the claims that are kept by address, not part of what a reader believes: what one claim more leaves.
 use Prim.Native.Char.{code}
-use Rattle.std.specs.Prelude.{◌≡◌, ℕ, ◌+◌, ◌<◌, Bool, not, ◌==◌, ◌&&◌, ◌||◌, List, [], ◌∷◌, fold, slice_index_or, if◌then◌else◌, Option, false, true}
+use Rattle.std.specs.Prelude.{◌≡◌, ℕ, ◌+◌, ◌<◌, Bool, not, ◌==◌, ◌&&◌, ◌||◌, List, [], ◌∷◌, fold, slice_get, slice_index_or, if◌then◌else◌, Option, None, false, true}
 use Rattle.std.specs.Option.{option_map_or}
 use Rattle.std.specs.Bool.{MatchBool}
+use Rattle.std.specs.Borrow.{Bor}
 use Rattle.cps_claims.specs.declared.claimed_word.ClaimedDigit.{ClaimedDigit}
 use Rattle.cps_claims.specs.declared.claimed_word.ClaimedWord.{ClaimedWord}
+use Rattle.cps_claims.specs.declared.claimed_words.RowClaim.{RowClaim}
+use Rattle.cps_claims.specs.declared.layout.WordForm.{WordForm}
+use Rattle.cps_claims.specs.Words.{size_of}
 use Rattle.cps_claims.specs.Parts.{is_octal}
-use Rattle.cps_claims.specs.Claims.{Claimed}
+use Rattle.cps_claims.specs.Claims.{Claimed, digits_from}
 pub use Rattle.cps_claims.specs.Shown.{nothing, kept_digit}
 
 -- ---- a digit
@@ -46,6 +50,10 @@ is_other deck digit = not (option_map_or (λ other. other == digit) deck false)
 
 abbrev pub slot_differs : Option ℕ → ClaimedDigit → Bool
 slot_differs deck slot = is_octal slot.shown && (is_octal slot.again || is_other deck slot.shown)
+
+-- the digit of the deck at a place
+abbrev pub deck_digit : Option (Bor (List ℕ)) → ℕ → Option ℕ
+deck_digit deck place = option_map_or (λ word. slice_get word.now place) deck None
 
 -- ---- a word
 
@@ -114,6 +122,10 @@ after states claims = fold with_claim states claims
 
 abbrev pub state_at : List ClaimedWord → ℕ → WordState
 state_at words address = state_of (slice_index_or words address empty_word)
+
+-- the digits of a row
+abbrev pub digits_claimed : WordForm → RowClaim → List ℕ → List Claimed
+digits_claimed form claim digits = digits_from (size_of form) claim.row claim.address claim.place digits
 
 -- the words after more claims
 abbrev pub AddsClaims : List Claimed → List ClaimedWord → List ClaimedWord → Type 0

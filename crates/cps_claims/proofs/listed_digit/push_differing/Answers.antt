@@ -1,4 +1,4 @@
-use Rattle.std.proofs.Common.{◌≡◌, [], ◌∷◌, ◌++◌, cond, sym, ap, ◌∙◌, append_assoc, append-nil}
+use Rattle.std.proofs.Common.{[], ◌∷◌, ◌++◌, cond, sym, ap, ◌∙◌, append_assoc, append-nil}
 use Rattle.std.specs.List.{filter, range_with_len}
 use Rattle.cps_claims.specs.ListedPlaces.{differs_in}
 use Rattle.cps_claims.proofs.ListedLemmas.{places-more}

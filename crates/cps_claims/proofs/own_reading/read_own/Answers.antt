@@ -1,7 +1,7 @@
-use Rattle.std.proofs.Common.{◌≡◌, List, [], ◌++◌, map, sym, ap, ◌∙◌, append-nil}
+use Rattle.std.proofs.Common.{◌≡◌, [], ◌++◌, map, sym, ap, ◌∙◌, append-nil}
 use Rattle.std.specs.List.{slice_split}
 use Rattle.std.specs.Option.{option_map_or}
-use Rattle.cps_claims.specs.Rows.{Row, is_newline}
+use Rattle.cps_claims.specs.Rows.{is_newline}
 use Rattle.cps_claims.specs.Listed.{own_row, own_rows}
 use Rattle.cps_claims.specs.Code.States.{no_kinds, with_kinds}
 use Rattle.cps_claims.proofs.ReadingLemmas.{are-kinds}

@@ -2,7 +2,7 @@ use Rattle.std.proofs.Common.{◌≡◌, ℕ, Option, subst}
 use Rattle.std.proofs.Math.Path.{fun_ext}
 use Rattle.cps_claims.specs.Claims.{digit_at}
 use Rattle.cps_claims.specs.Code.Slots.{WordState, AnyPlace, slot_differs, state_at}
-use Rattle.cps_claims.specs.Code.Kinds.{deck_digit}
+use Rattle.cps_claims.specs.Code.Slots.{deck_digit}
 use Rattle.cps_claims.proofs.SlotLemmas.{differs-held, deck-digit}
 use Rattle.cps_claims.proofs.claimed_words.ClaimedWords.differs.Goals as goal
 

@@ -1,4 +1,3 @@
-use Rattle.std.proofs.Common.{sym, ap, ◌∙◌}
 use Rattle.cps_claims.specs.Listed.{codes_from}
 use Rattle.cps_claims.specs.Code.Found.{row_with}
 use Rattle.cps_claims.proofs.ListedLemmas.{read-more}
