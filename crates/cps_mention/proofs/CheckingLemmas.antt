@@ -5,7 +5,7 @@ use Rattle.std.proofs.lemmas.List.{take_more, append-nil}
 use Rattle.std.proofs.lemmas.Grind.{flat_map-append}
 use Rattle.std.proofs.lemmas.List.Elements.{All-more, All-same, All-push}
 
-pub text-more : {X : Type 0} (f : X → List ℕ) (xs : List X) (i : ℕ) (d : X) (text part grown : List ℕ) → i < length xs
+pub text-more : {X Y : Type 0} (f : X → List Y) (xs : List X) (i : ℕ) (d : X) (text part grown : List Y) → i < length xs
     → text ≡ flat_map f (take i xs) → part ≡ f (get_or xs i d) → grown ≡ text ++ part → grown ≡ flat_map f (take (i + 1) xs)
 text-more f xs i d text part grown within so is more =
     more

@@ -1,1 +1,6 @@
 pub mod Mentions
+pub mod Agreement
+pub mod Spots
+pub mod Code
+pub mod SameBut
+pub mod LineEdits

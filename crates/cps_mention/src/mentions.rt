@@ -5,6 +5,7 @@ ghost use Rattle.cps_mention.specs.Mentions.{Stands};
 use crate::checking::keep_standing;
 use crate::mention::Mention;
 use crate::walk::SourceWalk;
+use crate::written_names::WrittenNames;
 use cps_list::View;
 use cps_state::{Hashing, Trace};
 use std::alloc::{AllocError, Global};
@@ -18,23 +19,32 @@ pub fn mentions_in<V: View>(
 ) -> Result<Vec<Mention>, AllocError>
     ensures { IfOk result (λ mentions. All (Stands (V.assembly view.now).lines) mentions.items) }
 {
+    let WrittenNames { mentions, .. } = find_names(alloc, view, traces)?;
+    keep_standing(alloc, view, mentions)
+}
+
+/// The names that a source writes, wherever they are told.
+pub fn find_names<V: View>(
+    alloc: Global,
+    view: &V,
+    traces: &[Trace],
+) -> Result<WrittenNames, AllocError> {
     let mut lines = Vec::new(alloc);
     for before in 0..view.count() {
         if let Some(line) = view.line(before + 1) {
             lines.push(line.bytes())?;
         }
     }
-    let found = find_all(alloc, view.finals().hashing(), &lines, traces)?;
-    keep_standing(alloc, view, found)
+    find_all(alloc, view.finals().hashing(), &lines, traces)
 }
 
-/// The mentions of a source of these lines.
+/// The names that a source of these lines writes.
 fn find_all(
     alloc: Global,
     hashing: Hashing,
     lines: &[&[u8]],
     traces: &[Trace],
-) -> Result<Vec<Mention>, AllocError> {
+) -> Result<WrittenNames, AllocError> {
     let mut walk = SourceWalk::new(alloc, hashing, lines)?;
     let mut line: u32 = 0;
     for trace in traces {

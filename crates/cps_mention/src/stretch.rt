@@ -1,7 +1,9 @@
 //! Columns of a line of a source.
+ghost use Rattle.std.specs.Prelude.{◌≡◌};
+ghost use Rattle.cps_mention.specs.Spots.{same_stretch};
 
 /// Columns of a line of a source, from one up to another.
-#[derive(Clone, Copy, Debug, PartialEq, Eq, PartialOrd, Ord)]
+#[derive(Clone, Copy, Debug, PartialEq, Eq, PartialOrd, Ord, Hash)]
 pub struct Stretch {
     /// The number of the line, from 1.
     pub line: u32,
@@ -20,5 +22,12 @@ impl Stretch {
             first,
             end: first.saturating_add(len),
         }
+    }
+
+    /// Whether it has the same columns as another.
+    pub fn equals(self, other: Stretch) -> bool
+        ensures { result ≡ same_stretch self other }
+    {
+        self.line == other.line && self.first == other.first && self.end == other.end
     }
 }

@@ -6,8 +6,10 @@ use crate::role::Role;
 use crate::statement_text::StatementText;
 use crate::stretch::Stretch;
 use crate::told::{Deed, Origin, Place, Told};
+use crate::written_names::WrittenNames;
 use cps_text::Name;
 use std::alloc::{AllocError, Global};
+use std::collections::BTreeMap;
 
 /// What kind of thing a name is of.
 #[derive(Clone, Copy)]
@@ -184,9 +186,13 @@ impl<'a> Teller<'a> {
         .text
     }
 
-    /// All that is told.
-    pub fn into_told(self) -> Told {
-        let Teller { told, .. } = self;
-        told
+    /// All that is told, where labels are defined here.
+    pub fn into_names(self, labels: &BTreeMap<Name, Stretch>) -> Result<WrittenNames, AllocError> {
+        let Teller {
+            told,
+            macro_lines,
+            ..
+        } = self;
+        told.into_names(labels, macro_lines)
     }
 }

@@ -4,6 +4,7 @@ use crate::meaning::Meaning;
 use crate::mention::Mention;
 use crate::role::Role;
 use crate::stretch::Stretch;
+use crate::written_names::WrittenNames;
 use cps_text::Name;
 use std::alloc::{AllocError, Global};
 use std::collections::{BTreeMap, BTreeSet};
@@ -87,19 +88,28 @@ impl Told {
     }
 
     /// All of them, by their places. A name that nothing done mentions is told only of macros.
-    pub fn into_mentions(
+    pub fn into_names(
         self,
         labels: &BTreeMap<Name, Stretch>,
-    ) -> Result<Vec<Mention>, AllocError> {
+        macro_lines: Vec<u32>,
+    ) -> Result<WrittenNames, AllocError> {
         let Told { alloc, places } = self;
         let known = known_in(alloc, &places)?;
-        let mut mentions = Vec::with_capacity(alloc, places.len())?;
+        let mut names = WrittenNames {
+            mentions: Vec::with_capacity(alloc, places.len())?,
+            idle: Vec::new(alloc),
+            macro_lines,
+        };
         for (place, deeds) in places {
-            if place.meaning.is_of_macro() || known.contains(&place.meaning) {
-                mentions.push(mention_of(alloc, place, deeds, labels)?)?;
+            let is_told = place.meaning.is_of_macro() || known.contains(&place.meaning);
+            let mention = mention_of(alloc, place, deeds, labels)?;
+            if is_told {
+                names.mentions.push(mention)?;
+            } else {
+                names.idle.push(mention)?;
             }
         }
-        Ok(mentions)
+        Ok(names)
     }
 }
 

@@ -4,12 +4,12 @@ ghost use Rattle.std.specs.Prelude.{◌≤◌, ◌+◌};
 use crate::bodies::Bodies;
 use crate::definitions::Definitions;
 use crate::macro_text::MacroText;
-use crate::mention::Mention;
 use crate::operands::{field, list_arguments, tail_of};
 use crate::statement::{ToldStatement, deed_on, no_deed};
 use crate::statement_text::{KeptText, StatementText, columns_of};
 use crate::stretch::Stretch;
 use crate::teller::Teller;
+use crate::written_names::WrittenNames;
 use cps_cause::Card;
 use cps_final::LineSymbols;
 use cps_pass::{Body, Opened, Own, Repeated, Scope, insert_all, name_all, step_statement};
@@ -105,7 +105,7 @@ impl<'a> SourceWalk<'a> {
     }
 
     /// Tells what the lines mean of which nothing opened the body, and gives all that is told.
-    pub fn finish(self, count: u32) -> Result<Vec<Mention>, AllocError> {
+    pub fn finish(self, count: u32) -> Result<WrittenNames, AllocError> {
         let mut walk = self;
         for before in 0..count {
             if walk.bodies.is_unopened(before + 1) {
@@ -117,7 +117,7 @@ impl<'a> SourceWalk<'a> {
             definitions,
             ..
         } = walk;
-        teller.into_told().into_mentions(&definitions.labels)
+        teller.into_names(&definitions.labels)
     }
 }
 

@@ -1,0 +1,111 @@
+//! Whether a source's names mean the same after a rename. Beside the certificate this sees lines that are skipped and bodies that nothing opens.
+
+use crate::meaning::Meaning;
+use crate::mention::Mention;
+use crate::name_place::{column_in, line_of};
+use crate::renaming::Renaming;
+use crate::stretch::Stretch;
+use std::alloc::{AllocError, Global};
+use std::collections::{BTreeMap, BTreeSet};
+
+/// How many other places come before each place where a name or a part of one begins.
+#[derive(Drop)]
+struct Ranks {
+    /// By the first column of each.
+    ranks: BTreeMap<Stretch, usize>,
+}
+
+/// The names of a source before and after a rename.
+#[derive(Clone, Copy)]
+struct Namings<'a> {
+    was: &'a Ranks,
+    is: &'a Ranks,
+    from: Meaning,
+    to: Meaning,
+}
+
+/// The first line whose names mean something else after a rename, apart from their columns. None: all mean the same.
+pub fn line_named_otherwise(
+    alloc: Global,
+    before: &[Mention],
+    after: &[Mention],
+    renaming: Renaming<'_>,
+) -> Result<Option<u32>, AllocError> {
+    let was = Ranks::of(alloc, before)?;
+    let is = Ranks::of(alloc, after)?;
+    let namings = Namings {
+        was: &was,
+        is: &is,
+        from: renaming.meaning,
+        to: match renaming.new_meaning() {
+            Some(meaning) => meaning,
+            None => renaming.meaning,
+        },
+    };
+    for (at, mention) in before.iter().enumerate() {
+        match after.get(at) {
+            Some(other) if namings.agree(mention, other) => {}
+            _ => return Ok(Some(line_of(mention))),
+        }
+    }
+    Ok(match after.get(before.len()) {
+        Some(mention) => Some(line_of(mention)),
+        None => None,
+    })
+}
+
+impl Ranks {
+    /// Of mentions.
+    fn of(alloc: Global, mentions: &[Mention]) -> Result<Ranks, AllocError> {
+        let mut places = BTreeSet::new(alloc);
+        for mention in mentions {
+            for stretch in mention.written.as_slice() {
+                places.insert(column_in(stretch.line, stretch.first))?;
+            }
+        }
+        let mut ranks = BTreeMap::new(alloc);
+        for (rank, place) in places.iter().enumerate() {
+            ranks.insert(*place, rank)?;
+        }
+        Ok(Ranks { ranks })
+    }
+
+    fn rank(&self, stretch: Stretch) -> Option<usize> {
+        self.ranks
+            .get(&column_in(stretch.line, stretch.first))
+            .copied()
+    }
+}
+
+impl<'a> Namings<'a> {
+    /// Whether a mention says the same as another after the rename.
+    fn agree(&self, was: &Mention, is: &Mention) -> bool {
+        let meaning = if was.meaning == self.from {
+            self.to
+        } else {
+            was.meaning
+        };
+        is.meaning == meaning
+            && is.role == was.role
+            && is.is_done == was.is_done
+            && is.by.as_slice() == was.by.as_slice()
+            && self.have_same_places(&was.written, &is.written)
+            && have_same_lines(&was.from, &is.from)
+    }
+
+    fn have_same_places(&self, was: &[Stretch], is: &[Stretch]) -> bool {
+        have_same_lines(was, is)
+            && was
+                .iter()
+                .zip(is.iter())
+                .all(|(was, is)| self.was.rank(*was) == self.is.rank(*is))
+    }
+}
+
+fn have_same_lines(was: &[Stretch], is: &[Stretch]) -> bool {
+    was.len() == is.len()
+        && was
+            .iter()
+            .zip(is.iter())
+            .all(|(was, is)| was.line == is.line)
+}
