@@ -2,7 +2,7 @@
 use Rattle.std.proofs.Common.{◌≡◌, ℕ, ◌-◌, ◌<◌, Bool, true, false, cond, List, [], ◌∷◌, ◌++◌, length, get_or, set, take, drop, map, refl, sym, ap, subst, ◌∙◌, arith, append-nil}
 use Rattle.std.specs.Prelude.{Result, Ok, Err}
 use Rattle.std.specs.Result.{is_ok, OnOk}
-use Rattle.std.specs.List.{splice}
+use Rattle.std.specs.List.{AllZip, splice}
 use Rattle.std.specs.Iterator.{Drains}
 use Rattle.std.specs.Vec.Iter.{into_iter_items, into_iter_len, into_iter_steps}
 use Rattle.std.specs.declared.vec.Vec.{Vec}
@@ -20,6 +20,14 @@ texts {Z} lines = map (λ (line : Vec ℕ Z). line.items) lines
 
 pub length-texts : {Z : Type 0} (lines : List (Vec ℕ Z)) → length (texts lines) ≡ length lines
 length-texts {Z} lines = length-map lines (λ (line : Vec ℕ Z). line.items)
+
+-- lines have the bytes of those of which they are clones
+pub texts-cloned : {Z : Type 0} (R : Vec ℕ Z → Vec ℕ Z → Type 0) → ((x y : Vec ℕ Z) → R x y → y.items ≡ x.items) → (old new : List (Vec ℕ Z)) → AllZip R old new
+    → texts new ≡ texts old
+texts-cloned R same [] [] each = refl
+texts-cloned R same [] (y ∷ new) each = absurd each
+texts-cloned R same (x ∷ old) [] each = absurd each
+texts-cloned R same (x ∷ old) (y ∷ new) each = sym (λ i. sym (same x y each.0) i ∷ sym (texts-cloned R same old new each.1) i)
 
 -- a line that was read
 pub text-at : {Z : Type 0} (lines : List (Vec ℕ Z)) (at : ℕ) (line : Vec ℕ Z) → at < length lines → line ≡ get_or lines at line → line.items ≡ get_or (texts lines) at []

@@ -92,6 +92,12 @@ range_at json = option_and_then range_in (get (codes "range") json)
 abbrev pub wants_definitions : Data → Bool
 wants_definitions json = unwrap_or (option_and_then as_bool (option_and_then (get (codes "includeDeclaration")) (get (codes "context") json))) false
 
+-- ---- renaming
+
+-- the new name that a request to rename tells
+abbrev pub new_name_in : Data → Option (List ℕ)
+new_name_in json = text_at (codes "newName") json
+
 -- ---- changes
 
 -- a change of a text: new text in the place of a range, or of all of it

@@ -42,6 +42,17 @@ impl Buffer {
         Ok(buffer)
     }
 
+    /// The same text once more.
+    pub fn copy(&self) -> Result<Buffer, AllocError>
+        ensures { IfOk result (λ buffer. buffer ≡ self.now) }
+    {
+        let lines = self.lines.clone()?;
+        Ok(Buffer {
+            alloc: self.alloc,
+            lines,
+        })
+    }
+
     /// The lines, without their newlines. The last is what stands behind the last newline, so there is one at least: an empty text has an empty line.
     pub fn lines(&self) -> &[Vec<u8>]
         ensures { map (λ line. line.items) result.now ≡ text_lines self.now }

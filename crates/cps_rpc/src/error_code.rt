@@ -15,6 +15,8 @@ pub enum ErrorCode {
     InvalidParams,
     /// The request came before `initialize`.
     ServerNotInitialized,
+    /// What the request asks can't be done; words say why.
+    RequestFailed,
 }
 
 impl ErrorCode {
@@ -28,6 +30,7 @@ impl ErrorCode {
             ErrorCode::MethodNotFound => -32601,
             ErrorCode::InvalidParams => -32602,
             ErrorCode::ServerNotInitialized => -32002,
+            ErrorCode::RequestFailed => -32803,
         }
     }
 
@@ -41,6 +44,7 @@ impl ErrorCode {
             ErrorCode::MethodNotFound => "Method not found",
             ErrorCode::InvalidParams => "Invalid params",
             ErrorCode::ServerNotInitialized => "Server not initialized",
+            ErrorCode::RequestFailed => "Request failed",
         }
     }
 }

@@ -19,6 +19,13 @@ pub fn version_in(json: &Value) -> Option<i64>
     json.get("textDocument")?.get("version")?.as_i64()
 }
 
+/// The new name that parameters tell.
+pub fn new_name_in(json: &Value) -> Option<&str>
+    ensures { option_map (λ name. name.now) result ≡ params.new_name_in (view json.now) }
+{
+    json.get("newName").and_then(Value::as_str)
+}
+
 /// The URI of a document.
 pub fn uri_of(document: &Value) -> Option<&str>
     ensures { option_map (λ uri. uri.now) result ≡ params.text_at params.uri_name (view document.now) }

@@ -20,3 +20,11 @@ pub fn refusal(alloc: Global, id: &Value, code: ErrorCode) -> Result<Value, Allo
 {
     json!(in alloc; {"error": {"code": code.number(), "message": code.text()}, "id": id, "jsonrpc": "2.0"})
 }
+
+/// The answer to a request that failed: why, in words.
+pub fn failure(alloc: Global, id: &Value, words: &str) -> Result<Value, AllocError>
+    ensures { IfOk result (λ json. view json ≡ outgoing.failure (view id.now) words.now) }
+{
+    let code = ErrorCode::RequestFailed.number();
+    json!(in alloc; {"error": {"code": code, "message": words}, "id": id, "jsonrpc": "2.0"})
+}
