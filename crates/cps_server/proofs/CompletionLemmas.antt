@@ -1,21 +1,16 @@
 -- Words that are offered, one after another.
 use Rattle.std.proofs.Common.{◌≡◌, ℕ, ◌+◌, ◌<◌, sym, ap, subst, ◌∙◌, List, [], ◌∷◌, ◌++◌, length, get_or, take, map, append_assoc, append-nil}
-use Rattle.std.specs.Borrow.{Bor}
-use Rattle.std.specs.Prelude.{codes, flat_map}
 use Rattle.std.proofs.lemmas.List.{map-append, map_more}
-use Rattle.std.proofs.lemmas.List.Concat.{flat_map-append}
 use Rattle.serde_json.specs.View.{view}
 use Rattle.serde_json.specs.declared.value.Value.{Value}
 use Rattle.cps_text.specs.declared.name.Name.{Name}
-use Rattle.cps_text.specs.Name.{name_text}
 use Rattle.indexmap.specs.IndexSet.{insert_all}
 use Rattle.cps_expr.specs.Value.{same_name}
 use Rattle.cps_final.specs.Distinct.{distinct}
 use Rattle.cps_final.proofs.BlockLemmas.{same_name-laws}
 use Rattle.cps_final.proofs.GatherLemmas.{distinct-append}
-use Rattle.cps_server.specs.Completions.{Offer, completion, macro_offers, offers_of}
-use Rattle.cps_server.specs.declared.offers.Sort.{Sort}
-use Rattle.cps_server.specs.Code.Telling.{AddsOffers, InsertsNames, offer_of, sorted_offers, texts}
+use Rattle.cps_server.specs.Completions.{Offer, completion}
+use Rattle.cps_server.specs.Code.Telling.{AddsOffers, InsertsNames}
 
 pub adds-none : (range : Value) (told : List Value) → AddsOffers range [] told told
 adds-none range told = sym (append-nil (map view told))

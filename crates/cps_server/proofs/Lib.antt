@@ -6,11 +6,15 @@ pub mod LineLemmas
 pub mod TextMarksLemmas
 pub mod AgreementLemmas
 mod WorkedRows
+mod RenameLemmas
 mod RowLemmas
+mod TellingLemmas
 mod CompletionLemmas
 mod QueryFloatLemmas
 mod HintLemmas
 mod OfferLemmas
+mod EditingLemmas
+mod TokenLemmas
 pub mod FloatLemmas
 pub mod SaidLemmas
 pub mod ServerLemmas

@@ -1,6 +1,6 @@
 -- No float is in what is told.
-use Rattle.std.proofs.Common.{◌≡◌, refl, subst, ap, ◌∙◌, ℕ, Bool, true, false, ◌||◌, List, [], ◌∷◌, ◌++◌, Option, None, Some}
-use Rattle.std.specs.Prelude.{flat_map, length, map}
+use Rattle.std.proofs.Common.{◌≡◌, refl, subst, ap, ◌∙◌, ℕ, Bool, true, false, ◌||◌, List, [], ◌∷◌, ◌++◌, Option, None, Some, ⊎_elim, inl, inr}
+use Rattle.std.specs.Prelude.{flat_map, length, map, option_map}
 use Rattle.std.specs.List.{AllZip, range_with_len}
 use Rattle.serde_json.specs.Data.{Data}
 use Rattle.serde_json.specs.View.{items_of}
@@ -9,17 +9,32 @@ use Rattle.cps_list.specs.declared.mention.Mention.{Mention}
 use Rattle.cps_final.specs.Finals.{Finals}
 use Rattle.cps_rpc.specs.declared.encoding.Encoding.{Encoding}
 use Rattle.cps_server.specs.declared.query.Query.{Query}
-use Rattle.cps_server.specs.declared.query.Query.TheVariants.{Hover, Definition, References, Highlights, Symbols, Hints, Completions, Listing}
-use Rattle.cps_rpc.specs.Params.{position_at, range_at}
+use Rattle.cps_server.specs.declared.query.Query.TheVariants.{Hover, Definition, References, Highlights, Symbols, Hints, Completions, Listing, FoldingRanges, Signatures, Actions, Tokens, RangeTokens}
+use Rattle.cps_rpc.specs.declared.position.Position.{Position}
+use Rattle.cps_rpc.specs.Params.{position_at, range_at, wants_definitions}
 use Rattle.cps_server.specs.Queries.{Tells, TellsOf}
 use Rattle.cps_rpc.specs.declared.markup.Markup.{Markup}
 use Rattle.cps_server.specs.Ranges.{IsInLine, told_units, word_at}
 use Rattle.cps_server.specs.Completions.{Offer, completion, offered_at}
-use Rattle.cps_server.specs.Results.{TellsEach, TellsFirst, TellsHighlight, TellsMention, TellsSymbol, hint_at, hint_in, hover, lines_within, listing_json, text_beside}
+use Rattle.cps_server.specs.Results.{TellsEach, TellsFirst, TellsHighlight, TellsMention, TellsShown, TellsSymbol, hint_at, hint_in, hover, lines_within, listing_json, text_beside}
+use Rattle.cps_server.specs.Foldings.{TellsFoldings, folding_json, lines_json}
+use Rattle.cps_server.specs.Signatures.{TellsSignature, part_json, signature_json}
+use Rattle.cps_server.specs.declared.signature.Signature.{Signature}
+use Rattle.cps_server.specs.Actions.{TellsActions, action_json, edit_json}
+use Rattle.cps_server.specs.declared.action.Action.{Action}
 use Rattle.cps_server.specs.Code.Telling.{has_float_told}
+use Rattle.cps_server.specs.Tokens.{data_of, encoded, number_json}
+use Rattle.cps_server.specs.declared.token.Token.{Token}
 use Rattle.cps_edit.specs.Assembly.{assembly_of}
 use Rattle.cps_server.specs.Document.{source_of_text}
-use Rattle.cps_server.specs.Symbols.{definitions, line_of, mentions_in}
+use Rattle.cps_mention.specs.declared.caret.Caret.{Caret}
+use Rattle.cps_mention.specs.declared.mention.Mention.{Mention as Named}
+use Rattle.cps_mention.specs.declared.spot.Spot.{Spot}
+use Rattle.cps_mention.specs.declared.stretch.Stretch.{Stretch}
+use Rattle.cps_mention.specs.Spots.{definitions as defined_spots, stretch_at}
+use Rattle.cps_server.specs.Hovers.{ShowsNamed, TellsHover, range_of_mention}
+use Rattle.cps_server.specs.Locations.{TellsDefinition, TellsHighlights, TellsReferences, caret_at, counted_by, named_at, spot_highlight, spot_highlights, spot_location, spot_locations, stretch_range, wanted}
+use Rattle.cps_server.specs.Symbols.{definitions, line_of, mentions_at, mentions_in, wanted as words_wanted}
 
 abbrev is_yes : Bool → Type 0
 is_yes true = Unit {0}
@@ -54,9 +69,39 @@ both-no-float (json ∷ front) back first second = at (λ none. both-no-float fr
 
 -- ---- what is told
 
-hover-no-float : (markup : Markup) (shown : Option (List ℕ)) → has_float (hover markup shown) ≡ false
-hover-no-float markup None = refl
-hover-no-float markup (Some text) = refl
+hover-no-float : (markup : Markup) (shown : Option (List ℕ)) (range : Option Data) → has_float_told range ≡ false → has_float (hover markup shown range) ≡ false
+hover-no-float markup None range none = refl
+hover-no-float markup (Some rows) None none = refl
+hover-no-float markup (Some rows) (Some range) none = ap (λ b. b || false) none
+
+-- ---- by mentions
+
+mapped-no-float : {A : Type 0} (f : A → Data) → ((a : A) → has_float (f a) ≡ false) → (list : List A) → items_have_float (items_of (map f list)) ≡ false
+mapped-no-float f none [] = refl
+mapped-no-float f none (a ∷ list) = ap (λ b. b || items_have_float (items_of (map f list))) (none a) ∙ mapped-no-float f none list
+
+locations-no-float : (encoding : Encoding) (uri text : List ℕ) (spots : List Spot) → has_float (spot_locations encoding uri text spots) ≡ false
+locations-no-float encoding uri text spots = mapped-no-float (spot_location encoding uri text) (λ spot. refl) spots
+
+highlights-no-float : (encoding : Encoding) (text : List ℕ) (spots : List Spot) → has_float (spot_highlights encoding text spots) ≡ false
+highlights-no-float encoding text spots = mapped-no-float (spot_highlight encoding text) (λ spot. refl) spots
+
+stretch-no-float : (encoding : Encoding) (text : List ℕ) (stretch : Option Stretch) → has_float_told (option_map (stretch_range encoding text) stretch) ≡ false
+stretch-no-float encoding text None = refl
+stretch-no-float encoding text (Some stretch) = refl
+
+range-named-no-float : (encoding : Encoding) (text : List ℕ) (caret : Caret) (mention : Option Named) → has_float_told (range_of_mention encoding text caret mention) ≡ false
+range-named-no-float encoding text caret None = refl
+range-named-no-float encoding text caret (Some mention) = stretch-no-float encoding text (stretch_at caret mention.written.items)
+
+shown-no-float : (encoding : Encoding) (markup : Markup) (text : List ℕ) (position : Position) (json : Data)
+    → TellsHover encoding markup text position json → has_float json ≡ false
+shown-no-float encoding markup text position json tells =
+    ⊎_elim (λ (named : ShowsNamed encoding markup text position json).
+    ap has_float named.is
+    ∙ hover-no-float markup named.shown (range_of_mention encoding text (caret_at encoding text position) (named_at encoding text position named.mentions))
+    (range-named-no-float encoding text (caret_at encoding text position) (named_at encoding text position named.mentions)))
+    (λ (words : TellsShown encoding markup text position json). ap has_float words.2 ∙ hover-no-float markup words.0 None refl) tells
 
 range-no-float : (line : ℕ) (range : Data) → IsInLine line range → has_float range ≡ false
 range-no-float line range is = ap has_float is.2
@@ -98,6 +143,54 @@ completions-no-float range none [] = refl
 completions-no-float range none (offer ∷ offers) =
     ap (λ b. ((b || false) || false) || items_have_float (items_of (map (completion range) offers))) none ∙ completions-no-float range none offers
 
+definition-no-float : (encoding : Encoding) (uri text : List ℕ) (position : Position) (json : Data)
+    → TellsDefinition encoding uri text position json → has_float json ≡ false
+definition-no-float encoding uri text position json tells =
+    ⊎_elim (λ named. ap has_float named.is
+    ∙ locations-no-float encoding uri text (counted_by (named_at encoding text position named.mentions) (defined_spots named.spots)))
+    (λ words. first-no-float uri (definitions (mentions_at encoding text position)) json words) tells
+
+references-no-float : (too : Bool) (encoding : Encoding) (uri text : List ℕ) (position : Position) (json : Data)
+    → TellsReferences too encoding uri text position json → has_float json ≡ false
+references-no-float too encoding uri text position json tells =
+    ⊎_elim (λ named. ap has_float named.is ∙ locations-no-float encoding uri text (wanted too named.spots))
+    (λ words. list-no-float (TellsMention uri) (mention-no-float uri) (words_wanted too (mentions_at encoding text position)) json words) tells
+
+marked-no-float : (encoding : Encoding) (text : List ℕ) (position : Position) (json : Data)
+    → TellsHighlights encoding text position json → has_float json ≡ false
+marked-no-float encoding text position json tells =
+    ⊎_elim (λ named. ap has_float named.is ∙ highlights-no-float encoding text named.spots)
+    (λ words. list-no-float TellsHighlight highlight-no-float (mentions_at encoding text position) json words) tells
+
+lines-no-float : (is_comment : Bool) (first last : ℕ) → has_float (lines_json is_comment first last) ≡ false
+lines-no-float true first last = refl
+lines-no-float false first last = refl
+
+foldings-no-float : (text : List ℕ) (json : Data) → TellsFoldings text json → has_float json ≡ false
+foldings-no-float text json tells =
+    ap has_float tells.2 ∙ mapped-no-float folding_json (λ folding. lines-no-float folding.is_comment folding.first folding.last) tells.0
+
+one-signature-no-float : (signature : Signature) → has_float (signature_json signature) ≡ false
+one-signature-no-float signature = ap (λ b. b || false) (mapped-no-float part_json (λ part. refl) signature.parameters.items)
+
+signature-no-float : (text : List ℕ) (position : Position) (json : Data) → TellsSignature text position json → has_float json ≡ false
+signature-no-float text position json (inl none) = ap has_float none
+signature-no-float text position json (inr some) = ap has_float some.1.4 ∙ ap (λ b. b || false) (mapped-no-float signature_json one-signature-no-float some.1.0)
+
+action-no-float : (encoding : Encoding) (uri text : List ℕ) (action : Action) → has_float (action_json encoding uri text action) ≡ false
+action-no-float encoding uri text action =
+    ap (λ b. ((b || false) || false) || false) (mapped-no-float (edit_json encoding text) (λ edit. refl) action.edits.items)
+
+actions-no-float : (encoding : Encoding) (uri text : List ℕ) (json : Data) → TellsActions encoding uri text json → has_float json ≡ false
+actions-no-float encoding uri text json tells = ap has_float tells.2 ∙ mapped-no-float (action_json encoding uri text) (action-no-float encoding uri text) tells.0
+
+numbers-no-float : (numbers : List ℕ) → items_have_float (items_of (map number_json numbers)) ≡ false
+numbers-no-float [] = refl
+numbers-no-float (number ∷ numbers) = numbers-no-float numbers
+
+tokens-no-float : (tokens : List Token) → has_float (data_of tokens) ≡ false
+tokens-no-float tokens = ap (λ b. b || false) (numbers-no-float (encoded tokens))
+
 -- ---- queries
 
 of-no-float : {A : Type 0} (asked : Option A) (tells : A → Data → Type 0) → ((a : A) (json : Data) → tells a json → has_float json ≡ false)
@@ -109,13 +202,13 @@ pub tells-no-float : (query : Query) (params : Data) (encoding : Encoding) (mark
     → Tells query params encoding markup uri text told
     → has_float_told told ≡ false
 tells-no-float Hover params encoding markup uri text told tells =
-    of-no-float (position_at params) _ (λ position json is. ap has_float is.2 ∙ hover-no-float markup is.0) told tells
+    of-no-float (position_at params) _ (λ position json is. shown-no-float encoding markup text position json is) told tells
 tells-no-float Definition params encoding markup uri text told tells =
-    of-no-float (position_at params) _ (λ position json is. first-no-float uri _ json is) told tells
+    of-no-float (position_at params) _ (λ position json is. definition-no-float encoding uri text position json is) told tells
 tells-no-float References params encoding markup uri text told tells =
-    of-no-float (position_at params) _ (λ position json is. list-no-float (TellsMention uri) (mention-no-float uri) _ json is) told tells
+    of-no-float (position_at params) _ (λ position json is. references-no-float (wants_definitions params) encoding uri text position json is) told tells
 tells-no-float Highlights params encoding markup uri text told tells =
-    of-no-float (position_at params) _ (λ position json is. list-no-float TellsHighlight highlight-no-float _ json is) told tells
+    of-no-float (position_at params) _ (λ position json is. marked-no-float encoding text position json is) told tells
 tells-no-float Symbols params encoding markup uri text told tells =
     ap has_float_told tells.1 ∙ symbols-no-float (assembly_of (source_of_text text)).finals (definitions (mentions_in text)) tells.0 tells.2
 tells-no-float Hints params encoding markup uri text told tells =
@@ -125,3 +218,11 @@ tells-no-float Completions params encoding markup uri text told tells =
     (λ position json is. ap has_float is ∙ completions-no-float (word_at encoding text position) refl (offered_at encoding text position)) told tells
 tells-no-float Listing params encoding markup uri text told tells =
     of-no-float (range_at params) _ (λ range json is. ap has_float is ∙ listings-no-float text (range_with_len range.start.line (lines_within (length (source_of_text text)) range))) told tells
+tells-no-float FoldingRanges params encoding markup uri text told tells = ap has_float_told tells.1 ∙ foldings-no-float text tells.0 tells.2
+tells-no-float Signatures params encoding markup uri text told tells =
+    of-no-float (position_at params) _ (λ position json is. signature-no-float text position json is) told tells
+tells-no-float Actions params encoding markup uri text told tells =
+    of-no-float (range_at params) _ (λ range json is. actions-no-float encoding uri text json is) told tells
+tells-no-float Tokens params encoding markup uri text told tells = ap has_float_told tells.1 ∙ ap has_float tells.2.2 ∙ tokens-no-float tells.2.0
+tells-no-float RangeTokens params encoding markup uri text told tells =
+    of-no-float (range_at params) _ (λ range json is. ap has_float is.3 ∙ tokens-no-float is.0) told tells

@@ -10,17 +10,15 @@ use Rattle.cps_edit.proofs.SpliceLemmas.{length-traces_from}
 use Rattle.cps_state.specs.Keys.{first_state}
 use Rattle.std.specs.Option.{option_map_or}
 use Rattle.cps_state.specs.Flags.{has_flag}
-use Rattle.std.specs.Prelude.{◌⊎◌, get_or, option_and_then, option_map, slice_get, Result, Ok, Err, IfOk}
+use Rattle.std.specs.Prelude.{◌⊎◌, get_or, option_and_then, option_map, slice_get, unwrap_or, Result, Ok, Err, IfOk}
 use Rattle.cps_list.specs.Assembly.{Assembly}
-use Rattle.cps_rpc.specs.declared.encoding.Encoding.{Encoding}
-use Rattle.cps_rpc.specs.declared.position.Position.{Position}
 use Rattle.cps_server.specs.Document.{source_of_text}
 use Rattle.cps_list.specs.Listing.{line_rows}
-use Rattle.cps_server.specs.Rows.{IsWhy, Shows, first_rows, line_listing, rows_in, rows_of}
+use Rattle.cps_server.specs.Rows.{IsWhy, ShowsBehind, first_rows, line_listing, rows_in, rows_of, shown_rows}
 use Rattle.cps_text.specs.declared.name.Name.{Name}
 use Rattle.cps_list.specs.declared.mention.Mention.{Mention}
 use Rattle.cps_list.specs.Symbols.{row_of}
-use Rattle.cps_server.specs.Symbols.{mentions_in, mentions_under, pointed, row_at, row_under}
+use Rattle.cps_server.specs.Symbols.{row_under}
 
 abbrev is_yes : Bool → Type 0
 is_yes true = Unit {0}
@@ -53,18 +51,60 @@ pub flagged : (text : List ℕ) (number : ℕ) (outcome : Outcome) (why : List �
 flagged text number outcome why there has =
     λ unflagged. true-false (sym (ap (λ found. option_map_or (λ (o : Outcome). has_flag (flags_of o.rows)) found false) there ∙ has) ∙ unflagged)
 
-pub shows : (encoding : Encoding) (text : List ℕ) (position : Position) (rows why shown : List ℕ) → rows_in (assembly_of (source_of_text text)) position.line ≡ Some rows
-    → IsWhy text position.line why → shown ≡ (row_at encoding text position ++ rows) ++ why → Shows encoding text position (Some shown)
-shows encoding text position rows why shown there is all = (
-  why,
-  is,
-  ap Some all ∙ sym (ap (λ found. option_map (λ rows. rows ++ why) (option_map (λ rows. row_at encoding text position ++ rows) found)) there),
-)
+pub shows-behind : (text : List ℕ) (number : ℕ) (front rows why shown : List ℕ) → rows_in (assembly_of (source_of_text text)) number ≡ Some rows
+    → IsWhy text number why → shown ≡ (front ++ rows) ++ why → ShowsBehind text number front (Some shown)
+shows-behind text number front rows why shown there is all =
+    (why, is, ap Some all ∙ sym (ap (λ found. option_map (λ rows. (front ++ rows) ++ why) found) there))
 
-pub shows-none : (encoding : Encoding) (text : List ℕ) (position : Position) → rows_in (assembly_of (source_of_text text)) position.line ≡ None
-    → Shows encoding text position None
-shows-none encoding text position none =
-    ([], (λ unflagged. refl), sym (ap (λ found. option_map (λ rows. rows ++ []) (option_map (λ rows. row_at encoding text position ++ rows) found)) none))
+pub shows-none : (text : List ℕ) (number : ℕ) (front : List ℕ) → rows_in (assembly_of (source_of_text text)) number ≡ None → ShowsBehind text number front None
+shows-none text number front none = ([], (λ unflagged. refl), sym (ap (λ found. option_map (λ rows. (front ++ rows) ++ []) found) none))
+
+-- ---- what is shown of a line
+
+pub shown-past : (text : List ℕ) (number : ℕ) → (number < length (source_of_text text) → ⊥) → shown_rows text number ≡ []
+shown-past text number past = at (slice_get_cases (source_of_text text) number).1
+  where
+    at : ((line : List ℕ) × (number < length (source_of_text text)) × (slice_get (source_of_text text) number ≡ Some line)
+        × (get_or (source_of_text text) number line ≡ line))
+        ⊎ ((length (source_of_text text) ≤ number) × (slice_get (source_of_text text) number ≡ None))
+        → shown_rows text number ≡ []
+    at (inl found) = absurd (past found.1)
+    at (inr none) = ap (λ found. unwrap_or found []) (rows-none (assembly_of (source_of_text text)) number none.0)
+
+pub shown-pushed : (text : List ℕ) (number : ℕ) (line bytes : List ℕ) (outcome : Outcome) (rows : List Row) (old new : List ℕ) → bytes ≡ line
+    → rows ≡ outcome.rows → slice_get (source_of_text text) number ≡ Some line → slice_get (outcomes_of (source_of_text text)) number ≡ Some outcome
+    → new ≡ old ++ first_rows (number + 1) bytes rows → new ≡ old ++ shown_rows text number
+shown-pushed text number line bytes outcome rows old new same_line same_rows line_is outcome_is pushed =
+    pushed ∙ (λ i. old ++ first_rows (number + 1) (same_line i) (same_rows i))
+    ∙ ap (λ t. old ++ t) (sym (ap (λ found. unwrap_or found []) (rows-there (assembly_of (source_of_text text)) number line outcome line_is outcome_is)))
+
+-- a line that is assembled has rows
+pub shown-there : (text : List ℕ) (number : ℕ) → number < length (source_of_text text)
+    → rows_in (assembly_of (source_of_text text)) number ≡ Some (shown_rows text number)
+shown-there text number within = at (slice_get_cases (source_of_text text) number).1
+  where
+    long : length (outcomes_of (source_of_text text)) ≡ length (source_of_text text)
+    long = length-outcomes (source_of_text text)
+
+    shown : (rows : List ℕ) → rows_in (assembly_of (source_of_text text)) number ≡ Some rows
+        → rows_in (assembly_of (source_of_text text)) number ≡ Some (shown_rows text number)
+    shown rows there = there ∙ ap Some (sym (ap (λ found. unwrap_or found []) there))
+
+    next : (line : List ℕ) → slice_get (source_of_text text) number ≡ Some line
+        → ((outcome : Outcome) × (number < length (outcomes_of (source_of_text text))) × (slice_get (outcomes_of (source_of_text text)) number ≡ Some outcome)
+        × (get_or (outcomes_of (source_of_text text)) number outcome ≡ outcome))
+        ⊎ ((length (outcomes_of (source_of_text text)) ≤ number) × (slice_get (outcomes_of (source_of_text text)) number ≡ None))
+        → rows_in (assembly_of (source_of_text text)) number ≡ Some (shown_rows text number)
+    next line line_is (inl found) =
+        shown (first_rows (number + 1) line found.0.rows) (rows-there (assembly_of (source_of_text text)) number line found.0 line_is found.2)
+    next line line_is (inr none) = let past = none.0 in absurd (omega (arith, within, long, past))
+
+    at : ((line : List ℕ) × (number < length (source_of_text text)) × (slice_get (source_of_text text) number ≡ Some line)
+        × (get_or (source_of_text text) number line ≡ line))
+        ⊎ ((length (source_of_text text) ≤ number) × (slice_get (source_of_text text) number ≡ None))
+        → rows_in (assembly_of (source_of_text text)) number ≡ Some (shown_rows text number)
+    at (inl found) = next found.0 found.2 (slice_get_cases (outcomes_of (source_of_text text)) number).1
+    at (inr none) = let past = none.0 in absurd (omega (arith, within, past))
 
 -- ---- the listing of a line
 
@@ -92,13 +132,6 @@ listing-pushed text number line bytes outcome rows old new counts same_line same
 pub row-filled : (finals : Finals) (name : Name) (mentions : List Mention) → 0 < length mentions → row_under finals (Some name) mentions ≡ row_of finals name mentions
 row-filled finals name [] some = absurd (search (rules, arith))
 row-filled finals name (mention ∷ mentions) some = refl
-
-pub row-there : (encoding : Encoding) (text : List ℕ) (position : Position) (name : Name) (mentions : List Mention)
-    → pointed encoding text position ≡ Some name → mentions ≡ mentions_under (Some name) (mentions_in text)
-    → row_at encoding text position ≡ row_under (assembly_of (source_of_text text)).finals (Some name) mentions
-row-there encoding text position name mentions there is =
-    (λ i. row_under (assembly_of (source_of_text text)).finals (there i) (mentions_under (there i) (mentions_in text)))
-    ∙ ap (row_under (assembly_of (source_of_text text)).finals (Some name)) (sym is)
 
 pub row-pushed : (old new : List ℕ) (given finals : Finals) (name : Name) (ms mentions : List Mention) (row : List ℕ) → given ≡ finals → ms ≡ mentions
     → row ≡ row_under finals (Some name) mentions → new ≡ old ++ row_under given (Some name) ms → new ≡ old ++ row

@@ -1,9 +1,14 @@
--- Fields of words and names of instructions, worked by hand.
-use Rattle.std.proofs.Common.{◌≡◌, refl, List, [], ◌∷◌}
+-- Fields of words, names of instructions, and words as numbers, worked by hand.
+use Rattle.std.proofs.Common.{◌≡◌, refl, ℕ, true, false, List, [], ◌∷◌}
 use Rattle.std.specs.Prelude.{codes}
 use Rattle.cps_server.specs.declared.field.Field.TheVariants.{Location, Operation, Operand, Remark}
 use Rattle.cps_server.specs.Completions.{spelled}
 use Rattle.cps_server.specs.Fields.{letter_field}
+use Rattle.cps_server.specs.Tokens.{encoded}
+use Rattle.cps_server.specs.declared.token.Nature.{Nature}
+use Rattle.cps_server.specs.declared.token.Token.{Token}
+use Rattle.cps_server.specs.declared.token.TokenKind.{TokenKind}
+use Rattle.cps_server.specs.declared.token.TokenKind.TheVariants.{Keyword, Number, Variable}
 
 -- ---- fields, by the columns in front of a letter and its place
 
@@ -55,3 +60,22 @@ with-register = refl
 
 without-register : spelled (codes "JP") ≡ codes "JP" ∷ []
 without-register = refl
+
+-- ---- tokens as numbers
+
+abbrev token : ℕ → ℕ → ℕ → Nature → Token
+token line start end nature = record { line = line; start = start; end = end; nature = nature }
+
+abbrev plain : TokenKind → Nature
+plain kind = record { kind = kind; is_definition = false; is_readonly = false }
+
+abbrev constant : Nature
+constant = record { kind = Variable; is_definition = true; is_readonly = true }
+
+-- `COUNT     EQU    5` in line 7, and `PS` in line 9
+numbers : encoded (token 7 0 5 constant ∷ token 7 10 13 (plain Keyword) ∷ token 7 17 18 (plain Number) ∷ token 9 10 12 (plain Keyword) ∷ [])
+    ≡ 7 ∷ 0 ∷ 5 ∷ 3 ∷ 3 ∷ 0 ∷ 10 ∷ 3 ∷ 0 ∷ 0 ∷ 0 ∷ 7 ∷ 1 ∷ 6 ∷ 0 ∷ 2 ∷ 10 ∷ 2 ∷ 0 ∷ 0 ∷ []
+numbers = refl
+
+no-numbers : encoded [] ≡ []
+no-numbers = refl

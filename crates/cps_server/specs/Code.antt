@@ -1,8 +1,12 @@
 -- What serves the code alone, and no reader need believe.
 pub mod Adding
+pub mod Naming
 pub mod Opened
+pub mod Providing
 pub mod Owing
+pub mod Renaming
 pub mod Said
 pub mod Taking
 pub mod Telling
+pub mod TokenList
 pub mod Writing

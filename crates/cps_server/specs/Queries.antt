@@ -1,17 +1,21 @@
 -- What is told an editor that asks of a text which it has open. From the Language Server Protocol 3.17; `compass/rows` is our own.
-use Rattle.std.specs.Prelude.{◌≡◌, ℕ, Bool, not, ◌||◌, List, filter, bytes_eq, codes, Option, Some, None, if◌then◌else◌}
+use Rattle.std.specs.Prelude.{◌≡◌, ℕ, List, bytes_eq, codes, Option, Some, None, if◌then◌else◌}
 use Rattle.serde_json.specs.Data.{Data, array}
 use Rattle.serde_json.specs.View.{items_of}
-use Rattle.cps_list.specs.declared.mention.Mention.{Mention}
 use Rattle.cps_rpc.specs.declared.encoding.Encoding.{Encoding}
 use Rattle.cps_rpc.specs.declared.markup.Markup.{Markup}
 use Rattle.cps_rpc.specs.Params.{position_at, range_at, wants_definitions}
-use Rattle.cps_server.specs.Symbols.{definitions, mentions_at}
 use Rattle.cps_server.specs.declared.queried_text.QueriedText.{QueriedText}
 use Rattle.cps_server.specs.declared.query.Query.{Query}
-use Rattle.cps_server.specs.declared.query.Query.TheVariants.{Hover, Definition, References, Highlights, Symbols, Hints, Completions, Listing}
+use Rattle.cps_server.specs.declared.query.Query.TheVariants.{Hover, Definition, References, Highlights, Symbols, Hints, Completions, Listing, FoldingRanges, Signatures, Actions, Tokens, RangeTokens}
 use Rattle.cps_server.specs.Completions.{completions_at}
-use Rattle.cps_server.specs.Results.{TellsEach, TellsFirst, TellsHighlight, TellsMention, TellsShown, TellsSymbols, hints_in, listings_in}
+use Rattle.cps_server.specs.Actions.{TellsActions}
+use Rattle.cps_server.specs.Foldings.{TellsFoldings}
+use Rattle.cps_server.specs.Signatures.{TellsSignature}
+use Rattle.cps_server.specs.Tokens.{TellsTokens, TellsTokensIn}
+use Rattle.cps_server.specs.Hovers.{TellsHover}
+use Rattle.cps_server.specs.Locations.{TellsDefinition, TellsHighlights, TellsReferences}
+use Rattle.cps_server.specs.Results.{TellsSymbols, hints_in, listings_in}
 
 -- the query of a method
 abbrev pub query_named : List ℕ → Option Query
@@ -23,11 +27,12 @@ query_named method =
     else (if bytes_eq method (codes "textDocument/documentSymbol") then Some Symbols
     else (if bytes_eq method (codes "textDocument/inlayHint") then Some Hints
     else (if bytes_eq method (codes "textDocument/completion") then Some Completions
-    else (if bytes_eq method (codes "compass/rows") then Some Listing else None)))))))
-
--- the mentions that are wanted: those that read a symbol, or all
-abbrev pub wanted : Bool → List Mention → List Mention
-wanted definitions_too mentions = filter (λ mention. definitions_too || not mention.is_definition) mentions
+    else (if bytes_eq method (codes "compass/rows") then Some Listing
+    else (if bytes_eq method (codes "textDocument/foldingRange") then Some FoldingRanges
+    else (if bytes_eq method (codes "textDocument/signatureHelp") then Some Signatures
+    else (if bytes_eq method (codes "textDocument/codeAction") then Some Actions
+    else (if bytes_eq method (codes "textDocument/semanticTokens/full") then Some Tokens
+    else (if bytes_eq method (codes "textDocument/semanticTokens/range") then Some RangeTokens else None))))))))))))
 
 -- a result is told where the parameters have what it is asked of, and nothing where they are wrong
 abbrev pub TellsOf : {A : Type 0} → Option A → (A → Data → Type 0) → Option Data → Type 0
@@ -36,18 +41,23 @@ TellsOf (Some asked) tells told = (json : Data) × (told ≡ Some json) × tells
 
 -- what is told of the text under a URI, by the parameters of a query; nothing where they are wrong
 abbrev pub Tells : Query → Data → Encoding → Markup → List ℕ → List ℕ → Option Data → Type 0
-Tells Hover params encoding markup uri text told = TellsOf (position_at params) (λ position json. TellsShown encoding markup text position json) told
+Tells Hover params encoding markup uri text told = TellsOf (position_at params) (λ position json. TellsHover encoding markup text position json) told
 Tells Definition params encoding markup uri text told =
-    TellsOf (position_at params) (λ position json. TellsFirst uri (definitions (mentions_at encoding text position)) json) told
+    TellsOf (position_at params) (λ position json. TellsDefinition encoding uri text position json) told
 Tells References params encoding markup uri text told =
-    TellsOf (position_at params) (λ position json. TellsEach (TellsMention uri) (wanted (wants_definitions params) (mentions_at encoding text position)) json) told
+    TellsOf (position_at params) (λ position json. TellsReferences (wants_definitions params) encoding uri text position json) told
 Tells Highlights params encoding markup uri text told =
-    TellsOf (position_at params) (λ position json. TellsEach TellsHighlight (mentions_at encoding text position) json) told
+    TellsOf (position_at params) (λ position json. TellsHighlights encoding text position json) told
 Tells Symbols params encoding markup uri text told = (json : Data) × (told ≡ Some json) × TellsSymbols text json
 Tells Hints params encoding markup uri text told = TellsOf (range_at params) (λ range json. json ≡ array (items_of (hints_in encoding text range))) told
 Tells Completions params encoding markup uri text told =
     TellsOf (position_at params) (λ position json. json ≡ array (items_of (completions_at encoding text position))) told
 Tells Listing params encoding markup uri text told = TellsOf (range_at params) (λ range json. json ≡ array (items_of (listings_in text range))) told
+Tells FoldingRanges params encoding markup uri text told = (json : Data) × (told ≡ Some json) × TellsFoldings text json
+Tells Signatures params encoding markup uri text told = TellsOf (position_at params) (λ position json. TellsSignature text position json) told
+Tells Actions params encoding markup uri text told = TellsOf (range_at params) (λ range json. TellsActions encoding uri text json) told
+Tells Tokens params encoding markup uri text told = (json : Data) × (told ≡ Some json) × TellsTokens encoding text json
+Tells RangeTokens params encoding markup uri text told = TellsOf (range_at params) (λ range json. TellsTokensIn encoding text range json) told
 
 -- what is told of a deck
 abbrev pub TellsOfDeck : Query → Data → QueriedText → Option Data → Type 0

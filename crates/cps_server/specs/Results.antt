@@ -38,16 +38,20 @@ markup_name Markdown = codes "markdown"
 -- rows in a form: as they stand, or fenced as a block of code
 abbrev pub marked : Markup → List ℕ → List ℕ
 marked Plain rows = rows
-marked Markdown rows = codes "```compass\n" ++ rows ++ codes "```"
+marked Markdown rows = codes "```text\n" ++ rows ++ codes "```"
 
--- rows of a text, shown in a form; null where there are none
-abbrev pub hover : Markup → Option (List ℕ) → Data
-hover markup None = null
-hover markup (Some rows) = object (member (codes "contents")
-    (object (member (codes "kind") (string (markup_name markup)) (member (codes "value") (text_json (marked markup rows)) no_members))) no_members)
+-- rows of a text, shown in a form
+abbrev pub contents : Markup → List ℕ → Data
+contents markup rows = object (member (codes "kind") (string (markup_name markup)) (member (codes "value") (text_json (marked markup rows)) no_members))
+
+-- those, and the range of the name of which they are; null where there are none
+abbrev pub hover : Markup → Option (List ℕ) → Option Data → Data
+hover markup None range = null
+hover markup (Some rows) None = object (member (codes "contents") (contents markup rows) no_members)
+hover markup (Some rows) (Some range) = object (member (codes "contents") (contents markup rows) (member (codes "range") range no_members))
 
 abbrev pub TellsShown : Encoding → Markup → List ℕ → Position → Data → Type 0
-TellsShown encoding markup text position json = (shown : Option (List ℕ)) × Shows encoding text position shown × (json ≡ hover markup shown)
+TellsShown encoding markup text position json = (shown : Option (List ℕ)) × Shows encoding text position shown × (json ≡ hover markup shown None)
 
 -- ---- lines on which symbols stand
 

@@ -1,5 +1,5 @@
 -- What an editor shows of a line: its rows of the listing, and beside it the address and the code. The limit is our own.
-use Rattle.std.specs.Prelude.{◌≡◌, ℕ, ◌+◌, Bool, false, ◌||◌, nat_lt, List, [], ◌∷◌, ◌++◌, length, take, codes, Option, Some, None, slice_get, is_some, option_and_then, option_map, if◌then◌else◌}
+use Rattle.std.specs.Prelude.{◌≡◌, ℕ, ◌+◌, Bool, false, ◌||◌, nat_lt, List, [], ◌∷◌, ◌++◌, length, take, codes, Option, Some, None, slice_get, is_some, unwrap_or, option_and_then, option_map, if◌then◌else◌}
 use Rattle.std.specs.Option.{option_map_or}
 use Rattle.cps_state.specs.Flags.{has_flag}
 use Rattle.cps_final.specs.Outcome.{flags_of, Outcome}
@@ -32,10 +32,9 @@ rows_in assembly number =
     option_and_then (λ line. option_map (λ (outcome : Outcome). first_rows (number + 1) line outcome.rows) (slice_get assembly.outcomes number))
     (slice_get assembly.lines number)
 
--- What is shown at a position of a text: the row of the symbol there, and the rows of the line. None: no such line is assembled.
-abbrev pub shown_at : Encoding → List ℕ → Position → Option (List ℕ)
-shown_at encoding text position =
-    option_map (λ rows. row_at encoding text position ++ rows) (rows_in (assembly_of (source_of_text text)) position.line)
+-- those of a line of a text; none where no such line is assembled
+abbrev pub shown_rows : List ℕ → ℕ → List ℕ
+shown_rows text number = unwrap_or (rows_in (assembly_of (source_of_text text)) number) []
 
 -- whether a line of a text has a flag, from 0
 abbrev pub is_flagged : List ℕ → ℕ → Bool
@@ -46,10 +45,15 @@ is_flagged text number =
 abbrev pub IsWhy : List ℕ → ℕ → List ℕ → Type 0
 IsWhy text number why = is_flagged text number ≡ false → why ≡ []
 
--- what is shown at a position, and behind it why the line is flagged
+-- What is shown of a line of a text behind other rows: its own, and why it is flagged. None: no such line is assembled.
+abbrev pub ShowsBehind : List ℕ → ℕ → List ℕ → Option (List ℕ) → Type 0
+ShowsBehind text number front shown =
+    (why : List ℕ) × IsWhy text number why
+    × (shown ≡ option_map (λ rows. (front ++ rows) ++ why) (rows_in (assembly_of (source_of_text text)) number))
+
+-- what is shown at a position: the row of the symbol that the word there writes, and what its line shows
 abbrev pub Shows : Encoding → List ℕ → Position → Option (List ℕ) → Type 0
-Shows encoding text position shown =
-    (why : List ℕ) × IsWhy text position.line why × (shown ≡ option_map (λ rows. rows ++ why) (shown_at encoding text position))
+Shows encoding text position shown = ShowsBehind text position.line (row_at encoding text position) shown
 
 -- ---- the listing of a line
 

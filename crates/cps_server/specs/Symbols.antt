@@ -1,5 +1,5 @@
 -- The symbols of a text that an editor has open: which one is pointed at, and on which lines it stands. Our own.
-use Rattle.std.specs.Prelude.{ℕ, List, [], ◌∷◌, filter, Option, Some, None, slice_index_or}
+use Rattle.std.specs.Prelude.{ℕ, Bool, not, ◌||◌, List, [], ◌∷◌, filter, Option, Some, None, slice_index_or}
 use Rattle.cps_text.specs.declared.name.Name.{Name}
 use Rattle.cps_list.specs.declared.mention.Mention.{Mention}
 use Rattle.cps_final.specs.Finals.{Finals}
@@ -39,6 +39,10 @@ mentions_at encoding text position = mentions_under (pointed encoding text posit
 abbrev pub definitions : List Mention → List Mention
 definitions mentions = filter (λ mention. mention.is_definition) mentions
 
+-- the mentions that are wanted: those that read a symbol, or all
+abbrev pub wanted : Bool → List Mention → List Mention
+wanted definitions_too mentions = filter (λ mention. definitions_too || not mention.is_definition) mentions
+
 -- the row of the cross-reference of a symbol with these mentions; none where no line mentions it
 abbrev pub mentioned_row : Finals → Name → List Mention → List ℕ
 mentioned_row finals name [] = []
@@ -52,3 +56,7 @@ row_under finals (Some name) mentions = mentioned_row finals name mentions
 abbrev pub row_at : Encoding → List ℕ → Position → List ℕ
 row_at encoding text position =
     row_under (assembly_of (source_of_text text)).finals (pointed encoding text position) (mentions_at encoding text position)
+
+-- that of a symbol of a text
+abbrev pub symbol_row : List ℕ → Name → List ℕ
+symbol_row text name = row_under (assembly_of (source_of_text text)).finals (Some name) (mentions_under (Some name) (mentions_in text))

@@ -5,14 +5,18 @@ ghost use Rattle.cps_server.specs.Queries.{TellsOfDeck};
 ghost use Rattle.cps_server.specs.Code.Telling.{has_float_told};
 ghost use Rattle.cps_server.specs.declared.query.Query.TheVariants as queries;
 
+use crate::actions::actions_in;
 use crate::completions::tell_completions;
+use crate::folding::tell_foldings;
 use crate::hints::hints_in;
 use crate::hovering::hover_at;
 use crate::listing::listings_in;
 use crate::locations::{definition_at, highlights_at, references_at};
 use crate::queried_text::QueriedText;
 use crate::query::Query;
+use crate::signatures::signature_at;
 use crate::symbols::tell_symbols;
+use crate::tokens::{tell_tokens, tokens_in};
 use cps_rpc::{position_at, range_at, wants_definitions};
 use serde_json::Value;
 use std::alloc::{AllocError, Global};
@@ -36,6 +40,11 @@ pub fn answer(
         Query::Hints => answer_hints(alloc, params, deck),
         Query::Completions => answer_completions(alloc, params, deck),
         Query::Listing => answer_listing(alloc, params, deck),
+        Query::FoldingRanges => answer_foldings(alloc, params, deck),
+        Query::Signatures => answer_signatures(alloc, params, deck),
+        Query::Actions => answer_actions(alloc, params, deck),
+        Query::Tokens => answer_tokens(alloc, params, deck),
+        Query::RangeTokens => answer_range_tokens(alloc, params, deck),
     }
 }
 
@@ -145,5 +154,69 @@ fn answer_listing(
         return Ok(None);
     };
     let told = listings_in(alloc, deck, range)?;
+    Ok(Some(told))
+}
+
+fn answer_foldings(
+    alloc: Global,
+    params: &Value,
+    deck: QueriedText<'_>,
+) -> Result<Option<Value>, AllocError>
+    ensures { IfOk result (λ told. TellsOfDeck queries.FoldingRanges (view params.now) deck.entry (option_map view told)) }
+{
+    let told = tell_foldings(alloc, deck)?;
+    Ok(Some(told))
+}
+
+fn answer_signatures(
+    alloc: Global,
+    params: &Value,
+    deck: QueriedText<'_>,
+) -> Result<Option<Value>, AllocError>
+    ensures { IfOk result (λ told. TellsOfDeck queries.Signatures (view params.now) deck.entry (option_map view told)) }
+{
+    let Some(position) = position_at(params) else {
+        return Ok(None);
+    };
+    let told = signature_at(alloc, deck, position)?;
+    Ok(Some(told))
+}
+
+fn answer_actions(
+    alloc: Global,
+    params: &Value,
+    deck: QueriedText<'_>,
+) -> Result<Option<Value>, AllocError>
+    ensures { IfOk result (λ told. TellsOfDeck queries.Actions (view params.now) deck.entry (option_map view told)) }
+{
+    let Some(range) = range_at(params) else {
+        return Ok(None);
+    };
+    let told = actions_in(alloc, deck, range)?;
+    Ok(Some(told))
+}
+
+fn answer_tokens(
+    alloc: Global,
+    params: &Value,
+    deck: QueriedText<'_>,
+) -> Result<Option<Value>, AllocError>
+    ensures { IfOk result (λ told. TellsOfDeck queries.Tokens (view params.now) deck.entry (option_map view told)) }
+{
+    let told = tell_tokens(alloc, deck)?;
+    Ok(Some(told))
+}
+
+fn answer_range_tokens(
+    alloc: Global,
+    params: &Value,
+    deck: QueriedText<'_>,
+) -> Result<Option<Value>, AllocError>
+    ensures { IfOk result (λ told. TellsOfDeck queries.RangeTokens (view params.now) deck.entry (option_map view told)) }
+{
+    let Some(range) = range_at(params) else {
+        return Ok(None);
+    };
+    let told = tokens_in(alloc, deck, range)?;
     Ok(Some(told))
 }

@@ -4,9 +4,12 @@ ghost use Rattle.std.specs.List.{splice};
 ghost use Rattle.cps_text.specs.declared.limits.TheConstants.{MOST_LINES};
 ghost use Rattle.cps_rpc.specs.Changes.{changed};
 ghost use Rattle.cps_rpc.specs.Lines.{text_lines, source_lines};
+ghost use Rattle.cps_server.specs.Code.Renaming.{edits_of};
 ghost use Rattle.cps_server.specs.Document.{source_of_text};
+ghost use Rattle.cps_server.specs.Renames.{edited};
 
 use crate::cards::cards_from;
+use crate::text_edit::TextEdit;
 use cps_live::{EditFault, Session};
 use cps_rpc::{Buffer, Encoding, Range, Replacement, source_is_replaced};
 use cps_state::{Hashing, Work};
@@ -88,6 +91,21 @@ impl Document {
             buffer,
             session,
         })
+    }
+
+    /// The document of the text with edits, one after another. It is assembled once.
+    pub fn with_edits(
+        &self,
+        encoding: Encoding,
+        edits: &[TextEdit<'_>],
+    ) -> Result<Document, AllocError>
+        ensures { IfOk result (λ document. document ≡ edited encoding (edits_of edits.now) self.now) }
+    {
+        let mut buffer = self.buffer.copy()?;
+        for edit in edits {
+            buffer.change(encoding, Some(edit.range()), edit.text.as_bytes())?;
+        }
+        Document::of(self.alloc, self.hashing, buffer)
     }
 
     /// The lines of the text, without their newlines. The last is what stands behind the last newline, so there is one at least.

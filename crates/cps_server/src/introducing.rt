@@ -1,7 +1,9 @@
 //! What a server tells of itself.
 ghost use Rattle.std.specs.Prelude.{◌≡◌, IfOk};
 ghost use Rattle.serde_json.specs.View.{view};
+ghost use Rattle.cps_server.specs.Code.Providing.{capabilities_by};
 ghost use Rattle.cps_server.specs.Requests as requests;
+ghost use Rattle.cps_server.specs.Tokens as tokens;
 
 use cps_rpc::Encoding;
 use serde_json::{Value, json};
@@ -15,20 +17,119 @@ pub fn introduction(alloc: Global, encoding: Encoding) -> Result<Value, AllocErr
     json!(in alloc; {"capabilities": capabilities, "serverInfo": {"name": "compass"}})
 }
 
+/// What is told of requests that have more to tell than that they are answered.
+#[derive(Drop)]
+pub struct Providers {
+    pub mendings: Value,
+    pub names: Value,
+    pub words: Value,
+    pub operands: Value,
+    pub texts: Value,
+}
+
 fn capabilities(alloc: Global, encoding: Encoding) -> Result<Value, AllocError>
     ensures { IfOk result (λ json. view json ≡ requests.capabilities encoding) }
 {
-    let name = encoding_name(encoding);
+    let mendings = kinds(alloc)?;
+    let names = renaming(alloc)?;
+    let words = semantic_tokens(alloc)?;
+    let operands = triggers(alloc)?;
+    let texts = synchronization(alloc)?;
+    let providers = Providers {
+        mendings,
+        names,
+        words,
+        operands,
+        texts,
+    };
+    capabilities_by(alloc, encoding_name(encoding), providers)
+}
+
+// The last member is put first, so that the prover compares fewer names.
+fn capabilities_by(
+    alloc: Global,
+    positions: &str,
+    providers: Providers,
+) -> Result<Value, AllocError>
+    ensures { IfOk result (λ json. view json ≡ capabilities_by positions.now providers) }
+{
+    let Providers {
+        mendings,
+        names,
+        words,
+        operands,
+        texts,
+    } = providers;
     json!(in alloc; {
-        "completionProvider": {},
-        "definitionProvider": true,
-        "documentHighlightProvider": true,
-        "documentSymbolProvider": true,
-        "hoverProvider": true,
-        "inlayHintProvider": true,
-        "positionEncoding": name,
+        "textDocumentSync": texts,
+        "signatureHelpProvider": operands,
+        "semanticTokensProvider": words,
+        "renameProvider": names,
         "referencesProvider": true,
-        "textDocumentSync": {"change": 2, "openClose": true}
+        "positionEncoding": positions,
+        "inlayHintProvider": true,
+        "hoverProvider": true,
+        "foldingRangeProvider": true,
+        "documentSymbolProvider": true,
+        "documentHighlightProvider": true,
+        "definitionProvider": true,
+        "completionProvider": {},
+        "codeActionProvider": mendings
+    })
+}
+
+/// The name at a position may be asked for before it is called otherwise.
+fn renaming(alloc: Global) -> Result<Value, AllocError>
+    ensures { IfOk result (λ json. view json ≡ requests.renaming) }
+{
+    json!(in alloc; {"prepareProvider": true})
+}
+
+/// Texts are opened and closed, and changes tell ranges.
+fn synchronization(alloc: Global) -> Result<Value, AllocError>
+    ensures { IfOk result (λ json. view json ≡ requests.synchronization) }
+{
+    json!(in alloc; {"change": 2, "openClose": true})
+}
+
+/// The kind of what may be mended.
+fn kinds(alloc: Global) -> Result<Value, AllocError>
+    ensures { IfOk result (λ json. view json ≡ requests.kinds) }
+{
+    json!(in alloc; {"codeActionKinds": ["quickfix"]})
+}
+
+/// The characters behind which the operands of an operation are shown.
+fn triggers(alloc: Global) -> Result<Value, AllocError>
+    ensures { IfOk result (λ json. view json ≡ requests.triggers) }
+{
+    json!(in alloc; {"triggerCharacters": [" ", ","]})
+}
+
+/// What is told of the words of a text: of all of it, and of ranges.
+fn semantic_tokens(alloc: Global) -> Result<Value, AllocError>
+    ensures { IfOk result (λ json. view json ≡ requests.semantic_tokens) }
+{
+    let legend = legend(alloc)?;
+    json!(in alloc; {"full": true, "legend": legend, "range": true})
+}
+
+fn legend(alloc: Global) -> Result<Value, AllocError>
+    ensures { IfOk result (λ json. view json ≡ tokens.legend) }
+{
+    json!(in alloc; {
+        "tokenModifiers": ["definition", "readonly"],
+        "tokenTypes": [
+            "keyword",
+            "macro",
+            "parameter",
+            "variable",
+            "namespace",
+            "property",
+            "number",
+            "string",
+            "comment"
+        ]
     })
 }
 

@@ -1,8 +1,11 @@
 //! A server for editors, by the Language Server Protocol: the documents that are open, the marks in their lines, and what is answered of symbols and
 //! rows.
 //!
+//! - `action.rt`: what may be mended in lines, as it is told
+//! - `actions.rt`: what may be mended in lines
 //! - `answering.rt`: what is told to a query
 //! - `cards.rt`: the cards of lines of a text
+//! - `closing.rt`: what closes lines that are open
 //! - `columns.rt`: where a symbol stands in a line
 //! - `completions.rt`: what may be written next
 //! - `diagnostic.rt`: a diagnostic, as it is written
@@ -10,42 +13,68 @@
 //! - `document.rt`: the document
 //! - `document_laws.rt`: what holds of the source of a text
 //! - `field.rt`: the field of a line in which a word stands
+//! - `field_words.rt`: the words of a line that its fields make
+//! - `folding.rt`: the lines that may be folded
+//! - `folding_walk.rt`: what may be folded, found line by line
 //! - `hint.rt`: what is shown beside a line
 //! - `hints.rt`: what is shown beside lines, as it is told
 //! - `hovering.rt`: what is shown at a position
 //! - `introducing.rt`: what a server tells of itself
 //! - `line_marks.rt`: the marks of a line
+//! - `line_state.rt`: what is done with the next line
+//! - `line_tokens.rt`: the tokens of a line
+//! - `line_word.rt`: a word of a line, by its columns
 //! - `listing.rt`: the listing of lines
-//! - `locations.rt`: the places of a symbol, as they are told
+//! - `locations.rt`: where the name at a position stands
 //! - `machine_above.rt`: the machine for which a line is assembled
+//! - `macro_above.rt`: a macro as it stands above a line
 //! - `mark.rt`: a mark
 //! - `mark_kind.rt`: what a mark marks
 //! - `marking.rt`: the marks of a text
 //! - `marks_laws.rt`: what holds of the marks of a text
+//! - `mending.rt`: characters that no line has, and how they are mended
 //! - `mentions.rt`: the symbol at a position, and the lines on which it stands
+//! - `name_places.rt`: the name at a position
+//! - `named_words.rt`: the words of lines that write names
 //! - `names.rt`: names that lines define or read
+//! - `nearest.rt`: names that are near to a word
 //! - `notice.rt`: the notifications that a server hears
 //! - `offers.rt`: words that are offered
 //! - `open_texts.rt`: the texts that are open
+//! - `operand_words.rt`: the words of operands
 //! - `operations.rt`: the names of operations
 //! - `owed.rt`: what is owed to a request
+//! - `parting.rt`: words of a line, none over another
 //! - `queried_text.rt`: a text that an editor asks about
 //! - `query.rt`: what an editor may ask
 //! - `ranges.rt`: positions and ranges, as they are told
+//! - `rename_wish.rt`: what a request to rename asks
+//! - `renaming.rt`: the edits that call a name otherwise
 //! - `request_method.rt`: the requests that a server answers
 //! - `rows.rt`: the rows of a line, and the row of a symbol
 //! - `running.rt`: a run of a server
 //! - `saying.rt`: what is said
 //! - `server.rt`: the server, and what it answers
 //! - `server_phase.rt`: the phases of a server
+//! - `signature.rt`: what an operation takes, as it is told
+//! - `signatures.rt`: what the operation of a line takes
 //! - `symbols.rt`: all symbols of a text
+//! - `text_edit.rt`: edits of a text, as an editor makes them
+//! - `token.rt`: a word of a line, as it is told
+//! - `token_data.rt`: tokens as numbers, five for each
+//! - `tokens.rt`: what the words of a text are, as they are told
 //! - `why.rt`: why a line is flagged
+//! - `word_locations.rt`: the lines on which the symbol that a word writes stands
+//! - `word_part.rt`: a part of a line, and the words in it that no name makes
 //! - `words.rt`: the words of a line
 //! - `writing.rt`: JSON, written with no blank in it
 #![tactic(auto)]
 
+mod action;
+mod actions;
 mod answering;
 mod cards;
+mod closing;
 mod columns;
 mod completions;
 mod diagnostic;
@@ -53,36 +82,59 @@ mod diagnostics;
 mod document;
 mod document_laws;
 mod field;
+mod field_words;
+mod folding;
+mod folding_walk;
 mod hint;
 mod hints;
 mod hovering;
 mod introducing;
 mod line_marks;
+mod line_state;
+mod line_tokens;
+mod line_word;
 mod listing;
 mod locations;
 mod machine_above;
+mod macro_above;
 mod mark;
 mod mark_kind;
 mod marking;
 mod marks_laws;
+mod mending;
 mod mentions;
+mod name_places;
+mod named_words;
 mod names;
+mod nearest;
 mod notice;
 mod offers;
 mod open_texts;
+mod operand_words;
 mod operations;
 mod owed;
+mod parting;
 mod queried_text;
 mod query;
 mod ranges;
+mod rename_wish;
+mod renaming;
 mod request_method;
 mod rows;
 mod running;
 mod saying;
 mod server;
 mod server_phase;
+mod signature;
+mod signatures;
 mod symbols;
+mod text_edit;
+mod token;
+mod token_data;
+mod tokens;
 mod why;
+mod word_locations;
+mod word_part;
 mod words;
 mod writing;
 

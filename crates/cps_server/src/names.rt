@@ -52,6 +52,14 @@ pub fn macros_in(alloc: Global, document: &Document) -> Result<NameSet, AllocErr
     Ok(names)
 }
 
+/// The macros that lines above one define, from 0.
+pub fn macros_above(alloc: Global, document: &Document, line: u32) -> Result<NameSet, AllocError> {
+    let traces = document.session().traces();
+    let mut names = no_names(alloc, document);
+    insert_macros(&mut names, &traces[..(line as usize).min(traces.len())])?;
+    Ok(names)
+}
+
 /// Inserts the symbols of mentions.
 fn insert_names(names: &mut NameSet, mentions: &[Mention]) -> Result<(), AllocError>
     ensures { OnOk result (InsertsNames (map (λ mention. mention.name) mentions.now) names.old.keys names.new.keys) }

@@ -14,6 +14,8 @@ pub enum Owed {
     Refused(ErrorCode),
     /// What it asked for.
     Found(Value),
+    /// Why that can't be done, in words.
+    Failed(String),
 }
 
 impl Owed {

@@ -21,6 +21,16 @@ pub enum Query {
     Completions,
     /// The listing of the lines of a range.
     Listing,
+    /// Which lines may be folded.
+    FoldingRanges,
+    /// What the operation of the line at a position takes.
+    Signatures,
+    /// What may be mended in the lines of a range.
+    Actions,
+    /// What each word is.
+    Tokens,
+    /// What each word in the lines of a range is.
+    RangeTokens,
 }
 
 impl Query {
@@ -37,6 +47,11 @@ impl Query {
             "textDocument/inlayHint" => Some(Query::Hints),
             "textDocument/completion" => Some(Query::Completions),
             "compass/rows" => Some(Query::Listing),
+            "textDocument/foldingRange" => Some(Query::FoldingRanges),
+            "textDocument/signatureHelp" => Some(Query::Signatures),
+            "textDocument/codeAction" => Some(Query::Actions),
+            "textDocument/semanticTokens/full" => Some(Query::Tokens),
+            "textDocument/semanticTokens/range" => Some(Query::RangeTokens),
             _ => None,
         }
     }

@@ -13,6 +13,10 @@ pub enum RequestMethod {
     Shutdown,
     /// What an editor asks of a text.
     Query(Query),
+    /// Whether the name at a position can be called otherwise.
+    PrepareRename,
+    /// The edits that call it otherwise.
+    Rename,
     /// Any other.
     Unknown,
 }
@@ -25,6 +29,8 @@ impl RequestMethod {
         match method {
             "initialize" => RequestMethod::Initialize,
             "shutdown" => RequestMethod::Shutdown,
+            "textDocument/prepareRename" => RequestMethod::PrepareRename,
+            "textDocument/rename" => RequestMethod::Rename,
             _ => RequestMethod::of(Query::named(method)),
         }
     }

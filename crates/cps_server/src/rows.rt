@@ -1,7 +1,7 @@
-//! The rows of a line, and the row of the symbol at a position of it.
-ghost use Rattle.std.specs.Prelude.{◌≡◌, ◌≤◌, ◌-◌, ◌++◌, option_map, IfOk, OnOk};
+//! The rows of a line, and the row of a symbol.
+ghost use Rattle.std.specs.Prelude.{◌≡◌, ◌≤◌, ◌<◌, ◌-◌, ◌++◌, option_map, IfOk, OnOk};
 ghost use Rattle.cps_server.specs.Rows as texts;
-ghost use Rattle.cps_server.specs.Symbols.{mentioned_row, row_at};
+ghost use Rattle.cps_server.specs.Symbols.{mentioned_row, row_at, symbol_row};
 
 use crate::document::Document;
 use crate::mentions::{mentions_of, pointed};
@@ -15,33 +15,65 @@ use std::alloc::{AllocError, Global};
 /// The most rows of a line that are shown.
 const MOST_ROWS: usize = 40;
 
-/// What is shown at a position of a document's text: the row that the cross-reference has of the symbol there, if it has one; the rows that the listing has
-/// of the line, of which the first 40 are shown; and a row for each cause of its flags. None: no such line is assembled.
-pub fn shown_at(
+/// What is shown of a line of a document's text, from 0, behind other rows: the rows that the listing has of it, of which the first 40 are shown, and a row for each cause
+/// of its flags. None: no such line is assembled.
+pub fn shown_behind(
+    alloc: Global,
+    document: &Document,
+    line: u32,
+    front: Vec<u8>,
+) -> Result<Option<Vec<u8>>, AllocError>
+    ensures { IfOk result (λ shown. texts.ShowsBehind document.now line front.items (option_map (λ text. text.items) shown)) }
+{
+    if line >= document.session().count() {
+        return Ok(None);
+    }
+    let mut text = front;
+    push_shown(&mut text, document, line)?;
+    let why = why_of(alloc, document, line + 1)?;
+    text.extend_from_slice(&why)?;
+    Ok(Some(text))
+}
+
+/// The row that the cross-reference has of the symbol that the word at a position writes, if it has one.
+pub fn word_row(
     alloc: Global,
     document: &Document,
     encoding: Encoding,
     position: Position,
-) -> Result<Option<Vec<u8>>, AllocError>
-    ensures { IfOk result (λ shown. texts.Shows encoding document.now position (option_map (λ text. text.items) shown)) }
+) -> Result<Vec<u8>, AllocError>
+    ensures { IfOk result (λ row. row.items ≡ row_at encoding document.now position) }
+{
+    match pointed(document, encoding, position) {
+        Some(name) => symbol_row(alloc, document, name),
+        None => Ok(Vec::new(alloc)),
+    }
+}
+
+/// The row that the cross-reference has of a symbol, where a line mentions it.
+pub fn symbol_row(alloc: Global, document: &Document, name: Name) -> Result<Vec<u8>, AllocError>
+    ensures { IfOk result (λ row. row.items ≡ symbol_row document.now name) }
+{
+    let mentions = mentions_of(alloc, document, name)?;
+    let mut row = Vec::new(alloc);
+    push_mentioned(&mut row, document.session().finals(), name, &mentions)?;
+    Ok(row)
+}
+
+/// Appends what is shown of the rows of a line, from 0; nothing where no such line is assembled.
+pub fn push_shown(text: &mut Vec<u8>, document: &Document, line: u32) -> Result<(), AllocError>
+    requires { line < u32.MAX }
+    ensures { OnOk result (text.new.items ≡ text.old.items ++ texts.shown_rows document.now line) }
 {
     let session = document.session();
-    if position.line >= session.count() {
-        return Ok(None);
-    }
-    let number = position.line + 1;
-    let Some(line) = session.line(number) else {
-        unreachable!();
+    let number = line + 1;
+    let Some(card) = session.line(number) else {
+        return Ok(());
     };
     let Some(outcome) = session.outcome(number) else {
-        unreachable!();
+        return Ok(());
     };
-    let mut text = Vec::new(alloc);
-    push_row_at(alloc, &mut text, document, encoding, position)?;
-    push_first_rows(&mut text, number, line.bytes(), outcome.rows())?;
-    let why = why_of(alloc, document, number)?;
-    text.extend_from_slice(&why)?;
-    Ok(Some(text))
+    push_first_rows(text, number, card.bytes(), outcome.rows())
 }
 
 /// Appends the rows that the listing has of the line of a number, from 1; nothing where no such line is assembled.
@@ -61,23 +93,6 @@ pub fn push_line_listing(
         return Ok(());
     };
     push_rows(text, number, line.bytes(), outcome.rows())
-}
-
-/// Appends the row of the symbol around a position, where a line mentions it.
-fn push_row_at(
-    alloc: Global,
-    text: &mut Vec<u8>,
-    document: &Document,
-    encoding: Encoding,
-    position: Position,
-) -> Result<(), AllocError>
-    ensures { OnOk result (text.new.items ≡ text.old.items ++ row_at encoding document.now position) }
-{
-    let Some(name) = pointed(document, encoding, position) else {
-        return Ok(());
-    };
-    let mentions = mentions_of(alloc, document, name)?;
-    push_mentioned(text, document.session().finals(), name, &mentions)
 }
 
 /// Appends the row of a symbol, from its mentions; nothing where it has none.

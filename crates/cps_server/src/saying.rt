@@ -9,7 +9,7 @@ ghost use Rattle.cps_server.specs.Code.Owing.{has_float_owed, value_of};
 ghost use Rattle.cps_server.specs.Requests.{answer_with};
 
 use crate::owed::Owed;
-use cps_rpc::{ErrorCode, push_frame, refusal, response};
+use cps_rpc::{ErrorCode, failure, push_frame, refusal, response};
 use serde_json::Value;
 use std::alloc::{AllocError, Global};
 
@@ -36,6 +36,7 @@ pub fn push_answer(
     match owed {
         Owed::Refused(code) => push_refusal(alloc, said, id, code),
         Owed::Found(found) => push_response(alloc, said, id, found),
+        Owed::Failed(words) => push_failure(alloc, said, id, &words),
     }
 }
 
@@ -73,5 +74,19 @@ fn push_refusal(
     ensures { OnOk result (said.new.items ≡ said.old.items ++ frame_of_json (outgoing.refusal (view id.now) code)) }
 {
     let json = refusal(alloc, id, code)?;
+    push_json(alloc, said, &json)
+}
+
+/// Appends the answer to the request of an identifier that failed: why, in words.
+fn push_failure(
+    alloc: Global,
+    said: &mut Vec<u8>,
+    id: &Value,
+    words: &str,
+) -> Result<(), AllocError>
+    requires { has_float (view id.now) ≡ false }
+    ensures { OnOk result (said.new.items ≡ said.old.items ++ frame_of_json (outgoing.failure (view id.now) words.now)) }
+{
+    let json = failure(alloc, id, words)?;
     push_json(alloc, said, &json)
 }

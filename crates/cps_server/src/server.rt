@@ -1,5 +1,5 @@
 //! The server, and what it answers.
-ghost use Rattle.std.specs.Prelude.{◌≡◌, false, map, OnOk, IfOk};
+ghost use Rattle.std.specs.Prelude.{◌≡◌, false, map, option_map, OnOk, IfOk, IfSome};
 ghost use Rattle.serde_json.specs.Data.{null};
 ghost use Rattle.serde_json.specs.View.{view};
 ghost use Rattle.serde_json.specs.Written.{has_float};
@@ -8,6 +8,7 @@ ghost use Rattle.cps_rpc.specs.Message.{request, value_of as asked_by};
 ghost use Rattle.cps_server.specs.Answers.{Hears, HearsJson, params_of};
 ghost use Rattle.cps_server.specs.Notices as notices;
 ghost use Rattle.cps_server.specs.Code.Owing.{has_float_owed, value_of};
+ghost use Rattle.cps_server.specs.Code.Renaming.{open_of};
 ghost use Rattle.cps_server.specs.Requests as requests;
 ghost use Rattle.cps_server.specs.Code.Said.{Into, has_float_id};
 ghost use Rattle.cps_server.specs.Code.Taking.{Changes, Takes};
@@ -17,17 +18,20 @@ use crate::answering::answer;
 use crate::diagnostics::{ToldText, list_of, say_closed, say_list};
 use crate::document::Document;
 use crate::introducing::introduction;
+use crate::name_places::owed_name;
 use crate::notice::Notice;
 use crate::open_texts::OpenTexts;
 use crate::owed::Owed;
 use crate::queried_text::QueriedText;
 use crate::query::Query;
+use crate::rename_wish::RenameWish;
+use crate::renaming::owed_rename;
 use crate::request_method::RequestMethod;
 use crate::saying::{push_answer, push_rejection};
 use crate::server_phase::ServerPhase;
 use cps_rpc::{
     Change, Encoding, ErrorCode, JsonFault, Markup, Message, OpenedText, Service, changes_in,
-    encoding_in, json_of, markup_in, uri_in, version_in,
+    encoding_in, json_of, markup_in, position_at, uri_in, version_in,
 };
 use cps_state::Hashing;
 use serde_json::Value;
@@ -173,6 +177,8 @@ impl Server {
             (ServerPhase::Running, RequestMethod::Query(query)) => self.owed_to_query(
                 query, params,
             ),
+            (ServerPhase::Running, RequestMethod::PrepareRename) => self.owed_to_naming(params),
+            (ServerPhase::Running, RequestMethod::Rename) => self.owed_to_renaming(params),
             (ServerPhase::Running, RequestMethod::Unknown) => Ok(Owed::Refused(
                 ErrorCode::MethodNotFound,
             )),
@@ -199,6 +205,47 @@ impl Server {
         };
         let told = answer(self.alloc, query, params, deck)?;
         Ok(Owed::by(told))
+    }
+
+    /// What is owed to one who asks whether the name at a position can be called otherwise.
+    fn owed_to_naming(&self, params: &Value) -> Result<Owed, AllocError>
+        ensures { IfOk result (λ owed. requests.OwesName (view params.now) self.now (value_of owed)) }
+    {
+        let Some(deck) = self.deck_in(params) else {
+            return Ok(Owed::Refused(ErrorCode::InvalidParams));
+        };
+        let Some(position) = position_at(params) else {
+            return Ok(Owed::Refused(ErrorCode::InvalidParams));
+        };
+        owed_name(self.alloc, deck, position)
+    }
+
+    /// What is owed to one who wishes to call it otherwise.
+    fn owed_to_renaming(&self, params: &Value) -> Result<Owed, AllocError>
+        ensures { IfOk result (λ owed. requests.OwesRename (view params.now) self.now (value_of owed)) }
+    {
+        let Some(deck) = self.deck_in(params) else {
+            return Ok(Owed::Refused(ErrorCode::InvalidParams));
+        };
+        let Some(wish) = RenameWish::of(params) else {
+            return Ok(Owed::Refused(ErrorCode::InvalidParams));
+        };
+        owed_rename(self.alloc, deck, wish)
+    }
+
+    /// The open text that parameters name.
+    fn deck_in<'a>(&'a self, params: &'a Value) -> Option<QueriedText<'a>>
+        ensures deck { option_map open_of result ≡ requests.open_in (view params.now) self.now }
+        ensures encoding { IfSome result (λ deck. deck.encoding ≡ self.now.encoding) }
+    {
+        let uri = uri_in(params)?;
+        let document = self.texts.find(uri)?;
+        Some(QueriedText {
+            uri,
+            document,
+            encoding: self.encoding,
+            markup: self.markup,
+        })
     }
 
     /// Goes where a request leads.

@@ -16,6 +16,9 @@ use Rattle.cps_server.specs.declared.queried_text.QueriedText.{QueriedText}
 use Rattle.cps_server.specs.declared.ranges.Units.{Units}
 use Rattle.cps_server.specs.Completions.{Offer, completion, completions_at, offered_in}
 use Rattle.cps_server.specs.declared.completions.Seat.{Seat}
+use Rattle.cps_server.specs.declared.action.Action.{Action}
+use Rattle.cps_server.specs.declared.action.LineEdit.{LineEdit}
+use Rattle.cps_server.specs.Actions.{action_json, edit_json}
 use Rattle.cps_server.specs.declared.offers.Sort.{Sort}
 use Rattle.cps_server.specs.Results.{hint_at}
 
@@ -62,6 +65,13 @@ hint_of_deck deck = hint_at deck.encoding deck.document.now
 -- what borrowed texts are
 abbrev pub texts : List (Bor (List ℕ)) → List (List ℕ)
 texts borrowed = map (λ text. text.now) borrowed
+
+-- actions and edits of a deck, as they are told
+abbrev pub action_in_deck : QueriedText → Action → Data
+action_in_deck deck = action_json deck.encoding deck.uri.now deck.document.now
+
+abbrev pub edit_in_deck : QueriedText → LineEdit → Data
+edit_in_deck deck = edit_json deck.encoding deck.document.now
 
 -- names are inserted into others
 abbrev pub InsertsNames : List Name → List Name → List Name → Type 0

@@ -5,6 +5,11 @@ use Rattle.cps_server.proofs.QueryFloatLemmas.{tells-no-float}
 use Rattle.cps_server.proofs.HintLemmas.{if-ok-as}
 use Rattle.cps_server.proofs.answering.answer.Goals as goal
 
+pub returns-in-Hover-clause-floats : goal.returns-in-Hover-clause-floats
+returns-in-Hover-clause-floats c =
+    if-ok-as c.answer_hover.result
+    (λ told. tells-no-float queries.Hover (view c.args.params.now) c.args.deck.encoding c.args.deck.markup c.args.deck.uri.now c.args.deck.document.now (option_map view told)) c.answer_hover.ensures
+
 pub returns-in-Definition-clause-floats : goal.returns-in-Definition-clause-floats
 returns-in-Definition-clause-floats c =
     if-ok-as c.answer_definition.result
@@ -39,3 +44,28 @@ pub returns-in-Listing-clause-floats : goal.returns-in-Listing-clause-floats
 returns-in-Listing-clause-floats c =
     if-ok-as c.answer_listing.result
     (λ told. tells-no-float queries.Listing (view c.args.params.now) c.args.deck.encoding c.args.deck.markup c.args.deck.uri.now c.args.deck.document.now (option_map view told)) c.answer_listing.ensures
+
+pub returns-in-FoldingRanges-clause-floats : goal.returns-in-FoldingRanges-clause-floats
+returns-in-FoldingRanges-clause-floats c =
+    if-ok-as c.answer_foldings.result
+    (λ told. tells-no-float queries.FoldingRanges (view c.args.params.now) c.args.deck.encoding c.args.deck.markup c.args.deck.uri.now c.args.deck.document.now (option_map view told)) c.answer_foldings.ensures
+
+pub returns-in-Signatures-clause-floats : goal.returns-in-Signatures-clause-floats
+returns-in-Signatures-clause-floats c =
+    if-ok-as c.answer_signatures.result
+    (λ told. tells-no-float queries.Signatures (view c.args.params.now) c.args.deck.encoding c.args.deck.markup c.args.deck.uri.now c.args.deck.document.now (option_map view told)) c.answer_signatures.ensures
+
+pub returns-in-Actions-clause-floats : goal.returns-in-Actions-clause-floats
+returns-in-Actions-clause-floats c =
+    if-ok-as c.answer_actions.result
+    (λ told. tells-no-float queries.Actions (view c.args.params.now) c.args.deck.encoding c.args.deck.markup c.args.deck.uri.now c.args.deck.document.now (option_map view told)) c.answer_actions.ensures
+
+pub returns-in-Tokens-clause-floats : goal.returns-in-Tokens-clause-floats
+returns-in-Tokens-clause-floats c =
+    if-ok-as c.answer_tokens.result
+    (λ told. tells-no-float queries.Tokens (view c.args.params.now) c.args.deck.encoding c.args.deck.markup c.args.deck.uri.now c.args.deck.document.now (option_map view told)) c.answer_tokens.ensures
+
+pub returns-in-RangeTokens-clause-floats : goal.returns-in-RangeTokens-clause-floats
+returns-in-RangeTokens-clause-floats c =
+    if-ok-as c.answer_range_tokens.result
+    (λ told. tells-no-float queries.RangeTokens (view c.args.params.now) c.args.deck.encoding c.args.deck.markup c.args.deck.uri.now c.args.deck.document.now (option_map view told)) c.answer_range_tokens.ensures

@@ -1,4 +1,4 @@
-use Rattle.std.proofs.Common.{rules, ◌≤◌, length, subst, ap, ◌∙◌, arith}
+use Rattle.std.proofs.Common.{◌≤◌, length, subst, ap, ◌∙◌, arith}
 use Rattle.std.specs.Prelude.{codes, flat_map}
 use Rattle.std.proofs.lemmas.List.{take_all}
 use Rattle.cps_server.specs.Completions.{offers_of, with_digits}

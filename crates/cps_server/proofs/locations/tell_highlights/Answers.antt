@@ -1,16 +1,20 @@
-use Rattle.std.proofs.Common.{rules, ◌≡◌, ◌≤◌, [], drop, length, map, subst, sym, arith}
-use Rattle.std.proofs.lemmas.List.{append-nil, drop_all}
-use Rattle.std.specs.List.{AllZip}
-use Rattle.serde_json.specs.View.{view}
-use Rattle.cps_server.specs.Results.{TellsHighlight}
+use Rattle.std.proofs.Common.{ap, subst, ◌∙◌}
+use Rattle.cps_mention.specs.Spots.{AreSpots, mention_at}
+use Rattle.cps_server.specs.Locations.{said_of, spot_highlights}
+use Rattle.cps_server.proofs.HintLemmas.{if-ok-as}
 use Rattle.cps_server.proofs.locations.tell_highlights.Goals as goal
 
 pub returns : goal.returns
 returns c =
+    let text = c.args.deck.document.now in
     let mentions = c.args.mentions.now in
-    let all : length mentions ≤ c.loop-mention.mention-index = omega (arith, c.loop-mention-test.false) in
-    let none : drop c.loop-mention.mention-index mentions ≡ [] = drop_all c.loop-mention.mention-index mentions all in (
-      map view c.loop-mention.told.items,
-      subst (AllZip TellsHighlight mentions) (append-nil (map view c.loop-mention.told.items)) (c.loop-mention.invariant [] (subst (λ ms. AllZip TellsHighlight ms []) (sym none) tt)),
-      search rules,
-    )
+    let spots = c.in_ok-spots.spots.items in
+    let named = c.mention_in-mention.ensures ∙ ap (λ caret. mention_at caret mentions) c.caret_at.ensures in
+    if-ok-as c.tell_spots.result
+    (λ json is. record {
+      mentions = mentions;
+      say = c.requires;
+      spots = spots;
+      stand = subst (λ mention. AreSpots (said_of mentions mention) spots) named c.in_ok-spots.ensures;
+      is = is ∙ ap (spot_highlights c.args.deck.encoding text) c.deref.ensures.value;
+    }) c.tell_spots.ensures

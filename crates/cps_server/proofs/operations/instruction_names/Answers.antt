@@ -1,9 +1,7 @@
-use Rattle.std.proofs.Common.{sym, ap, refl, ◌∙◌, ◌≡◌}
+use Rattle.std.proofs.Common.{sym, ap}
 use Rattle.cps_code.specs.Table.{cp_operations}
 use Rattle.cps_code.specs.PeripheralTable.{pp_table}
-use Rattle.cps_expr.specs.declared.machine.Machine.TheVariants.{Cp, Pp}
 use Rattle.cps_server.specs.Completions.{table_names}
-use Rattle.cps_server.specs.Code.Telling.{texts}
 use Rattle.cps_server.proofs.operations.instruction_names.Goals as goal
 
 pub returns-in-Cp : goal.returns-in-Cp

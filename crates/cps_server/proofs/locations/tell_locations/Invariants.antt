@@ -1,0 +1,7 @@
+use Rattle.std.proofs.Common.{◌≡◌, map, take}
+use Rattle.serde_json.specs.View.{view}
+use Rattle.cps_server.specs.Locations.{spot_location}
+use Rattle.cps_server.proofs.locations.tell_locations.Given as goal
+
+abbrev pub invariant-loop-spot : goal.invariant-loop-spot
+invariant-loop-spot l = map view l.told.items ≡ map (spot_location l.deck.encoding l.deck.uri.now l.deck.document.now) (take l.spot-index l.spots)

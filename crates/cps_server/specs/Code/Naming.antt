@@ -1,0 +1,49 @@
+-- For the code, not part of what a reader believes: what is told of the name at a position of a deck.
+use Rattle.std.specs.Prelude.{Bool, List, Option, option_map}
+use Rattle.std.specs.Borrow.{Bor}
+use Rattle.serde_json.specs.Data.{Data}
+use Rattle.cps_mention.specs.declared.mention.Mention.{Mention}
+use Rattle.cps_mention.specs.declared.spot.Spot.{Spot}
+use Rattle.cps_mention.specs.Spots.{definitions}
+use Rattle.cps_rpc.specs.declared.position.Position.{Position}
+use Rattle.cps_server.specs.declared.queried_text.QueriedText.{QueriedText}
+use Rattle.cps_server.specs.Hovers as hovers
+use Rattle.cps_server.specs.Locations as told
+
+abbrev pub TellsDefinition : QueriedText → Position → Data → Type 0
+TellsDefinition deck position json = told.TellsDefinition deck.encoding deck.uri.now deck.document.now position json
+
+abbrev pub TellsReferences : Bool → QueriedText → Position → Data → Type 0
+TellsReferences definitions_too deck position json = told.TellsReferences definitions_too deck.encoding deck.uri.now deck.document.now position json
+
+abbrev pub TellsHighlights : QueriedText → Position → Data → Type 0
+TellsHighlights deck position json = told.TellsHighlights deck.encoding deck.document.now position json
+
+-- the same by mentions alone
+abbrev pub TellsNamed : QueriedText → Position → (Option Mention → List Spot → Data) → Data → Type 0
+TellsNamed deck position named json = told.TellsNamed deck.encoding deck.document.now position named json
+
+abbrev pub locations : QueriedText → List Spot → Data
+locations deck spots = told.spot_locations deck.encoding deck.uri.now deck.document.now spots
+
+abbrev pub TellsNamedDefinition : QueriedText → Position → Data → Type 0
+TellsNamedDefinition deck position json =
+    TellsNamed deck position (λ mention spots. locations deck (told.counted_by mention (definitions spots))) json
+
+abbrev pub TellsNamedReferences : Bool → QueriedText → Position → Data → Type 0
+TellsNamedReferences definitions_too deck position json =
+    TellsNamed deck position (λ mention spots. locations deck (told.wanted definitions_too spots)) json
+
+abbrev pub TellsNamedHighlights : QueriedText → Position → Data → Type 0
+TellsNamedHighlights deck position json =
+    TellsNamed deck position (λ mention spots. told.spot_highlights deck.encoding deck.document.now spots) json
+
+abbrev pub TellsHover : QueriedText → Position → Data → Type 0
+TellsHover deck position json = hovers.TellsHover deck.encoding deck.markup deck.document.now position json
+
+abbrev pub ShowsNamed : QueriedText → Position → Data → Type 0
+ShowsNamed deck position json = hovers.ShowsNamed deck.encoding deck.markup deck.document.now position json
+
+-- the mention that is lent
+abbrev pub lent : Option (Bor Mention) → Option Mention
+lent mention = option_map (λ lent. lent.now) mention

@@ -1,0 +1,30 @@
+-- For the code, not part of what a reader believes: what is asked of a name, and the edits that call it otherwise.
+use Rattle.std.specs.Prelude.{ℕ, List, map}
+use Rattle.serde_json.specs.Data.{Data}
+use Rattle.cps_server.specs.declared.queried_text.QueriedText.{QueriedText}
+use Rattle.cps_server.specs.declared.rename_wish.RenameWish.{RenameWish}
+use Rattle.cps_server.specs.declared.text_edit.TextEdit.{TextEdit}
+use Rattle.cps_server.specs.Renames.{Edit, TellsRename, Wish}
+use Rattle.cps_server.specs.Requests.{IsOwed, Owed}
+use Rattle.cps_server.specs.ServerState.{OpenText}
+
+-- the text that is asked of
+abbrev pub open_of : QueriedText → OpenText
+open_of deck = record { uri = deck.uri.now; text = deck.document.now }
+
+abbrev pub wish_of : RenameWish → Wish
+wish_of wish = record { position = wish.position; new_name = wish.new_name.now }
+
+abbrev pub edit_of : TextEdit → Edit
+edit_of edit = record { line = edit.line; start = edit.units.start; end = edit.units.end; text = edit.text.now }
+
+abbrev pub edits_of : List TextEdit → List Edit
+edits_of edits = map edit_of edits
+
+-- a wish is told of a deck
+abbrev pub TellsWish : QueriedText → RenameWish → Data → Type 0
+TellsWish deck wish json = TellsRename deck.encoding deck.uri.now deck.document.now (wish_of wish) json
+
+-- and owed
+abbrev pub OwesWish : QueriedText → RenameWish → Owed → Type 0
+OwesWish deck wish owed = IsOwed (TellsWish deck wish) owed

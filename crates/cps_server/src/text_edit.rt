@@ -1,0 +1,64 @@
+//! Edits of a text, as an editor makes them.
+ghost use Rattle.std.specs.Prelude.{◌≡◌, map, IfOk, Some};
+ghost use Rattle.serde_json.specs.View.{view};
+ghost use Rattle.cps_server.specs.Code.Renaming.{edit_of, edits_of};
+ghost use Rattle.cps_server.specs.Renames.{change_of, edit_json, edits_json, workspace_edit};
+
+use crate::ranges::{Units, range_of};
+use cps_rpc::{Position, Range};
+use serde_json::{Value, json};
+use std::alloc::{AllocError, Global};
+
+/// Text in the place of what stands in a line from so many units up to others.
+#[derive(Clone, Copy)]
+pub struct TextEdit<'a> {
+    /// The line, from 0.
+    pub line: u32,
+    pub units: Units,
+    /// The new text.
+    pub text: &'a str,
+}
+
+impl TextEdit<'_> {
+    /// What gives way.
+    pub fn range(self) -> Range
+        ensures { Some result ≡ (change_of (edit_of self.entry)).range }
+    {
+        let start = Position {
+            line: self.line,
+            character: self.units.start,
+        };
+        let end = Position {
+            line: self.line,
+            character: self.units.end,
+        };
+        Range { start, end }
+    }
+
+    /// It as an editor is told.
+    fn tell(self, alloc: Global) -> Result<Value, AllocError>
+        ensures { IfOk result (λ json. view json ≡ edit_json (edit_of self.entry)) }
+    {
+        let range = range_of(alloc, self.line, self.units)?;
+        let text = self.text;
+        json!(in alloc; {"newText": text, "range": range})
+    }
+}
+
+/// Edits of the document of a URI, as an editor is told them.
+pub fn tell_edits(alloc: Global, uri: &str, edits: &[TextEdit<'_>]) -> Result<Value, AllocError>
+    ensures { IfOk result (λ json. view json ≡ workspace_edit uri.now (edits_of edits.now)) }
+{
+    let list = list_edits(alloc, edits)?;
+    json!(in alloc; {"changes": {uri: list}})
+}
+
+fn list_edits(alloc: Global, edits: &[TextEdit<'_>]) -> Result<Value, AllocError>
+    ensures { IfOk result (λ json. view json ≡ edits_json (edits_of edits.now)) }
+{
+    let mut told = Vec::new(alloc);
+    for edit in edits {
+        told.push(edit.tell(alloc)?)?;
+    }
+    Ok(Value::from(told))
+}
