@@ -73,6 +73,18 @@ fn shown_at(rt: &impl Abort, alloc: Global, reading: &OctalReading, address: u32
     text
 }
 
+/// How many digits are claimed below an address that can be read, and how many that can't be.
+fn claimed_below(reading: &OctalReading, end: u32) -> (usize, usize) {
+    let mut known: usize = 0;
+    let mut marks: usize = 0;
+    for address in 0..end {
+        let digits = reading.words.word(address).digits;
+        known = known.saturating_add(digits.iter().filter(|digit| digit.is_known()).count());
+        marks = marks.saturating_add(digits.iter().filter(|digit| digit.is_unknown()).count());
+    }
+    (known, marks)
+}
+
 /// A listing of a few words: rows without an address, a group of four digits and the row behind it, a heading, a blank row, a letter for a
 /// digit, and a digit that nobody can read.
 const LISTING: &str =
@@ -101,11 +113,7 @@ fn keeps_what_rows_claim(rt: HostRuntime) {
     let words = &listing.words;
     let ends = (words.first(), words.last());
     assert_row(&rt, 0, &ends, &(Some(0o225), Some(0o230)));
-    let known = (
-        words.known_count(0, 0o777_777),
-        words.mark_count(0, 0o777_777),
-    );
-    assert_row(&rt, 1, &known, &(24, 1));
+    assert_row(&rt, 1, &claimed_below(&listing, 0o1000), &(24, 1));
     let shown = shown_at(&rt, rt.alloc(), &listing, 0o225);
     assert_row_text(&rt, 2, &shown, "513000026212631     |                    ");
     let shown = shown_at(&rt, rt.alloc(), &listing, 0o230);
@@ -169,7 +177,7 @@ fn reads_a_whole_memory(rt: HostRuntime) {
     }
     let all = read_octal(rt.alloc(), &text, CENTRAL).expect(&rt, "memory");
     assert_row(&rt, 0, &counts_of(&all), &(32_768, 1, 0, 0));
-    assert_row(&rt, 1, &all.words.known_count(0, END), &655_360);
+    assert_row(&rt, 1, &claimed_below(&all, END), &(655_360, 0));
     assert_row(&rt, 2, &all.words.last(), &Some(END - 1));
     let last = !all.words.differs(END - 1, Some(b"00000000000000077777"));
     assert_row(&rt, 3, &last, &true);
@@ -183,7 +191,7 @@ const AGAIN: &str =
 fn reads_repeated_words(rt: HostRuntime) {
     let dump = reading(&rt, rt.alloc(), AGAIN, CENTRAL_DUMP);
     assert_row(&rt, 0, &counts_of(&dump), &(4, 1, 0, 0));
-    assert_row(&rt, 1, &dump.words.known_count(0, 0o777_777), &160);
+    assert_row(&rt, 1, &claimed_below(&dump, 0o1000), &(160, 0));
     for (address, digit, row) in [
         (0o102, b'4', 2),
         (0o103, b'3', 3),
@@ -197,7 +205,7 @@ fn reads_repeated_words(rt: HostRuntime) {
     let listing = reading(&rt, rt.alloc(), AGAIN, CENTRAL);
     assert_row(&rt, 2, &counts_of(&listing), &(3, 1, 1, 0));
     assert_row(&rt, 3, &listing.rows.first_other, &Some(3));
-    assert_row(&rt, 4, &listing.words.known_count(0, 0o777_777), &80);
+    assert_row(&rt, 4, &claimed_below(&listing, 0o1000), &(80, 0));
 }
 
 #[test]
@@ -234,7 +242,7 @@ fn goes_on_with_the_next_words(rt: HostRuntime) {
         "000000 76110 71200 01000 76330\n       73412 46000 46000 46000\n       73510 46000 46000 46000";
     let dump = reading(&rt, rt.alloc(), text, CENTRAL_DUMP);
     assert_row(&rt, 0, &counts_of(&dump), &(3, 0, 0, 0));
-    assert_row(&rt, 1, &dump.words.known_count(0, 2), &60);
+    assert_row(&rt, 1, &claimed_below(&dump, 0o1000), &(60, 0));
     let differs = dump.words.differs(2, Some(b"73510460004600046000"));
     assert_row(&rt, 2, &differs, &false);
     let listing = reading(&rt, rt.alloc(), text, CENTRAL);
@@ -282,7 +290,7 @@ fn repeats_words_of_a_peripheral_processor(rt: HostRuntime) {
     let dump = reading(&rt, rt.alloc(), text, PERIPHERAL_DUMP);
     assert_row(&rt, 8, &counts_of(&dump), &(6, 1, 2, 1));
     assert_row(&rt, 9, &unread_at(&dump, 0), &Some((8, b'U', 0)));
-    assert_row(&rt, 10, &dump.words.known_count(0, 0o777_777), &52);
+    assert_row(&rt, 10, &claimed_below(&dump, 0o1000), &(52, 0));
 }
 
 #[test]
@@ -291,12 +299,7 @@ fn bounds_repetitions(rt: HostRuntime) {
     let dump = reading(&rt, rt.alloc(), text, PERIPHERAL_DUMP);
     assert_row(&rt, 0, &counts_of(&dump), &(8, 0, 0, 1));
     assert_row(&rt, 1, &unread_at(&dump, 0), &Some((8, b'T', 0)));
-    assert_row(
-        &rt,
-        2,
-        &dump.words.known_count(0, 0o777_777),
-        &(4 * 262_144),
-    );
+    assert_row(&rt, 2, &claimed_below(&dump, 262_144), &(4 * 262_144, 0));
 }
 
 #[test]

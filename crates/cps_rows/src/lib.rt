@@ -23,6 +23,7 @@
 //! - `octal.rt`: a comparison with an octal text
 //! - `mention.rt`: the mentions of a source, as a text and beside its cross-reference
 //! - `mention_rows.rt`: where sources write names, and what these mean there
+//! - `mentions_again.rt`: where sources write names, once more where memory was refused
 //! - `order.rt`: a reader and a writer that tell in which order they are called
 //! - `output.rt`: texts that go into files, where one call of the files fails
 //! - `part_rows.rt`: the texts of a session
@@ -30,6 +31,8 @@
 //! - `peripheral_rows.rt`: codes of a peripheral processor
 //! - `put_rows.rt`: several lines in the place of others
 //! - `readers.rt`: readers
+//! - `rename.rt`: renames of names of a source
+//! - `rename_rows.rt`: the lines that a rename changes, and why it is refused
 //! - `same_value.rt`: names that all stand for the same
 //! - `statement_rows.rt`: rows of statements
 //! - `text_assertions.rt`: assertions of texts, proved once
@@ -80,6 +83,8 @@ mod mention;
 #[cfg(test)]
 mod mention_rows;
 #[cfg(test)]
+mod mentions_again;
+#[cfg(test)]
 mod octal;
 mod order;
 #[cfg(test)]
@@ -93,6 +98,10 @@ mod peripheral_rows;
 #[cfg(test)]
 mod put_rows;
 mod readers;
+#[cfg(test)]
+mod rename;
+#[cfg(test)]
+mod rename_rows;
 #[cfg(test)]
 mod same_value;
 #[cfg(test)]

@@ -1,7 +1,9 @@
 //! Where sources write names, and what these mean there.
 use super::mention::agreement::differences;
-use super::mention::told::mentions_told;
-use super::text_assertions::assert_row;
+use super::mention::large::{large_session, large_told};
+use super::mention::told::{mentions_told, told_of};
+use super::text_assertions::{assert_row, assert_same};
+use cps_mention::mentions_in;
 use std::alloc::Global;
 use std::process::Abort;
 
@@ -319,4 +321,15 @@ const MACROS: [MentionRow; 5] = [
 #[test]
 fn tells_names_of_macros(rt: HostRuntime) {
     assert_rows(&rt, rt.alloc(), &MACROS);
+}
+
+/// A source of 9,999 lines.
+#[test]
+fn tells_many_names(rt: HostRuntime) {
+    let session = large_session(rt.alloc()).expect(&rt, "memory");
+    let mentions = mentions_in(rt.alloc(), &session, session.traces()).expect(&rt, "memory");
+    let got = told_of(rt.alloc(), &mentions).expect(&rt, "memory");
+    let want = large_told(rt.alloc()).expect(&rt, "memory");
+    assert_same(&rt, "mentions", &got.len(), &want.len());
+    assert_same(&rt, "mentions as they are wanted", &(got == want), &true);
 }

@@ -1,7 +1,7 @@
 //! What mentions and the cross-reference say of a source's lines.
 use super::told::{push_number, session_of};
 use cps_list::list_mentions;
-use cps_mention::{Meaning, Mention, Role, mentions_in};
+use cps_mention::{Meaning, Mention, Role, agreeing_mentions};
 use cps_text::Name;
 use std::alloc::{AllocError, Global};
 use std::collections::BTreeSet;
@@ -15,10 +15,10 @@ struct SymbolFact {
 }
 
 /// What mentions of a source's symbols say of its lines and the cross-reference doesn't, or the other way round: a row for each. That a line which defines a
-/// symbol by SET reads it too isn't compared.
+/// symbol by SET reads it too isn't compared. None: memory was refused, or mentions say less than the cross-reference.
 pub fn differences(alloc: Global, texts: &[&str]) -> Option<Vec<u8>> {
     let session = session_of(alloc, texts)?;
-    let mentions = mentions_in(alloc, &session, session.traces()).ok()?;
+    let mentions = agreeing_mentions(alloc, &session, session.traces()).ok()??;
     let told = facts_told(alloc, &mentions).ok()?;
     let mut listed = BTreeSet::new(alloc);
     for fact in list_mentions(alloc, &session).ok()?.as_slice() {

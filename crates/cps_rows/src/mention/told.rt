@@ -28,7 +28,8 @@ pub fn session_of(alloc: Global, texts: &[&str]) -> Option<Session> {
     Session::enter(alloc, Hashing::by(1), lines, &mut Work::new()).ok()
 }
 
-fn told_of(alloc: Global, mentions: &[Mention]) -> Result<Vec<u8>, AllocError> {
+/// Mentions as a text.
+pub fn told_of(alloc: Global, mentions: &[Mention]) -> Result<Vec<u8>, AllocError> {
     let mut text = Vec::new(alloc);
     for mention in mentions {
         push_mention(&mut text, mention)?;

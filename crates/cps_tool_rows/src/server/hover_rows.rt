@@ -1,4 +1,4 @@
-//! What an editor shows of a place: the row of the symbol there, the rows of the line, as the listing has them, and the causes of its flags.
+//! What an editor shows of a place: rows of the name there, the rows of the line, as the listing has them, and the causes of its flags.
 use super::asking::{
     BY_UTF8, BY_UTF16, Beginning, Inquiry, Question, assert_answers, assert_parts,
 };
@@ -18,13 +18,13 @@ const WORDS: Inquiry = Inquiry {
         (
             "hover",
             r#","position":{"line":3,"character":2}"#,
-            r#"{"contents":{"kind":"plaintext","value":"START    00000000000000000100 4 6\n         000100 7160000005                4 START     SX6    COUNT\n"}}"#,
+            r#"{"contents":{"kind":"plaintext","value":"START    00000000000000000100 4 6\n         000100 7160000005                4 START     SX6    COUNT\n"},"range":{"end":{"character":5,"line":3},"start":{"character":0,"line":3}}}"#,
         ),
         // behind the last character of an operand
         (
             "hover",
             r#","position":{"line":3,"character":22}"#,
-            r#"{"contents":{"kind":"plaintext","value":"COUNT    00000000000000000005 8 4\n         000100 7160000005                4 START     SX6    COUNT\n"}}"#,
+            r#"{"contents":{"kind":"plaintext","value":"COUNT    00000000000000000005 8 4\n         000100 7160000005                4 START     SX6    COUNT\n"},"range":{"end":{"character":22,"line":3},"start":{"character":17,"line":3}}}"#,
         ),
         // between blanks
         (
@@ -48,19 +48,19 @@ const WORDS: Inquiry = Inquiry {
         (
             "hover",
             r#","position":{"line":5,"character":20}"#,
-            r#"{"contents":{"kind":"plaintext","value":"START    00000000000000000100 4 6\n         000101 0316000100                6           NZ     X6,START\n"}}"#,
+            r#"{"contents":{"kind":"plaintext","value":"START    00000000000000000100 4 6\n         000101 0316000100                6           NZ     X6,START\n"},"range":{"end":{"character":25,"line":5},"start":{"character":20,"line":5}}}"#,
         ),
-        // the name of the program, which is no symbol of a line
+        // the name of the program, which this line defines
         (
             "hover",
             r#","position":{"line":0,"character":17}"#,
-            r#"{"contents":{"kind":"plaintext","value":"                                          1           IDENT  NAMES\n"}}"#,
+            r#"{"contents":{"kind":"plaintext","value":"                                          1           IDENT  NAMES\n"},"range":{"end":{"character":22,"line":0},"start":{"character":17,"line":0}}}"#,
         ),
         // beyond the end of a line is its end, behind a symbol
         (
             "hover",
             r#","position":{"line":4,"character":99}"#,
-            r#"{"contents":{"kind":"plaintext","value":"ANSWER   00000000000000000102 9 5\n         000100 5160000102                5           SA6    ANSWER\n"}}"#,
+            r#"{"contents":{"kind":"plaintext","value":"ANSWER   00000000000000000102 9 5\n         000100 5160000102                5           SA6    ANSWER\n"},"range":{"end":{"character":23,"line":4},"start":{"character":17,"line":4}}}"#,
         ),
         // and behind a number
         (
@@ -96,11 +96,11 @@ const COMMENT: Inquiry = Inquiry {
             r#","position":{"line":0,"character":0}"#,
             r#"{"contents":{"kind":"plaintext","value":"                                          1 *         ADD one TO X6, NOT ONETOOMANY\n"}}"#,
         ),
-        // a symbol in a comment
+        // a symbol in a comment, which reads none
         (
             "hover",
             r#","position":{"line":0,"character":15}"#,
-            r#"{"contents":{"kind":"plaintext","value":"ONE      00000000000000000001 2 3 4\n                                          1 *         ADD one TO X6, NOT ONETOOMANY\n"}}"#,
+            r#"{"contents":{"kind":"plaintext","value":"                                          1 *         ADD one TO X6, NOT ONETOOMANY\n"}}"#,
         ),
         // a word of ten characters, which is no symbol
         (
@@ -111,13 +111,13 @@ const COMMENT: Inquiry = Inquiry {
         (
             "hover",
             r#","position":{"line":2,"character":22}"#,
-            r#"{"contents":{"kind":"plaintext","value":"ONE      00000000000000000001 2 3 4\n         000000 7266000001                3           SX6    X6+One\n"}}"#,
+            r#"{"contents":{"kind":"plaintext","value":"ONE      00000000000000000001 2 3 4\n         000000 7266000001                3           SX6    X6+One\n"},"range":{"end":{"character":23,"line":2},"start":{"character":20,"line":2}}}"#,
         ),
         // the label forces a word
         (
             "hover",
             r#","position":{"line":3,"character":4}"#,
-            r#"{"contents":{"kind":"plaintext","value":"ONE1     00000000000000000001 4\n         000001 7150000001                4 ONE1      SX5    ONE\n"}}"#,
+            r#"{"contents":{"kind":"plaintext","value":"ONE1     00000000000000000001 4\n         000001 7150000001                4 ONE1      SX5    ONE\n"},"range":{"end":{"character":4,"line":3},"start":{"character":0,"line":3}}}"#,
         ),
         (
             "hover",
@@ -138,25 +138,25 @@ const EXPANSION: Inquiry = Inquiry {
         (
             "hover",
             r#","position":{"line":4,"character":17}"#,
-            r#"{"contents":{"kind":"plaintext","value":"FIRST    00000000000000000000 5 6\n                                          5           PAIR   FIRST\n         000000                           + FIRST         BSS    1\n         000001                           + SECOND    BSS    1\n"}}"#,
+            r#"{"contents":{"kind":"plaintext","value":"FIRST    00000000000000000000 5 6\n                                          5           PAIR   FIRST\n         000000                           + FIRST         BSS    1\n         000001                           + SECOND    BSS    1\n"},"range":{"end":{"character":22,"line":4},"start":{"character":17,"line":4}}}"#,
         ),
-        // the name of the macro, which is no symbol
+        // the name of the macro: the rows of the line that defines it
         (
             "hover",
             r#","position":{"line":4,"character":12}"#,
-            r#"{"contents":{"kind":"plaintext","value":"                                          5           PAIR   FIRST\n         000000                           + FIRST         BSS    1\n         000001                           + SECOND    BSS    1\n"}}"#,
+            r#"{"contents":{"kind":"plaintext","value":"                                          1 PAIR      MACRO  N\n                                          5           PAIR   FIRST\n         000000                           + FIRST         BSS    1\n         000001                           + SECOND    BSS    1\n"},"range":{"end":{"character":14,"line":4},"start":{"character":10,"line":4}}}"#,
         ),
         // a line of the body
         (
             "hover",
             r#","position":{"line":2,"character":6}"#,
-            r#"{"contents":{"kind":"plaintext","value":"SECOND   00000000000000000001 5 7\n                                          3 SECOND    BSS    1\n"}}"#,
+            r#"{"contents":{"kind":"plaintext","value":"SECOND   00000000000000000001 5 7\n                                          3 SECOND    BSS    1\n"},"range":{"end":{"character":6,"line":2},"start":{"character":0,"line":2}}}"#,
         ),
-        // the parameter, which no line mentions
+        // a parameter: the same
         (
             "hover",
             r#","position":{"line":1,"character":0}"#,
-            r#"{"contents":{"kind":"plaintext","value":"                                          2 N         BSS    1\n"}}"#,
+            r#"{"contents":{"kind":"plaintext","value":"                                          1 PAIR      MACRO  N\n                                          2 N         BSS    1\n"},"range":{"end":{"character":1,"line":1},"start":{"character":0,"line":1}}}"#,
         ),
     ],
 };
@@ -169,7 +169,7 @@ const FLAGGED: Inquiry = Inquiry {
     questions: &[(
         "hover",
         r#","position":{"line":0,"character":17}"#,
-        r#"{"contents":{"kind":"plaintext","value":"Q        undefined            0 1\nU        000000 7110000000                1           SX1    Q\nU: no line gives Q a value; it counts as 0\n"}}"#,
+        r#"{"contents":{"kind":"plaintext","value":"Q        undefined            0 1\nU        000000 7110000000                1           SX1    Q\nU: no line gives Q a value; it counts as 0\n"},"range":{"end":{"character":18,"line":0},"start":{"character":17,"line":0}}}"#,
     )],
 };
 
@@ -186,7 +186,7 @@ const FLAGGED_CALL: Inquiry = Inquiry {
     questions: &[(
         "hover",
         r#","position":{"line":3,"character":19}"#,
-        r#"{"contents":{"kind":"plaintext","value":"NONE     undefined            0 4\n                                          4           BAD    NONE\nU        000000 5110000000                +           SA1    NONE\nU: no line gives NONE a value; it counts as 0\n"}}"#,
+        r#"{"contents":{"kind":"plaintext","value":"NONE     undefined            0 4\n                                          4           BAD    NONE\nU        000000 5110000000                +           SA1    NONE\nU: no line gives NONE a value; it counts as 0\n"},"range":{"end":{"character":21,"line":3},"start":{"character":17,"line":3}}}"#,
     )],
 };
 
@@ -198,7 +198,7 @@ const WRONG: Inquiry = Inquiry {
     questions: &[(
         "hover",
         r#","position":{"line":0,"character":17}"#,
-        r#"{"contents":{"kind":"plaintext","value":"Q        undefined            0 1\nU        000000 7110000000                1           SX1     Q\nU: no line gives Q a value; it counts as 0\n"}}"#,
+        r#"{"contents":{"kind":"plaintext","value":"Q        undefined            0 1\nU        000000 7110000000                1           SX1     Q\nU: no line gives Q a value; it counts as 0\n"},"range":{"end":{"character":18,"line":0},"start":{"character":17,"line":0}}}"#,
     )],
 };
 
@@ -211,18 +211,18 @@ const UNITS: Inquiry = Inquiry {
         (
             "hover",
             r#","position":{"line":0,"character":1}"#,
-            r#"{"contents":{"kind":"plaintext","value":"LP       00000000000000000000 1 2\n         000000 7110000001                1 LP        SX1    1\n"}}"#,
+            r#"{"contents":{"kind":"plaintext","value":"LP       00000000000000000000 1 2\n         000000 7110000001                1 LP        SX1    1\n"},"range":{"end":{"character":2,"line":0},"start":{"character":0,"line":0}}}"#,
         ),
         // before the symbol and behind it
         (
             "hover",
             r#","position":{"line":1,"character":19}"#,
-            r#"{"contents":{"kind":"plaintext","value":"LP       00000000000000000000 1 2\n         000000 7120000000                2           SX2         LP\n"}}"#,
+            r#"{"contents":{"kind":"plaintext","value":"LP       00000000000000000000 1 2\n         000000 7120000000                2           SX2         LP\n"},"range":{"end":{"character":21,"line":1},"start":{"character":19,"line":1}}}"#,
         ),
         (
             "hover",
             r#","position":{"line":1,"character":21}"#,
-            r#"{"contents":{"kind":"plaintext","value":"LP       00000000000000000000 1 2\n         000000 7120000000                2           SX2         LP\n"}}"#,
+            r#"{"contents":{"kind":"plaintext","value":"LP       00000000000000000000 1 2\n         000000 7120000000                2           SX2         LP\n"},"range":{"end":{"character":21,"line":1},"start":{"character":19,"line":1}}}"#,
         ),
         // between the units of a character
         (
@@ -248,12 +248,12 @@ const BYTES: Inquiry = Inquiry {
         (
             "hover",
             r#","position":{"line":1,"character":22}"#,
-            r#"{"contents":{"kind":"plaintext","value":"LP       00000000000000000000 1 2\n         000000 7120000000                2           SX2         LP\n"}}"#,
+            r#"{"contents":{"kind":"plaintext","value":"LP       00000000000000000000 1 2\n         000000 7120000000                2           SX2         LP\n"},"range":{"end":{"character":24,"line":1},"start":{"character":22,"line":1}}}"#,
         ),
         (
             "hover",
             r#","position":{"line":1,"character":24}"#,
-            r#"{"contents":{"kind":"plaintext","value":"LP       00000000000000000000 1 2\n         000000 7120000000                2           SX2         LP\n"}}"#,
+            r#"{"contents":{"kind":"plaintext","value":"LP       00000000000000000000 1 2\n         000000 7120000000                2           SX2         LP\n"},"range":{"end":{"character":24,"line":1},"start":{"character":22,"line":1}}}"#,
         ),
         // behind the character of four bytes
         (
@@ -287,7 +287,7 @@ const FENCED: &[Question] = &[
     (
         "hover",
         r#","position":{"line":3,"character":8}"#,
-        r#"{"contents":{"kind":"markdown","value":"```compass\n         000100 7160000005                4 START     SX6    COUNT\n```"}}"#,
+        r#"{"contents":{"kind":"markdown","value":"```text\n         000100 7160000005                4 START     SX6    COUNT\n```"}}"#,
     ),
     // no such line
     ("hover", r#","position":{"line":10,"character":0}"#, "null"),

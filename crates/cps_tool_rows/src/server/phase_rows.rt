@@ -7,24 +7,24 @@ use cps_rpc::ServerFault;
 use cps_text::Counted;
 
 /// A request that no part of the introduction promises.
-const RENAME: &str =
-    "{\"jsonrpc\":\"2.0\",\"id\":\"r\",\"method\":\"textDocument/rename\",\"params\":{}}";
+const MONIKER: &str =
+    "{\"jsonrpc\":\"2.0\",\"id\":\"r\",\"method\":\"textDocument/moniker\",\"params\":{}}";
 
 /// Conversations that open no text.
 const CONVERSATIONS: [ConversationRow; 9] = [
     // all requests in each phase; nothing behind `exit` is answered
     (
         &[
-            RENAME,
+            MONIKER,
             INITIALIZE_UTF8,
             INITIALIZE,
-            RENAME,
+            MONIKER,
             SHUTDOWN,
-            RENAME,
+            MONIKER,
             SHUTDOWN,
             INITIALIZE,
             EXIT,
-            RENAME,
+            MONIKER,
         ],
         Ok(true),
         &[

@@ -1,4 +1,4 @@
-//! Where a symbol is defined, and where it is read.
+//! Where a name is defined, and where it stands.
 use super::asking::{BY_UTF8, BY_UTF16, Inquiry, assert_answers};
 use super::decks::{
     LETTERS, NAMES, PAIR, SETTINGS, UNDEFINED, UNDEFINED_TOLD, WIDE, WIDE_UTF8, WIDE_UTF16,
@@ -14,33 +14,33 @@ const LABELS: Inquiry = Inquiry {
         (
             "definition",
             r#","position":{"line":5,"character":22}"#,
-            r#"{"range":{"end":{"character":5,"line":3},"start":{"character":0,"line":3}},"uri":"a"}"#,
+            r#"[{"range":{"end":{"character":5,"line":3},"start":{"character":0,"line":3}},"uri":"a"}]"#,
         ),
         (
             "definition",
             r#","position":{"line":3,"character":0}"#,
-            r#"{"range":{"end":{"character":5,"line":3},"start":{"character":0,"line":3}},"uri":"a"}"#,
+            r#"[{"range":{"end":{"character":5,"line":3},"start":{"character":0,"line":3}},"uri":"a"}]"#,
         ),
         // an operation, a register, a place between blanks, and no line
         (
             "definition",
             r#","position":{"line":4,"character":11}"#,
-            "null",
+            "[]",
         ),
         (
             "definition",
             r#","position":{"line":5,"character":18}"#,
-            "null",
+            "[]",
         ),
         (
             "definition",
             r#","position":{"line":5,"character":14}"#,
-            "null",
+            "[]",
         ),
         (
             "definition",
             r#","position":{"line":10,"character":0}"#,
-            "null",
+            "[]",
         ),
         // the line that reads a label, and the one that defines it too
         (
@@ -89,7 +89,7 @@ const LABELS: Inquiry = Inquiry {
     ],
 };
 
-/// From a comment, in small letters, and beside a longer word: comments read nothing.
+/// In a comment, which names nothing; in small letters; and beside a longer word.
 const WHOLE: Inquiry = Inquiry {
     begins: BY_UTF16,
     lines: LETTERS,
@@ -98,11 +98,21 @@ const WHOLE: Inquiry = Inquiry {
         (
             "definition",
             r#","position":{"line":0,"character":17}"#,
-            r#"{"range":{"end":{"character":3,"line":1},"start":{"character":0,"line":1}},"uri":"a"}"#,
+            "[]",
         ),
         (
             "references",
             r#","position":{"line":0,"character":17},"context":{"includeDeclaration":true}"#,
+            "[]",
+        ),
+        (
+            "definition",
+            r#","position":{"line":2,"character":20}"#,
+            r#"[{"range":{"end":{"character":3,"line":1},"start":{"character":0,"line":1}},"uri":"a"}]"#,
+        ),
+        (
+            "references",
+            r#","position":{"line":1,"character":0},"context":{"includeDeclaration":true}"#,
             r#"[{"range":{"end":{"character":3,"line":1},"start":{"character":0,"line":1}},"uri":"a"},{"range":{"end":{"character":23,"line":2},"start":{"character":20,"line":2}},"uri":"a"},{"range":{"end":{"character":20,"line":3},"start":{"character":17,"line":3}},"uri":"a"}]"#,
         ),
         (
@@ -113,38 +123,55 @@ const WHOLE: Inquiry = Inquiry {
     ],
 };
 
-/// Symbols that lines of an expansion define: the argument of its call, and one that doesn't stand in the line of the call, between its blanks.
+/// Symbols that lines of an expansion define: the argument of its call, one of the macro's body, the macro, and its parameter.
 const EXPANSION: Inquiry = Inquiry {
     begins: BY_UTF16,
     lines: PAIR,
     told: "[]",
     questions: &[
-        // the call defines SECOND
+        // the call defines SECOND, which stands in the body
         (
             "documentHighlight",
             r#","position":{"line":6,"character":17}"#,
-            r#"[{"kind":3,"range":{"end":{"character":22,"line":4},"start":{"character":10,"line":4}}},{"kind":2,"range":{"end":{"character":23,"line":6},"start":{"character":17,"line":6}}}]"#,
+            r#"[{"kind":3,"range":{"end":{"character":6,"line":2},"start":{"character":0,"line":2}}},{"kind":2,"range":{"end":{"character":23,"line":6},"start":{"character":17,"line":6}}}]"#,
         ),
         (
             "definition",
             r#","position":{"line":5,"character":17}"#,
-            r#"{"range":{"end":{"character":22,"line":4},"start":{"character":17,"line":4}},"uri":"a"}"#,
+            r#"[{"range":{"end":{"character":22,"line":4},"start":{"character":17,"line":4}},"uri":"a"}]"#,
         ),
         (
             "definition",
             r#","position":{"line":6,"character":17}"#,
-            r#"{"range":{"end":{"character":22,"line":4},"start":{"character":10,"line":4}},"uri":"a"}"#,
+            r#"[{"range":{"end":{"character":6,"line":2},"start":{"character":0,"line":2}},"uri":"a"}]"#,
+        ),
+        // the macro, from its call
+        (
+            "definition",
+            r#","position":{"line":4,"character":12}"#,
+            r#"[{"range":{"end":{"character":4,"line":0},"start":{"character":0,"line":0}},"uri":"a"}]"#,
+        ),
+        (
+            "references",
+            r#","position":{"line":0,"character":0},"context":{"includeDeclaration":false}"#,
+            r#"[{"range":{"end":{"character":14,"line":4},"start":{"character":10,"line":4}},"uri":"a"}]"#,
+        ),
+        // its parameter, from the body
+        (
+            "definition",
+            r#","position":{"line":1,"character":0}"#,
+            r#"[{"range":{"end":{"character":18,"line":0},"start":{"character":17,"line":0}},"uri":"a"}]"#,
         ),
         // from the body of the macro
         (
             "references",
             r#","position":{"line":2,"character":0},"context":{"includeDeclaration":true}"#,
-            r#"[{"range":{"end":{"character":22,"line":4},"start":{"character":10,"line":4}},"uri":"a"},{"range":{"end":{"character":23,"line":6},"start":{"character":17,"line":6}},"uri":"a"}]"#,
+            r#"[{"range":{"end":{"character":6,"line":2},"start":{"character":0,"line":2}},"uri":"a"},{"range":{"end":{"character":23,"line":6},"start":{"character":17,"line":6}},"uri":"a"}]"#,
         ),
     ],
 };
 
-/// Blank lines that end a DUP, and so define symbols: of a line of blanks the first column is told.
+/// Blank lines that end a DUP, and so define symbols, which stand in the lines before.
 const BLANK: Inquiry = Inquiry {
     begins: BY_UTF16,
     lines: &[
@@ -161,17 +188,17 @@ const BLANK: Inquiry = Inquiry {
         (
             "definition",
             r#","position":{"line":6,"character":17}"#,
-            r#"{"range":{"end":{"character":0,"line":2},"start":{"character":0,"line":2}},"uri":"a"}"#,
+            r#"[{"range":{"end":{"character":3,"line":1},"start":{"character":0,"line":1}},"uri":"a"}]"#,
         ),
         (
             "definition",
             r#","position":{"line":6,"character":21}"#,
-            r#"{"range":{"end":{"character":1,"line":5},"start":{"character":0,"line":5}},"uri":"a"}"#,
+            r#"[{"range":{"end":{"character":3,"line":4},"start":{"character":0,"line":4}},"uri":"a"}]"#,
         ),
     ],
 };
 
-/// A symbol that two lines define. The second one reads it too.
+/// A symbol that two lines define. The second one reads it too. From where it is read the value is told that counts there.
 const SET: Inquiry = Inquiry {
     begins: BY_UTF16,
     lines: SETTINGS,
@@ -180,22 +207,27 @@ const SET: Inquiry = Inquiry {
         (
             "documentHighlight",
             r#","position":{"line":3,"character":17}"#,
-            r#"[{"kind":3,"range":{"end":{"character":1,"line":0},"start":{"character":0,"line":0}}},{"kind":2,"range":{"end":{"character":18,"line":1},"start":{"character":17,"line":1}}},{"kind":3,"range":{"end":{"character":1,"line":2},"start":{"character":0,"line":2}}},{"kind":2,"range":{"end":{"character":1,"line":2},"start":{"character":0,"line":2}}},{"kind":2,"range":{"end":{"character":18,"line":3},"start":{"character":17,"line":3}}}]"#,
+            r#"[{"kind":3,"range":{"end":{"character":1,"line":0},"start":{"character":0,"line":0}}},{"kind":2,"range":{"end":{"character":18,"line":1},"start":{"character":17,"line":1}}},{"kind":3,"range":{"end":{"character":1,"line":2},"start":{"character":0,"line":2}}},{"kind":2,"range":{"end":{"character":18,"line":2},"start":{"character":17,"line":2}}},{"kind":2,"range":{"end":{"character":18,"line":3},"start":{"character":17,"line":3}}}]"#,
         ),
         (
             "definition",
             r#","position":{"line":3,"character":17}"#,
-            r#"{"range":{"end":{"character":1,"line":0},"start":{"character":0,"line":0}},"uri":"a"}"#,
+            r#"[{"range":{"end":{"character":1,"line":2},"start":{"character":0,"line":2}},"uri":"a"}]"#,
+        ),
+        (
+            "definition",
+            r#","position":{"line":1,"character":17}"#,
+            r#"[{"range":{"end":{"character":1,"line":0},"start":{"character":0,"line":0}},"uri":"a"}]"#,
         ),
         (
             "references",
             r#","position":{"line":3,"character":17},"context":{"includeDeclaration":false}"#,
-            r#"[{"range":{"end":{"character":18,"line":1},"start":{"character":17,"line":1}},"uri":"a"},{"range":{"end":{"character":1,"line":2},"start":{"character":0,"line":2}},"uri":"a"},{"range":{"end":{"character":18,"line":3},"start":{"character":17,"line":3}},"uri":"a"}]"#,
+            r#"[{"range":{"end":{"character":18,"line":1},"start":{"character":17,"line":1}},"uri":"a"},{"range":{"end":{"character":18,"line":2},"start":{"character":17,"line":2}},"uri":"a"},{"range":{"end":{"character":18,"line":3},"start":{"character":17,"line":3}},"uri":"a"}]"#,
         ),
         (
             "references",
             r#","position":{"line":2,"character":17},"context":{"includeDeclaration":true}"#,
-            r#"[{"range":{"end":{"character":1,"line":0},"start":{"character":0,"line":0}},"uri":"a"},{"range":{"end":{"character":18,"line":1},"start":{"character":17,"line":1}},"uri":"a"},{"range":{"end":{"character":1,"line":2},"start":{"character":0,"line":2}},"uri":"a"},{"range":{"end":{"character":1,"line":2},"start":{"character":0,"line":2}},"uri":"a"},{"range":{"end":{"character":18,"line":3},"start":{"character":17,"line":3}},"uri":"a"}]"#,
+            r#"[{"range":{"end":{"character":1,"line":0},"start":{"character":0,"line":0}},"uri":"a"},{"range":{"end":{"character":18,"line":1},"start":{"character":17,"line":1}},"uri":"a"},{"range":{"end":{"character":1,"line":2},"start":{"character":0,"line":2}},"uri":"a"},{"range":{"end":{"character":18,"line":2},"start":{"character":17,"line":2}},"uri":"a"},{"range":{"end":{"character":18,"line":3},"start":{"character":17,"line":3}},"uri":"a"}]"#,
         ),
     ],
 };
@@ -209,7 +241,7 @@ const NOWHERE: Inquiry = Inquiry {
         (
             "definition",
             r#","position":{"line":0,"character":17}"#,
-            "null",
+            "[]",
         ),
         (
             "references",
@@ -228,12 +260,12 @@ const UNITS: Inquiry = Inquiry {
         (
             "definition",
             r#","position":{"line":1,"character":19}"#,
-            r#"{"range":{"end":{"character":2,"line":0},"start":{"character":0,"line":0}},"uri":"a"}"#,
+            r#"[{"range":{"end":{"character":2,"line":0},"start":{"character":0,"line":0}},"uri":"a"}]"#,
         ),
         (
             "definition",
             r#","position":{"line":1,"character":18}"#,
-            "null",
+            "[]",
         ),
         (
             "references",
@@ -252,12 +284,12 @@ const BYTES: Inquiry = Inquiry {
         (
             "definition",
             r#","position":{"line":1,"character":22}"#,
-            r#"{"range":{"end":{"character":2,"line":0},"start":{"character":0,"line":0}},"uri":"a"}"#,
+            r#"[{"range":{"end":{"character":2,"line":0},"start":{"character":0,"line":0}},"uri":"a"}]"#,
         ),
         (
             "definition",
             r#","position":{"line":1,"character":19}"#,
-            "null",
+            "[]",
         ),
         (
             "references",

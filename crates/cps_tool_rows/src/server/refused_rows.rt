@@ -36,12 +36,19 @@ const HINTS: &str =
 const COMPLETION: &str =
     r#"{"jsonrpc":"2.0","id":16,"method":"textDocument/completion","params":{"textDocument":{"uri":"a"},"position":{"line":0,"character":0}}}"#;
 
+const PREPARE: &str =
+    r#"{"jsonrpc":"2.0","id":17,"method":"textDocument/prepareRename","params":{"textDocument":{"uri":"a"},"position":{"line":0,"character":0}}}"#;
+
+const RENAME: &str =
+    r#"{"jsonrpc":"2.0","id":18,"method":"textDocument/rename","params":{"textDocument":{"uri":"a"},"position":{"line":0,"character":0},"newName":"M"}}"#;
+
 /// Conversations with requests that are refused.
 const REFUSALS: [ConversationRow; 4] = [
     // before `initialize`, though the text was sent
     (
         &[
-            OPEN_A, HOVER, DEFINITION, REFERENCES, OUTLINE, HINTS, COMPLETION, EXIT,
+            OPEN_A, HOVER, DEFINITION, REFERENCES, OUTLINE, HINTS, COMPLETION, PREPARE, RENAME,
+            EXIT,
         ],
         Ok(false),
         &[
@@ -51,13 +58,15 @@ const REFUSALS: [ConversationRow; 4] = [
             r#"{"error":{"code":-32002,"message":"Server not initialized"},"id":14,"jsonrpc":"2.0"}"#,
             r#"{"error":{"code":-32002,"message":"Server not initialized"},"id":15,"jsonrpc":"2.0"}"#,
             r#"{"error":{"code":-32002,"message":"Server not initialized"},"id":16,"jsonrpc":"2.0"}"#,
+            r#"{"error":{"code":-32002,"message":"Server not initialized"},"id":17,"jsonrpc":"2.0"}"#,
+            r#"{"error":{"code":-32002,"message":"Server not initialized"},"id":18,"jsonrpc":"2.0"}"#,
         ],
     ),
     // behind `shutdown`, though the text is open
     (
         &[
             INITIALIZE, OPEN_A, SHUTDOWN, HOVER, DEFINITION, REFERENCES, OUTLINE, HINTS,
-            COMPLETION, EXIT,
+            COMPLETION, PREPARE, RENAME, EXIT,
         ],
         Ok(true),
         &[
@@ -70,6 +79,8 @@ const REFUSALS: [ConversationRow; 4] = [
             r#"{"error":{"code":-32600,"message":"Invalid Request"},"id":14,"jsonrpc":"2.0"}"#,
             r#"{"error":{"code":-32600,"message":"Invalid Request"},"id":15,"jsonrpc":"2.0"}"#,
             r#"{"error":{"code":-32600,"message":"Invalid Request"},"id":16,"jsonrpc":"2.0"}"#,
+            r#"{"error":{"code":-32600,"message":"Invalid Request"},"id":17,"jsonrpc":"2.0"}"#,
+            r#"{"error":{"code":-32600,"message":"Invalid Request"},"id":18,"jsonrpc":"2.0"}"#,
         ],
     ),
     // another text is open, and this one was closed
@@ -85,6 +96,8 @@ const REFUSALS: [ConversationRow; 4] = [
             OUTLINE,
             HINTS,
             COMPLETION,
+            PREPARE,
+            RENAME,
             EXIT,
         ],
         Ok(false),
@@ -99,9 +112,11 @@ const REFUSALS: [ConversationRow; 4] = [
             r#"{"error":{"code":-32602,"message":"Invalid params"},"id":14,"jsonrpc":"2.0"}"#,
             r#"{"error":{"code":-32602,"message":"Invalid params"},"id":15,"jsonrpc":"2.0"}"#,
             r#"{"error":{"code":-32602,"message":"Invalid params"},"id":16,"jsonrpc":"2.0"}"#,
+            r#"{"error":{"code":-32602,"message":"Invalid params"},"id":17,"jsonrpc":"2.0"}"#,
+            r#"{"error":{"code":-32602,"message":"Invalid params"},"id":18,"jsonrpc":"2.0"}"#,
         ],
     ),
-    // an identifier that is a text, no parameters, no URI or one that is none, no position or one that is none, no range or one that is none
+    // an identifier that is a text, no parameters, no URI or one that is none, no position or one that is none, no range or one that is none, no new name or one that is none
     (
         &[
             INITIALIZE,
@@ -117,6 +132,10 @@ const REFUSALS: [ConversationRow; 4] = [
             r#"{"jsonrpc":"2.0","id":27,"method":"textDocument/completion","params":[]}"#,
             r#"{"jsonrpc":"2.0","id":29,"method":"textDocument/completion","params":{"textDocument":{"uri":"a"}}}"#,
             r#"{"jsonrpc":"2.0","id":28,"method":"compass/rows","params":{"textDocument":{"uri":"a"},"position":{"line":0,"character":0}}}"#,
+            r#"{"jsonrpc":"2.0","id":34,"method":"textDocument/prepareRename","params":{"textDocument":{"uri":"a"},"newName":"M"}}"#,
+            r#"{"jsonrpc":"2.0","id":35,"method":"textDocument/rename","params":{"textDocument":{"uri":"a"},"position":{"line":0,"character":0}}}"#,
+            r#"{"jsonrpc":"2.0","id":36,"method":"textDocument/rename","params":{"textDocument":{"uri":"a"},"position":{"line":0,"character":0},"newName":5}}"#,
+            r#"{"jsonrpc":"2.0","id":37,"method":"textDocument/rename","params":{"textDocument":{"uri":"a"},"newName":"M"}}"#,
             EXIT,
         ],
         Ok(false),
@@ -134,6 +153,10 @@ const REFUSALS: [ConversationRow; 4] = [
             r#"{"error":{"code":-32602,"message":"Invalid params"},"id":27,"jsonrpc":"2.0"}"#,
             r#"{"error":{"code":-32602,"message":"Invalid params"},"id":29,"jsonrpc":"2.0"}"#,
             r#"{"error":{"code":-32602,"message":"Invalid params"},"id":28,"jsonrpc":"2.0"}"#,
+            r#"{"error":{"code":-32602,"message":"Invalid params"},"id":34,"jsonrpc":"2.0"}"#,
+            r#"{"error":{"code":-32602,"message":"Invalid params"},"id":35,"jsonrpc":"2.0"}"#,
+            r#"{"error":{"code":-32602,"message":"Invalid params"},"id":36,"jsonrpc":"2.0"}"#,
+            r#"{"error":{"code":-32602,"message":"Invalid params"},"id":37,"jsonrpc":"2.0"}"#,
         ],
     ),
 ];
@@ -162,8 +185,8 @@ const STATES: [ConversationRow; 2] = [
             UTF16,
             TOLD_A,
             TOLD_B,
-            r#"{"id":11,"jsonrpc":"2.0","result":{"contents":{"kind":"plaintext","value":"L        00000000000000000000 1\n         000000 00000000000000000001      1 L         CON    1\n"}}}"#,
-            "{\"id\":31,\"jsonrpc\":\"2.0\",\"result\":{\"range\":{\"end\":{\"character\":1,\"line\":1},\"start\":{\"character\":0,\"line\":1}},\"uri\":\"b\\\"\u{E9}\"}}",
+            r#"{"id":11,"jsonrpc":"2.0","result":{"contents":{"kind":"plaintext","value":"L        00000000000000000000 1\n         000000 00000000000000000001      1 L         CON    1\n"},"range":{"end":{"character":1,"line":0},"start":{"character":0,"line":0}}}}"#,
+            "{\"id\":31,\"jsonrpc\":\"2.0\",\"result\":[{\"range\":{\"end\":{\"character\":1,\"line\":1},\"start\":{\"character\":0,\"line\":1}},\"uri\":\"b\\\"\u{E9}\"}]}",
             "{\"id\":32,\"jsonrpc\":\"2.0\",\"result\":[{\"range\":{\"end\":{\"character\":1,\"line\":1},\"start\":{\"character\":0,\"line\":1}},\"uri\":\"b\\\"\u{E9}\"}]}",
         ],
     ),
@@ -185,7 +208,7 @@ const STATES: [ConversationRow; 2] = [
         &[
             UTF16,
             TOLD_A,
-            r#"{"id":11,"jsonrpc":"2.0","result":{"contents":{"kind":"plaintext","value":"L        00000000000000000000 1\n         000000 00000000000000000001      1 L         CON    1\n"}}}"#,
+            r#"{"id":11,"jsonrpc":"2.0","result":{"contents":{"kind":"plaintext","value":"L        00000000000000000000 1\n         000000 00000000000000000001      1 L         CON    1\n"},"range":{"end":{"character":1,"line":0},"start":{"character":0,"line":0}}}}"#,
             r#"{"id":15,"jsonrpc":"2.0","result":[{"label":"000000 00000000000000000001","paddingLeft":true,"position":{"character":18,"line":0}}]}"#,
             TOLD_A,
             r#"{"id":11,"jsonrpc":"2.0","result":{"contents":{"kind":"plaintext","value":"         000000 00000000000000000001      1           CON    L\n"}}}"#,
