@@ -1,18 +1,27 @@
 """The texts that an editor has open, and what a server may show of them: for the script `drive-server`.
 
 Positions and changes are those of the Language Server Protocol, by bytes of UTF-8 or units of UTF-16. What lines are shown by is
-what a batch writes of them; where a symbol stands in a line is searched for.
+what a batch writes of them. Where names stand isn't known here, but for symbols in plain statements outside macros, by the cross-reference:
+of these the rest is held against what is told.
 """
 import itertools
 import re
+from functools import cached_property
 
-from random_lines import MOST_BYTES, MOST_LINES, WRONG
+from random_lines import CENTRAL, MOST_BYTES, MOST_LINES, PERIPHERAL, WRONG
 
 MOST_ROWS = 40
+# How many kinds of tokens there are.
+MOST_KINDS = 9
 MOST_CAUSES = 10
 END, OPEN_END = "the source ends ", "open range at end of source"
 REGISTERS = [letter + digit for letter in "ABX" for digit in "01234567"]
-WORD, SYMBOL, REGISTER = re.compile(rb"[A-Za-z0-9.=]+"), re.compile(r"[A-Z.][A-Z0-9.=]{0,7}"), re.compile(r"[ABX][0-7]")
+WORD = re.compile(rb"[A-Za-z0-9.=]+")
+# Operations whose location field defines a symbol, and those whose operands read symbols and have no text and no comment.
+DEFINING = {operation for operation, _ in CENTRAL + PERIPHERAL} | {"EQU", "=", "SET", "BSS", "BSSZ", "CON", "VFD"}
+READING = DEFINING - {"NO", "PS", "PSN"} | {"ORG", "IFEQ", "IFGT", "IFLE"}
+# How a place of a name counts.
+READ, DEFINED = 2, 3
 
 
 def units(text, is_utf8):
@@ -76,6 +85,30 @@ def fields(text):
     return location, next(iter(text[behind:].split()), "")
 
 
+def operand_words(text, location):
+    """What stands between the commas and the operators of a statement's operands, each with its place; not behind the `=` of a literal."""
+    behind = text.find(location) + len(location) if location else 2
+    operation = re.compile(r" *\S+ *").match(text, max(2, behind))
+    first = operation.end() if operation else len(text)
+    if first > 28:
+        return
+    for operand in re.finditer(r"[^,]+", text[first:].split(" ", 1)[0]):
+        for word in re.finditer(r"[^-+*/]+", operand[0]):
+            if operand[0][0] != "=":
+                yield first + operand.start() + word.start(), word[0]
+
+
+def located(uri, ranges):
+    return [{"range": one, "uri": uri} for one in ranges]
+
+
+def around(ranges, position):
+    """Those of the ranges that are around a position, else those that end there."""
+    here = [one for one in ranges if one["start"]["line"] == position["line"]]
+    within = [one for one in here if one["start"]["character"] <= position["character"] < one["end"]["character"]]
+    return within or [one for one in here if one["end"] == position]
+
+
 def by_line(items, key):
     """Items that are in the order of their lines, by line and name."""
     ordered = sorted(items, key=key)
@@ -119,15 +152,6 @@ class Shown:
     def value(self, name):
         return self.symbols[name][9:29].strip()
 
-    def pointed(self, position):
-        """The symbol at a position, if lines define or read it."""
-        if position["line"] >= len(self.lines):
-            return None
-        line = self.lines[position["line"]]
-        at = place(line + b"\r", 0, position["character"], self.is_utf8)
-        word = next((one[0].decode().upper() for one in WORD.finditer(line) if one.start() <= at <= one.end()), "")
-        return word if SYMBOL.fullmatch(word) and not REGISTER.fullmatch(word) and word in self.symbols else None
-
     def causes(self, number):
         """The causes of a line's flags, without the statements of its expansion: the first 10, and once one that follows itself."""
         if not any(row[:8].strip() for row in self.rows[number]):
@@ -155,7 +179,7 @@ class Shown:
         if number >= len(self.lines):
             return {"start": {"line": number, "character": 0}, "end": {"line": number, "character": 0}}
         line = self.lines[number]
-        at = place(line + b"\r", 0, position["character"], self.is_utf8)
+        at = self.column(position)
         first, last = next((one.span() for one in WORD.finditer(line) if one.start() <= at <= one.end()), (at, at))
         return {"start": self.position(number, first), "end": self.position(number, last)}
 
@@ -166,36 +190,152 @@ class Shown:
                 return {"start": self.position(number, one.start()), "end": self.position(number, one.end())}
         return self.whole(number)
 
+    @cached_property
+    def written(self):
+        """Of each line the places where its own statement defines a symbol or reads one, as the cross-reference has it: the first and the last place,
+        the symbol, and how it counts. Lines of macros have none, and statements whose operands may be text. A line that opens others may define by these."""
+        depth, found, reading = 0, {}, {name: set(self.numbers(name)[1:]) for name in self.symbols}
+        for number, card in enumerate(cards_of(b"\n".join(self.lines)).decode().split("\n")[:-1]):
+            text = card[:72].upper()
+            location, operation = fields(text)
+            depth = max(0, depth + (operation == "MACRO") - (operation == "ENDM"))
+            if depth or text[:1] in ("*", ","):
+                continue
+            opens = any(row[42:43] == "+" for row in self.rows[number])
+            places = [(text.find(location), location, DEFINED)] if not opens and operation in DEFINING and location in self.defined.get(number, ()) else []
+            if operation in READING:
+                places += [(at, word, READ) for at, word in operand_words(text, location) if number + 1 in reading.get(word, ())]
+            found[number] = [(at, at + len(word), word, kind) for at, word, kind in places]
+        return found
+
+    def known(self, position):
+        """The symbol that surely stands at a position, or None."""
+        number, at = position["line"], self.column(position)
+        return next((word for first, last, word, _ in self.written.get(number, ()) if first <= at <= last), None)
+
+    def column(self, position):
+        """The place of a position in its line, 0 where there is none."""
+        line = self.lines[position["line"]] if position["line"] < len(self.lines) else b""
+        return place(line + b"\r", 0, position["character"], self.is_utf8)
+
+    def is_nameless(self, position):
+        """Whether surely no name is at a position: blanks and ends of lines are around it, or it is in a comment of a source without macros, or in no line."""
+        if position["line"] >= len(self.lines):
+            return True
+        line, at = b" " + self.lines[position["line"]] + b" ", self.column(position)
+        return line[at : at + 2] == b"  " or line[1:2] == b"*" and not any(b"MACRO" in one.upper() for one in self.lines)
+
+    def text_at(self, told):
+        """What stands in a range, in capitals; nothing where it isn't in one line, or has no character."""
+        start, end = told["start"], told["end"]
+        if start["line"] != end["line"] or not 0 <= start["line"] < len(self.lines):
+            return ""
+        return self.lines[start["line"]][self.column(start) : self.column(end)].decode(errors="replace").upper()
+
     # ---- answers
 
-    def hover(self, position):
-        if position["line"] >= len(self.rows):
-            return None
-        name, rows = self.pointed(position), self.rows[position["line"]]
-        shown = ([self.symbols[name]] if name else []) + rows[:MOST_ROWS] + ([".."] if len(rows) > MOST_ROWS else []) + self.causes(position["line"])
-        text = "".join(row + "\n" for row in shown)
-        return {"contents": {"kind": self.form, "value": "```compass\n" + text + "```" if self.form == "markdown" else text}}
+    def fault(self, uri, position, said):
+        """What is wrong about the name at a position, or None, by what is said of it: `highlights`, all `references`, `uses`, `definitions` and `hover`."""
+        spots = [(one["kind"], one["range"]) for one in said["highlights"]]
+        places, defined = [told for _, told in spots], located(uri, [told for kind, told in spots if kind == DEFINED])
+        if said["highlights"] != [{"kind": kind, "range": told} for kind, told in spots] or len(set(map(str, places))) < len(places):
+            return f"wrong or twice: {said['highlights']}"
+        if said["references"] != located(uri, places) or said["uses"] != located(uri, [told for kind, told in spots if kind != DEFINED]):
+            return f"references {said['references']}, {said['uses']} and highlights {spots}"
+        found = said["definitions"]
+        if not isinstance(found, list) or bool(found) != bool(defined) or any(one not in defined for one in found):
+            return f"definitions {found} and highlights {spots}"
+        if spots and self.is_nameless(position):
+            return f"{spots} where no name is"
+        name = self.known(position)
+        return (name and self.fault_of(name, spots)) or self.fault_of_texts(name, places) or self.fault_of_hover(position, name, spots, said["hover"])
 
-    def definition(self, uri, position):
-        name = self.pointed(position)
-        number = next((number for number in self.defined if name in self.defined[number]), None)
-        return None if number is None else {"range": self.word(number, name), "uri": uri}
+    def fault_of(self, name, spots):
+        """What is wrong about the places that are told of a symbol: each where its lines surely write it is wanted."""
+        for number, places in self.written.items():
+            for first, last, word, kind in places:
+                wanted = {"start": self.position(number, first), "end": self.position(number, last)}
+                if word == name and not any(told == wanted and (kind == READ or found == DEFINED) for found, told in spots):
+                    return f"{name} stands at {wanted}, and told are {spots}"
+        return None
 
-    def references(self, uri, position, has_definitions):
-        name = self.pointed(position)
-        if name is None:
-            return []
-        found = [(number - 1, 1) for number in self.numbers(name)[1:]]
-        if has_definitions:
-            found += [(number, 0) for number in self.defined if name in self.defined[number]]
-        return [{"range": self.word(number, name), "uri": uri} for number, _ in sorted(found)]
+    def fault_of_texts(self, name, places):
+        """What is wrong about the texts of a name's places: each is the name, or a part of it where it is joined."""
+        texts = [self.text_at(told) for told in places]
+        return None if all(text and " " not in text and text in (name or text) for text in texts) else f"{name} is written by {texts}"
 
-    def highlights(self, position):
-        name = self.pointed(position)
-        if name is None:
-            return []
-        found = [(number - 1, 2) for number in self.numbers(name)[1:]] + [(number, 3) for number in self.defined if name in self.defined[number]]
-        return [{"kind": kind, "range": self.word(number, name)} for number, kind in sorted(found, key=lambda one: (one[0], -one[1]))]
+    def fault_of_hover(self, position, name, spots, said):
+        """What is wrong about a hover, with the rows of a name that has these places."""
+        number = position["line"]
+        if number >= len(self.rows):
+            return None if said is None and not spots else f"{said} behind the last line"
+        texts = [self.text_at(told) for _, told in spots]
+        names = [name] if name else [symbol for symbol in self.symbols if texts and all(text in symbol for text in texts)]
+        fronts = [[self.symbols[symbol]] for symbol in names]
+        if not name:
+            line = next((told["start"]["line"] for kind, told in spots if kind == DEFINED), number)
+            fronts.append(self.shown(line) if line != number else [])
+        ranges = [{"range": told} for told in around([told for _, told in spots], self.position(number, self.column(position)))] or [{}]
+        contents = [self.marked(front + self.shown(number) + self.causes(number)) for front in fronts]
+        wanted = [{"contents": one, **told} for one in contents for told in ranges]
+        return None if said in wanted else f"{said} is shown, and not one of {wanted}"
+
+    def shown(self, number):
+        """The first rows of a line."""
+        rows = self.rows[number]
+        return rows[:MOST_ROWS] + ([".."] if len(rows) > MOST_ROWS else [])
+
+    def marked(self, rows):
+        text = "".join(row + "\n" for row in rows)
+        return {"kind": self.form, "value": "```text\n" + text + "```" if self.form == "markdown" else text}
+
+    # ---- what is free, but for its form
+
+    def freely(self, method, more, answer):
+        """What is wrong about an answer of which the form alone is known, or None."""
+        if method == "foldingRange":
+            return self.fault_of_folds(answer)
+        if method == "signatureHelp":
+            return None if answer is None or all(map(self.is_signature, answer["signatures"])) and self.is_active(answer) else "a signature"
+        if method == "codeAction":
+            return None if all(self.is_edit(edit) for one in answer for edits in one["edit"]["changes"].values() for edit in edits) else "an edit outside the text"
+        return self.fault_of_tokens(more, answer["data"])
+
+    def fault_of_folds(self, folds):
+        """What is wrong about folds: they come in the order of their first lines, each has a line behind that; and of comments each run of two lines or more."""
+        spans, comments = [(one["startLine"], one["endLine"]) for one in folds], [number for number, line in enumerate(self.lines) if line[:1] == b"*"]
+        runs = [[number for _, number in run] for _, run in itertools.groupby(enumerate(comments), lambda one: one[1] - one[0])]
+        wanted = [(run[0], run[-1]) for run in runs if len(run) > 1]
+        told = [span for span, one in zip(spans, folds) if one.get("kind") == "comment"]
+        is_right = spans == sorted(spans, key=lambda span: span[0]) and all(first < last < len(self.lines) for first, last in spans)
+        return None if is_right and told == wanted else f"{told} are comments and not {wanted}" if is_right else f"{spans} of {len(self.lines)} lines"
+
+    def is_signature(self, one):
+        """Whether parameters are columns of a label, one behind the other."""
+        columns = [at for parameter in one["parameters"] for at in parameter["label"]]
+        return columns == sorted(columns) and all(0 <= at <= len(one["label"]) for at in columns) and one["label"].isprintable()
+
+    def is_active(self, answer):
+        count = len(answer["signatures"][answer["activeSignature"]]["parameters"])
+        return 0 <= answer["activeParameter"] < max(1, count)
+
+    def is_edit(self, edit):
+        """Whether an edit is within a line."""
+        start, end = edit["range"]["start"], edit["range"]["end"]
+        return start["line"] == end["line"] < len(self.lines) and start["character"] <= end["character"] <= units(self.lines[end["line"]], self.is_utf8)
+
+    def fault_of_tokens(self, more, data):
+        """What is wrong about tokens: they stand one behind the other in lines of the range, each within its line."""
+        first, last = more["range"]["start"]["line"] if "range" in more else 0, more["range"]["end"]["line"] if "range" in more else len(self.lines)
+        line = start = end = 0
+        for token in zip(*[iter(data)] * 5):
+            start = token[1] + (0 if token[0] else start)
+            line, end = line + token[0], 0 if token[0] else end
+            is_within = first <= line <= last and line < len(self.lines) and end <= start < start + token[2] <= units(self.lines[line], self.is_utf8)
+            if not is_within or token[3] >= MOST_KINDS or token[4] >= 4:
+                return f"{token} in line {line} from {start}"
+            end = start + token[2]
+        return f"{len(data)} numbers" if len(data) % 5 else None
 
     def outline(self):
         return [{"detail": self.value(name), "kind": 14, "name": name, "range": self.whole(number), "selectionRange": self.word(number, name)}
@@ -215,9 +355,8 @@ class Shown:
 
     def field(self, position):
         """The field of a letter where the word around a position begins: 0 for a location, 1 an operation, 2 operands, and 3 for all else."""
-        number = position["line"]
+        number, at = position["line"], self.column(position)
         line = self.lines[number] if number < len(self.lines) else b""
-        at = place(line + b"\r", 0, position["character"], self.is_utf8)
         at = next((one.start() for one in WORD.finditer(line) if one.start() <= at <= one.end()), at)
         text = bytes(32 if byte in WRONG else byte for byte in line[:at]).decode() + "A"
         begun = [one.start() for one in re.finditer(r"\S+", text)]
@@ -252,14 +391,6 @@ class Shown:
 
     def answer(self, uri, method, more):
         """The answer to a request that has this beside the text's URI."""
-        if method == "hover":
-            return self.hover(more["position"])
-        if method == "definition":
-            return self.definition(uri, more["position"])
-        if method == "references":
-            return self.references(uri, more["position"], more.get("context", {}).get("includeDeclaration", False))
-        if method == "documentHighlight":
-            return self.highlights(more["position"])
         if method == "documentSymbol":
             return self.outline()
         if method == "inlayHint":
@@ -286,11 +417,11 @@ class Shown:
 
     def questions(self, method):
         """What to ask about all places of a text: about each word, and about each line."""
-        if method == "documentSymbol":
+        if method in ("documentSymbol", "foldingRange", "semanticTokens/full"):
             yield {}
-        elif method in ("inlayHint", "compass/rows"):
+        elif method in ("inlayHint", "compass/rows", "codeAction", "semanticTokens/range"):
             yield {"range": {"start": {"line": 0, "character": 0}, "end": {"line": len(self.lines), "character": 0}}}
         else:
             for number, line in enumerate(self.lines):
                 for at in [0, *(at for one in WORD.finditer(line) for at in one.span())]:
-                    yield {"position": self.position(number, at), "context": {"includeDeclaration": True}}
+                    yield {"position": self.position(number, at)}

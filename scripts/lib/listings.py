@@ -78,6 +78,18 @@ class Layout:
             self.done.update(range(address, address + len(code)) if self.size == 4 else ())
 
 
+class OwnLayout:
+    """The program's own listing, by the same names."""
+
+    def __init__(self, program, path):
+        self.rows = batch(program, "listing", path).splitlines()
+        self.codes = []
+        for number, row in enumerate(self.rows):
+            code = row[16:36]
+            if row[9:15].strip() and code.strip():
+                self.codes.append((number, 36 - len(code.lstrip()), 16 + len(code.rstrip())))
+
+
 def dump_of(words, count):
     """A dump: rows of so many words, by parcels."""
     rows, size = [], 5 if len(next(iter(words.values()))) == 20 else 4

@@ -6,7 +6,7 @@ import subprocess
 import textwrap
 import time
 
-from .shared import COLUMNED, DOCUMENT, SECONDS, TYPED, Terminal, printed, run, same, until
+from .shared import COLUMNED, DOCUMENT, REFUSAL, SECONDS, TAKEN, TYPED, Terminal, printed, renamed, run, same, until
 
 # Emacs answers here. Nothing else is set: what it says of its own packages as it compiles them isn't shown.
 BEGIN = """(progn (setq native-comp-async-report-warnings-errors nil server-name "{socket}") (server-start))"""
@@ -124,7 +124,7 @@ def try_symbols(room, program):
     """Hover, definition, references and symbols are those of the listing and the cross-reference."""
     def tried(editor):
         text = editor.text()
-        row, defines, reads = program.symbol(text, "SUM")
+        row, defined, reads = program.symbol(text, "SUM")
         editor.go(reads[-1], "SUM")
         # a command that moves, as eldoc wants it
         editor.keys("C-b")
@@ -134,7 +134,7 @@ def try_symbols(room, program):
         editor.hides("```")
         editor.keys("C-x", "1")
         editor.keys("M-.")
-        same("the line that the cursor goes to", editor.line, defines[0])
+        same("the line that the cursor goes to", editor.line, defined)
         editor.keys("M-,")
         same("the line that the cursor comes back to", editor.line, reads[-1])
         editor.keys("M-?")
@@ -143,7 +143,7 @@ def try_symbols(room, program):
             editor.type("\n")
         listed = """(with-current-buffer "*xref*" (buffer-string))"""
         until(lambda: editor.asked("(if (get-buffer \"*xref*\") 1)") == 1, lambda: "no references:\n" + "\n".join(editor.screen()))
-        same("references", lambda: [int(each) for each in re.findall(r"^ *(\d+):", editor.asked(listed) or "", re.M)], sorted(defines + reads))
+        same("references", lambda: [int(each) for each in re.findall(r"^ *(\d+):", editor.asked(listed) or "", re.M)], sorted([defined, *reads]))
         editor.asked("(progn (switch-to-buffer \"sum.cps\") (delete-other-windows) 1)")
         wanted = [number for number, line in enumerate(text.splitlines(), 1) if re.match(r"[A-Z]", line) and " MACRO " not in line]
         same("symbols", lambda: editor.asked(OUTLINE), wanted)
@@ -152,6 +152,25 @@ def try_symbols(room, program):
         editor.go(44)
         editor.shows("000110 0000000000")
         return None
+    return in_emacs(room, ["sum.cps"], tried)
+
+
+def try_rename(room, program):
+    """A rename changes each place of a name, and other fields keep their columns; why one is refused is shown."""
+    def tried(editor):
+        editor.has_marks(program)
+        wanted = renamed(editor.text())
+        editor.go(46, "SUM")
+        editor.keys("C-b")
+        for name in "ADDER", TAKEN:
+            editor.keys("M-x")
+            editor.type("eglot-rename\n")
+            editor.shows("Rename")
+            editor.keys("C-a", "C-k")
+            editor.type(f"{name}\n")
+            same("a renamed text", editor.text, wanted)
+        editor.shows(REFUSAL)
+        editor.has_marks(program)
     return in_emacs(room, ["sum.cps"], tried)
 
 
@@ -212,7 +231,7 @@ def try_keys(room, program):
     return in_emacs(room, ["flags.cps"], tried)
 
 
-TRIES = [try_marks, try_symbols, try_servers, try_layout, try_keys]
+TRIES = [try_marks, try_symbols, try_rename, try_servers, try_layout, try_keys]
 
 
 def try_all(program):

@@ -62,7 +62,7 @@ def try_symbols(room, program):
     """Hover, definition and inlay hints are those of the listing and the cross-reference."""
     def tried(editor):
         text = room.read("sum.cps")
-        row, defines, reads = program.symbol(text, "SUM")
+        row, defined, reads = program.symbol(text, "SUM")
         editor.type(f"{reads[-1]}ggf,l")
         same("the line that one goes to", editor.line, reads[-1])
         editor.shows(program.rows(text)[43][0][9:26].strip())
@@ -72,7 +72,10 @@ def try_symbols(room, program):
         editor.hides("```")
         editor.keys("Escape")
         editor.type("gd")
-        same("the line that the cursor goes to", editor.line, defines[0])
+        same("the line that the cursor goes to", editor.line, defined)
+        # a macro, from its call
+        editor.type("27gg^gd")
+        same("the line of the macro", editor.line, 17)
     in_helix(room, "sum.cps", tried)
 
 

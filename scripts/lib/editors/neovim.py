@@ -4,7 +4,7 @@ import json
 import re
 import subprocess
 
-from .shared import COLUMNED, DOCUMENT, SECONDS, TYPED, Fault, Terminal, printed, run, same, until
+from .shared import COLUMNED, DOCUMENT, REFUSAL, SECONDS, TAKEN, TYPED, Fault, Terminal, printed, renamed, run, same, until
 
 INIT = "home/.config/nvim/init.lua"
 # What has stood in README for a configuration of the user's own, from 0.8 on; and the like for 0.7.
@@ -35,6 +35,8 @@ end)()"""
 LEAST = 50
 MARKS = "vim.tbl_map(function(one) return { one.lnum + 1, one.col + 1, one.code or '' } end, vim.diagnostic.get(0))"
 
+
+LISTED = "vim.tbl_map(function(one) return one.lnum end, vim.fn.getqflist())"
 
 # The groups of colours in a floating window.
 COLOURS = """\
@@ -132,7 +134,7 @@ def try_symbols(room, program):
     def tried(editor):
         editor.has_marks(program)
         text = editor.text()
-        row, defines, reads = program.symbol(text, "SUM")
+        row, defined, reads = program.symbol(text, "SUM")
         editor.type(f"{reads[-1]}Gf,l")
         editor.command("lua vim.lsp.buf.hover()")
         editor.shows(row)
@@ -142,9 +144,15 @@ def try_symbols(room, program):
         editor.type("h")
         for keys in "\x1d", ":lua vim.lsp.buf.definition()\n":
             editor.type(f"{reads[-1]}Gf,l{keys}")
-            same("the line that the cursor goes to", editor.line, defines[0])
+            same("the line that the cursor goes to", editor.line, defined)
         editor.command("lua vim.lsp.buf.references()")
-        same("references", lambda: editor.asked("vim.tbl_map(function(one) return one.lnum end, vim.fn.getqflist())"), sorted(defines + reads))
+        same("references", lambda: editor.asked(LISTED), sorted([defined, *reads]))
+        editor.command("cclose")
+        # a macro, from its call
+        editor.type("27G^\x1d")
+        same("the line of the macro", editor.line, 17)
+        editor.command("lua vim.lsp.buf.references()")
+        same("calls", lambda: editor.asked(LISTED), [17, 27, 28])
         editor.command("cclose")
         editor.command("lua vim.lsp.buf.document_symbol()")
         listed = "vim.tbl_map(function(one) return one.lnum end, vim.list_extend(vim.fn.getloclist(0), vim.fn.getqflist()))"
@@ -157,6 +165,39 @@ def try_symbols(room, program):
             editor.shows("000110 0000000000")
             return None
         return "inlay hints, which this Neovim hasn't"
+    return in_neovim(room, block(), ["sum.cps"], tried)
+
+
+def try_rename(room, program):
+    """A rename changes each place of a name, and other fields keep their columns; why one is refused is shown."""
+    def tried(editor):
+        editor.has_marks(program)
+        wanted = renamed(editor.text())
+        editor.type("46Gf,l")
+        editor.command("lua vim.lsp.buf.rename('ADDER')")
+        same("a renamed text", editor.text, wanted)
+        editor.has_marks(program)
+        editor.command(f"lua vim.lsp.buf.rename('{TAKEN}')")
+        editor.shows(REFUSAL)
+        same("the text behind a refusal", editor.text, wanted)
+    return in_neovim(room, block(), ["sum.cps"], tried)
+
+
+def try_more(room, program):
+    """What a macro takes is shown, and a tab is mended."""
+    def tried(editor):
+        editor.has_marks(program)
+        text = editor.text()
+        editor.type("27Gf,")
+        editor.command("lua vim.lsp.buf.signature_help()")
+        editor.shows("TOTAL TABLE,LENGTH,WORD")
+        editor.type("h")
+        editor.command(r"45s/ MX6/\tMX6/")
+        until(lambda: "\tMX6" in editor.text(), lambda: f"line 45 isn't changed: {editor.text()}")
+        editor.command("lua vim.lsp.buf.code_action()")
+        editor.shows("Put blanks in the place of tabs")
+        editor.type("1\n")
+        same("a mended text", editor.text, text)
     return in_neovim(room, block(), ["sum.cps"], tried)
 
 
@@ -307,7 +348,7 @@ def try_listing(room, program):
 
 
 Neovim.text_of = lambda self, buffer: self.asked(f"vim.api.nvim_buf_get_lines({buffer}, 0, -1, false)")
-TRIES = [try_marks, try_symbols, try_servers, try_own, try_keys, try_listing]
+TRIES = [try_marks, try_symbols, try_rename, try_more, try_servers, try_own, try_keys, try_listing]
 
 
 def try_all(program):

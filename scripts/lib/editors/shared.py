@@ -14,6 +14,9 @@ SECONDS = 15
 COLUMNS, ROWS = 160, 40
 # What is typed in a line by its fields; here stands `>` for the tab key.
 TYPED, COLUMNED = ">SX1>B1>NOTE", "          SX1    B1          NOTE"
+# What a rename of SUM, the label in line 44, makes of sum.cps: what stands behind a name stays in its column. And one that is refused.
+RENAMED = ("RJ      SUM\n", "RJ      ADDER\n"), ("\nSUM  ", "\nADDER"), ("B3,SUM  ", "B3,ADDER")
+TAKEN, REFUSAL = "SUM1", "SUM1 is taken in line 27"
 # A tool that isn't there, and a thing that this editor can't show: neither is a fault, nor is all as told.
 LEFT_OUT = 3
 
@@ -26,6 +29,15 @@ def printed(path, section, language):
     if len(blocks) != 1:
         raise SystemExit(f"{path}: {section} has {len(blocks)} blocks of {language}, and not one")
     return blocks[0]
+
+
+def renamed(text):
+    """The text of sum.cps with SUM renamed to ADDER."""
+    for old, new in RENAMED:
+        if text.count(old) != 1:
+            raise Fault(f"{old!r} stands {text.count(old)} times in sum.cps")
+        text = text.replace(old, new)
+    return text
 
 
 class Fault(Exception):
@@ -56,11 +68,11 @@ class Program:
         return found
 
     def symbol(self, text, name):
-        """The row of the cross-reference, the lines that define the symbol, and those that read it."""
+        """The row of the cross-reference, the line that defines the symbol, and those whose operands write it."""
         row = next(row for row in self.ask(["batch", "--part", "symbols"], text) if row.split()[0] == name)
-        numbers = [int(each) for each in row.split()[2:]]
-        defines = [each for each in numbers if re.match(rf"{re.escape(name)}\s", text.splitlines()[each - 1], re.I)]
-        return row, defines, [each for each in numbers if each not in defines]
+        operands = (re.match(r"(?!\*).{10}(?!IDENT )\S+ +(\S+)", line) for line in text.splitlines())
+        reads = [number for number, one in enumerate(operands, 1) if one and name in re.split("[-+*/,]", one[1])]
+        return row, int(row.split()[2]), reads
 
 
 class Room:

@@ -9,7 +9,7 @@ import subprocess
 import sys
 from collections import namedtuple
 
-from .shared import ROOT, SECONDS, Fault, run, same, until
+from .shared import REFUSAL, ROOT, SECONDS, TAKEN, Fault, renamed, run, same, until
 
 FOLDER = os.path.join(ROOT, "editors/vscode")
 STUB = os.path.join(os.path.dirname(os.path.abspath(__file__)), "vscode_stub.js")
@@ -166,34 +166,95 @@ def try_answers(room, program):
         lines, rows = text.splitlines(), program.rows(text)
         editor.open(DECK, text)
         editor.has_marks(DECK, program)
-        row, defines, reads = program.symbol(text, "SUM")
+        row, defined, reads = program.symbol(text, "SUM")
         rows_of_hover = (row, rows[reads[-1] - 1][0])
         place = [reads[-1] - 1, lines[reads[-1] - 1].index("SUM") + 1]
         shown = editor.ask("Hover", "provideHover", DECK, place)["contents"][0]["value"]
         same("a hover", lambda: shown.splitlines(), ["", "```plaintext", *rows_of_hover, "", "```"])
-        same("definition", lambda: lines_of(editor.ask("Definition", "provideDefinition", DECK, place)), defines[:1])
-        for has, wanted in (True, sorted(defines + reads)), (False, sorted(reads)):
-            same("references", lambda: lines_of(editor.ask("Reference", "provideReferences", DECK, place, {"includeDeclaration": has})), wanted)
+        same("definition", lambda: lines_of(editor.ask("Definition", "provideDefinition", DECK, place)), [defined])
+        for at, has, wanted in (place, True, sorted([defined, *reads])), (place, False, reads), ([26, 12], True, [17, 27, 28]):
+            same("references", lambda: lines_of(editor.ask("Reference", "provideReferences", DECK, at, {"includeDeclaration": has})), wanted)
+        same("a macro, from its call", lambda: lines_of(editor.ask("Definition", "provideDefinition", DECK, [26, 12])), [17])
         symbols = {one["name"]: one for one in editor.ask("DocumentSymbol", "provideDocumentSymbols", DECK)}
         wanted = {line.split()[0] for line in lines if re.match(r"[A-Z]", line) and " MACRO " not in line}
         same("symbols", lambda: set(symbols), wanted)
-        same("the place of a symbol", lambda: lines_of([symbols["SUM"]]), defines[:1])
+        same("the place of a symbol", lambda: lines_of([symbols["SUM"]]), [defined])
         told = editor.ask("InlayHints", "provideInlayHints", DECK, [0, 0, len(lines), 0])
         same("room before hints", lambda: {one["paddingLeft"] for one in told}, {True})
         hints = {one["position"]["line"]: one["label"] for one in told}
         for number, each in enumerate(rows):
             label = " ".join(filter(None, (each[0][9:15].strip(), each[0][16:36].strip()))) + " .." * (len(each) > 1)
             same(f"the hint of line {number + 1}", lambda: hints.get(number, ""), label.removesuffix(" ..") and label)
-        offered = {one["label"]: one for one in editor.ask("CompletionItem", "provideCompletionItems", DECK, place)}
-        same("what isn't offered of a symbol, a macro, a statement and two operations",
-             lambda: {"SUM", "PLUS", "MACRO", "EQ", "UJN"}.difference(offered), set())
+        offered, operations = ({one["label"]: one for one in editor.ask("CompletionItem", "provideCompletionItems", DECK, [place[0], at])} for at in (place[1], 11))
+        names = {"SUM", "X1", "PLUS", "MACRO", "EQ", "UJN"}
+        same("what is offered of a symbol, a register, a macro, a statement and operations of both machines, in an operand and in an operation",
+             lambda: (names.intersection(offered), names.intersection(operations)), ({"SUM", "X1"}, {"PLUS", "MACRO", "EQ"}))
         whole = {"start": {"line": place[0], "character": place[1] - 1}, "end": {"line": place[0], "character": place[1] + 2}}
         same("the place of what is completed", lambda: offered["SUM"]["range"], whole)
         # the editor's numbers of constants
         same("kinds", lambda: (symbols["SUM"]["kind"], offered["SUM"]["kind"]), (13, 20))
         # nothing stands there, and that is no fault
         same("a hover behind the text", lambda: editor.ask("Hover", "provideHover", DECK, [len(lines) + 5, 0]), None)
-        same("a definition of no symbol", lambda: editor.ask("Definition", "provideDefinition", DECK, [0, 0]), None)
+        same("a definition of no name", lambda: editor.ask("Definition", "provideDefinition", DECK, [0, 0]), [])
+    in_code(program.path, tried)
+
+
+def changed(text, edits):
+    """A text with edits of its lines, of which none has a line end."""
+    lines = text.splitlines()
+    for one in sorted(edits, key=lambda one: one["range"]["start"]["character"], reverse=True):
+        start, end = one["range"]["start"], one["range"]["end"]
+        line = lines[start["line"]]
+        lines[start["line"]] = line[: start["character"]] + one["newText"] + line[end["character"] :]
+    return "".join(line + "\n" for line in lines)
+
+
+def try_rename(room, program):
+    """A rename changes each place of a name, and other fields keep their columns; why one is refused is shown."""
+    def tried(editor):
+        text = room.read("sum.cps")
+        editor.open(DECK, text)
+        is_served(editor)
+        place = [45, text.splitlines()[45].index("SUM")]
+        told = editor.ask("Rename", "prepareRename", DECK, place)
+        same("what is renamed", lambda: (told["placeholder"], lines_of([told])), ("SUM", [46]))
+        edits = editor.ask("Rename", "provideRenameEdits", DECK, place, "ADDER")["files"][DECK]
+        same("a renamed text", lambda: changed(text, edits), renamed(text))
+        same("a refusal", lambda: editor.answer("ask", provider="Rename", method="provideRenameEdits", given=[DECK, place, TAKEN]), {"error": REFUSAL})
+    in_code(program.path, tried)
+
+
+def folds(lines):
+    """The lines that may be folded in a source without DUP and IF: runs of comments, and macros up to the line before ENDM; from 0."""
+    found, begun = [], None
+    for number, line in enumerate([*lines, ""]):
+        if line[:1] != "*" and begun is not None:
+            found += [{"start": begun, "end": number - 1, "kind": 1}] if begun < number - 1 else []
+        begun = (number if begun is None else begun) if line[:1] == "*" else None
+        if line[10:15] == "MACRO":
+            end = next(at for at in range(number, len(lines)) if lines[at][10:14] == "ENDM")
+            found.append({"start": number, "end": end - 1})
+    return sorted(found, key=lambda one: one["start"])
+
+
+def try_more(room, program):
+    """What may be folded, what a macro takes, what words are, and what may be mended."""
+    def tried(editor):
+        text = room.read("sum.cps")
+        lines = text.splitlines()
+        editor.open(DECK, text)
+        is_served(editor)
+        same("foldings", lambda: editor.ask("FoldingRange", "provideFoldingRanges", DECK), folds(lines))
+        told = editor.ask("SignatureHelp", "provideSignatureHelp", DECK, [26, lines[26].index(",") + 1])
+        same("what a macro takes", lambda: (told["signatures"][0]["label"], told["activeParameter"]), ("TOTAL TABLE,LENGTH,WORD", 1))
+        # in pieces of five, by the place in the legend of features.js
+        data = list(editor.ask("DocumentSemanticTokens", "provideDocumentSemanticTokens", DECK)["data"].values())
+        same("words of line 1", lambda: data[:10], [0, 10, 5, 0, 0, 0, 8, 3, 4, 1])
+        same("lines that have words", lambda: sum(data[::5]), len(lines) - 1)
+        editor.change(DECK, ([44, 9, 44, 10], "\t"))
+        tab = {"range": {"start": {"line": 44, "character": 9}, "end": {"line": 44, "character": 10}}, "newText": " "}
+        action, = editor.ask("CodeActions", "provideCodeActions", DECK, [44, 0, 44, 0], {"diagnostics": []})
+        same("a tab is mended", lambda: action["edit"]["files"], {DECK: [tab]})
     in_code(program.path, tried)
 
 
@@ -446,7 +507,7 @@ def try_package(room, program):
     same("commands of keys", lambda: {each["command"] for each in offers["keybindings"]} - known, set())
 
 
-TRIES = [try_package, try_marks, try_answers, try_servers, try_end, try_ends, try_choice, try_missing, try_later, try_sent, try_keys]
+TRIES = [try_package, try_marks, try_answers, try_rename, try_more, try_servers, try_end, try_ends, try_choice, try_missing, try_later, try_sent, try_keys]
 
 
 def try_all(program):
