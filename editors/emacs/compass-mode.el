@@ -51,6 +51,14 @@ custom.  No line may have a tab, and a comment begins in column 1."
 
 (add-hook 'compass-mode-hook #'eglot-ensure)
 
+(defun compass-mode-show-both ()
+  "Show what an operation takes and the rows of the name beside it.
+Else the one would hide the other."
+  (when (derived-mode-p 'compass-mode)
+    (setq-local eldoc-documentation-strategy #'eldoc-documentation-compose)))
+
+(add-hook 'eglot-managed-mode-hook #'compass-mode-show-both)
+
 (with-eval-after-load 'eglot
   (add-to-list 'eglot-server-programs '(compass-mode "compass" "server")))
 
