@@ -10,6 +10,11 @@
 //! - `changed_line.rt`: a line with another name in some of its columns
 //! - `checking.rt`: mentions that stand where they are told
 //! - `definitions.rt`: where symbols and blocks are defined, as far as lines are looked at
+//! - `expansion.rt`: an expansion whose statements are gone through
+//! - `field_columns.rt`: the columns in which a source's fields stand
+//! - `formatted_line.rt`: a line with its fields in columns
+//! - `formatting.rt`: the edits that put the fields of lines into columns
+//! - `kept_body.rt`: lines that are kept for a body, with what wrote them
 //! - `line_edit.rt`: an edit of a line of a source
 //! - `line_gaps.rt`: the blanks between the fields of a line
 //! - `macro_text.rt`: a macro as its source writes it
@@ -19,6 +24,7 @@
 //! - `name_place.rt`: what stands at a place of a source
 //! - `naming.rt`: whether a source's names mean the same after a rename
 //! - `new_name.rt`: whether something may be called by a name
+//! - `opening.rt`: what a statement opens, with what wrote it
 //! - `operands.rt`: the parts of a statement that may write names
 //! - `placed_text.rt`: a part of a statement, and where it stands
 //! - `rename_fault.rt`: why a rename is refused
@@ -29,9 +35,11 @@
 //! - `spots.rt`: the spots of a meaning
 //! - `statement.rt`: what a statement does with the names that its fields write
 //! - `statement_text.rt`: a statement's text, and what wrote each of its characters
+//! - `stepper.rt`: statements, each stepped in the state that those before it left
 //! - `stretch.rt`: columns of a line of a source
 //! - `teller.rt`: telling what statements do with names
 //! - `told.rt`: the mentions of a source as they are found
+//! - `treatment.rt`: what is done with a statement
 //! - `walk.rt`: the statements of a source once more
 //! - `written_names.rt`: the names that a source writes, with those that mean nothing and the bodies around them
 #![tactic(auto)]
@@ -43,6 +51,11 @@ mod caret;
 mod changed_line;
 mod checking;
 mod definitions;
+mod expansion;
+mod field_columns;
+mod formatted_line;
+mod formatting;
+mod kept_body;
 mod line_edit;
 mod line_gaps;
 mod macro_text;
@@ -52,6 +65,7 @@ mod mentions;
 mod name_place;
 mod naming;
 mod new_name;
+mod opening;
 mod operands;
 mod placed_text;
 mod rename_fault;
@@ -62,9 +76,11 @@ mod spot;
 mod spots;
 mod statement;
 mod statement_text;
+mod stepper;
 mod stretch;
 mod teller;
 mod told;
+mod treatment;
 mod walk;
 mod written_names;
 

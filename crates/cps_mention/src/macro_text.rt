@@ -42,15 +42,9 @@ pub struct MacroText {
 
 impl MacroText {
     /// Of a macro without names.
-    pub fn new(
-        alloc: Global,
-        line: u32,
-        defined: Stretch,
-        lines: Vec<u32>,
-        local_lines: usize,
-    ) -> MacroText {
+    pub fn new(alloc: Global, defined: Stretch, lines: Vec<u32>, local_lines: usize) -> MacroText {
         MacroText {
-            line,
+            line: defined.line,
             defined,
             names: Vec::new(alloc),
             index: BTreeMap::new(alloc),

@@ -23,6 +23,25 @@ pub struct KeptText {
 }
 
 impl KeptText {
+    /// A text, and what wrote each of its characters.
+    pub fn of(text: &Shared<u8>, origins: Vec<Stretch>, line: u32) -> Result<KeptText, AllocError> {
+        Ok(KeptText {
+            text: text.share()?,
+            origins,
+            line,
+        })
+    }
+
+    /// A line of a source, as it stands there.
+    pub fn of_line(alloc: Global, line: u32, text: &[u8]) -> Result<KeptText, AllocError> {
+        let origins = columns_of(alloc, line, text)?;
+        Ok(KeptText {
+            text: Shared::new(alloc, text)?,
+            origins,
+            line,
+        })
+    }
+
     pub fn as_text(&self) -> StatementText<'_> {
         StatementText {
             text: self.text.as_slice(),
