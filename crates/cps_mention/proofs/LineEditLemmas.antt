@@ -1,7 +1,8 @@
 -- Edits that may be made one after another, and one more.
 use Rattle.std.proofs.Common.{◌≡◌, ℕ, ◌+◌, ◌-◌, ◌≤◌, ◌<◌, List, [], ◌∷◌, ◌++◌, All, length, take, drop, get_or, sym, ap, subst, ◌∙◌, arith, length-append, length-drop}
-use Rattle.std.specs.Prelude.{AllPairs, Some, slice_get, unwrap_or}
-use Rattle.std.proofs.lemmas.List.{length-take-le}
+use Rattle.std.specs.Prelude.{AllPairs, Some, slice_get, slice_range, unwrap_or}
+use Rattle.std.proofs.lemmas.List.{append_assoc, drop-drop, length-take-le, take-append-drop}
+use Rattle.std.proofs.lemmas.List.Folds.{drop_split}
 use Rattle.std.proofs.lemmas.List.Elements.{All-nil, All-get_or, All-from_get_or}
 use Rattle.std.proofs.lemmas.List.Quantifiers.{all_pairs_push}
 use Rattle.cps_text.specs.Line.{longest_line}
@@ -62,3 +63,27 @@ fits-line source line bytes edit one within is same fits = record {
   line = within;
   columns = subst (λ t. FitsIn t edit) (same ∙ sym (ap (λ found. unwrap_or found []) is)) fits;
 }
+
+-- ---- what makes another text of a line
+
+behind-front : (line : List ℕ) (front back : ℕ) → front ≤ length line → back ≤ length (drop front line)
+    → drop (length (drop front line) - back) (drop front line) ≡ drop (length line - back) line
+behind-front line front back within fits =
+    drop-drop (length (drop front line) - back) front line ∙ ap (λ n. drop n line) (omega (arith, length-drop front line, within, fits))
+
+one-more : (n : ℕ) → n + 1 - 1 ≡ n
+one-more n = omega arith
+
+pub between-is : (was now : List ℕ) (front back : ℕ) → front ≤ length was → front ≤ length now → back ≤ length (drop front was) → back ≤ length (drop front now)
+    → take front now ≡ take front was → drop (length (drop front now) - back) (drop front now) ≡ drop (length (drop front was) - back) (drop front was)
+    → take (front + 1 - 1) was ++ slice_range now front (length now - back) ++ drop (length was - back + 1 - 1) was ≡ now
+between-is was now front back in-was in-now back-was back-now same-front same-back =
+    let middle = slice_range now front (length now - back) in
+    let end : drop (length was - back) was ≡ drop (length now - back) now =
+    sym (behind-front was front back in-was back-was) ∙ sym same-back ∙ behind-front now front back in-now back-now in
+    let front-is = sym same-front in
+    (λ j. take (one-more front j) was ++ middle ++ drop (one-more (length was - back) j) was)
+    ∙ (λ j. front-is j ++ middle ++ end j)
+    ∙ append_assoc (take front now) middle (drop (length now - back) now)
+    ∙ ap (λ rest. take front now ++ rest) (sym (drop_split now front (length now - back) (omega (arith, length-drop front now, in-now, back-now))))
+    ∙ take-append-drop front now

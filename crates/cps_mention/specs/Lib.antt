@@ -4,3 +4,4 @@ pub mod Spots
 pub mod Code
 pub mod SameBut
 pub mod LineEdits
+pub mod Spacing

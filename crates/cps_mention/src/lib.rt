@@ -16,6 +16,7 @@
 //! - `formatting.rt`: the edits that put the fields of lines into columns
 //! - `kept_body.rt`: lines that are kept for a body, with what wrote them
 //! - `line_edit.rt`: an edit of a line of a source
+//! - `line_fields.rt`: the fields of a statement as they move
 //! - `line_gaps.rt`: the blanks between the fields of a line
 //! - `macro_text.rt`: a macro as its source writes it
 //! - `meaning.rt`: what a name means
@@ -31,6 +32,7 @@
 //! - `renaming.rt`: what a rename asks for, and the edits that make it
 //! - `role.rt`: what a line does with a name
 //! - `same_but.rt`: whether a source is another but for what its symbols are called
+//! - `spacing.rt`: what stays of a line while its blanks change
 //! - `spot.rt`: where a name stands
 //! - `spots.rt`: the spots of a meaning
 //! - `statement.rt`: what a statement does with the names that its fields write
@@ -57,6 +59,7 @@ mod formatted_line;
 mod formatting;
 mod kept_body;
 mod line_edit;
+mod line_fields;
 mod line_gaps;
 mod macro_text;
 mod meaning;
@@ -72,6 +75,7 @@ mod rename_fault;
 mod renaming;
 mod role;
 mod same_but;
+mod spacing;
 mod spot;
 mod spots;
 mod statement;
@@ -87,6 +91,7 @@ mod written_names;
 pub use agreeing::agreeing_mentions;
 pub use calling::Calling;
 pub use caret::Caret;
+pub use formatting::{LineRange, format_edits};
 pub use line_edit::LineEdit;
 pub use meaning::Meaning;
 pub use mention::Mention;
@@ -97,6 +102,7 @@ pub use rename_fault::RenameFault;
 pub use renaming::{Renaming, rename_edits};
 pub use role::Role;
 pub use same_but::{is_same_but, line_that_changed};
+pub use spacing::is_same_unblanked;
 pub use spot::{Spot, SpotKind};
 pub use spots::{counted, keep_definitions, spots_of};
 pub use stretch::Stretch;

@@ -1,6 +1,6 @@
 //! An edit of a line of a source.
-ghost use Rattle.std.specs.Prelude.{IsTrue, IfOk};
-ghost use Rattle.cps_mention.specs.LineEdits.{AreLineEdits, FitsIn, IsLineEdit};
+ghost use Rattle.std.specs.Prelude.{◌≡◌, ◌≤◌, ◌-◌, IsTrue, IfOk, length, take, drop};
+ghost use Rattle.cps_mention.specs.LineEdits.{AreLineEdits, FitsIn, IsLineEdit, edited};
 
 use cps_list::View;
 use cps_text::limits::MOST_CHARACTERS;
@@ -20,41 +20,50 @@ pub struct LineEdit {
 
 impl LineEdit {
     /// What makes another text of a line: all from the first column that changes to the last.
-    pub fn between(
-        alloc: Global,
-        line: u32,
-        was: &[u8],
-        is: &[u8],
-    ) -> Result<LineEdit, AllocError> {
+    pub fn between(alloc: Global, line: u32, was: &[u8], is: &[u8]) -> Result<LineEdit, AllocError>
+        ensures line { IfOk result (λ edit. edit.line ≡ line) }
+        ensures text { IfOk result (λ edit. edited was.now edit ≡ is.now) }
+    {
         let front = same_in_front(was, is);
-        let most = was.len().min(is.len()).saturating_sub(front);
-        let back = same_at_back(was, is).min(most);
-        let end = is.len().saturating_sub(back);
-        let start = front.min(end);
+        let back = same_at_back(&was[front..], &is[front..]);
+        let text = is[front..is.len() - back].to_vec(alloc)?;
         Ok(LineEdit {
             line,
-            first: front.saturating_add(1),
-            end: was.len().saturating_sub(back).saturating_add(1),
-            text: is[start..end].to_vec(alloc)?,
+            first: front + 1,
+            end: was.len() - back + 1,
+            text,
         })
     }
 }
 
 /// How many characters two texts begin with alike.
-fn same_in_front(was: &[u8], is: &[u8]) -> usize {
-    was.iter()
-        .zip(is.iter())
-        .take_while(|(was, is)| **was == **is)
-        .count()
+fn same_in_front(was: &[u8], is: &[u8]) -> usize
+    ensures was { result ≤ length was.now }
+    ensures is { result ≤ length is.now }
+    ensures same { take result is.now ≡ take result was.now }
+{
+    let most = was.len().min(is.len());
+    for at in 0..most {
+        if was[at] != is[at] {
+            return at;
+        }
+    }
+    most
 }
 
 /// How many characters two texts end with alike.
-fn same_at_back(was: &[u8], is: &[u8]) -> usize {
-    was.iter()
-        .rev()
-        .zip(is.iter().rev())
-        .take_while(|(was, is)| **was == **is)
-        .count()
+fn same_at_back(was: &[u8], is: &[u8]) -> usize
+    ensures was { result ≤ length was.now }
+    ensures is { result ≤ length is.now }
+    ensures same { drop (length is.now - result) is.now ≡ drop (length was.now - result) was.now }
+{
+    let most = was.len().min(is.len());
+    for done in 0..most {
+        if was[was.len() - 1 - done] != is[is.len() - 1 - done] {
+            return done;
+        }
+    }
+    most
 }
 
 /// Those of the edits that may be made one after another.

@@ -49,7 +49,7 @@ fn push_gap(gaps: &mut Vec<LineGap>, card: &[u8], first: usize) -> Result<(), Al
 }
 
 /// Where the operands of a statement end and a comment may begin.
-fn operands_end(card: &Card<'_>) -> usize {
+pub fn operands_end(card: &Card<'_>) -> usize {
     let tail = tail_of(card);
     let operation = card.operation_text();
     let len = match Operation::named(operation) {

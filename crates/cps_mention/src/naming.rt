@@ -20,27 +20,29 @@ struct Ranks {
 struct Namings<'a> {
     was: &'a Ranks,
     is: &'a Ranks,
+    renamed: Option<Renamed>,
+}
+
+/// What is called otherwise, and what it is then.
+#[derive(Clone, Copy)]
+struct Renamed {
     from: Meaning,
     to: Meaning,
 }
 
-/// The first line whose names mean something else after a rename, apart from their columns. None: all mean the same.
+/// The first line whose names mean something else after a rename, or, where none is told, after blanks change, apart from their columns. None: all mean the same.
 pub fn line_named_otherwise(
     alloc: Global,
     before: &[Mention],
     after: &[Mention],
-    renaming: Renaming<'_>,
+    renaming: Option<Renaming<'_>>,
 ) -> Result<Option<u32>, AllocError> {
     let was = Ranks::of(alloc, before)?;
     let is = Ranks::of(alloc, after)?;
     let namings = Namings {
         was: &was,
         is: &is,
-        from: renaming.meaning,
-        to: match renaming.new_meaning() {
-            Some(meaning) => meaning,
-            None => renaming.meaning,
-        },
+        renamed: renaming.and_then(|renaming| Renamed::by(renaming)),
     };
     for (at, mention) in before.iter().enumerate() {
         match after.get(at) {
@@ -52,6 +54,16 @@ pub fn line_named_otherwise(
         Some(mention) => Some(line_of(mention)),
         None => None,
     })
+}
+
+impl Renamed {
+    fn by(renaming: Renaming<'_>) -> Option<Renamed> {
+        let to = renaming.new_meaning()?;
+        Some(Renamed {
+            from: renaming.meaning,
+            to,
+        })
+    }
 }
 
 impl Ranks {
@@ -80,17 +92,19 @@ impl Ranks {
 impl<'a> Namings<'a> {
     /// Whether a mention says the same as another after the rename.
     fn agree(&self, was: &Mention, is: &Mention) -> bool {
-        let meaning = if was.meaning == self.from {
-            self.to
-        } else {
-            was.meaning
-        };
-        is.meaning == meaning
+        is.meaning == self.new_meaning(was.meaning)
             && is.role == was.role
             && is.is_done == was.is_done
             && is.by.as_slice() == was.by.as_slice()
             && self.have_same_places(&was.written, &is.written)
             && have_same_lines(&was.from, &is.from)
+    }
+
+    fn new_meaning(&self, was: Meaning) -> Meaning {
+        match self.renamed {
+            Some(renamed) if was == renamed.from => renamed.to,
+            _ => was,
+        }
     }
 
     fn have_same_places(&self, was: &[Stretch], is: &[Stretch]) -> bool {

@@ -47,7 +47,8 @@ fn has_same_text<V: View, W: View>(
     Ok(is_same_text(&was, &is))
 }
 
-fn is_same_text(was: &[u8], is: &[u8]) -> bool
+/// Whether two texts are the same.
+pub fn is_same_text(was: &[u8], is: &[u8]) -> bool
     ensures { IsTrue result → is.now ≡ was.now }
 {
     was == is

@@ -14,6 +14,7 @@
 //! - `enter_rows.rt`: sessions that begin with lines
 //! - `expression_rows.rt`: expressions and data items
 //! - `failing.rt`: a device that fails at one call
+//! - `format_rows.rt`: lines of which the fields go into columns
 //! - `gathering.rt`: what is gathered of a chunk
 //! - `given.rt`: names and lines that tests are given
 //! - `input_rows.rt`: what is wrong with the lines of a source that is read
@@ -66,6 +67,8 @@ mod enter_rows;
 #[cfg(test)]
 mod expression_rows;
 mod failing;
+#[cfg(test)]
+mod format_rows;
 #[cfg(test)]
 mod gathering;
 #[cfg(test)]

@@ -189,7 +189,7 @@ fn line_named(
         alloc,
         &trial.names.mentions,
         &names.mentions,
-        trial.renaming,
+        Some(trial.renaming),
     )
 }
 

@@ -61,7 +61,7 @@ pub fn certify(
     Ok(Certified {
         is_same: is_same_but(alloc, before, after, calling)?,
         changed: line_that_changed(before, after, calling),
-        otherwise: line_named_otherwise(alloc, &was.mentions, &is.mentions, renaming)?,
+        otherwise: line_named_otherwise(alloc, &was.mentions, &is.mentions, Some(renaming))?,
     })
 }
 

@@ -73,7 +73,8 @@ fn words(alloc: Global, fault: RenameFault) -> Result<Vec<u8>, AllocError> {
     Ok(text)
 }
 
-fn lines_of(
+/// The lines that edits changed, each behind its number and `:`.
+pub fn lines_of(
     alloc: Global,
     front: &[u8],
     after: &Session,
