@@ -84,6 +84,17 @@ fail-entered kept cut result {w0 = w0} {w1 = w1} n err entered none steps =
       looked = record { least = omega (arith, none); most = omega (arith, none) };
     }
 
+-- the same counts where more is refused, and where more is told
+pub passed-fails : (kept : KeptSource) (cut : ChunkSplice) {T E S F : Type 0} {made : Result T E} (result : Result S F) {w0 w1 : Counts} → IsErr result
+    → HasPassedAgain made kept cut w0 w1 → HasPassedAgain result kept cut w0 w1
+passed-fails kept cut result {w0 = w0} {w1 = w1} err made =
+    let most = twos_of kept.lines.items (splice_of cut) in
+    record { steps = steps-of err (steps-fail w0 w1 most most (omega arith) made.steps); looked = made.looked }
+
+pub passed-ok : (kept : KeptSource) (cut : ChunkSplice) {T E S F : Type 0} {made : T} {told : S} {w0 w1 : Counts} → HasPassedAgain {T = T} {E = E} (Ok made) kept cut w0 w1
+    → HasPassedAgain {T = S} {E = F} (Ok told) kept cut w0 w1
+passed-ok kept cut made = record { steps = steps-ok made.steps; looked = made.looked }
+
 -- ---- the lines around the edit
 
 module _ (kept : KeptSource) {cut : ChunkSplice} (cuts : IsSplice kept.lines.items (lengths_of kept.chunks.items) cut) (pass : SecondPass) (news : List (SparseItem Trace))

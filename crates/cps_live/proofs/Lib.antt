@@ -17,6 +17,7 @@ pub mod MovedPassLemmas
 pub mod MovedStorageLemmas
 pub mod NamesReadLemmas
 pub mod PlaceLemmas
+pub mod RedoneLemmas
 pub mod RenewedLemmas
 pub mod SecondPassLemmas
 pub mod StoredLemmas

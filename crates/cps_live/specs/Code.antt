@@ -9,5 +9,6 @@ pub mod FirstPass
 pub mod Kept
 pub mod MovedPass
 pub mod NamesRead
+pub mod Redone
 pub mod SecondPass
 pub mod Storing

@@ -1,6 +1,7 @@
 -- A source as a list of lines, and what an edit makes of it. Our own.
-use Rattle.std.specs.Prelude.{◌≡◌, ℕ, ◌*◌, ◌-◌, ◌<◌, ◌≤◌, ◌⊎◌, List, ◌++◌, length, take, drop, Result, Ok, Err}
+use Rattle.std.specs.Prelude.{◌≡◌, ℕ, ◌*◌, ◌+◌, ◌-◌, ◌<◌, ◌≤◌, ◌⊎◌, nat_lt, List, ◌++◌, All, length, take, drop, slice_get, Result, Ok, Err, if◌then◌else◌}
 use Rattle.cps_state.specs.Work.{Counts, counted_on}
+use Rattle.cps_final.specs.Outcome.{Outcome}
 use Rattle.cps_edit.specs.declared.exchange.Exchange.{Exchange}
 use Rattle.cps_chunk.specs.Division.{inserted_at}
 use Rattle.cps_chunk.specs.Exchange.{exchanged_at, moved_at}
@@ -74,6 +75,23 @@ pub record IsPut (first last : ℕ) (come : List (List ℕ)) (old new : Source) 
   pub lines : new.lines ≡ spliced old.lines (put_of first last come)
   pub lengths : new.lengths ≡ put_at (first - 1) (last - (first - 1)) (length come) old.lengths
   pub allowed : MayPut old.lines first last come
+
+-- ---- what an edit leaves; lines count from 0
+
+-- a line isn't one of so many new ones that stand after the first `keep`
+abbrev pub IsLeft : ℕ → ℕ → ℕ → Type 0
+IsLeft keep count at = (at < keep) ⊎ (keep + count ≤ at)
+
+-- where it stood before these came in the place of the lines up to the first `from`
+abbrev pub place_before : ℕ → ℕ → ℕ → ℕ → ℕ
+place_before keep from count at = if nat_lt at keep then at else at - (keep + count) + from
+
+-- outside of these places each line that an edit leaves has the outcome that it had, where it stood
+abbrev pub AreRedone : List Outcome → Splice → List Outcome → List ℕ → Type 0
+AreRedone old splice new places =
+    let count = length splice.new in
+    (at : ℕ) → IsLeft splice.keep count at → All (λ place. place ≡ at → ⊥) places
+    → slice_get new at ≡ slice_get old (place_before splice.keep splice.from count at)
 
 -- ---- work
 

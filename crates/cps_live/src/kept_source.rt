@@ -1,13 +1,17 @@
 //! What is kept of a source, and new lines in the place of others.
 ghost use Rattle.std.specs.Prelude.{◌≡◌, ◌+◌, ◌<◌, ◌^◌, [], IfOk, OnOk, OnErr, vec_len};
 ghost use Rattle.cps_chunk.specs.Code.Chunk.{lengths_of};
-ghost use Rattle.cps_live.specs.Code.Editing.{AreKept, ArePatchedEnds, AreNewTraces, AreOutcomesOf, HasPassedAgain, HasReadNews, HasRoomFor, HasRoomToPatch, IsSplice, IsEdited, IsFirstPass, IsKept, IsStill, IsStillWith, LooksOfFirst, LooksOfSplice, StepsOfFirst, StepsOfSplice, splice_of};
+ghost use Rattle.cps_chunk.specs.Sparse.{renewed};
+ghost use Rattle.cps_live.specs.Edits.{AreRedone};
+ghost use Rattle.cps_live.specs.Code.Editing.{AreKept, ArePatchedEnds, AreNewTraces, AreOutcomesOf, HasPassedAgain, HasReadNews, HasRoomFor, HasRoomToPatch, IsSplice, IsEdited, IsFirstPass, IsKept, IsStill, IsStillWith, LooksOfFirst, LooksOfSplice, StepsOfFirst, StepsOfSplice, put_between, splice_of};
+ghost use Rattle.cps_live.specs.Code.Redone.{ArePlacesOf};
 
 use crate::chunk_list::{mark_all, put_chunks};
 use crate::first_pass::FirstPass;
 use crate::lists::{make_room_for, put_at};
 use crate::names_read::NamesRead;
 use crate::news::News;
+use crate::redone::Redone;
 use crate::second_pass::{SecondPass, step_two_all};
 use crate::storage::storage_behind;
 use cps_chunk::{Baseline, Chunk, ChunkSplice};
@@ -78,14 +82,15 @@ impl KeptSource {
         Ok(lengths)
     }
 
-    /// Puts new lines in the place of others, and makes both passes of the edit. Where there is no memory, the lines stay as they are, and so does what is kept of
-    /// them.
-    pub fn splice(&mut self, cut: ChunkSplice, work: &mut Work) -> Result<(), AllocError>
+    /// Puts new lines in the place of others, and makes both passes of the edit. Tells what is made anew beside the new lines. Where there is no memory, the lines
+    /// stay as they are, and so does what is kept of them.
+    pub fn splice(&mut self, cut: ChunkSplice, work: &mut Work) -> Result<Redone, AllocError>
         requires kept { IsKept self.old }
         requires cut { IsSplice self.old.lines.items (lengths_of self.old.chunks.items) cut }
         requires few { vec_len self.old.lines + vec_len cut.lines < 2 ^ 63 }
         ensures kept { IsKept self.new }
         ensures ok { OnOk result (IsEdited cut self.old self.new) }
+        ensures redone { IfOk result (λ redone. AreRedone self.old.outcomes.items (splice_of cut) self.new.outcomes.items redone.places.items) }
         ensures err { OnErr result (IsStill self.old self.new) }
         ensures steps { StepsOfSplice result self.old cut work.old work.new }
         ensures looked { LooksOfSplice self.old cut work.old work.new }
@@ -96,8 +101,9 @@ impl KeptSource {
         let mut patch = FinalsPatch { changes, storage };
         let chunks = self.make_room(&patch, &cut)?;
         self.finals.exchange(&mut patch);
-        match self.pass_two(&cut, &traces, &patch, work) {
-            Ok(outcomes) => {
+        match self.redo(&cut, &traces, &patch, work) {
+            Ok(made) => {
+                let (outcomes, redone) = made;
                 drop(patch);
                 let parts = NewParts {
                     traces,
@@ -105,7 +111,7 @@ impl KeptSource {
                     chunks,
                 };
                 self.commit(cut, parts);
-                Ok(())
+                Ok(redone)
             }
             Err(refused) => {
                 self.finals.exchange(&mut patch);
@@ -175,6 +181,31 @@ impl KeptSource {
         Vec::with_capacity(self.alloc, cut.lengths.len())
     }
 
+    /// Pass two of an edit, under the final values behind it, and where it makes lines anew that were there before.
+    fn redo(
+        &mut self,
+        cut: &ChunkSplice,
+        traces: &News<Trace>,
+        patch: &FinalsPatch,
+        work: &mut Work,
+    ) -> Result<(News<Outcome>, Redone), AllocError>
+        requires kept { AreKept self.old }
+        requires cut { IsSplice self.old.lines.items (lengths_of self.old.chunks.items) cut.now }
+        requires few { vec_len self.old.lines + vec_len cut.now.lines < 2 ^ 63 }
+        requires traces { AreNewTraces self.old.lines.items (splice_of cut.now) traces.now }
+        requires ends { ArePatchedEnds self.old patch.now cut.now }
+        ensures kept { AreKept self.new }
+        ensures still { IsStillWith self.old self.new }
+        ensures made { IfOk result (λ made. AreOutcomesOf self.old cut.now made.0) }
+        ensures places { IfOk result (λ made. ArePlacesOf cut.now made.0 made.1) }
+        ensures read { IfOk result (λ made. HasReadNews self.new.read made.0) }
+        ensures work { HasPassedAgain result self.old cut.now work.old work.new }
+    {
+        let outcomes = self.pass_two(cut, traces, patch, work)?;
+        let places = outcomes.places(self.alloc, cut.keep, cut.from)?;
+        Ok((outcomes, Redone { places }))
+    }
+
     /// Pass two of an edit, under the final values behind it.
     fn pass_two(
         &mut self,
@@ -223,6 +254,7 @@ impl KeptSource {
         requires room { HasRoomFor self.old cut parts.chunks }
         ensures kept { AreKept self.new }
         ensures edited { IsEdited cut self.old self.new }
+        ensures outcomes { self.new.outcomes.items ≡ put_between cut.keep cut.from parts.outcomes.entered.items (renewed 0 parts.outcomes.renewed.items self.old.outcomes.items) }
         ensures finals { self.new.finals ≡ self.old.finals }
     {
         let NewParts {

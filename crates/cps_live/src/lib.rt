@@ -12,6 +12,7 @@
 //! - `moved_pass.rt`: pass one of a move
 //! - `names_read.rt`: which symbols lines read, in a set that only grows
 //! - `news.rt`: what a pass makes anew
+//! - `redone.rt`: what an edit made anew
 //! - `second_pass.rt`: pass two of an edit, chunk by chunk
 //! - `session.rt`: the edits and texts of a session
 //! - `storage.rt`: where blocks and literals stand behind an edit
@@ -29,9 +30,11 @@ mod lists;
 mod moved_pass;
 mod names_read;
 mod news;
+mod redone;
 mod second_pass;
 mod session;
 mod storage;
 
 pub use kept_source::KeptSource;
+pub use redone::Redone;
 pub use session::{EditFault, Session};

@@ -7,16 +7,17 @@ ghost use Rattle.cps_edit.specs.Compares.{Steps};
 ghost use Rattle.cps_edit.specs.Splice.{splice_at, spliced, insertion, replacement, deletion};
 ghost use Rattle.cps_live.specs.Code.Editing.{IsSplice, splice_of};
 ghost use Rattle.cps_live.specs.Entering.{full_chunks};
-ghost use Rattle.cps_edit.specs.Assembly.{assembly_of, traces_of};
+ghost use Rattle.cps_edit.specs.Assembly.{assembly_of, outcomes_of, traces_of};
 ghost use Rattle.cps_edit.specs.Flagged.{flagged_lines as flagged_in};
 ghost use Rattle.cps_edit.specs.Exchange.{exchanged, move};
 ghost use Rattle.cps_chunk.specs.Exchange.{exchanged_at, moved_at};
 ghost use Rattle.cps_chunk.specs.Put.{put_at};
-ghost use Rattle.cps_live.specs.Edits.{HasLine, LacksLine, HasLines, LacksLines, HasMove, LacksMove, LacksPlace, MayPut, MayNotPut, IsPut, put_of, without_lines, WorkOfEdit, WorkOfMove, LooksOfAppend, LooksOfEdit, LooksOfMove, LooksOfPut, LooksOfExchange};
+ghost use Rattle.cps_live.specs.Edits.{HasLine, LacksLine, HasLines, LacksLines, HasMove, LacksMove, LacksPlace, MayPut, MayNotPut, IsPut, put_of, without_lines, WorkOfEdit, WorkOfMove, LooksOfAppend, LooksOfEdit, LooksOfMove, LooksOfPut, LooksOfExchange, AreRedone};
 
 use crate::entering::kept_of;
 use crate::kept_source::KeptSource;
 use crate::lists::list_of;
+use crate::redone::Redone;
 use cps_chunk::ChunkSplice;
 use cps_chunk::division_laws::a_put_divides_again;
 use cps_edit::{Exchange, flagged_lines};
@@ -248,15 +249,16 @@ impl Session {
     }
 
     /// Puts lines in the place of those from `first` to `last`, where lines count from 1; in front of line `first`, where `last` is the number before it. Both
-    /// passes go over the source once. Lines that are refused are dropped.
+    /// passes go over the source once, and it is told what they made anew beside these lines. Lines that are refused are dropped.
     pub fn put(
         &mut self,
         first: u32,
         last: u32,
         lines: Vec<Line>,
         work: &mut Work,
-    ) -> Result<(), EditFault>
+    ) -> Result<Redone, EditFault>
         ensures ok { OnOk result (IsPut first last lines.items self.old self.new) }
+        ensures redone { IfOk result (λ redone. AreRedone (outcomes_of self.old.lines) (put_of first last lines.items) (outcomes_of self.new.lines) redone.places.items) }
         ensures err { OnErr result (self.new ≡ self.old) }
         ensures no_line { IsErrOf result EditFault.NoSuchLine ↔ LacksPlace self.old.lines first last }
         ensures too_many { IsErrOf result EditFault.TooManyLines ↔ MayNotPut self.old.lines first last lines.items }
@@ -273,7 +275,7 @@ impl Session {
         if lines.len() > MOST_LINES - (count - (from - keep)) {
             return Err(EditFault::TooManyLines);
         }
-        self.put_new(keep, from, lines, work)
+        self.put_told(keep, from, lines, work)
     }
 
     /// Puts new lines in the place of those after the first `keep` up to the first `from`.
@@ -288,6 +290,33 @@ impl Session {
         requires few { length (spliced self.old.lines (splice_at keep from lines.items)) ≤ MOST_LINES }
         ensures ok { OnOk result (self.new.lines ≡ spliced self.old.lines (splice_at keep from lines.items)) }
         ensures lengths { OnOk result (self.new.lengths ≡ put_at keep (from - keep) (length lines.items) self.old.lengths) }
+        ensures err { OnErr result (self.new ≡ self.old) }
+        ensures only { OnErr result (IsErrOf result EditFault.Memory) }
+        ensures work { WorkOfEdit result self.old.lines (splice_at keep from lines.items) work.old work.new }
+        ensures looked { LooksOfEdit self.old (splice_at keep from lines.items) (put_at keep (from - keep) (length lines.items) self.old.lengths) work.old work.new }
+    {
+        match self.put_told(keep, from, lines, work) {
+            Ok(redone) => {
+                drop(redone);
+                Ok(())
+            }
+            Err(fault) => Err(fault),
+        }
+    }
+
+    /// Puts new lines in the place of those after the first `keep` up to the first `from`, and tells what is made anew beside these.
+    fn put_told(
+        &mut self,
+        keep: usize,
+        from: usize,
+        lines: Vec<Line>,
+        work: &mut Work,
+    ) -> Result<Redone, EditFault>
+        requires places { (keep ≤ from) × (from ≤ length self.old.lines) }
+        requires few { length (spliced self.old.lines (splice_at keep from lines.items)) ≤ MOST_LINES }
+        ensures ok { OnOk result (self.new.lines ≡ spliced self.old.lines (splice_at keep from lines.items)) }
+        ensures lengths { OnOk result (self.new.lengths ≡ put_at keep (from - keep) (length lines.items) self.old.lengths) }
+        ensures redone { IfOk result (λ redone. AreRedone (outcomes_of self.old.lines) (splice_at keep from lines.items) (outcomes_of self.new.lines) redone.places.items) }
         ensures err { OnErr result (self.new ≡ self.old) }
         ensures only { OnErr result (IsErrOf result EditFault.Memory) }
         ensures work { WorkOfEdit result self.old.lines (splice_at keep from lines.items) work.old work.new }
@@ -371,22 +400,23 @@ impl Session {
         Ok(())
     }
 
-    /// Puts new lines in the place of others.
-    fn splice(&mut self, cut: ChunkSplice, work: &mut Work) -> Result<(), EditFault>
+    /// Puts new lines in the place of others, and tells what is made anew beside these.
+    fn splice(&mut self, cut: ChunkSplice, work: &mut Work) -> Result<Redone, EditFault>
         requires cut { IsSplice self.old.lines self.old.lengths cut }
         requires few { length (spliced self.old.lines (splice_of cut)) ≤ MOST_LINES }
         ensures ok { OnOk result (self.new.lines ≡ spliced self.old.lines (splice_of cut)) }
         ensures lengths { OnOk result (self.new.lengths ≡ recut_by cut.start cut.end cut.lengths.items self.old.lengths) }
+        ensures redone { IfOk result (λ redone. AreRedone (outcomes_of self.old.lines) (splice_of cut) (outcomes_of self.new.lines) redone.places.items) }
         ensures err { OnErr result (self.new ≡ self.old) }
         ensures only { OnErr result (IsErrOf result EditFault.Memory) }
         ensures work { WorkOfEdit result self.old.lines (splice_of cut) work.old work.new }
         ensures looked { LooksOfEdit self.old (splice_of cut) (recut_by cut.start cut.end cut.lengths.items self.old.lengths) work.old work.new }
     {
         let made = self.kept.splice(cut, work);
-        let Ok(()) = made else {
+        let Ok(redone) = made else {
             return Err(EditFault::Memory);
         };
-        Ok(())
+        Ok(redone)
     }
 
     /// A text of the source.

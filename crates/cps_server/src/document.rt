@@ -171,7 +171,10 @@ fn put_cards(
     }
     let mut session = session;
     match session.put(first as u32 + 1, end as u32, cards, &mut Work::new()) {
-        Ok(()) => Ok(session),
+        Ok(redone) => {
+            drop(redone);
+            Ok(session)
+        }
         Err(EditFault::Memory) => Err(AllocError),
         Err(EditFault::NoSuchLine) => unreachable!(),
         Err(EditFault::TooManyLines) => unreachable!(),

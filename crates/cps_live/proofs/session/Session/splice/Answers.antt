@@ -1,10 +1,13 @@
-use Rattle.std.proofs.Common.{◌≤◌, length, sym, subst}
+use Rattle.std.proofs.Common.{◌≤◌, List, length, sym, ap, subst, ◌∙◌}
+use Rattle.std.specs.Prelude.{slice_get}
+use Rattle.cps_final.specs.Outcome.{Outcome}
+use Rattle.cps_edit.specs.Assembly.{outcomes_of}
 use Rattle.cps_chunk.specs.Recut.{recut as recut_by}
 use Rattle.cps_edit.specs.Splice.{spliced}
 use Rattle.cps_edit.specs.Disturbed.{ones_of, twos_of}
 use Rattle.cps_live.specs.Code.Editing.{splice_of}
 use Rattle.cps_edit.specs.Limits.{most_lines}
-use Rattle.cps_live.specs.Edits.{Source, HaveStepped, HaveSteppedUpTo, LooksOfEdit}
+use Rattle.cps_live.specs.Edits.{Source, HaveStepped, HaveSteppedUpTo, LooksOfEdit, place_before}
 use Rattle.cps_live.proofs.SessionLemmas.{held}
 use Rattle.cps_live.proofs.session.Session.splice.Goals as goal
 
@@ -41,3 +44,12 @@ pub returns-clause-looked : goal.returns-clause-looked
 returns-clause-looked c =
     let cut = c.args.cut in
     subst (λ (s : Source). LooksOfEdit s (splice_of cut) (recut_by cut.start cut.end cut.lengths.items s.lengths) c.args.work.now c.splice-made.new.work) c.self.view_is c.splice-made.ensures.looked
+
+pub returns-clause-redone : goal.returns-clause-redone
+returns-clause-redone c = λ at is none.
+    let cut = c.args.cut in
+    let splice = splice_of cut in
+    let was = c.self.invariant.kept.lines.made ∙ ap (λ (s : Source). outcomes_of s.lines) c.self.view_is in
+    let now = c.splice-made.ensures.kept.lines.made in
+    ap (λ (os : List Outcome). slice_get os at) (sym now) ∙ c.in-Ok.ensures.redone at is none
+    ∙ ap (λ (os : List Outcome). slice_get os (place_before splice.keep splice.from (length splice.new) at)) was

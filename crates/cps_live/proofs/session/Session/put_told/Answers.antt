@@ -1,9 +1,11 @@
 use Rattle.std.proofs.Common.{◌-◌, ◌≤◌, arith, refl, ap, subst, ◌∙◌, List, ℕ, length, take}
-use Rattle.std.specs.Prelude.{sum}
+use Rattle.std.specs.Prelude.{IfOk, sum}
+use Rattle.cps_edit.specs.Assembly.{outcomes_of}
 use Rattle.cps_chunk.specs.Put.{IsRecut, put_at}
-use Rattle.cps_edit.specs.Splice.{splice_at}
+use Rattle.cps_edit.specs.Splice.{Splice, splice_at}
+use Rattle.cps_live.specs.Edits.{AreRedone}
 use Rattle.cps_live.proofs.SplicingLemmas.{splice-for, splice-is, splice-looks}
-use Rattle.cps_live.proofs.session.Session.put_new.Goals as goal
+use Rattle.cps_live.proofs.session.Session.put_told.Goals as goal
 
 pub splice-requires-clause-cut : goal.splice-requires-clause-cut
 splice-requires-clause-cut c =
@@ -42,3 +44,9 @@ returns-clause-looked c =
     let made = splice-for keep from come olds by c.requires.places.0 within is again (λ i. splice_at (places.0 i) (places.1 i) (places.2 i).items)
     (c.in-Ok-of.ensures.behind ∙ ap (λ (ms : List ℕ). sum (take by.end ms)) same) in
     splice-looks source (splice_at keep from come) (put_at keep (from - keep) (length come) olds) by c.args.work.now c.splice.new.work made c.splice.ensures.looked
+
+pub returns-clause-redone : goal.returns-clause-redone
+returns-clause-redone c =
+    let places = c.in-Ok-of.ensures.lines in
+    subst (λ (s : Splice). IfOk c.splice.result (λ redone. AreRedone (outcomes_of c.args.self.now.lines) s (outcomes_of c.splice.new.self.lines) redone.places.items))
+    (λ i. splice_at (places.0 i) (places.1 i) (places.2 i).items) c.splice.ensures.redone
