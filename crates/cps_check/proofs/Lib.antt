@@ -9,3 +9,4 @@ pub mod EndLemmas
 pub mod ErrorLemmas
 pub mod Commas
 pub mod Zero
+pub mod Words

@@ -11,8 +11,10 @@ use Rattle.cps_code.specs.declared.layout.Layout.TheVariants.{Unread, Target, Sh
 use Rattle.cps_code.specs.PeripheralForms.{form_with}
 use Rattle.cps_code.specs.PeripheralTable.{Row, named, pp_table, is_operation, form_of}
 use Rattle.cps_check.specs.Code.Kept.{zero_form}
+use Rattle.cps_check.specs.Codes.{fitting_peripheral, fitting_peripheral_rows, fitting_peripheral_text}
 use Rattle.cps_check.specs.Names.{row_name}
 use Rattle.cps_check.specs.Peripheral.{row_text, peripheral_text, peripheral_head, named_text}
+use Rattle.cps_check.specs.Sentences.{Sentences}
 
 abbrev operand : List ℕ
 operand = codes "0"
@@ -46,10 +48,11 @@ no_operation name unread = of_row (named pp_table name) unread
     of_row None unread = refl
     of_row (Some row) unread = let read = sym (read_zero row.layout row.number) ∙ unread in cc
 
-pub nothing_told : (name text : List ℕ) → form_of name operand Decimal ≡ None → text ≡ text ++ peripheral_text name
-nothing_told name text unread = of_row (named pp_table name) unread
+pub nothing_told : (sentences : Sentences) (name text : List ℕ) → form_of name operand Decimal ≡ None
+    → text ≡ text ++ peripheral_text sentences name
+nothing_told sentences name text unread = of_row (named pp_table name) unread
   where
-    of_row : (row : Option Row) → form_in row ≡ None → text ≡ text ++ named_text name row
+    of_row : (row : Option Row) → form_in row ≡ None → text ≡ text ++ named_text sentences name row
     of_row None unread = sym (append-nil text)
     of_row (Some row) unread = let read = sym (read_zero row.layout row.number) ∙ unread in cc
 
@@ -61,16 +64,16 @@ operation_by_form name form read = of_row (named pp_table name) read
     of_row (Some row) read = refl
 
 -- what is told by a form is the row's
-pub told_by_form : (name text told : List ℕ) (form : Form) → form_of name operand Decimal ≡ Some form
-    → ((layout : Layout) (number : ℕ) → form ≡ zero_form layout number → told ≡ (text ++ peripheral_head) ++ row_text (row_name name) layout number)
-    → told ≡ text ++ peripheral_text name
-told_by_form name text told form read tells = of_row (named pp_table name) read
+pub told_by_form : (sentences : Sentences) (name text told : List ℕ) (form : Form) → form_of name operand Decimal ≡ Some form
+    → ((layout : Layout) (number : ℕ) → form ≡ zero_form layout number → told ≡ (text ++ peripheral_head) ++ row_text sentences (row_name name) layout number)
+    → told ≡ text ++ peripheral_text sentences name
+told_by_form sentences name text told form read tells = of_row (named pp_table name) read
   where
-    of_row : (row : Option Row) → form_in row ≡ Some form → told ≡ text ++ named_text name row
+    of_row : (row : Option Row) → form_in row ≡ Some form → told ≡ text ++ named_text sentences name row
     of_row None read = cc
     of_row (Some row) read =
         let is : form ≡ zero_form row.layout row.number = ap (λ found. unwrap_or found form) (sym read ∙ read_zero row.layout row.number) in
-        tells row.layout row.number is ∙ append_assoc text peripheral_head (row_text (row_name name) row.layout row.number)
+        tells row.layout row.number is ∙ append_assoc text peripheral_head (row_text sentences (row_name name) row.layout row.number)
 
 -- ---- the number of an operation
 
@@ -87,3 +90,25 @@ number_of_zero Memory number = omega arith
 
 pub number_told : (layout : Layout) (number : ℕ) (form : Form) → form ≡ zero_form layout number → (filled form (zeros form)).digits / 2 ^ (form.bits - 6) ≡ number
 number_told layout number form is = ap (λ form. (filled form (zeros form)).digits / 2 ^ (form.bits - 6)) is ∙ number_of_zero layout number
+
+-- ---- codes
+
+-- nothing is told of a code by what is no operation
+pub nothing_fits : (given name text : List ℕ) → form_of name operand Decimal ≡ None → text ≡ text ++ fitting_peripheral given name
+nothing_fits given name text unread = of_row (named pp_table name) unread
+  where
+    of_row : (row : Option Row) → form_in row ≡ None → text ≡ text ++ fitting_peripheral_rows given name row
+    of_row None unread = sym (append-nil text)
+    of_row (Some row) unread = let read = sym (read_zero row.layout row.number) ∙ unread in cc
+
+-- what is told of it by a form is the row's
+pub fits_by_form : (given name text told : List ℕ) (form : Form) → form_of name operand Decimal ≡ Some form
+    → ((layout : Layout) (number : ℕ) → form ≡ zero_form layout number → told ≡ text ++ fitting_peripheral_text given (row_name name) layout number)
+    → told ≡ text ++ fitting_peripheral given name
+fits_by_form given name text told form read tells = of_row (named pp_table name) read
+  where
+    of_row : (row : Option Row) → form_in row ≡ Some form → told ≡ text ++ fitting_peripheral_rows given name row
+    of_row None read = cc
+    of_row (Some row) read =
+        let is : form ≡ zero_form row.layout row.number = ap (λ found. unwrap_or found form) (sym read ∙ read_zero row.layout row.number) in
+        tells row.layout row.number is

@@ -8,8 +8,9 @@ use Rattle.cps_code.specs.declared.register.RegisterLetter.TheVariants.{A, B, X}
 use Rattle.cps_code.specs.Rows.{RowTerm, Shape, unread, fields, summed, Code, RowForm, Named}
 use Rattle.cps_code.specs.Table.{instruction_named}
 use Rattle.cps_code.specs.RowForms.{hole_width}
-use Rattle.cps_check.specs.Front.{front}
+use Rattle.cps_check.specs.Front.{front, at_left}
 use Rattle.cps_check.specs.Names.{row_name}
+use Rattle.cps_check.specs.Sentences.{Sentences, words_among}
 
 -- ---- operands
 
@@ -65,14 +66,16 @@ parts_of row = record {
   forces = row.forces;
 }
 
-abbrev pub row_text : List ℕ → ℕ → Parts → List ℕ
-row_text name f parts =
-    front name parts.operands parts.bits
-    ++ map (code_character f) parts.code.digits ++ hole_text parts.code.hole
-    ++ forcing_text parts.forces ++ codes "\n"
+abbrev pub code_text : ℕ → Parts → List ℕ
+code_text f parts = map (code_character f) parts.code.digits ++ hole_text parts.code.hole
 
-abbrev pub rows_text : List ℕ → ℕ → List RowForm → List ℕ
-rows_text name f forms = flat_map (row_text name f) (map parts_of forms)
+abbrev pub row_text : List ℕ → ℕ → Sentences → Parts → List ℕ
+row_text name f sentences parts =
+    front name parts.operands parts.bits
+    ++ at_left 12 (code_text f parts) ++ words_among sentences parts.operands ++ forcing_text parts.forces ++ codes "\n"
+
+abbrev pub rows_text : List ℕ → ℕ → Sentences → List RowForm → List ℕ
+rows_text name f sentences forms = flat_map (row_text name f sentences) (map parts_of forms)
 
 -- ---- an operation
 
@@ -81,9 +84,9 @@ central_head =
     codes "An instruction of the central processor: i, j and k are digits of registers,\n"
     ++ codes "K is an expression or a literal, n an expression.\n"
 
-abbrev pub named_text : List ℕ → Option Named → List ℕ
-named_text name None = []
-named_text name (Some named) = central_head ++ rows_text (row_name name) named.digits.f named.forms
+abbrev pub named_text : Sentences → List ℕ → Option Named → List ℕ
+named_text sentences name None = []
+named_text sentences name (Some named) = central_head ++ rows_text (row_name name) named.digits.f sentences named.forms
 
-abbrev pub central_text : List ℕ → List ℕ
-central_text name = named_text name (instruction_named name)
+abbrev pub central_text : Sentences → List ℕ → List ℕ
+central_text sentences name = named_text sentences name (instruction_named name)

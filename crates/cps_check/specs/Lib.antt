@@ -5,7 +5,9 @@ pub mod Check
 pub mod Agreement
 pub mod Front
 pub mod Names
+pub mod Sentences
 pub mod Central
 pub mod Peripheral
+pub mod Codes
 pub mod Manual
 pub mod Code

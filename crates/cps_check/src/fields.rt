@@ -1,8 +1,8 @@
 //! The rows of operations whose operands stand between commas.
 ghost use Rattle.std.specs.Prelude.{◌≡◌, ◌++◌, ◌<◌, IfOk, OnOk, drop, flat_map, map};
 ghost use Rattle.cps_code.specs.Code.Operations.{row_of_fields, texts};
-ghost use Rattle.cps_check.specs.Central.{hole_texts, operands_text, parts_of, row_text, rows_text};
-ghost use Rattle.cps_check.specs.Code.Kept.{after_comma, kept_parts};
+ghost use Rattle.cps_check.specs.Central.{hole_texts, operands_text, parts_of};
+ghost use Rattle.cps_check.specs.Code.Kept.{after_comma, kept_parts, told_row, told_rows};
 
 use crate::central_row::{RowParts, Told, push_row};
 use cps_code::FieldForm;
@@ -12,11 +12,11 @@ use std::alloc::{AllocError, Global};
 pub fn push_fields(
     alloc: Global,
     text: &mut Vec<u8>,
-    told: &Told<'_>,
+    told: &Told<'_, '_>,
     rows: &[FieldForm],
 ) -> Result<(), AllocError>
     requires { told.now.f < 8 }
-    ensures { OnOk result (text.new.items ≡ text.old.items ++ rows_text told.now.name.now told.now.f (map row_of_fields rows.now)) }
+    ensures { OnOk result (text.new.items ≡ text.old.items ++ told_rows told.now (map row_of_fields rows.now)) }
 {
     for row in rows {
         push_field(alloc, text, told, *row)?;
@@ -27,14 +27,19 @@ pub fn push_fields(
 fn push_field(
     alloc: Global,
     text: &mut Vec<u8>,
-    told: &Told<'_>,
+    told: &Told<'_, '_>,
     row: FieldForm,
 ) -> Result<(), AllocError>
     requires { told.now.f < 8 }
-    ensures { OnOk result (text.new.items ≡ text.old.items ++ row_text told.now.name.now told.now.f (parts_of (row_of_fields row))) }
+    ensures { OnOk result (text.new.items ≡ text.old.items ++ told_row told.now (parts_of (row_of_fields row))) }
 {
     let operands = operands_of(alloc, row)?;
-    push_row(text, told, &parts_of_fields(behind_first(&operands), row))
+    push_row(
+        alloc,
+        text,
+        told,
+        &parts_of_fields(behind_first(&operands), row),
+    )
 }
 
 /// The operands of a row, behind a comma each.

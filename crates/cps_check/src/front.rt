@@ -11,6 +11,9 @@ const NAME_COLUMNS: usize = 6;
 /// The columns of the operands.
 const OPERANDS_COLUMNS: usize = 10;
 
+/// The columns of a code.
+pub const CODE_COLUMNS: usize = 12;
+
 /// Appends a name, operands, and how many bits a code has.
 pub fn push_front(
     text: &mut Vec<u8>,
@@ -27,8 +30,8 @@ pub fn push_front(
 }
 
 /// Appends a text at the left of so many columns.
-fn push_at_left(text: &mut Vec<u8>, width: usize, shown: &[u8]) -> Result<(), AllocError>
-    requires { width ≤ 10 }
+pub fn push_at_left(text: &mut Vec<u8>, width: usize, shown: &[u8]) -> Result<(), AllocError>
+    requires { width ≤ 12 }
     ensures { OnOk result (text.new.items ≡ text.old.items ++ laid.at_left width shown.now) }
 {
     text.extend_from_slice(shown)?;
@@ -36,7 +39,7 @@ fn push_at_left(text: &mut Vec<u8>, width: usize, shown: &[u8]) -> Result<(), Al
 }
 
 fn push_blanks(text: &mut Vec<u8>, count: usize) -> Result<(), AllocError>
-    requires { count ≤ 10 }
+    requires { count ≤ 12 }
     ensures { OnOk result (text.new.items ≡ text.old.items ++ laid.blanks count) }
 {
     text.resize(text.len() + count, b' ')

@@ -4,8 +4,10 @@
 //! - `central.rt`: what is told of instructions of the central processor
 //! - `central_row.rt`: a row of an instruction of the central processor
 //! - `checking.rt`: a check as a whole
+//! - `codes.rt`: what is told of octal codes
 //! - `fault.rt`: why a source is not checked, or what is told of it not written
 //! - `fields.rt`: the rows of operations whose operands stand between commas
+//! - `fitting.rt`: the rows of the central processor that have a code
 //! - `flags.rt`: what is told of the letters of flags
 //! - `front.rt`: the front of an instruction's row, laid out in columns
 //! - `heads.rt`: what a report begins with
@@ -17,9 +19,11 @@
 //! - `manual.rt`: what is told of any word
 //! - `names.rt`: names of instructions, as their rows have them
 //! - `notes.rt`: notes: what may stand in a line and is often not meant so
+//! - `operations.rt`: the operations of both machines
 //! - `peripheral.rt`: what is told of instructions of a peripheral processor
 //! - `report_kind.rt`: what a report tells
 //! - `rows.rt`: the rows that show where in a line something is
+//! - `sentences.rt`: what instructions do
 //! - `statements.rt`: what is told of statements
 //! - `sums.rt`: the rows of operations whose operand is a sum
 //! - `telling.rt`: what is told of a text
@@ -29,8 +33,10 @@
 mod central;
 mod central_row;
 mod checking;
+mod codes;
 mod fault;
 mod fields;
+mod fitting;
 mod flags;
 mod front;
 mod heads;
@@ -42,9 +48,11 @@ mod line_telling;
 mod manual;
 mod names;
 mod notes;
+mod operations;
 mod peripheral;
 mod report_kind;
 mod rows;
+mod sentences;
 mod statements;
 mod sums;
 mod telling;

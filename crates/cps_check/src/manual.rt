@@ -1,23 +1,37 @@
 //! What is told of a word.
-ghost use Rattle.std.specs.Prelude.{◌≡◌, false, IfOk, IfSome, is_some};
+ghost use Rattle.std.specs.Prelude.{◌≡◌, ◌||◌, false, IfOk, IfSome, is_some};
+ghost use Rattle.cps_check.specs.Codes.{is_code};
 ghost use Rattle.cps_check.specs.Manual as told;
 
+use crate::codes::code_text;
 use crate::flags::flag_text;
 use crate::instruction::instruction_text;
 use crate::statements::statement_text;
 use cps_expr::Operation;
 use std::alloc::{AllocError, Global};
 
-/// What is told of a word: of the letter of a flag, of a statement, or of an instruction of either machine, whose name may lack the digit
-/// of a register. Lower-case letters stand for capitals. None where the word is nothing of that. Each row ends with a newline.
+/// What is told of a word: of the letter of a flag, of a statement, of an instruction of either machine, whose name may lack the digit
+/// of a register, or of an octal code, by how many digits it has. Lower-case letters stand for capitals. None where the word is nothing of
+/// that. Each row ends with a newline.
 pub fn manual_text(alloc: Global, word: &[u8]) -> Result<Option<Vec<u8>>, AllocError>
     ensures told { IfOk result (λ text. is_some text ≡ told.is_told word.now) }
-    // Of an instruction, the rows of the tables.
+    // Of an instruction, the rows of the tables; of a code, those that have it.
     ensures rows { IfOk result (λ text. IfSome text (λ text.
-        told.is_told_by_sentences word.now ≡ false → text.items ≡ told.instruction_text word.now)) }
+        told.is_told_by_sentences word.now ≡ false → told.TellsForms word.now text.items)) }
 {
     match sentences(word) {
         Some(text) => Ok(Some(copied(alloc, text)?)),
+        None => forms_text(alloc, word),
+    }
+}
+
+/// What is told of a code, or of an instruction.
+fn forms_text(alloc: Global, word: &[u8]) -> Result<Option<Vec<u8>>, AllocError>
+    ensures told { IfOk result (λ text. is_some text ≡ (is_code word.now || told.is_instruction word.now)) }
+    ensures text { IfOk result (λ text. IfSome text (λ text. told.TellsForms word.now text.items)) }
+{
+    match code_text(alloc, word)? {
+        Some(text) => Ok(Some(text)),
         None => instruction_text(alloc, word),
     }
 }

@@ -1,14 +1,15 @@
-//! The rows of operations whose operand is a sum of registers and K.
+//! The rows of operations whose operand is a sum of registers and K, or isn't read.
 ghost use Rattle.std.specs.Prelude.{◌≡◌, ◌++◌, ◌<◌, OnOk, flat_map, map};
-ghost use Rattle.cps_code.specs.Code.Operations.{jump_forms};
+ghost use Rattle.cps_code.specs.declared.operation.Forms.TheVariants as Forms;
+ghost use Rattle.cps_code.specs.Code.Operations.{jump_forms, rows_of};
 ghost use Rattle.cps_code.specs.Table.{set_forms};
-ghost use Rattle.cps_check.specs.Central.{parts_of, row_text};
-ghost use Rattle.cps_check.specs.Code.Kept.{kept_parts, sum_parts};
+ghost use Rattle.cps_check.specs.Central.{parts_of};
+ghost use Rattle.cps_check.specs.Code.Kept.{kept_parts, sum_parts, told_row};
 
 use crate::central_row::{RowParts, Told, push_row};
-use std::alloc::AllocError;
+use std::alloc::{AllocError, Global};
 
-/// A row: the sum that is its operand, and its code.
+/// A row: its operand, and its code.
 #[derive(Clone, Copy)]
 pub enum SumRow {
     /// Five digits.
@@ -43,6 +44,24 @@ static JUMP: [SumRow; 3] = [
     SumRow::BareJump(b"Bi", b"02i0000000"),
 ];
 
+static PASS: [SumRow; 1] = [SumRow::Short(b"not read", b"46000")];
+
+static STOP: [SumRow; 1] = [SumRow::BareJump(b"not read", b"0000000000")];
+
+/// The row of NO.
+pub fn pass_rows() -> &'static [SumRow]
+    ensures { map sum_parts result.now ≡ map parts_of (rows_of Forms.Pass) }
+{
+    &PASS
+}
+
+/// The row of PS.
+pub fn stop_rows() -> &'static [SumRow]
+    ensures { map sum_parts result.now ≡ map parts_of (rows_of Forms.Stop) }
+{
+    &STOP
+}
+
 /// The rows of the set instructions.
 pub fn set_rows() -> &'static [SumRow]
     ensures { map sum_parts result.now ≡ map parts_of set_forms }
@@ -58,12 +77,17 @@ pub fn jump_rows() -> &'static [SumRow]
 }
 
 /// Appends rows, one after another.
-pub fn push_sums(text: &mut Vec<u8>, told: &Told<'_>, rows: &[SumRow]) -> Result<(), AllocError>
+pub fn push_sums(
+    alloc: Global,
+    text: &mut Vec<u8>,
+    told: &Told<'_, '_>,
+    rows: &[SumRow],
+) -> Result<(), AllocError>
     requires { told.now.f < 8 }
-    ensures { OnOk result (text.new.items ≡ text.old.items ++ flat_map (row_text told.now.name.now told.now.f) (map sum_parts rows.now)) }
+    ensures { OnOk result (text.new.items ≡ text.old.items ++ flat_map (told_row told.now) (map sum_parts rows.now)) }
 {
     for row in rows {
-        push_row(text, told, &parts_of_sum(*row))?;
+        push_row(alloc, text, told, &parts_of_sum(*row))?;
     }
     Ok(())
 }

@@ -76,7 +76,7 @@ RunsFrom remaining contents lines status reader reader' writer writer' =
 -- what is told of a word: there is something, and of an instruction it is the rows of the tables
 pub record Explains (word text : List ℕ) : Type 0 where
   pub some : manual.is_told word ≡ true
-  pub rows : manual.is_told_by_sentences word ≡ false → text ≡ manual.instruction_text word
+  pub rows : manual.is_told_by_sentences word ≡ false → manual.TellsForms word text
 
 -- what a word means is told
 abbrev pub TellsWord : {W : Type 0} → (W → Option (List ℕ)) → List ℕ → ℕ → Counted W → Counted W → Type 0

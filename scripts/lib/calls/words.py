@@ -7,9 +7,12 @@ PERIPHERAL = b"An instruction of a peripheral processor: d, m, c and a target ar
 EXPLAINED = [
     (["explain", "V"], b"A\n", 0, b"V: a width of VFD that isn't plain, or isn't from 1 to 60\n", b""),
     (["explain", "t"], b"A\n", 0, b"T: a value that was cut\n", b""),
-    (["explain", "rj"], b"A\n", 0, CENTRAL + b"RJ    K         30 bits  0100K; the next instruction begins a word\n", b""),
-    (["explain", "MX6"], b"A\n", 0, CENTRAL + b"MXi   n         15 bits  43in\n", b""),
-    (["explain", "LJM"], b"A\n", 0, PERIPHERAL + b"LJM   m or m,d  24 bits  01dd mmmm\n", b""),
+    (["explain", "rj"], b"A\n", 0, CENTRAL + b"RJ    K         30 bits  0100K       Return jump to K; the next instruction begins a word\n", b""),
+    (["explain", "MX6"], b"A\n", 0, CENTRAL + b"MXi   n         15 bits  43in        Form a mask of n bits in Xi\n", b""),
+    (["explain", "LJM"], b"A\n", 0, PERIPHERAL + b"LJM   m or m,d  24 bits  01dd mmmm   Long jump to m + (d)\n", b""),
+    (["explain", "5111000120"], b"A\n", 0, b"SA1   B1+K      30 bits  51ijK, K=000120\n", b""),
+    (["explain", "1405"], b"A\n", 0, b"LDN   d         12 bits  14dd, d=05\n", b""),
+    (["explain", "46001"], b"A\n", 0, b"No instruction of the central processor has this code.\n", b""),
 ]
 
 # an editor that sends nothing, or no message: its header tells no length, or is none

@@ -1,7 +1,8 @@
 -- For the code that tells of instructions, not part of what a reader believes: rows as it keeps them, and the forms by which it knows those
 -- of a peripheral processor.
 use Prim.Native.Char.{code}
-use Rattle.std.specs.Prelude.{◌≡◌, ℕ, Bool, true, false, List, [], ◌∷◌, codes, Option, None, Some}
+use Rattle.std.specs.Prelude.{◌≡◌, ℕ, Bool, true, false, List, [], ◌∷◌, map, flat_map, codes, Option, None, Some}
+use Rattle.std.specs.Borrow.{Bor}
 use Rattle.cps_text.specs.Parts.{comma}
 use Rattle.cps_expr.specs.declared.term.Element.TheVariants.{Number}
 use Rattle.cps_expr.specs.Expression.{Expression}
@@ -16,8 +17,12 @@ use Rattle.cps_check.specs.declared.central_row.RowParts.{RowParts}
 use Rattle.cps_check.specs.declared.sums.SumRow.{SumRow}
 use Rattle.cps_check.specs.declared.sums.SumRow.TheVariants as sum
 use Rattle.cps_check.specs.declared.peripheral.LayoutRow.{LayoutRow}
-use Rattle.cps_check.specs.Central.{Parts}
+use Rattle.cps_code.specs.Rows.{RowForm}
+use Rattle.cps_check.specs.declared.central_row.Told.{Told}
+use Rattle.cps_check.specs.Central.{Parts, parts_of, row_text}
+use Rattle.cps_check.specs.Codes.{fields_of, fitting_text}
 use Rattle.cps_check.specs.Peripheral.{operands_text, letters_of}
+use Rattle.cps_check.specs.Sentences.{Sentences}
 
 -- ---- rows of the central processor
 
@@ -27,14 +32,6 @@ kept_parts row = record {
   bits = row.bits;
   code = record { digits = row.digits.now; hole = row.hole };
   forces = row.forces;
-}
-
-abbrev pub unread_parts : List ℕ → ℕ → Bool → Parts
-unread_parts digits bits forces = record {
-  operands = codes "not read";
-  bits = bits;
-  code = record { digits = digits; hole = None };
-  forces = forces;
 }
 
 abbrev pub with_operands : List ℕ → ℕ → List ℕ → Option ℕ → Bool → Parts
@@ -55,7 +52,19 @@ sum_parts (sum.Constant operands digits) = with_operands operands.now 30 digits.
 sum_parts (sum.Jump operands digits) = with_operands operands.now 30 digits.now (Some (code "K")) true
 sum_parts (sum.BareJump operands digits) = with_operands operands.now 30 digits.now None true
 
--- ---- forms of a peripheral processor with the operand 0
+abbrev pub sentence_values : List (Bor (List ℕ) × Bor (List ℕ)) → Sentences
+sentence_values sentences = map (λ s. (s.0.now, s.1.now)) sentences
+
+-- a row of an operation; of a code, the row if the code has its form
+abbrev pub row_by : List ℕ → ℕ → Sentences → Option (Bor (List ℕ)) → Parts → List ℕ
+row_by name f sentences None parts = row_text name f sentences parts
+row_by name f sentences (Some given) parts = fitting_text name f given.now parts
+
+abbrev pub told_row : Told → Parts → List ℕ
+told_row told parts = row_by told.name.now told.f (sentence_values told.sentences.now) told.code parts
+
+abbrev pub told_rows : Told → List RowForm → List ℕ
+told_rows told forms = flat_map (told_row told) (map parts_of forms)
 
 -- ---- forms of a peripheral processor with the operand 0
 
@@ -84,3 +93,4 @@ IfZeroForm form P = (layout : Layout) (number : ℕ) → form ≡ zero_form layo
 pub record IsShown (layout : Layout) (shown : LayoutRow) : Type 0 where
   pub operands : shown.operands.now ≡ operands_text layout
   pub letters : shown.letters.now ≡ letters_of layout
+  pub fields : shown.fields.now ≡ fields_of layout

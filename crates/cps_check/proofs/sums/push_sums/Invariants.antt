@@ -1,8 +1,7 @@
 use Rattle.std.proofs.Common.{◌≡◌, ◌++◌, take}
 use Rattle.std.specs.Prelude.{flat_map, map}
-use Rattle.cps_check.specs.Central.{row_text}
-use Rattle.cps_check.specs.Code.Kept.{sum_parts}
+use Rattle.cps_check.specs.Code.Kept.{sum_parts, told_row}
 use Rattle.cps_check.proofs.sums.push_sums.Given as goal
 
 abbrev pub invariant-loop-row : goal.invariant-loop-row
-invariant-loop-row l = l.text.items ≡ l.fn.text.items ++ flat_map (row_text l.told.name.now l.told.f) (map sum_parts (take l.row-index l.rows))
+invariant-loop-row l = l.text.items ≡ l.fn.text.items ++ flat_map (told_row l.told) (map sum_parts (take l.row-index l.rows))
