@@ -83,7 +83,11 @@ abbrev pub more_text : List Row → List ℕ
 more_text [] = []
 more_text (row ∷ rows) = codes " .."
 
--- what is shown beside a line with these rows, if the first has an address or a code
+-- whether a row has an address or a code
+abbrev pub has_code : Row → Bool
+has_code row = is_some row.location || is_some row.code
+
+-- what is shown beside a line with these rows: of the first that has an address or a code, as the first row of a call where its own has none
 abbrev pub hint_of : List Row → Option (List ℕ)
 hint_of [] = None
-hint_of (row ∷ more) = if is_some row.location || is_some row.code then Some (row_code row ++ more_text more) else None
+hint_of (row ∷ more) = if has_code row then Some (row_code row ++ more_text more) else hint_of more

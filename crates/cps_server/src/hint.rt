@@ -1,4 +1,4 @@
-//! What is shown beside a line: the address and the code of its first row.
+//! What is shown beside a line: an address and a code.
 ghost use Rattle.std.specs.Prelude.{◌≡◌, ◌++◌, option_map, IfOk, OnOk};
 ghost use Rattle.cps_server.specs.Rows as shown;
 
@@ -9,22 +9,39 @@ use std::alloc::{AllocError, Global};
 /// The octal digits of an address.
 const ADDRESS_DIGITS: u8 = 6;
 
-/// What is shown beside a line with these rows: the address and the code of the first, and `..` where there are more. None: it has neither.
+/// What is shown beside a line with these rows: the address and the code of the first that has one of them, and `..` where there are more. None: none has
+/// any.
 pub fn hint_of(alloc: Global, rows: &[Row]) -> Result<Option<Vec<u8>>, AllocError>
     ensures { IfOk result (λ hint. option_map (λ text. text.items) hint ≡ shown.hint_of rows.now) }
 {
-    let Some(row) = rows.first() else {
-        return Ok(None);
-    };
-    if row.location.is_none() && row.code.digits().is_none() {
-        return Ok(None);
+    let mut left = rows;
+    while let [row, more @ ..] = left {
+        if has_code(row) {
+            let text = row_text(alloc, row, more)?;
+            return Ok(Some(text));
+        }
+        left = more;
     }
+    Ok(None)
+}
+
+/// Whether a row has an address or a code.
+fn has_code(row: &Row) -> bool
+    ensures { result ≡ shown.has_code row.now }
+{
+    row.location.is_some() || row.code.digits().is_some()
+}
+
+/// The address and the code of a row, and `..` where more rows follow.
+fn row_text(alloc: Global, row: &Row, more: &[Row]) -> Result<Vec<u8>, AllocError>
+    ensures { IfOk result (λ text. text.items ≡ shown.row_code row.now ++ shown.more_text more.now) }
+{
     let mut text = Vec::new(alloc);
     push_code(&mut text, row)?;
-    if rows.len() > 1 {
+    if !more.is_empty() {
         text.extend_from_slice(b" ..")?;
     }
-    Ok(Some(text))
+    Ok(text)
 }
 
 /// Appends the address and the code of a row.

@@ -1,4 +1,4 @@
-//! What an editor shows behind lines: the address and the code of the first row, as the listing has them.
+//! What an editor shows behind lines: the address and the code of the first row that has one, as the listing has them.
 use super::asking::{BY_UTF8, BY_UTF16, Inquiry, assert_answers};
 use super::decks::{NAMES, PAIR, UNDEFINED, UNDEFINED_TOLD, WIDE, WIDE_UTF8, WIDE_UTF16};
 
@@ -64,7 +64,7 @@ const DATA: Inquiry = Inquiry {
     ],
 };
 
-/// A call without a symbol has neither an address nor a code, whatever its expansion has.
+/// A call without a symbol has neither an address nor a code: shown is the first of its expansion, behind which more stand.
 const CALL: Inquiry = Inquiry {
     begins: BY_UTF16,
     lines: PAIR,
@@ -72,7 +72,7 @@ const CALL: Inquiry = Inquiry {
     questions: &[(
         "inlayHint",
         r#","range":{"start":{"line":0,"character":0},"end":{"line":6,"character":0}}"#,
-        r#"[{"label":"000002 5110000000","paddingLeft":true,"position":{"character":22,"line":5}},{"label":"000002 5120000001","paddingLeft":true,"position":{"character":23,"line":6}}]"#,
+        r#"[{"label":"000000 ..","paddingLeft":true,"position":{"character":24,"line":4}},{"label":"000002 5110000000","paddingLeft":true,"position":{"character":22,"line":5}},{"label":"000002 5120000001","paddingLeft":true,"position":{"character":23,"line":6}}]"#,
     )],
 };
 
@@ -92,6 +92,32 @@ const LABELLED: Inquiry = Inquiry {
         "inlayHint",
         r#","range":{"start":{"line":0,"character":0},"end":{"line":5,"character":12}}"#,
         r#"[{"label":"000000 ..","paddingLeft":true,"position":{"character":18,"line":4}},{"label":"000002 0000000000","paddingLeft":true,"position":{"character":12,"line":5}}]"#,
+    )],
+};
+
+/// Calls without a symbol: of one word, behind a comment and a value that a SET gives; of a value alone; and of none that has either.
+const EXPANDED: Inquiry = Inquiry {
+    begins: BY_UTF16,
+    lines: &[
+        "ONE       MACRO  K",
+        "*         ONE WORD",
+        "          CON    K",
+        "          ENDM",
+        "NEXT      MACRO",
+        "N         SET    7",
+        "          ENDM",
+        "NONE      MACRO",
+        "          BASE   O",
+        "          ENDM",
+        "          ONE    5",
+        "          NEXT",
+        "          NONE",
+    ],
+    told: "[]",
+    questions: &[(
+        "inlayHint",
+        r#","range":{"start":{"line":9,"character":0},"end":{"line":12,"character":0}}"#,
+        r#"[{"label":"000000 00000000000000000005","paddingLeft":true,"position":{"character":18,"line":10}},{"label":"00000000000000000007","paddingLeft":true,"position":{"character":14,"line":11}}]"#,
     )],
 };
 
@@ -148,7 +174,9 @@ const BYTES: Inquiry = Inquiry {
     )],
 };
 
-const ROWS: [Inquiry; 8] = [PROGRAM, DATA, CALL, LABELLED, WORDS, FLAGGED, UNITS, BYTES];
+const ROWS: [Inquiry; 9] = [
+    PROGRAM, DATA, CALL, LABELLED, EXPANDED, WORDS, FLAGGED, UNITS, BYTES,
+];
 
 #[test]
 fn hints_at_words(rt: HostRuntime) {
