@@ -20,8 +20,13 @@ WORD = re.compile(rb"[A-Za-z0-9.=]+")
 # Operations whose location field defines a symbol, and those whose operands read symbols and have no text and no comment.
 DEFINING = {operation for operation, _ in CENTRAL + PERIPHERAL} | {"EQU", "=", "SET", "BSS", "BSSZ", "CON", "VFD"}
 READING = DEFINING - {"NO", "PS", "PSN"} | {"ORG", "IFEQ", "IFGT", "IFLE"}
-# How a place of a name counts.
-READ, DEFINED = 2, 3
+# The operations that open lines, and those that part or close them.
+OPENERS = {"IDENT", "MACRO", "DUP", "IF", "IFEQ", "IFNE", "IFGT", "IFGE", "IFLT", "IFLE"}
+CLOSERS = {"ELSE", "ENDIF", "ENDD", "ENDM", "END"}
+# How the protocol counts headings and macros.
+NAMESPACE, FUNCTION = 3, 12
+# How a place counts.
+IDLE, READ, DEFINED = 1, 2, 3
 
 
 def units(text, is_utf8):
@@ -240,6 +245,8 @@ class Shown:
         places, defined = [told for _, told in spots], located(uri, [told for kind, told in spots if kind == DEFINED])
         if said["highlights"] != [{"kind": kind, "range": told} for kind, told in spots] or len(set(map(str, places))) < len(places):
             return f"wrong or twice: {said['highlights']}"
+        if spots and not said["references"]:
+            return self.fault_of_partners(uri, position, spots, said) or self.fault_of_hover(position, None, [], said["hover"])
         if said["references"] != located(uri, places) or said["uses"] != located(uri, [told for kind, told in spots if kind != DEFINED]):
             return f"references {said['references']}, {said['uses']} and highlights {spots}"
         found = said["definitions"]
@@ -249,6 +256,15 @@ class Shown:
             return f"{spots} where no name is"
         name = self.known(position)
         return (name and self.fault_of(name, spots)) or self.fault_of_texts(name, places) or self.fault_of_hover(position, name, spots, said["hover"])
+
+    def fault_of_partners(self, uri, position, spots, said):
+        """What is wrong about operations that open, part and close the same lines, told as texts: the first, if it stands above, opens them."""
+        texts = [self.text_at(told) for _, told in spots]
+        first, number = spots[0][1], position["line"]
+        wanted = located(uri, [first]) if first["start"]["line"] < number else []
+        is_whole = texts[0] in OPENERS and all(text in CLOSERS for text in texts[1:]) and number in [told["start"]["line"] for _, told in spots]
+        is_told = is_whole and said["uses"] == [] and said["definitions"] == wanted and {kind for kind, _ in spots} == {IDLE}
+        return None if is_told else f"{texts} at {spots}, with {said['definitions']}"
 
     def fault_of(self, name, spots):
         """What is wrong about the places that are told of a symbol: each where its lines surely write it is wanted."""
@@ -345,9 +361,10 @@ class Shown:
         found = []
         for number in range(first, min(last + 1, len(self.rows))):
             rows = self.rows[number]
-            label = " ".join(part for part in (rows[0][9:15].strip(), rows[0][16:36].strip()) if part)
-            if label:
-                found.append({"label": label + " .." * (len(rows) > 1), "paddingLeft": True, "position": self.position(number, len(self.lines[number]))})
+            labels = [" ".join(part for part in (row[9:15].strip(), row[16:36].strip()) if part) for row in rows]
+            at = next((at for at, label in enumerate(labels) if label), None)
+            if at is not None:
+                found.append({"label": labels[at] + " .." * (at + 1 < len(rows)), "paddingLeft": True, "position": self.position(number, len(self.lines[number]))})
         return found
 
     def listings(self, first, last):
@@ -405,15 +422,23 @@ class Shown:
         return {"label": label, "kind": kind, "detail": detail, "textEdit": {"newText": label, "range": around}} if isinstance(label, str) else None
 
     def in_order(self, method, more, answer):
-        """An answer with the symbols of one line in the order of their names; of completions the symbols alone, if what stands behind them may."""
+        """An answer with the symbols of one line in the order of their names, and of an outline or completions these alone, if what stands behind them may."""
         if method == "documentSymbol" and isinstance(answer, list):
-            return by_line(answer, lambda one: (one["range"]["start"]["line"], one["name"]))
+            symbols = [one for one in answer if one["kind"] not in (FUNCTION, NAMESPACE)]
+            if answer[: len(symbols)] == symbols and all(map(self.is_outlined, answer[len(symbols) :])):
+                return by_line(symbols, lambda one: (one["range"]["start"]["line"], one["name"]))
         if method == "completion" and isinstance(answer, list):
             lines = self.completions(more["position"])[1]
             symbols, others = answer[: len(lines)], answer[len(lines) :]
             if self.may_be_offered(others, more["position"]):
                 return by_line(symbols, lambda one: (lines.get(one.get("label"), -1), one.get("label")))
         return answer
+
+    def is_outlined(self, one):
+        """Whether a macro or a heading is told where its name stands, or all of a line whose statements define a macro."""
+        whole = self.whole(one["range"]["start"]["line"])
+        is_named = one["selectionRange"] == whole or self.text_at(one["selectionRange"]) == one["name"].upper()
+        return one["detail"] == ("macro" if one["kind"] == FUNCTION else "heading") and one["range"] == whole and is_named
 
     def questions(self, method):
         """What to ask about all places of a text: about each word, and about each line."""

@@ -1,12 +1,13 @@
 -- No float is in what is told.
-use Rattle.std.proofs.Common.{◌≡◌, refl, subst, ap, ◌∙◌, ℕ, Bool, true, false, ◌||◌, List, [], ◌∷◌, ◌++◌, Option, None, Some, ⊎_elim, inl, inr}
-use Rattle.std.specs.Prelude.{flat_map, length, map, option_map}
+use Rattle.std.proofs.Common.{◌≡◌, refl, subst, ap, ◌∙◌, ℕ, Bool, true, false, ◌||◌, List, [], ◌∷◌, ◌++◌, ◌-◌, Option, None, Some, ⊎_elim, inl, inr}
+use Rattle.std.specs.Prelude.{codes, flat_map, length, map, option_map}
 use Rattle.std.specs.List.{AllZip, range_with_len}
 use Rattle.serde_json.specs.Data.{Data}
 use Rattle.serde_json.specs.View.{items_of}
 use Rattle.serde_json.specs.Written.{has_float, items_have_float}
 use Rattle.cps_list.specs.declared.mention.Mention.{Mention}
-use Rattle.cps_final.specs.Finals.{Finals}
+use Rattle.cps_list.specs.Symbols.{value_of, value_text}
+use Rattle.cps_text.specs.Name.{name_text}
 use Rattle.cps_rpc.specs.declared.encoding.Encoding.{Encoding}
 use Rattle.cps_server.specs.declared.query.Query.{Query}
 use Rattle.cps_server.specs.declared.query.Query.TheVariants.{Hover, Definition, References, Highlights, Symbols, Hints, Completions, Listing, FoldingRanges, Signatures, Actions, Tokens, RangeTokens}
@@ -15,8 +16,9 @@ use Rattle.cps_rpc.specs.Params.{position_at, range_at, wants_definitions}
 use Rattle.cps_server.specs.Queries.{Tells, TellsOf}
 use Rattle.cps_rpc.specs.declared.markup.Markup.{Markup}
 use Rattle.cps_server.specs.Ranges.{IsInLine, told_units, word_at}
-use Rattle.cps_server.specs.Completions.{Offer, completion, offered_at}
-use Rattle.cps_server.specs.Results.{TellsEach, TellsFirst, TellsHighlight, TellsMention, TellsShown, TellsSymbol, hint_at, hint_in, hover, lines_within, listing_json, text_beside}
+use Rattle.cps_server.specs.Completions.{Offer, completion, macros_in, offered_at}
+use Rattle.cps_server.specs.Results.{TellsEach, TellsFirst, TellsHighlight, TellsMention, TellsShown, finals_in, hint_at, hint_in, hover, lines_within, listing_json, text_beside}
+use Rattle.cps_server.specs.Outline.{IsOutlined, TellsHeading, TellsMacro, TellsSymbol, TellsSymbols}
 use Rattle.cps_server.specs.Foldings.{TellsFoldings, folding_json, lines_json}
 use Rattle.cps_server.specs.Signatures.{TellsSignature, part_json, signature_json}
 use Rattle.cps_server.specs.declared.signature.Signature.{Signature}
@@ -25,7 +27,6 @@ use Rattle.cps_server.specs.declared.action.Action.{Action}
 use Rattle.cps_server.specs.Code.Telling.{has_float_told}
 use Rattle.cps_server.specs.Tokens.{data_of, encoded, number_json}
 use Rattle.cps_server.specs.declared.token.Token.{Token}
-use Rattle.cps_edit.specs.Assembly.{assembly_of}
 use Rattle.cps_server.specs.Document.{source_of_text}
 use Rattle.cps_mention.specs.declared.caret.Caret.{Caret}
 use Rattle.cps_mention.specs.declared.mention.Mention.{Mention as Named}
@@ -116,12 +117,19 @@ first-no-float : (uri : List ℕ) (mentions : List Mention) (json : Data) → Te
 first-no-float uri [] json tells = ap has_float tells
 first-no-float uri (mention ∷ mentions) json tells = mention-no-float uri mention json tells
 
-symbol-no-float : (finals : Finals) (mention : Mention) (json : Data) → TellsSymbol finals mention json → has_float json ≡ false
-symbol-no-float finals mention json tells =
-    ap has_float tells.7
+outlined-no-float : (kind : ℕ) (detail name : List ℕ) (line : ℕ) (json : Data) → IsOutlined kind detail name line json → has_float json ≡ false
+outlined-no-float kind detail name line json is = ap has_float is.is
 
-symbols-no-float : (finals : Finals) (mentions : List Mention) (json : Data) → TellsEach (TellsSymbol finals) mentions json → has_float json ≡ false
-symbols-no-float finals mentions json each = list-no-float (TellsSymbol finals) (symbol-no-float finals) mentions json each
+symbols-no-float : (text : List ℕ) (json : Data) → TellsSymbols text json → has_float json ≡ false
+symbols-no-float text json tells =
+    ap has_float tells.is
+    ∙ both-no-float (tells.symbols ++ tells.macros) tells.headings
+    (both-no-float tells.symbols tells.macros
+    (each-no-float (TellsSymbol (finals_in text))
+    (λ mention json is. outlined-no-float 14 (value_text (value_of (finals_in text) mention.name)) (name_text mention.name) (mention.line - 1) json is)
+    (definitions (mentions_in text)) tells.symbols tells.each_symbol)
+    (each-no-float TellsMacro (λ name json is. outlined-no-float 12 (codes "macro") (name_text name) is.0 json is.1) (macros_in text) tells.macros tells.each_macro))
+    (each-no-float TellsHeading (λ heading json is. outlined-no-float 3 (codes "heading") is.0 heading.line json is.1) tells.heads tells.headings tells.each_heading)
 
 hint-no-float : (line character : ℕ) (text : Option (List ℕ)) → items_have_float (items_of (hint_in line character text)) ≡ false
 hint-no-float line character None = refl
@@ -210,7 +218,7 @@ tells-no-float References params encoding markup uri text told tells =
 tells-no-float Highlights params encoding markup uri text told tells =
     of-no-float (position_at params) _ (λ position json is. marked-no-float encoding text position json is) told tells
 tells-no-float Symbols params encoding markup uri text told tells =
-    ap has_float_told tells.1 ∙ symbols-no-float (assembly_of (source_of_text text)).finals (definitions (mentions_in text)) tells.0 tells.2
+    ap has_float_told tells.1 ∙ symbols-no-float text tells.0 tells.2
 tells-no-float Hints params encoding markup uri text told tells =
     of-no-float (range_at params) _ (λ range json is. ap has_float is ∙ hints-no-float encoding text _) told tells
 tells-no-float Completions params encoding markup uri text told tells =

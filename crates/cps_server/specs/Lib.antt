@@ -11,6 +11,7 @@ pub mod Hovers
 pub mod Fields
 pub mod MachineAbove
 pub mod Completions
+pub mod Outline
 pub mod Foldings
 pub mod Signatures
 pub mod Actions

@@ -15,7 +15,8 @@ use Rattle.cps_server.specs.Signatures.{TellsSignature}
 use Rattle.cps_server.specs.Tokens.{TellsTokens, TellsTokensIn}
 use Rattle.cps_server.specs.Hovers.{TellsHover}
 use Rattle.cps_server.specs.Locations.{TellsDefinition, TellsHighlights, TellsReferences}
-use Rattle.cps_server.specs.Results.{TellsSymbols, hints_in, listings_in}
+use Rattle.cps_server.specs.Outline.{TellsSymbols}
+use Rattle.cps_server.specs.Results.{hints_in, listings_in}
 
 -- the query of a method
 abbrev pub query_named : List ℕ → Option Query

@@ -1,14 +1,12 @@
 -- What a server tells of a text that an editor has open, in JSON. From the Language Server Protocol 3.17; what is shown of a line is our own.
-use Rattle.std.specs.Prelude.{◌≡◌, ◌≤◌, ℕ, ◌+◌, ◌-◌, min, Bool, true, List, [], ◌∷◌, ◌++◌, length, map, codes, flat_map, Option, Some, None, option_and_then, slice_get, if◌then◌else◌}
+use Rattle.std.specs.Prelude.{◌≡◌, ℕ, ◌+◌, ◌-◌, min, Bool, true, List, [], ◌∷◌, ◌++◌, length, map, codes, flat_map, Option, Some, None, option_and_then, slice_get, if◌then◌else◌}
 use Rattle.std.specs.List.{AllZip, range_with_len}
 use Rattle.std.specs.Str.Lossy.{utf8_lossy}
 use Rattle.serde_json.specs.Data.{Data, unsigned, null, boolean, number, string, array, object, no_members, member}
 use Rattle.serde_json.specs.View.{items_of}
-use Rattle.cps_text.specs.Name.{name_text}
 use Rattle.cps_list.specs.declared.mention.Mention.{Mention}
 use Rattle.cps_final.specs.Finals.{Finals}
 use Rattle.cps_final.specs.Outcome.{Outcome}
-use Rattle.cps_list.specs.Symbols.{value_of, value_text}
 use Rattle.cps_edit.specs.Assembly.{assembly_of, outcomes_of}
 use Rattle.cps_rpc.specs.declared.encoding.Encoding.{Encoding}
 use Rattle.cps_rpc.specs.declared.position.Position.{Position}
@@ -17,8 +15,8 @@ use Rattle.cps_server.specs.Document.{source_of_text}
 use Rattle.cps_rpc.specs.declared.markup.Markup.{Markup}
 use Rattle.cps_rpc.specs.declared.markup.Markup.TheVariants.{Plain, Markdown}
 use Rattle.cps_server.specs.Rows.{Shows, hint_of, line_listing}
-use Rattle.cps_server.specs.Symbols.{definitions, line_of, mentions_in}
-use Rattle.cps_server.specs.Ranges.{IsInLine, location, position, range_of, told_units}
+use Rattle.cps_server.specs.Symbols.{line_of}
+use Rattle.cps_server.specs.Ranges.{IsInLine, location, position, told_units}
 
 -- a text of characters; all of its bytes are ASCII, unless a line has others
 abbrev pub text_json : List ℕ → Data
@@ -76,26 +74,9 @@ TellsHighlight mention json = (range : Data) × IsInLine (mention.line - 1) rang
 
 -- ---- the symbols of a text
 
--- a symbol with its value, the range of its line, and that of its name in the line
-abbrev pub symbol : List ℕ → List ℕ → Data → Data → Data
-symbol value name range selection =
-    object (member (codes "detail") (text_json value) (member (codes "kind") (number (unsigned 14)) (member (codes "name") (text_json name)
-    (member (codes "range") range (member (codes "selectionRange") selection no_members)))))
-
--- a definition of a symbol; its name is within the range of its line
-abbrev pub TellsSymbol : Finals → Mention → Data → Type 0
-TellsSymbol finals mention json =
-    (start first last end : ℕ) × (start ≤ first) × (first ≤ last) × (last ≤ end)
-    × (json ≡ symbol (value_text (value_of finals mention.name)) (name_text mention.name)
-    (range_of (mention.line - 1) start end) (range_of (mention.line - 1) first last))
-
 -- what holds at the end of a text's assembly
 abbrev pub finals_in : List ℕ → Finals
 finals_in text = (assembly_of (source_of_text text)).finals
-
--- the definitions of a text
-abbrev pub TellsSymbols : List ℕ → Data → Type 0
-TellsSymbols text json = TellsEach (TellsSymbol (finals_in text)) (definitions (mentions_in text)) json
 
 -- ---- beside lines
 

@@ -23,25 +23,10 @@ pub struct Folding {
 pub fn tell_foldings(alloc: Global, deck: QueriedText<'_>) -> Result<Value, AllocError>
     ensures { IfOk result (λ json. TellsFoldings deck.entry.document.now (view json)) }
 {
-    let found = find_foldings(alloc, deck.document)?;
+    let found = FoldingWalk::over(alloc, deck.document)?.into_found();
     let standing = keep_standing(alloc, deck.document.session().count(), &found)?;
     let told = tell_each(alloc, &standing)?;
     Ok(Value::from(told))
-}
-
-/// What may be folded of a document, by what the assembler did with its lines.
-fn find_foldings(alloc: Global, document: &Document) -> Result<Vec<Folding>, AllocError> {
-    let session = document.session();
-    let mut walk = FoldingWalk::new(alloc);
-    let mut number: u32 = 0;
-    for trace in session.traces() {
-        let before = number;
-        number = number.saturating_add(1);
-        if let Some(line) = session.line(number) {
-            walk.pass(before, line.bytes(), trace)?;
-        }
-    }
-    Ok(walk.into_found())
 }
 
 /// Those that stand in so many lines, in the order of their first lines.

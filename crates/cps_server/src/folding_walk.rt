@@ -1,9 +1,12 @@
 //! What may be folded of a source, found line by line.
 
+use crate::document::Document;
 use crate::folding::Folding;
+use crate::line_pairs::{LinePair, LinePairs};
 use crate::line_state::{Handling, LineState};
 use cps_cause::Card;
 use cps_expr::{Expr, ExprFault, Operation, Radix};
+use cps_list::View;
 use cps_state::Trace;
 use cps_text::operands;
 use std::alloc::{AllocError, Global};
@@ -19,10 +22,11 @@ enum Opener {
     CountedDup,
 }
 
-/// Lines that are open: what opened them, and where they stand among the foldings.
+/// Lines that are open: what opened them, in which line, and where they stand among the foldings. Of those of an ELSE it is the line of its IF.
 #[derive(Clone, Copy)]
 struct OpenLines {
     opener: Opener,
+    first: u32,
     at: usize,
 }
 
@@ -47,29 +51,66 @@ pub struct FoldingWalk {
     open: Vec<OpenLines>,
     /// Where the run of comments stands that reaches to the next line.
     comments: Option<usize>,
+    /// The lines that part and close others.
+    pairs: LinePairs,
 }
 
 impl FoldingWalk {
     /// Before the first line.
-    pub fn new(alloc: Global) -> FoldingWalk {
+    fn new(alloc: Global) -> FoldingWalk {
         FoldingWalk {
             alloc,
             state: LineState::new(),
             found: Vec::new(alloc),
             open: Vec::new(alloc),
             comments: None,
+            pairs: LinePairs::new(alloc),
         }
+    }
+
+    /// Over a document, by what the assembler did with its lines.
+    pub fn over(alloc: Global, document: &Document) -> Result<FoldingWalk, AllocError> {
+        let session = document.session();
+        let mut walk = FoldingWalk::new(alloc);
+        let mut number: u32 = 0;
+        for trace in session.traces() {
+            let before = number;
+            number = number.saturating_add(1);
+            if let Some(line) = session.line(number) {
+                walk.pass(before, line.bytes(), trace)?;
+            }
+        }
+        Ok(walk)
     }
 
     /// What was found.
     pub fn into_found(self) -> Vec<Folding> {
-        let FoldingWalk { found, open, .. } = self;
+        let FoldingWalk {
+            found,
+            open,
+            pairs,
+            ..
+        } = self;
         drop(open);
+        drop(pairs);
         found
     }
 
+    /// The lines that part and close others, in their order.
+    pub fn into_pairs(self) -> Vec<LinePair> {
+        let FoldingWalk {
+            found,
+            open,
+            pairs,
+            ..
+        } = self;
+        drop(open);
+        drop(found);
+        pairs.into_list()
+    }
+
     /// Looks at the next line, from 0.
-    pub fn pass(&mut self, number: u32, line: &[u8], trace: &Trace) -> Result<(), AllocError> {
+    fn pass(&mut self, number: u32, line: &[u8], trace: &Trace) -> Result<(), AllocError> {
         let before = self.state;
         let after = before.behind(trace.puts())?;
         self.state = after;
@@ -80,13 +121,25 @@ impl FoldingWalk {
             before,
             after,
         };
+        self.pass_program(&passed)?;
         match (kept_for(before.handling), kept_for(after.handling)) {
             (None, None) => self.pass_assembled(&passed),
             (None, Some(opener)) => self.begin(opener, number),
-            (Some(Opener::CountedDup), None) => self.end(Opener::CountedDup, number),
-            (Some(opener), None) => self.end(opener, number.saturating_sub(1)),
+            (Some(opener), None) => self.end(opener, &passed),
             (Some(_), Some(_)) => self.pass_kept(&passed),
         }
+    }
+
+    /// A line that may begin or end the program.
+    fn pass_program(&mut self, line: &PassedLine<'_>) -> Result<(), AllocError> {
+        if line.after.has_ended && !line.before.has_ended {
+            return self.pairs.end_program(line.number);
+        }
+        match (line.before.handling, operation_of(line)) {
+            (Handling::Assembled, Some(Operation::Ident)) => self.pairs.begin_program(line.number),
+            _ => {}
+        }
+        Ok(())
     }
 
     /// A comment goes on with the run of those above it.
@@ -121,7 +174,7 @@ impl FoldingWalk {
         }
         if after < before {
             for _turn in after..before {
-                self.close_if(line.number);
+                self.close_if(line)?;
             }
             return Ok(());
         }
@@ -170,10 +223,7 @@ impl FoldingWalk {
                 }
             }
             Some(Operation::Else) => self.turn(line.number),
-            Some(Operation::Endif) => {
-                self.close_if(line.number);
-                Ok(())
-            }
+            Some(Operation::Endif) => self.close_if(line),
             Some(Operation::Dup) => {
                 if operand_at(&line.card, 1).is_some() {
                     self.add_counted(line, 1)
@@ -181,65 +231,81 @@ impl FoldingWalk {
                     self.begin(Opener::Dup, line.number)
                 }
             }
-            Some(Operation::Endd) => {
-                self.close_dup(line.number);
-                Ok(())
-            }
+            Some(Operation::Endd) => self.close_dup(line.number),
             _ => Ok(()),
         }
     }
 
     /// Lines begin.
     fn begin(&mut self, opener: Opener, number: u32) -> Result<(), AllocError> {
+        self.begin_behind(opener, number, number)
+    }
+
+    /// Lines begin that belong to those which a line above opened, or to their own.
+    fn begin_behind(&mut self, opener: Opener, first: u32, number: u32) -> Result<(), AllocError> {
         let at = self.found.len();
         self.found.push(Folding {
             first: number,
             last: number,
             is_comment: false,
         })?;
-        self.open.push(OpenLines { opener, at })?;
+        self.open.push(OpenLines { opener, first, at })?;
         Ok(())
     }
 
     /// The lines end that something opened, and with them all that is open in them.
-    fn end(&mut self, opener: Opener, last: u32) -> Result<(), AllocError> {
+    fn end(&mut self, opener: Opener, line: &PassedLine<'_>) -> Result<(), AllocError> {
         for _turn in 0..self.open.len() {
             if let Some(top) = self.open.pop() {
                 if top.opener == opener {
-                    self.end_at(top.at, last);
-                    return Ok(());
+                    return self.end_lines(top, line);
                 }
             }
         }
         Ok(())
     }
 
+    /// Lines end: before a line that closes them, or with the last that a DUP counts.
+    fn end_lines(&mut self, lines: OpenLines, line: &PassedLine<'_>) -> Result<(), AllocError> {
+        if lines.opener == Opener::CountedDup {
+            self.end_at(lines.at, line.number);
+            return Ok(());
+        }
+        self.end_at(lines.at, line.number.saturating_sub(1));
+        if line.after.has_ended {
+            return Ok(());
+        }
+        self.pairs.push(lines.first, line.number)
+    }
+
     /// The newest lines of an IF or an ELSE end before a line, if none of a body were opened in them.
-    fn close_if(&mut self, number: u32) {
-        if let Some(top) = self.open.last().copied() {
-            if is_condition(top.opener) {
+    fn close_if(&mut self, line: &PassedLine<'_>) -> Result<(), AllocError> {
+        match self.open.last().copied() {
+            Some(top) if is_condition(top.opener) => {
                 self.open.pop();
-                self.end_at(top.at, number.saturating_sub(1));
+                self.end_lines(top, line)
             }
+            _ => Ok(()),
         }
     }
 
     /// The newest lines of a DUP in a body end before a line; what is open in them is none.
-    fn close_dup(&mut self, number: u32) {
+    fn close_dup(&mut self, number: u32) -> Result<(), AllocError> {
         for _turn in 0..self.open.len() {
             let Some(top) = self.open.last().copied() else {
-                return;
+                return Ok(());
             };
             if top.opener == Opener::Dup {
                 self.open.pop();
                 self.end_at(top.at, number.saturating_sub(1));
-                return;
+                return self.pairs.push(top.first, number);
             }
             if !is_condition(top.opener) {
-                return;
+                return Ok(());
             }
             self.open.pop();
         }
+        Ok(())
     }
 
     /// The lines of an IF end at its ELSE, whose own begin.
@@ -248,12 +314,14 @@ impl FoldingWalk {
             Some(
                 OpenLines {
                     opener: Opener::If,
+                    first,
                     at,
                 },
             ) => {
                 self.open.pop();
                 self.end_at(at, number.saturating_sub(1));
-                self.begin(Opener::Else, number)
+                self.pairs.push(first, number)?;
+                self.begin_behind(Opener::Else, first, number)
             }
             _ => Ok(()),
         }

@@ -16,11 +16,14 @@
 //! - `field_words.rt`: the words of a line that its fields make
 //! - `folding.rt`: the lines that may be folded
 //! - `folding_walk.rt`: what may be folded, found line by line
+//! - `formatting.rt`: the edits that put fields into columns
+//! - `headings.rt`: headings of a text
 //! - `hint.rt`: what is shown beside a line
 //! - `hints.rt`: what is shown beside lines, as it is told
 //! - `hovering.rt`: what is shown at a position
 //! - `introducing.rt`: what a server tells of itself
 //! - `line_marks.rt`: the marks of a line
+//! - `line_pairs.rt`: lines that part or close others
 //! - `line_state.rt`: what is done with the next line
 //! - `line_tokens.rt`: the tokens of a line
 //! - `line_word.rt`: a word of a line, by its columns
@@ -28,6 +31,7 @@
 //! - `locations.rt`: where the name at a position stands
 //! - `machine_above.rt`: the machine for which a line is assembled
 //! - `macro_above.rt`: a macro as it stands above a line
+//! - `macro_places.rt`: the lines that define macros
 //! - `mark.rt`: a mark
 //! - `mark_kind.rt`: what a mark marks
 //! - `marking.rt`: the marks of a text
@@ -43,6 +47,7 @@
 //! - `open_texts.rt`: the texts that are open
 //! - `operand_words.rt`: the words of operands
 //! - `operations.rt`: the names of operations
+//! - `outlined.rt`: a row of an outline, as it is told
 //! - `owed.rt`: what is owed to a request
 //! - `parting.rt`: words of a line, none over another
 //! - `queried_text.rt`: a text that an editor asks about
@@ -58,7 +63,7 @@
 //! - `server_phase.rt`: the phases of a server
 //! - `signature.rt`: what an operation takes, as it is told
 //! - `signatures.rt`: what the operation of a line takes
-//! - `symbols.rt`: all symbols of a text
+//! - `symbols.rt`: the outline of a text
 //! - `text_edit.rt`: edits of a text, as an editor makes them
 //! - `token.rt`: a word of a line, as it is told
 //! - `token_data.rt`: tokens as numbers, five for each
@@ -85,11 +90,14 @@ mod field;
 mod field_words;
 mod folding;
 mod folding_walk;
+mod formatting;
+mod headings;
 mod hint;
 mod hints;
 mod hovering;
 mod introducing;
 mod line_marks;
+mod line_pairs;
 mod line_state;
 mod line_tokens;
 mod line_word;
@@ -97,6 +105,7 @@ mod listing;
 mod locations;
 mod machine_above;
 mod macro_above;
+mod macro_places;
 mod mark;
 mod mark_kind;
 mod marking;
@@ -112,6 +121,7 @@ mod offers;
 mod open_texts;
 mod operand_words;
 mod operations;
+mod outlined;
 mod owed;
 mod parting;
 mod queried_text;

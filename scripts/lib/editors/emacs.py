@@ -145,7 +145,7 @@ def try_symbols(room, program):
         until(lambda: editor.asked("(if (get-buffer \"*xref*\") 1)") == 1, lambda: "no references:\n" + "\n".join(editor.screen()))
         same("references", lambda: [int(each) for each in re.findall(r"^ *(\d+):", editor.asked(listed) or "", re.M)], sorted([defined, *reads]))
         editor.asked("(progn (switch-to-buffer \"sum.cps\") (delete-other-windows) 1)")
-        wanted = [number for number, line in enumerate(text.splitlines(), 1) if re.match(r"[A-Z]", line) and " MACRO " not in line]
+        wanted = [number for number, line in enumerate(text.splitlines(), 1) if re.match(r"[A-Z]", line)]
         same("symbols", lambda: editor.asked(OUTLINE), wanted)
         if editor.asked("(if (fboundp 'eglot-inlay-hints-mode) 1)") != 1:
             return "inlay hints, which this eglot hasn't"

@@ -156,7 +156,7 @@ def try_symbols(room, program):
         editor.command("cclose")
         editor.command("lua vim.lsp.buf.document_symbol()")
         listed = "vim.tbl_map(function(one) return one.lnum end, vim.list_extend(vim.fn.getloclist(0), vim.fn.getqflist()))"
-        wanted = [number for number, line in enumerate(text.splitlines(), 1) if re.match(r"[A-Z]", line) and " MACRO " not in line]
+        wanted = [number for number, line in enumerate(text.splitlines(), 1) if re.match(r"[A-Z]", line)]
         same("symbols", lambda: sorted(set(editor.asked(listed) or [])), wanted)
         if editor.asked("vim.lsp.inlay_hint ~= nil"):
             editor.command("lclose | cclose")

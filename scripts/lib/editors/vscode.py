@@ -176,15 +176,16 @@ def try_answers(room, program):
             same("references", lambda: lines_of(editor.ask("Reference", "provideReferences", DECK, at, {"includeDeclaration": has})), wanted)
         same("a macro, from its call", lambda: lines_of(editor.ask("Definition", "provideDefinition", DECK, [26, 12])), [17])
         symbols = {one["name"]: one for one in editor.ask("DocumentSymbol", "provideDocumentSymbols", DECK)}
-        wanted = {line.split()[0] for line in lines if re.match(r"[A-Z]", line) and " MACRO " not in line}
+        wanted = {line.split()[0] for line in lines if re.match(r"[A-Z]", line)}
         same("symbols", lambda: set(symbols), wanted)
         same("the place of a symbol", lambda: lines_of([symbols["SUM"]]), [defined])
         told = editor.ask("InlayHints", "provideInlayHints", DECK, [0, 0, len(lines), 0])
         same("room before hints", lambda: {one["paddingLeft"] for one in told}, {True})
         hints = {one["position"]["line"]: one["label"] for one in told}
         for number, each in enumerate(rows):
-            label = " ".join(filter(None, (each[0][9:15].strip(), each[0][16:36].strip()))) + " .." * (len(each) > 1)
-            same(f"the hint of line {number + 1}", lambda: hints.get(number, ""), label.removesuffix(" ..") and label)
+            labels = [" ".join(filter(None, (row[9:15].strip(), row[16:36].strip()))) for row in each]
+            shown = [label + " .." * (at + 1 < len(each)) for at, label in enumerate(labels) if label]
+            same(f"the hint of line {number + 1}", lambda: hints.get(number, ""), "".join(shown[:1]))
         offered, operations = ({one["label"]: one for one in editor.ask("CompletionItem", "provideCompletionItems", DECK, [place[0], at])} for at in (place[1], 11))
         names = {"SUM", "X1", "PLUS", "MACRO", "EQ", "UJN"}
         same("what is offered of a symbol, a register, a macro, a statement and operations of both machines, in an operand and in an operation",

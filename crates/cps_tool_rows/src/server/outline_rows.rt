@@ -1,4 +1,4 @@
-//! The symbols of a text, as an outline.
+//! The outline of a text: symbols, macros and headings.
 use super::asking::{BY_UTF8, BY_UTF16, Inquiry, assert_answers};
 use super::decks::{
     LETTERS, NAMES, PAIR, SETTINGS, UNDEFINED, UNDEFINED_TOLD, WIDE, WIDE_UTF8, WIDE_UTF16,
@@ -28,7 +28,7 @@ const SMALL: Inquiry = Inquiry {
     )],
 };
 
-/// Symbols of an expansion. One doesn't stand in the line of the call.
+/// Symbols of an expansion, of which one doesn't stand in the line of the call; and the macro.
 const EXPANSION: Inquiry = Inquiry {
     begins: BY_UTF16,
     lines: PAIR,
@@ -36,7 +36,7 @@ const EXPANSION: Inquiry = Inquiry {
     questions: &[(
         "documentSymbol",
         "",
-        r#"[{"detail":"00000000000000000000","kind":14,"name":"FIRST","range":{"end":{"character":22,"line":4},"start":{"character":10,"line":4}},"selectionRange":{"end":{"character":22,"line":4},"start":{"character":17,"line":4}}},{"detail":"00000000000000000001","kind":14,"name":"SECOND","range":{"end":{"character":22,"line":4},"start":{"character":10,"line":4}},"selectionRange":{"end":{"character":22,"line":4},"start":{"character":10,"line":4}}}]"#,
+        r#"[{"detail":"00000000000000000000","kind":14,"name":"FIRST","range":{"end":{"character":22,"line":4},"start":{"character":10,"line":4}},"selectionRange":{"end":{"character":22,"line":4},"start":{"character":17,"line":4}}},{"detail":"00000000000000000001","kind":14,"name":"SECOND","range":{"end":{"character":22,"line":4},"start":{"character":10,"line":4}},"selectionRange":{"end":{"character":22,"line":4},"start":{"character":10,"line":4}}},{"detail":"macro","kind":12,"name":"PAIR","range":{"end":{"character":18,"line":0},"start":{"character":0,"line":0}},"selectionRange":{"end":{"character":4,"line":0},"start":{"character":0,"line":0}}}]"#,
     )],
 };
 
@@ -56,7 +56,7 @@ const GENERATED: Inquiry = Inquiry {
     questions: &[(
         "documentSymbol",
         "",
-        r#"[{"detail":"00000000000000000001","kind":14,"name":"AT","range":{"end":{"character":18,"line":6},"start":{"character":0,"line":6}},"selectionRange":{"end":{"character":2,"line":6},"start":{"character":0,"line":6}}}]"#,
+        r#"[{"detail":"00000000000000000001","kind":14,"name":"AT","range":{"end":{"character":18,"line":6},"start":{"character":0,"line":6}},"selectionRange":{"end":{"character":2,"line":6},"start":{"character":0,"line":6}}},{"detail":"macro","kind":12,"name":"W","range":{"end":{"character":18,"line":0},"start":{"character":0,"line":0}},"selectionRange":{"end":{"character":1,"line":0},"start":{"character":0,"line":0}}}]"#,
     )],
 };
 
@@ -69,6 +69,46 @@ const SET: Inquiry = Inquiry {
         "documentSymbol",
         "",
         r#"[{"detail":"00000000000000000002","kind":14,"name":"N","range":{"end":{"character":18,"line":0},"start":{"character":0,"line":0}},"selectionRange":{"end":{"character":1,"line":0},"start":{"character":0,"line":0}}},{"detail":"00000000000000000002","kind":14,"name":"N","range":{"end":{"character":20,"line":2},"start":{"character":0,"line":2}},"selectionRange":{"end":{"character":1,"line":2},"start":{"character":0,"line":2}}}]"#,
+    )],
+};
+
+/// Macros alone, of which the second one is defined twice: told is the first.
+const MACROS: Inquiry = Inquiry {
+    begins: BY_UTF16,
+    lines: &[
+        "*         MACROS",
+        " first    MACRO",
+        "          ENDM",
+        "SECOND    MACRO  A,B   TWICE",
+        "          SA1    A",
+        "          ENDM",
+        "SECOND    MACRO  A",
+        "          ENDM",
+    ],
+    told: "[]",
+    questions: &[(
+        "documentSymbol",
+        "",
+        r#"[{"detail":"macro","kind":12,"name":"FIRST","range":{"end":{"character":15,"line":1},"start":{"character":1,"line":1}},"selectionRange":{"end":{"character":6,"line":1},"start":{"character":1,"line":1}}},{"detail":"macro","kind":12,"name":"SECOND","range":{"end":{"character":28,"line":3},"start":{"character":0,"line":3}},"selectionRange":{"end":{"character":6,"line":3},"start":{"character":0,"line":3}}}]"#,
+    )],
+};
+
+/// Headings: the words between asterisks. A line of asterisks alone is none, nor is one with a blank between two.
+const HEADINGS: Inquiry = Inquiry {
+    begins: BY_UTF16,
+    lines: &[
+        "** TABLES **",
+        "ONE       CON    1",
+        "**********",
+        "* * NO HEADING",
+        "***  Read, and write",
+        "**",
+    ],
+    told: "[]",
+    questions: &[(
+        "documentSymbol",
+        "",
+        r#"[{"detail":"00000000000000000000","kind":14,"name":"ONE","range":{"end":{"character":18,"line":1},"start":{"character":0,"line":1}},"selectionRange":{"end":{"character":3,"line":1},"start":{"character":0,"line":1}}},{"detail":"heading","kind":3,"name":"TABLES","range":{"end":{"character":12,"line":0},"start":{"character":0,"line":0}},"selectionRange":{"end":{"character":9,"line":0},"start":{"character":3,"line":0}}},{"detail":"heading","kind":3,"name":"Read, and write","range":{"end":{"character":20,"line":4},"start":{"character":0,"line":4}},"selectionRange":{"end":{"character":20,"line":4},"start":{"character":5,"line":4}}}]"#,
     )],
 };
 
@@ -103,8 +143,8 @@ const BYTES: Inquiry = Inquiry {
     )],
 };
 
-const ROWS: [Inquiry; 8] = [
-    PROGRAM, SMALL, EXPANSION, GENERATED, SET, NOWHERE, UNITS, BYTES,
+const ROWS: [Inquiry; 10] = [
+    PROGRAM, SMALL, EXPANSION, GENERATED, SET, MACROS, HEADINGS, NOWHERE, UNITS, BYTES,
 ];
 
 #[test]

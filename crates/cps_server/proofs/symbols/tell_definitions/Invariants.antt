@@ -4,7 +4,7 @@ use Rattle.serde_json.specs.Data.{Data}
 use Rattle.serde_json.specs.View.{view}
 use Rattle.cps_edit.specs.Assembly.{assembly_of}
 use Rattle.cps_server.specs.Document.{source_of_text}
-use Rattle.cps_server.specs.Results.{TellsSymbol}
+use Rattle.cps_server.specs.Outline.{TellsSymbol}
 use Rattle.cps_server.proofs.symbols.tell_definitions.Given as goal
 
 -- whatever tells the definitions that are left, tells all of them behind what is told so far
