@@ -15,6 +15,7 @@ mod HintLemmas
 mod OfferLemmas
 mod EditingLemmas
 mod TokenLemmas
+mod SpacingLemmas
 pub mod FloatLemmas
 pub mod SaidLemmas
 pub mod ServerLemmas

@@ -10,7 +10,7 @@ use Rattle.cps_list.specs.Symbols.{value_of, value_text}
 use Rattle.cps_text.specs.Name.{name_text}
 use Rattle.cps_rpc.specs.declared.encoding.Encoding.{Encoding}
 use Rattle.cps_server.specs.declared.query.Query.{Query}
-use Rattle.cps_server.specs.declared.query.Query.TheVariants.{Hover, Definition, References, Highlights, Symbols, Hints, Completions, Listing, FoldingRanges, Signatures, Actions, Tokens, RangeTokens}
+use Rattle.cps_server.specs.declared.query.Query.TheVariants.{Hover, Definition, References, Highlights, Symbols, Hints, Completions, Listing, FoldingRanges, Signatures, Actions, Tokens, RangeTokens, Formats, RangeFormats}
 use Rattle.cps_rpc.specs.declared.position.Position.{Position}
 use Rattle.cps_rpc.specs.Params.{position_at, range_at, wants_definitions}
 use Rattle.cps_server.specs.Queries.{Tells, TellsOf}
@@ -25,6 +25,7 @@ use Rattle.cps_server.specs.declared.signature.Signature.{Signature}
 use Rattle.cps_server.specs.Actions.{TellsActions, action_json, edit_json}
 use Rattle.cps_server.specs.declared.action.Action.{Action}
 use Rattle.cps_server.specs.Code.Telling.{has_float_told}
+use Rattle.cps_server.proofs.RenameLemmas.{edits-no-float}
 use Rattle.cps_server.specs.Tokens.{data_of, encoded, number_json}
 use Rattle.cps_server.specs.declared.token.Token.{Token}
 use Rattle.cps_server.specs.Document.{source_of_text}
@@ -234,3 +235,6 @@ tells-no-float Actions params encoding markup uri text told tells =
 tells-no-float Tokens params encoding markup uri text told tells = ap has_float_told tells.1 ∙ ap has_float tells.2.2 ∙ tokens-no-float tells.2.0
 tells-no-float RangeTokens params encoding markup uri text told tells =
     of-no-float (range_at params) _ (λ range json is. ap has_float is.3 ∙ tokens-no-float is.0) told tells
+tells-no-float Formats params encoding markup uri text told tells = ap has_float_told tells.1 ∙ ap has_float tells.2.2 ∙ edits-no-float tells.2.0
+tells-no-float RangeFormats params encoding markup uri text told tells =
+    of-no-float (range_at params) _ (λ range json is. ap has_float is.3 ∙ edits-no-float is.0) told tells

@@ -56,7 +56,7 @@ asked-no-float None asked tells none owed is = ap has_float_owed is
 asked-no-float (Some one) None tells none owed is = ap has_float_owed is
 asked-no-float (Some one) (Some a) tells none owed is = owed-no-float (tells one a) (none one a) owed is
 
-edits-no-float : (edits : List Edit) → items_have_float (items_of (map edit_json edits)) ≡ false
+pub edits-no-float : (edits : List Edit) → items_have_float (items_of (map edit_json edits)) ≡ false
 edits-no-float [] = refl
 edits-no-float (e ∷ edits) = edits-no-float edits
 

@@ -6,6 +6,7 @@ pub mod Providing
 pub mod Owing
 pub mod Renaming
 pub mod Said
+pub mod Spacing
 pub mod Taking
 pub mod Telling
 pub mod TokenList

@@ -16,10 +16,11 @@ pub mod Foldings
 pub mod Signatures
 pub mod Actions
 pub mod Tokens
+pub mod Renames
+pub mod Formats
 pub mod Queries
 pub mod Frames
 pub mod ServerState
-pub mod Renames
 pub mod Requests
 pub mod Diagnostics
 pub mod Notices

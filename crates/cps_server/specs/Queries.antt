@@ -7,16 +7,28 @@ use Rattle.cps_rpc.specs.declared.markup.Markup.{Markup}
 use Rattle.cps_rpc.specs.Params.{position_at, range_at, wants_definitions}
 use Rattle.cps_server.specs.declared.queried_text.QueriedText.{QueriedText}
 use Rattle.cps_server.specs.declared.query.Query.{Query}
-use Rattle.cps_server.specs.declared.query.Query.TheVariants.{Hover, Definition, References, Highlights, Symbols, Hints, Completions, Listing, FoldingRanges, Signatures, Actions, Tokens, RangeTokens}
+use Rattle.cps_server.specs.declared.query.Query.TheVariants.{Hover, Definition, References, Highlights, Symbols, Hints, Completions, Listing, FoldingRanges, Signatures, Actions, Tokens, RangeTokens, Formats, RangeFormats}
 use Rattle.cps_server.specs.Completions.{completions_at}
 use Rattle.cps_server.specs.Actions.{TellsActions}
 use Rattle.cps_server.specs.Foldings.{TellsFoldings}
+use Rattle.cps_server.specs.Formats.{TellsFormat, TellsFormatIn}
 use Rattle.cps_server.specs.Signatures.{TellsSignature}
 use Rattle.cps_server.specs.Tokens.{TellsTokens, TellsTokensIn}
 use Rattle.cps_server.specs.Hovers.{TellsHover}
 use Rattle.cps_server.specs.Locations.{TellsDefinition, TellsHighlights, TellsReferences}
 use Rattle.cps_server.specs.Outline.{TellsSymbols}
 use Rattle.cps_server.specs.Results.{hints_in, listings_in}
+
+-- the query of a method that asks of the words of a text, or for edits
+unfoldable pub later_named : List ℕ → Option Query
+later_named method =
+    if bytes_eq method (codes "textDocument/foldingRange") then Some FoldingRanges
+    else (if bytes_eq method (codes "textDocument/signatureHelp") then Some Signatures
+    else (if bytes_eq method (codes "textDocument/codeAction") then Some Actions
+    else (if bytes_eq method (codes "textDocument/semanticTokens/full") then Some Tokens
+    else (if bytes_eq method (codes "textDocument/semanticTokens/range") then Some RangeTokens
+    else (if bytes_eq method (codes "textDocument/formatting") then Some Formats
+    else (if bytes_eq method (codes "textDocument/rangeFormatting") then Some RangeFormats else None))))))
 
 -- the query of a method
 abbrev pub query_named : List ℕ → Option Query
@@ -28,12 +40,7 @@ query_named method =
     else (if bytes_eq method (codes "textDocument/documentSymbol") then Some Symbols
     else (if bytes_eq method (codes "textDocument/inlayHint") then Some Hints
     else (if bytes_eq method (codes "textDocument/completion") then Some Completions
-    else (if bytes_eq method (codes "compass/rows") then Some Listing
-    else (if bytes_eq method (codes "textDocument/foldingRange") then Some FoldingRanges
-    else (if bytes_eq method (codes "textDocument/signatureHelp") then Some Signatures
-    else (if bytes_eq method (codes "textDocument/codeAction") then Some Actions
-    else (if bytes_eq method (codes "textDocument/semanticTokens/full") then Some Tokens
-    else (if bytes_eq method (codes "textDocument/semanticTokens/range") then Some RangeTokens else None))))))))))))
+    else (if bytes_eq method (codes "compass/rows") then Some Listing else later_named method)))))))
 
 -- a result is told where the parameters have what it is asked of, and nothing where they are wrong
 abbrev pub TellsOf : {A : Type 0} → Option A → (A → Data → Type 0) → Option Data → Type 0
@@ -59,6 +66,8 @@ Tells Signatures params encoding markup uri text told = TellsOf (position_at par
 Tells Actions params encoding markup uri text told = TellsOf (range_at params) (λ range json. TellsActions encoding uri text json) told
 Tells Tokens params encoding markup uri text told = (json : Data) × (told ≡ Some json) × TellsTokens encoding text json
 Tells RangeTokens params encoding markup uri text told = TellsOf (range_at params) (λ range json. TellsTokensIn encoding text range json) told
+Tells Formats params encoding markup uri text told = (json : Data) × (told ≡ Some json) × TellsFormat encoding text json
+Tells RangeFormats params encoding markup uri text told = TellsOf (range_at params) (λ range json. TellsFormatIn encoding text range json) told
 
 -- what is told of a deck
 abbrev pub TellsOfDeck : Query → Data → QueriedText → Option Data → Type 0

@@ -64,12 +64,13 @@ semantic_tokens =
 abbrev pub capabilities_of : List ℕ → Data → Data → Data → Data → Data → Data
 capabilities_of positions mendings names words operands texts = object (member (codes "codeActionProvider") mendings
     (member (codes "completionProvider") (object no_members) (member (codes "definitionProvider") (boolean true)
-    (member (codes "documentHighlightProvider") (boolean true) (member (codes "documentSymbolProvider") (boolean true)
-    (member (codes "foldingRangeProvider") (boolean true)
+    (member (codes "documentFormattingProvider") (boolean true)
+    (member (codes "documentHighlightProvider") (boolean true) (member (codes "documentRangeFormattingProvider") (boolean true)
+    (member (codes "documentSymbolProvider") (boolean true) (member (codes "foldingRangeProvider") (boolean true)
     (member (codes "hoverProvider") (boolean true) (member (codes "inlayHintProvider") (boolean true)
     (member (codes "positionEncoding") (string positions) (member (codes "referencesProvider") (boolean true)
     (member (codes "renameProvider") names (member (codes "semanticTokensProvider") words (member (codes "signatureHelpProvider") operands
-    (member (codes "textDocumentSync") texts no_members))))))))))))))
+    (member (codes "textDocumentSync") texts no_members))))))))))))))))
 
 -- what may be asked
 abbrev pub capabilities : Encoding → Data

@@ -8,6 +8,7 @@ ghost use Rattle.cps_server.specs.declared.query.Query.TheVariants as queries;
 use crate::actions::actions_in;
 use crate::completions::tell_completions;
 use crate::folding::tell_foldings;
+use crate::formatting::{format_range, format_text};
 use crate::hints::hints_in;
 use crate::hovering::hover_at;
 use crate::listing::listings_in;
@@ -45,6 +46,8 @@ pub fn answer(
         Query::Actions => answer_actions(alloc, params, deck),
         Query::Tokens => answer_tokens(alloc, params, deck),
         Query::RangeTokens => answer_range_tokens(alloc, params, deck),
+        Query::Formats => answer_formats(alloc, params, deck),
+        Query::RangeFormats => answer_range_formats(alloc, params, deck),
     }
 }
 
@@ -218,5 +221,30 @@ fn answer_range_tokens(
         return Ok(None);
     };
     let told = tokens_in(alloc, deck, range)?;
+    Ok(Some(told))
+}
+
+fn answer_formats(
+    alloc: Global,
+    params: &Value,
+    deck: QueriedText<'_>,
+) -> Result<Option<Value>, AllocError>
+    ensures { IfOk result (λ told. TellsOfDeck queries.Formats (view params.now) deck.entry (option_map view told)) }
+{
+    let told = format_text(alloc, deck)?;
+    Ok(Some(told))
+}
+
+fn answer_range_formats(
+    alloc: Global,
+    params: &Value,
+    deck: QueriedText<'_>,
+) -> Result<Option<Value>, AllocError>
+    ensures { IfOk result (λ told. TellsOfDeck queries.RangeFormats (view params.now) deck.entry (option_map view told)) }
+{
+    let Some(range) = range_at(params) else {
+        return Ok(None);
+    };
+    let told = format_range(alloc, deck, range)?;
     Ok(Some(told))
 }

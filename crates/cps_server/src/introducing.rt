@@ -1,12 +1,13 @@
 //! What a server tells of itself.
 ghost use Rattle.std.specs.Prelude.{◌≡◌, IfOk};
 ghost use Rattle.serde_json.specs.View.{view};
-ghost use Rattle.cps_server.specs.Code.Providing.{capabilities_by};
+ghost use Rattle.serde_json.specs.Data.{object, no_members};
+ghost use Rattle.cps_server.specs.Code.Providing.{capabilities_by, later_by};
 ghost use Rattle.cps_server.specs.Requests as requests;
 ghost use Rattle.cps_server.specs.Tokens as tokens;
 
 use cps_rpc::Encoding;
-use serde_json::{Value, json};
+use serde_json::{Value, json, put};
 use std::alloc::{AllocError, Global};
 
 /// The result of `initialize`: what the server can do, and its name.
@@ -21,6 +22,15 @@ pub fn introduction(alloc: Global, encoding: Encoding) -> Result<Value, AllocErr
 #[derive(Drop)]
 pub struct Providers {
     pub mendings: Value,
+    pub names: Value,
+    pub words: Value,
+    pub operands: Value,
+    pub texts: Value,
+}
+
+/// Those whose members stand behind `foldingRangeProvider`.
+#[derive(Drop)]
+pub struct LaterProviders {
     pub names: Value,
     pub words: Value,
     pub operands: Value,
@@ -45,7 +55,6 @@ fn capabilities(alloc: Global, encoding: Encoding) -> Result<Value, AllocError>
     capabilities_by(alloc, encoding_name(encoding), providers)
 }
 
-// The last member is put first, so that the prover compares fewer names.
 fn capabilities_by(
     alloc: Global,
     positions: &str,
@@ -60,6 +69,56 @@ fn capabilities_by(
         operands,
         texts,
     } = providers;
+    let later = LaterProviders {
+        names,
+        words,
+        operands,
+        texts,
+    };
+    let Value::Object(map) = later_capabilities(alloc, positions, later)? else {
+        unreachable!();
+    };
+    let mut map = map;
+    put(&mut map, alloc, "foldingRangeProvider", Value::Bool(true))?;
+    put(&mut map, alloc, "documentSymbolProvider", Value::Bool(true))?;
+    put(
+        &mut map,
+        alloc,
+        "documentRangeFormattingProvider",
+        Value::Bool(true),
+    )?;
+    put(
+        &mut map,
+        alloc,
+        "documentHighlightProvider",
+        Value::Bool(true),
+    )?;
+    put(
+        &mut map,
+        alloc,
+        "documentFormattingProvider",
+        Value::Bool(true),
+    )?;
+    put(&mut map, alloc, "definitionProvider", Value::Bool(true))?;
+    put(&mut map, alloc, "completionProvider", nothing(alloc)?)?;
+    put(&mut map, alloc, "codeActionProvider", mendings)?;
+    Ok(Value::Object(map))
+}
+
+/// What is told in members behind `foldingRangeProvider`. The last member is put first, so that the prover compares fewer names.
+fn later_capabilities(
+    alloc: Global,
+    positions: &str,
+    providers: LaterProviders,
+) -> Result<Value, AllocError>
+    ensures { IfOk result (λ json. view json ≡ later_by positions.now providers) }
+{
+    let LaterProviders {
+        names,
+        words,
+        operands,
+        texts,
+    } = providers;
     json!(in alloc; {
         "textDocumentSync": texts,
         "signatureHelpProvider": operands,
@@ -68,14 +127,15 @@ fn capabilities_by(
         "referencesProvider": true,
         "positionEncoding": positions,
         "inlayHintProvider": true,
-        "hoverProvider": true,
-        "foldingRangeProvider": true,
-        "documentSymbolProvider": true,
-        "documentHighlightProvider": true,
-        "definitionProvider": true,
-        "completionProvider": {},
-        "codeActionProvider": mendings
+        "hoverProvider": true
     })
+}
+
+/// An object without a member.
+fn nothing(alloc: Global) -> Result<Value, AllocError>
+    ensures { IfOk result (λ json. view json ≡ object no_members) }
+{
+    json!(in alloc; {})
 }
 
 /// The name at a position may be asked for before it is called otherwise.

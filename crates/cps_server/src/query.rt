@@ -1,6 +1,6 @@
 //! What an editor may ask of a text.
 ghost use Rattle.std.specs.Prelude.{◌≡◌};
-ghost use Rattle.cps_server.specs.Queries.{query_named};
+ghost use Rattle.cps_server.specs.Queries.{later_named, query_named};
 
 /// What an editor may ask of a text.
 #[derive(Clone, Copy)]
@@ -31,6 +31,10 @@ pub enum Query {
     Tokens,
     /// What each word in the lines of a range is.
     RangeTokens,
+    /// The edits that put fields into columns.
+    Formats,
+    /// Those in the lines of a range.
+    RangeFormats,
 }
 
 impl Query {
@@ -47,11 +51,23 @@ impl Query {
             "textDocument/inlayHint" => Some(Query::Hints),
             "textDocument/completion" => Some(Query::Completions),
             "compass/rows" => Some(Query::Listing),
+            _ => Query::of_later(method),
+        }
+    }
+
+    /// The query of a method that asks of the words of a text, or for edits.
+    #[tactic(auto, unfolding(crate::specs::Queries::later_named))]
+    fn of_later(method: &str) -> Option<Query>
+        ensures { result ≡ later_named method.now }
+    {
+        match method {
             "textDocument/foldingRange" => Some(Query::FoldingRanges),
             "textDocument/signatureHelp" => Some(Query::Signatures),
             "textDocument/codeAction" => Some(Query::Actions),
             "textDocument/semanticTokens/full" => Some(Query::Tokens),
             "textDocument/semanticTokens/range" => Some(Query::RangeTokens),
+            "textDocument/formatting" => Some(Query::Formats),
+            "textDocument/rangeFormatting" => Some(Query::RangeFormats),
             _ => None,
         }
     }

@@ -7,20 +7,18 @@ ghost use Rattle.cps_server.specs.Code.Renaming.{OwesWish, TellsWish, wish_of};
 ghost use Rattle.cps_server.specs.Renames.{IsSameText, IsWished};
 
 use crate::document::Document;
-use crate::mentions::{line_of, pointed};
+use crate::mentions::pointed;
 use crate::name_places::{names_in, owed_fault, place_at};
 use crate::owed::Owed;
 use crate::queried_text::QueriedText;
-use crate::ranges::Units;
 use crate::rename_wish::RenameWish;
 use crate::text_edit::{TextEdit, tell_edits};
 use cps_expr::is_same_name;
 use cps_list::View;
 use cps_mention::{
-    Calling, LineEdit, RenameFault, Renaming, WrittenNames, is_same_but, line_named_otherwise,
+    Calling, RenameFault, Renaming, WrittenNames, is_same_but, line_named_otherwise,
     line_that_changed, rename_edits,
 };
-use cps_rpc::units_before;
 use cps_text::Name;
 use serde_json::Value;
 use std::alloc::{AllocError, Global};
@@ -108,10 +106,14 @@ fn try_once(alloc: Global, trial: Trial<'_>) -> Result<Result<Value, RenameFault
         Ok(lines) => lines,
         Err(fault) => return Ok(Err(fault)),
     };
-    match text_edits(alloc, trial.deck, &lines)? {
-        Ok(edits) => certify(alloc, trial, &edits),
-        Err(fault) => Ok(Err(fault)),
+    let mut edits = Vec::new(alloc);
+    for edit in &lines {
+        match TextEdit::of(trial.deck, edit) {
+            Some(edit) => edits.push(edit)?,
+            None => return Ok(Err(RenameFault::WouldChange { line: edit.line })),
+        }
     }
+    certify(alloc, trial, &edits)
 }
 
 // ---- the certificate
@@ -163,7 +165,7 @@ fn is_name(found: Option<Name>, name: Name) -> bool
 }
 
 /// A line that would change. None: only what symbols are called changes.
-fn changed_line(
+pub fn changed_line(
     alloc: Global,
     before: &Document,
     after: &Document,
@@ -191,50 +193,4 @@ fn line_named(
         &names.mentions,
         Some(trial.renaming),
     )
-}
-
-// ---- edits
-
-/// Edits of lines as an editor makes them.
-fn text_edits<'a>(
-    alloc: Global,
-    deck: QueriedText<'_>,
-    lines: &'a [LineEdit],
-) -> Result<Result<Vec<TextEdit<'a>>, RenameFault>, AllocError> {
-    let mut edits = Vec::new(alloc);
-    for edit in lines {
-        match text_edit(deck, edit) {
-            Some(edit) => edits.push(edit)?,
-            None => return Ok(Err(RenameFault::WouldChange { line: edit.line })),
-        }
-    }
-    Ok(Ok(edits))
-}
-
-/// None: a character gives way that no line may have, and that the edit can't write.
-fn text_edit<'a>(deck: QueriedText<'_>, edit: &'a LineEdit) -> Option<TextEdit<'a>> {
-    let number = edit.line.saturating_sub(1);
-    let line = line_of(deck.document, number);
-    let card = deck.document.session().line(edit.line)?;
-    let start = edit.first.saturating_sub(1);
-    let end = edit.end.saturating_sub(1);
-    if part(line, start, end) != part(card.bytes(), start, end) {
-        return None;
-    }
-    let text = str::from_utf8(&edit.text).ok()?;
-    let units = Units {
-        start: units_before(deck.encoding, line, start),
-        end: units_before(deck.encoding, line, end),
-    };
-    Some(TextEdit {
-        line: number,
-        units,
-        text,
-    })
-}
-
-/// What stands between two places of a line, as far as it reaches.
-fn part(line: &[u8], start: usize, end: usize) -> &[u8] {
-    let end = end.min(line.len());
-    &line[start.min(end)..end]
 }

@@ -4,8 +4,12 @@ ghost use Rattle.serde_json.specs.View.{view};
 ghost use Rattle.cps_server.specs.Code.Renaming.{edit_of, edits_of};
 ghost use Rattle.cps_server.specs.Renames.{change_of, edit_json, edits_json, workspace_edit};
 
+use crate::mentions::line_of;
+use crate::queried_text::QueriedText;
 use crate::ranges::{Units, range_of};
-use cps_rpc::{Position, Range};
+use cps_list::View;
+use cps_mention::LineEdit;
+use cps_rpc::{Position, Range, units_before};
 use serde_json::{Value, json};
 use std::alloc::{AllocError, Global};
 
@@ -19,7 +23,29 @@ pub struct TextEdit<'a> {
     pub text: &'a str,
 }
 
-impl TextEdit<'_> {
+impl<'a> TextEdit<'a> {
+    /// Of an edit of a line of a deck's source. None: a character gives way that no line may have, and that the edit can't write.
+    pub fn of(deck: QueriedText<'_>, edit: &'a LineEdit) -> Option<TextEdit<'a>> {
+        let number = edit.line.saturating_sub(1);
+        let line = line_of(deck.document, number);
+        let card = deck.document.session().line(edit.line)?;
+        let start = edit.first.saturating_sub(1);
+        let end = edit.end.saturating_sub(1);
+        if part(line, start, end) != part(card.bytes(), start, end) {
+            return None;
+        }
+        let text = str::from_utf8(&edit.text).ok()?;
+        let units = Units {
+            start: units_before(deck.encoding, line, start),
+            end: units_before(deck.encoding, line, end),
+        };
+        Some(TextEdit {
+            line: number,
+            units,
+            text,
+        })
+    }
+
     /// What gives way.
     pub fn range(self) -> Range
         ensures { Some result ≡ (change_of (edit_of self.entry)).range }
@@ -53,7 +79,8 @@ pub fn tell_edits(alloc: Global, uri: &str, edits: &[TextEdit<'_>]) -> Result<Va
     json!(in alloc; {"changes": {uri: list}})
 }
 
-fn list_edits(alloc: Global, edits: &[TextEdit<'_>]) -> Result<Value, AllocError>
+/// Edits as an editor is told them, in a list.
+pub fn list_edits(alloc: Global, edits: &[TextEdit<'_>]) -> Result<Value, AllocError>
     ensures { IfOk result (λ json. view json ≡ edits_json (edits_of edits.now)) }
 {
     let mut told = Vec::new(alloc);
@@ -61,4 +88,10 @@ fn list_edits(alloc: Global, edits: &[TextEdit<'_>]) -> Result<Value, AllocError
         told.push(edit.tell(alloc)?)?;
     }
     Ok(Value::from(told))
+}
+
+/// What stands between two places of a line, as far as it reaches.
+fn part(line: &[u8], start: usize, end: usize) -> &[u8] {
+    let end = end.min(line.len());
+    &line[start.min(end)..end]
 }

@@ -7,6 +7,7 @@
 //! - `decks.rt`: decks that an editor opens
 //! - `device_rows.rt`: where bytes come in pieces, and where a read or a write fails
 //! - `folding_rows.rt`: the lines that may be folded
+//! - `format_rows.rt`: fields that go into columns
 //! - `hint_rows.rt`: what is shown behind lines
 //! - `hover_rows.rt`: what is shown of a place
 //! - `listing_rows.rt`: the listing of lines
@@ -27,6 +28,7 @@ mod conversation;
 mod decks;
 mod device_rows;
 mod folding_rows;
+mod format_rows;
 mod hint_rows;
 mod hover_rows;
 mod listing_rows;

@@ -69,3 +69,13 @@ pub returns-in-RangeTokens-clause-floats : goal.returns-in-RangeTokens-clause-fl
 returns-in-RangeTokens-clause-floats c =
     if-ok-as c.answer_range_tokens.result
     (λ told. tells-no-float queries.RangeTokens (view c.args.params.now) c.args.deck.encoding c.args.deck.markup c.args.deck.uri.now c.args.deck.document.now (option_map view told)) c.answer_range_tokens.ensures
+
+pub returns-in-Formats-clause-floats : goal.returns-in-Formats-clause-floats
+returns-in-Formats-clause-floats c =
+    if-ok-as c.answer_formats.result
+    (λ told. tells-no-float queries.Formats (view c.args.params.now) c.args.deck.encoding c.args.deck.markup c.args.deck.uri.now c.args.deck.document.now (option_map view told)) c.answer_formats.ensures
+
+pub returns-in-RangeFormats-clause-floats : goal.returns-in-RangeFormats-clause-floats
+returns-in-RangeFormats-clause-floats c =
+    if-ok-as c.answer_range_formats.result
+    (λ told. tells-no-float queries.RangeFormats (view c.args.params.now) c.args.deck.encoding c.args.deck.markup c.args.deck.uri.now c.args.deck.document.now (option_map view told)) c.answer_range_formats.ensures
