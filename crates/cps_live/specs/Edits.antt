@@ -11,6 +11,8 @@ use Rattle.cps_edit.specs.Disturbed.{ones_of, twos_of, ones_of_exchange, twos_of
 use Rattle.cps_edit.specs.Compares.{ComparesUpTo}
 use Rattle.cps_chunk.specs.Touched.{touched_of, touched_of_exchange}
 use Rattle.cps_edit.specs.Limits.{most_lines}
+use Rattle.cps_edit.specs.Assembly.{outcomes_of}
+use Rattle.cps_live.specs.declared.redone.Redone.{Redone}
 use Rattle.cps_live.specs.declared.session.EditFault.{EditFault}
 use Rattle.cps_live.specs.declared.session.EditFault.TheVariants as faults
 
@@ -93,6 +95,10 @@ AreRedone old splice new places =
     (at : ℕ) → IsLeft splice.keep count at → All (λ place. place ≡ at → ⊥) places
     → slice_get new at ≡ slice_get old (place_before splice.keep splice.from count at)
 
+-- the same, by what a session tells of its source before and after
+abbrev pub HaveRedone : Source → Splice → Source → Redone → Type 0
+HaveRedone old splice new redone = AreRedone (outcomes_of old.lines) splice (outcomes_of new.lines) redone.places.items
+
 -- ---- work
 
 -- so many steps of each pass were made
@@ -125,6 +131,11 @@ WorkOfMove (Err faults.Memory) lines e old new = HaveSteppedUpTo (ones_of_exchan
 -- there the new lengths are those that it would make.
 abbrev pub LooksOfEdit : Source → Splice → List ℕ → Counts → Counts → Type 0
 LooksOfEdit old splice lengths was now = ComparesUpTo was now (128 * touched_of old.lines splice old.lengths lengths)
+
+-- so does one that puts lines in the place of those behind the first `keep`, up to the first `from`
+abbrev pub LooksOfSplice : Source → ℕ → ℕ → List (List ℕ) → Counts → Counts → Type 0
+LooksOfSplice old keep from lines was now =
+    LooksOfEdit old (splice_at keep from lines) (put_at keep (from - keep) (length lines) old.lengths) was now
 
 -- so does a line behind the last
 abbrev pub LooksOfAppend : Source → List ℕ → Counts → Counts → Type 0

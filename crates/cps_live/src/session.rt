@@ -7,12 +7,12 @@ ghost use Rattle.cps_edit.specs.Compares.{Steps};
 ghost use Rattle.cps_edit.specs.Splice.{splice_at, spliced, insertion, replacement, deletion};
 ghost use Rattle.cps_live.specs.Code.Editing.{IsSplice, splice_of};
 ghost use Rattle.cps_live.specs.Entering.{full_chunks};
-ghost use Rattle.cps_edit.specs.Assembly.{assembly_of, outcomes_of, traces_of};
+ghost use Rattle.cps_edit.specs.Assembly.{assembly_of, traces_of};
 ghost use Rattle.cps_edit.specs.Flagged.{flagged_lines as flagged_in};
 ghost use Rattle.cps_edit.specs.Exchange.{exchanged, move};
 ghost use Rattle.cps_chunk.specs.Exchange.{exchanged_at, moved_at};
 ghost use Rattle.cps_chunk.specs.Put.{put_at};
-ghost use Rattle.cps_live.specs.Edits.{HasLine, LacksLine, HasLines, LacksLines, HasMove, LacksMove, LacksPlace, MayPut, MayNotPut, IsPut, put_of, without_lines, WorkOfEdit, WorkOfMove, LooksOfAppend, LooksOfEdit, LooksOfMove, LooksOfPut, LooksOfExchange, AreRedone};
+ghost use Rattle.cps_live.specs.Edits.{HasLine, LacksLine, HasLines, LacksLines, HasMove, LacksMove, LacksPlace, MayPut, MayNotPut, IsPut, put_of, without_lines, WorkOfEdit, WorkOfMove, LooksOfAppend, LooksOfEdit, LooksOfMove, LooksOfPut, LooksOfExchange, LooksOfSplice, HaveRedone};
 
 use crate::entering::kept_of;
 use crate::kept_source::KeptSource;
@@ -258,7 +258,7 @@ impl Session {
         work: &mut Work,
     ) -> Result<Redone, EditFault>
         ensures ok { OnOk result (IsPut first last lines.items self.old self.new) }
-        ensures redone { IfOk result (λ redone. AreRedone (outcomes_of self.old.lines) (put_of first last lines.items) (outcomes_of self.new.lines) redone.places.items) }
+        ensures redone { IfOk result (λ redone. HaveRedone self.old (put_of first last lines.items) self.new redone) }
         ensures err { OnErr result (self.new ≡ self.old) }
         ensures no_line { IsErrOf result EditFault.NoSuchLine ↔ LacksPlace self.old.lines first last }
         ensures too_many { IsErrOf result EditFault.TooManyLines ↔ MayNotPut self.old.lines first last lines.items }
@@ -293,7 +293,7 @@ impl Session {
         ensures err { OnErr result (self.new ≡ self.old) }
         ensures only { OnErr result (IsErrOf result EditFault.Memory) }
         ensures work { WorkOfEdit result self.old.lines (splice_at keep from lines.items) work.old work.new }
-        ensures looked { LooksOfEdit self.old (splice_at keep from lines.items) (put_at keep (from - keep) (length lines.items) self.old.lengths) work.old work.new }
+        ensures looked { LooksOfSplice self.old keep from lines.items work.old work.new }
     {
         match self.put_told(keep, from, lines, work) {
             Ok(redone) => {
@@ -316,11 +316,11 @@ impl Session {
         requires few { length (spliced self.old.lines (splice_at keep from lines.items)) ≤ MOST_LINES }
         ensures ok { OnOk result (self.new.lines ≡ spliced self.old.lines (splice_at keep from lines.items)) }
         ensures lengths { OnOk result (self.new.lengths ≡ put_at keep (from - keep) (length lines.items) self.old.lengths) }
-        ensures redone { IfOk result (λ redone. AreRedone (outcomes_of self.old.lines) (splice_at keep from lines.items) (outcomes_of self.new.lines) redone.places.items) }
+        ensures redone { IfOk result (λ redone. HaveRedone self.old (splice_at keep from lines.items) self.new redone) }
         ensures err { OnErr result (self.new ≡ self.old) }
         ensures only { OnErr result (IsErrOf result EditFault.Memory) }
         ensures work { WorkOfEdit result self.old.lines (splice_at keep from lines.items) work.old work.new }
-        ensures looked { LooksOfEdit self.old (splice_at keep from lines.items) (put_at keep (from - keep) (length lines.items) self.old.lengths) work.old work.new }
+        ensures looked { LooksOfSplice self.old keep from lines.items work.old work.new }
     {
         a_put_divides_again();
         let Ok(lengths) = self.chunk_lengths() else {
@@ -406,7 +406,7 @@ impl Session {
         requires few { length (spliced self.old.lines (splice_of cut)) ≤ MOST_LINES }
         ensures ok { OnOk result (self.new.lines ≡ spliced self.old.lines (splice_of cut)) }
         ensures lengths { OnOk result (self.new.lengths ≡ recut_by cut.start cut.end cut.lengths.items self.old.lengths) }
-        ensures redone { IfOk result (λ redone. AreRedone (outcomes_of self.old.lines) (splice_of cut) (outcomes_of self.new.lines) redone.places.items) }
+        ensures redone { IfOk result (λ redone. HaveRedone self.old (splice_of cut) self.new redone) }
         ensures err { OnErr result (self.new ≡ self.old) }
         ensures only { OnErr result (IsErrOf result EditFault.Memory) }
         ensures work { WorkOfEdit result self.old.lines (splice_of cut) work.old work.new }
