@@ -11,7 +11,9 @@ use super::comparand::Comparand;
 use super::compare_options::{parted_offset, read_compare_options};
 use super::help::read_help;
 use super::output_options::{are_apart, read_outputs, say_taken, wants_no_file};
-use super::unread::{Unread, say, say_no_name, say_parted_offset, say_wrong_value, wrong};
+use super::unread::{
+    Unread, say, say_file_alone, say_no_name, say_parted_offset, say_wrong_value, wrong,
+};
 use super::values::{part_of_name, read_file, word_in};
 use crate::outputs::Outputs;
 use clap::error::ErrorKind;
@@ -63,13 +65,25 @@ pub fn read_words<'a>(alloc: Global, words: &'a [&'a str]) -> Result<Call<'a>, U
     }
 }
 
-/// What is said of words in which `clap` found a fault. It takes an offset with a minus for an option where that is a word of its own.
+/// What is said of words in which `clap` found a fault. It takes an offset with a minus for an option where that is a word of its own, and a file for a
+/// command where no command stands in front of it.
 fn say_fault(alloc: Global, words: &[&str], error: &Error) -> Unread
     ensures { Says (kind_of error.now) result }
 {
-    match (error.kind(), parted_offset(words)) {
-        (ErrorKind::UnknownArgument, Some(word)) => say_parted_offset(alloc, word),
+    match (error.kind(), parted_offset(words), file_in_front(words)) {
+        (ErrorKind::UnknownArgument, Some(word), _) => say_parted_offset(alloc, word),
+        (ErrorKind::InvalidSubcommand, _, Some(word)) => say_file_alone(alloc, word),
         _ => say(alloc, error),
+    }
+}
+
+/// The word behind the program's name, if it is like a file's name: a point or a slash stands in it.
+fn file_in_front<'a>(words: &'a [&'a str]) -> Option<&'a str> {
+    let word = *words.get(1)?;
+    if word.contains('.') || word.contains('/') {
+        Some(word)
+    } else {
+        None
     }
 }
 

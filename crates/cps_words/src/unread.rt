@@ -88,6 +88,19 @@ pub fn say_parted_offset(alloc: Global, word: &str) -> Unread
     }
 }
 
+/// What is said of a file in front of which no command stands.
+pub fn say_file_alone(alloc: Global, word: &str) -> Unread
+    ensures { IsRefusal result }
+{
+    let text = format!(in alloc;
+        "error: no command stands before '{word}'; to assemble it: compass batch {word}\n\nFor more information, try '--help'.\n"
+    );
+    match text {
+        Ok(text) => wrong(alloc, &text),
+        Err(_) => Unread::Memory,
+    }
+}
+
 /// What is wrong with the words.
 pub fn wrong(alloc: Global, text: &str) -> Unread
     ensures { (result ≡ Unread.Memory) ⊎ IsWrong result }
