@@ -1,9 +1,9 @@
 //! In which lines stands what words speak of.
 
-use cps_cause::{Places, line_of_opener};
+use cps_cause::{Card, Places, line_of_opener};
 use cps_final::LineSymbols;
 use cps_state::{Hashing, Key, Phase, Put, Trace, control_of};
-use cps_text::Name;
+use cps_text::{Line, Name};
 use std::alloc::{AllocError, Global};
 use std::collections::HashMap;
 
@@ -54,10 +54,11 @@ impl Places for KnownPlaces<'_> {
 }
 
 impl<'a> KnownPlaces<'a> {
-    /// Before the first of the lines that do this.
+    /// Before the first of the lines for which these cards stand, and which do this.
     pub fn of(
         alloc: Global,
         hashing: Hashing,
+        cards: &[Line],
         traces: &'a [Trace],
     ) -> Result<KnownPlaces<'a>, AllocError> {
         let mut symbols = HashMap::with_hasher(alloc, hashing);
@@ -70,6 +71,9 @@ impl<'a> KnownPlaces<'a> {
         for trace in traces {
             of_line.replace(trace.puts(), trace.reads(), trace.items())?;
             note_readings(&mut symbols, of_line.read())?;
+        }
+        if let Some(name) = start_named(cards, traces) {
+            note_reading(&mut symbols, name)?;
         }
         Ok(KnownPlaces {
             symbols,
@@ -112,6 +116,36 @@ impl<'a> KnownPlaces<'a> {
             Phase::Body => note_first(&mut self.body, number),
             Phase::AfterEnd => note_first(&mut self.end, number),
         }
+    }
+}
+
+/// The symbol that END names, where execution begins.
+fn start_named(cards: &[Line], traces: &[Trace]) -> Option<Name> {
+    let end = traces.iter().position(|trace| ends_program(trace))?;
+    let card = Card::of(cards.get(end)?.bytes());
+    Name::read(first_operand(card.tail()))
+}
+
+/// Whether a line that does this ends the program.
+fn ends_program(trace: &Trace) -> bool {
+    for put in trace.puts() {
+        if let Key::Control = put.key {
+            if control_of(Some(&put.answer)).phase == Phase::AfterEnd {
+                return true;
+            }
+        }
+    }
+    false
+}
+
+/// Operands up to the first comma or blank.
+fn first_operand(operands: &[u8]) -> &[u8] {
+    match operands
+        .iter()
+        .position(|byte| matches!(*byte, b',' | b' '))
+    {
+        Some(end) => operands.get(..end).unwrap_or(operands),
+        None => operands,
     }
 }
 

@@ -50,7 +50,7 @@ impl LineTelling<'_> {
         requires traces { traces.now ≡ traces_of cards.now }
         ensures { IfOk result (λ is_wrong. TellsLines self.now lines.now traces.now is_wrong text.old.items text.new.items) }
     {
-        let mut places = KnownPlaces::of(self.alloc, self.finals.hashing(), traces)?;
+        let mut places = KnownPlaces::of(self.alloc, self.finals.hashing(), cards, traces)?;
         let mut is_wrong = false;
         for (at, trace) in traces.iter().enumerate() {
             let line = CheckedLine {

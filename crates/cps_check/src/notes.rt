@@ -5,6 +5,7 @@ ghost use Rattle.cps_cause.specs.Sentence.{IsSentence};
 use crate::known_places::KnownPlaces;
 use crate::line_telling::CheckedLine;
 use cps_cause::{Card, Columns, Wording, filled_len};
+use cps_code::is_builtin;
 use cps_expr::Operation;
 use cps_state::{Answer, Asked, Key, Phase, macro_of};
 use cps_text::{Fields, Name, capital};
@@ -12,6 +13,9 @@ use std::alloc::{AllocError, Global};
 
 /// What brings in the text of a common deck where decks are kept, and is a comment here.
 const CALL: &[u8] = b"*CALL";
+
+/// The columns of a line that a statement has.
+const STATEMENT_COLUMNS: usize = 72;
 
 /// What a note says.
 #[derive(Clone, Copy)]
@@ -24,6 +28,10 @@ pub enum Remark {
     Unread(Name),
     /// It may have operands, and has none but text in column 30 or later.
     FarOperands,
+    /// Its operands end in column 72, and what stands behind goes on.
+    CutOperands,
+    /// An operator and an element stand one blank behind its operands.
+    PartedOperands,
 }
 
 /// A note, and where it shows in its line.
@@ -59,6 +67,8 @@ impl Remark {
             Remark::FarOperands => {
                 b"no operand stands here; what begins in column 30 or later is a comment"
             }
+            Remark::CutOperands => b"operands end in column 72; what stands behind isn't read",
+            Remark::PartedOperands => b"operands end at the first blank; this is a comment",
         }
     }
 }
@@ -75,6 +85,8 @@ pub fn find_notes(
     push_some(&mut notes, find_behind_end(&card, places))?;
     push_some(&mut notes, find_unread(line.number, &card, places))?;
     push_some(&mut notes, find_far_operands(line, &card)?)?;
+    push_some(&mut notes, find_parted_operands(line, &card))?;
+    push_some(&mut notes, find_cut_operands(line, &card))?;
     Ok(notes)
 }
 
@@ -148,6 +160,92 @@ fn find_far_operands(line: &CheckedLine<'_>, card: &Card<'_>) -> Result<Option<N
         columns: Columns::behind(before, filled_len(fields.comment)),
         remark: Remark::FarOperands,
     }))
+}
+
+/// An operator and one element that stand one blank behind the operands of a statement that is assembled.
+fn find_parted_operands(line: &CheckedLine<'_>, card: &Card<'_>) -> Option<Note> {
+    let Fields::Statement(fields) = card.fields else {
+        return None;
+    };
+    let parted = fields.comment;
+    let front = card.tail().len().saturating_sub(parted.len());
+    if fields.variable.is_empty() || front != fields.variable.len().saturating_add(1) {
+        return None;
+    }
+    if !goes_on(parted) || !has_values(fields.operation) || !is_assembled(line.trace.asks()) {
+        return None;
+    }
+    Some(Note {
+        columns: Columns::behind(card.before_tail.saturating_add(front), filled_len(parted)),
+        remark: Remark::PartedOperands,
+    })
+}
+
+/// Whether a text is an operator and one element, and a blank at most between them.
+fn goes_on(text: &[u8]) -> bool {
+    let [operator, rest @ ..] = text else {
+        return false;
+    };
+    let element = match rest {
+        [b' ', element @ ..] => element,
+        _ => rest,
+    };
+    let written = &element[..filled_len(element).min(element.len())];
+    matches!(*operator, b'+' | b'-' | b'*' | b'/')
+        && !written.is_empty()
+        && written
+            .iter()
+            .all(|byte| byte.is_ascii_alphanumeric() || *byte == b'.')
+}
+
+/// Whether an operation takes values: an instruction, or a statement of expressions.
+fn has_values(operation: &[u8]) -> bool {
+    match Operation::named(operation) {
+        Some(
+            Operation::Equate
+            | Operation::Set
+            | Operation::Org
+            | Operation::Bss
+            | Operation::Bssz
+            | Operation::Con
+            | Operation::Vfd
+            | Operation::Compare(_)
+            | Operation::Dup,
+        ) => true,
+        Some(_) => false,
+        None => is_builtin(operation),
+    }
+}
+
+/// Whether an operation is TITLE, SPACE, EJECT or LIST.
+fn is_listing(operation: &[u8]) -> bool {
+    match Operation::named(operation) {
+        Some(Operation::Listing) => true,
+        _ => false,
+    }
+}
+
+/// Operands that end in column 72 of a statement that is assembled, before a character that isn't read.
+fn find_cut_operands(line: &CheckedLine<'_>, card: &Card<'_>) -> Option<Note> {
+    let Fields::Statement(fields) = card.fields else {
+        return None;
+    };
+    if fields.variable.is_empty() || !fields.comment.is_empty() {
+        return None;
+    }
+    let [.., last, behind] = line.line.get(..STATEMENT_COLUMNS + 1)? else {
+        return None;
+    };
+    if *last == b' ' || *behind == b' ' || is_listing(fields.operation) {
+        return None;
+    }
+    if !is_assembled(line.trace.asks()) {
+        return None;
+    }
+    Some(Note {
+        columns: Columns::behind(STATEMENT_COLUMNS - 1, 1),
+        remark: Remark::CutOperands,
+    })
 }
 
 /// Whether a line that asked this is a USE that is assembled, or a call of a macro with parameters: these may have operands, and none.

@@ -2,13 +2,24 @@
 use super::assertions::assert_rows;
 
 /// Lines of which notes are told, and lines of which none is.
-const NOTES: [(&[u8], bool, &str); 15] = [
+const NOTES: [(&[u8], bool, &str); 18] = [
     (
         b"TWO       EQU     2\n",
         false,
         "a.cps:1:1: note: nothing reads TWO\n    1 | TWO       EQU     2\n      | ^^^\n",
     ),
     (b"TWO       EQU     2\n          CON     TWO\n", false, ""),
+    (b"START     NO\n          END     START\n", false, ""),
+    (
+        b"          SX1     5 + 3\n          SX1     5  + 3\n          SX1     5 + 3 MORE\n",
+        false,
+        "a.cps:1:21: note: operands end at the first blank; this is a comment\n    1 |           SX1     5 + 3\n      |                     ^^^\n",
+    ),
+    (
+        b"          CON     0000000001,0000000002,0000000003,0000000004,0000000005,1,234\n          CON     0000000001,0000000002,0000000003,0000000004,0000000005 ,1\n",
+        false,
+        "a.cps:1:72: note: operands end in column 72; what stands behind isn't read\n    1 |           CON     0000000001,0000000002,0000000003,0000000004,0000000005,1,234\n      |                                                                        ^\n",
+    ),
     (
         b"          IF      DEF,TAG,1\n          NO\nTAG       NO\n",
         false,
