@@ -1,3 +1,4 @@
+pub mod LeftOut
 pub mod Letters
 pub mod Range
 pub mod Sentence

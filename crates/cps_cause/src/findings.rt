@@ -39,6 +39,7 @@ pub struct Subject {
 /// Causes as they are found, statement by statement. Each flag of a statement gets one at least, and no other letter.
 #[derive(Drop)]
 pub struct Findings {
+    alloc: Global,
     found: Vec<Diagnostic>,
     /// Where statements show whose columns aren't the line's.
     call: Columns,
@@ -55,6 +56,7 @@ impl Findings {
     /// Of a line in which the statements of its expansion show at these columns.
     pub fn new(alloc: Global, call: Columns) -> Findings {
         Findings {
+            alloc,
             found: Vec::new(alloc),
             call,
             subject: Subject {
@@ -77,6 +79,16 @@ impl Findings {
         self.before = self.found.len();
         self.explained = Flags::none();
         Ok(())
+    }
+
+    /// Whether a cause was found for a letter of the statement.
+    pub fn has_cause(&self, letter: Letter) -> bool {
+        letter.is_among(self.explained)
+    }
+
+    /// Where memory is taken.
+    pub fn alloc(&self) -> Global {
+        self.alloc
     }
 
     /// Whether the statement has the flag of a letter.

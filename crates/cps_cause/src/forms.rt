@@ -3,6 +3,7 @@
 use crate::cause::Cause;
 use crate::expressions::{find_expression, is_expression, is_register};
 use crate::findings::Findings;
+use crate::letter::Letter;
 use crate::operand_fault::OperandFault;
 use crate::operands::{PlacedText, columns_from, element, list_operands};
 use crate::statement::FlaggedStatement;
@@ -27,8 +28,11 @@ pub fn find_central(
             if !is_operand(alloc, operand, radix, Machine::Cp)? {
                 return findings.add(Cause::Operand(OperandFault::Literal), operand.columns());
             }
-        } else if !has_elements(alloc, operand, radix)? {
-            return find_expression(alloc, findings, operand, radix);
+        } else {
+            find_elements(alloc, findings, operand, radix)?;
+        }
+        if findings.has_cause(Letter::A) {
+            return Ok(());
         }
     }
     match columns_from(&operands, 0) {
@@ -55,11 +59,14 @@ fn is_operand(
     }
 }
 
-/// Whether each element of an operand is a register or can stand in an expression, and there is one.
-fn has_elements(alloc: Global, operand: &PlacedText<'_>, radix: Radix) -> Result<bool, AllocError> {
-    if operand.text.is_empty() {
-        return Ok(false);
-    }
+/// What is wrong with an operand whose elements are registers and parts of an expression: the first element that is neither; where each is
+/// one, and there is no register, what makes all of it no expression.
+fn find_elements(
+    alloc: Global,
+    findings: &mut Findings,
+    operand: &PlacedText<'_>,
+    radix: Radix,
+) -> Result<(), AllocError> {
     let mut from: usize = 0;
     let mut has_register = false;
     for _turn in 0..operand.text.len() {
@@ -67,14 +74,14 @@ fn has_elements(alloc: Global, operand: &PlacedText<'_>, radix: Radix) -> Result
         if is_register(at.text) {
             has_register = true;
         } else if !at.text.is_empty() && !is_expression(alloc, at.text, radix)? {
-            return Ok(false);
+            return find_expression(alloc, findings, &at, radix);
         }
         from = from.saturating_add(at.text.len()).saturating_add(1);
     }
     if has_register {
-        return Ok(true);
+        return Ok(());
     }
-    is_expression(alloc, operand.text, radix)
+    find_expression(alloc, findings, operand, radix)
 }
 
 /// What is wrong with the operands of an instruction of a peripheral processor.

@@ -6,9 +6,10 @@ use crate::operand_fault::OperandFault;
 use crate::operands::PlacedText;
 use crate::statement::FlaggedStatement;
 use cps_expr::read_item;
+use cps_text::{CP_CHARACTERS, TextItem};
 use std::alloc::AllocError;
 
-/// The first text of DATA that is no data item.
+/// The first text of DATA that is no data item, or the count of one behind which something stands.
 pub fn find_items(
     findings: &mut Findings,
     statement: &FlaggedStatement<'_>,
@@ -25,14 +26,49 @@ pub fn find_items(
     for _turn in 0..tail.text.len() {
         let rest = tail.cut(from, tail.text.len());
         match item_end(statement, rest.text) {
-            None => {
-                let columns = up_to_comma(&rest).columns();
-                return findings.add(Cause::Operand(OperandFault::Item), columns);
-            }
+            None => return find_item(findings, &rest),
             Some(len) => from = from.saturating_add(len).saturating_add(1),
         }
     }
     Ok(())
+}
+
+/// What is wrong with the text in front, which is no data item.
+fn find_item(findings: &mut Findings, rest: &PlacedText<'_>) -> Result<(), AllocError> {
+    match count_in_front(rest.text) {
+        Some(count) => {
+            let columns = rest.cut(0, count.columns).columns();
+            findings.add(
+                Cause::Operand(OperandFault::CountedItem(count.characters)),
+                columns,
+            )
+        }
+        None => findings.add(
+            Cause::Operand(OperandFault::Item),
+            up_to_comma(rest).columns(),
+        ),
+    }
+}
+
+/// The count in front of a data item of characters.
+#[derive(Clone, Copy)]
+struct ItemCount {
+    /// The columns of the count and its letter.
+    columns: usize,
+    characters: usize,
+}
+
+/// The count of the item of characters that a text begins with; None where it begins with none that has a count.
+fn count_in_front(text: &[u8]) -> Option<ItemCount> {
+    let item = TextItem::read(text, CP_CHARACTERS)?;
+    if !text.first()?.is_ascii_digit() {
+        return None;
+    }
+    let digits = text.iter().take_while(|byte| byte.is_ascii_digit()).count();
+    Some(ItemCount {
+        columns: digits.saturating_add(1),
+        characters: item.count,
+    })
 }
 
 /// How many characters the item in front has, if a comma, a blank or the end stands behind it.

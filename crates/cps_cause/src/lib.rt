@@ -16,11 +16,13 @@
 //! - `findings.rt`: causes as they are found, statement by statement
 //! - `forms.rt`: operands of instructions that can't be read
 //! - `items.rt`: data items that can't be read
+//! - `left_out.rt`: operations that COMPASS has and this assembler leaves out
 //! - `letter.rt`: the letters of flags
 //! - `limit_fault.rt`: E, limits
 //! - `location_fault.rt`: L
 //! - `locations.rt`: location fields and operation fields
 //! - `misreading.rt`: why a text is no expression
+//! - `near.rt`: names that may be meant in the place of one that stands for nothing
 //! - `no_symbol.rt`: why a text is no symbol
 //! - `open_now.rt`: how much is open behind lines
 //! - `opener.rt`: which line opened what is open
@@ -30,6 +32,7 @@
 //! - `places.rt`: what other lines say, when the words of a cause are made
 //! - `quotation.rt`: what words quote of a statement
 //! - `showing.rt`: where in a line shows what is found in the statements that it opens
+//! - `slips.rt`: the names that a slip makes another of
 //! - `statement.rt`: a flagged statement, as causes are looked for in it
 //! - `structure.rt`: where statements stand, and limits of what is open
 //! - `structure_fault.rt`: E, where statements stand
@@ -61,11 +64,13 @@ mod expressions;
 mod findings;
 mod forms;
 mod items;
+mod left_out;
 mod letter;
 mod limit_fault;
 mod location_fault;
 mod locations;
 mod misreading;
+mod near;
 mod no_symbol;
 mod open_now;
 mod opener;
@@ -75,6 +80,7 @@ mod operation_fault;
 mod places;
 mod quotation;
 mod showing;
+mod slips;
 mod statement;
 mod structure;
 mod structure_fault;
@@ -93,6 +99,7 @@ pub use card::{Card, filled_columns, filled_len};
 pub use columns::Columns;
 pub use diagnostic::Diagnostic;
 pub use explaining::{explain, explain_end};
+pub use left_out::LeftOut;
 pub use letter::Letter;
 pub use opener::{LinesAbove, line_of_opener, opener_of};
 pub use places::Places;

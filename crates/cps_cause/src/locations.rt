@@ -4,8 +4,10 @@ use crate::asks::Asks;
 use crate::cause::Cause;
 use crate::definition_fault::DefinitionFault;
 use crate::findings::Findings;
+use crate::left_out::LeftOut;
 use crate::letter::Letter;
 use crate::location_fault::LocationFault;
+use crate::near::near_operation;
 use crate::operation_fault::OperationFault;
 use crate::statement::FlaggedStatement;
 use cps_code::is_builtin;
@@ -13,7 +15,7 @@ use cps_expr::{Machine, Operation};
 use cps_pass::{Location, Reading, ask_value};
 use cps_state::{Key, Lookup, Recorder};
 use cps_text::Name;
-use std::alloc::AllocError;
+use std::alloc::{AllocError, Global};
 
 /// What is wrong with the location field of a statement that is assembled.
 pub fn find_location(
@@ -91,25 +93,33 @@ pub fn find_operation(
             statement.card.location_or_operation(),
         ),
         Reading::Unknown(name) => findings.add(
-            Cause::Operation(unknown_operation(statement, *name)),
+            Cause::Operation(unknown_operation(findings.alloc(), statement, *name)?),
             statement.card.operation_or_all(),
         ),
         _ => Ok(()),
     }
 }
 
-fn unknown_operation(statement: &FlaggedStatement<'_>, name: Option<Name>) -> OperationFault {
-    if is_builtin(statement.card.operation_text()) {
-        return match statement.control.machine {
-            Machine::Cp => OperationFault::Peripheral,
+fn unknown_operation(
+    alloc: Global,
+    statement: &FlaggedStatement<'_>,
+    name: Option<Name>,
+) -> Result<OperationFault, AllocError> {
+    let written = statement.card.operation_text();
+    if is_builtin(written) {
+        return Ok(match statement.control.machine {
+            Machine::Cp => OperationFault::Peripheral(near_operation(alloc, statement)?),
             Machine::Pp => OperationFault::Central,
-        };
+        });
     }
-    match name {
-        None => OperationFault::NoName,
-        Some(name) if statement.finals.state().ask(&Key::Macro(name)).is_some() => {
-            OperationFault::DefinedBelow
-        }
-        Some(_) => OperationFault::Unknown,
+    let Some(name) = name else {
+        return Ok(OperationFault::NoName);
+    };
+    if statement.finals.state().ask(&Key::Macro(name)).is_some() {
+        return Ok(OperationFault::DefinedBelow);
+    }
+    match LeftOut::named(written) {
+        Some(left_out) => Ok(OperationFault::LeftOut(left_out)),
+        None => Ok(OperationFault::Unknown(near_operation(alloc, statement)?)),
     }
 }

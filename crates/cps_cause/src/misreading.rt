@@ -30,7 +30,11 @@ impl Misreading {
         if let Misreading::Empty = self {
             return text.push(b"an operand is empty");
         }
-        push_quoted(text, b"", shown, self.reason())
+        push_quoted(text, b"", shown, self.reason())?;
+        match self {
+            Misreading::Part => push_number_meant(text, shown),
+            _ => Ok(()),
+        }
     }
 
     /// What is told of the text.
@@ -47,5 +51,39 @@ impl Misreading {
             Misreading::Literal => b": a literal can't stand here",
             Misreading::Part => b" is no number, no symbol and no *",
         }
+    }
+}
+
+/// Appends the number that may be meant by a text with letters that look like digits, if digits and perhaps a base are all else that it has.
+fn push_number_meant(text: &mut Wording, shown: &[u8]) -> Result<(), AllocError> {
+    let (digits, base) = match shown {
+        [digits @ .., last] if is_base(*last) => (digits, &shown[digits.len()..]),
+        _ => (shown, &shown[..0]),
+    };
+    if digits.is_empty() || !digits.iter().all(|byte| is_meant_digit(*byte)) {
+        return Ok(());
+    }
+    text.push(b"; perhaps ")?;
+    for byte in digits {
+        text.push(&[digit_meant(*byte)])?;
+    }
+    text.push(base)
+}
+
+/// Whether a letter is that of a base, and no letter that looks like a digit.
+fn is_base(letter: u8) -> bool {
+    matches!(letter, b'B' | b'b' | b'D' | b'd')
+}
+
+fn is_meant_digit(byte: u8) -> bool {
+    digit_meant(byte).is_ascii_digit()
+}
+
+/// The digit that a letter looks like; another character is itself.
+fn digit_meant(byte: u8) -> u8 {
+    match byte {
+        b'O' | b'o' => b'0',
+        b'I' | b'i' | b'L' | b'l' => b'1',
+        _ => byte,
     }
 }

@@ -23,6 +23,8 @@ pub enum OperandFault {
     Block,
     /// A text is no data item.
     Item,
+    /// Something stands behind the characters of a data item, which are so many.
+    CountedItem(usize),
     /// A field of VFD has no `/`.
     NoSlash,
     /// DIS has no comma.
@@ -71,6 +73,7 @@ impl OperandFault {
                 push_quoted(text, b"", quotation.operation, b" takes")
             }
             OperandFault::ArgumentsTooMany(count) => push_arguments(text, count),
+            OperandFault::CountedItem(count) => push_counted(text, shown, count),
             _ => push_quoted(text, self.front(), shown, self.rest()),
         }
     }
@@ -147,6 +150,18 @@ fn rule_of(operation: &[u8]) -> &'static [u8] {
         Some(_) => b"one operand",
         None => b"an operand",
     }
+}
+
+/// Appends that something stands behind so many characters of a data item.
+fn push_counted(text: &mut Wording, shown: &[u8], count: usize) -> Result<(), AllocError> {
+    let number = i64::try_from(count).unwrap_or(0);
+    push_quoted(text, b"", shown, b" takes ")?;
+    push_number(
+        text,
+        b"",
+        number,
+        b" characters, and no comma and no blank stands behind them",
+    )
 }
 
 /// Appends that a call has too many arguments for so many parameters.

@@ -1,18 +1,18 @@
 //! Why a symbol has flag U.
 use crate::places::Places;
-use crate::wording::{Wording, push_line, push_quoted};
+use crate::wording::{Wording, push_line, push_perhaps, push_quoted};
 use cps_text::Name;
 use std::alloc::AllocError;
 
 /// A symbol without a value.
 #[derive(Clone, Copy, PartialEq, Eq)]
 pub enum SymbolFault {
-    /// No line gives it one, and it is needed as the line is read.
-    UndefinedNow(Name),
+    /// No line gives it one, and it is needed as the line is read. A symbol that has one may be near to it.
+    UndefinedNow(Name, Option<Name>),
     /// A line below gives it one, and it is needed as the line is read.
     DefinedBelow(Name),
-    /// No line gives it one.
-    Undefined(Name),
+    /// No line gives it one. A symbol that has one may be near to it.
+    Undefined(Name, Option<Name>),
     /// SET gives it one, and not before.
     SetBelow(Name),
 }
@@ -25,12 +25,10 @@ impl SymbolFault {
         places: &P,
     ) -> Result<(), AllocError> {
         match self {
-            SymbolFault::UndefinedNow(name) => push_undefined(
-                text,
-                b"no line gives ",
-                name,
-                NEEDED,
-            ),
+            SymbolFault::UndefinedNow(name, near) => {
+                push_undefined(text, b"no line gives ", name, NEEDED)?;
+                push_perhaps(text, near)
+            }
             SymbolFault::DefinedBelow(name) => {
                 push_undefined(text, b"no line above gives ", name, NEEDED)?;
                 push_line(
@@ -39,7 +37,10 @@ impl SymbolFault {
                     places.line_of_symbol(name),
                 )
             }
-            SymbolFault::Undefined(name) => push_undefined(text, b"no line gives ", name, COUNTED),
+            SymbolFault::Undefined(name, near) => {
+                push_undefined(text, b"no line gives ", name, COUNTED)?;
+                push_perhaps(text, near)
+            }
             SymbolFault::SetBelow(name) => push_quoted(
                 text,
                 b"",

@@ -5,6 +5,7 @@ use crate::columns::Columns;
 use crate::cut_fault::CutFault;
 use crate::findings::Findings;
 use crate::limit_fault::{FarAddress, LimitFault};
+use crate::near::near_symbol;
 use crate::operands::{PlacedText, list_operands};
 use crate::statement::FlaggedStatement;
 use crate::symbol_fault::SymbolFault;
@@ -229,7 +230,10 @@ fn find_undefined(
                 Some(part) => part.columns_of(*name),
                 None => field.columns,
             };
-            findings.add(undefined_later(statement, *name), columns)?;
+            findings.add(
+                undefined_later(findings.alloc(), statement, *name)?,
+                columns,
+            )?;
         }
     }
     Ok(())
@@ -245,12 +249,16 @@ fn is_known(statement: &FlaggedStatement<'_>, name: Name) -> bool {
     statement.finals.label(name).is_some()
 }
 
-fn undefined_later(statement: &FlaggedStatement<'_>, name: Name) -> Cause {
+fn undefined_later(
+    alloc: Global,
+    statement: &FlaggedStatement<'_>,
+    name: Name,
+) -> Result<Cause, AllocError> {
     if statement.finals.setting(name).is_some() {
-        Cause::Symbol(SymbolFault::SetBelow(name))
-    } else {
-        Cause::Symbol(SymbolFault::Undefined(name))
+        return Ok(Cause::Symbol(SymbolFault::SetBelow(name)));
     }
+    let near = near_symbol(alloc, statement.finals, name)?;
+    Ok(Cause::Symbol(SymbolFault::Undefined(name, near)))
 }
 
 /// Rows of a statement that stand past the machine's words, and statements that would pass them.

@@ -5,6 +5,7 @@ use crate::cause::Cause;
 use crate::demands::{Demand, DemandedValue, list_demands};
 use crate::findings::Findings;
 use crate::limit_fault::LimitFault;
+use crate::near::near_symbol;
 use crate::operands::{PlacedText, list_operands};
 use crate::statement::FlaggedStatement;
 use crate::symbol_fault::SymbolFault;
@@ -17,7 +18,7 @@ use cps_pass::{Location, ValueNow, stand, value_here};
 use cps_state::{Recorder, is_same_block, limit_of};
 use cps_text::Name;
 use cps_text::limits::MOST_TIMES;
-use std::alloc::AllocError;
+use std::alloc::{AllocError, Global};
 
 /// The greatest width of a field.
 const MOST_BITS: i64 = 60;
@@ -89,7 +90,7 @@ fn find_in_demanded(
     if valued.undefined {
         for symbol in symbols.as_slice() {
             if symbol.value.is_none() {
-                let cause = undefined_now(statement.finals, symbol.name);
+                let cause = undefined_now(findings.alloc(), statement.finals, symbol.name)?;
                 findings.add(cause, demanded.part.columns_of(symbol.name))?;
             }
         }
@@ -106,12 +107,12 @@ fn find_in_demanded(
 }
 
 /// A symbol that has no value yet.
-fn undefined_now(finals: &Finals, name: Name) -> Cause {
+fn undefined_now(alloc: Global, finals: &Finals, name: Name) -> Result<Cause, AllocError> {
     if finals.label(name).is_some() || finals.setting(name).is_some() {
-        Cause::Symbol(SymbolFault::DefinedBelow(name))
-    } else {
-        Cause::Symbol(SymbolFault::UndefinedNow(name))
+        return Ok(Cause::Symbol(SymbolFault::DefinedBelow(name)));
     }
+    let near = near_symbol(alloc, finals, name)?;
+    Ok(Cause::Symbol(SymbolFault::UndefinedNow(name, near)))
 }
 
 /// Why a statement doesn't take a value, None where it does.

@@ -3,6 +3,7 @@ ghost use Rattle.std.specs.Prelude.{◌≡◌, ◌++◌, [], true, OnOk};
 ghost use Rattle.cps_input.specs.Shown.{has_no_control};
 ghost use Rattle.cps_cause.specs.Sentence.{cleaned, cleaned_byte};
 
+use cps_text::Name;
 use itoa::Buffer;
 use std::alloc::{AllocError, Global};
 use std::marker::Model;
@@ -101,6 +102,14 @@ pub fn push_number(
     text.push(before)?;
     text.push(Buffer::new().format(number).as_bytes())?;
     text.push(behind)
+}
+
+/// Appends a name that may be meant, if there is one.
+pub fn push_perhaps(text: &mut Wording, near: Option<Name>) -> Result<(), AllocError> {
+    match near {
+        Some(name) => push_quoted(text, b"; perhaps ", name.text(), b""),
+        None => Ok(()),
+    }
 }
 
 /// Appends the number of a line behind a text, if the line is known.

@@ -4,6 +4,7 @@ use Rattle.cps_text.specs.Text.{among, capital}
 use Rattle.cps_expr.specs.Operation.{operation_named}
 use Rattle.cps_code.specs.Table.{is_operation}
 use Rattle.cps_code.specs.PeripheralTable.{is_operation as is_peripheral_operation}
+use Rattle.cps_cause.specs.LeftOut.{is_left_out}
 use Rattle.cps_check.specs.Names.{full_name}
 use Rattle.cps_check.specs.Central.{central_text}
 use Rattle.cps_check.specs.Codes.{is_code, code_text}
@@ -20,8 +21,12 @@ is_flag (letter ∷ []) = is_flag_letter (capital letter)
 is_flag (letter ∷ more ∷ word) = false
 
 -- the letter of a flag, or a statement
+abbrev pub is_flag_or_statement : List ℕ → Bool
+is_flag_or_statement word = is_flag word || is_some (operation_named word)
+
+-- one of these, or an operation of COMPASS that is left out: of them sentences are told
 abbrev pub is_told_by_sentences : List ℕ → Bool
-is_told_by_sentences word = is_flag word || is_some (operation_named word)
+is_told_by_sentences word = is_flag_or_statement word || is_left_out word
 
 -- an instruction of either machine; the digit of a register may lack
 abbrev pub is_instruction : List ℕ → Bool

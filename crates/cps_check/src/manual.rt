@@ -7,10 +7,11 @@ use crate::codes::code_text;
 use crate::flags::flag_text;
 use crate::instruction::instruction_text;
 use crate::statements::statement_text;
+use cps_cause::LeftOut;
 use cps_expr::Operation;
 use std::alloc::{AllocError, Global};
 
-/// What is told of a word: of the letter of a flag, of a statement, of an instruction of either machine, whose name may lack the digit
+/// What is told of a word: of the letter of a flag, of a statement, of an operation of COMPASS that is left out, of an instruction of either machine, whose name may lack the digit
 /// of a register, or of an octal code, by how many digits it has. Lower-case letters stand for capitals. None where the word is nothing of
 /// that. Each row ends with a newline.
 pub fn manual_text(alloc: Global, word: &[u8]) -> Result<Option<Vec<u8>>, AllocError>
@@ -19,8 +20,11 @@ pub fn manual_text(alloc: Global, word: &[u8]) -> Result<Option<Vec<u8>>, AllocE
     ensures rows { IfOk result (λ text. IfSome text (λ text.
         told.is_told_by_sentences word.now ≡ false → told.TellsForms word.now text.items)) }
 {
-    match sentences(word) {
-        Some(text) => Ok(Some(copied(alloc, text)?)),
+    if let Some(text) = sentences(word) {
+        return Ok(Some(copied(alloc, text)?));
+    }
+    match LeftOut::named(word) {
+        Some(left_out) => Ok(Some(left_out_text(alloc, word, left_out)?)),
         None => forms_text(alloc, word),
     }
 }
@@ -38,7 +42,7 @@ fn forms_text(alloc: Global, word: &[u8]) -> Result<Option<Vec<u8>>, AllocError>
 
 /// What is told of the letter of a flag, or of a statement.
 fn sentences(word: &[u8]) -> Option<&'static str>
-    ensures { is_some result ≡ told.is_told_by_sentences word.now }
+    ensures { is_some result ≡ told.is_flag_or_statement word.now }
 {
     match flag_text(word) {
         Some(text) => Some(text),
@@ -47,6 +51,16 @@ fn sentences(word: &[u8]) -> Option<&'static str>
             None => None,
         },
     }
+}
+
+/// What is told of an operation that is left out.
+fn left_out_text(alloc: Global, word: &[u8], left_out: LeftOut) -> Result<Vec<u8>, AllocError> {
+    let mut text = Vec::new(alloc);
+    text.extend_from_slice(word)?;
+    text.extend_from_slice(b" is an operation of COMPASS that is left out here: ")?;
+    text.extend_from_slice(left_out.words())?;
+    text.push(b'\n')?;
+    Ok(text)
 }
 
 fn copied(alloc: Global, text: &str) -> Result<Vec<u8>, AllocError> {

@@ -8,7 +8,23 @@ TAG
 > 1:1-3 O no operation stands behind TAG
 
           ENTRY   X
-> 1:11-15 O ENTRY is no operation, and no macro above has this name
+> 1:11-15 O ENTRY is an operation of COMPASS that is left out here: where nothing hangs on it, an empty macro of its name takes its place, called behind ABS or PERIPH
+
+          xj      B1
+> 1:11-12 O xj is an operation of COMPASS that is left out here: it is an instruction of some central processors; write a VFD of its code
+
+          FORTRAN
+> 1:11-17 O FORTRAN is no operation, and no macro above has this name
+
+          SBI     1
+> 1:11-13 O SBI is an instruction of a peripheral processor, and no PERIPH stands above; perhaps SB1
+
+          SXl     1
+> 1:11-13 O SXl is no operation, and no macro above has this name; perhaps SX1
+
+          PERIPH
+          LDDN    1
+> 2:11-14 O LDDN is no operation, and no macro above has this name; perhaps LDN
 
           M
 M         MACRO
@@ -94,6 +110,22 @@ Q         EQU     1
 
           SX1     Q
 > 1:19-19 U no line gives Q a value; it counts as 0
+
+TABLE     SA1     TABEL
+> 1:19-23 U no line gives TABEL a value; it counts as 0; perhaps TABLE
+
+LOOP      BSS     1
+          BSS     L0OP
+> 2:19-22 U no line gives L0OP a value, and it must have one here; perhaps LOOP
+
+          SX1     1O0B
+> 1:19-22 A 1O0B is no number, no symbol and no *; perhaps 100B
+
+          SB2     X1-1R0
+> 1:22-24 A 1R0: characters can't stand in an expression, only in DATA and behind =
+
+          DATA    10HHELLO WORLD
+> 1:19-21 A 10H takes 10 characters, and no comma and no blank stands behind them
 
           CON     Q
 Q         SET     1

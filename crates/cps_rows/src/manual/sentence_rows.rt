@@ -1,7 +1,7 @@
 //! What is told of letters of flags and of statements, and of words that are nothing.
 use super::assertions::{assert_named, assert_told};
 
-const SENTENCES: [(&[u8], &str); 8] = [
+const SENTENCES: [(&[u8], &str); 10] = [
     (b"T", "T: a value that was cut\n"),
     (
         b"v",
@@ -24,6 +24,14 @@ const SENTENCES: [(&[u8], &str); 8] = [
         "TITLE SPACE EJECT LIST\nOperands: not read\nEffect: accepted and listed, and does nothing\n",
     ),
     (
+        b"xj",
+        "xj is an operation of COMPASS that is left out here: it is an instruction of some central processors; write a VFD of its code\n",
+    ),
+    (
+        b"R=",
+        "R= is an operation of COMPASS that is left out here: it sets a register; SA, SB or SX does that\n",
+    ),
+    (
         b"ENDIF",
         "ENDIF\nOperands: not read\nEffect: ends the range. E without one\n",
     ),
@@ -43,7 +51,7 @@ const NAMES: [&[u8]; 42] = [
 
 /// Words of which nothing is told.
 const NOTHING: [&[u8]; 15] = [
-    b"", b"B", b"AA", b"S", b"SA8", b"SA10", b"SAI", b"RJ0", b"RJ1", b"LDN0", b"LD", b"ENTRY",
+    b"", b"B", b"AA", b"S", b"SA8", b"SA10", b"SAI", b"RJ0", b"RJ1", b"LDN0", b"LD", b"FORTRAN",
     b"VFDS", b"0", b"SA ",
 ];
 
