@@ -1,0 +1,12 @@
+-- For the code of a page, not part of what a reader believes: markup in the making.
+use Rattle.std.specs.Prelude.{◌≡◌, ℕ, List, ◌++◌, All}
+use Rattle.cps_markup.specs.declared.place.Place.{Place}
+use Rattle.cps_markup.specs.Markup.{Markup, Link, written, said, places, links}
+
+-- a page has markup more, which says a text and has these places, and whose links are good
+pub record Adds (IsGood : Link → Type 0) (words : List ℕ) (here : List Place) (old new : List ℕ) : Type 0 where
+  pub markup : Markup
+  pub whole : new ≡ old ++ written markup
+  pub same_words : said markup ≡ words
+  pub same_places : places markup ≡ here
+  pub good : All IsGood (links markup)

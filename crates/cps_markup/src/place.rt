@@ -1,0 +1,51 @@
+//! What a link leads to.
+ghost use Rattle.std.specs.Prelude.{◌≡◌, ◌++◌, OnOk};
+ghost use Rattle.cps_markup.specs.Markup.{escaped};
+ghost use Rattle.cps_markup.specs.Places.{place_text, section_name};
+
+use crate::escaping::push_text;
+use cps_text::Name;
+use itoa::Buffer;
+use std::alloc::AllocError;
+
+/// A section of a page: one of the four texts.
+#[derive(Clone, Copy, PartialEq, Eq)]
+pub enum PageSection {
+    Listing,
+    Words,
+    Symbols,
+    Flags,
+}
+
+impl PageSection {
+    /// The word that identifies the section.
+    pub fn name(self) -> &'static [u8]
+        ensures { result.now ≡ section_name self }
+    {
+        match self {
+            PageSection::Listing => b"listing",
+            PageSection::Words => b"words",
+            PageSection::Symbols => b"symbols",
+            PageSection::Flags => b"flags",
+        }
+    }
+}
+
+/// A place of a page: a line of the listing, by its number from 1, a row of the cross-reference, or a section.
+#[derive(Clone, Copy, PartialEq, Eq)]
+pub enum Place {
+    Line(u32),
+    Symbol(Name),
+    Section(PageSection),
+}
+
+/// Appends the identifier of a place.
+pub fn push_place(page: &mut Vec<u8>, place: Place) -> Result<(), AllocError>
+    ensures { OnOk result (page.new.items ≡ page.old.items ++ escaped (place_text place)) }
+{
+    match place {
+        Place::Line(number) => push_text(page, Buffer::new().format(number).as_bytes()),
+        Place::Symbol(name) => push_text(page, name.text()),
+        Place::Section(section) => push_text(page, section.name()),
+    }
+}
