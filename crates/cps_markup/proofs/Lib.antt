@@ -1,0 +1,2 @@
+pub mod AddsLemmas
+pub mod LinkLemmas

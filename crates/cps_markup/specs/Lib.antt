@@ -1,3 +1,4 @@
 pub mod Markup
 pub mod Places
+pub mod Links
 pub mod Code

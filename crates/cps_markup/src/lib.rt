@@ -1,20 +1,32 @@
-//! An assembled source as a page: one file of HTML, which says the four texts, marked up.
+//! An assembled source as a page: markup, which says rows of a text and leads to its places.
 //!
-//! - `attribute.rt`: what an element has
+//! - `attribute.rt`: the begins and ends of elements
 //! - `escaping.rt`: text, with those characters by name that begin markup
+//! - `link.rt`: links, each of which leads somewhere
+//! - `painting.rt`: how rows are painted
 //! - `place.rt`: what a link leads to
+//! - `rows.rt`: rows of a text
+//! - `stretch.rt`: a row, part by part
 //! - `style.rt`: how a part of a row looks
 //! - `tag.rt`: the kinds of elements
+//! - `targets.rt`: the lines and symbols to which links can lead
 #![tactic(auto)]
 
 mod attribute;
 mod escaping;
+mod link;
+mod painting;
 mod place;
+mod rows;
+mod stretch;
 mod style;
 mod tag;
+mod targets;
 
 pub use attribute::{Attribute, push_closing, push_opening};
 pub use escaping::push_text;
 pub use place::{PageSection, Place};
+pub use rows::{push_group, push_rows, row_length};
 pub use style::Style;
 pub use tag::Tag;
+pub use targets::{Entry, Targets};

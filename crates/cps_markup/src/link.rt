@@ -1,0 +1,66 @@
+//! Links, each of which leads somewhere.
+ghost use Rattle.std.specs.Prelude.{◌≡◌, [], OnOk};
+ghost use Rattle.cps_markup.specs.Links.{Leads};
+ghost use Rattle.cps_markup.specs.Code.Adding.{Adds};
+
+use crate::attribute::{Attribute, push_closing, push_opening};
+use crate::escaping::push_text;
+use crate::place::Place;
+use crate::style::Style;
+use crate::tag::Tag;
+use crate::targets::Targets;
+use std::alloc::AllocError;
+
+/// Appends words that lead to a place, or the words alone where no link may lead there.
+pub fn push_link(
+    page: &mut Vec<u8>,
+    targets: &Targets,
+    words: &[u8],
+    place: Place,
+) -> Result<(), AllocError>
+    ensures { OnOk result (Adds (Leads targets.now) words.now [] page.old.items page.new.items) }
+{
+    if targets.allows(words, place) {
+        push_allowed(page, targets, words, place)
+    } else {
+        push_plain(page, targets, words)
+    }
+}
+
+fn push_allowed(
+    page: &mut Vec<u8>,
+    targets: &Targets,
+    words: &[u8],
+    place: Place,
+) -> Result<(), AllocError>
+    requires { Leads targets.now (record { place = place; words = words.now }) }
+    ensures { OnOk result (Adds (Leads targets.now) words.now [] page.old.items page.new.items) }
+{
+    push_opening(page, Tag::Link, &[Attribute::Target(place)])?;
+    push_text(page, words)?;
+    push_closing(page, Tag::Link)?;
+    Ok(())
+}
+
+/// Appends words as they are.
+pub fn push_plain(page: &mut Vec<u8>, targets: &Targets, words: &[u8]) -> Result<(), AllocError>
+    ensures { OnOk result (Adds (Leads targets.now) words.now [] page.old.items page.new.items) }
+{
+    push_text(page, words)?;
+    Ok(())
+}
+
+/// Appends words of a style.
+pub fn push_styled(
+    page: &mut Vec<u8>,
+    targets: &Targets,
+    words: &[u8],
+    style: Style,
+) -> Result<(), AllocError>
+    ensures { OnOk result (Adds (Leads targets.now) words.now [] page.old.items page.new.items) }
+{
+    push_opening(page, Tag::Part, &[Attribute::Styled(style)])?;
+    push_text(page, words)?;
+    push_closing(page, Tag::Part)?;
+    Ok(())
+}

@@ -1,0 +1,99 @@
+//! The lines and symbols of a page, to which links can lead.
+ghost use Rattle.std.specs.Prelude.{◌≡◌, ◌≤◌, ℕ, IsTrue, IfSome, Some, length};
+ghost use Rattle.std.specs.List.{list_any};
+ghost use Rattle.cps_text.specs.Name.{name_of};
+ghost use Rattle.cps_markup.specs.Links.{HasPlace, IsHome, Leads, is_defined, is_of};
+
+use crate::place::Place;
+use cps_text::Name;
+
+/// A symbol of the cross-reference, with the number of the line that defines it, 0 where none does.
+#[derive(Clone, Copy, PartialEq, Eq)]
+pub struct Entry {
+    pub name: Name,
+    pub line: u32,
+}
+
+/// The lines and symbols that a page has places for: how many lines there are, and the symbols in the order of their names.
+#[derive(Drop)]
+pub struct Targets {
+    pub count: u32,
+    pub entries: Vec<Entry>,
+}
+
+impl Targets {
+    /// Whether a link of these words may lead to a place.
+    pub fn allows(&self, words: &[u8], place: Place) -> bool
+        ensures { IsTrue result → Leads self.now (record { place = place; words = words.now }) }
+    {
+        match place {
+            Place::Line(number) => self.allows_line(words, number),
+            Place::Symbol(name) => self.has_symbol(name),
+            Place::Section(_) => true,
+        }
+    }
+
+    fn allows_line(&self, words: &[u8], number: u32) -> bool
+        ensures there { IsTrue result → (1 ≤ number) × (number ≤ self.now.count) }
+        ensures home { IsTrue result → IsHome self.now words.now number }
+    {
+        1 <= number && number <= self.count && self.is_home(words, number)
+    }
+
+    /// Whether words are no symbol, or one that a line defines.
+    fn is_home(&self, words: &[u8], number: u32) -> bool
+        ensures { IsTrue result → IsHome self.now words.now number }
+    {
+        match Name::read(words) {
+            Some(name) => self.is_defined(name, number),
+            None => true,
+        }
+    }
+
+    fn is_defined(&self, name: Name, number: u32) -> bool
+        ensures { IsTrue result → IsTrue (list_any (is_defined name number) self.now.entries.items) }
+    {
+        match self.line_of(name) {
+            Some(line) => line == number,
+            None => false,
+        }
+    }
+
+    /// Whether the cross-reference has a symbol.
+    fn has_symbol(&self, name: Name) -> bool
+        ensures { IsTrue result → IsTrue (list_any (is_of name) self.now.entries.items) }
+    {
+        let place = self.place_of(name);
+        place < self.entries.len() && name == self.entries[place].name
+    }
+
+    /// The number of the line that defines a symbol of the cross-reference, 0 where none does.
+    pub fn line_of(&self, name: Name) -> Option<u32>
+        ensures { IfSome result (λ line. IsTrue (list_any (is_defined name line) self.now.entries.items)) }
+    {
+        let place = self.place_of(name);
+        if place >= self.entries.len() {
+            return None;
+        }
+        let entry = self.entries[place];
+        if name != entry.name {
+            return None;
+        }
+        Some(entry.line)
+    }
+
+    /// How many symbols stand before a name.
+    fn place_of(&self, name: Name) -> usize {
+        let mut low = 0;
+        let mut high = self.entries.len();
+        while low < high {
+            let middle = low + (high - low) / 2;
+            if self.entries[middle].name < name {
+                low = middle + 1;
+            } else {
+                high = middle;
+            }
+        }
+        low
+    }
+}
