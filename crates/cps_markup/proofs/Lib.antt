@@ -1,2 +1,3 @@
 pub mod AddsLemmas
+pub mod EscapingLemmas
 pub mod LinkLemmas

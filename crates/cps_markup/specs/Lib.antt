@@ -1,4 +1,5 @@
 pub mod Markup
 pub mod Places
+pub mod EscapingLaws
 pub mod Links
 pub mod Code

@@ -2,6 +2,7 @@
 //!
 //! - `attribute.rt`: the begins and ends of elements
 //! - `escaping.rt`: text, with those characters by name that begin markup
+//! - `escaping_laws.rt`: what holds of text in markup
 //! - `link.rt`: links, each of which leads somewhere
 //! - `painting.rt`: how rows are painted
 //! - `place.rt`: what a link leads to
@@ -14,6 +15,7 @@
 
 mod attribute;
 mod escaping;
+mod escaping_laws;
 mod link;
 mod painting;
 mod place;
@@ -25,6 +27,7 @@ mod targets;
 
 pub use attribute::{Attribute, push_closing, push_opening};
 pub use escaping::push_text;
+pub use escaping_laws::{a_text_is_read_back, no_text_is_markup};
 pub use place::{PageSection, Place};
 pub use rows::{push_group, push_rows, row_length};
 pub use style::Style;

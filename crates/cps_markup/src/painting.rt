@@ -75,19 +75,29 @@ fn symbol_stretch(targets: &Targets, row: &[u8], before: usize) -> Stretch {
 /// The flags, the address, the code, the number and the line.
 fn listing_stretch(targets: &Targets, row: &[u8], before: usize) -> Stretch {
     let rest = behind(row, before);
+    if before >= BEFORE_LINE {
+        return line_stretch(targets, behind(row, BEFORE_LINE), before - BEFORE_LINE);
+    }
+    let blanks = blank_length(rest);
+    if blanks > 0 {
+        return plain(blanks.min(BEFORE_LINE - before));
+    }
+    front_stretch(row, rest, before)
+}
+
+/// A word of a row before the line: flags, an address, a code, or a number, which leads to the line itself.
+fn front_stretch(row: &[u8], rest: &[u8], before: usize) -> Stretch {
+    let length = length_until_blank(rest);
     if before < BEFORE_ADDRESS {
-        return styled(BEFORE_ADDRESS - before, Style::Flag);
+        return styled(length, Style::Flag);
     }
     if before < BEFORE_CODE {
-        return styled(BEFORE_CODE - before, Style::Grey);
+        return styled(length, Style::Grey);
     }
     if before < BEFORE_NUMBER {
         return code_stretch(row, before);
     }
-    if before < BEFORE_LINE {
-        return number_column(rest, BEFORE_LINE - before);
-    }
-    line_stretch(targets, behind(row, BEFORE_LINE), before - BEFORE_LINE)
+    number_stretch(rest.split_at(length).0)
 }
 
 /// A part of an instruction's code: the fields i, j and k, or an address. Codes of words and of fields have no such parts.
@@ -121,16 +131,6 @@ fn has_fields(line: &[u8]) -> bool {
     let rest = behind(line, location);
     let operation = behind(rest, blank_length(rest));
     operation.is_empty() || operation.starts_with(b"VFD")
-}
-
-/// The column of a line's number, which leads to the line itself.
-fn number_column(rest: &[u8], width: usize) -> Stretch {
-    let blanks = blank_length(rest);
-    if blanks > 0 {
-        return plain(blanks.min(width));
-    }
-    let digits = length_until_blank(rest);
-    number_stretch(rest.split_at(digits.min(width).min(rest.len())).0)
 }
 
 /// A part of a line: a symbol that it defines leads to the cross-reference, one that it reads to its definition.
