@@ -1,0 +1,141 @@
+-- A page from its sections, and sections from their rows.
+use Rattle.std.proofs.Common.{◌≡◌, ℕ, suc, ◌+◌, ◌-◌, ◌≤◌, ◌<◌, refl, sym, ap, subst, ◌∙◌, List, [], ◌∷◌, ◌++◌, append-nil, append_assoc, get_or, take, drop, length, arith}
+use Rattle.std.specs.Prelude.{All, IsTrue, Some, slice_get, count_by}
+use Rattle.std.specs.List.{list_any}
+use Rattle.std.proofs.lemmas.List.{at_drop_more, drop_all, take-append-drop}
+use Rattle.std.proofs.lemmas.List.Elements.{All-append}
+use Rattle.cps_final.specs.Outcome.{Outcome}
+use Rattle.cps_final.specs.declared.row.Row.{Row}
+use Rattle.cps_list.specs.Assembly.{Assembly}
+use Rattle.cps_list.specs.Binary.{binary_text}
+use Rattle.cps_list.specs.Flagged.{flags_text}
+use Rattle.cps_list.specs.ListingText.{line_rows, listing_from, listing_text}
+use Rattle.cps_list.specs.Symbols.{symbols_text}
+use Rattle.cps_list.proofs.ViewLemmas.{drop-next}
+use Rattle.cps_markup.specs.declared.attribute.Attribute.TheVariants.{Identifier}
+use Rattle.cps_markup.specs.declared.place.Place.{Place}
+use Rattle.cps_markup.specs.declared.place.Place.TheVariants.{Line, Symbol, Section}
+use Rattle.cps_markup.specs.declared.place.PageSection.{PageSection}
+use Rattle.cps_markup.specs.declared.place.PageSection.TheVariants as page
+use Rattle.cps_markup.specs.declared.tag.Tag.TheVariants as tag
+use Rattle.cps_markup.specs.declared.targets.Entry.{Entry}
+use Rattle.cps_markup.specs.declared.targets.Targets.{Targets}
+use Rattle.cps_markup.specs.Links.{Leads}
+use Rattle.cps_markup.specs.Markup.{Link, written, said, places, links, opening, closing}
+use Rattle.cps_markup.specs.Places.{same_place}
+use Rattle.cps_markup.specs.Code.Adding.{Adds}
+use Rattle.cps_markup.proofs.AddsLemmas.{adds-joined, adds-nothing, all-none}
+use Rattle.cps_page.specs.Page.{Sections, body, section, IsPage, LeadsHome}
+use Rattle.cps_page.specs.Code.Making.{lines_from, symbols_among, all_places, AddsSection, AddsSections, AreTargets}
+use Rattle.cps_page.proofs.EntryLemmas.{found-defined}
+use Rattle.cps_page.proofs.PlaceLemmas.{all-once, all-there}
+
+-- ---- the lines of the listing
+
+module _ (P : Link → Type 0) where
+  pub adds-same : (s t : List ℕ) (p q : List Place) (old new : List ℕ) → s ≡ t → p ≡ q → Adds P s p old new → Adds P t q old new
+  adds-same s t p q old new words here a = subst (λ l. Adds P l q old new) words (subst (λ l. Adds P s l old new) here a)
+
+  next : (i : ℕ) → i + 1 ≡ suc i
+  next i = omega arith
+
+  same-place : (i : ℕ) → i + 1 - 1 ≡ i
+  same-place i = omega arith
+
+  behind-next : {T : Type 0} (xs : List T) (i : ℕ) (x : T) → slice_get xs (i + 1 - 1) ≡ Some x → drop i xs ≡ x ∷ drop (i + 1) xs
+  behind-next xs i x is = drop-next xs i x (ap (slice_get xs) (sym (same-place i)) ∙ is) ∙ ap (λ n. x ∷ drop n xs) (sym (next i))
+
+  -- the rows of the next line, and those of the lines after it
+  pub adds-line : (lines : List (List ℕ)) (outcomes : List Outcome) (i : ℕ) (line bytes : List ℕ) (outcome : Outcome) (shown : List Row) (rows old new last : List ℕ)
+      → slice_get lines (i + 1 - 1) ≡ Some line → slice_get outcomes (i + 1 - 1) ≡ Some outcome → bytes ≡ line → shown ≡ outcome.rows → rows ≡ line_rows (i + 1) bytes shown
+      → Adds P rows (Line (i + 1) ∷ []) old new
+      → Adds P (listing_from (i + 1 + 1) (drop (i + 1) lines) (drop (i + 1) outcomes)) (lines_from (i + 1 + 1) (drop (i + 1) lines)) new last
+      → Adds P (listing_from (i + 1) (drop i lines) (drop i outcomes)) (lines_from (i + 1) (drop i lines)) old last
+  adds-line lines outcomes i line bytes outcome shown rows old new last line-is outcome-is same shown-is rows-are a later =
+      let lines-are = behind-next lines i line line-is in
+      let outcomes-are = behind-next outcomes i outcome outcome-is in
+      let more = listing_from (i + 1 + 1) (drop (i + 1) lines) (drop (i + 1) outcomes) in
+      adds-same _ _ _ _ old last
+      ((λ j. (rows-are ∙ (λ k. line_rows (i + 1) (same k) (shown-is k))) j ++ more) ∙ sym (λ j. listing_from (i + 1) (lines-are j) (outcomes-are j)))
+      (sym (ap (lines_from (i + 1)) lines-are))
+      (adds-joined P rows more (Line (i + 1) ∷ []) (lines_from (i + 1 + 1) (drop (i + 1) lines)) old new last a later)
+
+  pub adds-lines-end : (lines : List (List ℕ)) (outcomes : List Outcome) (i : ℕ) (page : List ℕ) → length lines ≤ i
+      → Adds P (listing_from (i + 1) (drop i lines) (drop i outcomes)) (lines_from (i + 1) (drop i lines)) page page
+  adds-lines-end lines outcomes i page all =
+      let none = drop_all i lines all in
+      adds-same [] _ [] _ page page (sym (ap (λ ls. listing_from (i + 1) ls (drop i outcomes)) none)) (sym (ap (lines_from (i + 1)) none)) (adds-nothing P page)
+
+  -- the row of the next symbol, and those of the symbols after it
+  pub adds-symbol : (entries : List Entry) (i n : ℕ) (d : Entry) (rest row behind old new last : List ℕ) → i < length entries → row ≡ take n rest → behind ≡ drop n rest
+      → Adds P row (Symbol (get_or entries i d).name ∷ []) old new → Adds P behind (symbols_among (drop (i + 1) entries)) new last
+      → Adds P rest (symbols_among (drop i entries)) old last
+  adds-symbol entries i n d rest row behind old new last lt front back a later =
+      adds-same _ rest _ _ old last
+      ((λ j. front j ++ back j) ∙ take-append-drop n rest)
+      (sym (at_drop_more symbols_among entries i d lt))
+      (adds-joined P row behind (Symbol (get_or entries i d).name ∷ []) (symbols_among (drop (i + 1) entries)) old new last a later)
+
+-- ---- a section
+
+regroup : (a o i c : List ℕ) → a ++ o ++ i ++ c ≡ a ++ (o ++ i ++ c ++ [])
+regroup a o i c = simp (append_assoc, append-nil)
+
+module _ (targets : Targets) where
+  pub adds-section : (which : PageSection) (words : List ℕ) (here : List Place) (old begun headed later new : List ℕ)
+      → begun ≡ old ++ opening tag.Section (Identifier (Section which) ∷ []) → Adds (Leads targets) [] [] begun headed → Adds (Leads targets) words here headed later
+      → new ≡ later ++ closing tag.Section → AddsSection targets which words here old new
+  adds-section which words here old begun headed later new opened heading inside ended =
+      let all = adds-joined (Leads targets) [] words [] here begun headed later heading inside in
+      record {
+        inside = all.markup;
+        whole = ended ∙ ap (λ l. l ++ closing tag.Section) (all.whole ∙ ap (λ l. l ++ written all.markup) opened)
+            ∙ regroup old (opening tag.Section (Identifier (Section which) ∷ [])) (written all.markup) (closing tag.Section);
+        same_words = all.same_words;
+        same_places = all.same_places;
+        good = all.good;
+      }
+
+  four : (old a b c d : List ℕ) → old ++ (a ++ []) ++ (b ++ []) ++ (c ++ []) ++ (d ++ []) ≡ old ++ (a ++ (b ++ (c ++ (d ++ []))))
+  four old a b c d = simp (append_assoc, append-nil)
+
+  pub adds-sections : (assembly : Assembly) (old listed worded symboled new : List ℕ)
+      → AddsSection targets page.Listing (listing_text assembly) (lines_from 1 assembly.lines) old listed
+      → AddsSection targets page.Words (binary_text assembly) [] listed worded
+      → AddsSection targets page.Symbols (symbols_text assembly) (symbols_among targets.entries.items) worded symboled
+      → AddsSection targets page.Flags (flags_text assembly) [] symboled new
+      → AddsSections targets assembly old new
+  adds-sections assembly old listed worded symboled new l w s f =
+      let A = opening tag.Section (Identifier (Section page.Listing) ∷ []) ++ written l.inside ++ closing tag.Section in
+      let B = opening tag.Section (Identifier (Section page.Words) ∷ []) ++ written w.inside ++ closing tag.Section in
+      let C = opening tag.Section (Identifier (Section page.Symbols) ∷ []) ++ written s.inside ++ closing tag.Section in
+      let D = opening tag.Section (Identifier (Section page.Flags) ∷ []) ++ written f.inside ++ closing tag.Section in
+      record {
+        sections = record { listing = l.inside; words = w.inside; symbols = s.inside; flags = f.inside };
+        whole = f.whole ∙ ap (λ t. t ++ (D ++ [])) (s.whole ∙ ap (λ t. t ++ (C ++ [])) (w.whole ∙ ap (λ t. t ++ (B ++ [])) l.whole)) ∙ four old A B C D;
+        listing = l.same_words;
+        words = w.same_words;
+        symbols = s.same_words;
+        flags = f.same_words;
+        same_places = λ i. Section page.Listing ∷ (l.same_places i ++ Section page.Words ∷ (w.same_places i ++ Section page.Symbols ∷ (s.same_places i ++ Section page.Flags ∷ (f.same_places i ++ []))));
+        good = All-append (Leads targets) _ _ l.good (All-append (Leads targets) _ _ w.good (All-append (Leads targets) _ _ s.good (All-append (Leads targets) _ _ f.good (all-none (Leads targets)))));
+      }
+
+-- ---- the page
+
+pub page-of : (assembly : Assembly) (targets : Targets) (front back begun middle new : List ℕ) → AreTargets assembly targets → begun ≡ front → AddsSections targets assembly begun middle
+    → new ≡ middle ++ back → IsPage front back assembly new
+page-of assembly targets front back begun middle new are fronted a backed =
+    let there : (place : Place) → list_any (same_place place) (all_places assembly.lines targets.entries.items) ≡ list_any (same_place place) (places (body a.sections)) =
+    λ place. sym (ap (list_any (same_place place)) a.same_places) in
+    record {
+      sections = a.sections;
+      whole = backed ∙ ap (λ t. t ++ back) (a.whole ∙ ap (λ t. t ++ written (body a.sections)) fronted);
+      listing = a.listing;
+      words = a.words;
+      symbols = a.symbols;
+      flags = a.flags;
+      once = λ place. subst (λ (ps : List Place). count_by (same_place place) ps ≤ 1) (sym a.same_places) (all-once assembly.lines targets.entries.items are.once place);
+      alive = λ k d lt. let place = (get_or (links (body a.sections)) k d).place in sym (there place) ∙ all-there assembly.lines targets are.lines place (a.good k d lt).there;
+      home = λ k d lt. λ name number words leads. found-defined assembly name number targets.entries.items are.defined ((a.good k d lt).home number leads name words);
+    }

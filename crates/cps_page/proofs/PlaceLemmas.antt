@@ -1,0 +1,192 @@
+-- The places of a page: none comes twice, and those that links may lead to are there.
+use Rattle.std.proofs.Common.{◌≡◌, ℕ, zero, suc, ◌+◌, ◌≤◌, ◌<◌, Bool, true, false, true≢false, cond, ◌||◌, ◌==◌, refl, sym, ap, subst, ◌∙◌, List, [], ◌∷◌, ◌++◌, length, zero-add, arith}
+use Rattle.std.specs.Prelude.{IsTrue, count_by, map}
+use Rattle.std.specs.List.{list_any}
+use Rattle.std.proofs.lemmas.Bool.{eqb-false, eqb-true, eq-eqb, ne_eqb}
+use Rattle.std.proofs.lemmas.List.Folds.{list_any-append}
+use Rattle.std.proofs.lemmas.List.Sums.{sum_by-append}
+use Rattle.cps_text.specs.declared.name.Name.{Name}
+use Rattle.cps_expr.specs.Value.{same_name}
+use Rattle.cps_markup.specs.declared.place.Place.{Place}
+use Rattle.cps_markup.specs.declared.place.Place.TheVariants.{Line, Symbol, Section}
+use Rattle.cps_markup.specs.declared.place.PageSection.{PageSection}
+use Rattle.cps_markup.specs.declared.place.PageSection.TheVariants as page
+use Rattle.cps_markup.specs.declared.targets.Entry.{Entry}
+use Rattle.cps_markup.specs.declared.targets.Targets.{Targets}
+use Rattle.cps_markup.specs.Links.{is_of, HasPlace}
+use Rattle.cps_markup.specs.Places.{same_place}
+use Rattle.cps_page.specs.Code.Making.{lines_from, symbols_among, all_places}
+
+-- ---- counts
+
+abbrev one_if : Bool → ℕ
+one_if b = cond b 1 0
+
+count-append : {T : Type 0} (p : T → Bool) (xs ys : List T) → count_by p (xs ++ ys) ≡ count_by p xs + count_by p ys
+count-append p xs ys = sum_by-append (λ x. cond (p x) 1 0) xs ys
+
+count-one : {T : Type 0} (p : T → Bool) (x : T) → count_by p (x ∷ []) ≡ cond (p x) 1 0
+count-one p x = zero-add (cond (p x) 1 0)
+
+count-cons : {T : Type 0} (p : T → Bool) (x : T) (xs : List T) → count_by p (x ∷ xs) ≡ cond (p x) 1 0 + count_by p xs
+count-cons p x xs = count-append p (x ∷ []) xs ∙ ap (λ n. n + count_by p xs) (count-one p x)
+
+-- ---- lines
+
+count-below : (k n : ℕ) (lines : List (List ℕ)) → k < n → count_by (same_place (Line k)) (lines_from n lines) ≡ 0
+count-below k n [] below = refl
+count-below k n (line ∷ lines) below =
+    let other : (k == n) ≡ false = ne_eqb k n (λ e. omega arith) in
+    let no : one_if (k == n) ≡ 0 = ap one_if other in
+    let count = count-cons (same_place (Line k)) (Line n) (lines_from (n + 1) lines) in
+    let later = count-below k (n + 1) lines (omega arith) in
+    omega (arith, no, count, later)
+
+lines-once : (k n : ℕ) (lines : List (List ℕ)) → count_by (same_place (Line k)) (lines_from n lines) ≤ 1
+lines-once k n [] = omega arith
+lines-once k n (line ∷ lines) =
+    let count = count-cons (same_place (Line k)) (Line n) (lines_from (n + 1) lines) in
+    elim (k == n) as (λ b. (k == n) ≡ b → count_by (same_place (Line k)) (lines_from n (line ∷ lines)) ≤ 1) [
+      | true ↦ λ same.
+          let is = eqb-true k n same in
+          let one : one_if (k == n) ≡ 1 = ap one_if same in
+          let none = count-below k (n + 1) lines (omega (arith, is)) in
+          omega (arith, count, one, none)
+      | false ↦ λ other.
+          let no : one_if (k == n) ≡ 0 = ap one_if other in
+          let later = lines-once k (n + 1) lines in
+          omega (arith, count, no, later)
+    ] refl
+
+lines-there : (k n : ℕ) (lines : List (List ℕ)) → n ≤ k → k < n + length lines → list_any (same_place (Line k)) (lines_from n lines) ≡ true
+lines-there k n [] from below = absurd (omega arith)
+lines-there k n (line ∷ lines) from below =
+    elim (k == n) as (λ b. (k == n) ≡ b → (b || list_any (same_place (Line k)) (lines_from (n + 1) lines)) ≡ true) [
+      | true ↦ λ same. refl
+      | false ↦ λ other. let apart = eqb-false k n other in lines-there k (n + 1) lines (omega (arith, apart)) (omega arith)
+    ] refl
+
+no-lines-symbol : (name : Name) (n : ℕ) (lines : List (List ℕ)) → count_by (same_place (Symbol name)) (lines_from n lines) ≡ 0
+no-lines-symbol name n [] = refl
+no-lines-symbol name n (line ∷ lines) =
+    let count = count-cons (same_place (Symbol name)) (Line n) (lines_from (n + 1) lines) in
+    let later = no-lines-symbol name (n + 1) lines in
+    omega (arith, count, later)
+
+no-lines-section : (section : PageSection) (n : ℕ) (lines : List (List ℕ)) → count_by (same_place (Section section)) (lines_from n lines) ≡ 0
+no-lines-section section n [] = refl
+no-lines-section section n (line ∷ lines) =
+    let count = count-cons (same_place (Section section)) (Line n) (lines_from (n + 1) lines) in
+    let later = no-lines-section section (n + 1) lines in
+    omega (arith, count, later)
+
+-- ---- symbols
+
+symbols-count : (name : Name) (entries : List Entry) → count_by (same_place (Symbol name)) (symbols_among entries) ≡ count_by (is_of name) entries
+symbols-count name [] = refl
+symbols-count name (entry ∷ entries) =
+    count-cons (same_place (Symbol name)) (Symbol entry.name) (symbols_among entries)
+    ∙ ap (λ n. cond (same_name name entry.name) 1 0 + n) (symbols-count name entries)
+    ∙ sym (count-cons (is_of name) entry entries)
+
+symbols-there : (name : Name) (entries : List Entry) → list_any (same_place (Symbol name)) (symbols_among entries) ≡ list_any (is_of name) entries
+symbols-there name [] = refl
+symbols-there name (entry ∷ entries) = ap (λ b. same_name name entry.name || b) (symbols-there name entries)
+
+no-symbols-line : (k : ℕ) (entries : List Entry) → count_by (same_place (Line k)) (symbols_among entries) ≡ 0
+no-symbols-line k [] = refl
+no-symbols-line k (entry ∷ entries) =
+    let count = count-cons (same_place (Line k)) (Symbol entry.name) (symbols_among entries) in
+    let later = no-symbols-line k entries in
+    omega (arith, count, later)
+
+no-symbols-section : (section : PageSection) (entries : List Entry) → count_by (same_place (Section section)) (symbols_among entries) ≡ 0
+no-symbols-section section [] = refl
+no-symbols-section section (entry ∷ entries) =
+    let count = count-cons (same_place (Section section)) (Symbol entry.name) (symbols_among entries) in
+    let later = no-symbols-section section entries in
+    omega (arith, count, later)
+
+-- ---- all
+
+abbrev at : Place → PageSection → ℕ
+at place section = cond (same_place place (Section section)) 1 0
+
+abbrev parts : Place → List (List ℕ) → List Entry → ℕ
+parts place lines entries =
+    at place page.Listing + (count_by (same_place place) (lines_from 1 lines)
+    + (at place page.Words + (at place page.Symbols + (count_by (same_place place) (symbols_among entries) + at place page.Flags))))
+
+all-count : (place : Place) (lines : List (List ℕ)) (entries : List Entry) → count_by (same_place place) (all_places lines entries) ≡ parts place lines entries
+all-count place lines entries =
+    let p = same_place place in
+    let flags = Section page.Flags ∷ [] in
+    let symbols = Section page.Symbols ∷ (symbols_among entries ++ flags) in
+    let words = Section page.Words ∷ symbols in
+    count-cons p (Section page.Listing) (lines_from 1 lines ++ words)
+    ∙ ap (λ n. at place page.Listing + n) (count-append p (lines_from 1 lines) words
+    ∙ ap (λ n. count_by p (lines_from 1 lines) + n) (count-cons p (Section page.Words) symbols
+    ∙ ap (λ n. at place page.Words + n) (count-cons p (Section page.Symbols) (symbols_among entries ++ flags)
+    ∙ ap (λ n. at place page.Symbols + n) (count-append p (symbols_among entries) flags
+    ∙ ap (λ n. count_by p (symbols_among entries) + n) (count-one p (Section page.Flags))))))
+
+pub all-once : (lines : List (List ℕ)) (entries : List Entry) → ((name : Name) → count_by (is_of name) entries ≤ 1) → (place : Place) → count_by (same_place place) (all_places lines entries) ≤ 1
+all-once lines entries once (Line k) =
+    let count = all-count (Line k) lines entries in
+    let here = lines-once k 1 lines in
+    let none = no-symbols-line k entries in
+    omega (arith, count, here, none)
+all-once lines entries once (Symbol name) =
+    let count = all-count (Symbol name) lines entries in
+    let none = no-lines-symbol name 1 lines in
+    let same = symbols-count name entries in
+    let here = once name in
+    omega (arith, count, none, same, here)
+all-once lines entries once (Section page.Listing) =
+    let count = all-count (Section page.Listing) lines entries in
+    let none = no-lines-section page.Listing 1 lines in
+    let no_symbol = no-symbols-section page.Listing entries in
+    omega (arith, count, none, no_symbol)
+all-once lines entries once (Section page.Words) =
+    let count = all-count (Section page.Words) lines entries in
+    let none = no-lines-section page.Words 1 lines in
+    let no_symbol = no-symbols-section page.Words entries in
+    omega (arith, count, none, no_symbol)
+all-once lines entries once (Section page.Symbols) =
+    let count = all-count (Section page.Symbols) lines entries in
+    let none = no-lines-section page.Symbols 1 lines in
+    let no_symbol = no-symbols-section page.Symbols entries in
+    omega (arith, count, none, no_symbol)
+all-once lines entries once (Section page.Flags) =
+    let count = all-count (Section page.Flags) lines entries in
+    let none = no-lines-section page.Flags 1 lines in
+    let no_symbol = no-symbols-section page.Flags entries in
+    omega (arith, count, none, no_symbol)
+
+-- ---- what links may lead to is there
+
+or-right : (a b : Bool) → b ≡ true → (a || b) ≡ true
+or-right true b h = refl
+or-right false b h = h
+
+or-left : (a b : Bool) → a ≡ true → (a || b) ≡ true
+or-left true b h = refl
+or-left false b h = absurd (true≢false (sym h))
+
+any-left : {T : Type 0} (p : T → Bool) (xs ys : List T) → list_any p xs ≡ true → list_any p (xs ++ ys) ≡ true
+any-left p xs ys h = list_any-append p xs ys ∙ or-left _ _ h
+
+any-right : {T : Type 0} (p : T → Bool) (xs ys : List T) → list_any p ys ≡ true → list_any p (xs ++ ys) ≡ true
+any-right p xs ys h = list_any-append p xs ys ∙ or-right _ _ h
+
+pub all-there : (lines : List (List ℕ)) (targets : Targets) → targets.count ≡ length lines → (place : Place) → HasPlace targets place
+    → list_any (same_place place) (all_places lines targets.entries.items) ≡ true
+all-there lines targets same (Line k) has =
+    any-left (same_place (Line k)) (lines_from 1 lines) _ (lines-there k 1 lines has.0 (let below = has.1 in omega (arith, below, same)))
+all-there lines targets same (Symbol name) has =
+    any-right (same_place (Symbol name)) (lines_from 1 lines) _ (any-left (same_place (Symbol name)) (symbols_among targets.entries.items) _ (symbols-there name targets.entries.items ∙ has))
+all-there lines targets same (Section page.Listing) has = refl
+all-there lines targets same (Section page.Words) has = any-right (same_place (Section page.Words)) (lines_from 1 lines) _ refl
+all-there lines targets same (Section page.Symbols) has = any-right (same_place (Section page.Symbols)) (lines_from 1 lines) _ refl
+all-there lines targets same (Section page.Flags) has =
+    any-right (same_place (Section page.Flags)) (lines_from 1 lines) _ (any-right (same_place (Section page.Flags)) (symbols_among targets.entries.items) _ refl)

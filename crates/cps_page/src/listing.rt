@@ -1,0 +1,80 @@
+//! The section of the listing.
+ghost use Rattle.std.specs.Prelude.{◌≡◌, [], ◌++◌, IfOk, OnOk};
+ghost use Rattle.cps_list.specs.ListingText.{line_rows, listing_from, listing_text, open_row};
+ghost use Rattle.cps_markup.specs.Links.{Leads};
+ghost use Rattle.cps_markup.specs.Code.Adding.{Adds};
+ghost use Rattle.cps_page.specs.Code.Making.{lines_from};
+
+use cps_final::Row;
+use cps_list::{View, push_rows as push_listing_rows};
+use cps_markup::{PageSection, Place, Targets, push_group, push_rows};
+use std::alloc::{AllocError, Global};
+
+/// The listing: the rows of each line are one place.
+pub fn push_listing<V: View>(
+    alloc: Global,
+    page: &mut Vec<u8>,
+    view: &V,
+    targets: &Targets,
+) -> Result<(), AllocError>
+    ensures { OnOk result (Adds (Leads targets.now) (listing_text (V.assembly view.now)) (lines_from 1 (V.assembly view.now).lines) page.old.items page.new.items) }
+{
+    push_lines(alloc, page, view, targets)?;
+    push_open_row(page, targets, view.open_at_end())?;
+    Ok(())
+}
+
+fn push_lines<V: View>(
+    alloc: Global,
+    page: &mut Vec<u8>,
+    view: &V,
+    targets: &Targets,
+) -> Result<(), AllocError>
+    ensures { let source = V.assembly view.now in
+        OnOk result (Adds (Leads targets.now) (listing_from 1 source.lines source.outcomes) (lines_from 1 source.lines) page.old.items page.new.items) }
+{
+    for before in 0..view.count() {
+        let Some(line) = view.line(before + 1) else {
+            unreachable!();
+        };
+        let Some(outcome) = view.outcome(before + 1) else {
+            unreachable!();
+        };
+        let rows = rows_of(alloc, before + 1, line.bytes(), outcome.rows())?;
+        push_group(
+            page,
+            targets,
+            PageSection::Listing,
+            Place::Line(before + 1),
+            &rows,
+        )?;
+    }
+    Ok(())
+}
+
+/// The rows of a line.
+fn rows_of(alloc: Global, number: u32, line: &[u8], rows: &[Row]) -> Result<Vec<u8>, AllocError>
+    ensures { IfOk result (λ text. text.items ≡ line_rows number line.now rows.now) }
+{
+    let mut text = Vec::new(alloc);
+    push_listing_rows(&mut text, number, line, rows)?;
+    Ok(text)
+}
+
+/// The last row of a source that ends while a range is open.
+fn push_open_row(page: &mut Vec<u8>, targets: &Targets, is_open: bool) -> Result<(), AllocError>
+    ensures { OnOk result (Adds (Leads targets.now) (open_row is_open) [] page.old.items page.new.items) }
+{
+    let row = open_row(is_open);
+    push_rows(page, targets, PageSection::Listing, row)
+}
+
+fn open_row(is_open: bool) -> &'static [u8]
+    ensures { result.now ≡ open_row is_open }
+{
+    if is_open {
+        b"E                                           open range at end of source\n"
+    } else {
+        b""
+    }
+}

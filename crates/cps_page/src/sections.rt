@@ -1,0 +1,110 @@
+//! The sections of a page.
+ghost use Rattle.std.specs.Prelude.{◌≡◌, [], ◌∷◌, ◌++◌, OnOk};
+ghost use Rattle.cps_list.specs.ListingText.{listing_text};
+ghost use Rattle.cps_markup.specs.Links.{Leads};
+ghost use Rattle.cps_markup.specs.Markup.{opening};
+ghost use Rattle.cps_markup.specs.Code.Adding.{Adds};
+ghost use Rattle.cps_page.specs.Code.Making.{AddsSection, lines_from, symbols_among};
+
+use crate::listing::push_listing;
+use cps_list::View;
+use cps_markup::{
+    Attribute, PageSection, Place, Tag, Targets, push_closing, push_group, push_opening, push_rows,
+    push_text, row_length,
+};
+use std::alloc::{AllocError, Global};
+
+/// The section of the listing.
+pub fn push_listing_section<V: View>(
+    alloc: Global,
+    page: &mut Vec<u8>,
+    view: &V,
+    targets: &Targets,
+) -> Result<(), AllocError>
+    ensures { OnOk result (AddsSection targets.now PageSection.Listing (listing_text (V.assembly view.now)) (lines_from 1 (V.assembly view.now).lines) page.old.items page.new.items) }
+{
+    push_begin(page, PageSection::Listing)?;
+    push_heading(page, targets, b"Listing")?;
+    push_listing(alloc, page, view, targets)?;
+    push_closing(page, Tag::Section)?;
+    Ok(())
+}
+
+/// The section of a text that has no places.
+pub fn push_text_section(
+    page: &mut Vec<u8>,
+    targets: &Targets,
+    section: PageSection,
+    text: &[u8],
+) -> Result<(), AllocError>
+    ensures { OnOk result (AddsSection targets.now section text.now [] page.old.items page.new.items) }
+{
+    push_begin(page, section)?;
+    push_heading(page, targets, heading_of(section))?;
+    push_rows(page, targets, section, text)?;
+    push_closing(page, Tag::Section)?;
+    Ok(())
+}
+
+/// The section of the cross-reference, in which each symbol to which links can lead is a place.
+pub fn push_symbol_section(
+    page: &mut Vec<u8>,
+    targets: &Targets,
+    text: &[u8],
+) -> Result<(), AllocError>
+    ensures { OnOk result (AddsSection targets.now PageSection.Symbols text.now (symbols_among targets.now.entries.items) page.old.items page.new.items) }
+{
+    push_begin(page, PageSection::Symbols)?;
+    push_heading(page, targets, b"Symbols")?;
+    push_symbols(page, targets, text)?;
+    push_closing(page, Tag::Section)?;
+    Ok(())
+}
+
+/// The rows of the cross-reference, of which one stands at each symbol.
+fn push_symbols(page: &mut Vec<u8>, targets: &Targets, text: &[u8]) -> Result<(), AllocError>
+    ensures { OnOk result (Adds (Leads targets.now) text.now (symbols_among targets.now.entries.items) page.old.items page.new.items) }
+{
+    let mut rest = text;
+    for entry in &targets.entries {
+        let (row, behind) = rest.split_at(row_length(rest));
+        push_group(
+            page,
+            targets,
+            PageSection::Symbols,
+            Place::Symbol(entry.name),
+            row,
+        )?;
+        rest = behind;
+    }
+    push_rows(page, targets, PageSection::Symbols, rest)
+}
+
+/// The begin of a section.
+fn push_begin(page: &mut Vec<u8>, section: PageSection) -> Result<(), AllocError>
+    ensures { OnOk result (page.new.items ≡ page.old.items ++ opening Tag.Section (Attribute.Identifier (Place.Section section) ∷ [])) }
+{
+    push_opening(
+        page,
+        Tag::Section,
+        &[Attribute::Identifier(Place::Section(section))],
+    )
+}
+
+fn push_heading(page: &mut Vec<u8>, targets: &Targets, words: &[u8]) -> Result<(), AllocError>
+    ensures { OnOk result (Adds (Leads targets.now) [] [] page.old.items page.new.items) }
+{
+    push_opening(page, Tag::Heading, &[])?;
+    push_text(page, words)?;
+    push_closing(page, Tag::Heading)?;
+    Ok(())
+}
+
+fn heading_of(section: PageSection) -> &'static [u8] {
+    match section {
+        PageSection::Listing => b"Listing",
+        PageSection::Words => b"Words",
+        PageSection::Symbols => b"Symbols",
+        PageSection::Flags => b"Flags",
+    }
+}
