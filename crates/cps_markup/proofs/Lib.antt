@@ -1,3 +1,4 @@
 pub mod AddsLemmas
 pub mod EscapingLemmas
+pub mod IdentifierLemmas
 pub mod LinkLemmas

@@ -1,5 +1,6 @@
 pub mod Markup
 pub mod Places
+pub mod PlaceLaws
 pub mod EscapingLaws
 pub mod Links
 pub mod Code

@@ -6,6 +6,7 @@
 //! - `link.rt`: links, each of which leads somewhere
 //! - `painting.rt`: how rows are painted
 //! - `place.rt`: what a link leads to
+//! - `place_laws.rt`: what holds of the identifiers of places
 //! - `rows.rt`: rows of a text
 //! - `stretch.rt`: a row, part by part
 //! - `style.rt`: how a part of a row looks
@@ -19,6 +20,7 @@ mod escaping_laws;
 mod link;
 mod painting;
 mod place;
+mod place_laws;
 mod rows;
 mod stretch;
 mod style;
@@ -29,6 +31,7 @@ pub use attribute::{Attribute, push_closing, push_opening};
 pub use escaping::push_text;
 pub use escaping_laws::{a_text_is_read_back, no_text_is_markup};
 pub use place::{PageSection, Place};
+pub use place_laws::identifiers_differ;
 pub use rows::{push_group, push_rows, row_length};
 pub use style::Style;
 pub use tag::Tag;

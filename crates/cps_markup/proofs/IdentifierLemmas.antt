@@ -1,0 +1,132 @@
+-- Identifiers of places, kind by kind.
+use Rattle.std.proofs.Common.{◌≡◌, ℕ, suc, ◌+◌, ◌-◌, ◌/◌, ◌%◌, ◌<◌, ◌≤◌, ◌^◌, Bool, true, false, true≢false, ◌&&◌, ◌||◌, ◌==◌, refl, sym, ap, ◌∙◌, List, [], ◌∷◌, ◌++◌, get_or, decimal, arith}
+use Rattle.std.specs.Prelude.{codes, Option, Some, None, is_some, length, nat_eq, nat_le, nat_lt, not, slice_index, if◌then◌else◌}
+use Rattle.std.specs.List.{list_all}
+use Rattle.std.specs.Str.Parse.{digits_value}
+use Rattle.std.proofs.lemmas.Bool.{leb-true, ne_eqb}
+use Rattle.std.proofs.lemmas.Fmt.{decimal_by_steps, decimal_is_IsNumeral}
+use Rattle.std.proofs.lemmas.Option.{same_Some}
+use Rattle.cps_text.specs.declared.name.Name.{Name}
+use Rattle.cps_text.specs.Name.{name_of, name_text}
+use Rattle.cps_text.specs.Symbol.{begins_symbol, continues_symbol, is_generated, is_name, is_register, is_symbol, padded}
+use Rattle.cps_text.specs.Text.{among, capital, capitals, is_digit}
+use Rattle.cps_markup.specs.declared.place.Place.{Place}
+use Rattle.cps_markup.specs.declared.place.Place.TheVariants.{Line, Symbol, Section}
+use Rattle.cps_markup.specs.declared.place.PageSection.{PageSection}
+use Rattle.cps_markup.specs.declared.place.PageSection.TheVariants as page
+use Rattle.cps_markup.specs.Places.{section_name}
+use Rattle.cps_markup.specs.PlaceLaws.{IsWritten, IdentifiersDiffer}
+
+-- ---- a number begins with a digit, and is no name
+
+abbrev BeginsAsNumber : List ℕ → Type 0
+BeginsAsNumber text = (d : ℕ) × ((rest : List ℕ) × ((text ≡ d ∷ rest) × ((48 ≤ d) × (d ≤ 57))))
+
+number-begins : (n : ℕ) → n < 2 ^ 64 → BeginsAsNumber (decimal n)
+number-begins = decimal_by_steps (λ n text. BeginsAsNumber text)
+    (λ n small. (48 + n, ([], (refl, (omega arith, omega arith)))))
+    (λ n text big h. (h.0, (h.1.0 ++ (48 + n % 10) ∷ [], (ap (λ l. l ++ (48 + n % 10) ∷ []) h.1.1.0, h.1.1.1))))
+
+not-le : (a b : ℕ) → b < a → nat_le a b ≡ false
+not-le a b lt = elim (nat_le a b) as (λ x. nat_le a b ≡ x → x ≡ false) [
+  | true ↦ λ is. absurd (let h = leb-true a b is in omega (arith, h, lt))
+  | false ↦ λ _. refl
+] refl
+
+and-false : (a : Bool) → (a && false) ≡ false
+and-false true = refl
+and-false false = refl
+
+digit-alone : (d : ℕ) → d ≤ 57 → capital d ≡ d
+digit-alone d high = let absent = not-le 97 d (omega arith) in λ i. if absent i && nat_le d 122 then d - 32 else d
+
+no-begin : (d : ℕ) → 48 ≤ d → d ≤ 57 → begins_symbol d ≡ false
+no-begin d low high =
+    let no_letter = not-le 65 d (omega arith) in
+    let no_point : (d == 46) ≡ false = ne_eqb d 46 (λ e. omega arith) in
+    λ i. no_letter i && nat_le d 90 || (no_point i || false)
+
+no-symbol : (c : ℕ) (rest : List ℕ) → begins_symbol c ≡ false → is_symbol (c ∷ rest) ≡ false
+no-symbol c rest absent =
+    let long = nat_lt 0 (length (c ∷ rest)) && nat_le (length (c ∷ rest)) 8 in
+    (λ i. long && (absent i && (list_all continues_symbol (c ∷ rest) && not (is_register (c ∷ rest))))) ∙ and-false long
+
+no-generated : (c : ℕ) (rest : List ℕ) → (c == 126) ≡ false → is_generated (c ∷ rest) ≡ false
+no-generated c rest absent = ap (λ b. (b || false) && (nat_eq (length rest) 7 && (list_all (is_digit 10) rest && not (list_all (among (codes "0")) rest)))) absent
+
+no-name : (d : ℕ) (rest : List ℕ) → 48 ≤ d → d ≤ 57 → name_of (d ∷ rest) ≡ None
+no-name d rest low high =
+    let alone = digit-alone d high in
+    let begins : begins_symbol (capital d) ≡ false = ap begins_symbol alone ∙ no-begin d low high in
+    let mark : (capital d == 126) ≡ false = ap (λ c. c == 126) alone ∙ ne_eqb d 126 (λ e. omega arith) in
+    let absent : is_name (capitals (d ∷ rest)) ≡ false = λ i. no-symbol (capital d) (capitals rest) begins i || no-generated (capital d) (capitals rest) mark i in
+    λ i. if absent i then Some (record { bytes = padded (capitals (d ∷ rest)) }) else None
+
+number-no-name : (n : ℕ) (name : Name) → n < 2 ^ 64 → name_of (name_text name) ≡ Some name → decimal n ≡ name_text name → ⊥
+number-no-name n name small written same =
+    let begins = number-begins n small in
+    let none = sym written ∙ ap name_of (sym same ∙ begins.1.1.0) ∙ no-name begins.0 begins.1.0 begins.1.1.1.0 begins.1.1.1.1 in
+    true≢false (ap is_some none)
+
+-- ---- sections
+
+number-no-section : (n : ℕ) (section : PageSection) → n < 2 ^ 64 → decimal n ≡ section_name section → ⊥
+number-no-section n page.Listing small same = let b = number-begins n small in let e : b.0 ≡ 108 = ap (λ t. get_or t 0 0) (sym b.1.1.0 ∙ same) in let h = b.1.1.1.1 in omega (arith, e, h)
+number-no-section n page.Words small same = let b = number-begins n small in let e : b.0 ≡ 119 = ap (λ t. get_or t 0 0) (sym b.1.1.0 ∙ same) in let h = b.1.1.1.1 in omega (arith, e, h)
+number-no-section n page.Symbols small same = let b = number-begins n small in let e : b.0 ≡ 115 = ap (λ t. get_or t 0 0) (sym b.1.1.0 ∙ same) in let h = b.1.1.1.1 in omega (arith, e, h)
+number-no-section n page.Flags small same = let b = number-begins n small in let e : b.0 ≡ 102 = ap (λ t. get_or t 0 0) (sym b.1.1.0 ∙ same) in let h = b.1.1.1.1 in omega (arith, e, h)
+
+symbol-no-section : (name : Name) (section : PageSection) → name_of (name_text name) ≡ Some name → name_text name ≡ section_name section → ⊥
+symbol-no-section name page.Listing written same =
+    let is = same_Some name (record { bytes = padded (codes "LISTING") }) (sym written ∙ ap name_of same) in
+    let e : 108 ≡ 76 = ap (λ t. get_or t 0 0) (sym same) ∙ ap (λ (n : Name). get_or (name_text n) 0 0) is in
+    omega (arith, e)
+symbol-no-section name page.Words written same =
+    let is = same_Some name (record { bytes = padded (codes "WORDS") }) (sym written ∙ ap name_of same) in
+    let e : 119 ≡ 87 = ap (λ t. get_or t 0 0) (sym same) ∙ ap (λ (n : Name). get_or (name_text n) 0 0) is in
+    omega (arith, e)
+symbol-no-section name page.Symbols written same =
+    let is = same_Some name (record { bytes = padded (codes "SYMBOLS") }) (sym written ∙ ap name_of same) in
+    let e : 115 ≡ 83 = ap (λ t. get_or t 0 0) (sym same) ∙ ap (λ (n : Name). get_or (name_text n) 0 0) is in
+    omega (arith, e)
+symbol-no-section name page.Flags written same =
+    let is = same_Some name (record { bytes = padded (codes "FLAGS") }) (sym written ∙ ap name_of same) in
+    let e : 102 ≡ 70 = ap (λ t. get_or t 0 0) (sym same) ∙ ap (λ (n : Name). get_or (name_text n) 0 0) is in
+    omega (arith, e)
+
+same-section : (a b : PageSection) → section_name a ≡ section_name b → a ≡ b
+same-section page.Listing page.Listing same = refl
+same-section page.Listing page.Words same = absurd (let e : 108 ≡ 119 = ap (λ l. get_or l 0 0) same in omega (arith, e))
+same-section page.Listing page.Symbols same = absurd (let e : 108 ≡ 115 = ap (λ l. get_or l 0 0) same in omega (arith, e))
+same-section page.Listing page.Flags same = absurd (let e : 108 ≡ 102 = ap (λ l. get_or l 0 0) same in omega (arith, e))
+same-section page.Words page.Listing same = absurd (let e : 119 ≡ 108 = ap (λ l. get_or l 0 0) same in omega (arith, e))
+same-section page.Words page.Words same = refl
+same-section page.Words page.Symbols same = absurd (let e : 119 ≡ 115 = ap (λ l. get_or l 0 0) same in omega (arith, e))
+same-section page.Words page.Flags same = absurd (let e : 119 ≡ 102 = ap (λ l. get_or l 0 0) same in omega (arith, e))
+same-section page.Symbols page.Listing same = absurd (let e : 115 ≡ 108 = ap (λ l. get_or l 0 0) same in omega (arith, e))
+same-section page.Symbols page.Words same = absurd (let e : 115 ≡ 119 = ap (λ l. get_or l 0 0) same in omega (arith, e))
+same-section page.Symbols page.Symbols same = refl
+same-section page.Symbols page.Flags same = absurd (let e : 115 ≡ 102 = ap (λ l. get_or l 0 0) same in omega (arith, e))
+same-section page.Flags page.Listing same = absurd (let e : 102 ≡ 108 = ap (λ l. get_or l 0 0) same in omega (arith, e))
+same-section page.Flags page.Words same = absurd (let e : 102 ≡ 119 = ap (λ l. get_or l 0 0) same in omega (arith, e))
+same-section page.Flags page.Symbols same = absurd (let e : 102 ≡ 115 = ap (λ l. get_or l 0 0) same in omega (arith, e))
+same-section page.Flags page.Flags same = refl
+
+-- ---- places
+
+small : (n : ℕ) → n < 2 ^ 32 → n < 2 ^ 64
+small n below = omega arith
+
+same-number : (a b : ℕ) → a < 2 ^ 32 → b < 2 ^ 32 → decimal a ≡ decimal b → a ≡ b
+same-number a b low high same = sym (decimal_is_IsNumeral a (small a low)).1 ∙ ap (digits_value 10) same ∙ (decimal_is_IsNumeral b (small b high)).1
+
+pub identifiers-differ : IdentifiersDiffer
+identifiers-differ (Line a) (Line b) wa wb same = ap Line (same-number a b wa wb same)
+identifiers-differ (Line a) (Symbol b) wa wb same = absurd (number-no-name a b (small a wa) wb same)
+identifiers-differ (Line a) (Section b) wa wb same = absurd (number-no-section a b (small a wa) same)
+identifiers-differ (Symbol a) (Line b) wa wb same = absurd (number-no-name b a (small b wb) wa (sym same))
+identifiers-differ (Symbol a) (Symbol b) wa wb same = ap Symbol (same_Some a b (sym wa ∙ ap name_of same ∙ wb))
+identifiers-differ (Symbol a) (Section b) wa wb same = absurd (symbol-no-section a b wa same)
+identifiers-differ (Section a) (Line b) wa wb same = absurd (number-no-section b a (small b wb) (sym same))
+identifiers-differ (Section a) (Symbol b) wa wb same = absurd (symbol-no-section b a wb (sym same))
+identifiers-differ (Section a) (Section b) wa wb same = ap Section (same-section a b same)
