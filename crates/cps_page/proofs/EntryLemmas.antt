@@ -13,16 +13,18 @@ use Rattle.cps_list.specs.Assembly.{Assembly}
 use Rattle.cps_list.specs.Symbols.{name_order}
 use Rattle.cps_list.proofs.OrderLemmas.{name_total, same-is, same-tied}
 use Rattle.cps_markup.specs.declared.targets.Entry.{Entry}
+use Rattle.cps_markup.specs.declared.place.Place.TheVariants.{Symbol}
 use Rattle.cps_markup.specs.Links.{is_of, is_defined}
+use Rattle.cps_markup.specs.PlaceLaws.{IsWritten}
 use Rattle.cps_markup.proofs.AddsLemmas.{all-none, all-one}
 use Rattle.cps_page.specs.Page.{defines}
 use Rattle.cps_page.specs.Code.Making.{IsBehind, AreEntriesTo, AreEntries}
 
 pub entries-none : (assembly : Assembly) → AreEntriesTo assembly None []
-entries-none assembly = record { once = λ name. omega arith; none_behind = λ name behind. refl; defined = all-none _ }
+entries-none assembly = record { once = λ name. omega arith; none_behind = λ name behind. refl; defined = all-none _; written = all-none _ }
 
 pub entries-all : (assembly : Assembly) (last : Option Name) (entries : List Entry) → AreEntriesTo assembly last entries → AreEntries assembly entries
-entries-all assembly last entries are = record { once = are.once; defined = are.defined }
+entries-all assembly last entries are = record { once = are.once; defined = are.defined; written = are.written }
 
 abbrev one_if : Bool → ℕ
 one_if b = cond b 1 0
@@ -48,8 +50,8 @@ one-more name entries entry false is once none =
     omega (arith, count, no, once)
 
 pub entry-more : (assembly : Assembly) (last : Option Name) (entries : List Entry) (entry : Entry) → AreEntriesTo assembly last entries → IsBehind last entry.name
-    → IsTrue (defines assembly entry.line entry.name) → AreEntriesTo assembly (Some entry.name) (entries ++ entry ∷ [])
-entry-more assembly last entries entry are behind defined = record {
+    → IsTrue (defines assembly entry.line entry.name) → IsWritten (Symbol entry.name) → AreEntriesTo assembly (Some entry.name) (entries ++ entry ∷ [])
+entry-more assembly last entries entry are behind defined written = record {
   once = λ name. one-more name entries entry (same_name name entry.name) refl (are.once name)
       (λ same. are.none_behind name (subst (IsBehind last) (sym (same-is name entry.name same)) behind));
   none_behind = λ name less.
@@ -59,6 +61,7 @@ entry-more assembly last entries entry are behind defined = record {
       let before = are.none_behind name (behind-later last entry.name name behind less) in
       omega (arith, count, no, before);
   defined = let P : Entry → Type 0 = λ e. IsTrue (defines assembly e.line e.name) in All-append P entries (entry ∷ []) are.defined (all-one P entry defined);
+  written = let P : Entry → Type 0 = λ e. IsWritten (Symbol e.name) in All-append P entries (entry ∷ []) are.written (all-one P entry written);
 }
 
 -- ---- a line that is found defines its symbol

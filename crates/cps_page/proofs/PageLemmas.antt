@@ -22,13 +22,14 @@ use Rattle.cps_markup.specs.declared.targets.Entry.{Entry}
 use Rattle.cps_markup.specs.declared.targets.Targets.{Targets}
 use Rattle.cps_markup.specs.Links.{Leads}
 use Rattle.cps_markup.specs.Markup.{Link, written, said, places, links, opening, closing}
+use Rattle.cps_markup.specs.PlaceLaws.{IsWritten}
 use Rattle.cps_markup.specs.Places.{same_place}
 use Rattle.cps_markup.specs.Code.Adding.{Adds}
 use Rattle.cps_markup.proofs.AddsLemmas.{adds-joined, adds-nothing, all-none}
 use Rattle.cps_page.specs.Page.{Sections, body, section, IsPage, LeadsHome}
 use Rattle.cps_page.specs.Code.Making.{lines_from, symbols_among, all_places, AddsSection, AddsSections, AreTargets}
 use Rattle.cps_page.proofs.EntryLemmas.{found-defined}
-use Rattle.cps_page.proofs.PlaceLemmas.{all-once, all-there}
+use Rattle.cps_page.proofs.PlaceLemmas.{all-once, all-there, all-written}
 
 -- ---- the lines of the listing
 
@@ -136,6 +137,7 @@ page-of assembly targets front back begun middle new are fronted a backed =
       symbols = a.symbols;
       flags = a.flags;
       once = λ place. subst (λ (ps : List Place). count_by (same_place place) ps ≤ 1) (sym a.same_places) (all-once assembly.lines targets.entries.items are.once place);
+      differ = subst (All IsWritten) (sym a.same_places) (all-written assembly.lines targets.entries.items are.few are.written);
       alive = λ k d lt. let place = (get_or (links (body a.sections)) k d).place in sym (there place) ∙ all-there assembly.lines targets are.lines place (a.good k d lt).there;
       home = λ k d lt. λ name number words leads. found-defined assembly name number targets.entries.items are.defined ((a.good k d lt).home number leads name words);
     }

@@ -1,8 +1,9 @@
 -- The places of a page: none comes twice, and those that links may lead to are there.
-use Rattle.std.proofs.Common.{◌≡◌, ℕ, zero, suc, ◌+◌, ◌≤◌, ◌<◌, Bool, true, false, true≢false, cond, ◌||◌, ◌==◌, refl, sym, ap, subst, ◌∙◌, List, [], ◌∷◌, ◌++◌, length, zero-add, arith}
-use Rattle.std.specs.Prelude.{IsTrue, count_by, map}
+use Rattle.std.proofs.Common.{◌≡◌, ℕ, zero, suc, ◌+◌, ◌≤◌, ◌<◌, ◌^◌, Bool, true, false, true≢false, cond, ◌||◌, ◌==◌, refl, sym, ap, subst, ◌∙◌, List, [], ◌∷◌, ◌++◌, length, zero-add, arith}
+use Rattle.std.specs.Prelude.{All, IsTrue, count_by, map}
 use Rattle.std.specs.List.{list_any}
 use Rattle.std.proofs.lemmas.Bool.{eqb-false, eqb-true, eq-eqb, ne_eqb}
+use Rattle.std.proofs.lemmas.List.Elements.{All-append}
 use Rattle.std.proofs.lemmas.List.Folds.{list_any-append}
 use Rattle.std.proofs.lemmas.List.Sums.{sum_by-append}
 use Rattle.cps_text.specs.declared.name.Name.{Name}
@@ -14,7 +15,9 @@ use Rattle.cps_markup.specs.declared.place.PageSection.TheVariants as page
 use Rattle.cps_markup.specs.declared.targets.Entry.{Entry}
 use Rattle.cps_markup.specs.declared.targets.Targets.{Targets}
 use Rattle.cps_markup.specs.Links.{is_of, HasPlace}
+use Rattle.cps_markup.specs.PlaceLaws.{IsWritten}
 use Rattle.cps_markup.specs.Places.{same_place}
+use Rattle.cps_markup.proofs.AddsLemmas.{all-none, all-one}
 use Rattle.cps_page.specs.Code.Making.{lines_from, symbols_among, all_places}
 
 -- ---- counts
@@ -190,3 +193,31 @@ all-there lines targets same (Section page.Words) has = any-right (same_place (S
 all-there lines targets same (Section page.Symbols) has = any-right (same_place (Section page.Symbols)) (lines_from 1 lines) _ refl
 all-there lines targets same (Section page.Flags) has =
     any-right (same_place (Section page.Flags)) (lines_from 1 lines) _ (any-right (same_place (Section page.Flags)) (symbols_among targets.entries.items) _ refl)
+
+-- ---- places are written
+
+lines-written : (n : ℕ) (lines : List (List ℕ)) → n + length lines ≤ 2 ^ 32 → All IsWritten (lines_from n lines)
+lines-written n [] few = all-none IsWritten
+lines-written n (line ∷ lines) few =
+    All-append IsWritten (Line n ∷ []) (lines_from (n + 1) lines) (all-one IsWritten (Line n) (omega arith)) (lines-written (n + 1) lines (omega arith))
+
+symbols-written : (entries : List Entry) → All (λ (entry : Entry). IsWritten (Symbol entry.name)) entries → All IsWritten (symbols_among entries)
+symbols-written [] all = all-none IsWritten
+symbols-written (entry ∷ entries) all =
+    All-append IsWritten (Symbol entry.name ∷ []) (symbols_among entries) (all-one IsWritten (Symbol entry.name) (all 0 entry (omega arith)))
+    (symbols-written entries (λ k d lt. all (suc k) d (omega arith)))
+
+section-written : (section : PageSection) → All IsWritten (Section section ∷ [])
+section-written section = all-one IsWritten (Section section) tt
+
+pub all-written : (lines : List (List ℕ)) (entries : List Entry) → length lines < 2 ^ 32 → All (λ (entry : Entry). IsWritten (Symbol entry.name)) entries
+    → All IsWritten (all_places lines entries)
+all-written lines entries few written =
+    let flags = Section page.Flags ∷ [] in
+    let symbols = Section page.Symbols ∷ (symbols_among entries ++ flags) in
+    let words = Section page.Words ∷ symbols in
+    All-append IsWritten (Section page.Listing ∷ []) (lines_from 1 lines ++ words) (section-written page.Listing)
+    (All-append IsWritten (lines_from 1 lines) words (lines-written 1 lines (omega arith))
+    (All-append IsWritten (Section page.Words ∷ []) symbols (section-written page.Words)
+    (All-append IsWritten (Section page.Symbols ∷ []) (symbols_among entries ++ flags) (section-written page.Symbols)
+    (All-append IsWritten (symbols_among entries) flags (symbols-written entries written) (section-written page.Flags)))))

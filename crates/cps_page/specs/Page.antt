@@ -19,6 +19,7 @@ use Rattle.cps_markup.specs.declared.place.PageSection.TheVariants as page
 use Rattle.cps_markup.specs.declared.tag.Tag.TheVariants as tag
 use Rattle.cps_markup.specs.Markup.{Markup, nothing, element, Link, written, said, places, links}
 use Rattle.cps_markup.specs.Places.{same_place}
+use Rattle.cps_markup.specs.PlaceLaws.{IsWritten}
 
 -- ---- sections
 
@@ -50,7 +51,8 @@ LeadsHome assembly link = (name : Name) → (number : ℕ) → name_of link.word
 
 -- ---- the page
 
--- between a front and a back, which have nothing of the source, the four texts as markup; no place comes twice, and each link leads to a place
+-- between a front and a back, which have nothing of the source, the four texts as markup; no place comes twice, identifiers of two places differ,
+-- and each link leads to a place
 pub record IsPage (front back : List ℕ) (assembly : Assembly) (written_page : List ℕ) : Type 0 where
   pub sections : Sections
   pub whole : written_page ≡ front ++ written (body sections) ++ back
@@ -59,5 +61,6 @@ pub record IsPage (front back : List ℕ) (assembly : Assembly) (written_page : 
   pub symbols : said sections.symbols ≡ symbols_text assembly
   pub flags : said sections.flags ≡ flags_text assembly
   pub once : (place : Place) → count_by (same_place place) (places (body sections)) ≤ 1
+  pub differ : All IsWritten (places (body sections))
   pub alive : All (λ link. IsTrue (list_any (same_place link.place) (places (body sections)))) (links (body sections))
   pub home : All (LeadsHome assembly) (links (body sections))

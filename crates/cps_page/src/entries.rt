@@ -1,11 +1,12 @@
 //! The symbols of the cross-reference to which links can lead.
 ghost use Rattle.std.specs.Prelude.{◌≡◌, ◌≤◌, ◌<◌, IsTrue, IfOk, IfSome, length};
 ghost use Rattle.cps_list.specs.Symbols.{name_order};
+ghost use Rattle.cps_markup.specs.PlaceLaws.{IsWritten};
 ghost use Rattle.cps_page.specs.Page.{defines};
 ghost use Rattle.cps_page.specs.Code.Making.{AreEntries, AreEntriesTo, IsBehind};
 
 use cps_list::View;
-use cps_markup::{Entry, row_length};
+use cps_markup::{Entry, Place, row_length};
 use cps_text::Name;
 use std::alloc::{AllocError, Global};
 use std::cmp::Ordering;
@@ -50,15 +51,32 @@ fn add_entry<V: View>(
 /// The symbol of a row, if it stands behind the last one and a line defines it.
 fn entry_in<V: View>(view: &V, last: Option<Name>, row: &[u8]) -> Option<Entry>
     ensures behind { IfSome result (λ entry. IsBehind last entry.name) }
+    ensures written { IfSome result (λ entry. IsWritten (Place.Symbol entry.name)) }
     ensures defined { IfSome result (λ entry. IsTrue (defines (V.assembly view.now) entry.line entry.name)) }
 {
     let name = name_in(row)?;
     let line = line_in(row)?;
-    if is_behind(last, name) && is_defined(view, line, name) {
+    if is_written(name) && is_behind(last, name) && is_defined(view, line, name) {
         Some(Entry { name, line })
     } else {
         None
     }
+}
+
+/// Whether a symbol is the one that its characters write.
+fn is_written(name: Name) -> bool
+    ensures { IsTrue result → IsWritten (Place.Symbol name) }
+{
+    match Name::read(name.text()) {
+        Some(again) => is_same(again, name),
+        None => false,
+    }
+}
+
+fn is_same(one: Name, other: Name) -> bool
+    ensures { IsTrue result → one ≡ other }
+{
+    one == other
 }
 
 fn is_behind(last: Option<Name>, name: Name) -> bool

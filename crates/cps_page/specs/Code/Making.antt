@@ -1,5 +1,5 @@
 -- For the code of a page, not part of what a reader believes: its parts in the making.
-use Rattle.std.specs.Prelude.{◌≡◌, ℕ, ◌+◌, ◌≤◌, IsTrue, ⊤, List, [], ◌∷◌, ◌++◌, All, count_by, map, length, Option, None, Some}
+use Rattle.std.specs.Prelude.{◌≡◌, ℕ, ◌+◌, ◌<◌, ◌≤◌, ◌^◌, IsTrue, ⊤, List, [], ◌∷◌, ◌++◌, All, count_by, map, length, Option, None, Some}
 use Rattle.std.specs.declared.cmp.Ordering.TheVariants.{Less}
 use Rattle.cps_text.specs.declared.name.Name.{Name}
 use Rattle.cps_list.specs.Assembly.{Assembly}
@@ -14,6 +14,7 @@ use Rattle.cps_markup.specs.declared.place.PageSection.TheVariants as page
 use Rattle.cps_markup.specs.declared.targets.Entry.{Entry}
 use Rattle.cps_markup.specs.declared.targets.Targets.{Targets}
 use Rattle.cps_markup.specs.Links.{Leads, is_of}
+use Rattle.cps_markup.specs.PlaceLaws.{IsWritten}
 use Rattle.cps_markup.specs.Markup.{Markup, nothing, written, said, places, links}
 use Rattle.cps_page.specs.Page.{Sections, body, section, defines}
 
@@ -29,10 +30,12 @@ pub record AreEntriesTo (assembly : Assembly) (last : Option Name) (entries : Li
   pub once : (name : Name) → count_by (is_of name) entries ≤ 1
   pub none_behind : (name : Name) → IsBehind last name → count_by (is_of name) entries ≡ 0
   pub defined : All (λ entry. IsTrue (defines assembly entry.line entry.name)) entries
+  pub written : All (λ entry. IsWritten (Symbol entry.name)) entries
 
 pub record AreEntries (assembly : Assembly) (entries : List Entry) : Type 0 where
   pub once : (name : Name) → count_by (is_of name) entries ≤ 1
   pub defined : All (λ entry. IsTrue (defines assembly entry.line entry.name)) entries
+  pub written : All (λ entry. IsWritten (Symbol entry.name)) entries
 
 -- ---- places
 
@@ -75,3 +78,5 @@ pub record AreTargets (assembly : Assembly) (targets : Targets) : Type 0 where
   pub lines : targets.count ≡ length assembly.lines
   pub once : (name : Name) → count_by (is_of name) targets.entries.items ≤ 1
   pub defined : All (λ entry. IsTrue (defines assembly entry.line entry.name)) targets.entries.items
+  pub written : All (λ entry. IsWritten (Symbol entry.name)) targets.entries.items
+  pub few : length assembly.lines < 2 ^ 32

@@ -10,4 +10,4 @@ returns g c =
     let assembly = g.V.View.assembly c.args.view.now in
     let entry = c.in-Some.entry in
     subst (λ (entries : List Entry). AreEntriesTo assembly (Some entry.name) entries) (sym c.in_ok-push.ensures.items)
-    (entry-more assembly c.args.last c.args.entries.now.items entry c.requires c.in-Some.ensures.behind c.in-Some.ensures.defined)
+    (entry-more assembly c.args.last c.args.entries.now.items entry c.requires c.in-Some.ensures.behind c.in-Some.ensures.defined c.in-Some.ensures.written)
