@@ -1,13 +1,14 @@
 -- Markup behind markup, and inside of an element.
-use Rattle.std.proofs.Common.{◌≡◌, ℕ, zero, suc, ◌<◌, List, [], ◌∷◌, ◌++◌, refl, sym, ap, subst, ◌∙◌, append-nil, append_assoc, take, drop, flat_map, length, arith}
+use Rattle.std.proofs.Common.{◌≡◌, ℕ, zero, suc, ◌<◌, Bool, true, false, List, [], ◌∷◌, ◌++◌, refl, sym, ap, subst, ◌∙◌, append-nil, append_assoc, take, drop, flat_map, length, arith}
 use Rattle.std.specs.Prelude.{All, if◌then◌else◌}
 use Rattle.std.proofs.lemmas.List.{take-append-drop}
 use Rattle.std.proofs.lemmas.List.Elements.{All-append}
 use Rattle.cps_markup.specs.declared.attribute.Attribute.{Attribute}
 use Rattle.cps_markup.specs.declared.place.Place.{Place}
 use Rattle.cps_markup.specs.declared.tag.Tag.{Tag}
+use Rattle.cps_markup.specs.declared.tag.Tag.TheVariants as tag
 use Rattle.cps_markup.specs.Markup.{Markup, nothing, says, element, Link, written, said, places, links, opening, closing, escaped, is_note, identified, targeted}
-use Rattle.cps_markup.specs.Code.Adding.{Adds}
+use Rattle.cps_markup.specs.Code.Adding.{Adds, row_attributes}
 
 -- ---- markup behind markup
 
@@ -94,3 +95,9 @@ module _ (P : Link → Type 0) where
   pub adds-end : (rest page : List ℕ) → length rest ≡ 0 → Adds P rest [] page page
   adds-end [] page is = adds-nothing P page
   adds-end (c ∷ rest) page is = absurd (omega arith)
+
+  -- a row, whether it has a flag or not
+  pub adds-row : (is_flagged : Bool) (s old middle later new : List ℕ) → middle ≡ old ++ opening tag.Row (row_attributes is_flagged) → Adds P s [] middle later
+      → new ≡ later ++ closing tag.Row → Adds P s [] old new
+  adds-row true s old middle later new begun a ended = adds-element tag.Row (row_attributes true) s [] old middle later new begun a ended (all-none P)
+  adds-row false s old middle later new begun a ended = adds-element tag.Row (row_attributes false) s [] old middle later new begun a ended (all-none P)

@@ -1,9 +1,10 @@
 //! A row of a text, of which parts look so, and parts lead somewhere.
-ghost use Rattle.std.specs.Prelude.{◌≡◌, ◌≤◌, ◌<◌, [], OnOk, length};
+ghost use Rattle.std.specs.Prelude.{◌≡◌, ◌≤◌, ◌<◌, [], ◌++◌, OnOk, length};
 ghost use Rattle.cps_markup.specs.Links.{Leads};
-ghost use Rattle.cps_markup.specs.Code.Adding.{Adds};
+ghost use Rattle.cps_markup.specs.Markup.{opening};
+ghost use Rattle.cps_markup.specs.Code.Adding.{Adds, row_attributes};
 
-use crate::attribute::{push_closing, push_opening};
+use crate::attribute::{Attribute, push_closing, push_opening};
 use crate::escaping::push_text;
 use crate::link::{push_link, push_plain, push_styled};
 use crate::painting::stretch_at;
@@ -38,11 +39,27 @@ pub fn push_row(
     ensures { OnOk result (Adds (Leads targets.now) row.now [] page.old.items page.new.items) }
 {
     let (text, feed) = row.split_at(text_length(row));
-    push_opening(page, Tag::Row, &[])?;
+    push_row_opening(page, is_flagged(section, row))?;
     push_painted(page, targets, section, text)?;
     push_closing(page, Tag::Row)?;
     push_text(page, feed)?;
     Ok(())
+}
+
+/// The begin of a row, which looks otherwise where it has a flag.
+fn push_row_opening(page: &mut Vec<u8>, is_flagged: bool) -> Result<(), AllocError>
+    ensures { OnOk result (page.new.items ≡ page.old.items ++ opening Tag.Row (row_attributes is_flagged)) }
+{
+    if is_flagged {
+        push_opening(page, Tag::Row, &[Attribute::Styled(Style::Flagged)])
+    } else {
+        push_opening(page, Tag::Row, &[])
+    }
+}
+
+/// Whether a row of the listing has a flag.
+fn is_flagged(section: PageSection, row: &[u8]) -> bool {
+    section == PageSection::Listing && !row.is_empty() && row[0] != b' '
 }
 
 /// The length of a row without its line feed.

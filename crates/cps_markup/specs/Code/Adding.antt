@@ -1,5 +1,8 @@
 -- For the code of a page, not part of what a reader believes: markup in the making.
-use Rattle.std.specs.Prelude.{◌≡◌, ℕ, List, ◌++◌, All}
+use Rattle.std.specs.Prelude.{◌≡◌, ℕ, Bool, List, [], ◌∷◌, ◌++◌, All, if◌then◌else◌}
+use Rattle.cps_markup.specs.declared.attribute.Attribute.{Attribute}
+use Rattle.cps_markup.specs.declared.attribute.Attribute.TheVariants.{Styled}
+use Rattle.cps_markup.specs.declared.style.Style.TheVariants.{Flagged}
 use Rattle.cps_markup.specs.declared.place.Place.{Place}
 use Rattle.cps_markup.specs.Markup.{Markup, Link, written, said, places, links}
 
@@ -10,3 +13,7 @@ pub record Adds (IsGood : Link → Type 0) (words : List ℕ) (here : List Place
   pub same_words : said markup ≡ words
   pub same_places : places markup ≡ here
   pub good : All IsGood (links markup)
+
+-- what the element of a row has
+abbrev pub row_attributes : Bool → List Attribute
+row_attributes is_flagged = if is_flagged then Styled Flagged ∷ [] else []
