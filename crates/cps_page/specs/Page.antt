@@ -43,7 +43,8 @@ body sections =
 
 -- a line defines a symbol
 abbrev pub defines : Assembly → ℕ → Name → Bool
-defines assembly number name = option_map_or (λ (outcome : Outcome). list_any (λ defined. same_name defined name) outcome.defined) (slice_get assembly.outcomes (number - 1)) false
+defines assembly number name =
+    option_map_or (λ (outcome : Outcome). list_any (λ defined. same_name defined name) outcome.defined) (slice_get assembly.outcomes (number - 1)) false
 
 -- a link whose text is a symbol leads to no line but one that defines it
 abbrev pub LeadsHome : Assembly → Link → Type 0

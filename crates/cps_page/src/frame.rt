@@ -8,13 +8,13 @@ pub const FRONT: &[u8] = b"<!DOCTYPE html>
 <style>
 :root {
   --paper: #fff; --ink: #1c2024; --soft: #5f6770; --rule: #dde1e6; --i: #9a4a00; --j: #005f4d; --k: #7438b0; --K: #0a58b0;
-  --bad: #b42318; --seen: #ffd00038; --size: 13px;
+  --bad: #b42318; --wash: #d92d2012; --seen: #ffd00038; --size: 13px;
   --mono: \"Cascadia Mono\", SFMono-Regular, Menlo, Consolas, \"DejaVu Sans Mono\", monospace;
 }
 @media (prefers-color-scheme: dark) {
   :root {
     --paper: #15171a; --ink: #dadde1; --soft: #969ea8; --rule: #262a2f; --i: #eda667; --j: #5bc2a3; --k: #c3a0ee; --K: #82b7f5;
-    --bad: #ff9d90; --seen: #ffd54a22;
+    --bad: #ff9d90; --wash: #ff6b5a1c; --seen: #ffd54a22;
   }
 }
 html { scroll-padding-top: 3.5rem; }
@@ -28,6 +28,7 @@ section div:not(:has(div)) { white-space: pre; }
 section i { font-style: normal; }
 section a { color: inherit; text-decoration-color: color-mix(in srgb, currentColor 35%, transparent); text-underline-offset: 3px; }
 .f { font-weight: 600; color: var(--bad); }
+.bad { background: var(--wash); }
 .i { color: var(--i); }
 .j { color: var(--j); }
 .k { color: var(--k); }

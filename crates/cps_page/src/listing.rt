@@ -1,9 +1,9 @@
 //! The section of the listing.
 ghost use Rattle.std.specs.Prelude.{◌≡◌, [], ◌++◌, IfOk, OnOk};
-ghost use Rattle.cps_list.specs.ListingText.{line_rows, listing_from, listing_text, open_row};
+ghost use Rattle.cps_list.specs.ListingText.{line_rows, listing_from, open_row};
 ghost use Rattle.cps_markup.specs.Links.{Leads};
 ghost use Rattle.cps_markup.specs.Code.Adding.{Adds};
-ghost use Rattle.cps_page.specs.Code.Making.{lines_from};
+ghost use Rattle.cps_page.specs.Code.Making.{AddsListing, lines_from};
 
 use cps_final::Row;
 use cps_list::{View, push_rows as push_listing_rows};
@@ -17,7 +17,7 @@ pub fn push_listing<V: View>(
     view: &V,
     targets: &Targets,
 ) -> Result<(), AllocError>
-    ensures { OnOk result (Adds (Leads targets.now) (listing_text (V.assembly view.now)) (lines_from 1 (V.assembly view.now).lines) page.old.items page.new.items) }
+    ensures { OnOk result (AddsListing targets.now (V.assembly view.now) page.old.items page.new.items) }
 {
     push_lines(alloc, page, view, targets)?;
     push_open_row(page, targets, view.open_at_end())?;

@@ -1,8 +1,5 @@
 //! The page.
 ghost use Rattle.std.specs.Prelude.{◌≡◌, IfOk, OnOk};
-ghost use Rattle.cps_list.specs.Binary.{binary_text};
-ghost use Rattle.cps_list.specs.Flagged.{flags_text};
-ghost use Rattle.cps_list.specs.ListingText.{listing_text};
 ghost use Rattle.cps_list.specs.Symbols.{symbols_text};
 ghost use Rattle.cps_page.specs.Code.Making.{AddsSections, AreTargets};
 ghost use Rattle.cps_page.specs.Page.{IsPage};

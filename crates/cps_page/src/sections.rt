@@ -1,10 +1,9 @@
 //! The sections of a page.
 ghost use Rattle.std.specs.Prelude.{◌≡◌, [], ◌∷◌, ◌++◌, OnOk};
-ghost use Rattle.cps_list.specs.ListingText.{listing_text};
 ghost use Rattle.cps_markup.specs.Links.{Leads};
 ghost use Rattle.cps_markup.specs.Markup.{opening};
 ghost use Rattle.cps_markup.specs.Code.Adding.{Adds};
-ghost use Rattle.cps_page.specs.Code.Making.{AddsSection, lines_from, symbols_among};
+ghost use Rattle.cps_page.specs.Code.Making.{AddsListingSection, AddsSection, AddsSymbolSection, symbols_among};
 
 use crate::listing::push_listing;
 use cps_list::View;
@@ -21,7 +20,7 @@ pub fn push_listing_section<V: View>(
     view: &V,
     targets: &Targets,
 ) -> Result<(), AllocError>
-    ensures { OnOk result (AddsSection targets.now PageSection.Listing (listing_text (V.assembly view.now)) (lines_from 1 (V.assembly view.now).lines) page.old.items page.new.items) }
+    ensures { OnOk result (AddsListingSection targets.now (V.assembly view.now) page.old.items page.new.items) }
 {
     push_begin(page, PageSection::Listing)?;
     push_heading(page, targets, b"Listing")?;
@@ -52,7 +51,7 @@ pub fn push_symbol_section(
     targets: &Targets,
     text: &[u8],
 ) -> Result<(), AllocError>
-    ensures { OnOk result (AddsSection targets.now PageSection.Symbols text.now (symbols_among targets.now.entries.items) page.old.items page.new.items) }
+    ensures { OnOk result (AddsSymbolSection targets.now text.now page.old.items page.new.items) }
 {
     push_begin(page, PageSection::Symbols)?;
     push_heading(page, targets, b"Symbols")?;

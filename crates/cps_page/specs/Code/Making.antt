@@ -15,6 +15,7 @@ use Rattle.cps_markup.specs.declared.targets.Entry.{Entry}
 use Rattle.cps_markup.specs.declared.targets.Targets.{Targets}
 use Rattle.cps_markup.specs.Links.{Leads, is_of}
 use Rattle.cps_markup.specs.PlaceLaws.{IsWritten}
+use Rattle.cps_markup.specs.Code.Adding.{Adds}
 use Rattle.cps_markup.specs.Markup.{Markup, nothing, written, said, places, links}
 use Rattle.cps_page.specs.Page.{Sections, body, section, defines}
 
@@ -61,6 +62,17 @@ pub record AddsSection (targets : Targets) (which : PageSection) (words : List �
   pub same_words : said inside ≡ words
   pub same_places : places inside ≡ here
   pub good : All (Leads targets) (links inside)
+
+-- a page has the listing more, in which each line is a place
+abbrev pub AddsListing : Targets → Assembly → List ℕ → List ℕ → Type 0
+AddsListing targets assembly old new = Adds (Leads targets) (listing_text assembly) (lines_from 1 assembly.lines) old new
+
+abbrev pub AddsListingSection : Targets → Assembly → List ℕ → List ℕ → Type 0
+AddsListingSection targets assembly old new = AddsSection targets page.Listing (listing_text assembly) (lines_from 1 assembly.lines) old new
+
+-- a page has the cross-reference more, in which each symbol that can be led to is a place
+abbrev pub AddsSymbolSection : Targets → List ℕ → List ℕ → List ℕ → Type 0
+AddsSymbolSection targets text old new = AddsSection targets page.Symbols text (symbols_among targets.entries.items) old new
 
 -- a page has the four sections more
 pub record AddsSections (targets : Targets) (assembly : Assembly) (old new : List ℕ) : Type 0 where
