@@ -1,0 +1,29 @@
+//! A draft of a source.
+use super::drafting::Drafting;
+use super::hints::{Boldness, GivenWord, Hints};
+use super::image::Image;
+use cps_expr::Machine;
+use std::alloc::{AllocError, Global};
+
+/// A draft of a source.
+#[derive(Drop)]
+pub struct Draft {
+    /// Its lines, each ended by a newline.
+    pub text: Vec<u8>,
+    /// For each line the address of the word that it makes, the first of several; None where it makes none.
+    pub words: Vec<Option<u32>>,
+}
+
+/// A draft of a source that makes words, given at rising addresses. What is code and what has a name is guessed.
+pub fn make_draft(
+    alloc: Global,
+    machine: Machine,
+    words: &[GivenWord],
+    hints: &Hints,
+    boldness: &Boldness,
+) -> Result<Draft, AllocError> {
+    let image = Image { machine, words };
+    let mut drafting = Drafting::new(alloc, image, hints, boldness);
+    drafting.make()?;
+    Ok(drafting.into_draft())
+}

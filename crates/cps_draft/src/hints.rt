@@ -1,0 +1,54 @@
+/// A word of an octal text.
+#[derive(Clone, Copy)]
+pub struct GivenWord {
+    pub address: u32,
+    /// The number that the digits are which are given.
+    pub value: u64,
+    /// How many octal digits are given, from the left: 1 to 20, of a peripheral processor 1 to 4.
+    pub digits: u8,
+}
+
+/// The words from one address to another, both included.
+#[derive(Clone, Copy)]
+pub struct AddressRange {
+    pub first: u32,
+    pub last: u32,
+}
+
+/// A name that a person knows: of an address, if the value is that of a word, of a jump or of a cell.
+#[derive(Drop)]
+pub struct KnownName {
+    /// One to eight characters that may be a symbol.
+    pub name: Vec<u8>,
+    pub value: u64,
+}
+
+/// What a person knows of the words.
+#[derive(Drop)]
+pub struct Hints {
+    /// Where execution begins: what is reached from there is code.
+    pub entries: Vec<u32>,
+    /// Words that are code.
+    pub code: Vec<AddressRange>,
+    /// Words that are data, also if they are said to be code.
+    pub data: Vec<AddressRange>,
+    /// The first name of a value counts, and the first value of a name.
+    pub names: Vec<KnownName>,
+    /// The name in IDENT; None where it is DUMP.
+    pub ident: Option<Vec<u8>>,
+    /// Whether no comments are written.
+    pub is_bare: bool,
+}
+
+/// How much of a draft is guessed.
+#[derive(Drop)]
+pub enum Boldness {
+    /// All that a draft can have.
+    Draft,
+    /// The same, and each word has its address from an ORG, so that no line moves those behind it.
+    Placed,
+    /// The draft, but the words at these addresses are plain numbers without names.
+    Without(Vec<u32>),
+    /// Each word is a plain number, and none has a name.
+    Plain,
+}
