@@ -1,7 +1,9 @@
 //! A draft of a source.
-use super::drafting::Drafting;
+use super::drafting::push_draft;
+use super::guess::Guess;
 use super::hints::{Boldness, GivenWord, Hints};
 use super::image::Image;
+use super::lines::Lines;
 use cps_expr::Machine;
 use std::alloc::{AllocError, Global};
 
@@ -23,7 +25,8 @@ pub fn make_draft(
     boldness: &Boldness,
 ) -> Result<Draft, AllocError> {
     let image = Image { machine, words };
-    let mut drafting = Drafting::new(alloc, image, hints, boldness);
-    drafting.make()?;
-    Ok(drafting.into_draft())
+    let guess = Guess::of(alloc, image, hints, boldness)?;
+    let mut lines = Lines::new(alloc, hints.is_bare);
+    push_draft(alloc, &guess, hints, boldness, &mut lines)?;
+    Ok(lines.into_draft())
 }

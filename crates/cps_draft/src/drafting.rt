@@ -1,148 +1,185 @@
 //! The lines of a draft, word after word.
-use super::draft::Draft;
+use super::code_lines::{push_code, push_heading};
+use super::data_lines::push_data;
+use super::guess::Guess;
 use super::hints::{Boldness, Hints};
 use super::image::{Image, MOST_GAP};
 use super::lines::Lines;
-use super::number::{push_decimal, push_number, push_word};
-use cps_text::push_octal;
+use super::number::{push_decimal, push_number};
 use std::alloc::{AllocError, Global};
 
-/// What is written of a draft.
-#[derive(Drop)]
-pub struct Drafting<'a> {
-    image: Image<'a>,
-    hints: &'a Hints,
-    boldness: &'a Boldness,
-    lines: Lines,
-    /// How many bits of a begun word the lines leave.
-    begun: u8,
+/// Writes the lines of a draft.
+pub fn push_draft(
+    alloc: Global,
+    guess: &Guess<'_>,
+    hints: &Hints,
+    boldness: &Boldness,
+    lines: &mut Lines,
+) -> Result<(), AllocError> {
+    push_head(guess, hints, lines)?;
+    let is_placed = matches!(boldness, Boldness::Placed);
+    let mut next = 0;
+    for index in 0..guess.image.words.len() {
+        if index < next {
+            continue;
+        }
+        push_place(guess, is_placed, index, lines)?;
+        next = push_word(alloc, guess, lines, index)?;
+    }
+    push_tail(guess, lines)?;
+    push_end(guess, hints, lines)
 }
 
-impl<'a> Drafting<'a> {
-    pub fn new(
-        alloc: Global,
-        image: Image<'a>,
-        hints: &'a Hints,
-        boldness: &'a Boldness,
-    ) -> Drafting<'a> {
-        Drafting {
-            image,
-            hints,
-            boldness,
-            lines: Lines::new(alloc, hints.is_bare),
-            begun: 0,
+/// Writes the lines that begin at a word. The index behind its words.
+fn push_word(
+    alloc: Global,
+    guess: &Guess<'_>,
+    lines: &mut Lines,
+    index: usize,
+) -> Result<usize, AllocError> {
+    let size = guess.coding.size(index);
+    if size > 0 {
+        push_code(guess, lines, index)?;
+        return Ok(index.saturating_add(size));
+    }
+    push_heading(guess, lines, index)?;
+    push_data(alloc, guess, lines, index)
+}
+
+/// Writes the lines in front of the words.
+fn push_head(guess: &Guess<'_>, hints: &Hints, lines: &mut Lines) -> Result<(), AllocError> {
+    let ident: &[u8] = match &hints.ident {
+        Some(ident) => ident,
+        None => b"DUMP",
+    };
+    lines.begin(b"", b"IDENT")?;
+    lines.text().extend_from_slice(ident)?;
+    lines.end(None)?;
+    let machine: &[u8] = if guess.image.is_central() {
+        b"ABS"
+    } else {
+        b"PERIPH"
+    };
+    lines.begin(b"", machine)?;
+    lines.end(None)?;
+    lines.remark(b"")?;
+    push_counts(guess, lines)?;
+    push_outside(guess, lines)?;
+    lines.remark(b"")
+}
+
+/// Writes the remark that tells how many words there are.
+fn push_counts(guess: &Guess<'_>, lines: &mut Lines) -> Result<(), AllocError> {
+    let image = &guess.image;
+    let count = image.words.len();
+    let words: &[u8] = if count == 1 {
+        b" WORD FROM "
+    } else {
+        b" WORDS FROM "
+    };
+    lines.begin_remark()?;
+    push_decimal(lines.text(), count)?;
+    lines.text().extend_from_slice(words)?;
+    lines.push_address(image, image.address(0))?;
+    lines.text().extend_from_slice(b" TO ")?;
+    lines.push_address(image, image.address(count.saturating_sub(1)))?;
+    lines.text().extend_from_slice(b", ")?;
+    push_decimal(lines.text(), guess.coding.count())?;
+    lines.text().extend_from_slice(b" OF THEM CODE.")?;
+    lines.end_remark()
+}
+
+/// Writes the names of addresses that no line of the text has.
+fn push_outside(guess: &Guess<'_>, lines: &mut Lines) -> Result<(), AllocError> {
+    let mut is_first = true;
+    for named in guess.names.all() {
+        if !named.is_outside {
+            continue;
         }
-    }
-
-    pub fn into_draft(self) -> Draft {
-        let Drafting { lines, .. } = self;
-        lines.into_draft()
-    }
-
-    /// Writes the lines.
-    pub fn make(&mut self) -> Result<(), AllocError> {
-        self.make_head()?;
-        for index in 0..self.image.words.len() {
-            self.make_place(index)?;
-            self.make_plain(index)?;
+        if is_first {
+            lines.remark(b"")?;
+            lines.remark(b"ADDRESSES OUTSIDE OF THE TEXT.")?;
+            is_first = false;
         }
-        self.lines.begin(b"", b"END")?;
-        self.lines.end(None)
+        lines.begin(&named.name, b"EQU")?;
+        push_number(lines.text(), u64::from(named.address))?;
+        lines.end(None)?;
     }
+    Ok(())
+}
 
-    fn make_head(&mut self) -> Result<(), AllocError> {
-        let ident: &[u8] = match &self.hints.ident {
-            Some(ident) => ident,
-            None => b"DUMP",
-        };
-        self.lines.begin(b"", b"IDENT")?;
-        self.lines.text().extend_from_slice(ident)?;
-        self.lines.end(None)?;
-        let machine: &[u8] = if self.image.is_central() {
-            b"ABS"
+/// Writes the line that says where a word is, if it needs one.
+fn push_place(
+    guess: &Guess<'_>,
+    is_placed: bool,
+    index: usize,
+    lines: &mut Lines,
+) -> Result<(), AllocError> {
+    let address = guess.image.address(index);
+    if guess.image.is_joined(index) {
+        return if is_placed {
+            push_origin(address, lines)
         } else {
-            b"PERIPH"
+            Ok(())
         };
-        self.lines.begin(b"", machine)?;
-        self.lines.end(None)?;
-        self.lines.remark(b"")
     }
+    let Some(before) = index.checked_sub(1) else {
+        return push_origin(address, lines);
+    };
+    let first = guess.image.address(before).saturating_add(1);
+    if address.saturating_sub(first) > MOST_GAP {
+        return push_origin(address, lines);
+    }
+    push_gap(guess, first, address, lines)
+}
 
-    /// Writes the line that says where a word is, if it needs one.
-    fn make_place(&mut self, index: usize) -> Result<(), AllocError> {
-        let address = self.image.address(index);
-        if self.image.is_joined(index) {
-            if matches!(self.boldness, Boldness::Placed) {
-                return self.make_origin(address);
-            }
-            return Ok(());
+fn push_origin(address: u32, lines: &mut Lines) -> Result<(), AllocError> {
+    lines.begin(b"", b"ORG")?;
+    push_number(lines.text(), u64::from(address))?;
+    lines.begin_word();
+    lines.end(None)
+}
+
+/// Passes the words from one address up to another, with the names that are there.
+fn push_gap(guess: &Guess<'_>, first: u32, end: u32, lines: &mut Lines) -> Result<(), AllocError> {
+    let mut at = first;
+    for named in guess.names.between(first.saturating_add(1), end) {
+        push_space(guess, at, named.address.saturating_sub(at), lines)?;
+        at = named.address;
+    }
+    push_space(guess, at, end.saturating_sub(at), lines)
+}
+
+/// Writes the line that passes some words, with the name of the first.
+fn push_space(guess: &Guess<'_>, at: u32, words: u32, lines: &mut Lines) -> Result<(), AllocError> {
+    lines.begin(guess.names.name(at), b"BSS")?;
+    push_number(lines.text(), u64::from(words))?;
+    lines.begin_comment_at(&guess.image, at)?;
+    lines.begin_word();
+    lines.end(None)
+}
+
+/// Writes the lines of the names behind the text.
+fn push_tail(guess: &Guess<'_>, lines: &mut Lines) -> Result<(), AllocError> {
+    let first = guess.image.behind();
+    match guess.names.between(first, guess.image.reach()).last() {
+        Some(last) if last.address == first => push_space(guess, first, 0, lines),
+        Some(last) => {
+            push_gap(guess, first, last.address, lines)?;
+            push_space(guess, last.address, 0, lines)
         }
-        let Some(before) = index.checked_sub(1) else {
-            return self.make_origin(address);
-        };
-        let first = self.image.address(before).saturating_add(1);
-        if address.saturating_sub(first) > MOST_GAP {
-            return self.make_origin(address);
+        None => Ok(()),
+    }
+}
+
+/// Writes the last line: where execution begins, if that has a name.
+fn push_end(guess: &Guess<'_>, hints: &Hints, lines: &mut Lines) -> Result<(), AllocError> {
+    lines.begin(b"", b"END")?;
+    for entry in &hints.entries {
+        if guess.names.has(*entry) {
+            lines.text().extend_from_slice(guess.names.name(*entry))?;
+            break;
         }
-        self.make_gap(first, address)
     }
-
-    fn make_origin(&mut self, address: u32) -> Result<(), AllocError> {
-        self.lines.begin(b"", b"ORG")?;
-        push_number(self.lines.text(), u64::from(address))?;
-        self.begun = 0;
-        self.lines.end(None)
-    }
-
-    /// Passes the words from one address up to another.
-    fn make_gap(&mut self, first: u32, end: u32) -> Result<(), AllocError> {
-        self.lines.begin(b"", b"BSS")?;
-        push_number(self.lines.text(), u64::from(end.saturating_sub(first)))?;
-        self.begin_comment(first)?;
-        self.begun = 0;
-        self.lines.end(None)
-    }
-
-    /// Ends the operands, and begins a comment with an address.
-    fn begin_comment(&mut self, address: u32) -> Result<(), AllocError> {
-        let digits = self.image.address_digits();
-        self.lines.begin_comment()?;
-        push_octal(self.lines.text(), u64::from(address), digits)
-    }
-
-    /// Writes a word as a number.
-    fn make_plain(&mut self, index: usize) -> Result<(), AllocError> {
-        if !self.image.is_whole(index) {
-            return self.make_part(index);
-        }
-        let digits = self.image.word_digits();
-        let address = self.image.address(index);
-        self.lines.begin(b"", b"DATA")?;
-        push_word(self.lines.text(), self.image.value(index), digits)?;
-        self.begun = 0;
-        self.begin_comment(address)?;
-        self.lines.end(Some(address))
-    }
-
-    /// Writes those digits of a word that are given, as a field.
-    fn make_part(&mut self, index: usize) -> Result<(), AllocError> {
-        let Some(word) = self.image.words.get(index) else {
-            return Ok(());
-        };
-        let location: &[u8] = if self.begun == 0 { b"" } else { b"+" };
-        self.lines.begin(location, b"VFD")?;
-        let bits = word.digits.saturating_mul(3);
-        push_decimal(self.lines.text(), usize::from(bits))?;
-        self.lines.text().push(b'/')?;
-        push_number(self.lines.text(), word.value)?;
-        self.begin_comment(word.address)?;
-        self.lines.text().push(b' ')?;
-        push_octal(self.lines.text(), word.value, word.digits)?;
-        self.begun = if self.image.is_central() {
-            bits % 60
-        } else {
-            0
-        };
-        self.lines.end(Some(word.address))
-    }
+    lines.end(None)
 }

@@ -1,9 +1,13 @@
 //! The words that an octal text gives.
+use super::characters::Characters;
 use super::hints::GivenWord;
 use cps_expr::Machine;
 
 /// The most words of a gap that a BSS passes. ORG passes a longer one.
 pub const MOST_GAP: u32 = 4096;
+
+/// Below this address only what the text has is an address.
+pub const LOW: u32 = 0o100;
 
 /// The bits of a word of the central processor.
 const ALL_BITS: u64 = (1 << 60) - 1;
@@ -65,6 +69,103 @@ impl Image<'_> {
             return false;
         };
         index < self.words.len() && self.address(index) == self.address(before).saturating_add(1)
+    }
+
+    /// The address up to which an address behind the text is taken for a part of it, not included.
+    pub fn reach(&self) -> u32 {
+        let words = if self.is_central() { 4096 } else { 512 };
+        self.behind().saturating_add(words).min(self.limit())
+    }
+
+    /// The address behind the last word.
+    pub fn behind(&self) -> u32 {
+        self.words
+            .last()
+            .map_or(0, |word| word.address.saturating_add(1))
+    }
+
+    /// Whether an address is that of a word.
+    pub fn has(&self, address: u32) -> bool {
+        self.index_of(address).is_some()
+    }
+
+    /// Whether an address is in a gap that BSS passes.
+    pub fn is_in_gap(&self, address: u32) -> bool {
+        let index = self.count_before(address);
+        let Some(before) = index.checked_sub(1) else {
+            return false;
+        };
+        let Some(word) = self.words.get(index) else {
+            return false;
+        };
+        let first = self.address(before).saturating_add(1);
+        address < word.address && word.address.saturating_sub(first) <= MOST_GAP
+    }
+
+    /// Whether an address is that of a word, or in a gap that BSS passes.
+    pub fn stands(&self, address: u32) -> bool {
+        self.has(address) || self.is_in_gap(address)
+    }
+
+    /// Whether an address can have a label: it is that of a word, in a gap, or not far behind the text.
+    pub fn has_label(&self, address: u32) -> bool {
+        self.stands(address) || (self.behind() <= address && address < self.reach())
+    }
+
+    /// Whether an address begins what isn't given, behind a word.
+    pub fn is_end(&self, address: u32) -> bool {
+        match address.checked_sub(1) {
+            Some(before) => address < self.limit() && !self.has(address) && self.has(before),
+            None => false,
+        }
+    }
+
+    /// The index of the word in front of a word, if no gap is between them.
+    pub fn before(&self, index: usize) -> Option<usize> {
+        if self.is_joined(index) {
+            index.checked_sub(1)
+        } else {
+            None
+        }
+    }
+
+    /// The index of the word behind a word, if no gap is between them.
+    pub fn after(&self, index: usize) -> Option<usize> {
+        let next = index.saturating_add(1);
+        if self.is_joined(next) {
+            Some(next)
+        } else {
+            None
+        }
+    }
+
+    /// How many parcels of a word are given.
+    pub fn parcels(&self, index: usize) -> usize {
+        self.words
+            .get(index)
+            .map_or(0, |word| usize::from(word.digits.min(20) / 5))
+    }
+
+    /// Whether whole parcels of a word are given.
+    pub fn has_whole_parcels(&self, index: usize) -> bool {
+        self.words
+            .get(index)
+            .is_some_and(|word| word.digits % 5 == 0)
+    }
+
+    /// The number that is in the low 18 bits of a word.
+    pub fn low_address(&self, index: usize) -> u32 {
+        (self.value(index) & 0o777777) as u32
+    }
+
+    /// The characters of a word.
+    pub fn characters(&self, index: usize) -> Characters {
+        let word = self.value(index);
+        if self.is_central() {
+            Characters::of_central(word)
+        } else {
+            Characters::of_peripheral(word)
+        }
     }
 
     /// A word with what stands for the digits that aren't given: zeros, or where whole parcels are given what a forcing leaves, 46000

@@ -1,5 +1,9 @@
 //! The lines of a draft, as they are written.
+use super::characters::ZERO;
 use super::draft::Draft;
+use super::image::Image;
+use super::number::push_decimal;
+use cps_text::push_octal;
 use std::alloc::{AllocError, Global};
 
 /// How many characters stand in front of the operation, of the operands and of a comment.
@@ -20,6 +24,10 @@ pub struct Lines {
     /// Where its comment begins.
     comment: Option<usize>,
     is_bare: bool,
+    /// How many bits of a word the lines left begun.
+    pub begun: u8,
+    /// Whether a forcing waits.
+    pub is_pending: bool,
 }
 
 impl Lines {
@@ -32,6 +40,8 @@ impl Lines {
             line: Vec::new(alloc),
             comment: None,
             is_bare,
+            begun: 0,
+            is_pending: false,
         }
     }
 
@@ -42,18 +52,33 @@ impl Lines {
             line: _,
             comment: _,
             is_bare: _,
+            begun: _,
+            is_pending: _,
         } = self;
         draft
     }
 
-    /// Begins a line. Its operands are written behind it.
+    /// Begins a line with a location field and an operation. Its operands are written behind it.
     pub fn begin(&mut self, location: &[u8], operation: &[u8]) -> Result<(), AllocError> {
+        self.begin_with(location, operation, None)
+    }
+
+    /// The same with the digit of a register behind the operation.
+    pub fn begin_with(
+        &mut self,
+        location: &[u8],
+        operation: &[u8],
+        digit: Option<u8>,
+    ) -> Result<(), AllocError> {
         self.line.clear();
         self.line.push(b' ')?;
         self.line.extend_from_slice(location)?;
         self.line.push(b' ')?;
         self.pad(OPERATION)?;
         self.line.extend_from_slice(operation)?;
+        if let Some(digit) = digit {
+            push_decimal(&mut self.line, usize::from(digit))?;
+        }
         self.line.push(b' ')?;
         self.pad(OPERANDS)
     }
@@ -90,6 +115,36 @@ impl Lines {
             return Ok(());
         }
         self.end(None)
+    }
+
+    /// From now on no word is begun.
+    pub fn begin_word(&mut self) {
+        self.begun = 0;
+        self.is_pending = false;
+    }
+
+    /// Appends to the line an address of an image.
+    pub fn push_address(&mut self, image: &Image<'_>, address: u32) -> Result<(), AllocError> {
+        push_octal(&mut self.line, u64::from(address), image.address_digits())
+    }
+
+    /// Ends the operands, and begins a comment with an address of an image.
+    pub fn begin_comment_at(&mut self, image: &Image<'_>, address: u32) -> Result<(), AllocError> {
+        self.begin_comment()?;
+        self.push_address(image, address)
+    }
+
+    /// Appends to the comment the characters of a word, zeros as blanks.
+    pub fn push_shown(&mut self, characters: &[u8]) -> Result<(), AllocError> {
+        for byte in characters {
+            self.line.push(if *byte == ZERO { b' ' } else { *byte })?;
+        }
+        Ok(())
+    }
+
+    /// How many characters of the line are written.
+    pub fn len(&self) -> usize {
+        self.line.len()
     }
 
     /// Ends a line, which makes the word at an address, or none.
