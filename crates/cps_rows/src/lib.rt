@@ -9,6 +9,7 @@
 //! - `claim_rows.rt`: what the rows of an octal text are, and which digits they claim
 //! - `code_rows.rt`: codes of the central processor, and words
 //! - `document.rt`: a document that an editor has open
+//! - `draft_rows.rt`: drafts of sources
 //! - `drift_rows.rt`: where code moved
 //! - `edit_rows.rt`: edits of a session
 //! - `enter_rows.rt`: sessions that begin with lines
@@ -58,6 +59,8 @@ mod claim_rows;
 mod code_rows;
 #[cfg(test)]
 mod document;
+#[cfg(test)]
+mod draft_rows;
 #[cfg(test)]
 mod drift_rows;
 #[cfg(test)]
