@@ -1,0 +1,3 @@
+pub mod CertificateLemmas
+pub mod WantedLemmas
+pub mod WordLaws

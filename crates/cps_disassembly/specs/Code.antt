@@ -1,0 +1,2 @@
+-- What serves the code alone, and no reader need believe.
+pub mod Kept

@@ -1,0 +1,4 @@
+pub mod Makes
+pub mod Certificate
+pub mod Disassembly
+pub mod Code

@@ -1,0 +1,35 @@
+//! A source for the words of an octal text: it is drafted, and each draft is assembled and compared before it is answered.
+//!
+//! - `certificate.rt`: whether a text makes the words that are wanted
+//! - `disassembly.rt`: the disassembly as a whole
+//! - `disassembly_fault.rt`: why no source is made
+//! - `ladder.rt`: drafts, from the boldest to the plainest
+//! - `selection.rt`: which words of an octal text are taken
+//! - `wanted.rt`: the words that are wanted
+#![tactic(auto)]
+
+ghost use Rattle.cps_disassembly.specs.Makes.{AWholeWordStandsExactly, WhereNoWordIsWantedNoneStands};
+
+mod certificate;
+mod disassembly;
+mod disassembly_fault;
+mod ladder;
+mod selection;
+mod wanted;
+
+pub use certificate::{Certificate, Failures, certify};
+pub use disassembly::disassemble;
+pub use disassembly_fault::DisassemblyFault;
+pub use ladder::{Attempt, try_draft};
+pub use selection::Selection;
+pub use wanted::Wanted;
+
+/// Where a text makes the words of an octal text, a word that is claimed whole stands exactly so.
+pub fn a_whole_word_stands_exactly()
+    ensures { AWholeWordStandsExactly }
+{}
+
+/// And where no word is wanted none stands.
+pub fn where_no_word_is_wanted_none_stands()
+    ensures { WhereNoWordIsWantedNoneStands }
+{}

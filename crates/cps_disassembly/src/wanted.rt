@@ -1,0 +1,171 @@
+//! The words of an octal text that are wanted.
+ghost use Rattle.std.specs.Prelude.{◌≡◌, ◌≤◌, true, [], List, IfOk, IfSome, map};
+ghost use Rattle.cps_claims.specs.Claims.{Claimed};
+ghost use Rattle.cps_claims.specs.Rows.{Row};
+ghost use Rattle.cps_claims.specs.Code.Held.{Holds};
+ghost use Rattle.cps_disassembly.specs.Disassembly as specs;
+ghost use Rattle.cps_disassembly.specs.Disassembly.{IsPast, IsTwice};
+ghost use Rattle.cps_disassembly.specs.Code.Kept.{IsWanted, address_in};
+
+use super::certificate::{ADDRESSES, is_wanted};
+use super::disassembly_fault::DisassemblyFault;
+use super::selection::Selection;
+use cps_claims::{ClaimedWord, ClaimedWords, MOST_DIGITS};
+use cps_draft::GivenWord;
+use cps_state::limit_of;
+use std::alloc::{AllocError, Global};
+
+/// Words that a source is to make.
+#[derive(Drop)]
+pub struct Wanted {
+    pub selection: Selection,
+    /// What the octal text claims as it is selected.
+    pub claims: ClaimedWords,
+    /// The words that are wanted, by rising addresses.
+    pub words: Vec<GivenWord>,
+}
+
+impl Wanted {
+    ghost use Rattle.std.specs.Prelude.{◌≡◌, List, IfOk};
+    ghost use Rattle.cps_claims.specs.Claims.{Claimed};
+    ghost use Rattle.cps_claims.specs.Code.Held.{Holds};
+    ghost use Rattle.cps_disassembly.specs.Code.Kept.{IsWanted};
+
+    /// The words of these claims.
+    pub fn of(
+        alloc: Global,
+        claims: ClaimedWords,
+        selection: Selection,
+    ) -> Result<Wanted, AllocError>
+        ensures { (given : List Claimed) → Holds claims given → IfOk result (IsWanted selection given) }
+    {
+        let words = wanted_words(alloc, &claims, selection)?;
+        Ok(Wanted {
+            selection,
+            claims,
+            words,
+        })
+    }
+}
+
+/// The words that are wanted, by rising addresses.
+fn wanted_words(
+    alloc: Global,
+    claims: &ClaimedWords,
+    selection: Selection,
+) -> Result<Vec<GivenWord>, AllocError>
+    ensures { (given : List Claimed) → Holds claims.now given
+        → IfOk result (λ words. map address_in words.items ≡ specs.wanted_in selection given) }
+{
+    let mut words = Vec::new(alloc);
+    for address in 0..ADDRESSES {
+        if is_wanted(claims, selection, address) {
+            words.push(given_word(address, &claims.word(address)))?;
+        }
+    }
+    Ok(words)
+}
+
+/// A word as it is given: its digits from the first up to the last that can be read. Others among these count as 0.
+fn given_word(address: u32, word: &ClaimedWord) -> GivenWord
+    ensures { result.address ≡ address }
+{
+    let digits = given_digits(word);
+    GivenWord {
+        address,
+        value: value_of(word, digits),
+        digits: digits as u8,
+    }
+}
+
+/// How many digits a word has up to the last that can be read.
+fn given_digits(word: &ClaimedWord) -> usize
+    ensures { result ≤ MOST_DIGITS }
+{
+    for place in (0..MOST_DIGITS).rev() {
+        if word.digit(place).is_known() {
+            return place + 1;
+        }
+    }
+    0
+}
+
+/// The number that the first so many digits of a word are.
+fn value_of(word: &ClaimedWord, digits: usize) -> u64
+    requires { digits ≤ MOST_DIGITS }
+{
+    let mut value: u64 = 0;
+    for place in 0..digits {
+        let digit = word.digit(place);
+        let number = if digit.is_known() {
+            digit.shown.saturating_sub(b'0')
+        } else {
+            0
+        };
+        value = value.wrapping_mul(8).wrapping_add(u64::from(number));
+    }
+    value
+}
+
+/// Why the words that are wanted can't be made, if that is known beforehand.
+pub fn fault_in(wanted: &Wanted) -> Option<DisassemblyFault>
+    ensures { (rows : List Row) (given : List Claimed) → IsWanted wanted.now.selection given wanted.now
+        → IfSome result (specs.Refuses wanted.now.selection rows given) }
+{
+    if has_none(&wanted.words) {
+        return Some(DisassemblyFault::NoDigit);
+    }
+    let last = last_address(&wanted.words);
+    if is_past(&wanted.claims, wanted.selection, last) {
+        return Some(DisassemblyFault::Past(last));
+    }
+    denied(wanted)
+}
+
+fn has_none(words: &[GivenWord]) -> bool
+    ensures { result ≡ true → words.now ≡ [] }
+{
+    words.is_empty()
+}
+
+/// The address of the last of some words; 0 where there is none.
+fn last_address(words: &[GivenWord]) -> u32 {
+    match words.last() {
+        Some(word) => word.address,
+        None => 0,
+    }
+}
+
+/// Whether a word is wanted at an address at which no program of the machine has one.
+fn is_past(claims: &ClaimedWords, selection: Selection, address: u32) -> bool
+    ensures { (given : List Claimed) → Holds claims.now given → result ≡ true → IsPast selection given address }
+{
+    if address < limit_of(selection.machine) {
+        return false;
+    }
+    is_wanted(claims, selection, address)
+}
+
+/// The first word of which a digit is claimed twice, with two values.
+fn denied(wanted: &Wanted) -> Option<DisassemblyFault>
+    ensures { (rows : List Row) (given : List Claimed) → IsWanted wanted.now.selection given wanted.now
+        → IfSome result (specs.Refuses wanted.now.selection rows given) }
+{
+    for word in &wanted.words {
+        if let Some(row) = denied_row(&wanted.claims, wanted.selection, word.address) {
+            return Some(DisassemblyFault::Twice(word.address, row));
+        }
+    }
+    None
+}
+
+/// The first row that has another digit of the word at an address than the rows before it.
+fn denied_row(claims: &ClaimedWords, selection: Selection, address: u32) -> Option<usize>
+    ensures { (given : List Claimed) → Holds claims.now given → IfSome result (IsTwice selection given address) }
+{
+    if !is_wanted(claims, selection, address) {
+        return None;
+    }
+    let row = claims.word(address).again_row;
+    if row > 0 { Some(row) } else { None }
+}
