@@ -1,3 +1,4 @@
 pub mod CertificateLemmas
+pub mod RunLemmas
 pub mod WantedLemmas
 pub mod WordLaws

@@ -1,4 +1,5 @@
 pub mod Makes
 pub mod Certificate
 pub mod Disassembly
+pub mod Running
 pub mod Code

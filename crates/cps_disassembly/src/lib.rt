@@ -3,7 +3,11 @@
 //! - `certificate.rt`: whether a text makes the words that are wanted
 //! - `disassembly.rt`: the disassembly as a whole
 //! - `disassembly_fault.rt`: why no source is made
+//! - `guess.rt`: for which machine an octal text seems to be
 //! - `ladder.rt`: drafts, from the boldest to the plainest
+//! - `request.rt`: what the words of a disassembly ask
+//! - `run_fault.rt`: why a run ends without its source
+//! - `running.rt`: the run: a text is read, and the source is written
 //! - `selection.rt`: which words of an octal text are taken
 //! - `wanted.rt`: the words that are wanted
 #![tactic(auto)]
@@ -13,7 +17,11 @@ ghost use Rattle.cps_disassembly.specs.Makes.{AWholeWordStandsExactly, WhereNoWo
 mod certificate;
 mod disassembly;
 mod disassembly_fault;
+mod guess;
 mod ladder;
+mod request;
+mod run_fault;
+mod running;
 mod selection;
 mod wanted;
 
@@ -21,6 +29,9 @@ pub use certificate::{Certificate, Failures, certify};
 pub use disassembly::disassemble;
 pub use disassembly_fault::DisassemblyFault;
 pub use ladder::{Attempt, try_draft};
+pub use request::Request;
+pub use run_fault::RunFault;
+pub use running::{DisassemblySetup, disassemble_input};
 pub use selection::Selection;
 pub use wanted::Wanted;
 
