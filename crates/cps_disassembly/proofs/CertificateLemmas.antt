@@ -1,6 +1,6 @@
 -- Lines that are read from a text, and words of which none is wrong.
-use Rattle.std.proofs.Common.{◌≡◌, ℕ, zero, suc, ◌+◌, ◌<◌, ◌≤◌, ◌&&◌, Bool, true, false, inl, inr, refl, sym, ap, subst, ◌∙◌, arith, ltb, eqb, cond, List, [], ◌∷◌, ◌++◌, None, Some, append-nil}
-use Rattle.std.specs.Prelude.{filter, is_some, Option, vec_len, length}
+use Rattle.std.proofs.Common.{◌≡◌, ℕ, zero, suc, ◌+◌, ◌<◌, ◌≤◌, ◌&&◌, Bool, true, false, inl, inr, refl, sym, ap, subst, ◌∙◌, arith, eqb, cond, List, [], ◌∷◌, ◌++◌}
+use Rattle.std.specs.Prelude.{filter, is_some, length}
 use Rattle.std.specs.List.{range_with_len}
 use Rattle.std.proofs.lemmas.Bool.{cases_eq, cases_lt, eqb-true}
 use Rattle.cps_input.specs.Lines.{HasText}
@@ -10,9 +10,8 @@ use Rattle.cps_expr.specs.declared.machine.Machine.TheVariants.{Cp, Pp}
 use Rattle.cps_code.specs.Image.{Piece}
 use Rattle.cps_state.specs.Machines.{limit}
 use Rattle.cps_claims.specs.declared.claimed_words.ClaimedWords.{ClaimedWords}
-use Rattle.cps_claims.specs.Claims.{Claimed, Words}
+use Rattle.cps_claims.specs.Claims.{Claimed}
 use Rattle.cps_claims.specs.Counts.{is_given}
-use Rattle.cps_claims.specs.Words.{most_words}
 use Rattle.cps_claims.specs.Code.Held.{Holds}
 use Rattle.cps_claims.proofs.SlotLemmas.{past-given}
 use Rattle.cps_claims.proofs.ListedLemmas.{places-more}

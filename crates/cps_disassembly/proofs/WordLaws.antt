@@ -1,6 +1,6 @@
 -- A word that is claimed whole.
-use Rattle.std.proofs.Common.{◌≡◌, ℕ, ◌<◌, ◌&&◌, ◌==◌, ◌||◌, eqb, Bool, true, false, not, inl, inr, refl, sym, ap, ◌∙◌, arith, cond, List, [], ◌∷◌, length, get_or, None, Some, Option, subst}
-use Rattle.std.specs.Prelude.{slice_get, slice_index, option_map, ◌⊎◌}
+use Rattle.std.proofs.Common.{◌≡◌, ℕ, ◌<◌, ◌&&◌, ◌==◌, ◌||◌, Bool, true, false, not, inl, inr, refl, sym, ap, ◌∙◌, arith, cond, List, [], ◌∷◌, length, None, Some, Option}
+use Rattle.std.specs.Prelude.{slice_get, slice_index, option_map}
 use Rattle.std.specs.List.{list_any}
 use Rattle.std.specs.Option.{option_map_or}
 use Rattle.std.proofs.lemmas.Bool.{and_parts, and_from, or_cases, eqb-true}

@@ -1,10 +1,10 @@
 -- When a source makes the words of an octal text. Our own.
-use Rattle.std.specs.Prelude.{◌≡◌, ℕ, ◌<◌, Bool, true, false, ◌==◌, ◌&&◌, nat_le, List, length, filter, slice_index, Option, Some, unwrap_or, is_some, if◌then◌else◌}
-use Rattle.std.specs.List.{list_any, range_with_len}
+use Rattle.std.specs.Prelude.{◌≡◌, ℕ, ◌<◌, Bool, true, false, ◌==◌, ◌&&◌, nat_le, List, length, slice_index, Some, unwrap_or, is_some, if◌then◌else◌}
+use Rattle.std.specs.List.{list_any}
 use Rattle.std.specs.Option.{option_map_or}
 use Rattle.cps_claims.specs.declared.layout.OctalLayout.{OctalLayout}
 use Rattle.cps_claims.specs.declared.layout.WordOffset.TheVariants.{Up}
-use Rattle.cps_claims.specs.Words.{size_of, most_words}
+use Rattle.cps_claims.specs.Words.{size_of}
 use Rattle.cps_claims.specs.Claims.{Claimed, Words, known, claims_in, differs}
 use Rattle.cps_claims.specs.Counts.{is_for, is_given}
 use Rattle.cps_input.specs.Lines.{HasText}

@@ -9,7 +9,6 @@ use Rattle.cps_disassembly.specs.declared.request.Request.{Request}
 use Rattle.cps_disassembly.specs.declared.selection.Selection.{Selection}
 use Rattle.cps_disassembly.specs.declared.run_fault.RunFault.{RunFault}
 use Rattle.cps_disassembly.specs.declared.run_fault.RunFault.TheVariants as faults
-use Rattle.cps_disassembly.specs.declared.disassembly_fault.DisassemblyFault.{DisassemblyFault}
 use Rattle.cps_disassembly.specs.Makes.{Makes, layout_of, claims_of}
 use Rattle.cps_disassembly.specs.Disassembly.{Refuses}
 

@@ -1,4 +1,4 @@
-use Rattle.std.proofs.Common.{◌≡◌, ℕ, List, Bool, false, Some, sym, ap, ◌∙◌, subst}
+use Rattle.std.proofs.Common.{◌≡◌, false, ap, ◌∙◌, subst}
 use Rattle.cps_expr.specs.declared.machine.Machine.{Machine}
 use Rattle.cps_list.specs.Binary.{pieces_of}
 use Rattle.cps_edit.specs.Assembly.{assembly_of}

@@ -1,4 +1,4 @@
-use Rattle.std.proofs.Common.{sym, ap, ◌∙◌}
+use Rattle.std.proofs.Common.{sym, ◌∙◌}
 use Rattle.cps_disassembly.specs.Makes.{claims_of}
 use Rattle.cps_disassembly.proofs.CertificateLemmas.{made}
 use Rattle.cps_disassembly.proofs.certificate.find_failures.Goals as goal

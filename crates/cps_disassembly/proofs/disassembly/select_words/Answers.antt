@@ -1,4 +1,4 @@
-use Rattle.std.proofs.Common.{List, ℕ, subst, sym}
+use Rattle.std.proofs.Common.{subst, sym}
 use Rattle.cps_disassembly.specs.declared.selection.Selection.{Selection}
 use Rattle.cps_disassembly.specs.Makes.{claims_of}
 use Rattle.cps_disassembly.specs.Disassembly.{Disassembles}
