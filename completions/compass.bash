@@ -5,7 +5,7 @@
 _compass_words() {
   case $1 in
     '') echo 'batch session check compare explain server help -h --help -V --version' ;;
-    batch) echo '--part --listing --binary --symbols --flags -h --help' ;;
+    batch) echo '--part --listing --binary --symbols --flags --page -h --help' ;;
     session) echo '--source -h --help' ;;
     check) echo '-h --help' ;;
     compare) echo '--format --columns --offset --from --to --whole --all -h --help' ;;
@@ -33,7 +33,7 @@ _compass() {
   [ "$before" != = ] || before=${COMP_WORDS[COMP_CWORD - 2]}
   case $command$before in
     batch--part) _compass_offer -W 'listing binary symbols flags all' ;;
-    batch--listing | batch--binary | batch--symbols | batch--flags | session--source) _compass_offer_files ;;
+    batch--listing | batch--binary | batch--symbols | batch--flags | batch--page | session--source) _compass_offer_files ;;
     compare--format) _compass_offer -W 'rows dump own' ;;
     compare--columns | compare--offset | compare--from | compare--to) ;;
     *)

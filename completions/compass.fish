@@ -11,6 +11,7 @@ complete -c compass -n '__fish_seen_subcommand_from batch' -l listing -r -F -d '
 complete -c compass -n '__fish_seen_subcommand_from batch' -l binary -r -F -d 'File for the binary text'
 complete -c compass -n '__fish_seen_subcommand_from batch' -l symbols -r -F -d 'File for the cross-reference'
 complete -c compass -n '__fish_seen_subcommand_from batch' -l flags -r -F -d 'File for the flagged lines'
+complete -c compass -n '__fish_seen_subcommand_from batch' -l page -r -F -d 'File for a page with all texts'
 
 complete -c compass -n __fish_use_subcommand -a session -d 'Edit a source line by line, and ask for its texts'
 complete -c compass -n '__fish_seen_subcommand_from session' -l source -r -F -d 'File whose lines it begins with'

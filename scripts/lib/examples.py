@@ -3,12 +3,19 @@ import glob
 import os
 
 FOLDER = os.path.normpath(os.path.join(os.path.dirname(os.path.abspath(__file__)), "../../examples"))
-PROGRAMS, SESSIONS = os.path.join(FOLDER, "programs"), os.path.join(FOLDER, "sessions")
+PROGRAMS, SESSIONS, PAGES = (os.path.join(FOLDER, name) for name in ("programs", "sessions", "pages"))
 
 
 def program_path(name):
     """The path of a program, of a file that belongs to it, or of one that isn't there."""
     return os.path.join(PROGRAMS, name)
+
+
+def page_frame():
+    """What stands in front of the sections of a page, and what behind them."""
+    with open(os.path.join(PAGES, "sum.html"), "rb") as file:
+        page = file.read()
+    return page[: page.index(b"<section")], page[page.rindex(b"</section>") + len(b"</section>") :]
 
 
 def session_path(name):

@@ -11,6 +11,7 @@ use Rattle.cps_list.specs.Binary.{binary_text}
 use Rattle.cps_list.specs.Flagged.{flags_text}
 use Rattle.cps_list.specs.ListingText.{listing_text}
 use Rattle.cps_list.specs.Symbols.{symbols_text}
+use Rattle.cps_page.specs.declared.frame.TheConstants.{FRONT, BACK}
 use Rattle.cps_markup.specs.declared.attribute.Attribute.TheVariants.{Identifier}
 use Rattle.cps_markup.specs.declared.place.Place.{Place}
 use Rattle.cps_markup.specs.declared.place.Place.TheVariants.{Line, Section}
@@ -65,3 +66,13 @@ pub record IsPage (front back : List ℕ) (assembly : Assembly) (written_page : 
   pub differ : All IsWritten (places (body sections))
   pub alive : All (λ link. IsTrue (list_any (same_place link.place) (places (body sections)))) (links (body sections))
   pub home : All (LeadsHome assembly) (links (body sections))
+
+-- what stands in front of the sections of all pages, and behind them
+unfoldable pub front : List ℕ
+front = FRONT.now
+
+unfoldable pub back : List ℕ
+back = BACK.now
+
+abbrev pub IsPageOf : Assembly → List ℕ → Type 0
+IsPageOf assembly text = IsPage front back assembly text

@@ -14,4 +14,4 @@ mod page;
 mod sections;
 
 pub use frame::{BACK, FRONT};
-pub use page::make_page;
+pub use page::{make_page, make_page_of};

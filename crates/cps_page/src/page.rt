@@ -2,9 +2,10 @@
 ghost use Rattle.std.specs.Prelude.{◌≡◌, IfOk, OnOk};
 ghost use Rattle.cps_list.specs.Symbols.{symbols_text};
 ghost use Rattle.cps_page.specs.Code.Making.{AddsSections, AreTargets};
-ghost use Rattle.cps_page.specs.Page.{IsPage};
+ghost use Rattle.cps_page.specs.Page.{IsPage, IsPageOf};
 
 use crate::entries::list_entries;
+use crate::frame::{BACK, FRONT};
 use crate::sections::{push_listing_section, push_symbol_section, push_text_section};
 use cps_list::{Part, View, make_text};
 use cps_markup::{PageSection, Targets};
@@ -28,6 +29,14 @@ pub fn make_page<V: View>(
     push_sections(alloc, &mut page, view, &targets, &symbols)?;
     page.extend_from_slice(back)?;
     Ok(page)
+}
+
+/// An assembled source as a page, between the front and the back that all pages have.
+#[tactic(auto, unfolding(crate::specs::Page::front, crate::specs::Page::back))]
+pub fn make_page_of<V: View>(alloc: Global, view: &V) -> Result<Vec<u8>, AllocError>
+    ensures { IfOk result (λ page. IsPageOf (V.assembly view.now) page.items) }
+{
+    make_page(alloc, view, FRONT, BACK)
 }
 
 /// The lines and symbols to which links can lead.

@@ -28,6 +28,7 @@
 //! - `mentions_again.rt`: where sources write names, once more where memory was refused
 //! - `order.rt`: a reader and a writer that tell in which order they are called
 //! - `output.rt`: texts that go into files, where one call of the files fails
+//! - `page_rows.rt`: pages of sources
 //! - `part_rows.rt`: the texts of a session
 //! - `pass_rows.rt`: pass one, line by line
 //! - `peripheral_rows.rt`: codes of a peripheral processor
@@ -96,6 +97,7 @@ mod order;
 #[cfg(test)]
 mod output;
 #[cfg(test)]
+mod page_rows;
 mod part_rows;
 #[cfg(test)]
 mod pass_rows;

@@ -60,7 +60,7 @@ fn write_view<V: View, W: Write>(
 }
 
 /// Enters lines after the last one. Where there is no memory one is missing.
-fn enter_source(alloc: Global, session: &mut Session, source: &str) {
+pub fn enter_source(alloc: Global, session: &mut Session, source: &str) {
     for text in source.lines() {
         let after = session.count();
         let _ = insert(alloc, session, &mut Work::new(), after, text.as_bytes());

@@ -115,17 +115,23 @@ help_of_no_command = refl
 -- ---- `batch` with files
 
 abbrev no_file_of_a_text : Names
-no_file_of_a_text = record { listing = None; binary = None; symbols = None; flags = None }
+no_file_of_a_text = record { listing = None; binary = None; symbols = None; flags = None; page = None }
 
 one_output : answer_of (call (codes "batch" ∷ codes "--listing" ∷ codes "d.lst" ∷ codes "deck.cps" ∷ []))
     ≡ asks (export (record no_file_of_a_text { listing = Some (codes "d.lst") }) None) (Some (codes "deck.cps"))
 unfolding clap_on_literals
 one_output = refl
 
-four_outputs : answer_of (call (codes "batch" ∷ codes "--part" ∷ codes "flags" ∷ codes "--listing=l" ∷ codes "--binary=b" ∷ codes "--symbols=s" ∷ codes "--flags=f" ∷ []))
-    ≡ asks (export (record { listing = Some (codes "l"); binary = Some (codes "b"); symbols = Some (codes "s"); flags = Some (codes "f") }) (Some Flags)) None
+five_outputs : answer_of (call (codes "batch" ∷ codes "--part" ∷ codes "flags" ∷ codes "--listing=l" ∷ codes "--binary=b" ∷ codes "--symbols=s"
+    ∷ codes "--flags=f" ∷ codes "--page=p" ∷ []))
+    ≡ asks (export (record { listing = Some (codes "l"); binary = Some (codes "b"); symbols = Some (codes "s"); flags = Some (codes "f"); page = Some (codes "p") })
+    (Some Flags)) None
 unfolding clap_on_literals
-four_outputs = refl
+five_outputs = refl
+
+page_over_the_source : answer_of (call (codes "batch" ∷ codes "--page" ∷ codes "deck.cps" ∷ codes "deck.cps" ∷ [])) ≡ refuses
+unfolding clap_on_literals
+page_over_the_source = refl
 
 output_over_the_source : answer_of (call (codes "batch" ∷ codes "--binary" ∷ codes "deck.cps" ∷ codes "deck.cps" ∷ [])) ≡ refuses
 unfolding clap_on_literals

@@ -32,6 +32,7 @@ batch_shape = record (new_shape (codes "batch")) {
       ∷ option_rule (codes "binary")
       ∷ option_rule (codes "symbols")
       ∷ option_rule (codes "flags")
+      ∷ option_rule (codes "page")
       ∷ operand_rule (codes "file")
       ∷ [];
 }

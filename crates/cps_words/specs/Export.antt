@@ -1,5 +1,5 @@
 -- What is made of a source: files with texts, and a part that is written. Our own.
-use Rattle.std.specs.Prelude.{◌≡◌, ℕ, List, ◌++◌, Option, None, Some, Result, Ok, Err, option_map}
+use Rattle.std.specs.Prelude.{◌≡◌, ℕ, List, ◌++◌, Option, None, Some, Result, Ok, Err, IfSome, option_map}
 use Rattle.std.specs.Io.KnownBytes.{Appends}
 use Rattle.cps_text.specs.declared.counted.Counted.{Counted}
 use Rattle.cps_text.specs.Counted.{inner_of, failures_of, FailsOnce}
@@ -10,9 +10,11 @@ use Rattle.cps_edit.specs.Assembly.{assembly_of}
 use Rattle.cps_edit.specs.Flagged.{flagged_lines}
 use Rattle.cps_list.specs.declared.part.Part.{Part}
 use Rattle.cps_list.specs.Texts.{text_of}
+use Rattle.cps_page.specs.Page.{IsPageOf}
 use Rattle.cps_words.specs.declared.export.Export.{Export}
 use Rattle.cps_words.specs.declared.export_fault.ExportFault.{ExportFault}
 use Rattle.cps_words.specs.declared.export_fault.ExportFault.TheVariants as faults
+use Rattle.cps_words.specs.declared.fault.OutputFault.{OutputFault}
 use Rattle.cps_words.specs.Outputs.{Names, Places, files_of, names_of}
 use Rattle.cps_words.specs.Placing.{Placed, with_files}
 
@@ -40,9 +42,19 @@ WritesFront contents None old new = ⊥
 WritesFront contents (Some text) old new =
     ((front back : List ℕ) × (text ≡ front ++ back) × Appends (contents (inner_of old)) (contents (inner_of new)) front) × FailsOnce old new
 
--- all files of the wanted texts were placed
+-- this is a page of the source, if one is wanted
+abbrev pub IsPageFor : Names → List (List ℕ) → List ℕ → Type 0
+IsPageFor names lines page = IfSome names.page (λ _. IsPageOf (assembly_of lines) page)
+
+-- all files of the wanted texts were placed, and that of a page
 abbrev pub PlacesAll : Names → List (List ℕ) → Option (List Placed) → Option (List Placed) → Type 0
-PlacesAll names lines known known' = known' ≡ with_files (files_of (assembly_of lines) names) known
+PlacesAll names lines known known' =
+    (page : List ℕ) × IsPageFor names lines page × (known' ≡ with_files (files_of (assembly_of lines) page names) known)
+
+-- not all were
+abbrev pub PlacesSome : OutputFault → Names → List (List ℕ) → Option (List Placed) → Option (List Placed) → Type 0
+PlacesSome fault names lines known known' =
+    (page : List ℕ) × IsPageFor names lines page × Places (Err fault) known known' (files_of (assembly_of lines) page names)
 
 -- What is done with the lines of an input, by the result: the files are placed, and then the part is written, and flagged lines are counted; or not
 -- all files are placed, and nothing is written; or nothing is done.
@@ -53,7 +65,7 @@ Makes contents wanted (Ok count) lines known known' old new =
 Makes contents wanted (Err faults.WriteFault) lines known known' old new =
     IsSource lines × PlacesAll wanted.names lines known known' × WritesFront contents (part_text wanted.part lines) old new
 Makes contents wanted (Err (faults.Output fault)) lines known known' old new =
-    IsSource lines × Places (Err fault) known known' (files_of (assembly_of lines) wanted.names) × (new ≡ old)
+    IsSource lines × PlacesSome fault wanted.names lines known known' × (new ≡ old)
 Makes contents wanted (Err faults.Memory) lines known known' old new = IsSource lines × (known' ≡ known) × (new ≡ old)
 Makes contents wanted (Err (faults.Source fault)) lines known known' old new = Refuses fault lines × (known' ≡ known) × (new ≡ old)
 

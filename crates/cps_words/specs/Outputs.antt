@@ -9,12 +9,13 @@ use Rattle.cps_words.specs.declared.fault.OutputFault.TheVariants.{Memory, Uncre
 use Rattle.cps_words.specs.declared.outputs.Outputs.{Outputs}
 use Rattle.cps_words.specs.Placing.{Placed, with_files}
 
--- the names of the files that texts are wanted in, None where a text isn't wanted
+-- the names of the files that texts, and the page, are wanted in, None where one isn't wanted
 pub record Names : Type 0 where
   pub listing : Option (List ℕ)
   pub binary : Option (List ℕ)
   pub symbols : Option (List ℕ)
   pub flags : Option (List ℕ)
+  pub page : Option (List ℕ)
 
 abbrev pub name_of : Option (Bor (List ℕ)) → Option (List ℕ)
 name_of output = option_map (λ (name : Bor (List ℕ)). name.now) output
@@ -26,6 +27,7 @@ names_of outputs = record {
   binary = name_of outputs.binary;
   symbols = name_of outputs.symbols;
   flags = name_of outputs.flags;
+  page = name_of outputs.page;
 }
 
 -- the file of a text, if it is wanted
@@ -33,13 +35,14 @@ abbrev pub file_of : List ℕ → Option (List ℕ) → List Placed
 file_of text None = []
 file_of text (Some name) = record { name = name; bytes = text } ∷ []
 
--- the files of the texts that are wanted, in the order in which they are placed
-abbrev pub files_of : Assembly → Names → List Placed
-files_of assembly names =
+-- the files of the texts that are wanted, and of this page if one is, in the order in which they are placed
+abbrev pub files_of : Assembly → List ℕ → Names → List Placed
+files_of assembly page names =
     file_of (text_of part.Listing assembly) names.listing
     ++ file_of (text_of part.Binary assembly) names.binary
     ++ file_of (text_of part.Symbols assembly) names.symbols
     ++ file_of (text_of part.Flags assembly) names.flags
+    ++ file_of page names.page
 
 -- right behind these files one of that name goes
 abbrev pub IsNext : List Placed → List ℕ → List Placed → Type 0

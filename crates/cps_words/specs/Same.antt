@@ -22,6 +22,7 @@ text_names wanted =
     ∷ wanted.names.binary
     ∷ wanted.names.symbols
     ∷ wanted.names.flags
+    ∷ wanted.names.page
     ∷ option_map (λ part. codes "/dev/stdout") wanted.part
     ∷ []
 

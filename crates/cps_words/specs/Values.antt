@@ -43,11 +43,13 @@ names_in rows = record {
   binary = first_of (codes "binary") rows;
   symbols = first_of (codes "symbols") rows;
   flags = first_of (codes "flags") rows;
+  page = first_of (codes "page") rows;
 }
 
--- no text is wanted in a file
+-- no text is wanted in a file, and no page
 abbrev pub wants_no_file : Names → Bool
-wants_no_file names = is_none names.listing && (is_none names.binary && (is_none names.symbols && is_none names.flags))
+wants_no_file names =
+    is_none names.listing && (is_none names.binary && (is_none names.symbols && (is_none names.flags && is_none names.page)))
 
 abbrev pub is_name : Text → Option Text → Bool
 is_name name None = false
@@ -67,7 +69,7 @@ are_distinct (Some name ∷ names) = (is_device name || not (list_any (is_name n
 -- file the files of the call tell.
 abbrev pub are_apart : Option Text → Names → Bool
 are_apart source names =
-    are_distinct (Some (codes "-") ∷ source ∷ names.listing ∷ names.binary ∷ names.symbols ∷ names.flags ∷ [])
+    are_distinct (Some (codes "-") ∷ source ∷ names.listing ∷ names.binary ∷ names.symbols ∷ names.flags ∷ names.page ∷ [])
 
 -- ---- what is explained, or has a help
 

@@ -83,6 +83,15 @@ fn batch_command<'a>(alloc: Global) -> Result<Command<'a>, AllocError>
         command,
         option(alloc, "flags", "FILE", "Write the flagged lines into FILE"),
     )?;
+    let command = with_argument(
+        command,
+        option(
+            alloc,
+            "page",
+            "FILE",
+            "Write a page with all texts, in HTML, into FILE",
+        ),
+    )?;
     with_argument(command, operand(alloc, "file", "FILE", FILE_ABOUT))
 }
 

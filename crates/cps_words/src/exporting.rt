@@ -2,15 +2,18 @@
 ghost use Rattle.std.specs.Prelude.{◌≡◌, ◌≤◌, ◌+◌, IfOk, OnOk, OnErr, option_map};
 ghost use Rattle.cps_text.specs.Counted.{calls_of};
 ghost use Rattle.cps_input.specs.Sources.{IsSource};
-ghost use Rattle.cps_words.specs.Export.{Exports, Makes, WritesAll, WritesFront, part_text, wanted_of};
+ghost use Rattle.cps_words.specs.Outputs.{names_of};
+ghost use Rattle.cps_words.specs.Export.{Exports, IsPageFor, Makes, WritesAll, WritesFront, part_text, wanted_of};
 
 use crate::export::Export;
 use crate::export_fault::ExportFault;
+use crate::outputs::Outputs;
 use crate::targets::Targets;
 use crate::writing::write_outputs;
 use cps_batch::Source;
 use cps_input::read_lines;
 use cps_list::{ListFault, Part, make_text, write_text};
+use cps_page::make_page_of;
 use cps_text::limits::MOST_READS;
 use cps_text::{Counted, Line};
 use std::alloc::{AllocError, Global};
@@ -55,7 +58,10 @@ fn export_lines<'a, T: Targets, W: Write>(
     let Ok(text) = wanted_text(alloc, &source, export.part) else {
         return Err(ExportFault::Memory);
     };
-    if let Err(fault) = write_outputs(alloc, targets, &source, export.outputs) {
+    let Ok(page) = wanted_page(alloc, &source, export.outputs) else {
+        return Err(ExportFault::Memory);
+    };
+    if let Err(fault) = write_outputs(alloc, targets, &source, export.outputs, &page) {
         return Err(ExportFault::Output(fault));
     }
     match write_wanted(writer, &text) {
@@ -78,6 +84,16 @@ fn wanted_text(
             Err(error) => Err(error),
         },
         None => Ok(None),
+    }
+}
+
+/// The page of a source, if one is wanted; else nothing.
+fn wanted_page(alloc: Global, source: &Source, outputs: Outputs<'_>) -> Result<Vec<u8>, AllocError>
+    ensures { IfOk result (λ page. IsPageFor (names_of outputs.entry) source.now page.items) }
+{
+    match outputs.page {
+        Some(_) => make_page_of(alloc, source),
+        None => Ok(Vec::new(alloc)),
     }
 }
 

@@ -25,8 +25,9 @@ The source is read from FILE, and its PART is written to standard output:
   all      these four, in this order
 
 --listing, --binary, --symbols and --flags write a text into a file of its own,
-which then has the whole text, or stays as it was. Beside them nothing goes to
-standard output but a PART that --part names.
+which then has the whole text, or stays as it was. --page writes a page of HTML
+with all four, for a browser. Beside them nothing goes to standard output but a
+PART that --part names.
 
 Exit status:
   0  no line is flagged

@@ -56,7 +56,7 @@ pub fn find_clash<'a, T: Targets>(targets: &T, export: Export<'a>) -> Option<Cla
 }
 
 /// The names under which texts are written, None where one isn't wanted.
-fn text_names<'a>(export: Export<'a>) -> [Option<&'a str>; 5]
+fn text_names<'a>(export: Export<'a>) -> [Option<&'a str>; 6]
     ensures { map name_of result ≡ same.text_names (wanted_of export.entry) }
 {
     let outputs = export.outputs;
@@ -69,6 +69,7 @@ fn text_names<'a>(export: Export<'a>) -> [Option<&'a str>; 5]
         outputs.binary,
         outputs.symbols,
         outputs.flags,
+        outputs.page,
         part,
     ]
 }

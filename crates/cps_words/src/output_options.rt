@@ -21,10 +21,11 @@ pub fn read_outputs<'a>(matches: &ArgMatches<'a>) -> Outputs<'a>
         binary: word_in(matches, "binary"),
         symbols: word_in(matches, "symbols"),
         flags: word_in(matches, "flags"),
+        page: word_in(matches, "page"),
     }
 }
 
-/// Whether no text is wanted in a file.
+/// Whether no text is wanted in a file, and no page.
 pub fn wants_no_file(outputs: Outputs<'_>) -> bool
     ensures { result ≡ values.wants_no_file (names_of outputs.entry) }
 {
@@ -32,6 +33,7 @@ pub fn wants_no_file(outputs: Outputs<'_>) -> bool
         && outputs.binary.is_none()
         && outputs.symbols.is_none()
         && outputs.flags.is_none()
+        && outputs.page.is_none()
 }
 
 /// Whether each text has a name of its own, which is neither standard output's nor the source's. A device may be named twice.
@@ -45,6 +47,7 @@ pub fn are_apart<'a>(source: Option<&'a str>, outputs: Outputs<'a>) -> bool
         outputs.binary,
         outputs.symbols,
         outputs.flags,
+        outputs.page,
     ])
 }
 
@@ -98,12 +101,14 @@ pub fn say_taken<'a>(alloc: Global, source: Option<&'a str>, outputs: Outputs<'a
         ("--binary <FILE>", outputs.binary),
         ("--symbols <FILE>", outputs.symbols),
         ("--flags <FILE>", outputs.flags),
+        ("--page <FILE>", outputs.page),
     ];
     let names = [
         outputs.listing,
         outputs.binary,
         outputs.symbols,
         outputs.flags,
+        outputs.page,
     ];
     for (at, (option, name)) in named.iter().enumerate() {
         if let Some(name) = name {

@@ -1,5 +1,5 @@
 """What the calls of several commands share: a program with its texts, files of the examples, and what is told of words and files."""
-from examples import program_path
+from examples import page_frame, program_path
 
 PARTS = b"listing, binary, symbols, flags, all"
 HELP = b"\n\nFor more information, try '--help'.\n"
@@ -26,6 +26,23 @@ BINARY = b"IDENT T1\n000100 51110000037361054610\n000101 04000001004600046000\n"
 SYMBOLS = b"START    00000000000000000100 4 7\n"
 FLAGS = b"0 flagged lines\n"
 ALL = LISTING + BINARY + SYMBOLS + FLAGS
+
+# the sections of its page: each line has its number for an identifier, each symbol its name; fields of codes have classes
+SECTIONS = b"""<section id="listing"><h2>Listing</h2><div id="1"><div>                                          <a href="#1">1</a>          IDENT   T1</div>
+</div><div id="2"><div>                                          <a href="#2">2</a>          ABS</div>
+</div><div id="3"><div>         <i class="z">000100</i>                           <a href="#3">3</a>          ORG     100B</div>
+</div><div id="4"><div>         <i class="z">000100</i> 51<i class="i">1</i><i class="j">1</i><i class="K">000003</i>                <a href="#4">4</a> <a href="#START">START</a>    SA1     B1+3</div>
+</div><div id="5"><div>         <i class="z">000100</i> 73<i class="i">6</i><i class="j">1</i><i class="k">0</i>                     <a href="#5">5</a>          SX6     X1</div>
+</div><div id="6"><div>         <i class="z">000100</i> 54<i class="i">6</i><i class="j">1</i><i class="k">0</i>                     <a href="#6">6</a>          SA6     A1</div>
+</div><div id="7"><div>         <i class="z">000101</i> 04<i class="i">0</i><i class="j">0</i><i class="K">000100</i>                <a href="#7">7</a>          EQ      <a href="#4">START</a></div>
+</div><div id="8"><div>                                          <a href="#8">8</a>          END</div>
+</div></section><section id="words"><h2>Words</h2><div>IDENT T1</div>
+<div><i class="z">000100</i> 51110000037361054610</div>
+<div><i class="z">000101</i> 04000001004600046000</div>
+</section><section id="symbols"><h2>Symbols</h2><div id="START"><div><a href="#4">START</a>    <i class="z">00000000000000000100 </i><a href="#4">4</a> <a href="#7">7</a></div>
+</div></section><section id="flags"><h2>Flags</h2><div>0 flagged lines</div>
+</section>"""
+PAGE = SECTIONS.join(page_frame())
 
 NO_WORD = b"IDENT\n"
 

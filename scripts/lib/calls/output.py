@@ -2,7 +2,7 @@
 before the call and after it, as `folders.py` has it. In the place of the words a line for a shell may stand."""
 from folders import Hard
 
-from .forms import ALL, BINARY, FLAGS, HELP, LISTING, PARTS, PROGRAM, SYMBOLS, tells_more
+from .forms import ALL, BINARY, FLAGS, HELP, LISTING, PAGE, PARTS, PROGRAM, SYMBOLS, tells_more
 
 OLD = b"OLD\n"
 TEXTS = {"t1.list": LISTING, "t1.oct": BINARY, "t1.refs": SYMBOLS, "t1.flags": FLAGS}
@@ -52,6 +52,8 @@ WRITTEN = [
     made(["--symbols=t1.refs"], {"t1.refs": SYMBOLS}),
     made(["--flags=t1.flags", "-"], {"t1.flags": FLAGS}),
     made(INTO_FOUR, TEXTS),
+    made(["--page", "t1.html"], {"t1.html": PAGE}),
+    made(["--page=t1.html", *INTO_FOUR, "--part", "flags"], {**TEXTS, "t1.html": PAGE}, text=FLAGS),
     made(["--flags", "it", "t1.cps", "--listing", "to"], {"t1.cps": PROGRAM, "to": LISTING, "it": FLAGS}, {"t1.cps": PROGRAM}, given=b"A\n"),
     made(["--part", "flags", "--listing", "it"], {"it": LISTING}, text=FLAGS),
     made(["--part", "all", *INTO_FOUR], TEXTS, text=ALL),
@@ -110,6 +112,7 @@ def shell(line, status, told, before, text=b""):
 ONE_FILE = [
     same(["--listing", "./deck.cps", "deck.cps"], b"./deck.cps", b"deck.cps", DECK),
     same(["--binary", "deck.cps", "./deck.cps"], b"deck.cps", b"./deck.cps", DECK),
+    same(["--page", "./deck.cps", "deck.cps"], b"./deck.cps", b"deck.cps", DECK),
     same(["--flags", "in/../deck.cps", "deck.cps"], b"in/../deck.cps", b"deck.cps", {**DECK, "in": None}),
     same(["--listing", "it", "--symbols", ".//deck.cps", "--part", "all", "deck.cps"], b".//deck.cps", b"deck.cps", {**DECK, "it": OLD}),
     same(["--listing", "link", "deck.cps"], b"link", b"deck.cps", {**DECK, "link": "deck.cps"}),
@@ -121,6 +124,7 @@ ONE_FILE = [
     same(["--listing", "./none.cps", "none.cps"], b"./none.cps", b"none.cps", {}),
     same(["--listing", "\t./../x\n", "\t/../x\n"], b"?./../x\n", b"?/../x\n", {"\t": None, "\t.": None, "x\n": PROGRAM}),
     twice(["--listing", "x", "--binary", "./x"], b"./x", b"x"),
+    twice(["--flags", "x", "--page", "./x"], b"./x", b"x"),
     twice(["--listing", "x", "--binary", "./x", "--part", "flags"], b"./x", b"x", {"x": OLD}),
     twice(["--symbols", "in/x", "--flags", "link/x"], b"link/x", b"in/x", IN_FOLDER),
     twice(["--listing", "in/../x", "--symbols", "link/../x"], b"link/../x", b"in/../x", IN_FOLDER),
@@ -185,6 +189,7 @@ WORDS = [
     taken(["--listing", "-"], b"-", b"--listing", OUTPUT),
     taken(["--flags=-", "--part", "flags", "it"], b"-", b"--flags", OUTPUT, {"it": PROGRAM}),
     taken(["--binary", "it", "it"], b"it", b"--binary", SOURCE, {"it": PROGRAM}),
+    taken(["--page", "it", "it"], b"it", b"--page", SOURCE, {"it": PROGRAM}),
     taken(["--symbols", "it", "--flags", "it"], b"it", b"--flags", OTHER, {"it": OLD}),
     taken(["--flags", "it", "--listing", "it"], b"it", b"--flags", OTHER),
     taken(["--flags", "it\t", "--binary", "it\t"], b"it?", b"--flags", OTHER),

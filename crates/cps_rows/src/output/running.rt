@@ -8,6 +8,9 @@ use cps_words::{Outputs, write_outputs};
 use std::alloc::Global;
 use std::process::Abort;
 
+/// What stands for a page.
+pub const PAGE: &[u8] = b"A PAGE\n";
+
 /// What became of the texts of a source.
 #[derive(Drop)]
 pub struct OutputRun {
@@ -47,7 +50,7 @@ fn tell(
     source: &Source,
     outputs: Outputs<'_>,
 ) -> Option<String> {
-    match write_outputs(alloc, shelf, source, outputs) {
+    match write_outputs(alloc, shelf, source, outputs, PAGE) {
         Ok(()) => None,
         Err(fault) => Some(fault.text(alloc).expect(rt, "memory")),
     }

@@ -46,6 +46,7 @@ const ALL: Outputs<'static> = Outputs {
     binary: Some("t1.oct"),
     symbols: Some("t1.refs"),
     flags: Some("t1.flags"),
+    page: None,
 };
 
 /// A call that fails, and what is told then.
@@ -136,5 +137,16 @@ fn writes_what_is_wanted(rt: HostRuntime) {
         ..Outputs::none()
     };
     assert_row(&rt, rt.alloc(), binary, &(0, None), &FILES[1..2]);
+    let page = Outputs {
+        page: Some("t1.html"),
+        ..Outputs::none()
+    };
+    assert_row(
+        &rt,
+        rt.alloc(),
+        page,
+        &(0, None),
+        &[("t1.html", "A PAGE\n")],
+    );
     assert_row(&rt, rt.alloc(), Outputs::none(), &(1, None), &[]);
 }
