@@ -4,11 +4,12 @@
 # The words that begin with - or name a command, by the command that stands before them.
 _compass_words() {
   case $1 in
-    '') echo 'batch session check compare explain server help -h --help -V --version' ;;
+    '') echo 'batch session check compare disassemble explain server help -h --help -V --version' ;;
     batch) echo '--part --listing --binary --symbols --flags --page -h --help' ;;
     session) echo '--source -h --help' ;;
     check) echo '-h --help' ;;
     compare) echo '--format --columns --offset --from --to --whole --all -h --help' ;;
+    disassemble) echo '--central --peripheral --from --to --columns --format -h --help' ;;
     explain) echo '-h --help' ;;
     server) echo '--stdio -h --help' ;;
     help) echo '-h --help' ;;
@@ -35,14 +36,16 @@ _compass() {
     batch--part) _compass_offer -W 'listing binary symbols flags all' ;;
     batch--listing | batch--binary | batch--symbols | batch--flags | batch--page | session--source) _compass_offer_files ;;
     compare--format) _compass_offer -W 'rows dump own' ;;
+    disassemble--format) _compass_offer -W 'rows dump' ;;
     compare--columns | compare--offset | compare--from | compare--to) ;;
+    disassemble--columns | disassemble--from | disassemble--to) ;;
     *)
       case $command,$word in
         *,-*) _compass_offer -W "$(_compass_words "$command")" ;;
         ,*) _compass_offer -X '-*' -W "$(_compass_words '')" ;;
         explain,*) _compass_offer -W 'A D E L O T U V' ;;
-        help,*) _compass_offer -W 'batch session check compare explain server help' ;;
-        batch,* | check,* | compare,*) _compass_offer_files ;;
+        help,*) _compass_offer -W 'batch session check compare disassemble explain server help' ;;
+        batch,* | check,* | compare,* | disassemble,*) _compass_offer_files ;;
       esac
       ;;
   esac

@@ -29,6 +29,15 @@ complete -c compass -n '__fish_seen_subcommand_from compare' -l to -x -d 'Last a
 complete -c compass -n '__fish_seen_subcommand_from compare' -l whole -d 'Each word has to be given, and all of it'
 complete -c compass -n '__fish_seen_subcommand_from compare' -l all -d 'Tell all words that differ, and all rows not read'
 
+complete -c compass -n __fish_use_subcommand -a disassemble -d 'Make a source for the words of an octal listing or dump'
+complete -c compass -n '__fish_seen_subcommand_from disassemble' -F
+complete -c compass -n '__fish_seen_subcommand_from disassemble' -l central -d 'Words of a central processor'
+complete -c compass -n '__fish_seen_subcommand_from disassemble' -l peripheral -d 'Words of a peripheral processor'
+complete -c compass -n '__fish_seen_subcommand_from disassemble' -l from -x -d 'First address, in octal'
+complete -c compass -n '__fish_seen_subcommand_from disassemble' -l to -x -d 'Last address, in octal'
+complete -c compass -n '__fish_seen_subcommand_from disassemble' -l columns -x -d 'Columns of each row that are read, first-last'
+complete -c compass -n '__fish_seen_subcommand_from disassemble' -l format -x -a 'rows dump' -d 'How rows of the octal text are read'
+
 complete -c compass -n __fish_use_subcommand -a explain -d 'Explain a flag or an operation'
 complete -c compass -n '__fish_seen_subcommand_from explain' -a 'A D E L O T U V' -d 'Flag'
 
@@ -36,4 +45,4 @@ complete -c compass -n __fish_use_subcommand -a server -d 'Answer an editor by t
 complete -c compass -n '__fish_seen_subcommand_from server' -l stdio -d 'Means nothing'
 
 complete -c compass -n __fish_use_subcommand -a help -d 'Write the help of the program or of a command'
-complete -c compass -n '__fish_seen_subcommand_from help' -a 'batch session check compare explain server help' -d 'Command'
+complete -c compass -n '__fish_seen_subcommand_from help' -a 'batch session check compare disassemble explain server help' -d 'Command'

@@ -5,6 +5,7 @@
 //! `compass session [--source FILE]` runs a script of edits and queries on a source, and writes the replies.
 //! `compass check [FILE]` tells of each flag, and of each byte that no line may have.
 //! `compass compare OCTAL [FILE]` tells which words of a source differ from an octal text.
+//! `compass disassemble [OCTAL]` writes a source that makes the words of an octal text.
 //! `compass explain WORD` tells of a flag or an operation.
 //! `compass server` answers an editor.
 //! The status is 0, or 1 where a line of the source is flagged, a word differs or an editor ends without a shutdown, or 2 after a

@@ -19,7 +19,7 @@ use Rattle.cps_words.specs.Placing.{Placed}
 use Rattle.cps_words.specs.Same.{KeepsAll, Sameness}
 use Rattle.std.specs.Borrow.{Bor}
 use Rattle.std.specs.Prelude.{option_map, unwrap_or}
-use Rattle.cps_words.specs.Task.{task_of, Task, batch, export, check, compare, explain, server, session}
+use Rattle.cps_words.specs.Task.{task_of, Task, batch, export, check, compare, disassemble, explain, server, session}
 use Rattle.cps_tool.specs.CommandLine.{Calls, ChecksAs, Compares, EditsFile, Exported, IsOpened, IsUndone, RunsFrom, Serves, ServesCall, ServesOne, ServesWith, TellsUnread, WithFile, status_of, told_name}
 use Rattle.cps_tool.specs.Code.Files.{AreFiles, ComparesFiles}
 use Rattle.cps_tool.specs.declared.comparing.Files.{Files}
@@ -50,6 +50,7 @@ module _ {R W : Type 0} (remaining : R → Option (List ℕ)) (contents : W → 
       go (asks (export names part) None) s = s
       go (asks session None) s = s
       go (asks check None) s = s
+      go (asks (disassemble request) None) s = s
       go (asks (explain word) None) s = s
       go (asks server None) s = s
       go (asks (compare octal options) None) (inl idle) = inl idle
@@ -58,6 +59,7 @@ module _ {R W : Type 0} (remaining : R → Option (List ℕ)) (contents : W → 
       go (asks (export names part) (Some name)) s = inl s
       go (asks session (Some name)) s = inl s
       go (asks check (Some name)) s = inl s
+      go (asks (disassemble request) (Some name)) s = inl s
       go (asks (explain word) (Some name)) s = inl s
       go (asks server (Some name)) s = inl s
       go (asks (compare octal options) (Some name)) s = inl s
@@ -78,6 +80,7 @@ module _ {T F R W : Type 0} (holds : T → List ℕ → Option (List ℕ)) (plac
   serves_call (asks session file) s = (s, refl)
   serves_call (asks check file) s = (s, refl)
   serves_call (asks (compare octal options) file) s = (s, refl)
+  serves_call (asks (disassemble request) file) s = (s, refl)
   serves_call (asks (explain word) file) s = (s, refl)
   serves_call (asks server file) s = (s, refl)
   serves_call tells s = (s, refl)

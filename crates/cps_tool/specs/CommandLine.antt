@@ -1,5 +1,5 @@
 -- What a call of the program does, and the status that it ends with. Our own.
-use Rattle.std.specs.Prelude.{◌≡◌, ℕ, Bool, true, false, ◌⊎◌, List, [], Option, Some, None, Result, Ok, Err, if◌then◌else◌, ◌==◌, codes, unwrap_or}
+use Rattle.std.specs.Prelude.{◌≡◌, ℕ, Bool, true, false, ◌⊎◌, List, [], Option, Some, None, Result, Ok, Err, if◌then◌else◌, ◌==◌, codes, unwrap_or, ⊤}
 use Rattle.cps_text.specs.declared.counted.Counted.{Counted}
 use Rattle.cps_text.specs.Counted.{inner_of, calls_of, failures_of, moved_of, idle_of, FailsOnce}
 use Rattle.cps_batch.specs.declared.fault.BatchFault.{BatchFault}
@@ -9,6 +9,9 @@ use Rattle.cps_check.specs.Check.{RunsCheck}
 use Rattle.cps_compare.specs.declared.compare_options.CompareOptions.{CompareOptions}
 use Rattle.cps_compare.specs.declared.octal_fault.OctalFault.{OctalFault}
 use Rattle.cps_compare.specs.Octal.{RunsComparison}
+use Rattle.cps_disassembly.specs.declared.request.Request.{Request}
+use Rattle.cps_disassembly.specs.declared.run_fault.RunFault as disassembly
+use Rattle.cps_disassembly.specs.Running.{RunsDisassembly}
 use Rattle.clap.specs.Words.{Text}
 use Rattle.cps_input.specs.Sources.{IsSource, IsReadWhole}
 use Rattle.cps_check.specs.Manual as manual
@@ -18,7 +21,7 @@ use Rattle.cps_words.specs.Placing.{Placed}
 use Rattle.cps_words.specs.Same.{KeepsAll, Sameness}
 use Rattle.cps_server.specs.Running.{RunsServer}
 use Rattle.cps_rpc.specs.declared.fault.ServerFault.{ServerFault}
-use Rattle.cps_words.specs.Task.{Task, batch, export, session, check, compare, explain, server}
+use Rattle.cps_words.specs.Task.{Task, batch, export, session, check, compare, disassemble, explain, server}
 use Rattle.cps_words.specs.Shown.{shown}
 use Rattle.cps_words.specs.declared.unread.Unread.{Unread}
 use Rattle.cps_words.specs.declared.unread.Unread.TheVariants.{Told, Wrong, Memory}
@@ -91,15 +94,27 @@ abbrev pub ChecksAs : {R W : Type 0} → (R → Option (List ℕ)) → (W → Op
 ChecksAs remaining contents name status reader reader' writer writer' =
     (result : Result Bool CheckFault) × (status ≡ status_of_check result) × RunsCheck remaining contents name result reader reader' writer writer'
 
+-- 2 after a fault, else 0
+abbrev pub status_of_run : {X F : Type 0} → Result X F → ℕ
+status_of_run (Ok done) = 0
+status_of_run (Err fault) = 2
+
+-- an octal text was read, and a source that makes its words was written
+abbrev pub Disassembled : {R W : Type 0} → (R → Option (List ℕ)) → (W → Option (List ℕ)) → Request → ℕ → Counted R → Counted R → Counted W → Counted W → Type 0
+Disassembled remaining contents request status reader reader' writer writer' =
+    (result : Result ⊤ disassembly.RunFault) × (status ≡ status_of_run result) × RunsDisassembly remaining contents request result reader reader' writer writer'
+
 -- What is done that the words ask with one input, which is the file of that name, or standard input: batch assembly; or the script of a session that
--- begins with no line; or a check; or a word is explained, and nothing is read; or an editor is answered. A comparison has two inputs, and an export
--- writes files.
+-- begins with no line; or a check; or a source is made for the words of an octal text; or a word is explained, and nothing is read; or an editor is
+-- answered. A comparison has two inputs, and an export writes files.
 abbrev pub Calls : {R W : Type 0} → (R → Option (List ℕ)) → (W → Option (List ℕ)) → Task → Option Text → ℕ
     → Counted R → Counted R → Counted W → Counted W → Type 0
 Calls remaining contents (batch part) named status reader reader' writer writer' =
     (result : Result ℕ BatchFault) × (status ≡ status_of result) × RunsBatch remaining contents part result reader reader' writer writer'
 Calls remaining contents session named status reader reader' writer writer' = RunsFrom remaining contents [] status reader reader' writer writer'
 Calls remaining contents check named status reader reader' writer writer' = ChecksAs remaining contents (told_name named) status reader reader' writer writer'
+Calls remaining contents (disassemble request) named status reader reader' writer writer' =
+    Disassembled remaining contents request status reader reader' writer writer'
 Calls remaining contents (explain word) named status reader reader' writer writer' = (reader' ≡ reader) × TellsWord contents word status writer writer'
 Calls remaining contents server named status reader reader' writer writer' =
     (result : Result Bool ServerFault) × (status ≡ status_of_server result) × RunsServer remaining contents result reader reader' writer writer'

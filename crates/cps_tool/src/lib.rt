@@ -2,6 +2,7 @@
 //!
 //! - `command.rt`: a line of a script, read
 //! - `comparing.rt`: a comparison of an octal text with a source
+//! - `disassembling.rt`: a source for the words of an octal text
 //! - `exporting.rt`: a source, written into files
 //! - `faults.rt`: what is told of a source that isn't assembled
 //! - `host.rt`: what a call runs on
@@ -18,6 +19,7 @@
 
 mod command;
 mod comparing;
+mod disassembling;
 mod exporting;
 mod faults;
 mod host;

@@ -4,6 +4,7 @@ ghost use Rattle.cps_tool.specs.Code.Calling.{DoesRequest, UndoneOr};
 ghost use Rattle.cps_tool.specs.CommandLine.{Calls, ChecksAs, IsIdle, IsQuiet, TellsWord};
 ghost use Rattle.cps_words.specs.Task as tasks;
 
+use super::disassembling::run_disassembly;
 use super::faults::complain_of_batch;
 use super::host::Host;
 use super::sessions::run_script_over;
@@ -49,6 +50,7 @@ pub fn run_request<'a, S, R: Read, W: Write, E: Write>(
             Err(_) => complain(errors, NO_MEMORY),
         },
         Request::Export(_, _) | Request::Compare(_) => complain(errors, NO_FILES),
+        Request::Disassemble(request) => run_disassembly(host, request, reader, writer, errors),
         Request::Explain(word) => run_explanation(host, word, writer, errors),
         Request::Server => run_service(host, reader, writer, errors),
     }

@@ -9,7 +9,7 @@ use cps_words::Unread;
 use std::fmt::{Display, Write as _};
 use std::io::Write;
 
-const CLEAN: u8 = 0;
+pub const CLEAN: u8 = 0;
 
 const FLAGGED: u8 = 1;
 

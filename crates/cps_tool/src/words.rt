@@ -18,7 +18,7 @@ use cps_words::{Call, Export, Request, Targets, find_clash, read_words};
 use std::io::{Read, Write};
 
 /// Does what the words of a call ask, the first of which is the program's name: batch assembly of a source, its check, the script
-/// of a session, the explanation of a word, or the answers to an editor. The status is 0, or 1 where a line of the source is flagged or
+/// of a session, a source for an octal text, the explanation of a word, or the answers to an editor. The status is 0, or 1 where a line of the source is flagged or
 /// wrong, or an editor ends without a shutdown, or 2 after a fault, which is told to `errors`. With another status nothing is written to
 /// `errors`.
 ///

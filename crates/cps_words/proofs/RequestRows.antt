@@ -7,10 +7,12 @@ use Rattle.cps_claims.specs.declared.layout.ReadColumns.{ReadColumns}
 use Rattle.cps_claims.specs.declared.layout.WordOffset.TheVariants.{Up, Down}
 use Rattle.cps_compare.specs.declared.compare_format.CompareFormat.TheVariants.{Words, Own}
 use Rattle.cps_compare.specs.declared.compare_options.CompareOptions.{CompareOptions}
+use Rattle.cps_disassembly.specs.declared.request.Request.{Request}
+use Rattle.cps_expr.specs.declared.machine.Machine.TheVariants.{Cp, Pp}
 use Rattle.cps_list.specs.declared.part.Part.TheVariants.{Listing, Binary, Symbols, Flags, All}
 use Rattle.cps_words.specs.Outputs.{Names}
 use Rattle.cps_words.specs.Request.{answer_of, asks, refuses, request_of, tells}
-use Rattle.cps_words.specs.Task.{batch, export, session, check, compare, explain, server}
+use Rattle.cps_words.specs.Task.{batch, export, session, check, compare, disassemble, explain, server}
 
 -- a call's words, after the program's name
 abbrev call : List Text → List Text
@@ -363,6 +365,97 @@ source_without_a_file = refl
 source_of_a_batch : answer_of (call (codes "batch" ∷ codes "--source" ∷ codes "deck.cps" ∷ [])) ≡ refuses
 unfolding clap_on_literals
 source_of_a_batch = refl
+
+-- ---- `disassemble`
+
+abbrev all_words : Request
+all_words = record { machine = None; format = Rows; columns = None; from = None; to = None }
+
+disassemble_row : answer_of (call (codes "disassemble" ∷ codes "old.oct" ∷ [])) ≡ asks (disassemble all_words) (Some (codes "old.oct"))
+unfolding clap_on_literals
+disassemble_row = refl
+
+disassemble_standard_input : answer_of (call (codes "disassemble" ∷ [])) ≡ asks (disassemble all_words) None
+unfolding clap_on_literals
+disassemble_standard_input = refl
+
+disassemble_a_minus : answer_of (call (codes "disassemble" ∷ codes "-" ∷ [])) ≡ asks (disassemble all_words) None
+unfolding clap_on_literals
+disassemble_a_minus = refl
+
+central_words : answer_of (call (codes "disassemble" ∷ codes "--central" ∷ codes "old.oct" ∷ []))
+    ≡ asks (disassemble (record all_words { machine = Some Cp })) (Some (codes "old.oct"))
+unfolding clap_on_literals
+central_words = refl
+
+peripheral_words : answer_of (call (codes "disassemble" ∷ codes "old.oct" ∷ codes "--peripheral" ∷ []))
+    ≡ asks (disassemble (record all_words { machine = Some Pp })) (Some (codes "old.oct"))
+unfolding clap_on_literals
+peripheral_words = refl
+
+words_of_both_machines : answer_of (call (codes "disassemble" ∷ codes "--central" ∷ codes "--peripheral" ∷ codes "old.oct" ∷ [])) ≡ refuses
+unfolding clap_on_literals
+words_of_both_machines = refl
+
+central_words_twice : answer_of (call (codes "disassemble" ∷ codes "--central" ∷ codes "--central" ∷ codes "old.oct" ∷ [])) ≡ refuses
+unfolding clap_on_literals
+central_words_twice = refl
+
+words_between : answer_of (call (codes "disassemble" ∷ codes "--from" ∷ codes "100" ∷ codes "--to=177" ∷ codes "old.oct" ∷ []))
+    ≡ asks (disassemble (record all_words { from = Some 64; to = Some 127 })) (Some (codes "old.oct"))
+unfolding clap_on_literals
+words_between = refl
+
+words_at_one_address : answer_of (call (codes "disassemble" ∷ codes "--from" ∷ codes "100" ∷ codes "--to" ∷ codes "100" ∷ []))
+    ≡ asks (disassemble (record all_words { from = Some 64; to = Some 64 })) None
+unfolding clap_on_literals
+words_at_one_address = refl
+
+words_between_falling : answer_of (call (codes "disassemble" ∷ codes "--from" ∷ codes "101" ∷ codes "--to" ∷ codes "100" ∷ codes "old.oct" ∷ [])) ≡ refuses
+unfolding clap_on_literals
+words_between_falling = refl
+
+words_from_no_octal : answer_of (call (codes "disassemble" ∷ codes "--from" ∷ codes "8" ∷ codes "old.oct" ∷ [])) ≡ refuses
+unfolding clap_on_literals
+words_from_no_octal = refl
+
+words_in_columns : answer_of (call (codes "disassemble" ∷ codes "--columns" ∷ codes "10-36" ∷ codes "old.oct" ∷ []))
+    ≡ asks (disassemble (record all_words { columns = columns_of 10 36 })) (Some (codes "old.oct"))
+unfolding clap_on_literals
+words_in_columns = refl
+
+words_in_no_columns : answer_of (call (codes "disassemble" ∷ codes "--columns" ∷ codes "36-10" ∷ codes "old.oct" ∷ [])) ≡ refuses
+unfolding clap_on_literals
+words_in_no_columns = refl
+
+words_of_a_dump : answer_of (call (codes "disassemble" ∷ codes "--format" ∷ codes "dump" ∷ codes "old.oct" ∷ []))
+    ≡ asks (disassemble (record all_words { format = Dump })) (Some (codes "old.oct"))
+unfolding clap_on_literals
+words_of_a_dump = refl
+
+words_of_rows : answer_of (call (codes "disassemble" ∷ codes "--format=rows" ∷ [])) ≡ asks (disassemble all_words) None
+unfolding clap_on_literals
+words_of_rows = refl
+
+words_of_the_own_listing : answer_of (call (codes "disassemble" ∷ codes "--format" ∷ codes "own" ∷ codes "old.oct" ∷ [])) ≡ refuses
+unfolding clap_on_literals
+words_of_the_own_listing = refl
+
+words_of_two_texts : answer_of (call (codes "disassemble" ∷ codes "old.oct" ∷ codes "new.oct" ∷ [])) ≡ refuses
+unfolding clap_on_literals
+words_of_two_texts = refl
+
+offset_of_a_disassembly : answer_of (call (codes "disassemble" ∷ codes "--offset" ∷ codes "10" ∷ codes "old.oct" ∷ [])) ≡ refuses
+unfolding clap_on_literals
+offset_of_a_disassembly = refl
+
+disassemble_help : answer_of (call (codes "disassemble" ∷ codes "--help" ∷ [])) ≡ tells
+unfolding clap_on_literals
+disassemble_help = refl
+
+help_of_a_disassembly : answer_of (call (codes "help" ∷ codes "disassemble" ∷ [])) ≡ tells
+unfolding clap_on_literals
+help_of_a_disassembly = refl
 
 -- ---- `explain`
 

@@ -59,6 +59,17 @@ compare_shape = record (new_shape (codes "compare")) {
   rules = reading_rules ++ limit_rules ++ wanted_rule (codes "octal") ∷ operand_rule (codes "file") ∷ [];
 }
 
+-- `[--from A] [--to B] [--columns F-L] [--format FORMAT]`
+abbrev pub selection_rules : List Rule
+selection_rules =
+    option_rule (codes "from") ∷ option_rule (codes "to") ∷ option_rule (codes "columns") ∷ option_rule (codes "format") ∷ []
+
+-- `disassemble [--central] [--peripheral]`, with these options, and `[OCTAL]`
+abbrev pub disassemble_shape : Shape
+disassemble_shape = record (new_shape (codes "disassemble")) {
+  rules = flag_rule (codes "central") ∷ flag_rule (codes "peripheral") ∷ (selection_rules ++ operand_rule (codes "octal") ∷ []);
+}
+
 -- `explain WORD`
 abbrev pub explain_shape : Shape
 explain_shape = record (new_shape (codes "explain")) { rules = wanted_rule (codes "word") ∷ [] }
@@ -87,5 +98,5 @@ bare_compass = record { top = compass_shape; subs = [] }
 abbrev pub compass : App
 compass = record {
   top = record compass_shape { is_leaf = false };
-  subs = batch_shape ∷ session_shape ∷ check_shape ∷ compare_shape ∷ explain_shape ∷ server_shape ∷ help_shape ∷ [];
+  subs = batch_shape ∷ session_shape ∷ check_shape ∷ compare_shape ∷ disassemble_shape ∷ explain_shape ∷ server_shape ∷ help_shape ∷ [];
 }

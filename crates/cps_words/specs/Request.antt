@@ -5,12 +5,13 @@ use Rattle.clap.specs.Words.{Kinds, Row, Text, fault_of, first_of, subcommand_of
 use Rattle.clap.specs.declared.error.kind.ErrorKind.{ErrorKind}
 use Rattle.clap.specs.declared.error.kind.ErrorKind.TheVariants.{DisplayHelp, DisplayVersion}
 use Rattle.cps_compare.specs.declared.compare_options.CompareOptions.{CompareOptions}
+use Rattle.cps_disassembly.specs.declared.request.Request.{Request}
 use Rattle.cps_list.specs.declared.part.Part.{Part}
 use Rattle.cps_list.specs.declared.part.Part.TheVariants.{All}
 use Rattle.cps_words.specs.Outputs.{Names}
 use Rattle.cps_words.specs.Commands.{compass}
-use Rattle.cps_words.specs.Values.{are_apart, file_in, is_command, names_in, octal_in, options_in, part_in, wants_no_file, word_explained}
-use Rattle.cps_words.specs.Task.{Task, batch, export, session, check, compare, explain, server, task_of}
+use Rattle.cps_words.specs.Values.{are_apart, disassembly_in, file_in, is_command, names_in, octal_in, options_in, part_in, wants_no_file, word_explained}
+use Rattle.cps_words.specs.Task.{Task, batch, export, session, check, compare, disassemble, explain, server, task_of}
 use Rattle.cps_words.specs.declared.request.Call.{Call}
 use Rattle.cps_words.specs.declared.unread.Unread.{Unread}
 use Rattle.cps_words.specs.declared.unread.Unread.TheVariants.{Told, Wrong, Memory}
@@ -50,6 +51,14 @@ answer_of_options (Some options) octal file = asks (compare octal options) file
 abbrev pub answer_of_compare : List Row → Answer
 answer_of_compare rows = answer_of_options (options_in rows) (octal_in rows) (file_in rows)
 
+-- the source that is made goes to standard output
+abbrev pub answer_of_disassembly : Option Request → Option Text → Answer
+answer_of_disassembly None octal = refuses
+answer_of_disassembly (Some request) octal = asks (disassemble request) octal
+
+abbrev pub answer_of_disassemble : List Row → Answer
+answer_of_disassemble rows = answer_of_disassembly (disassembly_in rows) (octal_in rows)
+
 -- the help of the program, or of a command
 abbrev pub answer_of_help : Option Text → Answer
 answer_of_help None = tells
@@ -61,6 +70,7 @@ answer_named name rows = if bytes_eq name (codes "batch") then answer_of_batch r
     else if bytes_eq name (codes "session") then answer_of_session rows
     else if bytes_eq name (codes "check") then asks check (file_in rows)
     else if bytes_eq name (codes "compare") then answer_of_compare rows
+    else if bytes_eq name (codes "disassemble") then answer_of_disassemble rows
     else if bytes_eq name (codes "explain") then asks (explain (word_explained rows)) None
     else if bytes_eq name (codes "server") then asks server None
     else if bytes_eq name (codes "help") then answer_of_help (first_of (codes "command") rows)

@@ -5,6 +5,7 @@ use Rattle.std.specs.List.{after_first, before_first, list_all, list_any, positi
 use Rattle.std.specs.Char.{is_digit}
 use Rattle.std.specs.Str.Parse.{digits_value}
 use Rattle.clap.specs.Words.{Row, Text, first_of}
+use Rattle.cps_claims.specs.declared.layout.OctalFormat.{OctalFormat}
 use Rattle.cps_claims.specs.declared.layout.OctalFormat.TheVariants.{Rows, Dump}
 use Rattle.cps_claims.specs.declared.layout.ReadColumns.{ReadColumns}
 use Rattle.cps_claims.specs.declared.layout.WordOffset.{WordOffset}
@@ -12,6 +13,9 @@ use Rattle.cps_claims.specs.declared.layout.WordOffset.TheVariants.{Up, Down}
 use Rattle.cps_compare.specs.declared.compare_format.CompareFormat.{CompareFormat}
 use Rattle.cps_compare.specs.declared.compare_format.CompareFormat.TheVariants.{Words, Own}
 use Rattle.cps_compare.specs.declared.compare_options.CompareOptions.{CompareOptions}
+use Rattle.cps_disassembly.specs.declared.request.Request.{Request}
+use Rattle.cps_expr.specs.declared.machine.Machine.{Machine}
+use Rattle.cps_expr.specs.declared.machine.Machine.TheVariants.{Cp, Pp}
 use Rattle.cps_list.specs.declared.part.Part.{Part}
 use Rattle.cps_list.specs.declared.part.Part.TheVariants.{Listing, Binary, Symbols, Flags, All}
 use Rattle.cps_words.specs.Outputs.{Names}
@@ -76,7 +80,8 @@ are_apart source names =
 -- a word is the name of a command
 abbrev pub is_command : Text → Bool
 is_command word = list_any (bytes_eq word)
-    (codes "batch" ∷ codes "session" ∷ codes "check" ∷ codes "compare" ∷ codes "explain" ∷ codes "server" ∷ codes "help" ∷ [])
+    (codes "batch" ∷ codes "session" ∷ codes "check" ∷ codes "compare" ∷ codes "disassemble" ∷ codes "explain" ∷ codes "server"
+    ∷ codes "help" ∷ [])
 
 -- the word that is to be explained
 abbrev pub word_explained : List Row → Text
@@ -190,3 +195,37 @@ abbrev pub options_in : List Row → Option CompareOptions
 options_in rows = options_from (value_from format_named (first_of (codes "format") rows)) (value_from columns_named (first_of (codes "columns") rows))
     (value_from offset_named (first_of (codes "offset") rows)) (value_from address_named (first_of (codes "from") rows))
     (value_from address_named (first_of (codes "to") rows)) (has_flag (codes "whole") rows) (has_flag (codes "all") rows)
+
+-- ---- what is disassembled
+
+-- how the rows of an octal text are read, by its name
+abbrev pub octal_format_named : Text → Option OctalFormat
+octal_format_named word = if bytes_eq word (codes "rows") then Some Rows else if bytes_eq word (codes "dump") then Some Dump else None
+
+-- the machine by the flags for a central and for a peripheral processor; None as a whole where both stand
+abbrev pub machine_from : Bool → Bool → Option (Option Machine)
+machine_from true true = None
+machine_from true false = Some (Some Cp)
+machine_from false true = Some (Some Pp)
+machine_from false false = Some None
+
+abbrev pub machine_in : List Row → Option (Option Machine)
+machine_in rows = machine_from (has_flag (codes "central") rows) (has_flag (codes "peripheral") rows)
+
+-- what is asked by a machine, a format, columns, and a first and a last address, each of which may be left out
+abbrev pub disassembly_from : Option (Option Machine) → Option (Option OctalFormat) → Option (Option ReadColumns) → Option (Option ℕ) → Option (Option ℕ)
+    → Option Request
+disassembly_from (Some machine) (Some format) (Some columns) (Some from) (Some to) = if are_rising from to then Some (record {
+  machine = machine;
+  format = unwrap_or format Rows;
+  columns = columns;
+  from = from;
+  to = to;
+}) else None
+disassembly_from _ _ _ _ _ = None
+
+-- what the options ask, None where one of their values is wrong, the first address above the last, or both machines are named
+abbrev pub disassembly_in : List Row → Option Request
+disassembly_in rows = disassembly_from (machine_in rows) (value_from octal_format_named (first_of (codes "format") rows))
+    (value_from columns_named (first_of (codes "columns") rows)) (value_from address_named (first_of (codes "from") rows))
+    (value_from address_named (first_of (codes "to") rows))

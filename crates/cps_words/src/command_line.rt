@@ -3,12 +3,12 @@ ghost use Rattle.std.specs.Prelude.{◌≡◌, IfOk, false, fold};
 ghost use Rattle.clap.specs.Words.{app_of, new_app, rule_of, with_rule, with_subcommand};
 ghost use Rattle.clap.specs.Simple.{shape_of};
 ghost use Rattle.clap.specs.declared.builder.command.Command.TheViews.{out-Command};
-ghost use Rattle.cps_words.specs.Commands.{bare_compass, batch_shape, check_shape, compare_shape, compass, explain_shape, flag_rule, help_shape, limit_rules, operand_rule, option_rule, reading_rules, server_shape, session_shape, wanted_rule};
+ghost use Rattle.cps_words.specs.Commands.{bare_compass, batch_shape, check_shape, compare_shape, compass, disassemble_shape, explain_shape, flag_rule, help_shape, limit_rules, operand_rule, option_rule, reading_rules, selection_rules, server_shape, session_shape, wanted_rule};
 
 use super::helps::{
     ABOUT, BATCH_ABOUT, BATCH_MORE, CHECK_ABOUT, CHECK_MORE, COMPARE_ABOUT, COMPARE_MORE,
-    EXPLAIN_ABOUT, EXPLAIN_MORE, HELP_ABOUT, HELP_MORE, MORE, SERVER_ABOUT, SERVER_MORE,
-    SESSION_ABOUT, SESSION_MORE,
+    DISASSEMBLE_ABOUT, DISASSEMBLE_MORE, EXPLAIN_ABOUT, EXPLAIN_MORE, HELP_ABOUT, HELP_MORE, MORE,
+    SERVER_ABOUT, SERVER_MORE, SESSION_ABOUT, SESSION_MORE,
 };
 use clap::{Arg, ArgAction, Command};
 use std::alloc::{AllocError, Global};
@@ -23,6 +23,7 @@ pub fn compass_command<'a>(alloc: Global) -> Result<Command<'a>, AllocError>
     let command = with_command(command, session_command(alloc)?)?;
     let command = with_command(command, check_command(alloc)?)?;
     let command = with_command(command, compare_command(alloc)?)?;
+    let command = with_command(command, disassemble_command(alloc)?)?;
     let command = with_command(command, explain_command(alloc)?)?;
     let command = with_command(command, server_command(alloc)?)?;
     with_command(command, help_command(alloc)?)
@@ -205,6 +206,85 @@ fn with_limit_options<'a>(alloc: Global, command: Command<'a>) -> Result<Command
             alloc,
             "all",
             "Tell all words that differ, and all rows not read",
+        ),
+    )
+}
+
+fn disassemble_command<'a>(alloc: Global) -> Result<Command<'a>, AllocError>
+    ensures shape { IfOk result (λ command. shape_of command ≡ disassemble_shape) }
+    ensures local { IfOk result (λ command. (out-Command command).has_globals ≡ false) }
+{
+    let command = bare_command(alloc, "disassemble", DISASSEMBLE_ABOUT, DISASSEMBLE_MORE);
+    let command = with_argument(
+        command,
+        flag(
+            alloc,
+            "central",
+            "The words are those of a central processor",
+        ),
+    )?;
+    let command = with_argument(
+        command,
+        flag(
+            alloc,
+            "peripheral",
+            "The words are those of a peripheral processor",
+        ),
+    )?;
+    let command = with_selection_options(alloc, command)?;
+    with_argument(
+        command,
+        operand(
+            alloc,
+            "octal",
+            "OCTAL",
+            "The octal text: standard input where it is left out or '-'",
+        ),
+    )
+}
+
+/// A command with the options that say which words of an octal text are taken, and how it is read.
+fn with_selection_options<'a>(
+    alloc: Global,
+    command: Command<'a>,
+) -> Result<Command<'a>, AllocError>
+    ensures app { IfOk result (λ more. app_of more ≡ fold with_rule (app_of command.entry) selection_rules) }
+    ensures local { IfOk result (λ more. (out-Command more).has_globals ≡ (out-Command command.entry).has_globals) }
+{
+    let command = with_argument(
+        command,
+        option(
+            alloc,
+            "from",
+            "A",
+            "The first address, in octal [default: OCTAL's first]",
+        ),
+    )?;
+    let command = with_argument(
+        command,
+        option(
+            alloc,
+            "to",
+            "B",
+            "The last address, in octal [default: OCTAL's last]",
+        ),
+    )?;
+    let command = with_argument(
+        command,
+        option(
+            alloc,
+            "columns",
+            "F-L",
+            "The columns of OCTAL that are read [default: all]",
+        ),
+    )?;
+    with_argument(
+        command,
+        option(
+            alloc,
+            "format",
+            "FORMAT",
+            "How OCTAL is read: rows or dump [default: rows]",
         ),
     )
 }

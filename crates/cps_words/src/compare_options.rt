@@ -65,7 +65,7 @@ fn may_cut(format: CompareFormat, columns: Option<ReadColumns>) -> bool
 }
 
 /// Whether a first address isn't above a last one, where both are named.
-fn are_rising(from: Option<u32>, to: Option<u32>) -> bool
+pub fn are_rising(from: Option<u32>, to: Option<u32>) -> bool
     ensures { result ≡ values.are_rising from to }
 {
     match (from, to) {
@@ -75,7 +75,7 @@ fn are_rising(from: Option<u32>, to: Option<u32>) -> bool
 }
 
 /// The address that an option names, None where it is left out.
-fn read_address_option(
+pub fn read_address_option(
     alloc: Global,
     option: &str,
     word: Option<&str>,
@@ -124,7 +124,7 @@ fn read_offset_option(alloc: Global, word: Option<&str>) -> Result<Option<WordOf
 }
 
 /// The columns that `--columns` names, None where it is left out.
-fn read_columns_option(alloc: Global, word: Option<&str>) -> Result<Option<ReadColumns>, Unread>
+pub fn read_columns_option(alloc: Global, word: Option<&str>) -> Result<Option<ReadColumns>, Unread>
     ensures { ReadsValue (value_from columns_named (option_map (λ word. word.now) word.entry)) result }
 {
     let Some(word) = word else {

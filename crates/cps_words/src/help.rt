@@ -26,7 +26,7 @@ fn is_command(name: &str) -> bool
 {
     matches!(
         name,
-        "batch" | "session" | "check" | "compare" | "explain" | "server" | "help"
+        "batch" | "session" | "check" | "compare" | "disassemble" | "explain" | "server" | "help"
     )
 }
 

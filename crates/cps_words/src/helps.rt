@@ -3,9 +3,10 @@
 pub const ABOUT: &str = "A cross-assembler for COMPASS Version 3 of the CDC 6000 series";
 
 pub const MORE: &str = "\
-A source (batch, check, compare) is read from a file or from standard input, a
-script (session) or what an editor sends (server) from standard input, and what
-is asked for is written to standard output; batch also writes texts into files.
+A source (batch, check, compare) or an octal text (disassemble) is read from a
+file or from standard input, a script (session) or what an editor sends (server)
+from standard input, and what is asked for is written to standard output; batch
+also writes texts into files.
 'compass COMMAND --help' says more.
 
 Exit status:
@@ -112,6 +113,27 @@ Exit status:
      agrees; with --whole nothing lacks
   1  a word differs
   2  a fault, which is said on standard error, also that nothing is compared";
+
+pub const DISASSEMBLE_ABOUT: &str = "Make a source for the words of an octal listing or dump";
+
+pub const DISASSEMBLE_MORE: &str = "\
+OCTAL is read as 'compass compare' reads it, whose help says how. A source is
+made and assembled. It is written to standard output only where no line of it is
+flagged, each octal digit that OCTAL gives for a word is that of its binary
+text, and this has no other word.
+
+--central and --peripheral name the machine; without them the rows of OCTAL tell
+it. --from and --to take the words from address A to address B alone.
+
+  --format dump  a row has whole words, one without an address the next ones; a
+                 row '*', or that begins with DUPL, REPEAT or SAME, says that
+                 the words before stand again, up to the next address
+  --columns F-L  the columns of the address and the digits, where rows have
+                 other numbers
+
+Exit status:
+  0  the source is written
+  2  no source is made, or a fault, which is said on standard error";
 
 pub const EXPLAIN_ABOUT: &str = "Explain a flag or an operation";
 

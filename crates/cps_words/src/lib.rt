@@ -3,6 +3,7 @@
 //! - `command_line.rt`: the command line, as `clap` has it
 //! - `comparand.rt`: what a source is compared with
 //! - `compare_options.rt`: what the options of `compare` ask
+//! - `disassemble_options.rt`: what the options of `disassemble` ask
 //! - `export.rt`: what is made of a source
 //! - `export_fault.rt`: why not all is made of a source that is wanted
 //! - `exporting.rt`: a source that is read whole, assembled, and written into files
@@ -24,6 +25,7 @@
 mod command_line;
 mod comparand;
 mod compare_options;
+mod disassemble_options;
 mod export;
 mod export_fault;
 mod exporting;

@@ -2,13 +2,14 @@
 ghost use Rattle.std.specs.Prelude.{◌≡◌, ◌⊎◌, IfOk, IfErr, None, option_map};
 ghost use Rattle.clap.specs.Words.{found_of, kind_of, rows_of, subcommand_rows_of};
 ghost use Rattle.clap.specs.Walk.{texts};
-ghost use Rattle.cps_words.specs.Request.{IsAnswer, answer_from, answer_named, answer_of, answer_of_batch, answer_of_compare, answer_of_session, asked_by, request_of};
+ghost use Rattle.cps_words.specs.Request.{IsAnswer, answer_from, answer_named, answer_of, answer_of_batch, answer_of_compare, answer_of_disassemble, answer_of_session, asked_by, request_of};
 ghost use Rattle.cps_words.specs.Code.Reading.{Reads, ReadsValue, Says};
 ghost use Rattle.cps_words.specs.Values.{part_named, value_from};
 
 use super::command_line::compass_command;
 use super::comparand::Comparand;
 use super::compare_options::{parted_offset, read_compare_options};
+use super::disassemble_options::read_disassemble_options;
 use super::help::read_help;
 use super::output_options::{are_apart, read_outputs, say_taken, wants_no_file};
 use super::unread::{
@@ -18,6 +19,7 @@ use super::values::{part_of_name, read_file, word_in};
 use crate::outputs::Outputs;
 use clap::error::ErrorKind;
 use clap::{ArgMatches, Error};
+use cps_disassembly::Request as Disassembly;
 use cps_list::Part;
 use std::alloc::Global;
 
@@ -34,6 +36,8 @@ pub enum Request<'a> {
     Check,
     /// To compare a source with an octal text.
     Compare(Comparand<'a>),
+    /// To make a source for the words of an octal text.
+    Disassemble(Disassembly),
     /// To explain a flag, by its letter, or an operation, by its name.
     Explain(&'a str),
     /// To answer an editor.
@@ -111,6 +115,7 @@ fn read_command<'a>(alloc: Global, name: &str, values: &ArgMatches<'a>) -> Resul
             file: read_file(word_in(values, "file")),
         }),
         "compare" => read_compare(alloc, values),
+        "disassemble" => read_disassemble(alloc, values),
         "explain" => Ok(Call {
             request: Request::Explain(word_in(values, "word").unwrap_or("")),
             file: None,
@@ -196,3 +201,13 @@ fn read_compare<'a>(alloc: Global, values: &ArgMatches<'a>) -> Result<Call<'a>, 
 
 const TWICE_STANDARD_INPUT: &str =
     "error: OCTAL and FILE can't both be standard input\n\nFor more information, try '--help'.\n";
+
+fn read_disassemble<'a>(alloc: Global, values: &ArgMatches<'a>) -> Result<Call<'a>, Unread>
+    ensures { Reads (answer_of_disassemble (rows_of (found_of values.now))) result }
+{
+    let disassembly = read_disassemble_options(alloc, values)?;
+    Ok(Call {
+        request: Request::Disassemble(disassembly),
+        file: read_file(word_in(values, "octal")),
+    })
+}

@@ -2,7 +2,7 @@
 ghost use Rattle.std.specs.Prelude.{◌≡◌, option_map};
 ghost use Rattle.clap.specs.Words.{first_of, found_of, rows_of};
 ghost use Rattle.cps_words.specs.Values as values;
-ghost use Rattle.cps_words.specs.Values.{file_named, format_named, part_named};
+ghost use Rattle.cps_words.specs.Values.{file_named, format_named, octal_format_named, part_named};
 
 use clap::ArgMatches;
 use cps_claims::OctalFormat;
@@ -58,6 +58,17 @@ pub fn format_of_name(word: &str) -> Option<CompareFormat>
         "rows" => Some(CompareFormat::Words(OctalFormat::Rows)),
         "dump" => Some(CompareFormat::Words(OctalFormat::Dump)),
         "own" => Some(CompareFormat::Own),
+        _ => None,
+    }
+}
+
+/// The format of an octal text that a word names.
+pub fn octal_format_of_name(word: &str) -> Option<OctalFormat>
+    ensures { result ≡ octal_format_named word.now }
+{
+    match word {
+        "rows" => Some(OctalFormat::Rows),
+        "dump" => Some(OctalFormat::Dump),
         _ => None,
     }
 }

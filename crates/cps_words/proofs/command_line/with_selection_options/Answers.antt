@@ -1,0 +1,15 @@
+use Rattle.std.proofs.Common.{ap₂, refl, ◌∙◌}
+use Rattle.std.proofs.lemmas.Result.{IfOk-weaker}
+use Rattle.clap.specs.Words.{with_rule}
+use Rattle.cps_words.proofs.command_line.with_selection_options.Goals as goal
+
+pub returns-clause-app : goal.returns-clause-app
+returns-clause-app c =
+    let with_from = c.in_ok-command.ensures.app ∙ ap₂ with_rule refl c.option.ensures.rule in
+    let with_to = c.in_ok-command-2.ensures.app ∙ ap₂ with_rule with_from c.option-2.ensures.rule in
+    let with_columns = c.in_ok-command-3.ensures.app ∙ ap₂ with_rule with_to c.option-3.ensures.rule in
+    IfOk-weaker c.with_argument-4.result _ _ (λ r h. h ∙ ap₂ with_rule with_columns c.option-4.ensures.rule) c.with_argument-4.ensures.app
+
+pub returns-clause-local : goal.returns-clause-local
+returns-clause-local c =
+    IfOk-weaker c.with_argument-4.result _ _ (λ r h. h ∙ c.in_ok-command-3.ensures.local ∙ c.in_ok-command-2.ensures.local ∙ c.in_ok-command.ensures.local) c.with_argument-4.ensures.local
