@@ -10,13 +10,13 @@ use std::process::Abort;
 
 /// What a call gives: its status, and what is written and told.
 #[derive(Drop)]
-struct Ending {
-    status: u8,
-    written: Vec<u8>,
-    told: Vec<u8>,
+pub struct Ending {
+    pub status: u8,
+    pub written: Vec<u8>,
+    pub told: Vec<u8>,
 }
 
-fn call_with<R: Read>(alloc: Global, words: &[&str], reader: &mut Counted<R>) -> Ending {
+pub fn call_with<R: Read>(alloc: Global, words: &[&str], reader: &mut Counted<R>) -> Ending {
     let mut writer = Counted::new(Vec::new(alloc));
     let mut errors = Counted::new(Vec::new(alloc));
     let status = call_into(alloc, words, reader, &mut writer, &mut errors);
@@ -28,7 +28,7 @@ fn call_with<R: Read>(alloc: Global, words: &[&str], reader: &mut Counted<R>) ->
 }
 
 /// Makes a call with devices. Only here the program is called.
-fn call_into<R: Read, W: Write, E: Write>(
+pub fn call_into<R: Read, W: Write, E: Write>(
     alloc: Global,
     words: &[&str],
     reader: &mut Counted<R>,
@@ -44,7 +44,7 @@ fn call_into<R: Read, W: Write, E: Write>(
 }
 
 /// Asserts the status of a call, and what is written and told.
-fn assert_call(rt: &impl Abort, got: &Ending, status: u8, written: &str, told: &str) {
+pub fn assert_call(rt: &impl Abort, got: &Ending, status: u8, written: &str, told: &str) {
     assert_same(rt, "the status", &got.status, &status);
     assert_bytes(rt, "what is written", &got.written, written);
     assert_bytes(rt, "what is told", &got.told, told);
@@ -78,7 +78,7 @@ fn assert_told(rt: &impl Abort, alloc: Global, words: &[&str], room: usize, told
 }
 
 /// A writer that is full after so many bytes.
-fn full(alloc: Global, room: usize) -> SlowWriter {
+pub fn full(alloc: Global, room: usize) -> SlowWriter {
     SlowWriter {
         taken: Vec::new(alloc),
         room,

@@ -3,6 +3,7 @@
 //! - `assertions.rt`: assertions
 //! - `batch_rows.rt`: sources that are read whole
 //! - `call_rows.rt`: calls of the program whose devices fail, and of its server
+//! - `disassembly_rows.rt`: calls that make a source for an octal text
 //! - `editor.rt`: what a server for editors stands on
 //! - `endless_rows.rt`: readers that never end
 //! - `run_rows.rt`: what is done with devices, and what is counted of them
@@ -16,6 +17,8 @@ mod assertions;
 mod batch_rows;
 #[cfg(test)]
 mod call_rows;
+#[cfg(test)]
+mod disassembly_rows;
 #[cfg(test)]
 mod editor;
 #[cfg(test)]

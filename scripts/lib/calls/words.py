@@ -25,7 +25,7 @@ EDITORS = [
 
 # words that ask nothing
 WORDS = [
-    refused([], b"'compass' requires a subcommand but one was not provided\n  [subcommands: batch, session, check, compare, explain, server, help]\n\nUsage: compass <COMMAND>"),
+    refused([], b"'compass' requires a subcommand but one was not provided\n  [subcommands: batch, session, check, compare, disassemble, explain, server, help]\n\nUsage: compass <COMMAND>"),
     refused(["other"], b"unrecognized subcommand 'other'\n\nUsage: compass <COMMAND>"),
     refused(["oth\x1b\x9ber"], b"unrecognized subcommand 'oth??er'\n\nUsage: compass <COMMAND>"),
     refused(["batch", "--part", "other"], b"invalid value 'other' for '--part <PART>'\n  [possible values: " + PARTS + b"]"),
@@ -73,6 +73,7 @@ HELPS = [
     (["session", "-h"], b"Usage: compass session"),
     (["check", "--help"], b"Usage: compass check [FILE]"),
     (["compare", "--help"], b"Usage: compass compare [OPTIONS] <OCTAL> [FILE]"),
+    (["disassemble", "--help"], b"Usage: compass disassemble [OPTIONS] [OCTAL]"),
     (["explain", "--help"], b"Usage: compass explain <WORD>"),
     (["server", "--help"], b"Usage: compass server [OPTIONS]"),
     (["help"], b"Usage: compass <COMMAND>"),
@@ -80,6 +81,7 @@ HELPS = [
     (["help", "session"], b"Usage: compass session"),
     (["help", "check"], b"Usage: compass check [FILE]"),
     (["help", "compare"], b"Usage: compass compare [OPTIONS] <OCTAL> [FILE]"),
+    (["help", "disassemble"], b"Usage: compass disassemble [OPTIONS] [OCTAL]"),
     (["help", "explain"], b"Usage: compass explain <WORD>"),
     (["help", "server"], b"Usage: compass server [OPTIONS]"),
     (["help", "help"], b"Usage: compass help [COMMAND]"),
