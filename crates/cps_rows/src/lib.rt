@@ -8,6 +8,7 @@
 //! - `chunk_rows.rt`: sources of some chunks, which edits split, shorten and join
 //! - `claim_rows.rt`: what the rows of an octal text are, and which digits they claim
 //! - `code_rows.rt`: codes of the central processor, and words
+//! - `disassembly_rows.rt`: sources that are made for octal texts
 //! - `document.rt`: a document that an editor has open
 //! - `draft_rows.rt`: drafts of sources
 //! - `drift_rows.rt`: where code moved
@@ -59,6 +60,8 @@ mod claim_rows;
 #[cfg(test)]
 mod code_rows;
 #[cfg(test)]
+mod disassembly_rows;
+#[cfg(test)]
 mod document;
 #[cfg(test)]
 mod draft_rows;
@@ -98,6 +101,7 @@ mod order;
 mod output;
 #[cfg(test)]
 mod page_rows;
+#[cfg(test)]
 mod part_rows;
 #[cfg(test)]
 mod pass_rows;
