@@ -21,7 +21,7 @@ use Rattle.cps_server.proofs.SourceLemmas.{length-cards}
 use Rattle.cps_server.specs.Laws.{AgreesWithBatch}
 use Rattle.cps_server.specs.Marks.{Mark, Marks, MarksEnd, MarksLine, MarksLines, flag_mark}
 use Rattle.cps_server.proofs.FlagLemmas.{none-told}
-use Rattle.cps_server.proofs.LineLemmas.{length-outcomes, no-marks}
+use Rattle.cps_server.proofs.LineLemmas.{length-outcomes, no-shown}
 
 -- ---- no marks
 
@@ -61,7 +61,7 @@ line-clean : (number : ℕ) (line : List ℕ) (outcome : Outcome) (marks : List 
 line-clean number line outcome marks told is =
     let is_line = told.some is in
     let causes = told.flags is_line in
-    let none : causes.0 ≡ [] = no-marks (flag_mark number) causes.0 (sym causes.2 ∙ is) in
+    let none : causes.0 ≡ [] = no-shown (flag_mark number) causes.0 (sym causes.2 ∙ is) in
     (is_line, ap has_flag (sym causes.1.letters ∙ ap flags_told none))
 
 lines-clean : (number : ℕ) (lines : List (List ℕ)) (outcomes : List Outcome) (marks : List Mark) → MarksLines number lines outcomes marks → marks ≡ []

@@ -2,7 +2,9 @@ pub mod PutLemmas
 pub mod SourceLemmas
 pub mod FlagLemmas
 pub mod MarkLemmas
+pub mod ShownLemmas
 pub mod LineLemmas
+pub mod KeepingLemmas
 pub mod TextMarksLemmas
 pub mod AgreementLemmas
 mod WorkedRows

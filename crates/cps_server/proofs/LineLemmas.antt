@@ -1,5 +1,5 @@
 -- The marks of one line.
-use Rattle.std.proofs.Common.{◌≡◌, ℕ, ◌+◌, ◌-◌, ◌<◌, true, false, List, [], length, get_or, take, map, refl, sym, ap, subst, ◌∙◌, arith}
+use Rattle.std.proofs.Common.{◌≡◌, ℕ, ◌+◌, ◌-◌, ◌<◌, true, false, List, [], ◌++◌, length, get_or, take, map, refl, sym, ap, subst, ◌∙◌, arith}
 use Rattle.std.specs.Prelude.{◌↔◌, Some, nat_eq, slice_get}
 use Rattle.std.specs.Option.{option_map}
 use Rattle.std.proofs.lemmas.Bool.Decides.{nat_tests}
@@ -25,28 +25,27 @@ use Rattle.cps_input.proofs.CardLemmas.{card_of-line}
 use Rattle.cps_rpc.specs.Lines.{source_lines}
 use Rattle.cps_server.specs.Document.{source_of_text}
 use Rattle.cps_server.proofs.SourceLemmas.{length-cards}
-use Rattle.cps_server.specs.declared.mark.Mark as made
-use Rattle.cps_server.specs.Code.Adding.{Adds, AddsFlags, AddsLine}
-use Rattle.cps_server.specs.Marks.{Mark, MarksLine, fault_mark, flag_mark}
+use Rattle.cps_server.specs.declared.line_mark.LineMark.{LineMark}
+use Rattle.cps_server.specs.Code.Keeping.{HasShown, Shown, Shows, ShowsFlags, ShowsLine, ShowsMarks, fault_shown, flag_shown, shown_of}
 use Rattle.cps_server.proofs.FlagLemmas.{none-there, true-false}
-use Rattle.cps_server.proofs.MarkLemmas.{Adds-none}
+use Rattle.cps_server.proofs.ShownLemmas.{Shows-none}
 
--- ---- a line that is marked
+-- ---- what marks show of a line
 
-pub no-marks : {X : Type 0} (mark : X → Mark) (xs : List X) → map mark xs ≡ [] → xs ≡ []
-no-marks mark xs is = nil_from_length xs (sym (length-map xs mark) ∙ ap length is)
+pub no-shown : {X Y : Type 0} (shown : X → Y) (xs : List X) → map shown xs ≡ [] → xs ≡ []
+no-shown shown xs is = nil_from_length xs (sym (length-map xs shown) ∙ ap length is)
 
-MarksLine-faults : (number : ℕ) (line : List ℕ) (outcome : Outcome) (faults : List CharacterFault) → AreFaults (number + 1) line faults
-    → (faults ≡ []) ↔ IsLine line → (faults ≡ [] → ⊥) → MarksLine number line outcome (map (fault_mark number) faults)
-MarksLine-faults number line outcome faults are none some = record {
+ShowsLine-faults : (number : ℕ) (line : List ℕ) (outcome : Outcome) (faults : List CharacterFault) → AreFaults number line faults
+    → (faults ≡ []) ↔ IsLine line → (faults ≡ [] → ⊥) → ShowsLine line outcome (map fault_shown faults)
+ShowsLine-faults number line outcome faults are none some = record {
   flags = λ is. absurd (some (none.1 is));
-  faults = λ _. (faults, are, refl);
-  some = λ is. none.0 (no-marks (fault_mark number) faults is);
+  faults = λ _. (number, faults, are, refl);
+  some = λ is. none.0 (no-shown fault_shown faults is);
 }
 
-MarksLine-flags : (number : ℕ) (line card : List ℕ) (outcome : Outcome) (told : List Diagnostic) → IsLine line → card ≡ card_of line
-    → Explains card outcome.rows told → MarksLine number line outcome (map (flag_mark number) told)
-MarksLine-flags number line card outcome told is same explains = record {
+ShowsLine-flags : (line card : List ℕ) (outcome : Outcome) (told : List Diagnostic) → IsLine line → card ≡ card_of line
+    → Explains card outcome.rows told → ShowsLine line outcome (map flag_shown told)
+ShowsLine-flags line card outcome told is same explains = record {
   flags = λ _. (told, subst (λ (l : List ℕ). Explains l outcome.rows told) (same ∙ card_of-line line is) explains, refl);
   faults = λ other. absurd (other is);
   some = λ _. is;
@@ -55,7 +54,7 @@ MarksLine-flags number line card outcome told is same explains = record {
 filled : {X : Type 0} (xs : List X) → nat_eq (length xs) 0 ≡ false → xs ≡ [] → ⊥
 filled xs some is = let none : length xs ≡ 0 = ap length is in true-false (sym (ap (λ n. nat_eq n 0) none) ∙ some)
 
-empty : {X : Type 0} (xs : List X) → nat_eq (length xs) 0 ≡ true → xs ≡ []
+pub empty : {X : Type 0} (xs : List X) → nat_eq (length xs) 0 ≡ true → xs ≡ []
 empty xs none = nil_from_length xs (grind (arith, nat_tests))
 
 -- ---- places
@@ -96,42 +95,51 @@ outcome-there source number within =
 
 -- ---- a line whose marks are added
 
-pub AddsLine-faults : (text : List ℕ) (number : ℕ) (line : List ℕ) (faults told : List CharacterFault) (old new : List made.Mark)
-    → number < length (source_of_text text) → slice_get (source_lines text) number ≡ Some line → AreFaults (number + 1) line faults
-    → (faults ≡ []) ↔ IsLine line → nat_eq (length faults) 0 ≡ false → told ≡ faults → Adds (map (fault_mark number) told) old new
-    → AddsLine text number old new
-AddsLine-faults text number line faults told old new within line_is are none some is added =
+pub ShowsMarks-faults : (text : List ℕ) (number told_number : ℕ) (line : List ℕ) (faults told : List CharacterFault) (old new : List LineMark)
+    → number < length (source_of_text text) → slice_get (source_lines text) number ≡ Some line → AreFaults told_number line faults
+    → (faults ≡ []) ↔ IsLine line → nat_eq (length faults) 0 ≡ false → told ≡ faults → Shows (map fault_shown told) old new
+    → ShowsMarks text number old new
+ShowsMarks-faults text number told_number line faults told old new within line_is are none some is added =
     let outcome = outcome-there (source_of_text text) number within in
     record {
-      line = line;
-      outcome = outcome.0;
-      marks = map (fault_mark number) faults;
-      line_is = line_is;
-      outcome_is = outcome.1;
-      each = MarksLine-faults number line outcome.0 faults are none (filled faults some);
-      added = subst (λ (fs : List CharacterFault). Adds (map (fault_mark number) fs) old new) is added;
+      shown = map fault_shown faults;
+      has = record {
+        line = line;
+        outcome = outcome.0;
+        line_is = line_is;
+        outcome_is = outcome.1;
+        shows = ShowsLine-faults told_number line outcome.0 faults are none (filled faults some);
+      };
+      added = subst (λ (fs : List CharacterFault). Shows (map fault_shown fs) old new) is added;
     }
 
-pub AddsLine-flags : (text : List ℕ) (number : ℕ) (line : List ℕ) (faults : List CharacterFault) (old new : List made.Mark)
+pub ShowsMarks-flags : (text : List ℕ) (number : ℕ) (line : List ℕ) (faults : List CharacterFault) (old new : List LineMark)
     → number < length (source_of_text text) → slice_get (source_lines text) number ≡ Some line → (faults ≡ []) ↔ IsLine line
-    → nat_eq (length faults) 0 ≡ true → AddsFlags text number old new → AddsLine text number old new
-AddsLine-flags text number line faults old new within line_is none nothing flags =
+    → nat_eq (length faults) 0 ≡ true → ShowsFlags text number old new → ShowsMarks text number old new
+ShowsMarks-flags text number line faults old new within line_is none nothing flags =
     let is : IsLine line = none.0 (empty faults nothing) in
     record {
-      line = line;
-      outcome = flags.outcome;
-      marks = map (flag_mark number) flags.told;
-      line_is = line_is;
-      outcome_is = flags.outcome_is;
-      each = MarksLine-flags number line flags.card flags.outcome flags.told is (card-at text number line flags.card within line_is flags.card_is) flags.explains;
+      shown = map flag_shown flags.told;
+      has = record {
+        line = line;
+        outcome = flags.outcome;
+        line_is = line_is;
+        outcome_is = flags.outcome_is;
+        shows = ShowsLine-flags line flags.card flags.outcome flags.told is (card-at text number line flags.card within line_is flags.card_is) flags.explains;
+      };
       added = flags.added;
     }
 
+-- to no marks
+pub ShowsMarks-all : (text : List ℕ) (number : ℕ) (old new : List LineMark) → old ≡ [] → ShowsMarks text number old new → HasShown text number (map shown_of new)
+ShowsMarks-all text number old new none marks =
+    subst (λ (shown : List Shown). HasShown text number shown) (sym (marks.added ∙ ap (λ (ms : List LineMark). map shown_of ms ++ marks.shown) none)) marks.has
+
 -- a line without a flag
-pub AddsFlags-none : (text : List ℕ) (number : ℕ) (source : List (List ℕ)) (card : List ℕ) (outcome : Outcome) (marks : List made.Mark)
+pub ShowsFlags-none : (text : List ℕ) (number : ℕ) (source : List (List ℕ)) (card : List ℕ) (outcome : Outcome) (marks : List LineMark)
     → source ≡ source_of_text text → slice_get source (number + 1 - 1) ≡ Some card → slice_get (outcomes_of source) (number + 1 - 1) ≡ Some outcome
-    → has_flag (flags_of outcome.rows) ≡ false → AddsFlags text number marks marks
-AddsFlags-none text number source card outcome marks same card_is outcome_is silent = record {
+    → has_flag (flags_of outcome.rows) ≡ false → ShowsFlags text number marks marks
+ShowsFlags-none text number source card outcome marks same card_is outcome_is silent = record {
   card = card;
   outcome = outcome;
   told = [];
@@ -141,16 +149,16 @@ AddsFlags-none text number source card outcome marks same card_is outcome_is sil
     letters = sym (none-there (flags_of outcome.rows) silent);
     columns = All-nil (λ (d : Diagnostic). IsRange (length card) d.columns);
   };
-  added = Adds-none marks;
+  added = Shows-none marks;
 }
 
 -- a line with some
-pub AddsFlags-some : (text : List ℕ) (number : ℕ) (source : List (List ℕ)) (card : List ℕ) (traces : List Trace) (trace : Trace) (finals : Finals)
-    (told given : List Diagnostic) (old new : List made.Mark) → source ≡ source_of_text text → number < length (source_of_text text)
+pub ShowsFlags-some : (text : List ℕ) (number : ℕ) (source : List (List ℕ)) (card : List ℕ) (traces : List Trace) (trace : Trace) (finals : Finals)
+    (told given : List Diagnostic) (old new : List LineMark) → source ≡ source_of_text text → number < length (source_of_text text)
     → slice_get source (number + 1 - 1) ≡ Some card → traces ≡ traces_of source → trace ≡ get_or traces number trace → finals ≡ finals_of (traces_of source)
-    → Explains card (outcome_of (final_value finals) trace).rows told → given ≡ told → Adds (map (flag_mark number) given) old new
-    → AddsFlags text number old new
-AddsFlags-some text number source card traces trace finals told given old new same within card_is traces_are trace_is finals_are explains is added =
+    → Explains card (outcome_of (final_value finals) trace).rows told → given ≡ told → Shows (map flag_shown given) old new
+    → ShowsFlags text number old new
+ShowsFlags-some text number source card traces trace finals told given old new same within card_is traces_are trace_is finals_are explains is added =
     let lines = source_of_text text in
     let last : finals ≡ finals_of (traces_of lines) = finals_are ∙ ap (λ (s : List (List ℕ)). finals_of (traces_of s)) same in
     let all : traces ≡ traces_of lines = traces_are ∙ ap traces_of same in
@@ -165,5 +173,5 @@ AddsFlags-some text number source card traces trace finals told given old new sa
       card_is = subst (λ (s : List (List ℕ)). slice_get s number ≡ Some card) same (there source number card card_is);
       outcome_is = slice_get-map outcome (traces_of lines) number ∙ ap (option_map outcome) read;
       explains = subst (λ (f : Finals). Explains card (outcome_of (final_value f) trace).rows told) last explains;
-      added = subst (λ (ds : List Diagnostic). Adds (map (flag_mark number) ds) old new) is added;
+      added = subst (λ (ds : List Diagnostic). Shows (map flag_shown ds) old new) is added;
     }

@@ -1,8 +1,8 @@
 -- Diagnostics as they are written.
-use Rattle.std.proofs.Common.{rules, ◌≡◌, refl, ap, subst, sym, ◌∙◌, append_assoc, arith, ℕ, ◌+◌, ◌-◌, ◌<◌, ℤ, Bool, true, false, List, [], ◌∷◌, ◌++◌, map, drop, Option, Some, None}
+use Rattle.std.proofs.Common.{rules, ◌≡◌, refl, ap, subst, sym, ◌∙◌, append_assoc, arith, ℕ, zero, suc, ◌+◌, ◌-◌, ◌<◌, ℤ, Bool, true, false, List, [], ◌∷◌, ◌++◌, map, drop, Option, Some, None}
 use Rattle.std.specs.Prelude.{codes, decimal, length, nat_lt, slice_get, slice_index_or, take, unwrap_or}
 use Rattle.std.proofs.lemmas.Bool.Decides.{nat_tests}
-use Rattle.std.proofs.lemmas.List.{append-nil, drop-map, length-drop, length-map, length-take, take-map}
+use Rattle.std.proofs.lemmas.List.{append-nil, drop-map, length-drop, length-take, take-map, take-take}
 use Rattle.json.specs.Print.{escape_byte}
 use Rattle.serde_json.specs.Data.{Data, number, object, string}
 use Rattle.serde_json.specs.Find.{of_integer}
@@ -14,12 +14,14 @@ use Rattle.cps_cause.specs.declared.letter.Letter.{Letter}
 use Rattle.cps_cause.specs.declared.letter.Letter.TheVariants.{A, D, E, L, O, T, U, V}
 use Rattle.cps_server.specs.declared.mark_kind.MarkKind.{MarkKind}
 use Rattle.cps_server.specs.declared.mark_kind.MarkKind.TheVariants.{Flag, Wrong}
+use Rattle.cps_server.specs.declared.first_marks.FirstMarks.{FirstMarks}
 use Rattle.cps_server.specs.declared.mark.Mark as made
-use Rattle.cps_server.specs.Marks.{Mark, Marks, place_of}
+use Rattle.cps_server.specs.Marks.{Mark, place_of}
 use Rattle.cps_server.specs.Ranges.{position, range_of, told_units}
 use Rattle.cps_server.specs.declared.diagnostic.Stretch.{Stretch}
 use Rattle.cps_server.specs.Diagnostics.{TellsMark, TellsMarks, diagnostic, letter_name, more_message, most_told, published, range_among, report, told_of_more}
-use Rattle.cps_server.specs.Code.Writing.{AddsMark, AddsMarks, ListsText, diagnostic_text, document_text, information_text, list_text, more_text, position_text, published_text, range_text, report_text, version_text}
+use Rattle.cps_server.specs.Code.Listing.{ListsMarks}
+use Rattle.cps_server.specs.Code.Writing.{AddsMark, AddsMarks, ListsText, counted_text, diagnostic_text, document_text, information_text, list_text, more_text, position_text, published_text, range_text, report_text, version_text}
 
 -- ---- a diagnostic
 
@@ -90,36 +92,40 @@ mark-added encoding lines mark line stretch message old new there shows added = 
 
 -- ---- more marks
 
-more-told : (encoding : Encoding) (lines : List (List ℕ)) (mark : made.Mark) (marks : List made.Mark) (line : List ℕ) (stretch : Stretch) (message old mid new : List ℕ)
-    → line ≡ slice_index_or lines mark.line [] → stretch ≡ stretch_of encoding line mark → message ≡ more_message (length (mark ∷ marks))
-    → mid ≡ old ++ codes "," → new ≡ mid ++ information_text stretch message → new ≡ old ++ more_text encoding lines (map place_of (mark ∷ marks))
-more-told encoding lines mark marks line stretch message old mid new there shows counts comma added =
+more-told : (encoding : Encoding) (lines : List (List ℕ)) (mark : made.Mark) (marks : List made.Mark) (count : ℕ) (line : List ℕ) (stretch : Stretch)
+    (message old mid new : List ℕ) → line ≡ slice_index_or lines mark.line [] → stretch ≡ stretch_of encoding line mark → message ≡ more_message count
+    → mid ≡ old ++ codes "," → new ≡ mid ++ information_text stretch message → new ≡ old ++ counted_text encoding lines (map place_of (mark ∷ marks)) count
+more-told encoding lines mark marks count line stretch message old mid new there shows counts comma added =
     added ∙ (λ i. comma i ++ information_text (shows i) (counts i))
-    ∙ (λ i. old ++ codes "," ++ information_text (stretch_of encoding (there i) mark) (more_message (same i)))
-    ∙ ap (λ text. old ++ codes "," ++ text) (sym (information-written mark.line at.start at.end (more_message (length (map place_of (mark ∷ marks))))))
+    ∙ (λ i. old ++ codes "," ++ information_text (stretch_of encoding (there i) mark) (more_message count))
+    ∙ ap (λ text. old ++ codes "," ++ text) (sym (information-written mark.line at.start at.end (more_message count)))
     ∙ append_assoc old (codes ",") _
   where
     at : Stretch
     at = stretch_of encoding (slice_index_or lines mark.line []) mark
 
-    same : length (mark ∷ marks) ≡ length (map place_of (mark ∷ marks))
-    same = sym (length-map (mark ∷ marks) place_of)
-
-pub more-added : (encoding : Encoding) (lines : List (List ℕ)) (marks : List made.Mark) (mark : made.Mark) (line : List ℕ) (stretch : Stretch) (message old mid new : List ℕ)
-    → slice_get marks 0 ≡ Some mark → line ≡ slice_index_or lines mark.line [] → stretch ≡ stretch_of encoding line mark
-    → message ≡ more_message (length marks) → mid ≡ old ++ codes "," → new ≡ mid ++ information_text stretch message
-    → new ≡ old ++ more_text encoding lines (map place_of marks)
-more-added encoding lines [] mark line stretch message old mid new first there shows counts comma added = absurd (search rules)
-more-added encoding lines (one ∷ marks) mark line stretch message old mid new first there shows counts comma added =
+pub more-added : (encoding : Encoding) (lines : List (List ℕ)) (marks : List made.Mark) (count : ℕ) (mark : made.Mark) (line : List ℕ) (stretch : Stretch)
+    (message old mid new : List ℕ) → slice_get marks 0 ≡ Some mark → line ≡ slice_index_or lines mark.line [] → stretch ≡ stretch_of encoding line mark
+    → message ≡ more_message count → mid ≡ old ++ codes "," → new ≡ mid ++ information_text stretch message
+    → new ≡ old ++ counted_text encoding lines (map place_of marks) count
+more-added encoding lines [] count mark line stretch message old mid new first there shows counts comma added = absurd (search rules)
+more-added encoding lines (one ∷ marks) count mark line stretch message old mid new first there shows counts comma added =
     let same : mark ≡ one = sym (ap (λ o. unwrap_or o mark) first) in
-    more-told encoding lines one marks line stretch message old mid new (there ∙ ap (λ (m : made.Mark). slice_index_or lines m.line []) same)
+    more-told encoding lines one marks count line stretch message old mid new (there ∙ ap (λ (m : made.Mark). slice_index_or lines m.line []) same)
     (shows ∙ ap (stretch_of encoding line) same) counts comma added
 
 -- where no mark is left out, nothing is added
-pub none-more : (encoding : Encoding) (lines : List (List ℕ)) (marks : List made.Mark) (old : List ℕ) → slice_get marks 0 ≡ None
-    → old ≡ old ++ more_text encoding lines (map place_of marks)
-none-more encoding lines [] old none = sym (append-nil old)
-none-more encoding lines (one ∷ marks) old none = absurd (search rules)
+pub none-more : (encoding : Encoding) (lines : List (List ℕ)) (marks : List made.Mark) (count : ℕ) (old : List ℕ) → slice_get marks 0 ≡ None
+    → old ≡ old ++ counted_text encoding lines (map place_of marks) count
+none-more encoding lines [] count old none = sym (append-nil old)
+none-more encoding lines (one ∷ marks) count old none = absurd (search rules)
+
+-- the first of the marks that are left out is enough
+counted-more : (encoding : Encoding) (lines : List (List ℕ)) (count : ℕ) (marks : List Mark) → count ≡ length marks
+    → counted_text encoding lines (take 1 marks) count ≡ more_text encoding lines marks
+counted-more encoding lines count [] same = refl
+counted-more encoding lines count (mark ∷ marks) same =
+    ap (λ n. codes "," ++ compact_text (object (report 3 (range_among encoding lines mark) (more_message n)))) same
 
 -- behind others stands what is told of more, and the end of the list
 ends-more : (encoding : Encoding) (lines : List (List ℕ)) (later : Bool) (marks : List Mark) → (0 < length marks → later ≡ true)
@@ -136,20 +142,27 @@ some-first marks more =
     let taken = length-take most_told marks in
     grind (arith, nat_tests)
 
-pub list-made : (encoding : Encoding) (text : List ℕ) (marks first more : List made.Mark) (list mid behind new : List ℕ) → Marks text (map place_of marks)
-    → first ≡ take most_told marks → more ≡ drop most_told marks → list ≡ codes "[" → AddsMarks encoding (source_lines text) (map place_of first) list mid
-    → behind ≡ mid ++ more_text encoding (source_lines text) (map place_of more) → new ≡ behind ++ codes "]" → ListsText encoding text new
-list-made encoding text marks first more list mid behind new of_text is_first is_more opened adds more_added ended = (
+-- ---- the first of some marks
+
+drop-fewer : {X : Type 0} (n : ℕ) (xs : List X) → drop n (take (suc n) xs) ≡ take 1 (drop n xs)
+drop-fewer zero xs = refl
+drop-fewer (suc n) [] = refl
+drop-fewer (suc n) (x ∷ xs) = drop-fewer n xs
+
+pub list-made : (encoding : Encoding) (text : List ℕ) (marks : FirstMarks) (first left : List made.Mark) (count : ℕ) (list mid behind new : List ℕ)
+    → ListsMarks text marks → first ≡ take most_told marks.first.items → left ≡ drop most_told marks.first.items → count ≡ marks.count - most_told
+    → list ≡ codes "[" → AddsMarks encoding (source_lines text) (map place_of first) list mid
+    → behind ≡ mid ++ counted_text encoding (source_lines text) (map place_of left) count → new ≡ behind ++ codes "]" → ListsText encoding text new
+list-made encoding text marks first left count list mid behind new lists is_first is_left counts opened adds more_added ended = (
   adds.0 ++ told,
   record {
     marks = places;
-    of_text = of_text;
+    of_text = lists.1;
     first = adds.0;
     each = subst (λ ms. TellsMarks encoding lines ms adds.0) front adds.1;
     all = refl;
   },
-  ended ∙ ap (λ text. text ++ codes "]") more_added ∙ append_assoc mid (more_text encoding lines (map place_of more)) (codes "]")
-      ∙ (λ i. mid ++ (more_text encoding lines (back i) ++ codes "]"))
+  ended ∙ ap (λ text. text ++ codes "]") (more_added ∙ ap (λ text. mid ++ text) more) ∙ append_assoc mid (more_text encoding lines (drop most_told places)) (codes "]")
       ∙ ap (λ text. mid ++ text) (ends-more encoding lines (nat_lt 0 (length (take most_told places))) (drop most_told places) (some-first places))
       ∙ (λ i. mid ++ items_text (nat_lt 0 (length (sym front i))) (items_of told)) ∙ adds.2 told
       ∙ ap (λ list. list ++ items_text false (items_of (adds.0 ++ told))) opened,
@@ -159,16 +172,28 @@ list-made encoding text marks first more list mid behind new of_text is_first is
     lines = source_lines text
 
     places : List Mark
-    places = map place_of marks
+    places = lists.0
 
     told : List Data
-    told = told_of_more encoding (source_lines text) (drop most_told (map place_of marks))
+    told = told_of_more encoding (source_lines text) (drop most_told lists.0)
 
     front : map place_of first ≡ take most_told places
-    front = ap (map place_of) is_first ∙ sym (take-map place_of most_told marks)
+    front =
+        ap (map place_of) is_first ∙ sym (take-map place_of most_told marks.first.items) ∙ ap (take most_told) lists.2.first
+        ∙ take-take most_told (most_told + 1) places (omega arith)
 
-    back : map place_of more ≡ drop most_told places
-    back = ap (map place_of) is_more ∙ sym (drop-map place_of most_told marks)
+    next : most_told + 1 ≡ suc most_told
+    next = omega arith
+
+    back : map place_of left ≡ take 1 (drop most_told places)
+    back = ap (map place_of) is_left ∙ sym (drop-map place_of most_told marks.first.items) ∙ ap (drop most_told) lists.2.first
+        ∙ ap (λ n. drop most_told (take n places)) next ∙ drop-fewer most_told places
+
+    so_many : count ≡ length (drop most_told places)
+    so_many = counts ∙ ap (λ n. n - most_told) lists.2.count ∙ sym (length-drop most_told places)
+
+    more : counted_text encoding lines (map place_of left) count ≡ more_text encoding lines (drop most_told places)
+    more = ap (λ (ms : List Mark). counted_text encoding lines ms count) back ∙ counted-more encoding lines count (drop most_told places) so_many
 
 -- ---- what is told with a list
 

@@ -1,5 +1,7 @@
 -- What serves the code alone, and no reader need believe.
 pub mod Adding
+pub mod Keeping
+pub mod Listing
 pub mod Naming
 pub mod Opened
 pub mod Providing

@@ -6,20 +6,19 @@ ghost use Rattle.cps_rpc.specs.Frame.{frame_of};
 ghost use Rattle.cps_server.specs.Marks.{place_of};
 ghost use Rattle.cps_server.specs.Diagnostics.{more_message, published};
 ghost use Rattle.cps_server.specs.Frames.{frame_of_json};
-ghost use Rattle.cps_server.specs.Code.Writing.{AddsMark, AddsMarks, ListsText, document_text, more_text, published_text};
+ghost use Rattle.cps_server.specs.Code.Writing.{AddsMark, AddsMarks, ListsText, counted_text, document_text, published_text};
 
 use crate::diagnostic::{Stretch, push_diagnostic, push_information};
 use crate::document::Document;
+use crate::first_marks::MOST_TOLD;
 use crate::mark::Mark;
+use crate::marked_document::MarkedDocument;
 use crate::marking::marks_of;
 use crate::mentions::line_of;
 use crate::writing::{push_comma, push_string, push_version};
 use cps_rpc::{Encoding, push_frame};
 use std::alloc::{AllocError, Global};
 use std::str;
-
-/// The most marks that are told one by one.
-const MOST_TOLD: usize = 1_000;
 
 /// A text of which an editor is told.
 #[derive(Clone, Copy)]
@@ -36,17 +35,19 @@ pub struct ToldText<'a> {
 pub fn list_of(
     alloc: Global,
     encoding: Encoding,
-    document: &Document,
+    marked: &MarkedDocument,
 ) -> Result<Vec<u8>, AllocError>
-    ensures { IfOk result (λ list. ListsText encoding document.now list.items) }
+    ensures { IfOk result (λ list. ListsText encoding marked.now list.items) }
 {
-    let marks = marks_of(alloc, document)?;
-    let all = marks.as_slice();
-    let (first, more) = all.split_at(MOST_TOLD.min(all.len()));
+    let document = marked.document();
+    let marks = marks_of(alloc, marked)?;
+    let all = marks.first.as_slice();
+    let (first, next) = all.split_at(MOST_TOLD.min(all.len()));
+    let more = marks.count.saturating_sub(MOST_TOLD);
     let mut list = Vec::new(alloc);
     list.push(b'[')?;
     push_marks(alloc, encoding, document, first, &mut list)?;
-    push_more(alloc, encoding, document, more, &mut list)?;
+    push_more(alloc, encoding, document, next, more, &mut list)?;
     list.push(b']')?;
     Ok(list)
 }
@@ -88,17 +89,18 @@ fn push_more(
     alloc: Global,
     encoding: Encoding,
     document: &Document,
-    marks: &[Mark],
+    left: &[Mark],
+    count: usize,
     list: &mut Vec<u8>,
 ) -> Result<(), AllocError>
-    ensures { OnOk result (list.new.items ≡ list.old.items ++ more_text encoding (source_lines document.now) (map place_of marks.now)) }
+    ensures { OnOk result (list.new.items ≡ list.old.items ++ counted_text encoding (source_lines document.now) (map place_of left.now) count) }
 {
-    let Some(mark) = marks.first() else {
+    let Some(mark) = left.first() else {
         return Ok(());
     };
     let line = line_of(document, mark.line);
     let stretch = Stretch::of(encoding, line, mark);
-    let message = message_of_more(alloc, marks.len())?;
+    let message = message_of_more(alloc, count)?;
     list.push(b',')?;
     push_information(alloc, list, stretch, &message)
 }

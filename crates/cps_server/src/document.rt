@@ -1,18 +1,22 @@
 //! A document that an editor has open.
-ghost use Rattle.std.specs.Prelude.{◌≡◌, ◌<◌, ◌≤◌, length, map, slice_get, Some, IfOk};
+ghost use Rattle.std.specs.Prelude.{◌≡◌, ◌<◌, ◌≤◌, length, map, slice_get, Some, IfOk, IfSome, OnOk};
 ghost use Rattle.std.specs.List.{splice};
+ghost use Rattle.cps_edit.specs.Splice.{splice_at};
+ghost use Rattle.cps_live.specs.Edits.{HaveRedone};
 ghost use Rattle.cps_text.specs.declared.limits.TheConstants.{MOST_LINES};
 ghost use Rattle.cps_rpc.specs.Changes.{changed};
 ghost use Rattle.cps_rpc.specs.Lines.{text_lines, source_lines};
+ghost use Rattle.cps_server.specs.Code.Keeping.{AreTouched, IsTold};
 ghost use Rattle.cps_server.specs.Code.Renaming.{edits_of};
 ghost use Rattle.cps_server.specs.Document.{source_of_text};
 ghost use Rattle.cps_server.specs.Renames.{edited};
 
 use crate::cards::cards_from;
 use crate::text_edit::TextEdit;
-use cps_live::{EditFault, Session};
+use crate::touched_lines::TouchedLines;
+use cps_live::{EditFault, Redone, Session};
 use cps_rpc::{Buffer, Encoding, Range, Replacement, source_is_replaced};
-use cps_state::{Hashing, Work};
+use cps_state::{Hashing, Put, Work};
 use cps_text::Line;
 use cps_text::limits::MOST_LINES;
 use std::alloc::{AllocError, Global};
@@ -60,16 +64,17 @@ impl Document {
         Document::of(alloc, hashing, buffer)
     }
 
-    /// The document with new text in the place of a range, or, where no range is told, of all of its text. The source's lines that gave way are put anew by one
-    /// edit of the session; where the source has more than 99,999 lines, before or after, the document is opened anew. An error: there was no memory, and the
-    /// document is gone.
+    /// The document with new text in the place of a range, or, where no range is told, of all of its text, and which lines of its source that touched. The lines
+    /// that gave way are put anew by one edit of the session; where the source has more than 99,999 lines, before or after, the document is opened anew, and no
+    /// more is told. An error: there was no memory, and the document is gone.
     pub fn change(
         self,
         encoding: Encoding,
         range: Option<Range>,
         new: &[u8],
-    ) -> Result<Document, AllocError>
-        ensures { IfOk result (λ document. document ≡ changed encoding self range new.now) }
+    ) -> Result<(Document, Option<TouchedLines>), AllocError>
+        ensures text { IfOk result (λ now. now.0 ≡ changed encoding self range new.now) }
+        ensures lines { IfOk result (λ now. IfSome now.1 (AreTouched self now.0)) }
     {
         let Document {
             alloc,
@@ -81,16 +86,19 @@ impl Document {
         let old_len = buffer.source_len();
         let Replacement { first, end, count } = buffer.change(encoding, range, new)?;
         if old_len > MOST_LINES || buffer.source_len() > MOST_LINES {
-            return Document::of(alloc, hashing, buffer);
+            drop(session);
+            let document = Document::of(alloc, hashing, buffer)?;
+            return Ok((document, None));
         }
         let cards = cards_from(alloc, &buffer, first, count)?;
-        let session = put_cards(session, first, end.min(old_len), cards)?;
-        Ok(Document {
+        let (session, touched) = put_cards(alloc, session, first, end.min(old_len), cards)?;
+        let document = Document {
             alloc,
             hashing,
             buffer,
             session,
-        })
+        };
+        Ok((document, Some(touched)))
     }
 
     /// The document of the text with edits, one after another. It is assembled once.
@@ -153,30 +161,82 @@ impl Document {
     }
 }
 
-/// Puts cards in the place of those of a source from `first` up to `end`, from 0.
+/// Puts cards in the place of those of a source from `first` up to `end`, from 0, and tells which lines that touched.
 fn put_cards(
+    alloc: Global,
     session: Session,
     first: usize,
     end: usize,
     cards: Vec<Line>,
-) -> Result<Session, AllocError>
+) -> Result<(Session, TouchedLines), AllocError>
     requires ordered { first ≤ end }
     requires within { end ≤ length session.lines }
     requires few { length session.lines ≤ MOST_LINES }
     requires still_few { length (splice session.lines first end cards.items) ≤ MOST_LINES }
-    ensures { IfOk result (λ put. put.lines ≡ splice session.lines first end cards.items) }
+    ensures lines { IfOk result (λ put. put.0.lines ≡ splice session.lines first end cards.items) }
+    ensures touched { IfOk result (λ put. IsTold session.lines first end cards.items put.0.lines put.1) }
+{
+    let count = cards.len();
+    let had = puts_between(alloc, &session, first, end)?;
+    let mut session = session;
+    let redone = put_lines(alloc, &mut session, first, end, cards)?;
+    let has = puts_between(alloc, &session, first, first + count)?;
+    let names_stand = had == has;
+    let touched = TouchedLines {
+        first,
+        end,
+        count,
+        redone,
+        names_stand,
+    };
+    Ok((session, touched))
+}
+
+/// Puts cards in the place of those of a source from `first` up to `end`, from 0. Gives which others were made anew.
+fn put_lines(
+    alloc: Global,
+    session: &mut Session,
+    first: usize,
+    end: usize,
+    cards: Vec<Line>,
+) -> Result<Redone, AllocError>
+    requires ordered { first ≤ end }
+    requires within { end ≤ length session.old.lines }
+    requires few { length session.old.lines ≤ MOST_LINES }
+    requires still_few { length (splice session.old.lines first end cards.items) ≤ MOST_LINES }
+    ensures lines { OnOk result (session.new.lines ≡ splice session.old.lines first end cards.items) }
+    ensures redone { IfOk result (λ redone. HaveRedone session.old (splice_at first end cards.items) session.new redone) }
 {
     if first == end && cards.is_empty() {
-        return Ok(session);
+        let places = Vec::new(alloc);
+        return Ok(Redone { places });
     }
-    let mut session = session;
     match session.put(first as u32 + 1, end as u32, cards, &mut Work::new()) {
-        Ok(redone) => {
-            drop(redone);
-            Ok(session)
-        }
+        Ok(redone) => Ok(redone),
         Err(EditFault::Memory) => Err(AllocError),
         Err(EditFault::NoSuchLine) => unreachable!(),
         Err(EditFault::TooManyLines) => unreachable!(),
     }
+}
+
+/// What the lines of a source from one up to another, from 0, put in pass one.
+fn puts_between(
+    alloc: Global,
+    session: &Session,
+    first: usize,
+    end: usize,
+) -> Result<Vec<Put>, AllocError> {
+    let traces = session.traces();
+    let end = end.min(traces.len());
+    let mut puts = Vec::new(alloc);
+    for trace in &traces[first.min(end)..end] {
+        for put in trace.puts() {
+            let answer = put.answer.share()?;
+            puts.push(Put {
+                key: put.key,
+                answer,
+            })?;
+        }
+    }
+    Ok(puts)
 }

@@ -14,6 +14,7 @@
 //! - `document_laws.rt`: what holds of the source of a text
 //! - `field.rt`: the field of a line in which a word stands
 //! - `field_words.rt`: the words of a line that its fields make
+//! - `first_marks.rt`: the marks of a text of which an editor is told first
 //! - `folding.rt`: the lines that may be folded
 //! - `folding_walk.rt`: what may be folded, found line by line
 //! - `formatting.rt`: the edits that put fields into columns
@@ -22,6 +23,7 @@
 //! - `hints.rt`: what is shown beside lines, as it is told
 //! - `hovering.rt`: what is shown at a position
 //! - `introducing.rt`: what a server tells of itself
+//! - `line_mark.rt`: a mark of a line
 //! - `line_marks.rt`: the marks of a line
 //! - `line_pairs.rt`: lines that part or close others
 //! - `line_state.rt`: what is done with the next line
@@ -34,6 +36,7 @@
 //! - `macro_places.rt`: the lines that define macros
 //! - `mark.rt`: a mark
 //! - `mark_kind.rt`: what a mark marks
+//! - `marked_document.rt`: a document whose marks are kept
 //! - `marking.rt`: the marks of a text
 //! - `marks_laws.rt`: what holds of the marks of a text
 //! - `mending.rt`: characters that no line has, and how they are mended
@@ -68,6 +71,7 @@
 //! - `token.rt`: a word of a line, as it is told
 //! - `token_data.rt`: tokens as numbers, five for each
 //! - `tokens.rt`: what the words of a text are, as they are told
+//! - `touched_lines.rt`: which lines of a source a change touched
 //! - `why.rt`: why a line is flagged
 //! - `word_locations.rt`: the lines on which the symbol that a word writes stands
 //! - `word_part.rt`: a part of a line, and the words in it that no name makes
@@ -88,6 +92,7 @@ mod document;
 mod document_laws;
 mod field;
 mod field_words;
+mod first_marks;
 mod folding;
 mod folding_walk;
 mod formatting;
@@ -96,6 +101,7 @@ mod hint;
 mod hints;
 mod hovering;
 mod introducing;
+mod line_mark;
 mod line_marks;
 mod line_pairs;
 mod line_state;
@@ -108,6 +114,7 @@ mod macro_above;
 mod macro_places;
 mod mark;
 mod mark_kind;
+mod marked_document;
 mod marking;
 mod marks_laws;
 mod mending;
@@ -142,6 +149,7 @@ mod text_edit;
 mod token;
 mod token_data;
 mod tokens;
+mod touched_lines;
 mod why;
 mod word_locations;
 mod word_part;
@@ -151,6 +159,9 @@ mod writing;
 pub use answering::answer;
 pub use document::Document;
 pub use document_laws::{a_document_agrees_with_batch, a_text_stands_for_a_source};
+pub use first_marks::FirstMarks;
+pub use marked_document::MarkedDocument;
 pub use marking::marks_of;
 pub use marks_laws::marks_agree_with_batch;
 pub use running::run_server;
+pub use touched_lines::TouchedLines;

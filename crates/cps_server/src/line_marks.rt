@@ -1,35 +1,73 @@
 //! The marks of a line.
 ghost use Rattle.std.specs.Prelude.{◌≡◌, ◌<◌, [], ◌∷◌, length, map, IfOk, OnOk};
 ghost use Rattle.cps_server.specs.Document.{source_of_text};
-ghost use Rattle.cps_server.specs.Code.Adding.{Adds, AddsFlags, AddsLine};
-ghost use Rattle.cps_server.specs.Marks.{flag_mark, fault_mark};
+ghost use Rattle.cps_server.specs.Code.Keeping.{KeepsLine, Shows, ShowsFlags, ShowsMarks, fault_shown, flag_shown};
 
 use crate::document::Document;
-use crate::mark::Mark;
+use crate::line_mark::LineMark;
 use crate::mark_kind::MarkKind;
-use cps_cause::{Columns, Diagnostic, LinesAbove, explain};
+use cps_cause::{Columns, Diagnostic, Letter, LinesAbove, explain};
 use cps_input::{CharacterFault, faults_of};
 use cps_list::View;
 use std::alloc::{AllocError, Global};
 
+/// The marks of a line.
+pub struct LineMarks {
+    pub marks: Vec<LineMark>,
+}
+
+// Written out, as that of a mark.
+impl Drop for LineMarks {
+    fn drop(self) {
+        let LineMarks { marks } = self;
+        drop(marks);
+    }
+}
+
 /// A line with flags.
 #[derive(Clone, Copy)]
 struct FlaggedLine<'a> {
-    /// From 0.
-    number: u32,
     line: &'a [u8],
     above: LinesAbove<'a>,
 }
 
-/// Appends the marks of a line of a document, whose number counts from 0. One that a source may have takes no memory where it has no flag.
-pub fn push_marks(
+impl LineMarks {
+    /// The marks of the line at a place of a document, from 0. Those of a line that a source may have take no memory where it has no flag.
+    pub fn of(alloc: Global, document: &Document, place: usize) -> Result<LineMarks, AllocError>
+        requires { place < length (source_of_text document.now) }
+        ensures { IfOk result (KeepsLine document.now place) }
+    {
+        let number = place as u32;
+        let mut marks = Vec::new(alloc);
+        push_marks(alloc, document, number, &mut marks)?;
+        Ok(LineMarks { marks })
+    }
+
+    /// Whether words of these marks may be other ones where lines come or go elsewhere. They may tell what others define; those of flag E the number of a line
+    /// too; and those of a character that no line has whether the line is the first.
+    pub fn rest_on_others(&self, names_stand: bool) -> bool {
+        for mark in &self.marks {
+            let tells_number = match mark.kind {
+                MarkKind::Flag(letter) => letter == Letter::E,
+                MarkKind::Wrong => true,
+            };
+            if tells_number || !names_stand {
+                return true;
+            }
+        }
+        false
+    }
+}
+
+/// Appends the marks of a line of a document, whose number counts from 0.
+fn push_marks(
     alloc: Global,
     document: &Document,
     number: u32,
-    marks: &mut Vec<Mark>,
+    marks: &mut Vec<LineMark>,
 ) -> Result<(), AllocError>
     requires { number < length (source_of_text document.now) }
-    ensures { OnOk result (AddsLine document.now number marks.old.items marks.new.items) }
+    ensures { OnOk result (ShowsMarks document.now number marks.old.items marks.new.items) }
 {
     let line = document.source_line(number as usize);
     let faults = faults_of(alloc, line, number + 1)?;
@@ -38,38 +76,35 @@ pub fn push_marks(
         push_flags(alloc, document, number, marks)?;
         return Ok(());
     }
-    push_faults(alloc, number, line, found, marks)?;
+    push_faults(alloc, line, found, marks)?;
     Ok(())
 }
 
 /// Appends the marks of what is wrong in a line that no source may have.
 fn push_faults(
     alloc: Global,
-    number: u32,
     line: &[u8],
     faults: &[CharacterFault],
-    marks: &mut Vec<Mark>,
+    marks: &mut Vec<LineMark>,
 ) -> Result<(), AllocError>
-    ensures { OnOk result (Adds (map (fault_mark number) faults.now) marks.old.items marks.new.items) }
+    ensures { OnOk result (Shows (map fault_shown faults.now) marks.old.items marks.new.items) }
 {
     for fault in faults {
-        push_fault(alloc, number, line, fault, marks)?;
+        push_fault(alloc, line, fault, marks)?;
     }
     Ok(())
 }
 
 fn push_fault(
     alloc: Global,
-    number: u32,
     line: &[u8],
     fault: &CharacterFault,
-    marks: &mut Vec<Mark>,
+    marks: &mut Vec<LineMark>,
 ) -> Result<(), AllocError>
-    ensures { OnOk result (Adds (fault_mark number fault.now ∷ []) marks.old.items marks.new.items) }
+    ensures { OnOk result (Shows (fault_shown fault.now ∷ []) marks.old.items marks.new.items) }
 {
     let message = fault_message(alloc, line, fault)?;
-    marks.push(Mark {
-        line: number,
+    marks.push(LineMark {
         columns: Columns {
             first: fault.first,
             last: fault.last,
@@ -94,10 +129,10 @@ fn push_flags(
     alloc: Global,
     document: &Document,
     number: u32,
-    marks: &mut Vec<Mark>,
+    marks: &mut Vec<LineMark>,
 ) -> Result<(), AllocError>
     requires { number < length (source_of_text document.now) }
-    ensures { OnOk result (AddsFlags document.now number marks.old.items marks.new.items) }
+    ensures { OnOk result (ShowsFlags document.now number marks.old.items marks.new.items) }
 {
     let session = document.session();
     let Some(card) = session.line(number + 1) else {
@@ -113,7 +148,6 @@ fn push_flags(
     let trace = &traces[number as usize];
     let told = explain(alloc, card, trace, session.finals())?;
     let flagged = FlaggedLine {
-        number,
         line: card.bytes(),
         above: LinesAbove {
             traces: &traces[..number as usize],
@@ -128,9 +162,9 @@ fn push_causes(
     alloc: Global,
     flagged: &FlaggedLine<'_>,
     told: &[Diagnostic],
-    marks: &mut Vec<Mark>,
+    marks: &mut Vec<LineMark>,
 ) -> Result<(), AllocError>
-    ensures { OnOk result (Adds (map (flag_mark flagged.now.number) told.now) marks.old.items marks.new.items) }
+    ensures { OnOk result (Shows (map flag_shown told.now) marks.old.items marks.new.items) }
 {
     for diagnostic in told {
         push_cause(alloc, flagged, diagnostic, marks)?;
@@ -142,14 +176,13 @@ fn push_cause(
     alloc: Global,
     flagged: &FlaggedLine<'_>,
     told: &Diagnostic,
-    marks: &mut Vec<Mark>,
+    marks: &mut Vec<LineMark>,
 ) -> Result<(), AllocError>
-    ensures { OnOk result (Adds (flag_mark flagged.now.number told.now ∷ []) marks.old.items marks.new.items) }
+    ensures { OnOk result (Shows (flag_shown told.now ∷ []) marks.old.items marks.new.items) }
 {
     let message = message_of(alloc, flagged, told)?;
     let letter = told.cause.letter();
-    marks.push(Mark {
-        line: flagged.number,
+    marks.push(LineMark {
         columns: told.columns,
         kind: MarkKind::Flag(letter),
         message,

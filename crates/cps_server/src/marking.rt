@@ -1,47 +1,49 @@
 //! The marks of a text.
-ghost use Rattle.std.specs.Prelude.{length, map, IfOk, OnOk};
+ghost use Rattle.std.specs.Prelude.{[], length, IfOk, OnOk};
 ghost use Rattle.cps_server.specs.Document.{source_of_text};
-ghost use Rattle.cps_server.specs.Code.Adding.{Adds, AddsEnd, AddsLines, excess_of};
-ghost use Rattle.cps_server.specs.Marks.{Marks, place_of};
+ghost use Rattle.cps_server.specs.Code.Adding.{excess_of};
+ghost use Rattle.cps_server.specs.Code.Listing.{Lists, ListsEnd, ListsLines, ListsMarks, ListsMore};
 
 use crate::document::Document;
-use crate::line_marks::{push_marks, unindented};
+use crate::first_marks::FirstMarks;
+use crate::line_marks::unindented;
 use crate::mark::Mark;
 use crate::mark_kind::MarkKind;
+use crate::marked_document::MarkedDocument;
 use cps_cause::{Columns, LinesAbove, Quotation, explain_end};
 use cps_list::View;
 use cps_text::limits::MOST_LINES;
 use std::alloc::{AllocError, Global};
 
 /// The marks of a document's text, line by line: each flag with its cause, and each byte that no line may have. The first 99,999 lines are looked at. It
-/// takes time for each of them, and memory where something is wrong.
-pub fn marks_of(alloc: Global, document: &Document) -> Result<Vec<Mark>, AllocError>
-    ensures { IfOk result (λ marks. Marks document.now (map place_of marks.items)) }
+/// takes time for each of them, and memory for the marks that are told.
+pub fn marks_of(alloc: Global, marked: &MarkedDocument) -> Result<FirstMarks, AllocError>
+    ensures { IfOk result (ListsMarks marked.now) }
 {
-    let mut marks = Vec::new(alloc);
-    push_line_marks(alloc, document, &mut marks)?;
+    let document = marked.document();
+    let mut marks = FirstMarks::new(alloc);
+    push_lines(marked, &mut marks)?;
     push_excess(alloc, document.source_len(), &mut marks)?;
     push_end(alloc, document, &mut marks)?;
     Ok(marks)
 }
 
-/// Appends the marks of the lines of a document that are looked at.
-fn push_line_marks(
-    alloc: Global,
-    document: &Document,
-    marks: &mut Vec<Mark>,
-) -> Result<(), AllocError>
-    ensures { OnOk result (AddsLines document.now (length (source_of_text document.now)) marks.old.items marks.new.items) }
+/// Adds the marks of the lines of a document that are looked at, to none.
+fn push_lines(marked: &MarkedDocument, marks: &mut FirstMarks) -> Result<(), AllocError>
+    requires { Lists [] marks.old }
+    ensures { OnOk result (ListsLines marked.now (length (source_of_text marked.now)) marks.new) }
 {
+    let document = marked.document();
+    let kept = marked.marks();
     for number in 0..document.session().count() {
-        push_marks(alloc, document, number, marks)?;
+        marks.push_line(number, &kept[number as usize])?;
     }
     Ok(())
 }
 
-/// Appends the mark of the first line that is too many, where a text has so many lines.
-fn push_excess(alloc: Global, count: usize, marks: &mut Vec<Mark>) -> Result<(), AllocError>
-    ensures { OnOk result (Adds (excess_of count) marks.old.items marks.new.items) }
+/// Adds the mark of the first line that is too many, where a text has so many lines.
+fn push_excess(alloc: Global, count: usize, marks: &mut FirstMarks) -> Result<(), AllocError>
+    ensures { OnOk result (ListsMore (excess_of count) marks.old marks.new) }
 {
     if count <= MOST_LINES {
         return Ok(());
@@ -59,9 +61,9 @@ fn push_excess(alloc: Global, count: usize, marks: &mut Vec<Mark>) -> Result<(),
     Ok(())
 }
 
-/// Appends the mark of what is open where a document's source ends, in its last line. It names the line that opened it.
-fn push_end(alloc: Global, document: &Document, marks: &mut Vec<Mark>) -> Result<(), AllocError>
-    ensures { OnOk result (AddsEnd (source_of_text document.now) marks.old.items marks.new.items) }
+/// Adds the mark of what is open where a document's source ends, in its last line. It names the line that opened it.
+fn push_end(alloc: Global, document: &Document, marks: &mut FirstMarks) -> Result<(), AllocError>
+    ensures { OnOk result (ListsEnd (source_of_text document.now) marks.old marks.new) }
 {
     let session = document.session();
     let Some(cause) = explain_end(session.finals())? else {

@@ -4,6 +4,7 @@ ghost use Rattle.cps_server.specs.Code.Opened.{IsFirst, value_of};
 ghost use Rattle.cps_server.specs.ServerState.{open_under, text_under, without};
 
 use crate::document::Document;
+use crate::marked_document::MarkedDocument;
 use std::alloc::{AllocError, Global};
 use std::marker::Model;
 
@@ -11,7 +12,7 @@ use std::marker::Model;
 pub struct OpenText {
     /// The URI of its document.
     uri: String,
-    document: Document,
+    document: MarkedDocument,
 }
 
 // Written out, as that of the document.
@@ -25,7 +26,7 @@ impl Drop for OpenText {
 
 impl OpenText {
     /// Its document.
-    pub fn into_document(self) -> Document
+    pub fn into_document(self) -> MarkedDocument
         ensures { result ≡ self.document }
     {
         let OpenText { uri, document } = self;
@@ -74,7 +75,7 @@ impl OpenTexts {
         ensures { option_map (λ document. document.now) result ≡ text_under uri.now self.now }
     {
         let at = place_of(&self.list, uri)?;
-        Some(&self.list[at].document)
+        Some(self.list[at].document.document())
     }
 
     /// Takes out the text under a URI, if one is open there.
@@ -89,7 +90,7 @@ impl OpenTexts {
     }
 
     /// Opens a text behind all others.
-    pub fn push(&mut self, uri: &str, document: Document) -> Result<(), AllocError>
+    pub fn push(&mut self, uri: &str, document: MarkedDocument) -> Result<(), AllocError>
         ensures { OnOk result (self.new ≡ self.old ++ record { uri = uri.now; text = document } ∷ []) }
     {
         let uri = uri.to_string(self.alloc)?;

@@ -16,8 +16,8 @@ ghost use Rattle.cps_server.specs.ServerState.{beginning, is_shut_down};
 
 use crate::answering::answer;
 use crate::diagnostics::{ToldText, list_of, say_closed, say_list};
-use crate::document::Document;
 use crate::introducing::introduction;
+use crate::marked_document::MarkedDocument;
 use crate::name_places::owed_name;
 use crate::notice::Notice;
 use crate::open_texts::OpenTexts;
@@ -292,7 +292,7 @@ impl Server {
             uri: opened.uri,
             version: version_in(params),
         };
-        let document = Document::open(self.alloc, self.hashing, opened.text.as_bytes())?;
+        let document = MarkedDocument::open(self.alloc, self.hashing, opened.text.as_bytes())?;
         self.keep(told, document, said)
     }
 
@@ -354,7 +354,7 @@ impl Server {
     fn keep(
         &mut self,
         told: ToldText<'_>,
-        document: Document,
+        document: MarkedDocument,
         said: &mut Vec<u8>,
     ) -> Result<(), AllocError>
         ensures { OnOk result (Into (Takes told.entry document) self.old self.new said.old.items said.new.items) }
@@ -368,10 +368,10 @@ impl Server {
 
 /// A document with changes, one after another.
 fn changed_by(
-    document: Document,
+    document: MarkedDocument,
     encoding: Encoding,
     changes: &[Change<'_>],
-) -> Result<Document, AllocError>
+) -> Result<MarkedDocument, AllocError>
     ensures { IfOk result (λ new. new ≡ notices.changed_by encoding (map change_of changes.now) document) }
 {
     let mut document = document;

@@ -65,7 +65,9 @@ fn assert_changes(
     assert_document(rt, alloc, 0, &document, first);
     for (at, (range, new, want)) in rows.iter().enumerate() {
         let changed = document.change(Encoding::Utf16, range.map(range_of), new);
-        document = changed.expect(rt, "memory");
+        let (next, touched) = changed.expect(rt, "memory");
+        drop(touched);
+        document = next;
         assert_document(rt, alloc, at + 1, &document, want);
     }
     drop(document);

@@ -1,6 +1,6 @@
 -- For the code, not part of what a reader believes: diagnostics as they are written.
 use Rattle.std.specs.Prelude.{◌≡◌, ℕ, ℤ, false, nat_lt, List, [], ◌∷◌, ◌++◌, length, Option, Some, None, codes, decimal}
-use Rattle.serde_json.specs.Data.{Data, number, string, array}
+use Rattle.serde_json.specs.Data.{Data, number, string, array, object}
 use Rattle.serde_json.specs.Find.{of_integer}
 use Rattle.serde_json.specs.View.{items_of}
 use Rattle.serde_json.specs.Written.{compact_text, items_text}
@@ -9,7 +9,7 @@ use Rattle.cps_server.specs.declared.mark_kind.MarkKind.{MarkKind}
 use Rattle.cps_server.specs.declared.mark_kind.MarkKind.TheVariants.{Flag, Wrong}
 use Rattle.cps_server.specs.Marks.{Mark}
 use Rattle.cps_server.specs.declared.diagnostic.Stretch.{Stretch}
-use Rattle.cps_server.specs.Diagnostics.{TellsMark, TellsMarks, TellsText, letter_name, told_of_more}
+use Rattle.cps_server.specs.Diagnostics.{TellsMark, TellsMarks, TellsText, letter_name, more_message, range_among, report, told_of_more}
 
 -- ---- a diagnostic
 
@@ -55,6 +55,12 @@ behind_text (json ∷ told) = codes "," ++ compact_text json
 
 abbrev pub more_text : Encoding → List (List ℕ) → List Mark → List ℕ
 more_text encoding lines marks = behind_text (told_of_more encoding lines marks)
+
+-- the diagnostic that tells how many marks are left out, of which these are the first
+abbrev pub counted_text : Encoding → List (List ℕ) → List Mark → ℕ → List ℕ
+counted_text encoding lines [] count = []
+counted_text encoding lines (mark ∷ marks) count =
+    codes "," ++ compact_text (object (report 3 (range_among encoding lines mark) (more_message count)))
 
 -- a list of diagnostics as JSON, with no blank in it
 abbrev pub list_text : List Data → List ℕ

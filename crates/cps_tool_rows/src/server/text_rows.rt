@@ -19,7 +19,7 @@ const CLOSED: &str =
     "{\"jsonrpc\":\"2.0\",\"method\":\"textDocument/publishDiagnostics\",\"params\":{\"diagnostics\":[],\"uri\":\"a\"}}";
 
 /// Conversations about texts.
-const CONVERSATIONS: [ConversationRow; 8] = [
+const CONVERSATIONS: [ConversationRow; 10] = [
     // opened before `initialize` and behind `shutdown`: nothing is told, and no text is open
     (
         &[OPEN, INITIALIZE, CLOSE, SHUTDOWN, OPEN, CLOSE, EXIT],
@@ -72,6 +72,46 @@ const CONVERSATIONS: [ConversationRow; 8] = [
             "{\"jsonrpc\":\"2.0\",\"method\":\"textDocument/publishDiagnostics\",\"params\":{\"diagnostics\":[],\"uri\":\"a\",\"version\":5}}",
             FLAGGED,
             "{\"jsonrpc\":\"2.0\",\"method\":\"textDocument/publishDiagnostics\",\"params\":{\"diagnostics\":[{\"code\":\"U\",\"message\":\"no line gives Q a value; it counts as 0\",\"range\":{\"end\":{\"character\":19,\"line\":0},\"start\":{\"character\":18,\"line\":0}},\"severity\":1,\"source\":\"compass\"}],\"uri\":\"a\",\"version\":2}}",
+        ],
+    ),
+    // what is told of a line follows what others define: one below sets its symbol, and then another one
+    (
+        &[
+            INITIALIZE,
+            "{\"jsonrpc\":\"2.0\",\"method\":\"textDocument/didOpen\",\"params\":{\"textDocument\":{\"uri\":\"a\",\"languageId\":\"compass\",\"text\":\"          SX1     Q\\n*\\n\"}}}",
+            "{\"jsonrpc\":\"2.0\",\"method\":\"textDocument/didChange\",\"params\":{\"textDocument\":{\"uri\":\"a\"},\"contentChanges\":[{\"range\":{\"start\":{\"line\":1,\"character\":0},\"end\":{\"line\":1,\"character\":1}},\"text\":\"Q         SET     1\"}]}}",
+            "{\"jsonrpc\":\"2.0\",\"method\":\"textDocument/didChange\",\"params\":{\"textDocument\":{\"uri\":\"a\"},\"contentChanges\":[{\"range\":{\"start\":{\"line\":1,\"character\":0},\"end\":{\"line\":1,\"character\":1}},\"text\":\"R\"}]}}",
+            EXIT,
+        ],
+        Ok(false),
+        &[
+            UTF16,
+            "{\"jsonrpc\":\"2.0\",\"method\":\"textDocument/publishDiagnostics\",\"params\":{\"diagnostics\":[{\"code\":\"U\",\"message\":\"no line gives Q a value; it counts as 0\",\"range\":{\"end\":{\"character\":19,\"line\":0},\"start\":{\"character\":18,\"line\":0}},\"severity\":1,\"source\":\"compass\"}],\"uri\":\"a\"}}",
+            "{\"jsonrpc\":\"2.0\",\"method\":\"textDocument/publishDiagnostics\",\"params\":{\"diagnostics\":[{\"code\":\"U\",\"message\":\"Q has values by SET alone, and none above; it counts as 0\",\"range\":{\"end\":{\"character\":19,\"line\":0},\"start\":{\"character\":18,\"line\":0}},\"severity\":1,\"source\":\"compass\"}],\"uri\":\"a\"}}",
+            "{\"jsonrpc\":\"2.0\",\"method\":\"textDocument/publishDiagnostics\",\"params\":{\"diagnostics\":[{\"code\":\"U\",\"message\":\"no line gives Q a value; it counts as 0\",\"range\":{\"end\":{\"character\":19,\"line\":0},\"start\":{\"character\":18,\"line\":0}},\"severity\":1,\"source\":\"compass\"}],\"uri\":\"a\"}}",
+        ],
+    ),
+    // it tells the number of another line: one comes above both, another between them, which goes again; an error in front of them, and a note behind an operand
+    (
+        &[
+            INITIALIZE,
+            "{\"jsonrpc\":\"2.0\",\"method\":\"textDocument/didOpen\",\"params\":{\"textDocument\":{\"uri\":\"a\",\"languageId\":\"compass\",\"text\":\"          IFEQ    0,0\\n          CON     1\\n          END\\n\"}}}",
+            "{\"jsonrpc\":\"2.0\",\"method\":\"textDocument/didChange\",\"params\":{\"textDocument\":{\"uri\":\"a\"},\"contentChanges\":[{\"range\":{\"start\":{\"line\":0,\"character\":0},\"end\":{\"line\":0,\"character\":0}},\"text\":\"*\\n\"}]}}",
+            "{\"jsonrpc\":\"2.0\",\"method\":\"textDocument/didChange\",\"params\":{\"textDocument\":{\"uri\":\"a\"},\"contentChanges\":[{\"range\":{\"start\":{\"line\":2,\"character\":0},\"end\":{\"line\":2,\"character\":0}},\"text\":\"\\n\"}]}}",
+            "{\"jsonrpc\":\"2.0\",\"method\":\"textDocument/didChange\",\"params\":{\"textDocument\":{\"uri\":\"a\"},\"contentChanges\":[{\"range\":{\"start\":{\"line\":2,\"character\":0},\"end\":{\"line\":3,\"character\":0}},\"text\":\"\"}]}}",
+            "{\"jsonrpc\":\"2.0\",\"method\":\"textDocument/didChange\",\"params\":{\"textDocument\":{\"uri\":\"a\"},\"contentChanges\":[{\"range\":{\"start\":{\"line\":0,\"character\":0},\"end\":{\"line\":0,\"character\":1}},\"text\":\"          SX1     Q\"}]}}",
+            "{\"jsonrpc\":\"2.0\",\"method\":\"textDocument/didChange\",\"params\":{\"textDocument\":{\"uri\":\"a\"},\"contentChanges\":[{\"range\":{\"start\":{\"line\":2,\"character\":19},\"end\":{\"line\":2,\"character\":19}},\"text\":\" NOTE\"}]}}",
+            EXIT,
+        ],
+        Ok(false),
+        &[
+            UTF16,
+            "{\"jsonrpc\":\"2.0\",\"method\":\"textDocument/publishDiagnostics\",\"params\":{\"diagnostics\":[{\"code\":\"E\",\"message\":\"the program ends in a range that is open from line 1\",\"range\":{\"end\":{\"character\":13,\"line\":2},\"start\":{\"character\":10,\"line\":2}},\"severity\":1,\"source\":\"compass\"}],\"uri\":\"a\"}}",
+            "{\"jsonrpc\":\"2.0\",\"method\":\"textDocument/publishDiagnostics\",\"params\":{\"diagnostics\":[{\"code\":\"E\",\"message\":\"the program ends in a range that is open from line 2\",\"range\":{\"end\":{\"character\":13,\"line\":3},\"start\":{\"character\":10,\"line\":3}},\"severity\":1,\"source\":\"compass\"}],\"uri\":\"a\"}}",
+            "{\"jsonrpc\":\"2.0\",\"method\":\"textDocument/publishDiagnostics\",\"params\":{\"diagnostics\":[{\"code\":\"E\",\"message\":\"the program ends in a range that is open from line 2\",\"range\":{\"end\":{\"character\":13,\"line\":4},\"start\":{\"character\":10,\"line\":4}},\"severity\":1,\"source\":\"compass\"}],\"uri\":\"a\"}}",
+            "{\"jsonrpc\":\"2.0\",\"method\":\"textDocument/publishDiagnostics\",\"params\":{\"diagnostics\":[{\"code\":\"E\",\"message\":\"the program ends in a range that is open from line 2\",\"range\":{\"end\":{\"character\":13,\"line\":3},\"start\":{\"character\":10,\"line\":3}},\"severity\":1,\"source\":\"compass\"}],\"uri\":\"a\"}}",
+            "{\"jsonrpc\":\"2.0\",\"method\":\"textDocument/publishDiagnostics\",\"params\":{\"diagnostics\":[{\"code\":\"U\",\"message\":\"no line gives Q a value; it counts as 0\",\"range\":{\"end\":{\"character\":19,\"line\":0},\"start\":{\"character\":18,\"line\":0}},\"severity\":1,\"source\":\"compass\"},{\"code\":\"E\",\"message\":\"the program ends in a range that is open from line 2\",\"range\":{\"end\":{\"character\":13,\"line\":3},\"start\":{\"character\":10,\"line\":3}},\"severity\":1,\"source\":\"compass\"}],\"uri\":\"a\"}}",
+            "{\"jsonrpc\":\"2.0\",\"method\":\"textDocument/publishDiagnostics\",\"params\":{\"diagnostics\":[{\"code\":\"U\",\"message\":\"no line gives Q a value; it counts as 0\",\"range\":{\"end\":{\"character\":19,\"line\":0},\"start\":{\"character\":18,\"line\":0}},\"severity\":1,\"source\":\"compass\"},{\"code\":\"E\",\"message\":\"the program ends in a range that is open from line 2\",\"range\":{\"end\":{\"character\":13,\"line\":3},\"start\":{\"character\":10,\"line\":3}},\"severity\":1,\"source\":\"compass\"}],\"uri\":\"a\"}}",
         ],
     ),
     // no text is open under a URI; texts under two; each is closed once, and opened again in the place of itself

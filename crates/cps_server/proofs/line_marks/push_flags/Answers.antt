@@ -1,7 +1,7 @@
 use Rattle.std.proofs.Common.{length, ap, sym, ◌∙◌, arith}
 use Rattle.cps_state.specs.Flags.{has_flag}
 use Rattle.cps_server.proofs.FlagLemmas.{true-false}
-use Rattle.cps_server.proofs.LineLemmas.{AddsFlags-none, AddsFlags-some, card-within, length-outcomes}
+use Rattle.cps_server.proofs.LineLemmas.{ShowsFlags-none, ShowsFlags-some, card-within, length-outcomes}
 use Rattle.cps_server.proofs.line_marks.push_flags.Goals as goal
 
 pub overflow_add-number : goal.overflow_add-number
@@ -19,13 +19,13 @@ unreachable-requires-in_default-outcome c =
 
 pub returns-then-not-has_flag : goal.returns-then-not-has_flag
 returns-then-not-has_flag c =
-    AddsFlags-none c.args.document.now c.args.number c.session-session.result.now.lines c.in-Some.card.now c.in-Some-outcome.outcome.now c.args.marks.now.items
+    ShowsFlags-none c.args.document.now c.args.number c.session-session.result.now.lines c.in-Some.card.now c.in-Some-outcome.outcome.now c.args.marks.now.items
     c.session-session.ensures c.in-Some.ensures.line c.in-Some-outcome.ensures.outcome
     (ap has_flag (sym c.flags.ensures) ∙ sym c.has_flag.ensures ∙ c.if-not-has_flag.true)
 
 pub returns : goal.returns
 returns c =
-    AddsFlags-some c.args.document.now c.args.number c.session-session.result.now.lines c.in-Some.card.now c.traces-traces.result.now c.index-traces-number.result _
+    ShowsFlags-some c.args.document.now c.args.number c.session-session.result.now.lines c.in-Some.card.now c.traces-traces.result.now c.index-traces-number.result _
     c.in_ok-told.told.items c.deref.result.now c.args.marks.now.items c.push_causes.new.marks.items
     c.session-session.ensures c.requires c.in-Some.ensures.line c.traces-traces.ensures c.index-traces-number.is c.finals.ensures c.in_ok-told.ensures
     c.deref.ensures.value c.in_ok-push_causes.ensures

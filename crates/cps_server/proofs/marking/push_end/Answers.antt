@@ -9,7 +9,6 @@ use Rattle.cps_cause.specs.Letters.{letter_of}
 use Rattle.cps_server.specs.Document.{source_of_text}
 use Rattle.cps_server.specs.declared.mark_kind.MarkKind.TheVariants as kinds
 use Rattle.cps_server.specs.Marks.{Mark, MarksEnd}
-use Rattle.cps_server.proofs.MarkLemmas.{Adds-one}
 use Rattle.cps_server.proofs.marking.push_end.Goals as goal
 
 pub returns : goal.returns
@@ -23,9 +22,8 @@ returns c =
     let letter : letter_of c.in-Some.cause ≡ E =
     subst (λ (cause : Option Cause). IfSome cause (λ found. letter_of found ≡ E)) c.in-Some.is c.in_ok-cause.ensures.letter in
     let last : c.saturating_sub-last.result ≡ length source - 1 =
-    c.saturating_sub-last.ensures ∙ ap (λ (n : ℕ). n - 1) (c.count-count.ensures.count ∙ ap length c.session-session.ensures) in
-    record {
-      marks = place ∷ [];
-      end = subst (λ b. MarksEnd b (length source - 1) (place ∷ [])) ends (place, refl, last, ap (λ (l : Letter). kinds.Flag l) (c.letter-letter.ensures ∙ letter));
-      added = Adds-one _ place c.args.marks.now.items c.push.new.self.items c.in_ok-push.ensures.items refl;
-    }
+    c.saturating_sub-last.ensures ∙ ap (λ (n : ℕ). n - 1) (c.count-count.ensures.count ∙ ap length c.session-session.ensures) in (
+      place ∷ [],
+      subst (λ b. MarksEnd b (length source - 1) (place ∷ [])) ends (place, refl, last, ap (λ (l : Letter). kinds.Flag l) (c.letter-letter.ensures ∙ letter)),
+      c.in_ok-push.ensures,
+    )
