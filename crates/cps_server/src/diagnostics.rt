@@ -29,6 +29,15 @@ pub struct ToldText<'a> {
     pub version: Option<i64>,
 }
 
+/// Marks that aren't told one by one.
+#[derive(Clone, Copy)]
+struct MarksLeft<'a> {
+    /// The first of them at least.
+    marks: &'a [Mark],
+    /// How many there are in all.
+    count: usize,
+}
+
 // ---- the list
 
 /// The diagnostics of a document's text, as JSON with no blank in it: of its first 1,000 marks, and one that tells how many more there are.
@@ -47,7 +56,11 @@ pub fn list_of(
     let mut list = Vec::new(alloc);
     list.push(b'[')?;
     push_marks(alloc, encoding, document, first, &mut list)?;
-    push_more(alloc, encoding, document, next, more, &mut list)?;
+    let left = MarksLeft {
+        marks: next,
+        count: more,
+    };
+    push_more(alloc, encoding, document, left, &mut list)?;
     list.push(b']')?;
     Ok(list)
 }
@@ -89,18 +102,18 @@ fn push_more(
     alloc: Global,
     encoding: Encoding,
     document: &Document,
-    left: &[Mark],
-    count: usize,
+    left: MarksLeft<'_>,
     list: &mut Vec<u8>,
 ) -> Result<(), AllocError>
-    ensures { OnOk result (list.new.items ≡ list.old.items ++ counted_text encoding (source_lines document.now) (map place_of left.now) count) }
+    ensures { OnOk result (list.new.items ≡ list.old.items
+        ++ counted_text encoding (source_lines document.now) (map place_of left.entry.marks.now) left.entry.count) }
 {
-    let Some(mark) = left.first() else {
+    let Some(mark) = left.marks.first() else {
         return Ok(());
     };
     let line = line_of(document, mark.line);
     let stretch = Stretch::of(encoding, line, mark);
-    let message = message_of_more(alloc, count)?;
+    let message = message_of_more(alloc, left.count)?;
     list.push(b',')?;
     push_information(alloc, list, stretch, &message)
 }
