@@ -2,6 +2,7 @@ pub mod ArgumentLemmas
 pub mod CardLemmas
 pub mod DigitsLemmas
 pub mod ItemReading
+pub mod MaskLemmas
 pub mod NameLemmas
 pub mod OctalLemmas
 pub mod OrderLemmas

@@ -1,14 +1,14 @@
 //! The fields of a line.
 ghost use Rattle.std.specs.Prelude.{◌≡◌, ◌^◌, ◌<◌};
-ghost use Rattle.std.specs.List.{list_all};
-ghost use Rattle.cps_text.specs.Text.{is_blank};
 ghost use Rattle.cps_text.specs.Card.{card, is_comment, is_continued, location_of, operation_at, fields_of, statement_of};
 ghost use Rattle.cps_text.specs.CardFields.{statement_value, fields_value};
 ghost use Rattle.cps_text.specs.CardIn.{card_in};
+ghost use Rattle.cps_text.specs.Code.MaskedCard.{IsMasked};
 ghost use Rattle.cps_text.specs.Columns.{IsCard};
 
 use crate::limits::MOST_CHARACTERS;
-use crate::places::{field_from, filled_from, from};
+use crate::masked_card::MaskedCard;
+use crate::places::from;
 
 /// The last column, from 1, that is read.
 const LAST_COLUMN: usize = 72;
@@ -46,10 +46,10 @@ pub fn read_fields(line: &[u8]) -> Fields<'_>
     ensures fields { fields_value result ≡ fields_of line.now }
     ensures rule { IsCard line.now (fields_value result) }
 {
-    let card = read_columns(line);
+    let card = MaskedCard::of(read_columns(line));
     if is_comment(card) {
         Fields::Comment
-    } else if is_continued(card) {
+    } else if is_continued(card.text) {
         Fields::Continued
     } else {
         Fields::Statement(statement_fields(card))
@@ -78,10 +78,11 @@ pub fn read_columns(line: &[u8]) -> &[u8]
 }
 
 /// Whether the columns of a line are a comment.
-pub fn is_comment(card: &[u8]) -> bool
-    ensures { result ≡ is_comment card.now }
+pub(crate) fn is_comment(card: MaskedCard<'_>) -> bool
+    requires { IsMasked card }
+    ensures { result ≡ is_comment card.entry.text.now }
 {
-    (!card.is_empty() && card[0] == b'*') || all_blank(card)
+    (!card.text.is_empty() && card.text[0] == b'*') || card.is_blank()
 }
 
 fn is_continued(card: &[u8]) -> bool
@@ -90,48 +91,44 @@ fn is_continued(card: &[u8]) -> bool
     !card.is_empty() && card[0] == b','
 }
 
-fn statement_fields(card: &[u8]) -> StatementFields<'_>
-    ensures { statement_value result ≡ statement_of card.now }
+fn statement_fields(card: MaskedCard<'_>) -> StatementFields<'_>
+    requires { IsMasked card }
+    ensures { statement_value result ≡ statement_of card.entry.text.now }
 {
     let (location, operation_at) = location(card);
-    let (operation, operation_end) = field_from(card, operation_at);
-    let next_at = filled_from(card, operation_end);
+    let (operation, operation_end) = card.field_from(operation_at);
+    let next_at = card.filled_from(operation_end);
     if next_at < LAST_VARIABLE_COLUMN {
-        let (variable, variable_end) = field_from(card, next_at);
+        let (variable, variable_end) = card.field_from(next_at);
         StatementFields {
             location,
             operation,
             variable,
-            comment: from(card, filled_from(card, variable_end)),
-            tail: from(card, next_at),
+            comment: from(card.text, card.filled_from(variable_end)),
+            tail: from(card.text, next_at),
         }
     } else {
         StatementFields {
             location,
             operation,
             variable: &[],
-            comment: from(card, next_at),
+            comment: from(card.text, next_at),
             tail: &[],
         }
     }
 }
 
-fn all_blank(card: &[u8]) -> bool
-    ensures { result ≡ list_all is_blank card.now }
-{
-    card.iter().all(|byte| *byte == b' ')
-}
-
 /// The location field, nothing where there is none, and where the operation field begins.
-fn location(card: &[u8]) -> (&[u8], usize)
-    ensures field { result.0.now ≡ location_of card.now }
-    ensures operation { result.1 ≡ operation_at card.now }
+fn location(card: MaskedCard<'_>) -> (&[u8], usize)
+    requires { IsMasked card }
+    ensures field { result.0.now ≡ location_of card.entry.text.now }
+    ensures operation { result.1 ≡ operation_at card.entry.text.now }
     ensures near { result.1 < 2 ^ 63 }
 {
-    let first = filled_from(card, 0);
+    let first = card.filled_from(0);
     if first >= LAST_LOCATION_COLUMN {
         return (&[], first);
     }
-    let (location, end) = field_from(card, first);
-    (location, filled_from(card, end.max(LAST_LOCATION_COLUMN)))
+    let (location, end) = card.field_from(first);
+    (location, card.filled_from(end.max(LAST_LOCATION_COLUMN)))
 }

@@ -5,6 +5,7 @@ ghost use Rattle.cps_text.specs.Insertion.{is_of_run, pairs_value, text_of, text
 ghost use Rattle.cps_text.specs.Runs.{runs};
 
 use crate::card::{is_comment, read_columns};
+use crate::masked_card::MaskedCard;
 use crate::name::Name;
 use crate::run::run_len;
 use std::alloc::{AllocError, Global};
@@ -57,7 +58,7 @@ pub fn insert_by<S: Substitution>(
 ) -> Result<Vec<u8>, AllocError>
     ensures { IfOk result (λ text. text.items ≡ inserted (S.pairs substitution.now) body.now) }
 {
-    if is_comment(read_columns(body)) {
+    if is_comment(MaskedCard::of(read_columns(body))) {
         body.to_vec(alloc)
     } else {
         replace_runs(alloc, body, substitution)

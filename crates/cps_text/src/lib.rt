@@ -10,6 +10,7 @@
 //! - `insertion.rt`: arguments and generated names, put into a line of a macro's body
 //! - `limits.rt`: the limits of a source and of an assembly, each once
 //! - `line.rt`: a line of a source
+//! - `masked_card.rt`: the columns of a card, with a mask of those that are filled
 //! - `name.rt`: symbols and generated names
 //! - `octal.rt`: numbers in octal
 //! - `operand.rt`: the first operand of a text
@@ -31,6 +32,7 @@ mod data_item;
 mod insertion;
 pub mod limits;
 mod line;
+mod masked_card;
 mod name;
 mod octal;
 mod operand;
