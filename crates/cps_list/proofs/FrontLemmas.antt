@@ -4,6 +4,9 @@ use Rattle.std.proofs.lemmas.List.{append-nil, replicate-append-replicate, take-
 use Rattle.cps_text.specs.Octal.{octal}
 use Rattle.std.proofs.Math.Seq.{take-append-add, drop-append-add, drop-append_seam, take-length}
 use Rattle.std.proofs.Math.ListN.{drop_of_length-le}
+use Rattle.std.proofs.lemmas.Slice.{take-put_mid, drop-put_mid}
+use borrow.Rule.Slice.PartMut.{put_mid}
+use Rattle.std.specs.Prelude.{codes}
 use Rattle.std.specs.Prelude.{if◌then◌else◌}
 use Rattle.cps_list.specs.Columns.{Column, at_left, at_right, blanks, laid_out, with_column}
 use Rattle.cps_state.specs.Flags.{letter, letters}
@@ -195,3 +198,30 @@ front-filled text begun all before is at few =
 -- how long a front is
 pub front-long : (front begun : List ℕ) (columns : ℕ) → IsFront front begun columns → columns ≤ 44 → length front ≡ 44
 front-long front begun columns is most = ap length is.filled ∙ at_left-length begun 44 (let within = is.within in omega (arith, within, most))
+
+-- the row of a word, over the blanks of which an address is written and then the word
+abbrev blank_row : List ℕ
+blank_row = codes "                           \n"
+
+pub central-room : (address row : List ℕ) → row ≡ blank_row → length address ≡ 6 → length (take 20 (drop 7 (address ++ drop 6 row))) ≡ 20
+central-room address row is six =
+    let rest : address ++ drop 6 row ≡ address ++ drop 6 blank_row = ap (λ r. address ++ drop 6 r) is in
+    let behind : drop 7 (address ++ drop 6 blank_row) ≡ drop 1 (drop 6 blank_row) =
+    ap (λ n. drop (n + 1) (address ++ drop 6 blank_row)) (sym six) ∙ drop-append-add address (drop 6 blank_row) 1 in
+    ap (λ r. length (take 20 (drop 7 r))) rest ∙ ap (λ r. length (take 20 r)) behind
+
+pub central-written : (row address word : List ℕ) → row ≡ blank_row → length address ≡ 6 → length word ≡ 20
+    → put_mid 7 20 (address ++ drop 6 row) word ≡ address ++ codes " " ++ word ++ codes "\n"
+central-written row address word is six twenty =
+    let rest = drop 6 blank_row in
+    let begun = address ++ rest in
+    let long : length begun ≡ 28 = length-append address rest ∙ ap (λ n. n + 22) six in
+    let whole = put_mid 7 20 begun word in
+    let front : take 27 whole ≡ (address ++ codes " ") ++ word =
+    take-put_mid 7 20 begun word 27 (omega (arith, twenty)) (omega (arith, long))
+    ∙ ap (λ t. t ++ word) (ap (λ n. take (n + 1) begun) (sym six) ∙ take-append-add address rest 1) in
+    let back : drop 27 whole ≡ codes "\n" =
+    drop-put_mid 7 20 begun word 27 (omega arith) (omega (arith, long)) (omega (arith, twenty))
+    ∙ ap (λ n. drop (n + 21) begun) (sym six) ∙ drop-append-add address rest 21 in
+    ap (λ r. put_mid 7 20 (address ++ drop 6 r) word) is
+    ∙ sym (take-append-drop 27 whole) ∙ (λ i. front i ++ back i)

@@ -12,18 +12,14 @@ use cps_code::{Piece, Words};
 use cps_expr::Machine;
 use cps_final::{Finals, Gathered};
 use cps_state::{limit_of, word_bits};
-use cps_text::{Name, push_octal};
+use cps_text::{Name, push_octal, write_octal};
 use std::alloc::AllocError;
 
-/// The octal digits of an address and of a word of the central processor.
-const CP_ADDRESS_DIGITS: u8 = 6;
-
-const CP_WORD_DIGITS: u8 = 20;
+/// A row of a word of the central processor: six octal digits of the address, a blank and twenty of the word.
+const BLANK_ROW: &[u8; 28] = b"                           \n";
 
 /// The octal digits of an address and of a word of a peripheral processor.
-const PP_ADDRESS_DIGITS: u8 = 4;
-
-const PP_WORD_DIGITS: u8 = 4;
+const PP_DIGITS: u8 = 4;
 
 /// The bits of a word that are behind those of a peripheral processor.
 const BITS_BEHIND: u32 = 48;
@@ -129,27 +125,37 @@ fn push_row(
         return Ok(());
     };
     match machine {
-        Machine::Cp => push_numbers(text, address, CP_ADDRESS_DIGITS, word, CP_WORD_DIGITS),
-        Machine::Pp => {
-            let own = word >> BITS_BEHIND;
-            push_numbers(text, address, PP_ADDRESS_DIGITS, own, PP_WORD_DIGITS)
-        }
+        Machine::Cp => push_central(text, address, word),
+        Machine::Pp => push_peripheral(text, address, word >> BITS_BEHIND),
     }
 }
 
-/// An address and a word, each with so many digits.
-fn push_numbers(
-    text: &mut Vec<u8>,
-    address: u32,
-    address_digits: u8,
-    word: u64,
-    word_digits: u8,
-) -> Result<(), AllocError>
-    ensures { OnOk result (text.new.items ≡ text.old.items ++ (octal address_digits address ++ codes " " ++ octal word_digits word ++ codes "\n")) }
+/// The row of a word of the central processor.
+fn push_central(text: &mut Vec<u8>, address: u32, word: u64) -> Result<(), AllocError>
+    ensures { OnOk result (text.new.items ≡ text.old.items ++ (octal 6 address ++ codes " " ++ octal 20 word ++ codes "\n")) }
 {
-    push_octal(text, u64::from(address), address_digits)?;
+    let mut row = *BLANK_ROW;
+    write_central(&mut row, address, word);
+    text.extend_from_slice(&row)
+}
+
+/// Writes the digits of a word of the central processor over the blanks of a row.
+#[inline(always)]
+fn write_central(row: &mut [u8], address: u32, word: u64)
+    requires { row.old ≡ codes "                           \n" }
+    ensures { row.new ≡ octal 6 address ++ codes " " ++ octal 20 word ++ codes "\n" }
+{
+    write_octal(&mut row[..6], u64::from(address));
+    write_octal(&mut row[7..27], word);
+}
+
+/// The row of a word of a peripheral processor.
+fn push_peripheral(text: &mut Vec<u8>, address: u32, word: u64) -> Result<(), AllocError>
+    ensures { OnOk result (text.new.items ≡ text.old.items ++ (octal 4 address ++ codes " " ++ octal 4 word ++ codes "\n")) }
+{
+    push_octal(text, u64::from(address), PP_DIGITS)?;
     text.push(b' ')?;
-    push_octal(text, word, word_digits)?;
+    push_octal(text, word, PP_DIGITS)?;
     text.push(b'\n')?;
     Ok(())
 }
