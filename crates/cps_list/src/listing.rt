@@ -1,5 +1,6 @@
 //! The listing.
-ghost use Rattle.std.specs.Prelude.{◌≡◌, ◌++◌, ◌+◌, ◌≤◌, ℕ, List, IsTrue, OnOk, true, length, take};
+ghost use Rattle.std.specs.Prelude.{◌≡◌, ◌++◌, ◌+◌, ◌≤◌, ℕ, List, IsTrue, OnOk, true, false, length, take};
+ghost use Rattle.cps_state.specs.Flags.{has_flag};
 ghost use Rattle.cps_list.specs.Columns.{with_columns, at_right, laid_out};
 ghost use Rattle.cps_list.specs.Code.Front.{HasFront, HasRow, IsNarrow, RowBecomes, front_columns, with_text};
 ghost use Rattle.cps_list.specs.Listing.{code_text, second_text};
@@ -95,8 +96,31 @@ fn later_columns(row: &Row) -> usize
     }
 }
 
-/// The columns before the line: the flags, and blanks over which the others are written.
+/// The columns before the line.
 fn push_front(text: &mut Vec<u8>, number: u32, row: &Row) -> Result<(), AllocError>
+    requires { IsNarrow row.now }
+    ensures { OnOk result (HasFront text.old.items text.new.items (front_columns number row.now)) }
+{
+    if row.flags.has_flag() {
+        push_flagged_front(text, number, row)
+    } else {
+        push_plain_front(text, number, row)
+    }
+}
+
+/// Those of a row without a flag: blanks over which they are written.
+fn push_plain_front(text: &mut Vec<u8>, number: u32, row: &Row) -> Result<(), AllocError>
+    requires narrow { IsNarrow row.now }
+    requires plain { has_flag row.now.flags ≡ false }
+    ensures { OnOk result (HasFront text.old.items text.new.items (front_columns number row.now)) }
+{
+    let mut front = [b' '; BEFORE_LINE];
+    write_front(&mut front, number, row);
+    text.extend_from_slice(&front)
+}
+
+/// Those of any row: the flags, and blanks over which the others are written.
+fn push_flagged_front(text: &mut Vec<u8>, number: u32, row: &Row) -> Result<(), AllocError>
     requires { IsNarrow row.now }
     ensures { OnOk result (HasFront text.old.items text.new.items (front_columns number row.now)) }
 {

@@ -6,7 +6,7 @@ use Rattle.std.proofs.Math.ListN.{drop_of_length-le}
 use Rattle.cps_state.specs.Flags.{letters}
 use Rattle.cps_list.specs.Columns.{at_left}
 use Rattle.cps_list.proofs.FrontLemmas.{at_left-length, end-written, front-filled, front-long, letters-length}
-use Rattle.cps_list.proofs.listing.push_front.Goals as goal
+use Rattle.cps_list.proofs.listing.push_flagged_front.Goals as goal
 
 pub write_front-requires-clause-columns : goal.write_front-requires-clause-columns
 write_front-requires-clause-columns c =
