@@ -82,9 +82,21 @@ fn write_at_right(front: &mut [u8], shown: &[u8])
     front[end - shown.len()..end].copy_from_slice(shown);
 }
 
+/// Writes a text behind so many columns.
+#[inline(always)]
+pub fn write_text_at(front: &mut [u8], before: usize, shown: &[u8])
+    requires columns { length front.old ≡ 44 }
+    requires within { before + length shown.now ≤ 44 }
+    ensures columns { length front.new ≡ 44 }
+    ensures front { (begun : List ℕ) → IsFront front.old begun before
+        → IsFront front.new (with_text begun (before + 1) shown.now) (before + length shown.now) }
+{
+    front[before..before + shown.len()].copy_from_slice(shown);
+}
+
 /// Writes a number's octal digits behind so many columns.
 #[inline(always)]
-fn write_octal_at(front: &mut [u8], before: usize, number: u64, digits: u8)
+pub fn write_octal_at(front: &mut [u8], before: usize, number: u64, digits: u8)
     requires columns { length front.old ≡ 44 }
     requires within { before + digits ≤ 44 }
     ensures columns { length front.new ≡ 44 }

@@ -1,11 +1,15 @@
 //! The cross-reference.
-ghost use Rattle.std.specs.Prelude.{◌≡◌, ◌++◌, ◌<◌, OnOk};
+ghost use Rattle.std.specs.Prelude.{◌≡◌, ◌++◌, ◌<◌, ℕ, List, [], OnOk, length};
 ghost use Rattle.std.specs.List.{prefix_len};
 ghost use Rattle.std.specs.List.Sorted.{IsSortedByKey};
 ghost use Rattle.cps_expr.specs.Value.{same_name};
+ghost use Rattle.cps_text.specs.Name.{name_text};
+ghost use Rattle.cps_list.specs.Columns.{at_left};
+ghost use Rattle.cps_list.specs.Code.Front.{IsFront, with_text};
 ghost use Rattle.cps_list.specs.Symbols as texts;
 
-use crate::columns::{fill_columns, push_decimal};
+use crate::columns::{BEFORE_LINE, push_decimal};
+use crate::front::{write_octal_at, write_text_at};
 use crate::mention::Mention;
 use cps_code::complement;
 use cps_expr::Value;
@@ -70,14 +74,44 @@ pub fn push_symbol(
 ) -> Result<(), AllocError>
     ensures { OnOk result (text.new.items ≡ text.old.items ++ texts.row_of (⟦<Finals as Gathered>⟧.gathered finals.now) name mentions.now) }
 {
-    let before = text.len();
-    text.extend_from_slice(name.text())?;
-    fill_columns(text, before, BEFORE_VALUE)?;
-    push_value(text, symbol_value(finals, name))?;
-    fill_columns(text, before, BEFORE_LINES)?;
+    push_front(text, name, symbol_value(finals, name))?;
     push_lines(text, mentions)?;
     text.push(b'\n')?;
     Ok(())
+}
+
+/// The columns before the lines.
+fn push_front(text: &mut Vec<u8>, name: Name, value: Option<Value>) -> Result<(), AllocError>
+    ensures { OnOk result (text.new.items ≡ text.old.items ++ at_left 30 (with_text (name_text name) 10 (texts.value_text value))) }
+{
+    let mut front = [b' '; BEFORE_LINE];
+    write_symbol(&mut front, name, value);
+    text.extend_from_slice(&front[..BEFORE_LINES])?;
+    Ok(())
+}
+
+/// Writes a symbol and its value over blanks.
+#[inline(always)]
+fn write_symbol(front: &mut [u8], name: Name, value: Option<Value>)
+    requires columns { length front.old ≡ 44 }
+    requires blank { IsFront front.old [] 0 }
+    ensures { IsFront front.new (with_text (name_text name) 10 (texts.value_text value)) 29 }
+{
+    write_text_at(front, 0, name.text());
+    write_value(front, value);
+}
+
+/// Writes the value of a symbol behind its name, or that there is none.
+#[inline(always)]
+fn write_value(front: &mut [u8], value: Option<Value>)
+    requires { length front.old ≡ 44 }
+    ensures columns { length front.new ≡ 44 }
+    ensures front { (begun : List ℕ) → IsFront front.old begun 9 → IsFront front.new (with_text begun 10 (texts.value_text value)) 29 }
+{
+    match value {
+        Some(value) => write_octal_at(front, BEFORE_VALUE, complement(value.offset), VALUE_DIGITS),
+        None => write_text_at(front, BEFORE_VALUE, b"undefined"),
+    }
 }
 
 /// The final value of a symbol: the last that SET gave, or that of the label.
