@@ -1,6 +1,7 @@
 //! The texts of a source, made in one walk over its lines.
 ghost use Rattle.std.specs.Prelude.{◌≡◌, [], ◌++◌, ◌+◌, ◌<◌, ◌≤◌, ◌^◌, map, IfOk, OnOk};
 ghost use Rattle.cps_code.specs.Image.{piece_of};
+ghost use Rattle.cps_final.specs.Outcome.{flags_of};
 ghost use Rattle.cps_list.specs.Flagged.{flag_row, end_row, count_row};
 ghost use Rattle.cps_list.specs.ListingText.{line_rows, open_row};
 ghost use Rattle.cps_list.specs.Code.Making.{Adds, AddsLine, AddsRows, Finishes, IsPrintoutOf, binary_of, shown};
@@ -66,7 +67,7 @@ impl Printout {
         ensures few { OnOk result (self.new.flagged ≤ number) }
     {
         let part = self.part;
-        let flags = flags_of(rows);
+        let flags = flags_in(rows);
         add_listing(&mut self.listing, part.shows_listing(), number, line, rows)?;
         add_words(&mut self.words, part.shows_binary(), pieces)?;
         add_flags(&mut self.flags, part.shows_flags(), number, flags)?;
@@ -99,6 +100,16 @@ impl Printout {
         show_symbols(&mut text, part.shows_symbols(), mentions, finals)?;
         show_flags(&mut text, part.shows_flags(), &flags, is_open, count)?;
         Ok((text, count))
+    }
+}
+
+/// The flags of all rows of a line. Most lines have one row, and these are its flags.
+fn flags_in(rows: &[Row]) -> Flags
+    ensures { result ≡ flags_of rows.now }
+{
+    match rows {
+        [row] => row.flags,
+        _ => flags_of(rows),
     }
 }
 

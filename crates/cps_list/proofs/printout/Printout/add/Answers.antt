@@ -17,5 +17,5 @@ returns-clause-printout c = λ lines outcomes outcome so at are_rows are_pieces.
     (subst (IsPrintoutOf lines outcomes) (sym c.self.view_is) so) at are_rows are_pieces
     (c.in_ok-add_listing.ensures ∙ ap (λ is_shown. old.listing.items ++ shown is_shown (line_rows c.args.number c.args.line.now rows)) c.shows_listing.ensures)
     (subst (λ is_shown. Adds (shown is_shown pieces) old.words c.add_words.new.words) c.shows_binary.ensures c.in_ok-add_words.ensures)
-    (c.in_ok-add_flags.ensures ∙ (λ i. old.flags.items ++ shown (c.shows_flags.ensures i) (flag_row c.args.number (c.flags_of-flags.ensures i))))
-    (ap (λ n. old.flagged + n) (c.count_of.ensures.count ∙ ap (λ flags. count_if (has_flag flags)) c.flags_of-flags.ensures))
+    (c.in_ok-add_flags.ensures ∙ (λ i. old.flags.items ++ shown (c.shows_flags.ensures i) (flag_row c.args.number (c.flags_in-flags.ensures i))))
+    (ap (λ n. old.flagged + n) (c.count_of.ensures.count ∙ ap (λ flags. count_if (has_flag flags)) c.flags_in-flags.ensures))
