@@ -116,7 +116,7 @@ key-at m i name size at = slice_get-map (λ (e : Name × ℕ). e.0) m.entries i 
 
 -- ---- maps with the same entries
 
-same_name-is : (a b : Name) → same_name a b ≡ true → a ≡ b
+pub same_name-is : (a b : Name) → same_name a b ≡ true → a ≡ b
 same_name-is a b same = let bytes = (bytes_decides a.bytes b.bytes).0 same in λ i. record { bytes = bytes i }
 
 same_entry : Name × ℕ → Name × ℕ → Bool

@@ -1,6 +1,6 @@
 -- What is gathered of some lines, and of one line more.
 use Rattle.std.proofs.Common.{◌≡◌, ℕ, Bool, true, false, not, ◌||◌, List, [], ◌∷◌, ◌++◌, filter, Option, None, Some, max, refl, sym, ap, ◌∙◌, append-nil, append_assoc, arith, Result, Ok, Err}
-use Rattle.std.specs.Prelude.{OnOk, OnErr, flat_map, nat_eq, if◌then◌else◌}
+use Rattle.std.specs.Prelude.{OnErr, flat_map, nat_eq, if◌then◌else◌}
 use Rattle.std.specs.Cmp.{IsEquivalence, nat_eq_equiv}
 use Rattle.std.specs.List.{list_any}
 use Rattle.std.specs.Option.{option_or}
@@ -90,7 +90,7 @@ overwritten-append state (p ∷ puts) more = overwritten-append (with_put state 
 puts-more : (traces : List Trace) (trace : Trace) → puts_of (traces ++ trace ∷ []) ≡ puts_of traces ++ trace.puts
 puts-more traces trace = flat_map-append (λ (t : Trace). t.puts) traces (trace ∷ []) ∙ ap (λ (l : List Put). puts_of traces ++ l) (append-nil trace.puts)
 
-or-assoc : {T : Type 0} (a b c : Option T) → option_or (option_or a b) c ≡ option_or a (option_or b c)
+pub or-assoc : {T : Type 0} (a b c : Option T) → option_or (option_or a b) c ≡ option_or a (option_or b c)
 or-assoc None b c = refl
 or-assoc (Some x) b c = refl
 

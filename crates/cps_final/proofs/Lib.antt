@@ -3,6 +3,7 @@ pub mod ExchangeLemmas
 pub mod KeptLemmas
 pub mod BlockLemmas
 pub mod GatherLemmas
+pub mod JoinLemmas
 pub mod PatchLemmas
 mod PlaceLemmas
 pub mod AloneLemmas

@@ -1,5 +1,5 @@
 //! How large the blocks of a source are.
-ghost use Rattle.std.specs.Prelude.{◌≡◌, ◌↔◌, IfOk, IsTrue, ◌≤◌, ◌<◌, ◌+◌, ◌*◌, ◌^◌, [], OnOk, IfSome, length, position};
+ghost use Rattle.std.specs.Prelude.{◌≡◌, ◌↔◌, IfOk, IsTrue, ◌≤◌, ◌<◌, ◌+◌, ◌*◌, ◌^◌, [], OnOk, OnErr, IfSome, length, position};
 ghost use Rattle.cps_code.specs.Place.{position as bits_before};
 ghost use Rattle.cps_expr.specs.declared.machine.Machine.TheVariants.{Cp};
 ghost use Rattle.cps_state.specs.declared.key.Key.TheVariants.{Counter};
@@ -8,7 +8,7 @@ ghost use Rattle.cps_state.specs.Machines.{limit};
 ghost use Rattle.cps_final.specs.Layout.{layout_of, named_by, names_put, words_before};
 ghost use Rattle.cps_final.specs.Finals.{words_of_first};
 ghost use Rattle.cps_final.specs.Code.Gathering.{layout_kept, grown, grown_by, grown_to};
-ghost use Rattle.cps_final.specs.Code.Storage.{AreSameNamed};
+ghost use Rattle.cps_final.specs.Code.Storage.{AreJoined, AreSameNamed};
 ghost use Rattle.indexmap.specs.IndexMap.{spare, keys};
 
 use cps_code::Place;
@@ -81,6 +81,23 @@ impl Blocks {
         for put in puts {
             self.put(put);
         }
+    }
+
+    /// With the words of blocks behind these. Where there is no memory, nothing changes.
+    pub fn join(&mut self, other: &Blocks) -> Result<(), AllocError>
+        ensures ok { OnOk result (AreJoined self.old other.now self.new) }
+        ensures err { OnErr result (layout_kept self.new.nominal self.new.named ≡ layout_kept self.old.nominal self.old.named) }
+    {
+        let count = other.named.len();
+        self.named.reserve(count)?;
+        self.put_words(None, other.nominal);
+        for index in 0..count {
+            let Some((name, words)) = other.named.get_index(index) else {
+                unreachable!();
+            };
+            self.put_words(Some(*name), *words);
+        }
+        Ok(())
     }
 
     fn put(&mut self, put: &Put)

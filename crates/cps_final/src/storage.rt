@@ -6,7 +6,7 @@ ghost use Rattle.cps_final.specs.Finals.{first_program, words_to_named, base_of,
 ghost use Rattle.cps_final.specs.Code.Gathering.{grown_by, layout_kept};
 ghost use Rattle.cps_final.specs.Addresses.{base_in, final_of};
 ghost use Rattle.cps_final.specs.Pool.{literals_among};
-ghost use Rattle.cps_final.specs.Code.Storage.{stored, IsStored, StoresMore, HasRoom, PlacesStand};
+ghost use Rattle.cps_final.specs.Code.Storage.{stored, IsStored, StoresBehind, StoresMore, HasRoom, PlacesStand};
 ghost use Rattle.indexmap.specs.IndexSet.{insert_all, insert_key, spare};
 
 use crate::blocks::Blocks;
@@ -74,6 +74,19 @@ impl Storage {
     {
         let literals = self.make_room(trace.puts(), trace.items())?;
         self.take(trace.puts(), trace.items(), &literals);
+        Ok(())
+    }
+
+    /// With all that was kept of lines behind these, in one step for each block and literal. Where there is no memory, nothing changes.
+    pub fn join(&mut self, other: &Storage) -> Result<(), AllocError>
+        ensures ok { OnOk result (StoresBehind self.old other.now self.new) }
+        ensures err { OnErr result (stored self.new ≡ stored self.old) }
+    {
+        let literals = other.pool();
+        self.pool.reserve(literals.len())?;
+        self.blocks.join(&other.blocks)?;
+        insert_literals(&mut self.pool, literals);
+        self.program = self.program.or(other.program);
         Ok(())
     }
 

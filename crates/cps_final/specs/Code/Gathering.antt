@@ -32,3 +32,10 @@ grown_to layout block words = record {
   named = insert_all same_name layout.named (named_by (key.Counter block));
   size = λ other. max (layout.size other) (if same_block other block then words else 0);
 }
+
+-- a layout in which blocks have at least the words that they have in another, the nominal one and these named ones
+abbrev pub grown_as : Layout → List Name → Layout → Layout
+grown_as other names layout = fold (λ (so_far : Layout) (name : Name). grown_to so_far (Some name) (other.size (Some name))) layout names
+
+abbrev pub joined : Layout → Layout → Layout
+joined layout other = grown_as other other.named (grown_to layout None (other.size None))

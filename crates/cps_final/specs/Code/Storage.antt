@@ -1,16 +1,15 @@
 -- For the code that keeps final values, not part of what a reader believes: where blocks and literals stand, apart from what stands at keys.
-use Rattle.std.specs.Prelude.{◌≡◌, ◌≤◌, ℕ, List, [], ◌∷◌, ◌++◌, length, Option, Some, nat_eq}
+use Rattle.std.specs.Prelude.{◌≡◌, ◌≤◌, ℕ, List, [], ◌∷◌, ◌++◌, length, Option, Some}
 use Rattle.indexmap.specs.IndexMap.{spare}
-use Rattle.indexmap.specs.IndexSet.{insert_all, spare as set_spare}
-use Rattle.std.specs.Option.{option_or}
+use Rattle.indexmap.specs.IndexSet.{spare as set_spare}
 use Rattle.cps_state.specs.declared.key.Put.{Put}
 use Rattle.cps_state.specs.Course.{Trace}
-use Rattle.cps_state.specs.Keys.{first_state, overwritten}
+use Rattle.cps_state.specs.Keys.{first_state}
 use Rattle.cps_text.specs.declared.name.Name.{Name}
-use Rattle.cps_final.specs.Finals.{Finals, finals_of, final_value, first_program, block, literal}
+use Rattle.cps_final.specs.Finals.{Finals, finals_of, final_value, block, literal}
 use Rattle.cps_final.specs.Layout.{Layout, names_put}
-use Rattle.cps_final.specs.Code.Gathering.{grown_by, layout_kept}
-use Rattle.cps_final.specs.Pool.{literals_in}
+use Rattle.cps_final.specs.Code.Gathering.{joined, layout_kept}
+use Rattle.cps_final.specs.declared.blocks.Blocks.{Blocks}
 use Rattle.cps_final.specs.declared.storage.Storage.{Storage}
 
 -- what is kept, as if nothing had been put
@@ -30,10 +29,18 @@ IsStored storage traces = stored storage ≡ record (finals_of traces) { state =
 abbrev pub StoresMore : Storage → Storage → Trace → Type 0
 StoresMore old new trace = (traces : List Trace) → IsStored old traces → IsStored new (traces ++ trace ∷ [])
 
+-- with that of lines behind
+abbrev pub StoresBehind : Storage → Storage → Storage → Type 0
+StoresBehind old other new = (before behind : List Trace) → IsStored old before → IsStored other behind → IsStored new (before ++ behind)
+
 -- there is room for what a line puts, and for these literals
 pub record HasRoom (storage : Storage) (puts : List Put) (literals : List ℕ) : Type 0 where
   pub blocks : length (names_put puts) ≤ spare storage.blocks.named
   pub pool : length literals ≤ set_spare storage.pool
+
+-- blocks with the words of others behind them
+abbrev pub AreJoined : Blocks → Blocks → Blocks → Type 0
+AreJoined old other new = layout_kept new.nominal new.named ≡ joined (layout_kept old.nominal old.named) (layout_kept other.nominal other.named)
 
 -- the same named blocks in the same order, each with as many words
 pub record AreSameNamed (a b : Layout) : Type 0 where
