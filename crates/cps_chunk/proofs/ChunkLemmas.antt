@@ -10,6 +10,8 @@ use Rattle.cps_state.specs.declared.key.Key.{Key}
 use Rattle.cps_state.specs.Course.{Trace}
 use Rattle.cps_final.specs.Code.RunGathering.{KeptRun, kept_run}
 use Rattle.cps_final.specs.NamedFinals.{NamedFinals, names_in}
+use Rattle.cps_final.specs.Code.Storage.{IsStored}
+use Rattle.cps_final.specs.declared.storage.Storage.{Storage}
 use Rattle.cps_chunk.specs.declared.chunk.Chunk.{Chunk}
 use Rattle.cps_chunk.specs.declared.key_filter.KeyFilter.{KeyFilter}
 use Rattle.cps_chunk.specs.KeyFilter.{AreMarked, HasAll, puts_at, asks_at, names_at, keys_put, keys_asked, keys_named}
@@ -38,7 +40,7 @@ module _ (hashing : Hashing) where
 
   pub was-marked : (t : Trace) (old : Chunk) (puts asks names : KeyFilter) → AreMarked hashing puts (keys_put (t ∷ [])) → HasAll old.puts puts → AreMarked hashing asks (keys_asked (t ∷ []))
       → HasAll old.reads asks → AreMarked hashing names (keys_named (t ∷ [])) → HasAll asks names
-      → WasMarked hashing t old (record { lines = old.lines; puts = puts; reads = names; run = None; names = None })
+      → WasMarked hashing t old (record { lines = old.lines; puts = puts; reads = names; run = None; names = None; storage = None })
   was-marked t old puts asks names put put_kept asked asked_kept named named_kept = record {
     kept_puts = put_kept;
     kept_reads = λ n h. named_kept n (asked_kept n h);
@@ -47,6 +49,7 @@ module _ (hashing : Hashing) where
     names = named;
     no_run = refl;
     no_names = refl;
+    no_storage = refl;
   }
 
   -- nothing is gathered
@@ -56,14 +59,18 @@ module _ (hashing : Hashing) where
   names-none : (ts : List Trace) (c : Chunk) → c.names ≡ None → IfSome c.names (λ names. names ≡ names_in ts)
   names-none ts c none = subst (λ (names : Option NamedFinals). IfSome names (λ names. names ≡ names_in ts)) (sym none) tt
 
-  pub chunk-none : (c : Chunk) → c.lines ≡ 0 → c.run ≡ None → c.names ≡ None → IsChunkOf hashing [] c
-  chunk-none c none no_run no_names = record {
+  storage-none : (ts : List Trace) (c : Chunk) → c.storage ≡ None → IfSome c.storage (λ storage. IsStored storage ts)
+  storage-none ts c none = subst (λ (storage : Option Storage). IfSome storage (λ storage. IsStored storage ts)) (sym none) tt
+
+  pub chunk-none : (c : Chunk) → c.lines ≡ 0 → c.run ≡ None → c.names ≡ None → c.storage ≡ None → IsChunkOf hashing [] c
+  chunk-none c none no_run no_names no_storage = record {
     lines = sym none;
     puts = refl;
     asks = refl;
     names = refl;
     run = run-none [] c no_run;
     names_kept = names-none [] c no_names;
+    storage = storage-none [] c no_storage;
   }
 
   pub chunk-set : (old new : Chunk) (t : Trace) → new.lines ≡ old.lines → WasMarked hashing t old new → (ts : List Trace) (i : ℕ) → IsChunkOf hashing ts old → IsChunkOf hashing (set ts i t) new
@@ -74,6 +81,7 @@ module _ (hashing : Hashing) where
     names = marked-set new.reads names_at ts i t marked.names (marked-still hashing old.reads new.reads (keys_named ts) marked.kept_reads is.names);
     run = run-none (set ts i t) new marked.no_run;
     names_kept = names-none (set ts i t) new marked.no_names;
+    storage = storage-none (set ts i t) new marked.no_storage;
   }
 
   pub chunk-behind : (old new : Chunk) (t : Trace) → new.lines ≡ old.lines + 1 → WasMarked hashing t (record old { lines = old.lines + 1 }) new → (ts : List Trace)
@@ -85,19 +93,7 @@ module _ (hashing : Hashing) where
     names = marked-behind new.reads names_at ts t marked.names (marked-still hashing old.reads new.reads (keys_named ts) marked.kept_reads is.names);
     run = run-none (ts ++ t ∷ []) new marked.no_run;
     names_kept = names-none (ts ++ t ∷ []) new marked.no_names;
-  }
-
-  -- two chunks as one
-  pub chunk-joined : (a b new : Chunk) (ts us : List Trace) → new.lines ≡ a.lines + b.lines → HasAll a.puts new.puts → HasAll b.puts new.puts → HasAll a.reads new.reads
-      → HasAll b.reads new.reads → new.run ≡ None → new.names ≡ None → IsChunkOf hashing ts a → IsChunkOf hashing us b → IsChunkOf hashing (ts ++ us) new
-  chunk-joined a b new ts us lines puts_a puts_b reads_a reads_b no_run no_names one two = record {
-    lines = omega (arith, lines, one.lines, two.lines, length-append ts us);
-    puts = marked-both new.puts puts_at ts us (marked-still hashing a.puts new.puts (keys_put ts) puts_a one.puts) (marked-still hashing b.puts new.puts (keys_put us) puts_b two.puts);
-    asks = marked-both new.reads asks_at ts us (marked-still hashing a.reads new.reads (keys_asked ts) reads_a one.asks) (marked-still hashing b.reads new.reads (keys_asked us) reads_b two.asks);
-    names =
-        marked-both new.reads names_at ts us (marked-still hashing a.reads new.reads (keys_named ts) reads_a one.names) (marked-still hashing b.reads new.reads (keys_named us) reads_b two.names);
-    run = run-none (ts ++ us) new no_run;
-    names_kept = names-none (ts ++ us) new no_names;
+    storage = storage-none (ts ++ t ∷ []) new marked.no_storage;
   }
 
   pub chunk-next : (ts : List Trace) (i : ℕ) (t : Trace) (c : Chunk) → i < length ts → t ≡ get_or ts i t → IsChunkOf hashing (take i ts ++ t ∷ []) c → IsChunkOf hashing (take (i + 1) ts) c

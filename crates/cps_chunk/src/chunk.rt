@@ -4,7 +4,8 @@ ghost use Rattle.cps_state.specs.Course.{Trace as Did};
 ghost use Rattle.cps_chunk.specs.Code.Chunk.{IsChunkOf, WasMarked};
 
 use crate::key_filter::KeyFilter;
-use cps_final::{NamedFinals, RunAsks};
+use crate::storing::store_all;
+use cps_final::{NamedFinals, RunAsks, Storage};
 use cps_state::{Hashing, Trace};
 use std::alloc::{AllocError, Global};
 
@@ -20,6 +21,8 @@ pub struct Chunk {
     pub run: Option<RunAsks>,
     /// What they name, likewise.
     pub names: Option<NamedFinals>,
+    /// Where they alone put blocks and literals, and the name that they give the program, likewise.
+    pub storage: Option<Storage>,
 }
 
 impl Chunk {
@@ -33,6 +36,7 @@ impl Chunk {
             reads: KeyFilter::none(),
             run: None,
             names: None,
+            storage: None,
         };
         for trace in traces {
             chunk.grow(hashing, trace);
@@ -61,6 +65,7 @@ impl Chunk {
         self.reads.mark_names(hashing, trace);
         self.run = None;
         self.names = None;
+        self.storage = None;
     }
 
     /// Gathers what its lines ask together, if it was not.
@@ -100,6 +105,27 @@ impl Chunk {
         }
         let names = NamedFinals::of(alloc, hashing, traces)?;
         self.names = Some(names);
+        Ok(())
+    }
+
+    /// Gathers where its lines put blocks and literals, likewise.
+    pub fn gather_storage(
+        &mut self,
+        alloc: Global,
+        hashing: Hashing,
+        traces: &[Trace],
+    ) -> Result<(), AllocError>
+        requires { IsChunkOf hashing traces.now self.old }
+        ensures chunk { IsChunkOf hashing traces.now self.new }
+        ensures lines { self.new.lines ≡ self.old.lines }
+        ensures gathered { OnOk result (is_some self.new.storage ≡ true) }
+    {
+        if self.storage.is_some() {
+            return Ok(());
+        }
+        let mut storage = Storage::new(alloc, hashing);
+        store_all(&mut storage, traces)?;
+        self.storage = Some(storage);
         Ok(())
     }
 }

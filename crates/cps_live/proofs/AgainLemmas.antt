@@ -16,6 +16,7 @@ use Rattle.cps_chunk.specs.declared.chunk.Chunk.{Chunk}
 use Rattle.cps_chunk.specs.Code.Chunk.{AreChunksOf, lengths_of}
 use Rattle.cps_chunk.proofs.ChunkLemmas.{chunks-long}
 use Rattle.cps_chunk.specs.declared.sparse.SparseItem.{SparseItem}
+use Rattle.cps_chunk.specs.declared.walk.Baseline.{Baseline}
 use Rattle.cps_final.specs.Code.Ends.{was_of, now_of}
 use Rattle.cps_chunk.specs.Replayed.{redone, replayed_behind, redone_front, redone_behind}
 use Rattle.cps_chunk.specs.Code.Walk.{stretch}
@@ -26,29 +27,30 @@ use Rattle.cps_chunk.specs.declared.put.ChunkSplice.{ChunkSplice}
 use Rattle.cps_live.specs.declared.kept_source.KeptSource.{KeptSource}
 use Rattle.cps_live.specs.declared.second_pass.SecondPass.{SecondPass}
 use Rattle.cps_live.specs.Code.Editing.{HasPassedAgain, IsSplice, LooksOfSecond, splice_of}
-use Rattle.cps_live.specs.Code.SecondPass.{AreStillChunks, looks_around, redone_around}
+use Rattle.cps_live.specs.Code.SecondPass.{looks_around, redone_around}
+use Rattle.cps_live.specs.Code.StillChunks.{AreStillChunks}
 use Rattle.cps_live.proofs.CountLemmas.{StepsUpTo, steps-fail, steps-join}
 
 -- the chunks that were gone over have the same lines
-put-back : (kept : KeptSource) {pass : SecondPass} {olds news : List Chunk} → olds ≡ kept.chunks.items → AreStillChunks pass 0 olds news → (with_items kept.chunks news).items ≡ news
+put-back : (kept : KeptSource) {base : Baseline} {olds news : List Chunk} → olds ≡ kept.chunks.items → AreStillChunks base 0 olds news → (with_items kept.chunks news).items ≡ news
 put-back kept {olds = olds} {news = news} were still = with_items_is kept.chunks news (omega (arith, same-long olds news still.lengths, ap length were, kept.chunks.ok.0))
 
-pub lengths-again : (kept : KeptSource) {pass : SecondPass} {olds news : List Chunk} → olds ≡ kept.chunks.items → AreStillChunks pass 0 olds news
+pub lengths-again : (kept : KeptSource) {base : Baseline} {olds news : List Chunk} → olds ≡ kept.chunks.items → AreStillChunks base 0 olds news
     → lengths_of (with_items kept.chunks news).items ≡ lengths_of kept.chunks.items
 lengths-again kept were still = ap lengths_of (put-back kept were still) ∙ still.lengths ∙ ap lengths_of were
 
 -- and are those of the traces
-pub chunks-again : (kept : KeptSource) {pass : SecondPass} {olds news : List Chunk} → AreChunksOf kept.hashing kept.chunks.items kept.traces.items → olds ≡ kept.chunks.items
-    → pass.base.traces.now ≡ kept.traces.items → pass.base.hashing ≡ kept.hashing → AreStillChunks pass 0 olds news
+pub chunks-again : (kept : KeptSource) {base : Baseline} {olds news : List Chunk} → AreChunksOf kept.hashing kept.chunks.items kept.traces.items → olds ≡ kept.chunks.items
+    → base.traces.now ≡ kept.traces.items → base.hashing ≡ kept.hashing → AreStillChunks base 0 olds news
     → AreChunksOf kept.hashing (with_items kept.chunks news).items kept.traces.items
-chunks-again kept {pass = pass} {olds = olds} {news = news} are were did same still =
+chunks-again kept {base = base} {olds = olds} {news = news} are were did same still =
     let n : ℕ = 0 + sum (lengths_of olds) in
     let long : length kept.traces.items ≤ n =
     omega (arith, chunks-long kept.hashing kept.chunks.items kept.traces.items are, ap (λ (cs : List Chunk). sum (lengths_of cs)) were) in
-    let whole : stretch 0 n pass.base.traces.now ≡ kept.traces.items = ap (take n) did ∙ take_all n kept.traces.items long in
+    let whole : stretch 0 n base.traces.now ≡ kept.traces.items = ap (take n) did ∙ take_all n kept.traces.items long in
     let put : (with_items kept.chunks news).items ≡ news = put-back kept were still in
     subst (λ (cs : List Chunk). AreChunksOf kept.hashing cs kept.traces.items) (sym put)
-    (subst (λ (h : Hashing). AreChunksOf h news kept.traces.items) same (subst (λ (ts : List Trace). AreChunksOf pass.base.hashing news ts) whole still.chunks))
+    (subst (λ (h : Hashing). AreChunksOf h news kept.traces.items) same (subst (λ (ts : List Trace). AreChunksOf base.hashing news ts) whole still.chunks))
 
 -- ---- steps
 

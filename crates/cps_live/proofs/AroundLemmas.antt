@@ -1,31 +1,30 @@
 -- Pass two of all lines around an edit: those of the chunks in front of it, those that cut chunks keep in front and behind, and those of the chunks behind it.
-use Rattle.std.proofs.Common.{arith, ◌≡◌, ℕ, ◌+◌, ◌-◌, ◌≤◌, refl, sym, ap, subst, ◌∙◌, Bool, true, List, [], ◌++◌, append_assoc, length, take, drop, Result, Ok}
+use Rattle.std.proofs.Common.{arith, ◌≡◌, ℕ, ◌+◌, ◌-◌, ◌≤◌, sym, ap, subst, ◌∙◌, Bool, true, List, [], ◌++◌, append_assoc, length, drop, Result, Ok}
 use Rattle.std.specs.Prelude.{sum}
 use Rattle.std.specs.List.{list_all}
 use Rattle.std.proofs.lemmas.Bool.{and_parts}
-use Rattle.std.proofs.lemmas.List.{length-append, take-map, drop-map, take-take, drop-drop, map-append}
+use Rattle.std.proofs.lemmas.List.{length-append}
 use Rattle.std.proofs.lemmas.List.Folds.{list_all-append}
-use Rattle.std.proofs.lemmas.List.Sums.{sum_by-take-drop}
 use Rattle.cps_state.specs.Course.{Trace}
 use Rattle.cps_state.specs.Work.{Counts}
 use Rattle.cps_final.specs.Agreeing.{same_named}
 use Rattle.cps_edit.specs.Compares.{ComparesUpTo, Steps}
 use Rattle.cps_chunk.specs.declared.chunk.Chunk.{Chunk}
 use Rattle.cps_chunk.specs.Code.Chunk.{AreChunksOf, lengths_of}
-use Rattle.cps_chunk.proofs.ChunkLemmas.{chunks-long, chunks-append, chunks-behind}
 use Rattle.cps_final.specs.declared.ends.Ends.{Ends}
 use Rattle.cps_chunk.specs.declared.sparse.SparseItem.{SparseItem}
 use Rattle.cps_chunk.specs.declared.walk.Baseline.{Baseline}
 use Rattle.cps_final.specs.Code.Ends.{was_of, now_of}
-use Rattle.cps_chunk.specs.Sparse.{AreWithin}
 use Rattle.cps_chunk.specs.Code.Walk.{stretch}
-use Rattle.cps_chunk.proofs.WalkLemmas.{lengths-front, stretch-all, stretch-part}
-use Rattle.cps_chunk.specs.Code.Looks.{items_before, items_from, looks_again}
+use Rattle.cps_chunk.specs.Code.Looks.{looks_again}
 use Rattle.cps_chunk.specs.declared.put.ChunkSplice.{ChunkSplice}
 use Rattle.cps_live.specs.declared.second_pass.SecondPass.{SecondPass}
-use Rattle.cps_live.specs.Code.SecondPass.{AreStillChunks, CutsAround, GoesAround, GoesOver, IsExactPass, NameTheSame, NoneDiffers, redone_around, redone_in, looks_around, looks_in}
+use Rattle.cps_live.specs.Code.SecondPass.{GoesAround, GoesOver, IsExactPass, NameTheSame, NoneDiffers, redone_around, redone_in, looks_around, looks_in}
+use Rattle.cps_live.specs.Code.StillChunks.{AreStillChunks}
+use Rattle.cps_live.proofs.PartLemmas.{AreParts, front-sizes, back-sizes, front-end, back-end, behind-within, kept-within, back-chunks}
 use Rattle.cps_live.proofs.CountLemmas.{StepsUpTo, steps-fail, steps-join, looks-join}
-use Rattle.cps_live.proofs.SecondPassLemmas.{before-within, from-within, stretch-join, same-redone, count-cut, goes-join}
+use Rattle.cps_live.proofs.StretchLemmas.{stretch-join}
+use Rattle.cps_live.proofs.SecondPassLemmas.{same-redone, count-cut, goes-join}
 
 pub le-same : (n : ℕ) → n ≤ n
 le-same n = omega arith
@@ -41,137 +40,18 @@ part-passes p ts a b c d one two three all =
     let rest = stretch c d ts in
     (and_parts (list_all p mid) (list_all p rest) (sym (list_all-append p mid rest) ∙ ap (list_all p) (sym (stretch-join ts b c d two three)) ∙ some.1)).0
 
--- ---- the parts
-
--- chunks in front of an edit, those that it cuts, and those behind it; what is new of the loose lines behind it, and of those behind them
-pub record AreParts (first : SecondPass) (cut : ChunkSplice) (cs xs ms ys : List Chunk) (news here left : List (SparseItem Trace)) : Type 0 where
+-- those of a pass that compares by the final values that it makes lines anew by
+pub record AreAround (first : SecondPass) (cut : ChunkSplice) (cs xs ms ys : List Chunk) (news here left : List (SparseItem Trace)) : Type 0 where
   pub exact : IsExactPass first
-  pub cuts : CutsAround first cut cs
-  pub within : AreWithin cut.from (length first.base.traces.now) news
-  pub whole : cs ≡ xs ++ (ms ++ ys)
-  pub front : xs ≡ take cut.start cs
-  pub between : ms ≡ take (cut.end - cut.start) (drop cut.start cs)
-  pub back : ys ≡ drop (cut.end - cut.start) (drop cut.start cs)
-  pub loose : here ≡ items_before cut.behind news
-  pub behind : left ≡ items_from cut.behind news
+  pub parts : AreParts first.base cut cs xs ms ys news here left
 
--- what two cuts of the chunks give
-pub parts : {first : SecondPass} {cut : ChunkSplice} {cs xs rest ms ys : List Chunk} {news here left : List (SparseItem Trace)} → IsExactPass first → CutsAround first cut cs
-    → AreWithin cut.from (length first.base.traces.now) news → cs ≡ xs ++ rest → xs ≡ take cut.start cs → rest ≡ drop cut.start cs
-    → rest ≡ ms ++ ys → ms ≡ take (cut.end - cut.start) rest → ys ≡ drop (cut.end - cut.start) rest
-    → here ≡ items_before cut.behind news → left ≡ items_from cut.behind news → AreParts first cut cs xs ms ys news here left
-parts {cut = cut} {xs = xs} exact cuts within whole front behind rest between back loose left = record {
-  exact = exact;
-  cuts = cuts;
-  within = within;
-  whole = whole ∙ ap (λ ds. xs ++ ds) rest;
-  front = front;
-  between = between ∙ ap (take (cut.end - cut.start)) behind;
-  back = back ∙ ap (drop (cut.end - cut.start)) behind;
-  loose = loose;
-  behind = left;
-}
+pub around-of : {first : SecondPass} {cut : ChunkSplice} {cs xs ms ys : List Chunk} {news here left : List (SparseItem Trace)} → IsExactPass first
+    → AreParts first.base cut cs xs ms ys news here left → AreAround first cut cs xs ms ys news here left
+around-of exact parts = record { exact = exact; parts = parts }
 
-module _ {first : SecondPass} {cut : ChunkSplice} {cs xs ms ys : List Chunk} {news here left : List (SparseItem Trace)} (h : AreParts first cut cs xs ms ys news here left) where
+module _ {first : SecondPass} {cut : ChunkSplice} {cs xs ms ys : List Chunk} {news here left : List (SparseItem Trace)} (h : AreAround first cut cs xs ms ys news here left) where
   abbrev ts : List Trace
   ts = first.base.traces.now
-
-  -- ---- where they stand
-
-  front-sizes : lengths_of xs ≡ take cut.start (lengths_of cs)
-  front-sizes = ap lengths_of h.front ∙ sym (take-map (λ (c : Chunk). c.lines) cut.start cs)
-
-  back-is : ys ≡ drop cut.end cs
-  back-is =
-      let size : cut.start + (cut.end - cut.start) ≡ cut.end = omega (arith, h.cuts.ordered) in
-      h.back ∙ drop-drop (cut.end - cut.start) cut.start cs ∙ ap (λ k. drop k cs) size
-
-  back-sizes : lengths_of ys ≡ drop cut.end (lengths_of cs)
-  back-sizes = ap lengths_of back-is ∙ sym (drop-map (λ (c : Chunk). c.lines) cut.end cs)
-
-  all-long : length ts ≡ sum (lengths_of cs)
-  all-long = chunks-long first.base.hashing cs ts h.cuts.chunks
-
-  pub front-end : 0 + sum (lengths_of xs) ≡ cut.before
-  front-end = let same = ap sum front-sizes in omega (arith, same, h.cuts.before)
-
-  pub back-end : cut.behind + sum (lengths_of ys) ≡ length ts
-  back-end =
-      let same = ap sum back-sizes in
-      omega (arith, same, h.cuts.behind, sum_by-take-drop (λ x. x) (lengths_of cs) cut.end, all-long)
-
-  pub behind-within : cut.behind ≤ length ts
-  behind-within = omega (arith, back-end)
-
-  pub front-within : 0 + sum (lengths_of xs) ≤ length ts
-  front-within = omega (arith, front-end, h.cuts.begins, h.cuts.order, h.cuts.ends, behind-within)
-
-  pub back-within : cut.behind + sum (lengths_of ys) ≤ length ts
-  back-within = omega (arith, back-end)
-
-  pub keep-behind : cut.keep ≤ cut.behind
-  keep-behind = omega (arith, h.cuts.order, h.cuts.ends)
-
-  pub kept-within : cut.keep ≤ length ts
-  kept-within = omega (arith, keep-behind, behind-within)
-
-  pub before-from : cut.before ≤ cut.from
-  before-from = omega (arith, h.cuts.begins, h.cuts.order)
-
-  pub front-chunks : AreChunksOf first.base.hashing xs (stretch 0 (0 + sum (lengths_of xs)) ts)
-  front-chunks =
-      subst (λ (ds : List Chunk). AreChunksOf first.base.hashing ds (take (0 + sum (lengths_of xs)) ts)) (sym h.front)
-      (lengths-front first.base.hashing cs ts cut.start (0 + sum (lengths_of xs)) (front-end ∙ h.cuts.before) h.cuts.chunks)
-
-  pub between-chunks : AreChunksOf first.base.hashing ms (stretch cut.before cut.behind ts)
-  between-chunks =
-      let firsts = take cut.end cs in
-      let same : take cut.start firsts ≡ take cut.start cs = take-take cut.start cut.end cs h.cuts.ordered in
-      let size : sum (lengths_of (take cut.start firsts)) ≡ cut.before =
-      ap (λ (ds : List Chunk). sum (lengths_of ds)) (same ∙ sym h.front) ∙ ap sum front-sizes ∙ sym h.cuts.before in
-      let middle : drop cut.start firsts ≡ ms = sym (h.between ∙ stretch-part cut.start cut.end h.cuts.ordered cs) in
-      subst (λ (ds : List Chunk). AreChunksOf first.base.hashing ds (stretch cut.before cut.behind ts)) middle
-      (subst (λ (n : ℕ). AreChunksOf first.base.hashing (drop cut.start firsts) (drop n (take cut.behind ts))) size
-      (chunks-behind first.base.hashing cut.start firsts (take cut.behind ts) (lengths-front first.base.hashing cs ts cut.end cut.behind h.cuts.behind h.cuts.chunks)))
-
-  pub back-chunks : AreChunksOf first.base.hashing ys (stretch cut.behind (cut.behind + sum (lengths_of ys)) ts)
-  back-chunks =
-      let size : sum (lengths_of (take cut.end cs)) ≡ cut.behind = ap sum (sym (take-map (λ (c : Chunk). c.lines) cut.end cs)) ∙ sym h.cuts.behind in
-      subst (λ (n : ℕ). AreChunksOf first.base.hashing ys (stretch cut.behind n ts)) (sym back-end)
-      (subst (λ (us : List Trace). AreChunksOf first.base.hashing ys us) (sym (stretch-all cut.behind ts))
-      (subst (λ (ds : List Chunk). AreChunksOf first.base.hashing ds (drop cut.behind ts)) (sym back-is)
-      (subst (λ (n : ℕ). AreChunksOf first.base.hashing (drop cut.end cs) (drop n ts)) size (chunks-behind first.base.hashing cut.end cs ts h.cuts.chunks))))
-
-  pub here-loose : AreWithin cut.from cut.behind here
-  here-loose = subst (λ (ns : List (SparseItem Trace)). AreWithin cut.from cut.behind ns) (sym h.loose) (before-within cut.behind cut.from (length ts) news h.cuts.ends h.within)
-
-  pub left-behind : AreWithin cut.behind (cut.behind + sum (lengths_of ys)) left
-  left-behind =
-      subst (λ (n : ℕ). AreWithin cut.behind n left) (sym back-end)
-      (subst (λ (ns : List (SparseItem Trace)). AreWithin cut.behind (length ts) ns) (sym h.behind) (from-within cut.behind cut.from (length ts) news behind-within h.within))
-
-  -- ---- the chunks behind an edit of what was gathered
-
-  pub still-around : {xs2 ys2 : List Chunk} → AreStillChunks first 0 xs xs2 → AreStillChunks first cut.behind ys ys2 → AreStillChunks first 0 cs (xs2 ++ (ms ++ ys2))
-  still-around {xs2 = xs2} {ys2 = ys2} one two =
-      let e = cut.behind + sum (lengths_of ys) in
-      let end : e ≡ 0 + sum (lengths_of cs) = omega (arith, back-end, all-long) in
-      let low : cut.before ≤ cut.behind = omega (arith, h.cuts.begins, h.cuts.order, h.cuts.ends) in
-      let high : cut.behind ≤ e = omega arith in
-      let start : 0 ≤ cut.before = omega arith in
-      let join : stretch 0 (0 + sum (lengths_of xs)) ts ++ (stretch cut.before cut.behind ts ++ stretch cut.behind e ts) ≡ stretch 0 (0 + sum (lengths_of cs)) ts =
-      (λ j. stretch 0 (front-end j) ts ++ sym (stretch-join ts cut.before cut.behind e low high) j)
-      ∙ sym (stretch-join ts 0 cut.before e start (omega (arith, low, high))) ∙ ap (λ n. stretch 0 n ts) end in
-      record {
-        chunks = subst (λ (us : List Trace). AreChunksOf first.base.hashing (xs2 ++ (ms ++ ys2)) us) join
-            (chunks-append first.base.hashing xs2 (ms ++ ys2) _ _ one.chunks (chunks-append first.base.hashing ms ys2 _ _ between-chunks two.chunks));
-        lengths = map-append (λ (c : Chunk). c.lines) xs2 (ms ++ ys2) ∙ ap (λ ns. lengths_of xs2 ++ ns) (map-append (λ (c : Chunk). c.lines) ms ys2)
-            ∙ (λ j. one.lengths j ++ (lengths_of ms ++ two.lengths j))
-            ∙ sym (ap lengths_of h.whole ∙ map-append (λ (c : Chunk). c.lines) xs (ms ++ ys) ∙ ap (λ ns. lengths_of xs ++ ns) (map-append (λ (c : Chunk). c.lines) ms ys));
-      }
-
-  pub still-front : {xs2 : List Chunk} → AreStillChunks first 0 xs xs2 → AreStillChunks first 0 cs (xs2 ++ (ms ++ ys))
-  still-front one = still-around one (record { chunks = back-chunks; lengths = refl })
 
   -- ---- how many lines are made anew, and how many compared
 
@@ -193,14 +73,14 @@ module _ {first : SecondPass} {cut : ChunkSplice} {cs xs ms ys : List Chunk} {ne
   pub count-around : around ≡ count-front + count-kept + (count-loose + count-back)
   count-around =
       length-append (redone_in first 0 cut.keep []) (redone_in first cut.from (length ts) news)
-      ∙ (λ j. count-cut first 0 cut.before cut.keep [] (omega arith) h.cuts.begins kept-within (omega arith) j
-      + count-cut first cut.from cut.behind (length ts) news h.cuts.ends behind-within (omega arith) h.within j)
-      ∙ (λ j. length (redone_in first 0 (sym front-end j) []) + count-kept
-      + (length (redone_in first cut.from cut.behind (sym h.loose j)) + length (redone_in first cut.behind (sym back-end j) (sym h.behind j))))
+      ∙ (λ j. count-cut first 0 cut.before cut.keep [] (omega arith) h.parts.cuts.begins (kept-within h.parts) (omega arith) j
+      + count-cut first cut.from cut.behind (length ts) news h.parts.cuts.ends (behind-within h.parts) (omega arith) h.parts.within j)
+      ∙ (λ j. length (redone_in first 0 (sym (front-end h.parts) j) []) + count-kept
+      + (length (redone_in first cut.from cut.behind (sym h.parts.loose j)) + length (redone_in first cut.behind (sym (back-end h.parts) j) (sym h.parts.behind j))))
 
   looks-parts : looks_around first cut (lengths_of cs) news
       ≡ looks_in first (lengths_of xs) 0 [] + (cut.keep - cut.before) + (cut.behind - cut.from + looks_in first (lengths_of ys) cut.behind left)
-  looks-parts = λ j. looks_in first (sym front-sizes j) 0 [] + (cut.keep - cut.before) + (cut.behind - cut.from + looks_in first (sym back-sizes j) cut.behind (sym h.behind j))
+  looks-parts = λ j. looks_in first (sym (front-sizes h.parts) j) 0 [] + (cut.keep - cut.before) + (cut.behind - cut.from + looks_in first (sym (back-sizes h.parts) j) cut.behind (sym h.parts.behind j))
 
   -- ---- behind some of the calls
 
@@ -208,14 +88,14 @@ module _ {first : SecondPass} {cut : ChunkSplice} {cs xs ms ys : List Chunk} {ne
     pub next-end : (n : ℕ) → n ≤ length ts → n ≤ length next.base.traces.now
     next-end n le = omega (arith, le, ap (λ (b : Baseline). length b.traces.now) base)
 
-    pub next-front : {xs2 : List Chunk} {at : ℕ} {olds : List Chunk} → AreStillChunks next at olds xs2 → AreStillChunks first at olds xs2
+    pub next-front : {xs2 : List Chunk} {at : ℕ} {olds : List Chunk} → AreStillChunks next.base at olds xs2 → AreStillChunks first.base at olds xs2
     next-front {xs2 = xs2} {at = at} {olds = olds} still = record {
       chunks = subst (λ (b : Baseline). AreChunksOf b.hashing xs2 (stretch at (at + sum (lengths_of olds)) b.traces.now)) base still.chunks;
       lengths = still.lengths;
     }
 
     pub next-chunks : AreChunksOf next.base.hashing ys (stretch cut.behind (cut.behind + sum (lengths_of ys)) next.base.traces.now)
-    next-chunks = subst (λ (b : Baseline). AreChunksOf b.hashing ys (stretch cut.behind (cut.behind + sum (lengths_of ys)) b.traces.now)) (sym base) back-chunks
+    next-chunks = subst (λ (b : Baseline). AreChunksOf b.hashing ys (stretch cut.behind (cut.behind + sum (lengths_of ys)) b.traces.now)) (sym base) (back-chunks h.parts)
 
     -- nothing that loose lines name differs
     pub next-same : (from to : ℕ) (none : Bool) → cut.before ≤ from → from ≤ to → to ≤ cut.behind
@@ -238,12 +118,12 @@ module _ {first : SecondPass} {cut : ChunkSplice} {cs xs ms ys : List Chunk} {ne
         let base2 : s2.base ≡ first.base = o2.base ∙ o1.base in
         let ends2 : s2.redo.ends ≡ first.redo.ends = o2.ends ∙ o1.ends in
         let one : GoesOver first s2 0 cut.keep [] =
-        goes-join first s1 s2 0 cut.before cut.keep [] (omega arith) h.cuts.begins kept-within (omega arith)
-        (subst (λ (n : ℕ). GoesOver first s1 0 n []) front-end o1) o2 in
+        goes-join first s1 s2 0 cut.before cut.keep [] (omega arith) h.parts.cuts.begins (kept-within h.parts) (omega arith)
+        (subst (λ (n : ℕ). GoesOver first s1 0 n []) (front-end h.parts) o1) o2 in
         let two : GoesOver s2 s4 cut.from (length ts) news =
-        goes-join s2 s3 s4 cut.from cut.behind (length ts) news h.cuts.ends behind-within (next-end s2 base2 ends2 (length ts) (omega arith)) h.within
-        (subst (λ (ns : List (SparseItem Trace)). GoesOver s2 s3 cut.from cut.behind ns) h.loose o3)
-        (subst (λ (ns : List (SparseItem Trace)). GoesOver s3 s4 cut.behind (length ts) ns) h.behind (subst (λ (n : ℕ). GoesOver s3 s4 cut.behind n left) back-end o4)) in
+        goes-join s2 s3 s4 cut.from cut.behind (length ts) news h.parts.cuts.ends (behind-within h.parts) (next-end s2 base2 ends2 (length ts) (omega arith)) h.parts.within
+        (subst (λ (ns : List (SparseItem Trace)). GoesOver s2 s3 cut.from cut.behind ns) h.parts.loose o3)
+        (subst (λ (ns : List (SparseItem Trace)). GoesOver s3 s4 cut.behind (length ts) ns) h.parts.behind (subst (λ (n : ℕ). GoesOver s3 s4 cut.behind n left) (back-end h.parts) o4)) in
         record {
           made = two.made ∙ (λ j. one.made j ++ same-redone first s2 cut.from (length ts) news ends2 base2 j)
               ∙ append_assoc first.redo.news.items (redone_in first 0 cut.keep []) (redone_in first cut.from (length ts) news);

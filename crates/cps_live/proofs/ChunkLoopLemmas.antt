@@ -14,8 +14,11 @@ use Rattle.cps_chunk.specs.Sparse.{AreWithin}
 use Rattle.cps_chunk.specs.Code.Walk.{stretch}
 use Rattle.cps_chunk.specs.Code.Looks.{items_before, items_from}
 use Rattle.cps_live.specs.declared.second_pass.SecondPass.{SecondPass}
-use Rattle.cps_live.specs.Code.SecondPass.{AreStillChunks, GoesOver, IsExactPass, IsStillChunk, redone_in, looks_at, looks_in}
-use Rattle.cps_live.proofs.SecondPassLemmas.{GoesOn, before-within, exact-still, count-cut, same-redone, goes-next, next-place, next-within, chunk-here, chunks-here, lengths-still, looks-here}
+use Rattle.cps_live.specs.Code.SecondPass.{GoesOver, IsExactPass, redone_in, looks_at, looks_in}
+use Rattle.cps_live.specs.Code.StillChunks.{AreStillChunks, IsStillChunk}
+use Rattle.cps_live.proofs.StretchLemmas.{before-within}
+use Rattle.cps_live.proofs.PartLemmas.{next-place, next-within, chunk-here, chunks-here, lengths-still}
+use Rattle.cps_live.proofs.SecondPassLemmas.{GoesOn, exact-still, count-cut, same-redone, goes-next, looks-here}
 
 -- of chunks, of which some were gone over, this is the next; so much is new of its lines, and so much of those behind it
 pub record IsNextChunk (first next : SecondPass) (start : ℕ) (cs ds : List Chunk) (i at : ℕ) (c : Chunk) (news left here rest : List (SparseItem Trace)) : Type 0 where
@@ -59,10 +62,10 @@ module _ {first next : SecondPass} {start : ℕ} {cs ds : List Chunk} {i at : �
   m = at + c.lines
 
   pub stops-within : m ≤ end
-  stops-within = next-within first start cs ds h.lengths i at c h.there h.is h.place
+  stops-within = next-within first.base start cs ds h.lengths i at c h.there h.is h.place
 
   pub stops-at : m ≡ start + sum (take (i + 1) (lengths_of cs))
-  stops-at = next-place first start cs ds h.lengths i at c h.there h.is h.place
+  stops-at = next-place first.base start cs ds h.lengths i at c h.there h.is h.place
 
   pub here-exact : IsExactPass next
   here-exact = exact-still first h.exact next h.over.base h.over.ends h.over.differences
@@ -73,7 +76,7 @@ module _ {first next : SecondPass} {start : ℕ} {cs ds : List Chunk} {i at : �
   pub here-chunk : IsChunkOf next.base.hashing (stretch at m next.base.traces.now) c
   here-chunk =
       subst (λ (b : Baseline). IsChunkOf b.hashing (stretch at m b.traces.now) c) (sym h.over.base)
-      (chunk-here first start cs ds h.lengths i at c h.there h.is h.place h.chunks)
+      (chunk-here first.base start cs ds h.lengths i at c h.there h.is h.place h.chunks)
 
   pub here-within : AreWithin at m here
   here-within = subst (λ (ns : List (SparseItem Trace)). AreWithin at m ns) (sym h.front) (before-within m at end left (omega arith) h.over.within)
@@ -102,18 +105,18 @@ module _ {first next : SecondPass} {start : ℕ} {cs ds : List Chunk} {i at : �
         subst (λ (ns : List (SparseItem Trace)). GoesOn first last start m end news ns) (sym h.behind)
         (goes-next first next last start at m end news left (omega arith) stops-within h.end h.over (subst (λ (ns : List (SparseItem Trace)). GoesOver next last at m ns) h.front over))
 
-  module _ {d : Chunk} (still : IsStillChunk next at c d) where
-    here-still : IsStillChunk first at c d
+  module _ {d : Chunk} (still : IsStillChunk next.base at c d) where
+    here-still : IsStillChunk first.base at c d
     here-still = record {
       chunk = subst (λ (b : Baseline). IsChunkOf b.hashing (stretch at m b.traces.now) d) h.over.base still.chunk;
       lines = still.lines;
     }
 
     pub here-chunks : AreChunksOf first.base.hashing (set ds i d) (stretch start end first.base.traces.now)
-    here-chunks = chunks-here first start cs ds h.lengths i at c h.there h.is h.place d here-still h.chunks
+    here-chunks = chunks-here first.base start cs ds h.lengths i at c h.there h.is h.place d here-still h.chunks
 
     pub here-lengths : lengths_of (set ds i d) ≡ lengths_of cs
-    here-lengths = lengths-still first start cs ds h.lengths i at c h.there h.is h.place d here-still
+    here-lengths = lengths-still first.base start cs ds h.lengths i at c h.there h.is h.place d here-still
 
-    pub here-all : AreStillChunks first start cs (set ds i d)
+    pub here-all : AreStillChunks first.base start cs (set ds i d)
     here-all = record { chunks = here-chunks; lengths = here-lengths }

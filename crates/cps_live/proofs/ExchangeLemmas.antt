@@ -46,7 +46,8 @@ use Rattle.cps_live.specs.declared.kept_source.KeptSource.{KeptSource}
 use Rattle.cps_live.specs.declared.second_pass.SecondPass.{SecondPass}
 use Rattle.cps_live.specs.Code.Editing.{AreKept}
 use Rattle.cps_live.specs.Code.Exchanged.{AreMovedParts, HasRuns, LooksOfExchange, redone_moved}
-use Rattle.cps_live.specs.Code.SecondPass.{StandFrom, looks_in, redone_in}
+use Rattle.cps_live.specs.Code.SecondPass.{looks_in, redone_in}
+use Rattle.cps_live.specs.Code.StillChunks.{StandFrom}
 use Rattle.cps_live.specs.Code.Storing.{IsStoredBehind}
 use Rattle.cps_live.proofs.AgainLemmas.{steps-ok}
 
@@ -76,7 +77,7 @@ module _ (kept : KeptSource) (are : AreKept kept) (pass : SecondPass) (olds : Li
       let n : ℕ = 0 + sum (lengths_of olds) in
       ap (take n) did ∙ take_all n kept.traces.items (omega (arith, all-end, lines-long are))
 
-  pub all-stand : length kept.lines.items < 2 ^ 63 → StandFrom pass 0 olds
+  pub all-stand : length kept.lines.items < 2 ^ 63 → StandFrom pass.base 0 olds
   all-stand few = record {
     room = omega (arith, all-end, few);
     within = omega (arith, all-end, lines-long are, ap length did);

@@ -16,6 +16,9 @@ pub mod ExchangeLemmas
 pub mod MovedPassLemmas
 pub mod MovedStorageLemmas
 pub mod NamesReadLemmas
+pub mod PartLemmas
+pub mod StretchLemmas
+pub mod StoreLemmas
 pub mod PlaceLemmas
 pub mod RedoneLemmas
 pub mod RenewedLemmas

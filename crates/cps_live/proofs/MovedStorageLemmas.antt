@@ -13,7 +13,7 @@ use Rattle.cps_chunk.proofs.ExchangedLemmas.{exchanged-renewed, map-exchanged}
 use Rattle.cps_chunk.proofs.WalkLemmas.{stretch-part}
 use Rattle.cps_chunk.specs.Code.Looks.{items_before, items_from}
 use Rattle.cps_live.specs.Code.Storing.{left_by_each}
-use Rattle.cps_live.proofs.SecondPassLemmas.{before-from, before-within, from-within}
+use Rattle.cps_live.proofs.StretchLemmas.{before-from, before-within, from-within}
 use Rattle.cps_live.proofs.StoredLemmas.{left-middle, left-same, stored-same}
 
 -- a run that leaves nothing may stand on either side of another

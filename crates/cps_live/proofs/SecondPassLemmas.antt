@@ -1,12 +1,11 @@
 -- Pass two over stretches of lines, and over chunks.
-use Rattle.std.proofs.Common.{arith, ◌≡◌, ℕ, suc, ◌+◌, ◌-◌, ◌<◌, ◌≤◌, refl, sym, ap, subst, ◌∙◌, Bool, true, false, List, [], ◌∷◌, ◌++◌, append_assoc, append-nil, length, get_or, set, take, drop, Result, Ok, Err}
-use Rattle.std.specs.Prelude.{All, OnOk, nat_lt, sum, if◌then◌else◌}
+use Rattle.std.proofs.Common.{arith, ◌≡◌, ℕ, ◌+◌, ◌-◌, ◌<◌, ◌≤◌, refl, sym, ap, subst, ◌∙◌, true, false, List, [], ◌∷◌, ◌++◌, append_assoc, append-nil, length, get_or, take, drop, Result, Ok, Err}
+use Rattle.std.specs.Prelude.{All, OnOk, sum, if◌then◌else◌}
 use Rattle.std.specs.List.{list_all}
-use Rattle.std.proofs.lemmas.Bool.{and_from, ltb-true, ltb-false}
-use Rattle.std.proofs.lemmas.List.{length-append, take-take, drop-drop, drop-take, take-append-drop}
+use Rattle.std.proofs.lemmas.Bool.{and_from}
+use Rattle.std.proofs.lemmas.List.{length-append, drop-drop, drop-take, take-append-drop}
 use Rattle.std.proofs.lemmas.List.Elements.{All-head, All-tail}
 use Rattle.std.proofs.lemmas.List.Folds.{list_all-append}
-use Rattle.std.proofs.lemmas.List.Sums.{sum_by-take-le}
 use Rattle.cps_state.specs.declared.hashing.Hashing.{Hashing}
 use Rattle.cps_state.specs.Course.{Trace}
 use Rattle.cps_final.specs.Finals.{Named}
@@ -17,7 +16,7 @@ use Rattle.cps_final.proofs.NamesLemmas.{names-law}
 use Rattle.cps_final.proofs.NamingLemmas.{flat-all}
 use Rattle.cps_final.specs.Agreeing.{same_at, same_named}
 use Rattle.cps_chunk.specs.declared.chunk.Chunk.{Chunk}
-use Rattle.cps_chunk.specs.Code.Chunk.{AreChunksOf, IsChunkOf, lengths_of}
+use Rattle.cps_chunk.specs.Code.Chunk.{AreChunksOf, lengths_of}
 use Rattle.cps_chunk.specs.KeyFilter.{AreMarked, keys_named}
 use Rattle.cps_final.specs.declared.ends.Ends.{Ends}
 use Rattle.cps_chunk.specs.declared.sparse.SparseItem.{SparseItem}
@@ -27,51 +26,13 @@ use Rattle.cps_chunk.specs.Replayed.{redone}
 use Rattle.cps_chunk.specs.Sparse.{AreWithin}
 use Rattle.cps_chunk.specs.Code.Walk.{stretch}
 use Rattle.cps_chunk.proofs.ReplayedLemmas.{redone-all_same, redone-each_same, redone-append, redone-drop_front, redone-drop_behind}
-use Rattle.cps_chunk.proofs.WalkLemmas.{stretch-behind, stretch-long, lengths-next, lengths-drop, lengths-set, chunk-at, chunk-set}
+use Rattle.cps_chunk.proofs.WalkLemmas.{stretch-long}
 use Rattle.cps_chunk.specs.Code.Looks.{items_before, items_from, looks_again}
 use Rattle.cps_live.specs.Code.Differences.{passes, AreExact}
 use Rattle.cps_live.specs.declared.second_pass.SecondPass.{SecondPass}
-use Rattle.cps_live.specs.Code.SecondPass.{IsExactPass, IsStillChunk, GoesOver, redone_in, looks_at, looks_in}
-
--- ---- items in front of a place, and from it on
-
-module _ {X : Type 0} (p : ℕ) where
-  pub before-within : (a b : ℕ) (news : List (SparseItem X)) → a ≤ p → AreWithin a b news → AreWithin a p (items_before p news)
-  before-within a b [] le within = le
-  before-within a b (new ∷ news) le within = by_test (nat_lt new.at p) refl (λ lt. before-within (suc new.at) b news lt within.2)
-    where
-      by_test : (test : Bool) → nat_lt new.at p ≡ test → (suc new.at ≤ p → AreWithin (suc new.at) p (items_before p news))
-          → AreWithin a p (if test then new ∷ items_before p news else [])
-      by_test true is rest = let lt : new.at < p = ltb-true new.at p is in (within.0, lt, rest (omega (arith, lt)))
-      by_test false is rest = le
-
-  pub from-within : (a b : ℕ) (news : List (SparseItem X)) → p ≤ b → AreWithin a b news → AreWithin p b (items_from p news)
-  from-within a b [] le within = le
-  from-within a b (new ∷ news) le within = by_test (nat_lt new.at p) refl (from-within (suc new.at) b news le within.2)
-    where
-      by_test : (test : Bool) → nat_lt new.at p ≡ test → AreWithin p b (items_from p news) → AreWithin p b (if test then items_from p news else new ∷ news)
-      by_test true is rest = rest
-      by_test false is rest = (ltb-false new.at p is, within.1, within.2)
-
-  pub before-from : (news : List (SparseItem X)) → items_before p news ++ items_from p news ≡ news
-  before-from [] = refl
-  before-from (new ∷ news) = by_test (nat_lt new.at p) (before-from news)
-    where
-      by_test : (test : Bool) → items_before p news ++ items_from p news ≡ news
-          → (if test then new ∷ items_before p news else []) ++ (if test then items_from p news else new ∷ news) ≡ new ∷ news
-      by_test true rest = ap (λ ns. new ∷ ns) rest
-      by_test false rest = refl
-
--- ---- stretches
-
-module _ {X : Type 0} (xs : List X) where
-  pub stretch-join : (a m b : ℕ) → a ≤ m → m ≤ b → stretch a b xs ≡ stretch a m xs ++ stretch m b xs
-  stretch-join a m b one two = stretch-behind a m one (take b xs) ∙ ap (λ ys. drop a ys ++ stretch m b xs) (take-take m b xs two)
-
-  -- of a stretch
-  pub stretch-stretch : (f e a b : ℕ) → f + b ≤ e → stretch a b (stretch f e xs) ≡ stretch (f + a) (f + b) xs
-  stretch-stretch f e a b le =
-      ap (drop a) (sym (drop-take f b (take e xs))) ∙ drop-drop a f (take (f + b) (take e xs)) ∙ ap (drop (f + a)) (take-take (f + b) e xs le)
+use Rattle.cps_live.specs.Code.SecondPass.{IsExactPass, GoesOver, redone_in, looks_at, looks_in}
+use Rattle.cps_live.proofs.StretchLemmas.{before-from, before-within, from-within, stretch-join}
+use Rattle.cps_live.proofs.PartLemmas.{lengths-here}
 
 -- ---- what is made anew
 
@@ -250,50 +211,9 @@ module _ (first : SecondPass) where
 
   -- ---- chunk by chunk
 
-  module _ (start : ℕ) (cs ds : List Chunk) (same : lengths_of ds ≡ lengths_of cs) (i at : ℕ) (c : Chunk) (lt : i < length ds) (is : c ≡ get_or ds i c)
-      (place : at ≡ start + sum (take i (lengths_of cs))) where
-    abbrev a : ℕ
-    a = sum (take i (lengths_of ds))
-
-    abbrev b : ℕ
-    b = sum (take (i + 1) (lengths_of ds))
-
-    abbrev end : ℕ
-    end = start + sum (lengths_of cs)
-
-    begins : start + a ≡ at
-    begins = ap (λ ns. start + sum (take i ns)) same ∙ sym place
-
-    stops : start + b ≡ at + c.lines
-    stops = omega (arith, begins, lengths-next ds i c lt is)
-
-    pub next-place : at + c.lines ≡ start + sum (take (i + 1) (lengths_of cs))
-    next-place = sym stops ∙ ap (λ ns. start + sum (take (i + 1) ns)) same
-
-    pub next-within : at + c.lines ≤ end
-    next-within = omega (arith, next-place, sum_by-take-le (λ n. n) (lengths_of cs) (i + 1))
-
-    pub lengths-here : drop i (lengths_of cs) ≡ c.lines ∷ drop (i + 1) (lengths_of cs)
-    lengths-here = ap (drop i) (sym same) ∙ lengths-drop ds i c lt is ∙ ap (λ ns. c.lines ∷ drop (i + 1) ns) same
-
-    lines-here : stretch a b (stretch start end ts) ≡ stretch at (at + c.lines) ts
-    lines-here =
-        stretch-stretch ts start end a b (omega (arith, stops, next-within)) ∙ (λ j. stretch (begins j) (stops j) ts)
-
-    pub chunk-here : AreChunksOf first.base.hashing ds (stretch start end ts) → IsChunkOf first.base.hashing (stretch at (at + c.lines) ts) c
-    chunk-here chunks =
-        subst (λ (us : List Trace). IsChunkOf first.base.hashing us c) lines-here
-        (chunk-at first.base.hashing ds (stretch start end ts) i a b c lt is refl refl chunks)
-
-    pub chunks-here : (d : Chunk) → IsStillChunk first at c d → AreChunksOf first.base.hashing ds (stretch start end ts)
-        → AreChunksOf first.base.hashing (set ds i d) (stretch start end ts)
-    chunks-here d still chunks =
-        chunk-set first.base.hashing ds (stretch start end ts) (stretch at (at + c.lines) ts) i a b c d lt is still.lines refl refl (sym lines-here) still.chunk chunks
-
-    pub lengths-still : (d : Chunk) → IsStillChunk first at c d → lengths_of (set ds i d) ≡ lengths_of cs
-    lengths-still d still = lengths-set first.base.hashing ds i c d lt is still.lines ∙ same
-
-    -- how many lines are compared of this chunk and of those behind it
-    pub looks-here : (news : List (SparseItem Trace)) → looks_in first (drop i (lengths_of cs)) at news
-        ≡ looks_at first at (at + c.lines) (items_before (at + c.lines) news) + looks_in first (drop (i + 1) (lengths_of cs)) (at + c.lines) (items_from (at + c.lines) news)
-    looks-here news = ap (λ ns. looks_in first ns at news) lengths-here ∙ looks-step first c.lines at (drop (i + 1) (lengths_of cs)) news
+  -- how many lines are compared of a chunk and of those behind it
+  pub looks-here : (start : ℕ) (cs ds : List Chunk) → lengths_of ds ≡ lengths_of cs → (i at : ℕ) (c : Chunk) → i < length ds → c ≡ get_or ds i c
+      → at ≡ start + sum (take i (lengths_of cs)) → (news : List (SparseItem Trace)) → looks_in first (drop i (lengths_of cs)) at news
+      ≡ looks_at first at (at + c.lines) (items_before (at + c.lines) news) + looks_in first (drop (i + 1) (lengths_of cs)) (at + c.lines) (items_from (at + c.lines) news)
+  looks-here start cs ds same i at c lt is place news =
+      ap (λ ns. looks_in first ns at news) (lengths-here first.base start cs ds same i at c lt is place) ∙ looks-step first c.lines at (drop (i + 1) (lengths_of cs)) news

@@ -11,4 +11,5 @@ pub mod MovedPass
 pub mod NamesRead
 pub mod Redone
 pub mod SecondPass
+pub mod StillChunks
 pub mod Storing

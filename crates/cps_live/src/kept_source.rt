@@ -5,6 +5,7 @@ ghost use Rattle.cps_chunk.specs.Sparse.{renewed};
 ghost use Rattle.cps_live.specs.Edits.{AreRedone};
 ghost use Rattle.cps_live.specs.Code.Editing.{AreKept, ArePatchedEnds, AreNewTraces, AreOutcomesOf, HasPassedAgain, HasReadNews, HasRoomFor, HasRoomToPatch, IsSplice, IsEdited, IsFirstPass, IsKept, IsStill, IsStillWith, LooksOfFirst, LooksOfSplice, StepsOfFirst, StepsOfSplice, put_between, splice_of};
 ghost use Rattle.cps_live.specs.Code.Redone.{ArePlacesOf};
+ghost use Rattle.cps_live.specs.Code.Storing.{IsStorageOf};
 
 use crate::chunk_list::{mark_all, put_chunks};
 use crate::first_pass::FirstPass;
@@ -15,7 +16,7 @@ use crate::redone::Redone;
 use crate::second_pass::{SecondPass, step_two_all};
 use crate::storage::storage_behind;
 use cps_chunk::{Baseline, Chunk, ChunkSplice};
-use cps_final::{Ends, Finals, FinalsPatch, Outcome};
+use cps_final::{Ends, Finals, FinalsPatch, Outcome, Storage};
 use cps_state::{Hashing, Scratch, State, Trace, Work};
 use cps_text::Line;
 use std::alloc::{AllocError, Global};
@@ -97,7 +98,7 @@ impl KeptSource {
     {
         let pass = self.pass_one(&cut, work)?;
         let FirstPass { traces, changes } = pass;
-        let storage = storage_behind(self.baseline(), self.finals.storage(), &cut, &traces)?;
+        let storage = self.storage_of(&cut, &traces)?;
         let mut patch = FinalsPatch { changes, storage };
         let chunks = self.make_room(&patch, &cut)?;
         self.finals.exchange(&mut patch);
@@ -157,6 +158,30 @@ impl KeptSource {
             return FirstPass::of_append(base, self.finals.state(), cut, work);
         }
         FirstPass::of_splice(base, &mut self.chunks, cut, work)
+    }
+
+    /// Where blocks and literals stand behind an edit, None where they stand as they stood. What chunks leave is gathered where it was not.
+    fn storage_of(
+        &mut self,
+        cut: &ChunkSplice,
+        traces: &News<Trace>,
+    ) -> Result<Option<Storage>, AllocError>
+        requires kept { IsKept self.old }
+        requires cut { IsSplice self.old.lines.items (lengths_of self.old.chunks.items) cut.now }
+        requires few { vec_len self.old.lines + vec_len cut.now.lines < 2 ^ 63 }
+        requires traces { AreNewTraces self.old.lines.items (splice_of cut.now) traces.now }
+        ensures kept { IsKept self.new }
+        ensures still { IsStillWith self.old self.new }
+        ensures storage { IfOk result (IsStorageOf self.old.lines.items (splice_of cut.now)) }
+    {
+        let base = Baseline {
+            alloc: self.alloc,
+            hashing: self.hashing,
+            first: &self.first,
+            lines: &self.lines,
+            traces: &self.traces,
+        };
+        storage_behind(base, &mut self.chunks, self.finals.storage(), cut, traces)
     }
 
     /// Room for what an edit brings. Gives a list for its chunks.

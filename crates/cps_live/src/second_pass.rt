@@ -10,7 +10,8 @@ ghost use Rattle.cps_chunk.specs.Code.Looks.{items_before, items_from};
 ghost use Rattle.cps_chunk.specs.Sparse.{AreWithin};
 ghost use Rattle.cps_chunk.specs.Code.Walk.{stretch};
 ghost use Rattle.cps_live.specs.Code.NamesRead.{HasReadBy};
-ghost use Rattle.cps_live.specs.Code.SecondPass.{AreStillChunks, CutsAround, GoesAround, GoesOver, IsExactPass, IsStillChunk, NameTheSame, NoneDiffers, StandFrom, StepsAround, is_same_in, looks_around, looks_at, looks_in, redone_in};
+ghost use Rattle.cps_live.specs.Code.SecondPass.{GoesAround, GoesOver, IsExactPass, NameTheSame, NoneDiffers, StepsAround, is_same_in, looks_around, looks_at, looks_in, redone_in};
+ghost use Rattle.cps_live.specs.Code.StillChunks.{AreStillChunks, CutsAround, IsStillChunk, StandFrom};
 
 use crate::differences::Differences;
 use crate::names_read::NamesRead;
@@ -91,7 +92,7 @@ impl<'a> SecondPass<'a> {
         requires chunk { IsChunkOf self.old.base.hashing (stretch at (at + chunk.old.lines) self.old.base.traces.now) chunk.old }
         requires news { AreWithin at (at + chunk.old.lines) news.now }
         ensures over { OnOk result (GoesOver self.old self.new at (at + chunk.old.lines) news.now) }
-        ensures chunk { IsStillChunk self.old at chunk.old chunk.new }
+        ensures chunk { IsStillChunk self.old.base at chunk.old chunk.new }
         ensures steps { Steps result work.old work.new 0 (length (redone_in self.old at (at + chunk.old.lines) news.now)) }
         ensures looked { ComparesUpTo work.old work.new (looks_at self.old at (at + chunk.old.lines) news.now) }
     {
@@ -111,10 +112,10 @@ impl<'a> SecondPass<'a> {
         work: &mut Work,
     ) -> Result<(), AllocError>
         requires exact { IsExactPass self.old }
-        requires chunks { StandFrom self.old at chunks.old }
+        requires chunks { StandFrom self.old.base at chunks.old }
         requires news { AreWithin at (at + sum (lengths_of chunks.old)) news.now }
         ensures over { OnOk result (GoesOver self.old self.new at (at + sum (lengths_of chunks.old)) news.now) }
-        ensures chunks { AreStillChunks self.old at chunks.old chunks.new }
+        ensures chunks { AreStillChunks self.old.base at chunks.old chunks.new }
         ensures steps { Steps result work.old work.new 0 (length (redone_in self.old at (at + sum (lengths_of chunks.old)) news.now)) }
         ensures looked { ComparesUpTo work.old work.new (looks_in self.old (lengths_of chunks.old) at news.now) }
     {
@@ -177,10 +178,10 @@ impl<'a> SecondPass<'a> {
         work: &mut Work,
     ) -> Result<(), AllocError>
         requires exact { IsExactPass self.old }
-        requires cut { CutsAround self.old cut.now chunks.old }
+        requires cut { CutsAround self.old.base cut.now chunks.old }
         requires news { AreWithin cut.now.from (length self.old.base.traces.now) news.now }
         ensures over { OnOk result (GoesAround self.old self.new cut.now news.now) }
-        ensures chunks { AreStillChunks self.old 0 chunks.old chunks.new }
+        ensures chunks { AreStillChunks self.old.base 0 chunks.old chunks.new }
         ensures steps { StepsAround result self.old cut.now news.now work.old work.new }
         ensures looked { ComparesUpTo work.old work.new (looks_around self.old cut.now (lengths_of chunks.old) news.now) }
     {

@@ -1,36 +1,42 @@
 //! Where blocks and literals stand behind an edit.
-ghost use Rattle.std.specs.Prelude.{◌≡◌, ◌≤◌, ◌++◌, ◌∷◌, [], IfOk, IsTrue, List, length};
+ghost use Rattle.std.specs.Prelude.{◌≡◌, ◌+◌, ◌≤◌, ◌++◌, ◌∷◌, [], IfOk, OnOk, IsTrue, List, length, sum};
 ghost use Rattle.cps_state.specs.Course.{Trace as Did};
 ghost use Rattle.cps_final.specs.Code.Storage.{IsStored};
 ghost use Rattle.cps_chunk.specs.Sparse.{AreWithin, renewed};
 ghost use Rattle.cps_edit.specs.Exchange.{exchanged};
 ghost use Rattle.cps_live.specs.Code.Exchanged.{HasRuns};
+ghost use Rattle.cps_chunk.specs.Code.Chunk.{IsChunkOf, lengths_of};
+ghost use Rattle.cps_chunk.specs.Code.Storing.{StoresAlso};
+ghost use Rattle.cps_chunk.specs.Code.Walk.{stretch};
+ghost use Rattle.cps_live.specs.Code.StillChunks.{AreStillChunks, CutsAround, IsStillChunk, StandFrom, renewed_in};
 ghost use Rattle.cps_live.specs.Code.Storing.{IsStoredBehind, edited, left_by_each};
 
 use crate::news::News;
 use crate::second_pass::split_before;
-use cps_chunk::{Baseline, ChunkSplice, SparseItem, leave_same, store_all, store_renewed};
+use cps_chunk::{
+    Baseline, Chunk, ChunkSplice, SparseItem, leave_same, part, store_all, store_renewed,
+};
 use cps_edit::Exchange;
 use cps_final::Storage;
 use cps_state::Trace;
 use std::alloc::AllocError;
 use std::slice::from_ref;
 
-/// Where blocks and literals stand behind an edit, None where they stand as they stood.
+/// Where blocks and literals stand behind an edit, None where they stand as they stood. Of chunks that stay, what their lines left together is taken.
 pub fn storage_behind(
     base: Baseline,
+    chunks: &mut [Chunk],
     storage: &Storage,
     cut: &ChunkSplice,
     traces: &News<Trace>,
 ) -> Result<Option<Storage>, AllocError>
     requires stored { IsStored storage.now base.traces.now }
-    requires ordered { cut.now.keep ≤ cut.now.from }
-    requires within { cut.now.from ≤ length base.traces.now }
+    requires cut { CutsAround base cut.now chunks.old }
     requires places { AreWithin cut.now.from (length base.traces.now) traces.now.renewed.items }
-    ensures { IfOk result (λ next. IsStoredBehind base.entry.traces.now next (edited cut.now traces.now base.entry.traces.now)) }
+    ensures stored { IfOk result (λ next. IsStoredBehind base.entry.traces.now next (edited cut.now traces.now base.entry.traces.now)) }
+    ensures chunks { AreStillChunks base.entry 0 chunks.old chunks.new }
 {
     let olds = base.traces;
-    let behind = &olds[cut.from..];
     if leave_same(&olds[cut.keep..cut.from], &traces.entered)
         && leave_same_each(olds, &traces.renewed)
     {
@@ -41,11 +47,83 @@ pub fn storage_behind(
         store_all(&mut next, &traces.entered)?;
         return Ok(Some(next));
     }
-    let mut next = Storage::new(base.alloc, base.hashing);
-    store_all(&mut next, &olds[..cut.keep])?;
-    store_all(&mut next, &traces.entered)?;
-    store_renewed(&mut next, cut.from, behind, &traces.renewed)?;
+    let next = storage_around(base, chunks, cut, traces)?;
     Ok(Some(next))
+}
+
+/// The same, made anew of what the chunks around it leave, and of what lines leave that stand in none.
+fn storage_around(
+    base: Baseline,
+    chunks: &mut [Chunk],
+    cut: &ChunkSplice,
+    traces: &News<Trace>,
+) -> Result<Storage, AllocError>
+    requires cut { CutsAround base cut.now chunks.old }
+    requires places { AreWithin cut.now.from (length base.traces.now) traces.now.renewed.items }
+    ensures stored { IfOk result (λ next. IsStored next (edited cut.now traces.now base.entry.traces.now)) }
+    ensures chunks { AreStillChunks base.entry 0 chunks.old chunks.new }
+{
+    let (in_front, rest) = chunks.split_at_mut(cut.start);
+    let (_, behind) = rest.split_at_mut(cut.end - cut.start);
+    let (here, left) = split_before(&traces.renewed, cut.behind);
+    let mut next = Storage::new(base.alloc, base.hashing);
+    store_chunks(&mut next, base, 0, in_front, &[])?;
+    store_all(&mut next, part(base.traces, cut.before, cut.keep))?;
+    store_all(&mut next, &traces.entered)?;
+    let loose = part(base.traces, cut.from, cut.behind);
+    store_renewed(&mut next, cut.from, loose, here)?;
+    store_chunks(&mut next, base, cut.behind, behind, left)?;
+    Ok(next)
+}
+
+/// With the lines of chunks more, the first of them with so many in front of it, of which these do something new.
+fn store_chunks(
+    storage: &mut Storage,
+    base: Baseline,
+    at: usize,
+    chunks: &mut [Chunk],
+    news: &[SparseItem<Trace>],
+) -> Result<(), AllocError>
+    requires chunks { StandFrom base at chunks.old }
+    requires news { AreWithin at (at + sum (lengths_of chunks.old)) news.now }
+    ensures stores { OnOk result (StoresAlso storage.old storage.new (renewed_in base.entry at (sum (lengths_of chunks.old)) news.now)) }
+    ensures chunks { AreStillChunks base.entry at chunks.old chunks.new }
+{
+    let mut at = at;
+    let mut left = news;
+    for chunk in chunks.iter_mut() {
+        let end = at + chunk.lines;
+        let (here, behind) = split_before(left, end);
+        store_chunk(storage, base, at, chunk, here)?;
+        at = end;
+        left = behind;
+    }
+    Ok(())
+}
+
+/// With the lines of one more, likewise.
+fn store_chunk(
+    storage: &mut Storage,
+    base: Baseline,
+    at: usize,
+    chunk: &mut Chunk,
+    news: &[SparseItem<Trace>],
+) -> Result<(), AllocError>
+    requires within { at + chunk.old.lines ≤ length base.traces.now }
+    requires chunk { IsChunkOf base.hashing (stretch at (at + chunk.old.lines) base.traces.now) chunk.old }
+    requires news { AreWithin at (at + chunk.old.lines) news.now }
+    ensures stores { OnOk result (StoresAlso storage.old storage.new (renewed_in base.entry at chunk.old.lines news.now)) }
+    ensures chunk { IsStillChunk base.entry at chunk.old chunk.new }
+{
+    let olds = part(base.traces, at, at + chunk.lines);
+    if !news.is_empty() {
+        return store_renewed(storage, at, olds, news);
+    }
+    chunk.gather_storage(base.alloc, base.hashing, olds)?;
+    match &chunk.storage {
+        Some(own) => storage.join(own),
+        None => store_all(storage, olds),
+    }
 }
 
 /// The same behind a line more, which does this.

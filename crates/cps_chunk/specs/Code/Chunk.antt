@@ -4,6 +4,7 @@ use Rattle.cps_state.specs.declared.hashing.Hashing.{Hashing}
 use Rattle.cps_state.specs.Course.{Trace}
 use Rattle.cps_final.specs.Code.RunGathering.{kept_run}
 use Rattle.cps_final.specs.NamedFinals.{names_in}
+use Rattle.cps_final.specs.Code.Storage.{IsStored}
 use Rattle.cps_chunk.specs.declared.chunk.Chunk.{Chunk}
 use Rattle.cps_chunk.specs.KeyFilter.{AreMarked, HasAll, keys_put, keys_asked, keys_named}
 
@@ -15,6 +16,7 @@ pub record IsChunkOf (hashing : Hashing) (traces : List Trace) (chunk : Chunk) :
   pub names : AreMarked hashing chunk.reads (keys_named traces)
   pub run : IfSome chunk.run (λ run. run ≡ kept_run traces)
   pub names_kept : IfSome chunk.names (λ names. names ≡ names_in traces)
+  pub storage : IfSome chunk.storage (λ storage. IsStored storage traces)
 
 -- what a line did was marked, no mark was lost, and nothing is gathered
 pub record WasMarked (hashing : Hashing) (trace : Trace) (old new : Chunk) : Type 0 where
@@ -25,6 +27,7 @@ pub record WasMarked (hashing : Hashing) (trace : Trace) (old new : Chunk) : Typ
   pub names : AreMarked hashing new.reads (keys_named (trace ∷ []))
   pub no_run : new.run ≡ None
   pub no_names : new.names ≡ None
+  pub no_storage : new.storage ≡ None
 
 -- how many lines each chunk has
 abbrev pub lengths_of : List Chunk → List ℕ

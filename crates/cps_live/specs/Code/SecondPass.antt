@@ -1,5 +1,5 @@
 -- For the code that makes pass two of an edit, not part of what a reader believes.
-use Rattle.std.specs.Prelude.{◌≡◌, ℕ, Bool, ◌+◌, ◌-◌, ◌^◌, ◌<◌, ◌≤◌, true, List, [], ◌++◌, length, drop, take, sum, Result, if◌then◌else◌}
+use Rattle.std.specs.Prelude.{◌≡◌, ℕ, Bool, ◌+◌, ◌-◌, true, List, [], ◌++◌, length, drop, take, Result, if◌then◌else◌}
 use Rattle.std.specs.List.{list_all}
 use Rattle.cps_state.specs.Course.{Trace}
 use Rattle.cps_state.specs.Work.{Counts}
@@ -8,8 +8,6 @@ use Rattle.cps_final.specs.Outcome.{Outcome}
 use Rattle.cps_final.specs.Agreeing.{same_at, same_named}
 use Rattle.cps_final.specs.NamedFinals.{names_in}
 use Rattle.cps_edit.specs.Compares.{Steps}
-use Rattle.cps_chunk.specs.Code.Chunk.{AreChunksOf, IsChunkOf, lengths_of}
-use Rattle.cps_chunk.specs.declared.chunk.Chunk.{Chunk}
 use Rattle.cps_chunk.specs.declared.sparse.SparseItem.{SparseItem}
 use Rattle.cps_final.specs.Code.Ends.{was_of, now_of}
 use Rattle.cps_chunk.specs.Code.Looks.{items_from, looks_again}
@@ -42,21 +40,6 @@ pub record GoesOver (old new : SecondPass) (from to : ℕ) (news : List (SparseI
   pub base : new.base ≡ old.base
   pub differences : new.differences ≡ old.differences
 
--- chunks of lines that were there, the first of them with so many in front of it
-pub record StandFrom (pass : SecondPass) (at : ℕ) (olds : List Chunk) : Type 0 where
-  pub room : at + sum (lengths_of olds) < 2 ^ 64
-  pub within : at + sum (lengths_of olds) ≤ length pass.base.traces.now
-  pub chunks : AreChunksOf pass.base.hashing olds (stretch at (at + sum (lengths_of olds)) pass.base.traces.now)
-
--- a chunk has the lines that it had, whatever was gathered of them
-pub record IsStillChunk (pass : SecondPass) (at : ℕ) (old new : Chunk) : Type 0 where
-  pub chunk : IsChunkOf pass.base.hashing (stretch at (at + old.lines) pass.base.traces.now) new
-  pub lines : new.lines ≡ old.lines
-
-pub record AreStillChunks (pass : SecondPass) (at : ℕ) (olds news : List Chunk) : Type 0 where
-  pub chunks : AreChunksOf pass.base.hashing news (stretch at (at + sum (lengths_of olds)) pass.base.traces.now)
-  pub lengths : lengths_of news ≡ lengths_of olds
-
 -- how many lines of a chunk are compared, and how many of chunks
 abbrev pub looks_at : SecondPass → ℕ → ℕ → List (SparseItem Trace) → ℕ
 looks_at pass from to news =
@@ -74,18 +57,6 @@ abbrev pub NoneDiffers : SecondPass → ComparedSpan → Type 0
 NoneDiffers pass lines = lines.none_differs ≡ true → NameTheSame pass (stretch lines.from lines.to pass.base.traces.now)
 
 -- ---- around an edit
-
--- chunks of all lines, of which some go, with lines in front of the edit and behind it
-pub record CutsAround (pass : SecondPass) (cut : ChunkSplice) (olds : List Chunk) : Type 0 where
-  pub chunks : AreChunksOf pass.base.hashing olds pass.base.traces.now
-  pub ordered : cut.start ≤ cut.end
-  pub within : cut.end ≤ length olds
-  pub before : cut.before ≡ sum (take cut.start (lengths_of olds))
-  pub behind : cut.behind ≡ sum (take cut.end (lengths_of olds))
-  pub begins : cut.before ≤ cut.keep
-  pub order : cut.keep ≤ cut.from
-  pub ends : cut.from ≤ cut.behind
-  pub few : length pass.base.traces.now < 2 ^ 64
 
 abbrev pub redone_around : SecondPass → ChunkSplice → List (SparseItem Trace) → List (SparseItem Outcome)
 redone_around pass cut news = redone_in pass 0 cut.keep [] ++ redone_in pass cut.from (length pass.base.traces.now) news

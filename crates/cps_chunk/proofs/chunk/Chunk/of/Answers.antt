@@ -3,7 +3,7 @@ use Rattle.cps_chunk.proofs.ChunkLemmas.{chunk-none, chunk-next, chunk-all, line
 use Rattle.cps_chunk.proofs.chunk.Chunk.of.Goals as goal
 
 pub loop-trace-init : goal.loop-trace-init
-loop-trace-init c = chunk-none c.args.hashing _ refl refl refl
+loop-trace-init c = chunk-none c.args.hashing _ refl refl refl refl
 
 pub grow-requires : goal.grow-requires
 grow-requires c =

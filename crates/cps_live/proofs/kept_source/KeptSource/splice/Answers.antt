@@ -1,29 +1,24 @@
 use Rattle.std.proofs.Common.{arith, rules, ◌≡◌, ◌≤◌, ℕ, List, Ok, length, sym, ap, subst, ◌∙◌}
 use Rattle.std.specs.Prelude.{All, slice_get, vec_len}
-use Rattle.cps_state.specs.Course.{Trace}
-use Rattle.cps_state.specs.Keys.{first_state}
 use Rattle.cps_final.specs.Code.Kept.{changes_in}
-use Rattle.cps_final.specs.Finals.{Finals, final_value, finals_of}
-use Rattle.cps_final.specs.Code.Storage.{IsStored}
+use Rattle.cps_final.specs.Finals.{final_value, finals_of}
 use Rattle.cps_final.specs.Code.FinalsPatch.{patched}
 use Rattle.cps_final.specs.contracts.finals.FinalsGathered.TheImpl.{gathered-value}
 use Rattle.cps_edit.specs.Disturbed.{finals_in}
 use Rattle.cps_edit.specs.Passes.{traces_of}
 use Rattle.cps_edit.specs.Splice.{spliced}
 use Rattle.cps_chunk.specs.Code.Chunk.{lengths_of}
-use Rattle.cps_chunk.specs.Sparse.{AreWithin, renewed}
-use Rattle.cps_chunk.proofs.ReplayedLemmas.{replayed_behind-within}
+use Rattle.cps_chunk.specs.Sparse.{renewed}
 use Rattle.cps_live.specs.Code.Editing.{AreEnds, AreNewOutcomes, LooksOfSecond, StepsOfSecond, put_between, splice_of}
 use Rattle.cps_live.specs.Code.Redone.{places_behind}
 use Rattle.cps_live.specs.declared.news.News.{News}
 use Rattle.cps_live.specs.declared.redone.Redone.{Redone}
 use Rattle.cps_final.specs.Outcome.{Outcome}
 use Rattle.std.specs.declared.alloc.AllocError.{AllocError}
-use Rattle.cps_edit.proofs.SpliceLemmas.{length-traces_from}
-use Rattle.cps_live.specs.Code.Storing.{IsStoredBehind}
+use Rattle.cps_live.specs.Code.Storing.{IsStorageOf}
 use Rattle.cps_live.proofs.EditLemmas.{looked-both, looked-first, room-still}
 use Rattle.cps_live.proofs.KeptLemmas.{entered-outcomes, outcomes-long}
-use Rattle.cps_live.proofs.PatchedLemmas.{are-ends, edited-is, finals-patched, may-stand}
+use Rattle.cps_live.proofs.PatchedLemmas.{are-ends, finals-patched, may-stand}
 use Rattle.cps_live.proofs.RedoneLemmas.{left}
 use Rattle.cps_live.proofs.kept_source.KeptSource.splice.Goals as goal
 
@@ -31,37 +26,6 @@ pub returns-in_err-pass-clause-looked : goal.returns-in_err-pass-clause-looked
 returns-in_err-pass-clause-looked c = looked-first c.args.self.now.lines.items (lengths_of c.args.self.now.chunks.items) c.args.cut c.requires.cut _ _ c.pass_one.ensures.looked
 
 -- ---- where blocks and literals stand
-
-pub storage_behind-requires-clause-stored : goal.storage_behind-requires-clause-stored
-storage_behind-requires-clause-stored c =
-    let kept = c.pass_one.ensures.kept in
-    let there = ap (λ (finals : Finals). record finals { state = first_state }) kept.finals in
-    let same : traces_of c.pass_one.new.self.lines.items ≡ c.baseline.result.traces.now = sym (c.baseline.ensures.traces ∙ kept.lines.did) in
-    let stored = ap (λ (finals : Finals). record finals { state = first_state }) c.storage.ensures in
-    subst (IsStored c.storage.result.now) same (stored ∙ there)
-
-pub storage_behind-requires-clause-within : goal.storage_behind-requires-clause-within
-storage_behind-requires-clause-within c =
-    let still = c.pass_one.ensures.still in
-    let did = c.requires.kept.lines.did in
-    omega (
-      arith,
-      c.requires.cut.recuts.within,
-      ap length c.baseline.ensures.traces,
-      ap length still.traces,
-      ap length did,
-      length-traces_from first_state c.args.self.now.lines.items,
-    )
-
-pub storage_behind-requires-clause-places : goal.storage_behind-requires-clause-places
-storage_behind-requires-clause-places c =
-    let still = c.pass_one.ensures.still in
-    let did = c.requires.kept.lines.did in
-    let size : length c.args.self.now.lines.items ≡ length c.baseline.result.traces.now =
-    sym (ap length c.baseline.ensures.traces ∙ ap length still.traces ∙ ap length did ∙ length-traces_from first_state c.args.self.now.lines.items) in
-    let within = replayed_behind-within c.args.self.now.lines.items (splice_of c.args.cut) c.requires.cut.recuts.within in
-    subst (λ (n : ℕ). AreWithin c.args.cut.from n c.in_ok-pass.pass.traces.renewed.items) size
-    (subst (λ news. AreWithin c.args.cut.from (length c.args.self.now.lines.items) news) (sym c.in_ok-pass.ensures.pass.traces.renewed) within)
 
 pub returns-in_err-storage-clause-looked : goal.returns-in_err-storage-clause-looked
 returns-in_err-storage-clause-looked c = looked-first c.args.self.now.lines.items (lengths_of c.args.self.now.chunks.items) c.args.cut c.requires.cut _ _ c.pass_one.ensures.looked
@@ -81,16 +45,15 @@ redo-requires-clause-ends c =
     let cut = c.args.cut in
     let pass = c.in_ok-pass.ensures.pass in
     let one = c.pass_one.ensures.still in
+    let mid = c.storage_of.ensures.still.still in
     let two = c.make_room.ensures.still in
-    let did : c.baseline.result.traces.now ≡ traces_of lines = c.baseline.ensures.traces ∙ one.traces ∙ c.requires.kept.lines.did in
     let kept : gathered-value.it c.make_room.new.self.finals ≡ finals_of (traces_of lines) =
-    c.make_room.ensures.kept.finals ∙ ap (λ ls. finals_of (traces_of ls)) (two.lines ∙ one.lines) in
-    let stored = subst (λ (ts : List Trace). IsStoredBehind ts c.in_ok-storage.storage (traces_of (spliced lines (splice_of cut)))) did
-    (subst (λ (ts : List Trace). IsStoredBehind c.baseline.result.traces.now c.in_ok-storage.storage ts) (edited-is lines cut c.in_ok-pass.pass.traces pass.traces c.baseline.result.traces.now did) c.in_ok-storage.ensures) in
+    c.make_room.ensures.kept.finals ∙ ap (λ ls. finals_of (traces_of ls)) (two.lines ∙ mid.lines ∙ one.lines) in
+    let stored = subst (λ (ls : List (List ℕ)). IsStorageOf ls (splice_of cut) c.in_ok-storage.storage) one.lines c.in_ok-storage.ensures.storage in
     let there : gathered-value.it c.exchange.new.self ≡ finals_of (traces_of (spliced lines (splice_of cut))) =
     c.exchange.ensures.now ∙ ap (patched (record { changes = c.in_ok-pass.pass.changes; storage = c.in_ok-storage.storage })) kept
     ∙ finals-patched lines (spliced lines (splice_of cut)) c.in_ok-storage.storage (changes_in c.in_ok-pass.pass.changes) stored pass.state in
-    subst (λ (ls : List (List ℕ)). AreEnds ls (splice_of cut) (final_value (patched c.exchange.new.patch (gathered-value.it c.exchange.new.self))) (final_value (gathered-value.it c.exchange.new.self))) (sym (two.lines ∙ one.lines))
+    subst (λ (ls : List (List ℕ)). AreEnds ls (splice_of cut) (final_value (patched c.exchange.new.patch (gathered-value.it c.exchange.new.self))) (final_value (gathered-value.it c.exchange.new.self))) (sym (two.lines ∙ mid.lines ∙ one.lines))
     (are-ends lines (splice_of cut) (patched c.exchange.new.patch (gathered-value.it c.exchange.new.self)) (gathered-value.it c.exchange.new.self) (gathered-value.it c.make_room.new.self.finals)
     c.exchange.ensures.back kept there)
 
@@ -113,17 +76,16 @@ returns-in-Ok-clause-kept c =
     let cut = c.args.cut in
     let pass = c.in_ok-pass.ensures.pass in
     let one = c.pass_one.ensures.still in
+    let mid = c.storage_of.ensures.still.still in
     let two = c.make_room.ensures.still in
-    let did : c.baseline.result.traces.now ≡ traces_of lines = c.baseline.ensures.traces ∙ one.traces ∙ c.requires.kept.lines.did in
     let kept : gathered-value.it c.make_room.new.self.finals ≡ finals_of (traces_of lines) =
-    c.make_room.ensures.kept.finals ∙ ap (λ ls. finals_of (traces_of ls)) (two.lines ∙ one.lines) in
-    let stored = subst (λ (ts : List Trace). IsStoredBehind ts c.in_ok-storage.storage (traces_of (spliced lines (splice_of cut)))) did
-    (subst (λ (ts : List Trace). IsStoredBehind c.baseline.result.traces.now c.in_ok-storage.storage ts) (edited-is lines cut c.in_ok-pass.pass.traces pass.traces c.baseline.result.traces.now did) c.in_ok-storage.ensures) in
+    c.make_room.ensures.kept.finals ∙ ap (λ ls. finals_of (traces_of ls)) (two.lines ∙ mid.lines ∙ one.lines) in
+    let stored = subst (λ (ls : List (List ℕ)). IsStorageOf ls (splice_of cut) c.in_ok-storage.storage) one.lines c.in_ok-storage.ensures.storage in
     let there : gathered-value.it c.exchange.new.self ≡ finals_of (traces_of (spliced lines (splice_of cut))) =
     c.exchange.ensures.now ∙ ap (patched (record { changes = c.in_ok-pass.pass.changes; storage = c.in_ok-storage.storage })) kept
     ∙ finals-patched lines (spliced lines (splice_of cut)) c.in_ok-storage.storage (changes_in c.in_ok-pass.pass.changes) stored pass.state in
     let three = c.redo.ensures.still in
-    let behind = c.commit.ensures.edited.lines ∙ ap (λ ls. spliced ls (splice_of cut)) (three.still.lines ∙ two.lines ∙ one.lines) in
+    let behind = c.commit.ensures.edited.lines ∙ ap (λ ls. spliced ls (splice_of cut)) (three.still.lines ∙ two.lines ∙ mid.lines ∙ one.lines) in
     record {
       lines = c.commit.ensures.kept;
       finals = ap (λ finals. gathered-value.it finals) (c.commit.ensures.finals ∙ three.finals) ∙ there ∙ ap (λ ls. finals_of (traces_of ls)) (sym behind);
@@ -134,15 +96,16 @@ returns-in-Ok-clause-redone c =
     let h = c.requires in
     let cut = c.args.cut in
     let one = c.pass_one.ensures.still in
+    let mid = c.storage_of.ensures.still.still in
     let two = c.make_room.ensures.still in
     let olds : List Outcome = c.args.self.now.outcomes.items in
     let made : News Outcome = c.in-Ok.made.0 in
-    let new = subst (λ (ls : List (List ℕ)). AreNewOutcomes (finals_in ls) (finals_in (spliced ls (splice_of cut))) ls (splice_of cut) made) (two.lines ∙ one.lines) c.in-Ok.ensures.made in
+    let new = subst (λ (ls : List (List ℕ)). AreNewOutcomes (finals_in ls) (finals_in (spliced ls (splice_of cut))) ls (splice_of cut) made) (two.lines ∙ mid.lines ∙ one.lines) c.in-Ok.ensures.made in
     let long : length made.entered.items ≡ length cut.lines.items = entered-outcomes h.kept.lines h.cut new in
     let count : vec_len made.entered ≡ length cut.lines.items = omega (arith, made.entered.ok.0, long) in
     let places = c.in-Ok.ensures.places ∙ ap (λ n. places_behind cut.keep cut.from n made.renewed.items) count in
     let put = c.commit.ensures.outcomes
-    ∙ ap (λ (os : List Outcome). put_between cut.keep cut.from made.entered.items (renewed 0 made.renewed.items os)) (c.redo.ensures.still.still.outcomes ∙ two.outcomes ∙ one.outcomes) in
+    ∙ ap (λ (os : List Outcome). put_between cut.keep cut.from made.entered.items (renewed 0 made.renewed.items os)) (c.redo.ensures.still.still.outcomes ∙ two.outcomes ∙ mid.outcomes ∙ one.outcomes) in
     let within : cut.from ≤ length olds = omega (arith, h.cut.recuts.within, outcomes-long h.kept.lines h.cut) in
     λ at is none.
     ap (λ (os : List Outcome). slice_get os at) put
@@ -153,10 +116,11 @@ pub returns-in-Ok-clause-steps : goal.returns-in-Ok-clause-steps
 returns-in-Ok-clause-steps c =
     let lines = c.args.self.now.lines.items in
     let one = c.pass_one.ensures.still in
+    let mid = c.storage_of.ensures.still.still in
     let two = c.make_room.ensures.still in
     let s = c.in_ok-pass.ensures.steps in
-    let t = subst (λ (ls : List (List ℕ)). StepsOfSecond c.redo.result ls c.args.cut c.pass_one.new.work c.redo.new.work) (two.lines ∙ one.lines) c.redo.ensures.work.steps in
-    let exact = (subst (λ (ls : List (List ℕ)). StepsOfSecond {T = News Outcome × Redone} {E = AllocError} (Ok c.in-Ok.made) ls c.args.cut c.pass_one.new.work c.redo.new.work) (two.lines ∙ one.lines) c.in-Ok.ensures.work.steps).twos in
+    let t = subst (λ (ls : List (List ℕ)). StepsOfSecond c.redo.result ls c.args.cut c.pass_one.new.work c.redo.new.work) (two.lines ∙ mid.lines ∙ one.lines) c.redo.ensures.work.steps in
+    let exact = (subst (λ (ls : List (List ℕ)). StepsOfSecond {T = News Outcome × Redone} {E = AllocError} (Ok c.in-Ok.made) ls c.args.cut c.pass_one.new.work c.redo.new.work) (two.lines ∙ mid.lines ∙ one.lines) c.in-Ok.ensures.work.steps).twos in
     record {
       ones = omega (arith, s.ones, t.ones_least, t.ones_most);
       twos = omega (arith, s.twos, exact);
@@ -169,9 +133,10 @@ returns-in-Ok-clause-steps c =
 pub returns-in-Ok-clause-looked : goal.returns-in-Ok-clause-looked
 returns-in-Ok-clause-looked c =
     let one = c.pass_one.ensures.still in
+    let mid = c.storage_of.ensures.still.still in
     let two = c.make_room.ensures.still in
-    let t = subst (λ (ls : List (List ℕ)). LooksOfSecond ls (lengths_of c.make_room.new.self.chunks.items) c.args.cut c.pass_one.new.work c.redo.new.work) (two.lines ∙ one.lines) c.redo.ensures.work.looked in
-    let u = subst (λ (ns : List ℕ). LooksOfSecond c.args.self.now.lines.items ns c.args.cut c.pass_one.new.work c.redo.new.work) (two.lengths ∙ one.lengths) t in
+    let t = subst (λ (ls : List (List ℕ)). LooksOfSecond ls (lengths_of c.make_room.new.self.chunks.items) c.args.cut c.pass_one.new.work c.redo.new.work) (two.lines ∙ mid.lines ∙ one.lines) c.redo.ensures.work.looked in
+    let u = subst (λ (ns : List ℕ). LooksOfSecond c.args.self.now.lines.items ns c.args.cut c.pass_one.new.work c.redo.new.work) (two.lengths ∙ mid.lengths ∙ one.lengths) t in
     looked-both c.args.self.now.lines.items (lengths_of c.args.self.now.chunks.items) c.args.cut c.requires.cut _ _ _ c.pass_one.ensures.looked u
 
 -- ---- there was no memory for pass two
@@ -182,12 +147,11 @@ returns-in-Err-clause-kept c =
     let cut = c.args.cut in
     let pass = c.in_ok-pass.ensures.pass in
     let one = c.pass_one.ensures.still in
+    let mid = c.storage_of.ensures.still.still in
     let two = c.make_room.ensures.still in
-    let did : c.baseline.result.traces.now ≡ traces_of lines = c.baseline.ensures.traces ∙ one.traces ∙ c.requires.kept.lines.did in
     let kept : gathered-value.it c.make_room.new.self.finals ≡ finals_of (traces_of lines) =
-    c.make_room.ensures.kept.finals ∙ ap (λ ls. finals_of (traces_of ls)) (two.lines ∙ one.lines) in
-    let stored = subst (λ (ts : List Trace). IsStoredBehind ts c.in_ok-storage.storage (traces_of (spliced lines (splice_of cut)))) did
-    (subst (λ (ts : List Trace). IsStoredBehind c.baseline.result.traces.now c.in_ok-storage.storage ts) (edited-is lines cut c.in_ok-pass.pass.traces pass.traces c.baseline.result.traces.now did) c.in_ok-storage.ensures) in
+    c.make_room.ensures.kept.finals ∙ ap (λ ls. finals_of (traces_of ls)) (two.lines ∙ mid.lines ∙ one.lines) in
+    let stored = subst (λ (ls : List (List ℕ)). IsStorageOf ls (splice_of cut) c.in_ok-storage.storage) one.lines c.in_ok-storage.ensures.storage in
     let there : gathered-value.it c.exchange.new.self ≡ finals_of (traces_of (spliced lines (splice_of cut))) =
     c.exchange.ensures.now ∙ ap (patched (record { changes = c.in_ok-pass.pass.changes; storage = c.in_ok-storage.storage })) kept
     ∙ finals-patched lines (spliced lines (splice_of cut)) c.in_ok-storage.storage (changes_in c.in_ok-pass.pass.changes) stored pass.state in
@@ -195,16 +159,17 @@ returns-in-Err-clause-kept c =
     record {
       lines = record { first = all.first; did = all.did; made = all.made; chunks = all.chunks; divided = all.divided; read = all.read };
       finals = c.exchange-in-Err.ensures.now ∙ ap (λ finals. patched c.exchange.new.patch (gathered-value.it finals)) c.redo.ensures.still.finals ∙ c.exchange.ensures.back ∙ kept
-          ∙ ap (λ ls. finals_of (traces_of ls)) (sym (c.redo.ensures.still.still.lines ∙ two.lines ∙ one.lines));
+          ∙ ap (λ ls. finals_of (traces_of ls)) (sym (c.redo.ensures.still.still.lines ∙ two.lines ∙ mid.lines ∙ one.lines));
     }
 
 pub returns-in-Err-clause-steps : goal.returns-in-Err-clause-steps
 returns-in-Err-clause-steps c =
     let lines = c.args.self.now.lines.items in
     let one = c.pass_one.ensures.still in
+    let mid = c.storage_of.ensures.still.still in
     let two = c.make_room.ensures.still in
     let s = c.in_ok-pass.ensures.steps in
-    let t = subst (λ (ls : List (List ℕ)). StepsOfSecond c.redo.result ls c.args.cut c.pass_one.new.work c.redo.new.work) (two.lines ∙ one.lines) c.redo.ensures.work.steps in
+    let t = subst (λ (ls : List (List ℕ)). StepsOfSecond c.redo.result ls c.args.cut c.pass_one.new.work c.redo.new.work) (two.lines ∙ mid.lines ∙ one.lines) c.redo.ensures.work.steps in
     record {
       ones = search rules;
       twos = search rules;
@@ -217,7 +182,8 @@ returns-in-Err-clause-steps c =
 pub returns-in-Err-clause-looked : goal.returns-in-Err-clause-looked
 returns-in-Err-clause-looked c =
     let one = c.pass_one.ensures.still in
+    let mid = c.storage_of.ensures.still.still in
     let two = c.make_room.ensures.still in
-    let t = subst (λ (ls : List (List ℕ)). LooksOfSecond ls (lengths_of c.make_room.new.self.chunks.items) c.args.cut c.pass_one.new.work c.redo.new.work) (two.lines ∙ one.lines) c.redo.ensures.work.looked in
-    let u = subst (λ (ns : List ℕ). LooksOfSecond c.args.self.now.lines.items ns c.args.cut c.pass_one.new.work c.redo.new.work) (two.lengths ∙ one.lengths) t in
+    let t = subst (λ (ls : List (List ℕ)). LooksOfSecond ls (lengths_of c.make_room.new.self.chunks.items) c.args.cut c.pass_one.new.work c.redo.new.work) (two.lines ∙ mid.lines ∙ one.lines) c.redo.ensures.work.looked in
+    let u = subst (λ (ns : List ℕ). LooksOfSecond c.args.self.now.lines.items ns c.args.cut c.pass_one.new.work c.redo.new.work) (two.lengths ∙ mid.lengths ∙ one.lengths) t in
     looked-both c.args.self.now.lines.items (lengths_of c.args.self.now.chunks.items) c.args.cut c.requires.cut _ _ _ c.pass_one.ensures.looked u

@@ -13,7 +13,7 @@ use Rattle.cps_final.specs.Code.Ends.{was_of, now_of}
 use Rattle.cps_chunk.specs.Code.Redo.{is_passed}
 use Rattle.cps_chunk.specs.Replayed.{redone}
 use Rattle.cps_chunk.specs.Code.Walk.{stretch}
-use Rattle.cps_live.specs.Code.SecondPass.{IsStillChunk}
+use Rattle.cps_live.specs.Code.StillChunks.{IsStillChunk}
 use Rattle.cps_live.proofs.CountLemmas.{steps-none, looks-wider}
 use Rattle.cps_live.proofs.SecondPassLemmas.{on-ok, none-made, goes-none, looks-all}
 use Rattle.cps_live.proofs.second_pass.SecondPass.go_over_chunk.Goals as goal
@@ -67,7 +67,7 @@ returns-clause-over c =
 pub returns-clause-chunk : goal.returns-clause-chunk
 returns-clause-chunk c =
     let pass = c.args.self.now in
-    let still : Chunk → Type 0 = λ d. IsStillChunk pass c.args.at c.args.chunk.now d in
+    let still : Chunk → Type 0 = λ d. IsStillChunk pass.base c.args.at c.args.chunk.now d in
     elim c.else-is_empty.branch [
       | else-is_empty-via-then-is_empty+in_ok-passes+else-branch w ↦
           subst still (sym w.chunk-is) (record {

@@ -8,7 +8,8 @@ use Rattle.cps_chunk.specs.Code.Chunk.{lengths_of}
 use Rattle.cps_final.specs.Code.Ends.{was_of, now_of}
 use Rattle.cps_live.proofs.CountLemmas.{steps-none, counts-next, counts-fail, looks-next}
 use Rattle.cps_live.proofs.NamesReadLemmas.{all-stretch}
-use Rattle.cps_live.proofs.SecondPassLemmas.{each-made, goes-none, next-within}
+use Rattle.cps_live.proofs.SecondPassLemmas.{each-made, goes-none}
+use Rattle.cps_live.proofs.PartLemmas.{next-within}
 use Rattle.cps_live.proofs.ChunkLoopLemmas.{next-chunk, stops-at, here-exact, here-end, here-chunk, here-within, here-count, here-looks, here-over, here-chunks, here-lengths, here-all}
 use Rattle.cps_live.proofs.second_pass.SecondPass.go_over_chunks.Goals as goal
 
@@ -44,7 +45,7 @@ overflow_add-end c =
     let i = c.loop-chunk.chunk-index in
     let chunk = get_or ds i c.chunk-item.result in
     let there : i < length ds = omega arith in
-    let le = next-within c.args.self.now c.args.at c.args.chunks.now ds c.loop-chunk.invariant.lengths i c.loop-chunk.at chunk there (ap (get_or ds i) c.chunk-item.is)
+    let le = next-within c.args.self.now.base c.args.at c.args.chunks.now ds c.loop-chunk.invariant.lengths i c.loop-chunk.at chunk there (ap (get_or ds i) c.chunk-item.is)
     c.loop-chunk.invariant.place in
     first_of (search rules, omega (arith, le, c.requires.chunks.room))
 
