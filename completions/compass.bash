@@ -7,7 +7,7 @@ _compass_words() {
     '') echo 'batch session check compare disassemble explain server help -h --help -V --version' ;;
     batch) echo '--part --listing --binary --symbols --flags --page -h --help' ;;
     session) echo '--source -h --help' ;;
-    check) echo '-h --help' ;;
+    check) echo '--errors -h --help' ;;
     compare) echo '--format --columns --offset --from --to --whole --all -h --help' ;;
     disassemble) echo '--central --peripheral --from --to --columns --format -h --help' ;;
     explain) echo '-h --help' ;;

@@ -18,6 +18,7 @@ complete -c compass -n '__fish_seen_subcommand_from session' -l source -r -F -d 
 
 complete -c compass -n __fish_use_subcommand -a check -d 'Tell what is wrong in a source'
 complete -c compass -n '__fish_seen_subcommand_from check' -F
+complete -c compass -n '__fish_seen_subcommand_from check' -l errors -d 'Tell errors alone, and no notes'
 
 complete -c compass -n __fish_use_subcommand -a compare -d 'Compare the words of a source with an octal listing or dump'
 complete -c compass -n '__fish_seen_subcommand_from compare' -F

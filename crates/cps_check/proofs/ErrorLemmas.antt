@@ -6,7 +6,7 @@ use Rattle.std.proofs.lemmas.List.Folds.{list_any-append}
 use Rattle.cps_cause.specs.declared.diagnostic.Diagnostic.{Diagnostic}
 use Rattle.cps_input.specs.declared.character_fault.CharacterFault.{CharacterFault}
 use Rattle.cps_check.specs.declared.notes.Note.{Note}
-use Rattle.cps_check.specs.Reports.{Report, excess_report, fault_report, flag_report, has_errors, is_error, note_report}
+use Rattle.cps_check.specs.Reports.{AreAsked, Report, excess_report, fault_report, flag_report, has_errors, has_notes, is_error, note_report}
 use Rattle.cps_check.proofs.FlagLemmas.{true-false}
 
 -- ---- reports one behind the other
@@ -66,3 +66,37 @@ faults-wrong number line (fault ∷ faults) some = refl
 pub excess-wrong : (test : Bool) (number : ℕ) → test ≡ has_errors (if test then excess_report number ∷ [] else [])
 excess-wrong true number = refl
 excess-wrong false number = refl
+
+-- ---- reports without notes
+
+pub notes-append : (reports others : List Report) → has_notes (reports ++ others) ≡ (has_notes reports || has_notes others)
+notes-append reports others = list_any-append (λ (report : Report). not (is_error report.kind)) reports others
+
+pub asked-both : (errors_only : Bool) (reports others : List Report) → AreAsked errors_only reports → AreAsked errors_only others
+    → AreAsked errors_only (reports ++ others)
+asked-both errors_only reports others here back =
+    λ only. notes-append reports others ∙ ap (λ (x : Bool). x || has_notes others) (here only) ∙ back only
+
+no-notes-flags : (number : ℕ) (line : List ℕ) (told : List Diagnostic) → has_notes (map (flag_report number line) told) ≡ false
+no-notes-flags number line [] = refl
+no-notes-flags number line (d ∷ told) = no-notes-flags number line told
+
+pub asked-flags : (errors_only : Bool) (number : ℕ) (line : List ℕ) (told : List Diagnostic) → AreAsked errors_only (map (flag_report number line) told)
+asked-flags errors_only number line told = λ _. no-notes-flags number line told
+
+no-notes-faults : (number : ℕ) (line : List ℕ) (faults : List CharacterFault) → has_notes (map (fault_report number line) faults) ≡ false
+no-notes-faults number line [] = refl
+no-notes-faults number line (fault ∷ faults) = no-notes-faults number line faults
+
+pub asked-faults : (errors_only : Bool) (number : ℕ) (line : List ℕ) (faults : List CharacterFault)
+    → AreAsked errors_only (map (fault_report number line) faults)
+asked-faults errors_only number line faults = λ _. no-notes-faults number line faults
+
+-- notes that are none where errors alone are asked for
+pub asked-notes : (errors_only : Bool) (number : ℕ) (line : List ℕ) (notes : List Note) → (errors_only ≡ true → notes ≡ [])
+    → AreAsked errors_only (map (note_report number line) notes)
+asked-notes errors_only number line notes none = λ only. ap (λ (found : List Note). has_notes (map (note_report number line) found)) (none only)
+
+pub asked-excess : (errors_only test : Bool) (number : ℕ) → AreAsked errors_only (if test then excess_report number ∷ [] else [])
+asked-excess errors_only true number = λ _. refl
+asked-excess errors_only false number = λ _. refl

@@ -23,7 +23,7 @@ use Rattle.cps_check.specs.declared.notes.Note.{Note}
 use Rattle.cps_check.specs.Reports.{ReportsLine, ReportsLines, flag_report, fault_report, note_report}
 use Rattle.cps_check.proofs.TextLemmas.{Adds-append, Adds-none}
 use Rattle.cps_check.proofs.ReportLemmas.{ReportsLines-next}
-use Rattle.cps_check.proofs.ErrorLemmas.{both-wrong, faults-wrong, flags-wrong, no-faults, with-notes}
+use Rattle.cps_check.proofs.ErrorLemmas.{asked-both, asked-faults, asked-flags, asked-notes, both-wrong, faults-wrong, flags-wrong, no-faults, with-notes}
 use Rattle.cps_check.proofs.FlagLemmas.{true-false}
 
 -- ---- one line
@@ -58,27 +58,32 @@ empty : {X : Type 0} (xs : List X) → nat_eq (length xs) 0 ≡ true → xs ≡ 
 empty xs none = nil_from_length xs (grind (arith, nat_tests))
 
 -- a line with faults is told
-pub AddsLine-faults : (name : List ℕ) (number : ℕ) (line : List ℕ) (outcome : Outcome) (faults told : List CharacterFault) (old new : List ℕ)
+pub AddsLine-faults : (errors_only : Bool) (name : List ℕ) (number : ℕ) (line : List ℕ) (outcome : Outcome) (faults told : List CharacterFault) (old new : List ℕ)
     → AreFaults number line faults → (faults ≡ []) ↔ IsLine line → nat_eq (length faults) 0 ≡ false → told ≡ faults
-    → Adds name (map (fault_report number line) told) old new → AddsLine name number line outcome true old new
-AddsLine-faults name number line outcome faults told old new are none some is added = record {
+    → Adds name (map (fault_report number line) told) old new → AddsLine errors_only name number line outcome true old new
+AddsLine-faults errors_only name number line outcome faults told old new are none some is added = record {
   reports = map (fault_report number line) faults;
   told = ReportsLine-faults number line outcome faults are none (filled faults some);
+  asked = asked-faults errors_only number line faults;
   wrong = faults-wrong number line faults (filled faults some);
   added = subst (λ (fs : List CharacterFault). Adds name (map (fault_report number line) fs) old new) is added;
 }
 
 -- a line without
-pub AddsLine-flags : (name : List ℕ) (number : ℕ) (line card : List ℕ) (outcome : Outcome) (faults : List CharacterFault) (causes told : List Diagnostic)
+pub AddsLine-flags : (errors_only : Bool) (name : List ℕ) (number : ℕ) (line card : List ℕ) (outcome : Outcome) (faults : List CharacterFault) (causes told : List Diagnostic)
     (notes : List Note) (is_silent : Bool) (old noted new : List ℕ) → (faults ≡ []) ↔ IsLine line → nat_eq (length faults) 0 ≡ true → card ≡ card_of line
     → Explains card outcome.rows causes → told ≡ causes → is_silent ≡ nat_eq (length causes) 0 → Adds name (map (flag_report number line) told) old noted
-    → Adds name (map (note_report number line) notes) noted new → AddsLine name number line outcome (not is_silent) old new
-AddsLine-flags name number line card outcome faults causes told notes is_silent old noted new none nothing same explains is silent added more =
+    → Adds name (map (note_report number line) notes) noted new → (errors_only ≡ true → notes ≡ [])
+    → AddsLine errors_only name number line outcome (not is_silent) old new
+AddsLine-flags errors_only name number line card outcome faults causes told notes is_silent old noted new none nothing same explains is silent added more asked =
     let flags = map (flag_report number line) causes in
     let flagged : Adds name flags old noted = subst (λ (ds : List Diagnostic). Adds name (map (flag_report number line) ds) old noted) is added in
     record {
       reports = flags ++ map (note_report number line) notes;
       told = ReportsLine-flags number line card outcome causes notes (none.0 (empty faults nothing)) same explains;
+      asked =
+          asked-both errors_only flags (map (note_report number line) notes) (asked-flags errors_only number line causes)
+          (asked-notes errors_only number line notes asked);
       wrong = flags-wrong number line causes is_silent silent ∙ sym (with-notes flags number line notes);
       added = Adds-append name flags (map (note_report number line) notes) old noted new flagged more;
     }
@@ -127,32 +132,32 @@ trace-within lines cards traces at is traces_is within =
 
 -- ---- one line after another
 
-pub AddsLines-none : (name : List ℕ) (finals : Finals) (lines : List (Bor (List ℕ))) (traces : List Trace) (text : List ℕ)
-    → AddsLines name (take 0 (texts_of lines)) (outcomes_under finals (take 0 traces)) false text text
-AddsLines-none name finals lines traces text = record { reports = []; told = refl; wrong = refl; added = Adds-none name text }
+pub AddsLines-none : (errors_only : Bool) (name : List ℕ) (finals : Finals) (lines : List (Bor (List ℕ))) (traces : List Trace) (text : List ℕ)
+    → AddsLines errors_only name (take 0 (texts_of lines)) (outcomes_under finals (take 0 traces)) false text text
+AddsLines-none errors_only name finals lines traces text = record { reports = []; told = refl; asked = λ _. refl; wrong = refl; added = Adds-none name text }
 
 -- all lines that are looked at
-pub AddsLines-all : (name : List ℕ) (finals : Finals) (lines : List (Bor (List ℕ))) (cards : List (List ℕ)) (traces : List Trace) (at : ℕ) (is_wrong : Bool)
+pub AddsLines-all : (errors_only : Bool) (name : List ℕ) (finals : Finals) (lines : List (Bor (List ℕ))) (cards : List (List ℕ)) (traces : List Trace) (at : ℕ) (is_wrong : Bool)
     (old new : List ℕ) → cards ≡ cards_of (texts_of lines) → traces ≡ traces_of cards → length traces ≤ at → at ≤ length traces
-    → AddsLines name (take at (texts_of lines)) (outcomes_under finals (take at traces)) is_wrong old new
-    → AddsLines name (take MOST_LINES (texts_of lines)) (outcomes_under finals traces) is_wrong old new
-AddsLines-all name finals lines cards traces at is_wrong old new is traces_is past within added =
+    → AddsLines errors_only name (take at (texts_of lines)) (outcomes_under finals (take at traces)) is_wrong old new
+    → AddsLines errors_only name (take MOST_LINES (texts_of lines)) (outcomes_under finals traces) is_wrong old new
+AddsLines-all errors_only name finals lines cards traces at is_wrong old new is traces_is past within added =
     let front = take MOST_LINES (texts_of lines) in
     let count : length traces ≡ length front = ap length traces_is ∙ length-traces_from first_state cards ∙ ap length is ∙ length-map front card_of in
     let some : min MOST_LINES (length (texts_of lines)) ≡ length front = sym (length-take MOST_LINES (texts_of lines)) in
     let at_is : at ≡ min MOST_LINES (length (texts_of lines)) = omega arith in
     let lines_is : take at (texts_of lines) ≡ front = ap (λ (n : ℕ). take n (texts_of lines)) at_is ∙ take_min MOST_LINES (texts_of lines) in
-    subst (λ (ls : List (List ℕ)). AddsLines name ls (outcomes_under finals traces) is_wrong old new) lines_is
-    (subst (λ (ts : List Trace). AddsLines name (take at (texts_of lines)) (outcomes_under finals ts) is_wrong old new) (take_all at traces past) added)
+    subst (λ (ls : List (List ℕ)). AddsLines errors_only name ls (outcomes_under finals traces) is_wrong old new) lines_is
+    (subst (λ (ts : List Trace). AddsLines errors_only name (take at (texts_of lines)) (outcomes_under finals ts) is_wrong old new) (take_all at traces past) added)
 
 -- ---- one line more
 
-pub AddsLines-next : (name : List ℕ) (finals : Finals) (lines : List (Bor (List ℕ))) (traces : List Trace) (at : ℕ) (line : Bor (List ℕ)) (trace : Trace)
+pub AddsLines-next : (errors_only : Bool) (name : List ℕ) (finals : Finals) (lines : List (Bor (List ℕ))) (traces : List Trace) (at : ℕ) (line : Bor (List ℕ)) (trace : Trace)
     (is_wrong is_wrong_here : Bool) (old text new : List ℕ) → at < length lines → at < length traces → line ≡ get_or lines at line → trace ≡ get_or traces at trace
-    → AddsLines name (take at (texts_of lines)) (outcomes_under finals (take at traces)) is_wrong old text
-    → AddsLine name (at + 1) line.now (outcome_of (final_value finals) trace) is_wrong_here text new
-    → AddsLines name (take (at + 1) (texts_of lines)) (outcomes_under finals (take (at + 1) traces)) (is_wrong || is_wrong_here) old new
-AddsLines-next name finals lines traces at line trace is_wrong is_wrong_here old text new in_lines in_traces line_is trace_is before here =
+    → AddsLines errors_only name (take at (texts_of lines)) (outcomes_under finals (take at traces)) is_wrong old text
+    → AddsLine errors_only name (at + 1) line.now (outcome_of (final_value finals) trace) is_wrong_here text new
+    → AddsLines errors_only name (take (at + 1) (texts_of lines)) (outcomes_under finals (take (at + 1) traces)) (is_wrong || is_wrong_here) old new
+AddsLines-next errors_only name finals lines traces at line trace is_wrong is_wrong_here old text new in_lines in_traces line_is trace_is before here =
     let texts = texts_of lines in
     let long : at < length texts = let e = length-map lines (λ (l : Bor (List ℕ)). l.now) in omega arith in
     let front : length (take at texts) ≡ at = length-take-le at texts (omega arith) in
@@ -171,16 +176,17 @@ AddsLines-next name finals lines traces at line trace is_wrong is_wrong_here old
           (subst (λ (os : List Outcome). ReportsLines 1 (take at texts ++ line.now ∷ []) os (before.reports ++ here.reports)) (sym outcome_is)
           (ReportsLines-next 1 (at + 1) (take at texts) line.now (outcomes_under finals (take at traces)) (outcome_of (final_value finals) trace)
           before.reports here.reports same (omega arith) before.told here.told));
+      asked = asked-both errors_only before.reports here.reports before.asked here.asked;
       wrong = both-wrong is_wrong is_wrong_here before.reports here.reports before.wrong here.wrong;
       added = Adds-append name before.reports here.reports old text new before.added here.added;
     }
 
 -- the same of a line that is looked up
-pub AddsLines-more : (name : List ℕ) (finals : Finals) (lines : List (Bor (List ℕ))) (traces : List Trace) (at : ℕ) (d : Bor (List ℕ)) (trace : Trace)
+pub AddsLines-more : (errors_only : Bool) (name : List ℕ) (finals : Finals) (lines : List (Bor (List ℕ))) (traces : List Trace) (at : ℕ) (d : Bor (List ℕ)) (trace : Trace)
     (is_wrong is_wrong_here : Bool) (old text new : List ℕ) → at < length lines → at < length traces → trace ≡ get_or traces at trace
-    → AddsLines name (take at (texts_of lines)) (outcomes_under finals (take at traces)) is_wrong old text
-    → AddsLine name (at + 1) (get_or lines at d).now (outcome_of (final_value finals) trace) is_wrong_here text new
-    → AddsLines name (take (at + 1) (texts_of lines)) (outcomes_under finals (take (at + 1) traces)) (is_wrong || is_wrong_here) old new
-AddsLines-more name finals lines traces at d trace is_wrong is_wrong_here old text new in_lines in_traces trace_is before here =
+    → AddsLines errors_only name (take at (texts_of lines)) (outcomes_under finals (take at traces)) is_wrong old text
+    → AddsLine errors_only name (at + 1) (get_or lines at d).now (outcome_of (final_value finals) trace) is_wrong_here text new
+    → AddsLines errors_only name (take (at + 1) (texts_of lines)) (outcomes_under finals (take (at + 1) traces)) (is_wrong || is_wrong_here) old new
+AddsLines-more errors_only name finals lines traces at d trace is_wrong is_wrong_here old text new in_lines in_traces trace_is before here =
     let line = get_or lines at d in
-    AddsLines-next name finals lines traces at line trace is_wrong is_wrong_here old text new in_lines in_traces (get_or_default lines at d line in_lines) trace_is before here
+    AddsLines-next errors_only name finals lines traces at line trace is_wrong is_wrong_here old text new in_lines in_traces (get_or_default lines at d line in_lines) trace_is before here

@@ -13,16 +13,16 @@ use Rattle.cps_edit.specs.Assembly.{ends_open, outcomes_of, outcomes_under, trac
 use Rattle.cps_check.specs.Code.Adding.{Adds, AddsLines, AddsEnd, TellsSource, excess_of}
 use Rattle.cps_check.specs.Reports.{ReportsEnd, ReportsLines, has_errors}
 use Rattle.cps_check.specs.Texts.{Tells}
-use Rattle.cps_check.proofs.ErrorLemmas.{both-wrong, excess-wrong}
+use Rattle.cps_check.proofs.ErrorLemmas.{asked-both, asked-excess, both-wrong, excess-wrong}
 use Rattle.cps_check.proofs.TextLemmas.{Adds-append}
 use Rattle.cps_check.proofs.ReportLemmas.{ReportsLines-all}
 
-pub whole : (name : List ℕ) (lines cards : List (List ℕ)) (traces : List Trace) (finals : Finals) (count : ℕ) (is_wrong is_open : Bool)
+pub whole : (errors_only : Bool) (name : List ℕ) (lines cards : List (List ℕ)) (traces : List Trace) (finals : Finals) (count : ℕ) (is_wrong is_open : Bool)
     (t0 t1 t2 t3 : List ℕ)
     → cards ≡ cards_of lines → traces ≡ traces_of cards → finals ≡ finals_of traces → count ≡ length lines → t0 ≡ []
-    → AddsLines name (take most_lines lines) (outcomes_under finals traces) is_wrong t0 t1 → Adds name (excess_of count) t1 t2
-    → AddsEnd name cards is_open t2 t3 → TellsSource name lines t3 ((is_wrong || nat_lt most_lines count) || is_open)
-whole name lines cards traces finals count is_wrong is_open t0 t1 t2 t3 cards_is traces_are finals_are count_is empty told excess ended =
+    → AddsLines errors_only name (take most_lines lines) (outcomes_under finals traces) is_wrong t0 t1 → Adds name (excess_of count) t1 t2
+    → AddsEnd errors_only name cards is_open t2 t3 → TellsSource errors_only name lines t3 ((is_wrong || nat_lt most_lines count) || is_open)
+whole errors_only name lines cards traces finals count is_wrong is_open t0 t1 t2 t3 cards_is traces_are finals_are count_is empty told excess ended =
     let all : traces ≡ traces_of (cards_of lines) = traces_are ∙ ap traces_of cards_is in
     let last : finals ≡ finals_of (traces_of (cards_of lines)) = finals_are ∙ ap finals_of all in
     let outcomes : outcomes_under finals traces ≡ outcomes_of (cards_of lines) =
@@ -49,6 +49,9 @@ whole name lines cards traces finals count is_wrong is_open t0 t1 t2 t3 cards_is
         each = ReportsLines-all lines (outcomes_of (cards_of lines)) told.reports long front;
         end = subst (λ (cs : List (List ℕ)). ReportsEnd (ends_open cs) cs ended.reports) cards_is ended.told;
       };
+      asked =
+          asked-both errors_only of_lines ended.reports (asked-both errors_only told.reports (excess_of (length lines)) told.asked
+          (asked-excess errors_only (nat_lt most_lines (length lines)) (most_lines + 1))) ended.asked;
       tells = subst (λ (t : List ℕ). Tells name (of_lines ++ ended.reports) t) (sym text) added.tells;
       wrong = both-wrong (is_wrong || nat_lt most_lines count) is_open of_lines ended.reports lines_wrong ended.wrong;
     }

@@ -1,5 +1,5 @@
 -- What is told of a source: each flag, each byte that no line may have, and notes. Our own.
-use Rattle.std.specs.Prelude.{◌≡◌, ℕ, ◌+◌, Bool, true, false, List, [], ◌∷◌, ◌++◌, length, map, slice_get, Some}
+use Rattle.std.specs.Prelude.{◌≡◌, ℕ, ◌+◌, Bool, true, false, not, List, [], ◌∷◌, ◌++◌, length, map, slice_get, Some}
 use Rattle.std.specs.List.{list_any}
 use Rattle.cps_text.specs.Line.{IsLine}
 use Rattle.cps_final.specs.Outcome.{Outcome}
@@ -34,6 +34,13 @@ is_error kinds.Note = false
 
 abbrev pub has_errors : List Report → Bool
 has_errors reports = list_any (λ report. is_error report.kind) reports
+
+abbrev pub has_notes : List Report → Bool
+has_notes reports = list_any (λ report. not (is_error report.kind)) reports
+
+-- no note is among reports where errors alone are asked for
+abbrev pub AreAsked : Bool → List Report → Type 0
+AreAsked errors_only reports = errors_only ≡ true → has_notes reports ≡ false
 
 -- ---- a line
 

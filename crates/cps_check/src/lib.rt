@@ -3,6 +3,7 @@
 //!
 //! - `central.rt`: what is told of instructions of the central processor
 //! - `central_row.rt`: a row of an instruction of the central processor
+//! - `check_options.rt`: how a check tells
 //! - `checking.rt`: a check as a whole
 //! - `codes.rt`: what is told of octal codes
 //! - `fault.rt`: why a source is not checked, or what is told of it not written
@@ -32,6 +33,7 @@
 
 mod central;
 mod central_row;
+mod check_options;
 mod checking;
 mod codes;
 mod fault;
@@ -58,6 +60,7 @@ mod sums;
 mod telling;
 mod told_line;
 
+pub use check_options::CheckOptions;
 pub use checking::check;
 pub use fault::CheckFault;
 pub use laws::a_check_agrees_with_batch;

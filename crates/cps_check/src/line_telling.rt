@@ -1,5 +1,5 @@
 //! What is told of the lines of a source, one after another.
-ghost use Rattle.std.specs.Prelude.{◌≡◌, ◌≤◌, length, map, IfOk};
+ghost use Rattle.std.specs.Prelude.{◌≡◌, ◌≤◌, [], true, length, map, IfOk};
 ghost use Rattle.cps_final.specs.Finals.{finals_of};
 ghost use Rattle.cps_input.specs.Card.{card_of, cards_of};
 ghost use Rattle.cps_edit.specs.Assembly.{traces_of};
@@ -7,7 +7,7 @@ ghost use Rattle.cps_check.specs.Code.Adding.{AddsEnd};
 ghost use Rattle.cps_check.specs.Code.Telling.{TellsLine, TellsLines};
 
 use crate::known_places::KnownPlaces;
-use crate::notes::find_notes;
+use crate::notes::{Note, find_notes};
 use crate::told_line::ToldLine;
 use cps_cause::{Card, Diagnostic, LinesAbove, explain, explain_end, opener_of};
 use cps_final::{Finals, Gathered};
@@ -29,11 +29,12 @@ pub struct CheckedLine<'a> {
     pub trace: &'a Trace,
 }
 
-/// The telling of a source: its name, and its final values.
+/// The telling of a source: its name, whether notes are left out, and its final values.
 #[derive(Clone, Copy)]
 pub struct LineTelling<'a> {
     pub alloc: Global,
     pub name: &'a [u8],
+    pub errors_only: bool,
     pub finals: &'a Finals,
 }
 
@@ -86,12 +87,26 @@ impl LineTelling<'_> {
         if found.is_empty() {
             let causes = explain(self.alloc, line.card, line.trace, self.finals)?;
             told.push_flags(self.alloc, places, &causes, text)?;
-            let notes = find_notes(self.alloc, line, places)?;
+            let notes = self.notes_of(line, places)?;
             told.push_notes(self.alloc, &notes, text)?;
             return Ok(!causes.is_empty());
         }
         told.push_faults(self.alloc, found, text)?;
         Ok(true)
+    }
+
+    /// The notes of a line that are told: none where errors alone are asked for.
+    fn notes_of(
+        &self,
+        line: &CheckedLine<'_>,
+        places: &mut KnownPlaces<'_>,
+    ) -> Result<Vec<Note>, AllocError>
+        ensures { IfOk result (λ notes. self.now.errors_only ≡ true → notes.items ≡ []) }
+    {
+        if self.errors_only {
+            return Ok(Vec::new(self.alloc));
+        }
+        find_notes(self.alloc, line, places)
     }
 
     /// Appends what is told where a source ends for which these cards stand, in the line that opened what is open there, and gives whether something is.
@@ -104,7 +119,8 @@ impl LineTelling<'_> {
         requires few { length cards.now ≤ MOST_LINES }
         requires traces { traces.now ≡ traces_of cards.now }
         requires finals { ⟦<Finals as Gathered>⟧.gathered self.now.finals.now ≡ finals_of traces.now }
-        ensures { IfOk result (λ is_wrong. AddsEnd self.now.name.now cards.now is_wrong text.old.items text.new.items) }
+        ensures { IfOk result (λ is_wrong.
+            AddsEnd self.now.errors_only self.now.name.now cards.now is_wrong text.old.items text.new.items) }
     {
         let Some(cause) = explain_end(self.finals)? else {
             return Ok(false);

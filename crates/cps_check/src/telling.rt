@@ -2,6 +2,7 @@
 ghost use Rattle.std.specs.Prelude.{map, IfOk};
 ghost use Rattle.cps_check.specs.Code.Adding.{TellsSource, TellsBytes};
 
+use crate::check_options::CheckOptions;
 use crate::line_telling::LineTelling;
 use crate::told_line::push_excess;
 use cps_batch::KeptPassOne;
@@ -22,35 +23,37 @@ pub struct Telling {
 pub fn tell_bytes(
     alloc: Global,
     hashing: Hashing,
-    name: &[u8],
+    options: CheckOptions<'_>,
     bytes: &[u8],
 ) -> Result<Telling, AllocError>
-    ensures { IfOk result (λ telling. TellsBytes name.now bytes.now telling.text.items telling.is_wrong) }
+    ensures { IfOk result (λ telling. TellsBytes options.entry.errors_only options.entry.name.now bytes.now telling.text.items telling.is_wrong) }
 {
     let lines = cut_lines(alloc, bytes)?;
-    let telling = tell_source(alloc, hashing, name, &lines)?;
+    let telling = tell_source(alloc, hashing, options, &lines)?;
     Ok(telling)
 }
 
-/// What is told of lines: each flag, with its cause, each byte that no line may have, and notes. The first 99,999 are looked at.
+/// What is told of lines: each flag, with its cause, each byte that no line may have, and notes where they are asked for. The first 99,999 are looked at.
 fn tell_source(
     alloc: Global,
     hashing: Hashing,
-    name: &[u8],
+    options: CheckOptions<'_>,
     lines: &[&[u8]],
 ) -> Result<Telling, AllocError>
-    ensures { IfOk result (λ telling. TellsSource name.now (map (λ line. line.now) lines.now) telling.text.items telling.is_wrong) }
+    ensures { IfOk result (λ telling.
+        TellsSource options.entry.errors_only options.entry.name.now (map (λ line. line.now) lines.now) telling.text.items telling.is_wrong) }
 {
     let cards = make_cards(alloc, lines)?;
     let one = KeptPassOne::of(alloc, hashing, &cards)?;
     let telling = LineTelling {
         alloc,
-        name,
+        name: options.name,
+        errors_only: options.errors_only,
         finals: one.finals(),
     };
     let mut text = Vec::new(alloc);
     let is_wrong_within = telling.tell_lines(lines, &cards, one.traces(), &mut text)?;
-    push_excess(&mut text, name, lines.len())?;
+    push_excess(&mut text, options.name, lines.len())?;
     let is_open = telling.tell_end(&cards, one.traces(), &mut text)?;
     let is_wrong = is_wrong_within | (lines.len() > MOST_LINES) | is_open;
     Ok(Telling { text, is_wrong })

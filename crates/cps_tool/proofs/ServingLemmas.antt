@@ -1,5 +1,5 @@
 -- What the proofs of a call by its words cite.
-use Rattle.std.proofs.Common.{◌≡◌, ap, ℕ, List, Option, Some, None, Result, refl, sym, subst, inl, inr, ◌⊎◌}
+use Rattle.std.proofs.Common.{Bool, ◌≡◌, ap, ℕ, List, Option, Some, None, Result, refl, sym, subst, inl, inr, ◌⊎◌}
 use Rattle.cps_text.specs.declared.counted.Counted.{Counted}
 use Rattle.clap.specs.Words.{Text}
 use Rattle.cps_words.specs.declared.unread.Unread.{Unread}
@@ -49,7 +49,7 @@ module _ {R W : Type 0} (remaining : R → Option (List ℕ)) (contents : W → 
       go (asks (batch part) None) s = s
       go (asks (export names part) None) s = s
       go (asks session None) s = s
-      go (asks check None) s = s
+      go (asks (check errors_only) None) s = s
       go (asks (disassemble request) None) s = s
       go (asks (explain word) None) s = s
       go (asks server None) s = s
@@ -58,7 +58,7 @@ module _ {R W : Type 0} (remaining : R → Option (List ℕ)) (contents : W → 
       go (asks (batch part) (Some name)) s = inl s
       go (asks (export names part) (Some name)) s = inl s
       go (asks session (Some name)) s = inl s
-      go (asks check (Some name)) s = inl s
+      go (asks (check errors_only) (Some name)) s = inl s
       go (asks (disassemble request) (Some name)) s = inl s
       go (asks (explain word) (Some name)) s = inl s
       go (asks server (Some name)) s = inl s
@@ -78,7 +78,7 @@ module _ {T F R W : Type 0} (holds : T → List ℕ → Option (List ℕ)) (plac
   serves_call (asks (export names part) (Some name)) (inr with) = absurd with.1.does
   serves_call (asks (batch part) file) s = (s, refl)
   serves_call (asks session file) s = (s, refl)
-  serves_call (asks check file) s = (s, refl)
+  serves_call (asks (check errors_only) file) s = (s, refl)
   serves_call (asks (compare octal options) file) s = (s, refl)
   serves_call (asks (disassemble request) file) s = (s, refl)
   serves_call (asks (explain word) file) s = (s, refl)
@@ -174,13 +174,13 @@ unwrapped None default found same = ap (λ (name : Bor (List ℕ)). name.now) sa
 unwrapped (Some name) default found same = ap (λ (name : Bor (List ℕ)). name.now) same
 
 -- a check was asked, and done under the input's name
-pub checks_as : {R W : Type 0} (remaining : R → Option (List ℕ)) (contents : W → Option (List ℕ)) (request : Request) (named : Option Text) (name : List ℕ) (status : ℕ)
-    (reader reader' : Counted R) (writer writer' : Counted W) → request ≡ Check → name ≡ told_name named
-    → ChecksAs remaining contents name status reader reader' writer writer'
+pub checks_as : {R W : Type 0} (remaining : R → Option (List ℕ)) (contents : W → Option (List ℕ)) (request : Request) (named : Option Text) (errors_only : Bool) (name : List ℕ)
+    (status : ℕ) (reader reader' : Counted R) (writer writer' : Counted W) → request ≡ Check errors_only → name ≡ told_name named
+    → ChecksAs remaining contents errors_only name status reader reader' writer writer'
     → IsUndone status reader reader' writer writer' ⊎ Calls remaining contents (task_of request) named status reader reader' writer writer'
-checks_as remaining contents request named name status reader reader' writer writer' is same done =
+checks_as remaining contents request named errors_only name status reader reader' writer writer' is same done =
     subst (λ request. IsUndone status reader reader' writer writer' ⊎ Calls remaining contents (task_of request) named status reader reader' writer writer') (sym is)
-    (inr (subst (λ (name : List ℕ). ChecksAs remaining contents name status reader reader' writer writer') same done))
+    (inr (subst (λ (name : List ℕ). ChecksAs remaining contents errors_only name status reader reader' writer writer') same done))
 
 -- ---- files that were compared, by the sides that are files
 

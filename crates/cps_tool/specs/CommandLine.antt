@@ -89,10 +89,10 @@ TellsWord contents word status writer writer' = (text : List ℕ) × Explains wo
 abbrev pub told_name : Option Text → List ℕ
 told_name named = shown (unwrap_or named (codes "<stdin>"))
 
--- a check told under a name
-abbrev pub ChecksAs : {R W : Type 0} → (R → Option (List ℕ)) → (W → Option (List ℕ)) → List ℕ → ℕ → Counted R → Counted R → Counted W → Counted W → Type 0
-ChecksAs remaining contents name status reader reader' writer writer' =
-    (result : Result Bool CheckFault) × (status ≡ status_of_check result) × RunsCheck remaining contents name result reader reader' writer writer'
+-- a check told under a name, perhaps errors alone
+abbrev pub ChecksAs : {R W : Type 0} → (R → Option (List ℕ)) → (W → Option (List ℕ)) → Bool → List ℕ → ℕ → Counted R → Counted R → Counted W → Counted W → Type 0
+ChecksAs remaining contents errors_only name status reader reader' writer writer' =
+    (result : Result Bool CheckFault) × (status ≡ status_of_check result) × RunsCheck remaining contents errors_only name result reader reader' writer writer'
 
 -- 2 after a fault, else 0
 abbrev pub status_of_run : {X F : Type 0} → Result X F → ℕ
@@ -112,7 +112,8 @@ abbrev pub Calls : {R W : Type 0} → (R → Option (List ℕ)) → (W → Optio
 Calls remaining contents (batch part) named status reader reader' writer writer' =
     (result : Result ℕ BatchFault) × (status ≡ status_of result) × RunsBatch remaining contents part result reader reader' writer writer'
 Calls remaining contents session named status reader reader' writer writer' = RunsFrom remaining contents [] status reader reader' writer writer'
-Calls remaining contents check named status reader reader' writer writer' = ChecksAs remaining contents (told_name named) status reader reader' writer writer'
+Calls remaining contents (check errors_only) named status reader reader' writer writer' =
+    ChecksAs remaining contents errors_only (told_name named) status reader reader' writer writer'
 Calls remaining contents (disassemble request) named status reader reader' writer writer' =
     Disassembled remaining contents request status reader reader' writer writer'
 Calls remaining contents (explain word) named status reader reader' writer writer' = (reader' ≡ reader) × TellsWord contents word status writer writer'

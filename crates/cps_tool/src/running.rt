@@ -13,7 +13,7 @@ use super::telling::{
     tell,
 };
 use cps_batch::batch;
-use cps_check::{check, manual_text};
+use cps_check::{CheckOptions, check, manual_text};
 use cps_list::Part;
 use cps_live::Session;
 use cps_server::run_server;
@@ -45,10 +45,16 @@ pub fn run_request<'a, S, R: Read, W: Write, E: Write>(
             run_batch(host, asked, reader, writer, errors)
         }
         Request::Session => run_session(host, reader, writer, errors),
-        Request::Check => match shown(host.alloc, call.file.unwrap_or(STANDARD_INPUT)) {
-            Ok(name) => run_check(host, name.as_bytes(), reader, writer, errors),
-            Err(_) => complain(errors, NO_MEMORY),
-        },
+        Request::Check { errors_only } => {
+            match shown(host.alloc, call.file.unwrap_or(STANDARD_INPUT)) {
+                Ok(name) => {
+                    let name = name.as_bytes();
+                    let options = CheckOptions { name, errors_only };
+                    run_check(host, options, reader, writer, errors)
+                }
+                Err(_) => complain(errors, NO_MEMORY),
+            }
+        }
         Request::Export(_, _) | Request::Compare(_) => complain(errors, NO_FILES),
         Request::Disassemble(request) => run_disassembly(host, request, reader, writer, errors),
         Request::Explain(word) => run_explanation(host, word, writer, errors),
@@ -99,15 +105,15 @@ fn run_session<S, R: Read, W: Write, E: Write>(
 
 fn run_check<S, R: Read, W: Write, E: Write>(
     host: &Host<S>,
-    name: &[u8],
+    options: CheckOptions<'_>,
     reader: &mut Counted<R>,
     writer: &mut Counted<W>,
     errors: &mut Counted<E>,
 ) -> u8
-    ensures calls { ChecksAs R.remaining W.contents name.now result reader.old reader.new writer.old writer.new }
+    ensures calls { ChecksAs R.remaining W.contents options.entry.errors_only options.entry.name.now result reader.old reader.new writer.old writer.new }
     ensures quiet { IsQuiet result errors.old errors.new }
 {
-    match check(host.alloc, host.hashing, name, reader, writer) {
+    match check(host.alloc, host.hashing, options, reader, writer) {
         Ok(is_wrong) => status_of_check(is_wrong),
         Err(fault) => complain_of(errors, fault),
     }

@@ -159,15 +159,15 @@ output_of_a_check = refl
 
 -- ---- `check`
 
-check_row : answer_of (call (codes "check" ∷ codes "deck.cps" ∷ [])) ≡ asks check (Some (codes "deck.cps"))
+check_row : answer_of (call (codes "check" ∷ codes "deck.cps" ∷ [])) ≡ asks (check false) (Some (codes "deck.cps"))
 unfolding clap_on_literals
 check_row = refl
 
-check_of_standard_input : answer_of (call (codes "check" ∷ [])) ≡ asks check None
+check_of_standard_input : answer_of (call (codes "check" ∷ [])) ≡ asks (check false) None
 unfolding clap_on_literals
 check_of_standard_input = refl
 
-check_of_a_minus : answer_of (call (codes "check" ∷ codes "-" ∷ [])) ≡ asks check None
+check_of_a_minus : answer_of (call (codes "check" ∷ codes "-" ∷ [])) ≡ asks (check false) None
 unfolding clap_on_literals
 check_of_a_minus = refl
 
@@ -182,6 +182,22 @@ two_files_to_check = refl
 check_help : answer_of (call (codes "check" ∷ codes "--help" ∷ [])) ≡ tells
 unfolding clap_on_literals
 check_help = refl
+
+check_of_errors : answer_of (call (codes "check" ∷ codes "--errors" ∷ codes "deck.cps" ∷ [])) ≡ asks (check true) (Some (codes "deck.cps"))
+unfolding clap_on_literals
+check_of_errors = refl
+
+errors_behind_a_file : answer_of (call (codes "check" ∷ codes "deck.cps" ∷ codes "--errors" ∷ [])) ≡ asks (check true) (Some (codes "deck.cps"))
+unfolding clap_on_literals
+errors_behind_a_file = refl
+
+errors_with_a_value : answer_of (call (codes "check" ∷ codes "--errors=all" ∷ [])) ≡ refuses
+unfolding clap_on_literals
+errors_with_a_value = refl
+
+errors_of_a_batch : answer_of (call (codes "batch" ∷ codes "--errors" ∷ [])) ≡ refuses
+unfolding clap_on_literals
+errors_of_a_batch = refl
 
 -- ---- `compare`
 

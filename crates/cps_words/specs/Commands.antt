@@ -41,9 +41,9 @@ batch_shape = record (new_shape (codes "batch")) {
 abbrev pub session_shape : Shape
 session_shape = record (new_shape (codes "session")) { rules = option_rule (codes "source") ∷ [] }
 
--- `check [FILE]`
+-- `check [--errors] [FILE]`
 abbrev pub check_shape : Shape
-check_shape = record (new_shape (codes "check")) { rules = operand_rule (codes "file") ∷ [] }
+check_shape = record (new_shape (codes "check")) { rules = flag_rule (codes "errors") ∷ operand_rule (codes "file") ∷ [] }
 
 -- `[--format FORMAT] [--columns F-L] [--offset N]`
 abbrev pub reading_rules : List Rule

@@ -10,7 +10,7 @@ use Rattle.cps_list.specs.declared.part.Part.{Part}
 use Rattle.cps_list.specs.declared.part.Part.TheVariants.{All}
 use Rattle.cps_words.specs.Outputs.{Names}
 use Rattle.cps_words.specs.Commands.{compass}
-use Rattle.cps_words.specs.Values.{are_apart, disassembly_in, file_in, is_command, names_in, octal_in, options_in, part_in, wants_no_file, word_explained}
+use Rattle.cps_words.specs.Values.{are_apart, disassembly_in, file_in, has_flag, is_command, names_in, octal_in, options_in, part_in, wants_no_file, word_explained}
 use Rattle.cps_words.specs.Task.{Task, batch, export, session, check, compare, disassemble, explain, server, task_of}
 use Rattle.cps_words.specs.declared.request.Call.{Call}
 use Rattle.cps_words.specs.declared.unread.Unread.{Unread}
@@ -68,7 +68,7 @@ answer_of_help (Some name) = if is_command name then tells else refuses
 abbrev pub answer_named : Text → List Row → Answer
 answer_named name rows = if bytes_eq name (codes "batch") then answer_of_batch rows
     else if bytes_eq name (codes "session") then answer_of_session rows
-    else if bytes_eq name (codes "check") then asks check (file_in rows)
+    else if bytes_eq name (codes "check") then asks (check (has_flag (codes "errors") rows)) (file_in rows)
     else if bytes_eq name (codes "compare") then answer_of_compare rows
     else if bytes_eq name (codes "disassemble") then answer_of_disassemble rows
     else if bytes_eq name (codes "explain") then asks (explain (word_explained rows)) None

@@ -117,6 +117,10 @@ fn check_command<'a>(alloc: Global) -> Result<Command<'a>, AllocError>
     ensures local { IfOk result (λ command. (out-Command command).has_globals ≡ false) }
 {
     let command = bare_command(alloc, "check", CHECK_ABOUT, CHECK_MORE);
+    let command = with_argument(
+        command,
+        flag(alloc, "errors", "Tell errors alone, and no notes"),
+    )?;
     with_argument(command, operand(alloc, "file", "FILE", FILE_ABOUT))
 }
 

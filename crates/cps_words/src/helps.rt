@@ -70,7 +70,7 @@ line may have, is written where that is and what is wrong:
         |                   ^^^^^
 Behind the name of the file stand the number of the line and the column. A note
 is told of what has no flag and is often not meant, as a symbol that no line
-reads; it changes no status.
+reads; it changes no status, and --errors leaves it out.
 
 Exit status:
   0  no line is flagged, or has such a byte

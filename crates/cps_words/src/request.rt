@@ -15,7 +15,7 @@ use super::output_options::{are_apart, read_outputs, say_taken, wants_no_file};
 use super::unread::{
     Unread, say, say_file_alone, say_no_name, say_parted_offset, say_wrong_value, wrong,
 };
-use super::values::{part_of_name, read_file, word_in};
+use super::values::{has_flag, part_of_name, read_file, word_in};
 use crate::outputs::Outputs;
 use clap::error::ErrorKind;
 use clap::{ArgMatches, Error};
@@ -32,8 +32,8 @@ pub enum Request<'a> {
     Export(Outputs<'a>, Option<Part>),
     /// To run a script, over a source that begins with the lines of the call's file, or with no line where there is none.
     Session,
-    /// To tell what is wrong in a source.
-    Check,
+    /// To tell what is wrong in a source, or errors alone.
+    Check { errors_only: bool },
     /// To compare a source with an octal text.
     Compare(Comparand<'a>),
     /// To make a source for the words of an octal text.
@@ -111,7 +111,9 @@ fn read_command<'a>(alloc: Global, name: &str, values: &ArgMatches<'a>) -> Resul
         "batch" => read_batch(alloc, values),
         "session" => read_session(alloc, values),
         "check" => Ok(Call {
-            request: Request::Check,
+            request: Request::Check {
+                errors_only: has_flag(values, "errors"),
+            },
             file: read_file(word_in(values, "file")),
         }),
         "compare" => read_compare(alloc, values),

@@ -58,7 +58,7 @@ FUNC      MACRO   CODE,ADDR
           FUNC    1,AWAY
 AWAY      PS
 """, b"""\
-<stdin>:6:21: error: U: no line above gives AWAY a value, and it must have one here; it has one from line 7
+<stdin>:6:21: error: U: no line above gives AWAY a value, and it must have one here; it has one from line 7 (written in line 2)
     6 |           FUNC    1,AWAY
       |                     ^^^^
       = in its expansion: IFNE    AWAY,0
@@ -142,6 +142,11 @@ NOTES = [
     3 |           USE                TABLES
       |                              ^^^^^^
 """, b""),
+    (["check"], b"          IDENT   A\n          NO\n", 0, b"""\
+<stdin>:1:11: note: no END stands behind it; the last lines may be missing
+    1 |           IDENT   A
+      |           ^^^^^
+""", b""),
     checked(b"A         CON     B\n          END\n*\nB         CON     A\n          END\n", b"""\
 <stdin>:1:19: error: U: no line gives B a value; it counts as 0
     1 | A         CON     B
@@ -166,9 +171,12 @@ FILES = [
     (["check", FLAGS], b"A\n", 1, FLAGGED.replace(b"NAME", FLAGS.encode()), b""),
     (["check", "-"], b"A\n", 1, b"<stdin>:1:1: error: O: no operation stands behind A\n    1 | A\n      | ^\n", b""),
     (["check", DECK], b"A\n", 0, b"", b""),
+    (["check", "--errors"], b"TAG       NO\n", 0, b"", b""),
+    (["check", "-", "--errors"], b"TAG       CON     Q\n", 1, b"<stdin>:1:19: error: U: no line gives Q a value; it counts as 0\n    1 | TAG       CON     Q\n      |                   ^\n", b""),
     (["check", NONE], b"A\n", 2, b"", not_there(NONE)),
     (["check", PROGRAMS], b"A\n", 2, b"", b"cannot read " + PROGRAMS.encode() + b": is a directory\n"),
-    refused(["check", FLAGS, "more"], b"unexpected argument 'more' found\n\nUsage: compass check [FILE]"),
+    refused(["check", FLAGS, "more"], b"unexpected argument 'more' found\n\nUsage: compass check [OPTIONS] [FILE]"),
+    refused(["check", "--errors=all"], b"unexpected value 'all' for '--errors' found; no more were expected\n\nUsage: compass check --errors [FILE]"),
 ]
 
 CHECKS = LINES + WRONG_LINES + NOTES + FILES

@@ -3,7 +3,7 @@ use Rattle.std.specs.Prelude.{◌≡◌, ℕ, ◌+◌, Bool, nat_lt, List, [], �
 use Rattle.cps_edit.specs.Assembly.{ends_open}
 use Rattle.cps_edit.specs.Limits.{most_lines}
 use Rattle.cps_final.specs.Outcome.{Outcome}
-use Rattle.cps_check.specs.Reports.{Report, ReportsLine, ReportsLines, ReportsEnd, Reports, excess_report, has_errors}
+use Rattle.cps_check.specs.Reports.{AreAsked, Report, ReportsLine, ReportsLines, ReportsEnd, Reports, excess_report, has_errors}
 use Rattle.cps_check.specs.Check.{IsCheckOf}
 use Rattle.cps_check.specs.Texts.{Tells}
 
@@ -13,24 +13,27 @@ pub record Adds (name : List ℕ) (reports : List Report) (old new : List ℕ) :
   pub added : new ≡ old ++ piece
   pub tells : Tells name reports piece
 
--- what is told of a line is added to a text, and whether an error is
-pub record AddsLine (name : List ℕ) (number : ℕ) (line : List ℕ) (outcome : Outcome) (is_wrong : Bool) (old new : List ℕ) : Type 0 where
+-- what is told of a line is added to a text, and whether an error is; without notes where errors alone are asked for
+pub record AddsLine (errors_only : Bool) (name : List ℕ) (number : ℕ) (line : List ℕ) (outcome : Outcome) (is_wrong : Bool) (old new : List ℕ) : Type 0 where
   pub reports : List Report
   pub told : ReportsLine number line outcome reports
+  pub asked : AreAsked errors_only reports
   pub wrong : is_wrong ≡ has_errors reports
   pub added : Adds name reports old new
 
 -- the same of the first lines
-pub record AddsLines (name : List ℕ) (lines : List (List ℕ)) (outcomes : List Outcome) (is_wrong : Bool) (old new : List ℕ) : Type 0 where
+pub record AddsLines (errors_only : Bool) (name : List ℕ) (lines : List (List ℕ)) (outcomes : List Outcome) (is_wrong : Bool) (old new : List ℕ) : Type 0 where
   pub reports : List Report
   pub told : ReportsLines 1 lines outcomes reports
+  pub asked : AreAsked errors_only reports
   pub wrong : is_wrong ≡ has_errors reports
   pub added : Adds name reports old new
 
 -- the same of the end of a source with these cards
-pub record AddsEnd (name : List ℕ) (cards : List (List ℕ)) (is_wrong : Bool) (old new : List ℕ) : Type 0 where
+pub record AddsEnd (errors_only : Bool) (name : List ℕ) (cards : List (List ℕ)) (is_wrong : Bool) (old new : List ℕ) : Type 0 where
   pub reports : List Report
   pub told : ReportsEnd (ends_open cards) cards reports
+  pub asked : AreAsked errors_only reports
   pub wrong : is_wrong ≡ has_errors reports
   pub added : Adds name reports old new
 
@@ -39,13 +42,14 @@ abbrev pub excess_of : ℕ → List Report
 excess_of count = if nat_lt most_lines count then excess_report (most_lines + 1) ∷ [] else []
 
 -- a text tells all that is told of lines, and whether an error is
-pub record TellsSource (name : List ℕ) (lines : List (List ℕ)) (text : List ℕ) (is_wrong : Bool) : Type 0 where
+pub record TellsSource (errors_only : Bool) (name : List ℕ) (lines : List (List ℕ)) (text : List ℕ) (is_wrong : Bool) : Type 0 where
   pub reports : List Report
   pub all : Reports lines reports
+  pub asked : AreAsked errors_only reports
   pub tells : Tells name reports text
   pub wrong : is_wrong ≡ has_errors reports
 
 -- the same of an input with these bytes
-pub record TellsBytes (name bytes text : List ℕ) (is_wrong : Bool) : Type 0 where
-  pub told : IsCheckOf name bytes text
+pub record TellsBytes (errors_only : Bool) (name bytes text : List ℕ) (is_wrong : Bool) : Type 0 where
+  pub told : IsCheckOf errors_only name bytes text
   pub wrong : is_wrong ≡ has_errors told.reports

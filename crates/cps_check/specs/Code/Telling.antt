@@ -14,10 +14,10 @@ use Rattle.cps_check.specs.Code.Adding.{AddsLine, AddsLines}
 -- what is told of a line, by what it does in pass one
 abbrev pub TellsLine : LineTelling → CheckedLine → Bool → List ℕ → List ℕ → Type 0
 TellsLine telling line is_wrong old new =
-    AddsLine telling.name.now line.number line.line.now (outcome_of (final_value (gathered-value.it telling.finals.now)) line.trace.now) is_wrong old new
+    AddsLine telling.errors_only telling.name.now line.number line.line.now (outcome_of (final_value (gathered-value.it telling.finals.now)) line.trace.now) is_wrong old new
 
 -- what is told of the first lines, by what each does
 abbrev pub TellsLines : LineTelling → List (Bor (List ℕ)) → List Trace → Bool → List ℕ → List ℕ → Type 0
 TellsLines telling lines traces is_wrong old new =
-    AddsLines telling.name.now (take most_lines (map (λ line. line.now) lines)) (outcomes_under (gathered-value.it telling.finals.now) traces)
+    AddsLines telling.errors_only telling.name.now (take most_lines (map (λ line. line.now) lines)) (outcomes_under (gathered-value.it telling.finals.now) traces)
     is_wrong old new

@@ -21,6 +21,11 @@ fn assert_row(rt: &impl Abort, at: usize, got: &[u8], want: &str) {
     assert_eq!(rt; str::from_utf8(got).ok(), Some(want), "row {at}");
 }
 
+/// Asserts what is told.
+pub fn assert_told(rt: &impl Abort, got: &[u8], want: &str) {
+    assert_eq!(rt; str::from_utf8(got).ok(), Some(want));
+}
+
 /// Asserts what a check answers.
 pub fn assert_end(rt: &impl Abort, got: Result<bool, CheckFault>, want: Result<bool, CheckFault>) {
     assert_eq!(rt; got, want);

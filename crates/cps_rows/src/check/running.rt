@@ -1,5 +1,5 @@
 //! A run of a check.
-use cps_check::{CheckFault, check};
+use cps_check::{CheckFault, CheckOptions, check};
 use cps_state::Hashing;
 use cps_text::Counted;
 use std::alloc::Global;
@@ -11,5 +11,21 @@ pub fn run<R: Read, W: Write>(
     reader: &mut Counted<R>,
     writer: &mut Counted<W>,
 ) -> Result<bool, CheckFault> {
-    check(alloc, Hashing::by(1), b"a.cps", reader, writer)
+    check(alloc, Hashing::by(1), options_of(false), reader, writer)
+}
+
+/// The same, where errors alone are asked for.
+pub fn run_for_errors<R: Read, W: Write>(
+    alloc: Global,
+    reader: &mut Counted<R>,
+    writer: &mut Counted<W>,
+) -> Result<bool, CheckFault> {
+    check(alloc, Hashing::by(1), options_of(true), reader, writer)
+}
+
+fn options_of(errors_only: bool) -> CheckOptions<'static> {
+    CheckOptions {
+        name: b"a.cps",
+        errors_only,
+    }
 }

@@ -13,6 +13,7 @@ returns c =
         cut = c.in_ok-lines.ensures;
         reports = told.reports;
         all = subst (λ (lines : List (Bor (List ℕ))). Reports (texts_of lines) told.reports) c.deref.ensures.value told.all;
+        asked = told.asked;
         tells = told.tells;
       };
       wrong = told.wrong;

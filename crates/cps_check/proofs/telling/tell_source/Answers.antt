@@ -30,7 +30,7 @@ tell_end-requires-clause-finals c = c.finals.ensures ∙ ap finals_of (sym c.tra
 
 pub returns : goal.returns
 returns c =
-    whole c.args.name.now (texts_of c.args.lines.now) c.in_ok-cards.cards.items c.traces.result.now (gathered-value.it c.finals.result.now) (length c.args.lines.now)
+    whole c.args.options.errors_only c.args.options.name.now (texts_of c.args.lines.now) c.in_ok-cards.cards.items c.traces.result.now (gathered-value.it c.finals.result.now) (length c.args.lines.now)
     c.in_ok-is_wrong_within.is_wrong_within c.in_ok-is_open.is_open
     c.new-text.result.items c.tell_lines.new.text.items c.push_excess.new.text.items c.tell_end.new.text.items
     c.in_ok-cards.ensures
@@ -39,4 +39,4 @@ returns c =
     (sym (length-map c.args.lines.now (λ (line : Bor (List ℕ)). line.now)))
     c.new-text.ensures.items
     c.in_ok-is_wrong_within.ensures c.in_ok-push_excess.ensures
-    (subst (λ (cards : List (List ℕ)). AddsEnd c.args.name.now cards c.in_ok-is_open.is_open c.push_excess.new.text.items c.tell_end.new.text.items) c.deref-3.ensures.value c.in_ok-is_open.ensures)
+    (subst (λ (cards : List (List ℕ)). AddsEnd c.args.options.errors_only c.args.options.name.now cards c.in_ok-is_open.is_open c.push_excess.new.text.items c.tell_end.new.text.items) c.deref-3.ensures.value c.in_ok-is_open.ensures)

@@ -57,6 +57,7 @@ returns c =
     record {
       reports = report ∷ [];
       told = subst (λ b. ReportsEnd b cards (report ∷ [])) ends (report, refl, open_told);
+      asked = λ _. refl;
       wrong = refl;
       added = c.in_ok-push_flag.ensures;
     }

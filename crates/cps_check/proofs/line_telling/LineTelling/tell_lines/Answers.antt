@@ -5,7 +5,7 @@ use Rattle.cps_check.proofs.line_telling.LineTelling.tell_lines.Goals as goal
 
 pub loop-at-init : goal.loop-at-init
 loop-at-init c =
-    AddsLines-none c.args.self.now.name.now (gathered-value.it c.args.self.now.finals.now) c.args.lines.now c.args.traces.now c.args.text.now.items
+    AddsLines-none c.args.self.now.errors_only c.args.self.now.name.now (gathered-value.it c.args.self.now.finals.now) c.args.lines.now c.args.traces.now c.args.text.now.items
 
 pub overflow_cast-line : goal.overflow_cast-line
 overflow_cast-line c =
@@ -33,11 +33,11 @@ tell_line-requires c =
 pub loop-at-preserved : goal.loop-at-preserved
 loop-at-preserved c =
     let within = trace-within c.args.lines.now c.args.cards.now c.args.traces.now c.loop-at.at c.requires.cards c.requires.traces c.loop-at-test.true in
-    AddsLines-more c.args.self.now.name.now (gathered-value.it c.args.self.now.finals.now) c.args.lines.now c.args.traces.now c.loop-at.at
+    AddsLines-more c.args.self.now.errors_only c.args.self.now.name.now (gathered-value.it c.args.self.now.finals.now) c.args.lines.now c.args.traces.now c.loop-at.at
     _ c.index-traces-at.result c.loop-at.is_wrong c.in_ok-is_wrong_here.is_wrong_here c.args.text.now.items c.loop-at.text.items c.tell_line.new.text.items within.1 c.loop-at-test.true
     c.index-traces-at.is c.loop-at.invariant c.in_ok-is_wrong_here.ensures
 
 pub returns : goal.returns
 returns c =
-    AddsLines-all c.args.self.now.name.now (gathered-value.it c.args.self.now.finals.now) c.args.lines.now c.args.cards.now c.args.traces.now c.loop-at.at c.loop-at.is_wrong
+    AddsLines-all c.args.self.now.errors_only c.args.self.now.name.now (gathered-value.it c.args.self.now.finals.now) c.args.lines.now c.args.cards.now c.args.traces.now c.loop-at.at c.loop-at.is_wrong
     c.args.text.now.items c.loop-at.text.items c.requires.cards c.requires.traces c.loop-at-test.false (omega arith) c.loop-at.invariant

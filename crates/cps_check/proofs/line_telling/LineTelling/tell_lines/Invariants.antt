@@ -6,5 +6,5 @@ use Rattle.cps_check.proofs.line_telling.LineTelling.tell_lines.Given as goal
 
 abbrev pub invariant-loop-at : goal.invariant-loop-at
 invariant-loop-at l =
-    AddsLines l.self.name.now (take l.at (map (λ line. line.now) l.lines)) (outcomes_under (gathered-value.it l.self.finals.now) (take l.at l.traces))
+    AddsLines l.self.errors_only l.self.name.now (take l.at (map (λ line. line.now) l.lines)) (outcomes_under (gathered-value.it l.self.finals.now) (take l.at l.traces))
     l.is_wrong l.fn.text.items l.text.items
