@@ -4,4 +4,5 @@ pub mod Range
 pub mod Sentence
 pub mod Explaining
 pub mod Opener
+pub mod Origin
 pub mod Code

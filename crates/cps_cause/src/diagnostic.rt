@@ -4,9 +4,10 @@ ghost use Rattle.cps_cause.specs.Sentence.{IsSentence};
 
 use crate::cause::Cause;
 use crate::columns::Columns;
+use crate::origin::Origin;
 use crate::places::Places;
 use crate::quotation::Quotation;
-use crate::wording::Wording;
+use crate::wording::{Wording, push_number};
 use cps_state::Shared;
 use std::alloc::{AllocError, Global};
 
@@ -19,6 +20,8 @@ pub struct Diagnostic {
     pub within: Columns,
     /// The text of a statement of the line's expansion; empty for the line's own statement.
     pub statement: Shared<u8>,
+    /// Where that text is written.
+    pub origin: Origin,
     /// How often an equal one comes in the line's expansion.
     pub times: u32,
 }
@@ -31,6 +34,7 @@ impl Drop for Diagnostic {
             cause: _,
             within: _,
             statement,
+            origin: _,
             times: _,
         } = self;
         drop(statement);
@@ -38,7 +42,8 @@ impl Drop for Diagnostic {
 }
 
 impl Diagnostic {
-    /// Why there is the flag, as a sentence without its point, with what it quotes of the statement or of its source line.
+    /// Why there is the flag, as a sentence without its point, with what it quotes of the statement or of its source line, and in which line a
+    /// statement of the line's expansion is written.
     pub fn words<P: Places>(
         &self,
         alloc: Global,
@@ -54,6 +59,22 @@ impl Diagnostic {
             statement
         };
         let quotation = Quotation::of(written, self.within);
-        self.cause.words(alloc, quotation, places)
+        let words = self.cause.words(alloc, quotation, places)?;
+        with_line(alloc, words, places.line_of_origin(self.origin))
     }
+}
+
+/// Words with the line behind them in which a statement is written, if it is known.
+fn with_line(alloc: Global, words: Wording, line: Option<u32>) -> Result<Wording, AllocError>
+    requires { IsSentence words }
+    ensures { IfOk result (λ more. IsSentence more) }
+{
+    let Some(line) = line else {
+        return Ok(words);
+    };
+    let mut told = Wording::new(alloc);
+    push_number(&mut told, b" (written in line ", i64::from(line), b")")?;
+    let mut more = words;
+    more.push(told.as_slice())?;
+    Ok(more)
 }

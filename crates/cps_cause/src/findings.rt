@@ -5,6 +5,7 @@ use crate::cause::Cause;
 use crate::columns::Columns;
 use crate::diagnostic::Diagnostic;
 use crate::letter::Letter;
+use crate::origin::Origin;
 use cps_state::{Flags, Shared};
 use std::alloc::{AllocError, Global};
 
@@ -29,6 +30,8 @@ pub struct Subject {
     pub flags: Flags,
     /// Empty for a line's own statement.
     pub text: Shared<u8>,
+    /// Where the text is written.
+    pub origin: Origin,
     /// All of its columns that are read.
     pub columns: Columns,
     pub operation: Columns,
@@ -62,6 +65,7 @@ impl Findings {
             subject: Subject {
                 flags: Flags::none(),
                 text: Shared::empty(),
+                origin: Origin::Line,
                 columns: call,
                 operation: call,
                 is_line: true,
@@ -114,6 +118,7 @@ impl Findings {
             cause,
             within,
             statement,
+            origin: self.subject.origin,
             times: 1,
         })
     }
@@ -166,7 +171,10 @@ impl Findings {
 
 /// Whether two causes are one, in one text.
 fn is_same(one: &Diagnostic, other: &Diagnostic) -> bool {
-    one.cause == other.cause && one.within == other.within && one.statement == other.statement
+    one.cause == other.cause
+        && one.within == other.within
+        && one.origin == other.origin
+        && one.statement == other.statement
 }
 
 /// Where the same cause stands: behind the one that came last, as where lines are repeated, or at the front or near the end.

@@ -29,6 +29,7 @@
 //! - `operand_fault.rt`: A, operands that can't be read
 //! - `operands.rt`: the operands of a statement, and where they stand
 //! - `operation_fault.rt`: O
+//! - `origin.rt`: where a statement of an expansion is written
 //! - `places.rt`: what other lines say, when the words of a cause are made
 //! - `quotation.rt`: what words quote of a statement
 //! - `showing.rt`: where in a line shows what is found in the statements that it opens
@@ -77,6 +78,7 @@ mod opener;
 mod operand_fault;
 mod operands;
 mod operation_fault;
+mod origin;
 mod places;
 mod quotation;
 mod showing;
@@ -102,6 +104,7 @@ pub use explaining::{explain, explain_end};
 pub use left_out::LeftOut;
 pub use letter::Letter;
 pub use opener::{LinesAbove, line_of_opener, opener_of};
+pub use origin::{BodyLine, Origin};
 pub use places::Places;
 pub use quotation::Quotation;
 pub use wording::{Wording, push_cleaned};

@@ -6,6 +6,7 @@ ghost use Rattle.cps_cause.specs.Opener.{IsOpener};
 ghost use Rattle.cps_cause.specs.Code.OpenNow.{IsOpenNow};
 
 use crate::open_now::OpenNow;
+use crate::origin::Origin;
 use crate::places::Places;
 use cps_state::Trace;
 use cps_text::Name;
@@ -64,6 +65,10 @@ impl Places for LinesAbove<'_> {
     }
 
     fn line_of_body(&self) -> Option<u32> {
+        None
+    }
+
+    fn line_of_origin(&self, _origin: Origin) -> Option<u32> {
         None
     }
 }

@@ -1,4 +1,5 @@
 //! What other lines say, when the words of a cause are made.
+use crate::origin::Origin;
 use cps_text::Name;
 
 /// In which lines of a source, from 1, what stands that words speak of. None: it isn't known, and the words do without.
@@ -14,4 +15,7 @@ pub trait Places {
 
     /// Which line ended the head of the program.
     fn line_of_body(&self) -> Option<u32>;
+
+    /// In which line a statement of the expansion of the line at hand is written.
+    fn line_of_origin(&self, origin: Origin) -> Option<u32>;
 }

@@ -9,6 +9,7 @@ use crate::cause::Cause;
 use crate::columns::Columns;
 use crate::diagnostic::Diagnostic;
 use crate::letter::Letter;
+use crate::origin::Origin;
 use cps_state::{Flags, Shared};
 use std::alloc::{AllocError, Global};
 use std::marker::Model;
@@ -81,6 +82,7 @@ impl Teller {
             cause: Cause::General(letter),
             within: columns,
             statement: Shared::empty(),
+            origin: Origin::Line,
             times: 1,
         })?;
         self.letters = letter.added_to(self.letters);

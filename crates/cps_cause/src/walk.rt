@@ -10,6 +10,7 @@ use crate::findings::{Findings, Subject};
 use crate::limit_fault::LimitFault;
 use crate::location_fault::LocationFault;
 use crate::operands::{PlacedText, list_operands};
+use crate::origin::{BodyLine, Origin};
 use crate::statement::FlaggedStatement;
 use crate::structure_fault::StructureFault;
 use crate::unreadable::{MANY, find_count, find_parameters};
@@ -31,6 +32,8 @@ struct StatementWalk<'a> {
     count: usize,
     output: Output,
     findings: Findings,
+    /// Where the statement at hand is written, or the first of those that come.
+    origin: Origin,
 }
 
 /// The causes of all statements of a line.
@@ -51,6 +54,7 @@ pub fn find_all(
         count: 0,
         output: Output::new(alloc),
         findings: Findings::new(alloc, card.operation_or_all()),
+        origin: Origin::Line,
     };
     let mut scope = Scope::Source;
     let walked = go_through_line(&mut walk, &mut recorder, &mut scope);
@@ -72,10 +76,52 @@ fn go_through_line(
 ) -> Result<(), AllocError> {
     let text = walk.card.text;
     look(walk, recorder, scope, text)?;
+    let known = recorder.note(Key::Control)?;
+    let kept = kept_for_dup(&mode_of(recorder.answer(known))?);
     if let Some(opened) = step_statement(recorder, scope, text)? {
+        walk.origin = match kept {
+            Some(count) => Origin::Dup(BodyLine { before: 0, count }),
+            None => body_of(text, &opened),
+        };
         expand(walk, recorder, 1, opened)?;
     }
     Ok(())
+}
+
+/// How many lines are kept for a DUP, if they are.
+fn kept_for_dup(mode: &Mode) -> Option<u32> {
+    match mode {
+        Mode::KeepDup(body) => Some(body.kept.lines),
+        _ => None,
+    }
+}
+
+/// The same in an expansion; a source line goes by the state.
+fn kept_within(scope: &Scope) -> Option<u32> {
+    match scope {
+        Scope::Expansion(own) => kept_for_dup(own.mode()),
+        Scope::Source => None,
+    }
+}
+
+/// The first line of the body that a call opens.
+fn body_of(call: &[u8], opened: &Opened<'_>) -> Origin {
+    let name = Name::read(Card::of(call).operation_text());
+    match (name, u32::try_from(length_of(opened))) {
+        (Some(name), Ok(count)) => Origin::Macro(name, BodyLine { before: 0, count }),
+        _ => Origin::Line,
+    }
+}
+
+/// How many lines a body has that is opened.
+fn length_of(opened: &Opened<'_>) -> usize {
+    match opened {
+        Opened::Lines(lines) => lines.lines.len(),
+        Opened::Naming(called) => {
+            let locals = called.locals.as_slice().len();
+            locals.saturating_add(called.lines.as_slice().len())
+        }
+    }
 }
 
 /// Looks for causes in the next statement, before it is stepped.
@@ -96,6 +142,7 @@ fn look(
     walk.findings.begin(Subject {
         flags,
         text: item.text.share()?,
+        origin: walk.origin,
         columns: card.statement(),
         operation: card.operation_or_all(),
         is_line: text == walk.card.text,
@@ -158,18 +205,28 @@ fn go_through(
 ) -> Result<bool, AllocError>
     requires { depth ≤ DEEPEST + 1 }
 {
+    let first = walk.origin;
+    let mut before: u32 = 0;
     for text in texts {
+        walk.origin = first.down(before);
+        before = before.saturating_add(1);
         if !recorder.begin(depth, text.share()?)? {
             find_dropped(walk, depth)?;
             return Ok(false);
         }
         look(walk, recorder, scope, text.as_slice())?;
+        let kept = kept_within(scope);
         if let Some(opened) = step_statement(recorder, scope, text.as_slice())? {
+            walk.origin = match kept {
+                Some(lines) => walk.origin.up(lines),
+                None => body_of(text.as_slice(), &opened),
+            };
             if !expand(walk, recorder, depth + 1, opened)? {
                 return Ok(false);
             }
         }
     }
+    walk.origin = first;
     Ok(true)
 }
 
@@ -269,7 +326,9 @@ fn insert_names(
     let alloc = recorder.alloc();
     let mut known = Substitutes::of(alloc, &called.pairs)?;
     let is_whole = name_all(recorder, depth, called.locals.as_slice(), &mut known)?;
-    find_locals(walk, recorder, called)?;
+    let first = walk.origin;
+    let locals = find_locals(walk, recorder, called)?;
+    walk.origin = first.down(locals);
     if !is_whole {
         find_dropped(walk, depth)?;
         return Ok(None);
@@ -278,21 +337,25 @@ fn insert_names(
     Ok(Some(Repeated { lines, times: 1 }))
 }
 
-/// The LOCAL lines of a call.
+/// The LOCAL lines of a call, and how many they are.
 fn find_locals(
     walk: &mut StatementWalk<'_>,
     recorder: &mut Recorder<'_, Asks>,
     called: &Body<'_>,
-) -> Result<(), AllocError> {
+) -> Result<u32, AllocError> {
     let alloc = recorder.alloc();
     let mut taken = Vec::new(alloc);
     for pair in &called.pairs {
         taken.push(pair.0)?;
     }
+    let first = walk.origin;
+    let mut count: u32 = 0;
     for line in called.locals.as_slice() {
+        walk.origin = first.down(count);
         find_local(alloc, walk, &mut taken, line.as_slice())?;
+        count = count.saturating_add(1);
     }
-    Ok(())
+    Ok(count)
 }
 
 /// A LOCAL line, with the names that are taken before it.
@@ -312,6 +375,7 @@ fn find_local(
     walk.findings.begin(Subject {
         flags,
         text: item.text.share()?,
+        origin: walk.origin,
         columns: card.statement(),
         operation: card.operation_or_all(),
         is_line: false,

@@ -1,6 +1,6 @@
 //! In which lines stands what words speak of.
 
-use cps_cause::{Card, Places, line_of_opener};
+use cps_cause::{Card, Origin, Places, line_of_opener};
 use cps_final::LineSymbols;
 use cps_state::{Hashing, Key, Phase, Put, Trace, control_of};
 use cps_text::{Line, Name};
@@ -21,6 +21,8 @@ struct KnownSymbol {
 #[derive(Drop)]
 pub struct KnownPlaces<'a> {
     symbols: HashMap<Name, KnownSymbol, Hashing>,
+    /// In which line the definition of each macro ended last.
+    macros: HashMap<Name, u32, Hashing>,
     /// What each line does.
     traces: &'a [Trace],
     /// How many lines were passed.
@@ -51,6 +53,15 @@ impl Places for KnownPlaces<'_> {
     fn line_of_body(&self) -> Option<u32> {
         self.body
     }
+
+    fn line_of_origin(&self, origin: Origin) -> Option<u32> {
+        let number = u32::try_from(self.passed.saturating_add(1)).ok()?;
+        let defined = match origin {
+            Origin::Macro(name, _) => self.macros.get(&name).copied(),
+            _ => None,
+        };
+        origin.line_of(number, defined, self.traces)
+    }
 }
 
 impl<'a> KnownPlaces<'a> {
@@ -77,6 +88,7 @@ impl<'a> KnownPlaces<'a> {
         }
         Ok(KnownPlaces {
             symbols,
+            macros: HashMap::with_hasher(alloc, hashing),
             traces,
             passed: 0,
             body: None,
@@ -101,13 +113,18 @@ impl<'a> KnownPlaces<'a> {
     }
 
     /// Behind the line of this number, which does this.
-    pub fn pass(&mut self, number: u32, trace: &Trace) {
+    pub fn pass(&mut self, number: u32, trace: &Trace) -> Result<(), AllocError> {
         for put in trace.puts() {
-            if let Key::Control = put.key {
-                self.pass_phase(number, control_of(Some(&put.answer)).phase);
+            match put.key {
+                Key::Control => self.pass_phase(number, control_of(Some(&put.answer)).phase),
+                Key::Macro(name) => {
+                    self.macros.insert(name, number)?;
+                }
+                _ => {}
             }
         }
         self.passed = number as usize;
+        Ok(())
     }
 
     fn pass_phase(&mut self, number: u32, phase: Phase) {

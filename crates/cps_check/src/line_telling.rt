@@ -9,7 +9,7 @@ ghost use Rattle.cps_check.specs.Code.Telling.{TellsLine, TellsLines};
 use crate::known_places::KnownPlaces;
 use crate::notes::{Note, find_notes};
 use crate::told_line::ToldLine;
-use cps_cause::{Card, Diagnostic, LinesAbove, explain, explain_end, opener_of};
+use cps_cause::{Card, Diagnostic, LinesAbove, Origin, explain, explain_end, opener_of};
 use cps_final::{Finals, Gathered};
 use cps_input::faults_of;
 use cps_state::{Shared, Trace};
@@ -62,7 +62,7 @@ impl LineTelling<'_> {
             };
             let is_wrong_here = self.tell_line(&line, &mut places, text)?;
             is_wrong = is_wrong | is_wrong_here;
-            places.pass(line.number, trace);
+            places.pass(line.number, trace)?;
         }
         Ok(is_wrong)
     }
@@ -140,6 +140,7 @@ impl LineTelling<'_> {
             cause,
             within: columns,
             statement: Shared::empty(),
+            origin: Origin::Line,
             times: 1,
         };
         told.push_flag(self.alloc, &LinesAbove { traces }, &end, text)?;

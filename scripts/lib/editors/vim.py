@@ -228,7 +228,7 @@ TYPED = [
 # What a call of `compass check` for a file of this name is to write, and what vim must find in it: line, column, type and text.
 CHECKED = "old deck.cps"
 TOLD = f"""\
-{CHECKED}:6:21: error: U: no line above gives AWAY a value, and it must have one here; it has one from line 7
+{CHECKED}:6:21: error: U: no line above gives AWAY a value, and it must have one here; it has one from line 7 (written in line 2)
     6 |           FUNC    1,AWAY
       |                     ^^^^
       = in its expansion: IFNE    AWAY,0
@@ -244,7 +244,7 @@ TOLD = f"""\
 {CHECKED}:100000:1: error: a source has 99,999 lines at most; the lines from here on are not looked at
 """
 FOUND = [
-    [6, 21, "e", "U: no line above gives AWAY a value, and it must have one here; it has one from line 7"],
+    [6, 21, "e", "U: no line above gives AWAY a value, and it must have one here; it has one from line 7 (written in line 2)"],
     [12, 1, "e", "D: TWO has a value already, from line 6, and keeps it"],
     [12, 1, "n", "nothing reads TWO"],
     [13, 2, "e", "a tab is no character of a line; blanks to column 11, 18 or 30?"],
