@@ -75,6 +75,7 @@ impl Cause {
         ensures { IfOk result (λ words. IsSentence words) }
     {
         let mut words = Wording::new(alloc);
+        words.count_in(quotation.base);
         self.push_words(&mut words, quotation, places)?;
         if words.as_slice().is_empty() {
             words.push(self.letter().meaning())?;

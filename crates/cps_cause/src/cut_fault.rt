@@ -1,6 +1,6 @@
 //! Why a value has flag T.
 
-use crate::wording::{Wording, push_number};
+use crate::wording::{Wording, push_bound, push_number, push_value};
 use std::alloc::AllocError;
 
 /// The bits of a central processor's word.
@@ -19,10 +19,10 @@ impl CutFault {
     pub(crate) fn push_words(self, text: &mut Wording) -> Result<(), AllocError> {
         let width = i64::from(self.width);
         let bits: &[u8] = if width == 1 { b" bit (" } else { b" bits (" };
-        push_number(text, b"the value ", self.value, b" doesn't fit ")?;
+        push_value(text, b"the value ", self.value, b" doesn't fit ")?;
         push_number(text, b"", width, bits)?;
-        push_number(text, b"", 0i64.saturating_sub(least(self.width)), b" to ")?;
-        push_number(
+        push_bound(text, b"", 0i64.saturating_sub(least(self.width)), b" to ")?;
+        push_bound(
             text,
             b"",
             most(self.width),

@@ -8,6 +8,7 @@ use crate::origin::Origin;
 use crate::places::Places;
 use crate::quotation::Quotation;
 use crate::wording::{Wording, push_number};
+use cps_expr::Radix;
 use cps_state::Shared;
 use std::alloc::{AllocError, Global};
 
@@ -22,6 +23,8 @@ pub struct Diagnostic {
     pub statement: Shared<u8>,
     /// Where that text is written.
     pub origin: Origin,
+    /// The base of the statement's numbers.
+    pub base: Radix,
     /// How often an equal one comes in the line's expansion.
     pub times: u32,
 }
@@ -35,6 +38,7 @@ impl Drop for Diagnostic {
             within: _,
             statement,
             origin: _,
+            base: _,
             times: _,
         } = self;
         drop(statement);
@@ -58,7 +62,7 @@ impl Diagnostic {
         } else {
             statement
         };
-        let quotation = Quotation::of(written, self.within);
+        let quotation = Quotation::of(written, self.within).counting_in(self.base);
         let words = self.cause.words(alloc, quotation, places)?;
         with_line(alloc, words, places.line_of_origin(self.origin))
     }

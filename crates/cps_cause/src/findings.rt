@@ -6,6 +6,7 @@ use crate::columns::Columns;
 use crate::diagnostic::Diagnostic;
 use crate::letter::Letter;
 use crate::origin::Origin;
+use cps_expr::Radix;
 use cps_state::{Flags, Shared};
 use std::alloc::{AllocError, Global};
 
@@ -53,6 +54,8 @@ pub struct Findings {
     explained: Flags,
     /// The place behind the cause that came last.
     behind: usize,
+    /// The base of the statement's numbers.
+    base: Radix,
 }
 
 impl Findings {
@@ -73,6 +76,7 @@ impl Findings {
             before: 0,
             explained: Flags::none(),
             behind: 0,
+            base: Radix::Decimal,
         }
     }
 
@@ -82,7 +86,13 @@ impl Findings {
         self.subject = subject;
         self.before = self.found.len();
         self.explained = Flags::none();
+        self.base = Radix::Decimal;
         Ok(())
+    }
+
+    /// The statement's numbers have this base.
+    pub fn count_in(&mut self, base: Radix) {
+        self.base = base;
     }
 
     /// Whether a cause was found for a letter of the statement.
@@ -119,6 +129,7 @@ impl Findings {
             within,
             statement,
             origin: self.subject.origin,
+            base: self.base,
             times: 1,
         })
     }
@@ -174,6 +185,7 @@ fn is_same(one: &Diagnostic, other: &Diagnostic) -> bool {
     one.cause == other.cause
         && one.within == other.within
         && one.origin == other.origin
+        && one.base == other.base
         && one.statement == other.statement
 }
 

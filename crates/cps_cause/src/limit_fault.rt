@@ -1,7 +1,7 @@
 //! Why a statement passes a limit.
 
 use crate::quotation::Quotation;
-use crate::wording::{Wording, push_number, push_quoted};
+use crate::wording::{Wording, push_number, push_quoted, push_value};
 use cps_expr::Operation;
 use cps_text::limits::{
     DEEPEST, MOST_BLOCKS, MOST_BODY_LINES, MOST_CHARACTERS, MOST_GENERATED, MOST_RANGES,
@@ -58,7 +58,7 @@ impl LimitFault {
             LimitFault::Origin(words) => push_origin(text, quotation.shown, words),
             LimitFault::Words(words) => {
                 let words = i64::from(words);
-                push_number(text, b"this would pass the machine's ", words, b" words")
+                push_value(text, b"this would pass the machine's ", words, b" words")
             }
             LimitFault::Address(place) => place.push_words(text, b"this stands at word "),
             LimitFault::Literal(place) => place.push_words(text, b"the literal stands at word "),
@@ -107,7 +107,7 @@ impl LimitFault {
 
 /// Appends that an address is past so many words.
 fn push_origin(text: &mut Wording, shown: &[u8], words: u32) -> Result<(), AllocError> {
-    push_number(text, b"the machine has ", i64::from(words), b" words, and ")?;
+    push_value(text, b"the machine has ", i64::from(words), b" words, and ")?;
     push_quoted(text, b"", shown, b" is past them")
 }
 
@@ -125,7 +125,7 @@ fn push_times(text: &mut Wording, times: i64) -> Result<(), AllocError> {
         MOST_TIMES as i64,
         b" times at most, ",
     )?;
-    push_number(text, b"and not ", times, b"")
+    push_value(text, b"and not ", times, b"")
 }
 
 /// Appends that a statement has too many characters.
@@ -157,12 +157,12 @@ fn push_body(text: &mut Wording, operation: &[u8]) -> Result<(), AllocError> {
 impl FarAddress {
     fn push_words(self, text: &mut Wording, before: &[u8]) -> Result<(), AllocError> {
         let address = i64::try_from(self.address).unwrap_or(0);
-        push_number(
+        push_value(
             text,
             before,
             address,
             b" when all blocks are placed, and the machine has ",
         )?;
-        push_number(text, b"", i64::from(self.words), b" words")
+        push_value(text, b"", i64::from(self.words), b" words")
     }
 }

@@ -10,6 +10,7 @@ use crate::columns::Columns;
 use crate::diagnostic::Diagnostic;
 use crate::letter::Letter;
 use crate::origin::Origin;
+use cps_expr::Radix;
 use cps_state::{Flags, Shared};
 use std::alloc::{AllocError, Global};
 use std::marker::Model;
@@ -83,6 +84,7 @@ impl Teller {
             within: columns,
             statement: Shared::empty(),
             origin: Origin::Line,
+            base: Radix::Decimal,
             times: 1,
         })?;
         self.letters = letter.added_to(self.letters);

@@ -1,6 +1,6 @@
 //! Why a value has flag A.
 use crate::quotation::Quotation;
-use crate::wording::{Wording, push_number, push_quoted};
+use crate::wording::{Wording, push_quoted, push_value};
 use cps_text::Name;
 use std::alloc::AllocError;
 
@@ -44,7 +44,7 @@ impl ValueFault {
             ValueFault::None => push_quoted(text, b"", shown, NO_VALUE),
             ValueFault::NoneLater => push_quoted(text, shown, NO_VALUE, b"; it counts as 0"),
             ValueFault::Negative(value) => {
-                push_number(
+                push_value(
                     text,
                     b"a number below 0 can't stand here, and this is ",
                     value,
@@ -71,7 +71,7 @@ const NO_VALUE: &[u8] =
 
 /// Appends that a count is below 0; of a left shift with what shifts to the right as far.
 fn push_count(text: &mut Wording, operation: &[u8], value: i64) -> Result<(), AllocError> {
-    push_number(
+    push_value(
         text,
         b"a count is 0 or more, and not ",
         value,
@@ -80,7 +80,7 @@ fn push_count(text: &mut Wording, operation: &[u8], value: i64) -> Result<(), Al
     match operation {
         [b'L' | b'l', b'X' | b'x', ..] if (-59..0).contains(&value) => {
             let left = value.saturating_add(60);
-            push_number(
+            push_value(
                 text,
                 b"; a left shift by ",
                 left,
@@ -91,20 +91,24 @@ fn push_count(text: &mut Wording, operation: &[u8], value: i64) -> Result<(), Al
     }
 }
 
+/// The words over which a jump goes.
+const FARTHEST: i64 = 31;
+
 /// Appends that a target is too far away.
 fn push_distance(text: &mut Wording, distance: i64) -> Result<(), AllocError> {
-    push_number(
+    push_value(
         text,
         b"the target is ",
         distance.saturating_abs(),
-        b" words away, and a jump goes 31 at most",
-    )
+        b" words away",
+    )?;
+    push_value(text, b", and a jump goes ", FARTHEST, b" at most")
 }
 
 impl Bounds {
     fn push_words(self, text: &mut Wording) -> Result<(), AllocError> {
-        push_number(text, b"", self.value, b" is not from ")?;
-        push_number(text, b"", i64::from(self.least), b" to ")?;
-        push_number(text, b"", i64::from(self.most), b"")
+        push_value(text, b"", self.value, b" is not from ")?;
+        push_value(text, b"", i64::from(self.least), b" to ")?;
+        push_value(text, b"", i64::from(self.most), b"")
     }
 }

@@ -154,6 +154,7 @@ fn look(
     let control = control_of(recorder.answer(known));
     let mode = mode_of(recorder.answer(known))?;
     let mode = mode_in(mode, scope)?;
+    walk.findings.count_in(control.radix);
     let statement = FlaggedStatement {
         card,
         control,

@@ -1,6 +1,6 @@
 //! Why a field of VFD has flag V.
 use crate::quotation::Quotation;
-use crate::wording::{Wording, push_number, push_quoted};
+use crate::wording::{Wording, push_quoted, push_value};
 use cps_text::Name;
 use std::alloc::AllocError;
 
@@ -22,7 +22,7 @@ impl WidthFault {
     ) -> Result<(), AllocError> {
         match self {
             WidthFault::OutOfRange(value) => {
-                push_number(text, b"a field has 1 to 60 bits, and not ", value, b"")
+                push_value(text, b"a field has 1 to 60 bits, and not ", value, b"")
             }
             WidthFault::InBlock(name) => {
                 push_quoted(

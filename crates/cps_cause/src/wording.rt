@@ -3,6 +3,7 @@ ghost use Rattle.std.specs.Prelude.{◌≡◌, ◌++◌, [], true, OnOk};
 ghost use Rattle.cps_input.specs.Shown.{has_no_control};
 ghost use Rattle.cps_cause.specs.Sentence.{cleaned, cleaned_byte};
 
+use cps_expr::Radix;
 use cps_text::Name;
 use itoa::Buffer;
 use std::alloc::{AllocError, Global};
@@ -12,6 +13,8 @@ use std::marker::Model;
 #[derive(Drop)]
 pub struct Wording {
     text: Vec<u8>,
+    /// Whether values are told in octal, too.
+    is_octal: bool,
 }
 
 impl Model for Wording {
@@ -32,7 +35,18 @@ impl Wording {
     {
         Wording {
             text: Vec::new(alloc),
+            is_octal: false,
         }
+    }
+
+    /// From here on values are told in octal, too, where that is the base of numbers.
+    pub(crate) fn count_in(&mut self, base: Radix)
+        ensures { self.new ≡ self.old }
+    {
+        self.is_octal = match base {
+            Radix::Octal => true,
+            Radix::Decimal => false,
+        };
     }
 
     /// The bytes.
@@ -46,7 +60,7 @@ impl Wording {
     pub fn into_bytes(self) -> Vec<u8>
         ensures { result.items ≡ self }
     {
-        let Wording { text } = self;
+        let Wording { text, .. } = self;
         text
     }
 
@@ -102,6 +116,57 @@ pub fn push_number(
     text.push(before)?;
     text.push(Buffer::new().format(number).as_bytes())?;
     text.push(behind)
+}
+
+/// Appends a value of a source between two texts: in decimal, and where its base is octal also in that, as `64 (100B)`.
+pub fn push_value(
+    text: &mut Wording,
+    before: &[u8],
+    value: i64,
+    behind: &[u8],
+) -> Result<(), AllocError> {
+    push_number(text, before, value, b"")?;
+    if text.is_octal && value.unsigned_abs() > 7 {
+        text.push(b" (")?;
+        push_in_octal(text, value)?;
+        text.push(b")")?;
+    }
+    text.push(behind)
+}
+
+/// Appends a value of a source between two texts: in decimal, or where its base is octal in that, as `100B`.
+pub fn push_bound(
+    text: &mut Wording,
+    before: &[u8],
+    value: i64,
+    behind: &[u8],
+) -> Result<(), AllocError> {
+    if !text.is_octal || value.unsigned_abs() <= 7 {
+        return push_number(text, before, value, behind);
+    }
+    text.push(before)?;
+    push_in_octal(text, value)?;
+    text.push(behind)
+}
+
+/// The most octal digits of a value.
+const OCTAL_DIGITS: u32 = 22;
+
+/// Appends a number in octal, with its sign and B behind it.
+fn push_in_octal(text: &mut Wording, value: i64) -> Result<(), AllocError> {
+    if value < 0 {
+        text.push(b"-")?;
+    }
+    let magnitude = value.unsigned_abs();
+    let mut is_leading = true;
+    for place in 0..OCTAL_DIGITS {
+        let digit = (magnitude >> (63 - 3 * place)) % 8;
+        is_leading = is_leading && digit == 0;
+        if !is_leading {
+            text.push(&[b'0' + digit as u8])?;
+        }
+    }
+    text.push(b"B")
 }
 
 /// Appends a name that may be meant, if there is one.

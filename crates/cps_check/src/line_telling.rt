@@ -10,6 +10,7 @@ use crate::known_places::KnownPlaces;
 use crate::notes::{Note, find_notes};
 use crate::told_line::ToldLine;
 use cps_cause::{Card, Diagnostic, LinesAbove, Origin, explain, explain_end, opener_of};
+use cps_expr::Radix;
 use cps_final::{Finals, Gathered};
 use cps_input::faults_of;
 use cps_state::{Shared, Trace};
@@ -141,6 +142,7 @@ impl LineTelling<'_> {
             within: columns,
             statement: Shared::empty(),
             origin: Origin::Line,
+            base: Radix::Decimal,
             times: 1,
         };
         told.push_flag(self.alloc, &LinesAbove { traces }, &end, text)?;

@@ -8,6 +8,7 @@ use Rattle.cps_cause.specs.Opener.{IsOpener}
 use Rattle.cps_cause.specs.declared.cause.Cause.{Cause}
 use Rattle.cps_cause.specs.declared.letter.Letter.TheVariants.{E}
 use Rattle.cps_cause.specs.declared.diagnostic.Diagnostic.{Diagnostic}
+use Rattle.cps_expr.specs.declared.radix.Radix.TheVariants.{Decimal}
 use Rattle.cps_cause.specs.declared.origin.Origin.TheVariants.{Line}
 use Rattle.cps_cause.specs.Letters.{letter_of}
 use Rattle.cps_check.specs.Reports.{IsOpenTold, ReportsEnd, flag_report}
@@ -34,7 +35,7 @@ returns c =
     let above = c.in-Some-opener_of.above in
     let columns = c.within-columns.result in
     let card = c.bytes-line.result.now in
-    let told : Diagnostic = record { columns = columns; cause = c.in-Some.cause; within = columns; statement = c.empty.result; origin = Line; times = 1 } in
+    let told : Diagnostic = record { columns = columns; cause = c.in-Some.cause; within = columns; statement = c.empty.result; origin = Line; base = Decimal; times = 1 } in
     let report = flag_report (above + 1) card told in
     let within = card-there cards c.args.traces.now above c.requires.traces c.in-Some-opener_of.ensures.opener.within in
     let there : slice_get cards above ≡ Some card =
