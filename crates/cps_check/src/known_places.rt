@@ -1,6 +1,6 @@
 //! In which lines stands what words speak of.
 
-use cps_cause::{Card, Origin, Places, line_of_opener};
+use cps_cause::{Card, Origin, Places, line_of_opener, opener_of};
 use cps_final::LineSymbols;
 use cps_state::{Hashing, Key, Phase, Put, Trace, control_of};
 use cps_text::{Line, Name};
@@ -31,6 +31,8 @@ pub struct KnownPlaces<'a> {
     end: Option<u32>,
     /// Whether `takes_end` told that the program has ended.
     is_end_taken: bool,
+    /// Whether no line ends the program, and nothing is open behind all.
+    lacks_end: bool,
 }
 
 impl Places for KnownPlaces<'_> {
@@ -94,6 +96,8 @@ impl<'a> KnownPlaces<'a> {
             body: None,
             end: None,
             is_end_taken: false,
+            lacks_end: opener_of(traces).is_none()
+                && !traces.iter().any(|trace| ends_program(trace)),
         })
     }
 
@@ -103,6 +107,11 @@ impl<'a> KnownPlaces<'a> {
             Some(known) => known.line == number && !known.is_read,
             None => false,
         }
+    }
+
+    /// Whether no line of the source ends the program, and nothing is open at its end.
+    pub fn lacks_end(&self) -> bool {
+        self.lacks_end
     }
 
     /// Whether the program has ended, once: asked again, it says no.

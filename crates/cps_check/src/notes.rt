@@ -7,7 +7,7 @@ use crate::line_telling::CheckedLine;
 use cps_cause::{Card, Columns, Wording, filled_len};
 use cps_code::is_builtin;
 use cps_expr::Operation;
-use cps_state::{Answer, Asked, Key, Phase, macro_of};
+use cps_state::{Answer, Asked, Key, Phase, Trace, control_of, macro_of};
 use cps_text::{Fields, Name, capital};
 use std::alloc::{AllocError, Global};
 
@@ -24,6 +24,8 @@ pub enum Remark {
     Call,
     /// It stands behind the end of the program.
     BehindEnd,
+    /// It begins a program that nothing ends.
+    NoEnd,
     /// No line reads the symbol that the line defines.
     Unread(Name),
     /// It may have operands, and has none but text in column 30 or later.
@@ -63,6 +65,7 @@ impl Remark {
             Remark::BehindEnd => {
                 b"nothing behind END is assembled; another program is a source of its own"
             }
+            Remark::NoEnd => b"no END stands behind it; the last lines may be missing",
             Remark::Unread(_) => b"nothing reads ",
             Remark::FarOperands => {
                 b"no operand stands here; what begins in column 30 or later is a comment"
@@ -83,6 +86,7 @@ pub fn find_notes(
     let card = Card::of(line.line);
     push_some(&mut notes, find_call(line.line))?;
     push_some(&mut notes, find_behind_end(&card, places))?;
+    push_some(&mut notes, find_no_end(line, &card, places))?;
     push_some(&mut notes, find_unread(line.number, &card, places))?;
     push_some(&mut notes, find_far_operands(line, &card)?)?;
     push_some(&mut notes, find_parted_operands(line, &card))?;
@@ -129,6 +133,37 @@ fn find_behind_end(card: &Card<'_>, places: &mut KnownPlaces<'_>) -> Option<Note
         columns: card.operation_or_all(),
         remark: Remark::BehindEnd,
     })
+}
+
+/// An IDENT that names the program, where nothing ends that and nothing is open at the source's end.
+fn find_no_end(line: &CheckedLine<'_>, card: &Card<'_>, places: &KnownPlaces<'_>) -> Option<Note> {
+    if !places.lacks_end() || !is_ident(card) || !names_program(line.trace) {
+        return None;
+    }
+    Some(Note {
+        columns: card.operation_or_all(),
+        remark: Remark::NoEnd,
+    })
+}
+
+fn is_ident(card: &Card<'_>) -> bool {
+    match Operation::named(card.operation_text()) {
+        Some(Operation::Ident) => true,
+        _ => false,
+    }
+}
+
+/// Whether a line that does this is an IDENT in the head of the program, and not its second.
+fn names_program(trace: &Trace) -> bool {
+    for put in trace.puts() {
+        if let Key::Control = put.key {
+            return match control_of(Some(&put.answer)).phase {
+                Phase::Head(head) => head.is_named,
+                _ => false,
+            };
+        }
+    }
+    false
 }
 
 /// A location field with a symbol that the line is the first to define, and that no line reads.
