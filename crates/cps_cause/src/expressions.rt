@@ -59,12 +59,25 @@ fn misread_element(text: &[u8], radix: Radix) -> Misreading {
         Misreading::Register
     } else if text.first().copied() == Some(b'=') {
         Misreading::Literal
-    } else if TextItem::read(text, CP_CHARACTERS).is_some() {
+    } else if TextItem::read(text, CP_CHARACTERS).is_some() || is_uncounted(text) {
         Misreading::Characters
+    } else if text.iter().any(|byte| matches!(*byte, b'(' | b')')) {
+        Misreading::Parenthesis
     } else if is_number(text) {
         misread_number(text, radix)
     } else {
         Misreading::Part
+    }
+}
+
+/// Whether a text begins as characters do whose count is 0, up to a blank or a comma: this assembler leaves them out.
+fn is_uncounted(text: &[u8]) -> bool {
+    match text {
+        [b'0', letter, _, ..] => matches!(
+            capital(*letter),
+            b'A' | b'C' | b'H' | b'L' | b'R' | b'Z'
+        ),
+        _ => false,
     }
 }
 

@@ -15,6 +15,7 @@
 //! - `expressions.rt`: whether a text is an expression, and why it is none
 //! - `findings.rt`: causes as they are found, statement by statement
 //! - `forms.rt`: operands of instructions that can't be read
+//! - `hints.rt`: what may be meant in the place of what a cause quotes
 //! - `items.rt`: data items that can't be read
 //! - `left_out.rt`: operations that COMPASS has and this assembler leaves out
 //! - `letter.rt`: the letters of flags
@@ -64,6 +65,7 @@ mod explaining;
 mod expressions;
 mod findings;
 mod forms;
+mod hints;
 mod items;
 mod left_out;
 mod letter;

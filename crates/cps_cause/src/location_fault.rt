@@ -1,5 +1,6 @@
 //! Why a location field has flag L.
 
+use crate::hints::push_line_number;
 use crate::no_symbol::push_no_symbol;
 use crate::quotation::Quotation;
 use crate::wording::{Wording, push_quoted};
@@ -37,9 +38,13 @@ impl LocationFault {
                     b"",
                     operation,
                     b" takes nothing in the location field",
-                )
+                )?;
+                push_line_number(text, quotation.location)
             }
-            LocationFault::NoSymbol => push_no_symbol(text, quotation.location),
+            LocationFault::NoSymbol => {
+                push_no_symbol(text, quotation.location)?;
+                push_line_number(text, quotation.location)
+            }
             LocationFault::NeedsSymbol => {
                 push_quoted(
                     text,

@@ -20,6 +20,8 @@ pub enum Misreading {
     Element,
     /// A literal stands in it.
     Literal,
+    /// A parenthesis stands in it.
+    Parenthesis,
     /// A part of it is no number, no symbol and no `*`.
     Part,
 }
@@ -49,6 +51,7 @@ impl Misreading {
             Misreading::Great => b" is greater than 2^59 - 1",
             Misreading::Element => b": an element is missing before or behind an operator",
             Misreading::Literal => b": a literal can't stand here",
+            Misreading::Parenthesis => b": an expression has no parentheses",
             Misreading::Part => b" is no number, no symbol and no *",
         }
     }

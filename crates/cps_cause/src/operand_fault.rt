@@ -1,4 +1,5 @@
 //! Why operands can't be read.
+use crate::hints::push_register_in;
 use crate::misreading::Misreading;
 use crate::no_symbol::push_no_symbol;
 use crate::quotation::Quotation;
@@ -64,10 +65,7 @@ impl OperandFault {
             OperandFault::TooMany => push_too_many(text, quotation.operation),
             OperandFault::NoExpression(misread) => misread.push_words(text, shown),
             OperandFault::NoName => push_no_symbol(text, shown),
-            OperandFault::Form => {
-                push_quoted(text, b"no form of ", quotation.operation, b" takes ")?;
-                text.push(shown)
-            }
+            OperandFault::Form => push_no_form(text, quotation),
             OperandFault::Literal => {
                 push_quoted(text, b"", shown, b" is no literal that ")?;
                 push_quoted(text, b"", quotation.operation, b" takes")
@@ -104,6 +102,16 @@ impl OperandFault {
             _ => b"",
         }
     }
+}
+
+/// Appends that an instruction has no form for its operands.
+fn push_no_form(text: &mut Wording, quotation: Quotation<'_>) -> Result<(), AllocError> {
+    push_quoted(text, b"no form of ", quotation.operation, b" takes ")?;
+    text.push(quotation.shown)?;
+    if quotation.is_parted {
+        return text.push(b"; operands end at the first blank");
+    }
+    push_register_in(text, quotation.shown)
 }
 
 /// Appends that an operand is missing.

@@ -1,5 +1,6 @@
 //! Why an operation field has flag O.
 
+use crate::hints::push_operation_place;
 use crate::left_out::LeftOut;
 use crate::quotation::Quotation;
 use crate::wording::{Wording, push_perhaps, push_quoted};
@@ -36,7 +37,8 @@ impl OperationFault {
         match self {
             OperationFault::LeftOut(left_out) => text.push(left_out.words()),
             OperationFault::Unknown(near) | OperationFault::Peripheral(near) => {
-                push_perhaps(text, near)
+                push_perhaps(text, near)?;
+                push_operation_place(text, quotation)
             }
             _ => Ok(()),
         }

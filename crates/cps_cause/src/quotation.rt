@@ -2,7 +2,7 @@
 
 use crate::columns::Columns;
 use cps_expr::Radix;
-use cps_text::{Fields, read_fields};
+use cps_text::{Fields, StatementFields, read_fields};
 
 /// What words quote of a statement.
 #[derive(Clone, Copy)]
@@ -11,8 +11,11 @@ pub struct Quotation<'a> {
     pub shown: &'a [u8],
     pub operation: &'a [u8],
     pub location: &'a [u8],
+    pub operands: &'a [u8],
     /// Whether a comment stands behind the operation field, and no operand.
     pub has_comment_alone: bool,
+    /// Whether text begins one blank behind the operands, which they end at.
+    pub is_parted: bool,
     /// The base of the statement's numbers.
     pub base: Radix,
 }
@@ -26,14 +29,18 @@ impl<'a> Quotation<'a> {
                 shown,
                 operation: fields.operation,
                 location: fields.location,
+                operands: fields.variable,
                 has_comment_alone: fields.variable.is_empty() && !fields.comment.is_empty(),
+                is_parted: is_parted(fields),
                 base: Radix::Decimal,
             },
             _ => Quotation {
                 shown,
                 operation: &[],
                 location: &[],
+                operands: &[],
                 has_comment_alone: false,
+                is_parted: false,
                 base: Radix::Decimal,
             },
         }
@@ -45,4 +52,12 @@ impl<'a> Quotation<'a> {
         counting.base = base;
         counting
     }
+}
+
+/// Whether a comment begins one blank behind operands.
+fn is_parted(fields: StatementFields<'_>) -> bool {
+    let before = fields.tail.len().saturating_sub(fields.comment.len());
+    !fields.variable.is_empty()
+        && !fields.comment.is_empty()
+        && before == fields.variable.len().saturating_add(1)
 }

@@ -1,4 +1,5 @@
 //! Why a symbol has flag U.
+use crate::hints::push_register;
 use crate::places::Places;
 use crate::wording::{Wording, push_line, push_perhaps, push_quoted};
 use cps_text::Name;
@@ -27,7 +28,7 @@ impl SymbolFault {
         match self {
             SymbolFault::UndefinedNow(name, near) => {
                 push_undefined(text, b"no line gives ", name, NEEDED)?;
-                push_perhaps(text, near)
+                push_meant(text, name, near)
             }
             SymbolFault::DefinedBelow(name) => {
                 push_undefined(text, b"no line above gives ", name, NEEDED)?;
@@ -39,7 +40,7 @@ impl SymbolFault {
             }
             SymbolFault::Undefined(name, near) => {
                 push_undefined(text, b"no line gives ", name, COUNTED)?;
-                push_perhaps(text, near)
+                push_meant(text, name, near)
             }
             SymbolFault::SetBelow(name) => push_quoted(
                 text,
@@ -56,6 +57,14 @@ const NEEDED: &[u8] = b" a value, and it must have one here";
 
 /// What is told of one that needn't.
 const COUNTED: &[u8] = b" a value; it counts as 0";
+
+/// Appends a symbol or a register that may be meant, if there is one.
+fn push_meant(text: &mut Wording, name: Name, near: Option<Name>) -> Result<(), AllocError> {
+    if near.is_none() && push_register(text, name.text())? {
+        return Ok(());
+    }
+    push_perhaps(text, near)
+}
 
 fn push_undefined(
     text: &mut Wording,

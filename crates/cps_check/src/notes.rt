@@ -32,7 +32,7 @@ pub enum Remark {
     FarOperands,
     /// Its operands end in column 72, and what stands behind goes on.
     CutOperands,
-    /// An operator and an element stand one blank behind its operands.
+    /// An operator and an element, a register or a number stand one blank behind its operands.
     PartedOperands,
 }
 
@@ -197,7 +197,7 @@ fn find_far_operands(line: &CheckedLine<'_>, card: &Card<'_>) -> Result<Option<N
     }))
 }
 
-/// An operator and one element that stand one blank behind the operands of a statement that is assembled.
+/// An operator and one element, a register or a number that stand one blank behind the operands of a statement that is assembled.
 fn find_parted_operands(line: &CheckedLine<'_>, card: &Card<'_>) -> Option<Note> {
     let Fields::Statement(fields) = card.fields else {
         return None;
@@ -207,7 +207,10 @@ fn find_parted_operands(line: &CheckedLine<'_>, card: &Card<'_>) -> Option<Note>
     if fields.variable.is_empty() || front != fields.variable.len().saturating_add(1) {
         return None;
     }
-    if !goes_on(parted) || !has_values(fields.operation) || !is_assembled(line.trace.asks()) {
+    if !(goes_on(parted) || is_operand(parted))
+        || !has_values(fields.operation)
+        || !is_assembled(line.trace.asks())
+    {
         return None;
     }
     Some(Note {
@@ -231,6 +234,16 @@ fn goes_on(text: &[u8]) -> bool {
         && written
             .iter()
             .all(|byte| byte.is_ascii_alphanumeric() || *byte == b'.')
+}
+
+/// Whether a text is a register or digits.
+fn is_operand(text: &[u8]) -> bool {
+    let written = &text[..filled_len(text).min(text.len())];
+    match written {
+        [] => false,
+        [b'A' | b'B' | b'X', b'0'..=b'7'] => true,
+        _ => written.iter().all(|byte| byte.is_ascii_digit()),
+    }
 }
 
 /// Whether an operation takes values: an instruction, or a statement of expressions.

@@ -140,7 +140,29 @@ fn fault_words(alloc: Global, line: &[u8], fault: &CharacterFault) -> Result<Wor
     fault.push_words(line, &mut told)?;
     let mut words = Wording::new(alloc);
     words.push(&told)?;
-    Ok(words)
+    let from = fault.first.saturating_sub(1);
+    with_dash(words, line.get(from..fault.last).unwrap_or(b""))
+}
+
+/// Words with what is meant behind them, if these bytes are a dash of UTF-8.
+fn with_dash(words: Wording, bytes: &[u8]) -> Result<Wording, AllocError>
+    requires { IsSentence words }
+    ensures { IfOk result (λ more. IsSentence more) }
+{
+    if !is_dash(bytes) {
+        return Ok(words);
+    }
+    let mut more = words;
+    more.push(b", where a dash is -")?;
+    Ok(more)
+}
+
+/// Whether bytes are a dash or a minus of UTF-8 that no line has.
+fn is_dash(bytes: &[u8]) -> bool {
+    matches!(
+        bytes,
+        [0xC2, 0xAD] | [0xE2, 0x80, 0x90..=0x95] | [0xE2, 0x88, 0x92]
+    )
 }
 
 /// Appends the rows that show a cause of a flag.

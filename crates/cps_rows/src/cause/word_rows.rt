@@ -321,6 +321,54 @@ M         MACRO   P
           DUP     2
 > 2:11-13 E the DUP of this expansion has no ENDD in it
 
+          BASE    O
+          SX1     1000000
+> 2:19-25 T the value 262144 (1000000B) doesn't fit 18 bits (-377777B to 777777B); what is past them is cut off
+
+          BASE    O
+          LX1     -20
+> 2:19-21 A a count is 0 or more, and not -16 (-20B); it counts as 0; a left shift by 44 (54B) is one to the right as far
+
+          BASE    O
+          BSS     -7
+> 2:19-20 A a number below 0 can't stand here, and this is -7
+
+          BASE    O
+          VFD     100/1
+> 2:19-21 V a field has 1 to 60 bits, and not 64 (100B)
+
+          SB1     BO
+> 1:19-20 U no line gives BO a value; it counts as 0; perhaps B0
+
+          SB1     B9
+> 1:19-20 U no line gives B9 a value; it counts as 0; registers are 0 to 7
+
+          EQ      B1,BI,TAG
+TAG       NO
+> 1:19-27 A no form of EQ takes B1,BI,TAG; perhaps B1
+
+          ZR      X1 TAG
+TAG       NO
+> 1:19-20 A no form of ZR takes X1; operands end at the first blank
+
+          SA8     1
+> 1:11-13 O SA8 is no operation, and no macro above has this name; registers are 0 to 7
+
+IDENT   SUM
+> 1:9-11 O SUM is no operation, and no macro above has this name; IDENT is one, and stands in the location field: begin it in column 11
+
+  START     SA1     100B
+> 1:3-7 O START is no operation, and no macro above has this name; SA1 is one: a location field begins in column 1 or 2
+
+00100     ABS
+> 1:1-5 L ABS takes nothing in the location field; lines of a source have no numbers in front
+
+          SX1     (5+1)
+> 1:19-20 A (5: an expression has no parentheses
+
+          VFD     60/0LADD
+> 1:22-26 A 0LADD: characters can't stand in an expression, only in DATA and behind =
+
 M         MACRO
           M
           ENDM

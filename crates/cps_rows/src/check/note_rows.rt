@@ -1,8 +1,10 @@
 //! Notes.
-use super::assertions::assert_rows;
+use super::assertions::{assert_rows, assert_told};
+use super::running::run_for_errors;
+use cps_text::Counted;
 
 /// Lines of which notes are told, and lines of which none is.
-const NOTES: [(&[u8], bool, &str); 18] = [
+const NOTES: [(&[u8], bool, &str); 23] = [
     (
         b"TWO       EQU     2\n",
         false,
@@ -14,6 +16,27 @@ const NOTES: [(&[u8], bool, &str); 18] = [
         b"          SX1     5 + 3\n          SX1     5  + 3\n          SX1     5 + 3 MORE\n",
         false,
         "a.cps:1:21: note: operands end at the first blank; this is a comment\n    1 |           SX1     5 + 3\n      |                     ^^^\n",
+    ),
+    (
+        b"          CON     1 2\n          SX1     X1 B1\n          CON     1 TWO\n",
+        false,
+        "a.cps:1:21: note: operands end at the first blank; this is a comment\n    1 |           CON     1 2\n      |                     ^\na.cps:2:22: note: operands end at the first blank; this is a comment\n    2 |           SX1     X1 B1\n      |                      ^^\n",
+    ),
+    (
+        b"          IDENT   A\n          NO\n",
+        false,
+        "a.cps:1:11: note: no END stands behind it; the last lines may be missing\n    1 |           IDENT   A\n      |           ^^^^^\n",
+    ),
+    (
+        b"          IDENT   A\n          NO\n          END\n",
+        false,
+        "",
+    ),
+    (b"          NO\n", false, ""),
+    (
+        b"          IDENT   A\n          IFEQ    1,1\n",
+        true,
+        "a.cps:2:11: error: E: the source ends in a range that is open from line 2\n    2 |           IFEQ    1,1\n      |           ^^^^\n",
     ),
     (
         b"          CON     0000000001,0000000002,0000000003,0000000004,0000000005,1,234\n          CON     0000000001,0000000002,0000000003,0000000004,0000000005 ,1\n",
@@ -82,4 +105,20 @@ const NOTES: [(&[u8], bool, &str); 18] = [
 #[test]
 fn tells_notes(rt: HostRuntime) {
     assert_rows(&rt, rt.alloc(), &NOTES);
+}
+
+/// Where errors alone are asked for no note is told, and each error as before.
+#[test]
+fn leaves_notes_out(rt: HostRuntime) {
+    let source = b"TAG       CON     Q 1\n".as_slice();
+    let mut reader = Counted::new(source);
+    let mut writer = Counted::new(Vec::new(rt.alloc()));
+    let end = run_for_errors(rt.alloc(), &mut reader, &mut writer);
+    assert_eq!(rt; end, Ok(true));
+    let told = writer.into_inner();
+    assert_told(
+        &rt,
+        &told,
+        "a.cps:1:19: error: U: no line gives Q a value; it counts as 0\n    1 | TAG       CON     Q 1\n      |                   ^\n",
+    );
 }
