@@ -188,46 +188,70 @@ static BX: [Sentence; 8] = [
 
 static LX: [Sentence; 3] = [
     (b"n", b"Left shift (Xi) n places, end around"),
-    (b"Bj,Xk", b"Left shift (Xk) nominally (Bj) places to Xi"),
-    (b"Xk,Bj", b"Left shift (Xk) nominally (Bj) places to Xi"),
+    (
+        b"Bj,Xk",
+        b"Left shift (Xk) nominally (Bj) places to Xi; right if (Bj) < 0",
+    ),
+    (
+        b"Xk,Bj",
+        b"Left shift (Xk) nominally (Bj) places to Xi; right if (Bj) < 0",
+    ),
 ];
 
 static AX: [Sentence; 3] = [
     (b"n", b"Arithmetic right shift (Xi) n places"),
     (
         b"Bj,Xk",
-        b"Arithmetic right shift (Xk) nominally (Bj) places to Xi",
+        b"Arithmetic right shift (Xk) (Bj) places to Xi; left if (Bj) < 0",
     ),
     (
         b"Xk,Bj",
-        b"Arithmetic right shift (Xk) nominally (Bj) places to Xi",
+        b"Arithmetic right shift (Xk) (Bj) places to Xi; left if (Bj) < 0",
     ),
 ];
 
-static MX: [Sentence; 1] = [(b"n", b"Form a mask of n bits in Xi")];
+static MX: [Sentence; 1] = [(b"n", b"Form a mask of n ones at the left of Xi")];
 
 static NX: [Sentence; 3] = [
-    (b"Bj,Xk", b"Normalize (Xk) in Xi and Bj"),
-    (b"Xk,Bj", b"Normalize (Xk) in Xi and Bj"),
-    (b"Xk", b"Normalize (Xk) in Xi"),
+    (b"Bj,Xk", b"Normalize (Xk) to Xi, the shift count to Bj"),
+    (b"Xk,Bj", b"Normalize (Xk) to Xi, the shift count to Bj"),
+    (b"Xk", b"Normalize (Xk) to Xi"),
 ];
 
 static ZX: [Sentence; 3] = [
-    (b"Bj,Xk", b"Round and normalize (Xk) in Xi and Bj"),
-    (b"Xk,Bj", b"Round and normalize (Xk) in Xi and Bj"),
-    (b"Xk", b"Round and normalize (Xk) in Xi"),
+    (
+        b"Bj,Xk",
+        b"Round and normalize (Xk) to Xi, the shift count to Bj",
+    ),
+    (
+        b"Xk,Bj",
+        b"Round and normalize (Xk) to Xi, the shift count to Bj",
+    ),
+    (b"Xk", b"Round and normalize (Xk) to Xi"),
 ];
 
 static UX: [Sentence; 3] = [
-    (b"Bj,Xk", b"Unpack (Xk) to Xi and Bj"),
-    (b"Xk,Bj", b"Unpack (Xk) to Xi and Bj"),
-    (b"Xk", b"Unpack (Xk) to Xi"),
+    (
+        b"Bj,Xk",
+        b"Unpack (Xk): its coefficient to Xi, its exponent to Bj",
+    ),
+    (
+        b"Xk,Bj",
+        b"Unpack (Xk): its coefficient to Xi, its exponent to Bj",
+    ),
+    (b"Xk", b"Unpack (Xk): its coefficient to Xi"),
 ];
 
 static PX: [Sentence; 3] = [
-    (b"Bj,Xk", b"Pack Xi from (Xk) and (Bj)"),
-    (b"Xk,Bj", b"Pack Xi from (Xk) and (Bj)"),
-    (b"Xk", b"Pack Xi from (Xk)"),
+    (
+        b"Bj,Xk",
+        b"Pack the coefficient (Xk) and the exponent (Bj) to Xi",
+    ),
+    (
+        b"Xk,Bj",
+        b"Pack the coefficient (Xk) and the exponent (Bj) to Xi",
+    ),
+    (b"Xk", b"Pack the coefficient (Xk) and the exponent 0 to Xi"),
 ];
 
 static FX: [Sentence; 4] = [
@@ -277,14 +301,17 @@ static WITH_A: [Sentence; 10] = [
     (b"AOI", b"Replace add one: ((d)) + 1 to A and (d)"),
     (b"ACN", b"Activate channel d"),
     (b"ADC", b"Add c to (A)"),
-    (b"ADM", b"Add (m + (d)) to (A)"),
-    (b"AOM", b"Replace add one: (m + (d)) + 1 to A and m + (d)"),
+    (b"ADM", b"Add (m + (d)) to (A); m alone if d is 0"),
+    (
+        b"AOM",
+        b"Replace add one: (m + (d)) + 1 to A, m + (d); m if d is 0",
+    ),
     (b"AJM", b"Jump to m if channel d is active"),
 ];
 
 static WITH_C: [Sentence; 4] = [
-    (b"CRD", b"Central read from (A) to d"),
-    (b"CWD", b"Central write to (A) from d"),
+    (b"CRD", b"Central read of one word from (A) to d"),
+    (b"CWD", b"Central write of one word to (A) from d"),
     (b"CRM", b"Central read of (d) words from (A) to m"),
     (b"CWM", b"Central write of (d) words to (A) from m"),
 ];
@@ -292,7 +319,10 @@ static WITH_C: [Sentence; 4] = [
 static WITH_D: [Sentence; 1] = [(b"DCN", b"Disconnect channel d")];
 
 static WITH_E: [Sentence; 2] = [
-    (b"EXN", b"Exchange jump of the central processor"),
+    (
+        b"EXN",
+        b"Exchange jump of the central processor, with the package at (A)",
+    ),
     (b"EJM", b"Jump to m if channel d is empty"),
 ];
 
@@ -320,9 +350,12 @@ static WITH_L: [Sentence; 14] = [
     (b"LDC", b"Load A with c"),
     (b"LPC", b"Logical product of (A) and c to A"),
     (b"LMC", b"Logical difference of (A) and c to A"),
-    (b"LJM", b"Long jump to m + (d)"),
-    (b"LDM", b"Load A with (m + (d))"),
-    (b"LMM", b"Logical difference of (A) and (m + (d)) to A"),
+    (b"LJM", b"Long jump to m + (d); m alone if d is 0"),
+    (b"LDM", b"Load A with (m + (d)); m alone if d is 0"),
+    (
+        b"LMM",
+        b"Logical difference of (A) and (m + (d)) to A; m alone if d is 0",
+    ),
 ];
 
 static WITH_M: [Sentence; 1] = [(b"MJN", b"Minus jump by d: if (A) is negative")];
@@ -343,8 +376,11 @@ static WITH_R: [Sentence; 5] = [
     (b"RPN", b"Read the central processor's program address to A"),
     (b"RAD", b"Replace add: (d) + (A) to A and d"),
     (b"RAI", b"Replace add: ((d)) + (A) to A and (d)"),
-    (b"RJM", b"Return jump to m + (d)"),
-    (b"RAM", b"Replace add: (m + (d)) + (A) to A and m + (d)"),
+    (b"RJM", b"Return jump to m + (d); m alone if d is 0"),
+    (
+        b"RAM",
+        b"Replace add: (m + (d)) + (A) to A, m + (d); m if d is 0",
+    ),
 ];
 
 static WITH_S: [Sentence; 12] = [
@@ -360,9 +396,12 @@ static WITH_S: [Sentence; 12] = [
     (b"SBI", b"Subtract ((d)) from (A)"),
     (b"STI", b"Store (A) at (d)"),
     (b"SOI", b"Replace subtract one: ((d)) - 1 to A and (d)"),
-    (b"SBM", b"Subtract (m + (d)) from (A)"),
-    (b"STM", b"Store (A) at m + (d)"),
-    (b"SOM", b"Replace subtract one: (m + (d)) - 1 to A, m + (d)"),
+    (b"SBM", b"Subtract (m + (d)) from (A); m alone if d is 0"),
+    (b"STM", b"Store (A) at m + (d); m alone if d is 0"),
+    (
+        b"SOM",
+        b"Replace subtract one: (m + (d)) - 1 to A, m + (d); m if d is 0",
+    ),
 ];
 
 static WITH_U: [Sentence; 1] = [(b"UJN", b"Unconditional jump by d")];

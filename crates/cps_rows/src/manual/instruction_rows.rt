@@ -44,8 +44,8 @@ BXi   -Xk-Xj    15 bits  17ijk       Logical difference of (Xj) and the compleme
 An instruction of the central processor: i, j and k are digits of registers,
 K is an expression or a literal, n an expression.
 LXi   n         15 bits  20in        Left shift (Xi) n places, end around
-LXi   Bj,Xk     15 bits  22ijk       Left shift (Xk) nominally (Bj) places to Xi
-LXi   Xk,Bj     15 bits  22ijk       Left shift (Xk) nominally (Bj) places to Xi
+LXi   Bj,Xk     15 bits  22ijk       Left shift (Xk) nominally (Bj) places to Xi; right if (Bj) < 0
+LXi   Xk,Bj     15 bits  22ijk       Left shift (Xk) nominally (Bj) places to Xi; right if (Bj) < 0
 ",
     ),
     (
@@ -53,7 +53,7 @@ LXi   Xk,Bj     15 bits  22ijk       Left shift (Xk) nominally (Bj) places to Xi
         "\
 An instruction of the central processor: i, j and k are digits of registers,
 K is an expression or a literal, n an expression.
-MXi   n         15 bits  43in        Form a mask of n bits in Xi
+MXi   n         15 bits  43in        Form a mask of n ones at the left of Xi
 ",
     ),
     (
@@ -150,7 +150,7 @@ LDN   d         12 bits  14dd        Load A with d
         "\
 An instruction of a peripheral processor: d, m, c and a target are expressions,
 m and c may be literals.
-LJM   m or m,d  24 bits  01dd mmmm   Long jump to m + (d)
+LJM   m or m,d  24 bits  01dd mmmm   Long jump to m + (d); m alone if d is 0
 ",
     ),
     (
