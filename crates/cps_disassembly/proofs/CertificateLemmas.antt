@@ -65,7 +65,7 @@ below-limit Pp = omega arith
 no-word : (machine : Machine) (pieces : List Piece) (address : ℕ) → limit machine ≤ address → is_some (digits_in machine pieces address) ≡ false
 no-word machine pieces address past = grind (arith)
 
-and-false : (b : Bool) → (b && false) ≡ false
+pub and-false : (b : Bool) → (b && false) ≡ false
 and-false true = refl
 and-false false = refl
 
@@ -77,7 +77,7 @@ not-wanted selection words given holds address past =
     let none : is_given given address ≡ false = past-given words given holds address (omega (arith, few)) in
     ap (λ b. is_within selection address && b) none ∙ and-false (is_within selection address)
 
-right-past : (wanted differing stands : Bool) → wanted ≡ false → stands ≡ false → cond wanted differing stands ≡ false
+pub right-past : (wanted differing stands : Bool) → wanted ≡ false → stands ≡ false → cond wanted differing stands ≡ false
 right-past wanted differing stands unwanted none = ap (λ b. cond b differing stands) unwanted ∙ none
 
 pub all-right : (selection : Selection) (words : ClaimedWords) (given : List Claimed) (pieces : List Piece) (wrong : List ℕ) → Holds words given

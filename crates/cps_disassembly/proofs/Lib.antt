@@ -1,4 +1,5 @@
 pub mod CertificateLemmas
 pub mod RunLemmas
+pub mod SpanLemmas
 pub mod WantedLemmas
 pub mod WordLaws

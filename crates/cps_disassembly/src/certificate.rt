@@ -14,6 +14,7 @@ ghost use Rattle.cps_disassembly.specs.Makes.{claims_of};
 ghost use Rattle.cps_disassembly.specs.Certificate.{Certifies, wrong_in};
 
 use super::selection::Selection;
+use super::span::Span;
 use cps_batch::Source;
 use cps_claims::ClaimedWords;
 use cps_compare::{DeckWords, show_word};
@@ -24,9 +25,6 @@ use cps_state::Hashing;
 use cps_text::limits::MOST_LINES;
 use cps_text::{Line, LineFault};
 use std::alloc::{AllocError, Global};
-
-/// Addresses have six octal digits.
-pub const ADDRESSES: u32 = 262_144;
 
 /// What is wrong with the lines of a source for the machine.
 #[derive(Drop)]
@@ -180,6 +178,7 @@ fn wrong_words(
     wrong_in(alloc, &deck, claims, selection)
 }
 
+/// The same. Outside of the words that are claimed and those that stand none is wrong.
 fn wrong_in(
     alloc: Global,
     deck: &DeckWords,
@@ -191,7 +190,8 @@ fn wrong_in(
 {
     let mut words = Vec::new(alloc);
     let mut digits = Vec::new(alloc);
-    for address in 0..ADDRESSES {
+    let span = Span::of_claims(claims).joined(Span::of_deck(deck, selection.machine));
+    for address in span.first..span.end {
         let wrong = is_wrong(deck, claims, selection, address, &mut digits)?;
         if wrong {
             words.push(address)?;

@@ -9,6 +9,7 @@
 //! - `run_fault.rt`: why a run ends without its source
 //! - `running.rt`: the run: a text is read, and the source is written
 //! - `selection.rt`: which words of an octal text are taken
+//! - `span.rt`: addresses outside of which nothing stands
 //! - `wanted.rt`: the words that are wanted
 #![tactic(auto)]
 
@@ -23,6 +24,7 @@ mod request;
 mod run_fault;
 mod running;
 mod selection;
+mod span;
 mod wanted;
 
 pub use certificate::{Certificate, Failures, certify};

@@ -7,9 +7,10 @@ ghost use Rattle.cps_disassembly.specs.Disassembly as specs;
 ghost use Rattle.cps_disassembly.specs.Disassembly.{IsPast, IsTwice};
 ghost use Rattle.cps_disassembly.specs.Code.Kept.{IsWanted, address_in};
 
-use super::certificate::{ADDRESSES, is_wanted};
+use super::certificate::is_wanted;
 use super::disassembly_fault::DisassemblyFault;
 use super::selection::Selection;
+use super::span::Span;
 use cps_claims::{ClaimedWord, ClaimedWords, MOST_DIGITS};
 use cps_draft::GivenWord;
 use cps_state::limit_of;
@@ -58,7 +59,8 @@ fn wanted_words(
         → IfOk result (λ words. map address_in words.items ≡ specs.wanted_in selection given) }
 {
     let mut words = Vec::new(alloc);
-    for address in 0..ADDRESSES {
+    let span = Span::of_claims(claims);
+    for address in span.first..span.end {
         if is_wanted(claims, selection, address) {
             words.push(given_word(address, &claims.word(address)))?;
         }

@@ -1,10 +1,11 @@
 -- For the drafts, not part of what a reader believes: the words that are wanted as they are kept, and what comes of a draft.
-use Rattle.std.specs.Prelude.{◌≡◌, ℕ, List, map, Option, None, Some, ⊤}
+use Rattle.std.specs.Prelude.{◌≡◌, ◌⊎◌, ◌<◌, ◌≤◌, ℕ, Bool, false, List, map, Option, None, Some, ⊤}
 use Rattle.cps_draft.specs.declared.hints.GivenWord.{GivenWord}
 use Rattle.cps_claims.specs.declared.reading.UnreadRow.{UnreadRow}
 use Rattle.cps_claims.specs.Claims.{Claimed}
 use Rattle.cps_claims.specs.Code.Held.{Holds}
 use Rattle.cps_disassembly.specs.declared.selection.Selection.{Selection}
+use Rattle.cps_disassembly.specs.declared.span.Span.{Span}
 use Rattle.cps_disassembly.specs.declared.wanted.Wanted.{Wanted}
 use Rattle.cps_disassembly.specs.declared.ladder.Attempt.{Attempt}
 use Rattle.cps_disassembly.specs.declared.ladder.Attempt.TheVariants.{Made, Failed, Unfit}
@@ -15,6 +16,14 @@ use Rattle.cps_disassembly.specs.Disassembly.{wanted_in}
 
 abbrev pub address_in : GivenWord → ℕ
 address_in word = word.address
+
+-- an address isn't among some
+abbrev pub IsOutside : Span → ℕ → Type 0
+IsOutside span address = (address < span.first) ⊎ (span.end ≤ address)
+
+-- no other address passes a test
+abbrev pub IsNoneOutside : Span → (ℕ → Bool) → Type 0
+IsNoneOutside span test = (address : ℕ) → IsOutside span address → test address ≡ false
 
 -- these claims and the words of them that are wanted are kept
 pub record IsWanted (selection : Selection) (given : List Claimed) (wanted : Wanted) : Type 0 where

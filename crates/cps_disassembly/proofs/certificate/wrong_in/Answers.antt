@@ -1,9 +1,12 @@
 use Rattle.std.proofs.Common.{◌≡◌, arith, [], ◌∷◌, ◌++◌, cond, sym, ap, ◌∙◌, append-nil}
 use Rattle.std.specs.List.{filter}
-use Rattle.cps_compare.specs.Differences.{digits_in}
+use Rattle.std.specs.Prelude.{is_some}
+use Rattle.cps_claims.specs.Counts.{is_given}
+use Rattle.cps_compare.specs.Differences.{digits_in, word_of}
 use Rattle.cps_disassembly.specs.Makes.{is_wrong}
 use Rattle.cps_disassembly.specs.Certificate.{addresses_below}
-use Rattle.cps_disassembly.proofs.CertificateLemmas.{none-yet, below-more}
+use Rattle.cps_disassembly.proofs.CertificateLemmas.{below-more}
+use Rattle.cps_disassembly.proofs.SpanLemmas.{none-behind, none-in-front, none-wrong-outside}
 use Rattle.cps_disassembly.proofs.certificate.wrong_in.Goals as goal
 use Rattle.cps_disassembly.proofs.certificate.wrong_in.Goals.{then-wrong+in_ok-push, else-wrong}
 
@@ -27,10 +30,18 @@ loop-address-preserved c = λ given pieces holds packed.
     ]
 
 pub loop-address-init : goal.loop-address-init
-loop-address-init c = λ given pieces holds packed. c.new-words.ensures.items ∙ none-yet (is_wrong c.args.selection given (digits_in c.args.selection.machine pieces))
+loop-address-init c = λ given pieces holds packed.
+    c.new-words.ensures.items
+    ∙ none-in-front c.joined-span.result (is_wrong c.args.selection given (digits_in c.args.selection.machine pieces))
+    (none-wrong-outside c.joined-span.result c.args.selection given pieces
+    (c.joined-span.ensures.outside (is_given given) (c.of_claims.ensures.outside given holds))
+    (c.joined-span.ensures.outside_other (λ address. is_some (word_of c.args.selection.machine pieces address)) (c.of_deck.ensures.outside pieces packed)))
 
 pub returns : goal.returns
 returns c = λ given pieces holds packed.
-    let end : c.loop-address.address ≡ 262144 = omega arith in
     c.loop-address.invariant given pieces holds packed
-    ∙ ap (λ n. filter (is_wrong c.args.selection given (digits_in c.args.selection.machine pieces)) (addresses_below n)) end
+    ∙ none-behind c.joined-span.result (is_wrong c.args.selection given (digits_in c.args.selection.machine pieces)) c.loop-address.address 262144
+    (none-wrong-outside c.joined-span.result c.args.selection given pieces
+    (c.joined-span.ensures.outside (is_given given) (c.of_claims.ensures.outside given holds))
+    (c.joined-span.ensures.outside_other (λ address. is_some (word_of c.args.selection.machine pieces address)) (c.of_deck.ensures.outside pieces packed)))
+    (omega arith) (omega arith)

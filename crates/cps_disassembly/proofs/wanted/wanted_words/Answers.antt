@@ -5,7 +5,8 @@ use Rattle.std.proofs.lemmas.List.{map_push}
 use Rattle.cps_disassembly.specs.Makes.{is_wanted}
 use Rattle.cps_disassembly.specs.Code.Kept.{address_in}
 use Rattle.cps_disassembly.specs.Certificate.{addresses_below}
-use Rattle.cps_disassembly.proofs.CertificateLemmas.{none-yet, below-more}
+use Rattle.cps_disassembly.proofs.CertificateLemmas.{below-more}
+use Rattle.cps_disassembly.proofs.SpanLemmas.{none-behind, none-in-front, none-wanted-outside}
 use Rattle.cps_disassembly.proofs.wanted.wanted_words.Goals as goal
 use Rattle.cps_disassembly.proofs.wanted.wanted_words.Goals.{then-is_wanted+in_ok-push, else-is_wanted}
 
@@ -30,9 +31,14 @@ loop-address-preserved c = λ given holds.
     ]
 
 pub loop-address-init : goal.loop-address-init
-loop-address-init c = λ given holds. ap (map address_in) c.new-words.ensures.items ∙ none-yet (is_wanted c.args.selection given)
+loop-address-init c = λ given holds.
+    ap (map address_in) c.new-words.ensures.items
+    ∙ none-in-front c.of_claims-span.result (is_wanted c.args.selection given)
+    (none-wanted-outside c.of_claims-span.result c.args.selection given (c.of_claims-span.ensures.outside given holds))
 
 pub returns : goal.returns
 returns c = λ given holds.
-    let end : c.loop-address.address ≡ 262144 = omega arith in
-    c.loop-address.invariant given holds ∙ ap (λ n. filter (is_wanted c.args.selection given) (addresses_below n)) end
+    c.loop-address.invariant given holds
+    ∙ none-behind c.of_claims-span.result (is_wanted c.args.selection given) c.loop-address.address 262144
+    (none-wanted-outside c.of_claims-span.result c.args.selection given (c.of_claims-span.ensures.outside given holds))
+    (omega arith) (omega arith)
