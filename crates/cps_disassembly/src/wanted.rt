@@ -77,6 +77,7 @@ fn given_word(address: u32, word: &ClaimedWord) -> GivenWord
         address,
         value: value_of(word, digits),
         digits: digits as u8,
+        unread: unread_of(word, digits),
     }
 }
 
@@ -107,6 +108,20 @@ fn value_of(word: &ClaimedWord, digits: usize) -> u64
         value = value.wrapping_mul(8).wrapping_add(u64::from(number));
     }
     value
+}
+
+/// Which of the first so many digits of a word can't be read: bit 0 stands for the first.
+fn unread_of(word: &ClaimedWord, digits: usize) -> u32
+    requires { digits ≤ MOST_DIGITS }
+{
+    let mut unread: u32 = 0;
+    for place in (0..digits).rev() {
+        unread = unread.wrapping_mul(2);
+        if !word.digit(place).is_known() {
+            unread |= 1;
+        }
+    }
+    unread
 }
 
 /// Why the words that are wanted can't be made, if that is known beforehand.

@@ -1,5 +1,6 @@
 //! The lines of data.
 use super::guess::Guess;
+use super::hints::GivenWord;
 use super::lines::Lines;
 use super::number::{push_decimal, push_number, push_word};
 use super::text_lines::push_text;
@@ -42,12 +43,18 @@ pub fn push_data(
     push_numbers(guess, lines, index)
 }
 
-/// Writes those digits of a word that are given, as a field.
+/// Writes those digits of a word that are given: as a number where none lacks at the end, else as a field.
 fn push_given(guess: &Guess<'_>, lines: &mut Lines, index: usize) -> Result<(), AllocError> {
     let Some(word) = guess.image.words.get(index) else {
         return Ok(());
     };
     let name = guess.name(index);
+    if word.digits >= guess.image.word_digits() {
+        lines.begin(name, b"DATA")?;
+        push_word(lines.text(), word.value, word.digits)?;
+        lines.begun = 0;
+        return end_given(guess, lines, word);
+    }
     let is_begun = guess.image.is_central() && lines.begun != 0 && !lines.is_pending;
     let location: &[u8] = if name.is_empty() && is_begun {
         b"+"
@@ -59,12 +66,30 @@ fn push_given(guess: &Guess<'_>, lines: &mut Lines, index: usize) -> Result<(), 
     push_decimal(lines.text(), usize::from(bits))?;
     lines.text().push(b'/')?;
     push_number(lines.text(), word.value)?;
+    lines.begun = bits % 60;
+    end_given(guess, lines, word)
+}
+
+/// Ends the line of digits that are given of a word, with its address and the digits as the comment.
+fn end_given(guess: &Guess<'_>, lines: &mut Lines, word: &GivenWord) -> Result<(), AllocError> {
+    let begun = lines.begun;
     lines.begin_comment_at(&guess.image, word.address)?;
     lines.text().push(b' ')?;
-    push_octal(lines.text(), word.value, word.digits)?;
+    push_digits(lines.text(), word)?;
     lines.begin_word();
-    lines.begun = bits % 60;
+    lines.begun = begun;
     lines.end(Some(word.address))
+}
+
+/// Writes the digits that are given of a word, with `?` for those that can't be read.
+fn push_digits(text: &mut Vec<u8>, word: &GivenWord) -> Result<(), AllocError> {
+    for place in 0..word.digits.min(20) {
+        let behind = word.digits.saturating_sub(place).saturating_sub(1).min(19);
+        let digit = ((word.value >> (3 * u32::from(behind))) & 7) as u8;
+        let is_read = (word.unread >> u32::from(place)) & 1 == 0;
+        text.push(if is_read { b'0' + digit } else { b'?' })?;
+    }
+    Ok(())
 }
 
 /// Writes a word as a plain number.

@@ -6,6 +6,8 @@ pub struct GivenWord {
     pub value: u64,
     /// How many octal digits are given, from the left: 1 to 20, of a peripheral processor 1 to 4.
     pub digits: u8,
+    /// Which of these digits can't be read: bit 0 stands for the first. They count as 0, and the word is data.
+    pub unread: u32,
 }
 
 /// The words from one address to another, both included.

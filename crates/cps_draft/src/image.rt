@@ -56,11 +56,15 @@ impl Image<'_> {
         self.words.get(index).map_or(0, |word| word.address)
     }
 
-    /// Whether all digits of a word are given.
+    /// Whether all digits of a word are given, and can be read.
     pub fn is_whole(&self, index: usize) -> bool {
-        self.words
-            .get(index)
-            .is_some_and(|word| word.digits >= self.word_digits())
+        self.words.get(index).is_some_and(|word| word.digits >= self.word_digits()
+            && word.unread == 0)
+    }
+
+    /// Whether each digit that is given of a word can be read.
+    pub fn is_read(&self, index: usize) -> bool {
+        self.words.get(index).is_some_and(|word| word.unread == 0)
     }
 
     /// Whether a word follows the one before it without a gap.

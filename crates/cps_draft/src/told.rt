@@ -19,9 +19,11 @@ impl Told {
         hints: &Hints,
         boldness: &Boldness,
     ) -> Result<Told, AllocError> {
+        let mut data = covered(alloc, image, &hints.data)?;
+        mark_unread(image, &mut data);
         Ok(Told {
             code: covered(alloc, image, &hints.code)?,
-            data: covered(alloc, image, &hints.data)?,
+            data,
             plain: plain_words(alloc, image, boldness)?,
         })
     }
@@ -31,7 +33,7 @@ impl Told {
         is_set(&self.code, index)
     }
 
-    /// Whether a word is data.
+    /// Whether a word is data: it is said to be, or not all its digits can be read.
     pub fn is_data(&self, index: usize) -> bool {
         is_set(&self.data, index)
     }
@@ -89,6 +91,15 @@ fn covered(
         next = first.max(end);
     }
     Ok(marks)
+}
+
+/// Marks the words with a digit that can't be read.
+fn mark_unread(image: &Image<'_>, marks: &mut Vec<bool>) {
+    for index in 0..image.words.len() {
+        if !image.is_read(index) {
+            set(marks, index);
+        }
+    }
 }
 
 fn plain_words(

@@ -212,6 +212,7 @@ fn draft_of(
             address: *address,
             value: *value,
             digits: *digits,
+            unread: 0,
         };
         words.push(word).expect(rt, "memory");
     }
