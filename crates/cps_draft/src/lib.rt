@@ -17,6 +17,7 @@
 //! - `instruction.rt`: an instruction, as a line shows it
 //! - `known_names.rt`: the names that a person knows
 //! - `lines.rt`: the lines of a draft, as they are written
+//! - `name_rows.rt`: the names that rows of a text tell
 //! - `names.rt`: the names of addresses
 //! - `number.rt`: numbers of a draft
 //! - `operands.rt`: the operands of instructions
@@ -47,6 +48,7 @@ mod image;
 mod instruction;
 mod known_names;
 mod lines;
+mod name_rows;
 mod names;
 mod number;
 mod operands;
@@ -62,3 +64,4 @@ mod told;
 
 pub use draft::{Draft, make_draft};
 pub use hints::{AddressRange, Boldness, GivenWord, Hints, KnownName};
+pub use name_rows::read_names;

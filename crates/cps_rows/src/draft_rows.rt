@@ -1,6 +1,8 @@
 //! Drafts of sources: the lines that are made of words.
 use super::assertions::{assert_row, assert_row_text, assert_same};
-use cps_draft::{AddressRange, Boldness, Draft, GivenWord, Hints, KnownName, make_draft};
+use cps_draft::{
+    AddressRange, Boldness, Draft, GivenWord, Hints, KnownName, make_draft, read_names,
+};
 use cps_expr::Machine;
 use std::alloc::Global;
 use std::process::Abort;
@@ -344,5 +346,45 @@ fn tells_the_word_of_each_line(rt: HostRuntime) {
     assert_same(&rt, "lines", &draft.words.len(), &CALLS_WORDS.len());
     for (at, (got, want)) in draft.words.iter().zip(&CALLS_WORDS).enumerate() {
         assert_row(&rt, at, got, want);
+    }
+}
+
+/// A word of which the third digit can't be read, where all is said to be code.
+#[test]
+fn drafts_unread_digits_as_data(rt: HostRuntime) {
+    let all = with_code_from(&rt, rt.alloc(), Machine::Cp, 0);
+    let word = GivenWord {
+        address: 0o100,
+        value: 0o51010000037361054610,
+        digits: 20,
+        unread: 0b100,
+    };
+    let words = [word];
+    let made = make_draft(all.alloc, all.machine, &words, &all.hints, &Boldness::Draft);
+    let draft = made.expect(&rt, "memory");
+    let lines = lines_of(&rt, all.alloc, &draft.text);
+    assert_row_text(&rt, 0, &lines, "|DATA|51010000037361054610B; ");
+}
+
+/// Rows of which two tell names.
+const NAME_ROWS: &[u8] = b"SYMBOLS
+
+SUM      00000000000000000110 44 27
+  tens 114B
+X1 5
+8 7
+TENS 8
+LONGNAMES 1
+";
+
+const ROWS_NAMES: [(&str, u64); 2] = [("SUM", 0o110), ("TENS", 0o114)];
+
+#[test]
+fn reads_names(rt: HostRuntime) {
+    let names = read_names(rt.alloc(), NAME_ROWS).expect(&rt, "memory");
+    assert_same(&rt, "names", &names.len(), &ROWS_NAMES.len());
+    for (at, (got, want)) in names.iter().zip(&ROWS_NAMES).enumerate() {
+        assert_row_text(&rt, at, &got.name, want.0);
+        assert_row(&rt, at, &got.value, &want.1);
     }
 }
