@@ -4,7 +4,7 @@ ghost use Rattle.clap.specs.Words.{found_of, rows_of};
 ghost use Rattle.cps_words.specs.Values.{disassembly_in, machine_from, octal_format_named, value_from};
 ghost use Rattle.cps_words.specs.Code.Reading.{ReadsValue};
 
-use super::compare_options::{are_rising, read_address_option, read_columns_option};
+use super::limit_options::{are_rising, read_address_option, read_columns_option};
 use super::unread::{Unread, say_no_name, say_wrong_value, wrong};
 use super::values::{has_flag, octal_format_of_name, word_in};
 use clap::ArgMatches;

@@ -10,6 +10,7 @@
 //! - `fault.rt`: why texts aren't in their files
 //! - `help.rt`: the command `help`
 //! - `helps.rt`: what the helps say
+//! - `limit_options.rt`: the options that `compare` and `disassemble` have
 //! - `message.rt`: texts, as a message shows them
 //! - `names.rt`: names of an export that lead to one file
 //! - `numbers.rt`: the addresses, the offsets and the columns that words name
@@ -32,6 +33,7 @@ mod exporting;
 mod fault;
 mod help;
 mod helps;
+mod limit_options;
 mod message;
 mod names;
 mod numbers;
