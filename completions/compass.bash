@@ -9,7 +9,7 @@ _compass_words() {
     session) echo '--source -h --help' ;;
     check) echo '--errors -h --help' ;;
     compare) echo '--format --columns --offset --from --to --whole --all -h --help' ;;
-    disassemble) echo '--central --peripheral --from --to --columns --format -h --help' ;;
+    disassemble) echo '--central --peripheral --from --to --columns --format --entry --code --data --names --ident --bare -h --help' ;;
     explain) echo '-h --help' ;;
     server) echo '--stdio -h --help' ;;
     help) echo '-h --help' ;;
@@ -35,10 +35,12 @@ _compass() {
   case $command$before in
     batch--part) _compass_offer -W 'listing binary symbols flags all' ;;
     batch--listing | batch--binary | batch--symbols | batch--flags | batch--page | session--source) _compass_offer_files ;;
+    disassemble--names) _compass_offer_files ;;
     compare--format) _compass_offer -W 'rows dump own' ;;
     disassemble--format) _compass_offer -W 'rows dump' ;;
     compare--columns | compare--offset | compare--from | compare--to) ;;
     disassemble--columns | disassemble--from | disassemble--to) ;;
+    disassemble--entry | disassemble--code | disassemble--data | disassemble--ident) ;;
     *)
       case $command,$word in
         *,-*) _compass_offer -W "$(_compass_words "$command")" ;;

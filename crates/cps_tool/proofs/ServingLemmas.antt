@@ -15,12 +15,16 @@ use Rattle.cps_words.specs.declared.request.Request.TheVariants.{Check, Compare,
 use Rattle.cps_list.specs.declared.part.Part.{Part}
 use Rattle.cps_words.specs.declared.outputs.Outputs.{Outputs}
 use Rattle.cps_words.specs.Outputs.{name_of, names_of}
+use Rattle.cps_words.specs.Hints.{hints_of}
 use Rattle.cps_words.specs.Placing.{Placed}
 use Rattle.cps_words.specs.Same.{KeepsAll, Sameness}
 use Rattle.std.specs.Borrow.{Bor}
 use Rattle.std.specs.Prelude.{option_map, unwrap_or}
 use Rattle.cps_words.specs.Task.{task_of, Task, batch, export, check, compare, disassemble, explain, server, session}
-use Rattle.cps_tool.specs.CommandLine.{Calls, ChecksAs, Compares, EditsFile, Exported, IsOpened, IsUndone, RunsFrom, Serves, ServesCall, ServesOne, ServesWith, TellsUnread, WithFile, status_of, told_name}
+use Rattle.cps_disassembly.specs.declared.request.Request as disassembly
+use Rattle.cps_tool.specs.declared.disassembling.DisassemblyCall.{DisassemblyCall}
+use Rattle.cps_tool.specs.Code.Calling.{DoesDisassembly}
+use Rattle.cps_tool.specs.CommandLine.{Calls, ChecksAs, Compares, Disassembled, EditsFile, Exported, IsOpened, IsUndone, RunsFrom, Serves, ServesCall, ServesOne, ServesWith, TellsUnread, WithFile, status_of, told_name}
 use Rattle.cps_tool.specs.Code.Files.{AreFiles, ComparesFiles}
 use Rattle.cps_tool.specs.declared.comparing.Files.{Files}
 use Rattle.cps_tool.specs.declared.comparing.Files.TheVariants.{Both, Octal, Source}
@@ -50,7 +54,7 @@ module _ {R W : Type 0} (remaining : R → Option (List ℕ)) (contents : W → 
       go (asks (export names part) None) s = s
       go (asks session None) s = s
       go (asks (check errors_only) None) s = s
-      go (asks (disassemble request) None) s = s
+      go (asks (disassemble request hints) None) s = s
       go (asks (explain word) None) s = s
       go (asks server None) s = s
       go (asks (compare octal options) None) (inl idle) = inl idle
@@ -59,7 +63,7 @@ module _ {R W : Type 0} (remaining : R → Option (List ℕ)) (contents : W → 
       go (asks (export names part) (Some name)) s = inl s
       go (asks session (Some name)) s = inl s
       go (asks (check errors_only) (Some name)) s = inl s
-      go (asks (disassemble request) (Some name)) s = inl s
+      go (asks (disassemble request hints) (Some name)) s = inl s
       go (asks (explain word) (Some name)) s = inl s
       go (asks server (Some name)) s = inl s
       go (asks (compare octal options) (Some name)) s = inl s
@@ -80,7 +84,7 @@ module _ {T F R W : Type 0} (holds : T → List ℕ → Option (List ℕ)) (plac
   serves_call (asks session file) s = (s, refl)
   serves_call (asks (check errors_only) file) s = (s, refl)
   serves_call (asks (compare octal options) file) s = (s, refl)
-  serves_call (asks (disassemble request) file) s = (s, refl)
+  serves_call (asks (disassemble request hints) file) s = (s, refl)
   serves_call (asks (explain word) file) s = (s, refl)
   serves_call (asks server file) s = (s, refl)
   serves_call tells s = (s, refl)
@@ -212,3 +216,15 @@ pub serves_compared : {F R W : Type 0} (holds : List ℕ → Option (List ℕ)) 
     → ServesWith holds opened remaining contents (asks (task_of request) named) status reader reader' writer writer'
 serves_compared holds opened remaining contents request comparand named status reader reader' writer writer' is done =
     subst (λ request. ServesWith holds opened remaining contents (asks (task_of request) named) status reader reader' writer writer') (sym is) (inr done)
+
+-- ---- a disassembly
+
+module _ {F R W : Type 0} (holds : List ℕ → Option (List ℕ)) (opened : F → Option (List ℕ)) (remaining : R → Option (List ℕ)) (contents : W → Option (List ℕ))
+    (asked : DisassemblyCall) (status : ℕ) (reader : Counted R) (writer writer' : Counted W) where
+  -- a file was read
+  pub disassembles_file : (name : Text) (file file' : Counted F) (request : disassembly.Request) → request ≡ asked.request → name_of asked.file ≡ Some name
+      → IsOpened (holds name) opened file → Disassembled opened contents request status file file' writer writer'
+      → DoesDisassembly holds opened remaining contents asked status reader reader writer writer'
+  disassembles_file name file file' request same some is done =
+      serves_file holds opened remaining contents (disassemble asked.request (hints_of asked.hints)) name status file file' reader writer writer' is (name_of asked.file) some
+      (inr (subst (λ (request : disassembly.Request). Disassembled opened contents request status file file' writer writer') same done))

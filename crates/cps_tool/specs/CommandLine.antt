@@ -114,7 +114,7 @@ Calls remaining contents (batch part) named status reader reader' writer writer'
 Calls remaining contents session named status reader reader' writer writer' = RunsFrom remaining contents [] status reader reader' writer writer'
 Calls remaining contents (check errors_only) named status reader reader' writer writer' =
     ChecksAs remaining contents errors_only (told_name named) status reader reader' writer writer'
-Calls remaining contents (disassemble request) named status reader reader' writer writer' =
+Calls remaining contents (disassemble request hints) named status reader reader' writer writer' =
     Disassembled remaining contents request status reader reader' writer writer'
 Calls remaining contents (explain word) named status reader reader' writer writer' = (reader' ≡ reader) × TellsWord contents word status writer writer'
 Calls remaining contents server named status reader reader' writer writer' =

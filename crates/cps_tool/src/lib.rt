@@ -5,6 +5,7 @@
 //! - `disassembling.rt`: a source for the words of an octal text
 //! - `exporting.rt`: a source, written into files
 //! - `faults.rt`: what is told of a source that isn't assembled
+//! - `hints.rt`: what a call says of the words of an octal text
 //! - `host.rt`: what a call runs on
 //! - `reply.rt`: replies
 //! - `replying.rt`: obeying a command, and writing the reply
@@ -22,6 +23,7 @@ mod comparing;
 mod disassembling;
 mod exporting;
 mod faults;
+mod hints;
 mod host;
 mod reply;
 mod replying;

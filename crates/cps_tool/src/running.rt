@@ -4,7 +4,7 @@ ghost use Rattle.cps_tool.specs.Code.Calling.{DoesRequest, UndoneOr};
 ghost use Rattle.cps_tool.specs.CommandLine.{Calls, ChecksAs, IsIdle, IsQuiet, TellsWord};
 ghost use Rattle.cps_words.specs.Task as tasks;
 
-use super::disassembling::run_disassembly;
+use super::disassembling::{DisassemblyCall, run_disassembly};
 use super::faults::complain_of_batch;
 use super::host::Host;
 use super::sessions::run_script_over;
@@ -56,7 +56,14 @@ pub fn run_request<'a, S, R: Read, W: Write, E: Write>(
             }
         }
         Request::Export(_, _) | Request::Compare(_) => complain(errors, NO_FILES),
-        Request::Disassemble(request) => run_disassembly(host, request, reader, writer, errors),
+        Request::Disassemble(request, hints) => {
+            let asked = DisassemblyCall {
+                request,
+                hints,
+                file: call.file,
+            };
+            run_disassembly(host, asked, reader, writer, errors)
+        }
         Request::Explain(word) => run_explanation(host, word, writer, errors),
         Request::Server => run_service(host, reader, writer, errors),
     }

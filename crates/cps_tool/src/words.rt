@@ -6,6 +6,7 @@ ghost use Rattle.cps_tool.specs.CommandLine.{IsQuiet, Serves, ServesCall};
 ghost use Rattle.cps_words.specs.Request.{answer_of, asked_by};
 
 use super::comparing::{compare_files, open_files};
+use super::disassembling::{DisassemblyCall, serve_disassembly};
 use super::exporting::{complain_of_clash, run_export};
 use super::faults::complain_of_comparison;
 use super::host::Host;
@@ -122,6 +123,14 @@ fn serve<'a, S: Sources, R: Read, W: Write, E: Write>(
                 },
                 None => FAULTY,
             }
+        }
+        (Request::Disassemble(request, hints), file) => {
+            let asked = DisassemblyCall {
+                request,
+                hints,
+                file,
+            };
+            serve_disassembly(host, asked, reader, writer, errors)
         }
         (Request::Session, Some(name)) => run_session_from(host, name, reader, writer, errors),
         _ => serve_one(host, call, reader, writer, errors),

@@ -34,7 +34,7 @@ fn behind_first_row(text: &[u8]) -> &[u8] {
 /// The words of an octal text are those of the source that is made: all of them, those of a range, of columns, or of a machine that is named.
 #[test]
 fn makes_the_words_again(rt: HostRuntime) {
-    const ROWS: [(&[&str], &str, &str); 5] = [
+    const ROWS: [(&[&str], &str, &str); 7] = [
         (
             &["compass", "disassemble"],
             "000100 51110000037361054610\n000101 04000001004600046000\n",
@@ -60,6 +60,24 @@ fn makes_the_words_again(rt: HostRuntime) {
             "0100 2012 3456\n     1074\n",
             "0100 2012\n0101 3456\n0102 1074\n",
         ),
+        (
+            &[
+                "compass",
+                "disassemble",
+                "--entry",
+                "101,100",
+                "--code=100-101",
+                "--data",
+                "102",
+            ],
+            "000100 51110000037361054610\n000101 04000001004600046000\n000102 04000001004600046000\n",
+            "000100 51110000037361054610\n000101 04000001004600046000\n000102 04000001004600046000\n",
+        ),
+        (
+            &["compass", "disassemble", "--ident", "x", "--bare"],
+            "000100 04000001004600046000\n",
+            "000100 04000001004600046000\n",
+        ),
     ];
     for (words, octal, want) in ROWS.iter() {
         let got = words_again(&rt, rt.alloc(), words, octal);
@@ -70,7 +88,7 @@ fn makes_the_words_again(rt: HostRuntime) {
 /// Where no source is made, why is told and nothing is written.
 #[test]
 fn tells_why_no_source_is_made(rt: HostRuntime) {
-    const ROWS: [(&[&str], &str, &str); 7] = [
+    const ROWS: [(&[&str], &str, &str); 9] = [
         (
             &["compass", "disassemble"],
             "",
@@ -100,6 +118,16 @@ fn tells_why_no_source_is_made(rt: HostRuntime) {
             &["compass", "disassemble", "--central", "--peripheral"],
             "000100 11111\n",
             "error: the argument '--central' cannot be used with '--peripheral'\n\nFor more information, try '--help'.\n",
+        ),
+        (
+            &["compass", "disassemble", "--code", "177-100"],
+            "000100 11111\n",
+            "error: invalid value '177-100' for '--code <LIST>': write ranges of octal addresses, as 100-177,300\n\nFor more information, try '--help'.\n",
+        ),
+        (
+            &["compass", "disassemble", "--names", "old.sym"],
+            "000100 11111\n",
+            "error: no file is read or written here\n",
         ),
         (
             &["compass", "disassemble", "old.oct"],

@@ -12,6 +12,7 @@ use Rattle.cps_expr.specs.declared.machine.Machine.TheVariants.{Cp, Pp}
 use Rattle.cps_list.specs.declared.part.Part.TheVariants.{Listing, Binary, Symbols, Flags, All}
 use Rattle.cps_words.specs.Outputs.{Names}
 use Rattle.cps_words.specs.Request.{answer_of, asks, refuses, request_of, tells}
+use Rattle.cps_words.specs.Hints.{Hints}
 use Rattle.cps_words.specs.Task.{batch, export, session, check, compare, disassemble, explain, server}
 
 -- a call's words, after the program's name
@@ -387,25 +388,28 @@ source_of_a_batch = refl
 abbrev all_words : Request
 all_words = record { machine = None; format = Rows; columns = None; from = None; to = None }
 
-disassemble_row : answer_of (call (codes "disassemble" ∷ codes "old.oct" ∷ [])) ≡ asks (disassemble all_words) (Some (codes "old.oct"))
+abbrev no_hints : Hints
+no_hints = record { entries = None; code_at = None; data_at = None; names = None; ident = None; is_bare = false }
+
+disassemble_row : answer_of (call (codes "disassemble" ∷ codes "old.oct" ∷ [])) ≡ asks (disassemble all_words no_hints) (Some (codes "old.oct"))
 unfolding clap_on_literals
 disassemble_row = refl
 
-disassemble_standard_input : answer_of (call (codes "disassemble" ∷ [])) ≡ asks (disassemble all_words) None
+disassemble_standard_input : answer_of (call (codes "disassemble" ∷ [])) ≡ asks (disassemble all_words no_hints) None
 unfolding clap_on_literals
 disassemble_standard_input = refl
 
-disassemble_a_minus : answer_of (call (codes "disassemble" ∷ codes "-" ∷ [])) ≡ asks (disassemble all_words) None
+disassemble_a_minus : answer_of (call (codes "disassemble" ∷ codes "-" ∷ [])) ≡ asks (disassemble all_words no_hints) None
 unfolding clap_on_literals
 disassemble_a_minus = refl
 
 central_words : answer_of (call (codes "disassemble" ∷ codes "--central" ∷ codes "old.oct" ∷ []))
-    ≡ asks (disassemble (record all_words { machine = Some Cp })) (Some (codes "old.oct"))
+    ≡ asks (disassemble (record all_words { machine = Some Cp }) no_hints) (Some (codes "old.oct"))
 unfolding clap_on_literals
 central_words = refl
 
 peripheral_words : answer_of (call (codes "disassemble" ∷ codes "old.oct" ∷ codes "--peripheral" ∷ []))
-    ≡ asks (disassemble (record all_words { machine = Some Pp })) (Some (codes "old.oct"))
+    ≡ asks (disassemble (record all_words { machine = Some Pp }) no_hints) (Some (codes "old.oct"))
 unfolding clap_on_literals
 peripheral_words = refl
 
@@ -418,12 +422,12 @@ unfolding clap_on_literals
 central_words_twice = refl
 
 words_between : answer_of (call (codes "disassemble" ∷ codes "--from" ∷ codes "100" ∷ codes "--to=177" ∷ codes "old.oct" ∷ []))
-    ≡ asks (disassemble (record all_words { from = Some 64; to = Some 127 })) (Some (codes "old.oct"))
+    ≡ asks (disassemble (record all_words { from = Some 64; to = Some 127 }) no_hints) (Some (codes "old.oct"))
 unfolding clap_on_literals
 words_between = refl
 
 words_at_one_address : answer_of (call (codes "disassemble" ∷ codes "--from" ∷ codes "100" ∷ codes "--to" ∷ codes "100" ∷ []))
-    ≡ asks (disassemble (record all_words { from = Some 64; to = Some 64 })) None
+    ≡ asks (disassemble (record all_words { from = Some 64; to = Some 64 }) no_hints) None
 unfolding clap_on_literals
 words_at_one_address = refl
 
@@ -436,7 +440,7 @@ unfolding clap_on_literals
 words_from_no_octal = refl
 
 words_in_columns : answer_of (call (codes "disassemble" ∷ codes "--columns" ∷ codes "10-36" ∷ codes "old.oct" ∷ []))
-    ≡ asks (disassemble (record all_words { columns = columns_of 10 36 })) (Some (codes "old.oct"))
+    ≡ asks (disassemble (record all_words { columns = columns_of 10 36 }) no_hints) (Some (codes "old.oct"))
 unfolding clap_on_literals
 words_in_columns = refl
 
@@ -445,11 +449,11 @@ unfolding clap_on_literals
 words_in_no_columns = refl
 
 words_of_a_dump : answer_of (call (codes "disassemble" ∷ codes "--format" ∷ codes "dump" ∷ codes "old.oct" ∷ []))
-    ≡ asks (disassemble (record all_words { format = Dump })) (Some (codes "old.oct"))
+    ≡ asks (disassemble (record all_words { format = Dump }) no_hints) (Some (codes "old.oct"))
 unfolding clap_on_literals
 words_of_a_dump = refl
 
-words_of_rows : answer_of (call (codes "disassemble" ∷ codes "--format=rows" ∷ [])) ≡ asks (disassemble all_words) None
+words_of_rows : answer_of (call (codes "disassemble" ∷ codes "--format=rows" ∷ [])) ≡ asks (disassemble all_words no_hints) None
 unfolding clap_on_literals
 words_of_rows = refl
 
@@ -464,6 +468,47 @@ words_of_two_texts = refl
 offset_of_a_disassembly : answer_of (call (codes "disassemble" ∷ codes "--offset" ∷ codes "10" ∷ codes "old.oct" ∷ [])) ≡ refuses
 unfolding clap_on_literals
 offset_of_a_disassembly = refl
+
+words_that_are_code :
+    answer_of (call (codes "disassemble" ∷ codes "--entry" ∷ codes "100,2031" ∷ codes "--code=100-177" ∷ codes "--data" ∷ codes "200-277,300" ∷ []))
+    ≡ asks (disassemble all_words (record no_hints { entries = Some (codes "100,2031"); code_at = Some (codes "100-177"); data_at = Some (codes "200-277,300") }))
+    None
+unfolding clap_on_literals
+words_that_are_code = refl
+
+words_with_names :
+    answer_of (call (codes "disassemble" ∷ codes "--names" ∷ codes "old.sym" ∷ codes "--ident" ∷ codes "loader" ∷ codes "--bare" ∷ codes "old.oct" ∷ []))
+    ≡ asks (disassemble all_words (record no_hints { names = Some (codes "old.sym"); ident = Some (codes "loader"); is_bare = true })) (Some (codes "old.oct"))
+unfolding clap_on_literals
+words_with_names = refl
+
+entry_at_no_address : answer_of (call (codes "disassemble" ∷ codes "--entry" ∷ codes "100," ∷ [])) ≡ refuses
+unfolding clap_on_literals
+entry_at_no_address = refl
+
+entry_at_a_range : answer_of (call (codes "disassemble" ∷ codes "--entry" ∷ codes "100-101" ∷ [])) ≡ refuses
+unfolding clap_on_literals
+entry_at_a_range = refl
+
+code_in_a_falling_range : answer_of (call (codes "disassemble" ∷ codes "--code" ∷ codes "177-100" ∷ [])) ≡ refuses
+unfolding clap_on_literals
+code_in_a_falling_range = refl
+
+data_at_no_octal : answer_of (call (codes "disassemble" ∷ codes "--data" ∷ codes "200,8" ∷ [])) ≡ refuses
+unfolding clap_on_literals
+data_at_no_octal = refl
+
+names_of_standard_input : answer_of (call (codes "disassemble" ∷ codes "--names" ∷ codes "-" ∷ [])) ≡ refuses
+unfolding clap_on_literals
+names_of_standard_input = refl
+
+ident_of_nine_letters : answer_of (call (codes "disassemble" ∷ codes "--ident" ∷ codes "ABCDEFGHI" ∷ [])) ≡ refuses
+unfolding clap_on_literals
+ident_of_nine_letters = refl
+
+ident_of_a_register : answer_of (call (codes "disassemble" ∷ codes "--ident" ∷ codes "X1" ∷ [])) ≡ refuses
+unfolding clap_on_literals
+ident_of_a_register = refl
 
 disassemble_help : answer_of (call (codes "disassemble" ∷ codes "--help" ∷ [])) ≡ tells
 unfolding clap_on_literals

@@ -64,10 +64,18 @@ abbrev pub selection_rules : List Rule
 selection_rules =
     option_rule (codes "from") ∷ option_rule (codes "to") ∷ option_rule (codes "columns") ∷ option_rule (codes "format") ∷ []
 
+-- `[--entry LIST] [--code LIST] [--data LIST]`
+abbrev pub place_rules : List Rule
+place_rules = option_rule (codes "entry") ∷ option_rule (codes "code") ∷ option_rule (codes "data") ∷ []
+
+-- `[--names FILE] [--ident NAME] [--bare]`
+abbrev pub name_rules : List Rule
+name_rules = option_rule (codes "names") ∷ option_rule (codes "ident") ∷ flag_rule (codes "bare") ∷ []
+
 -- `disassemble [--central] [--peripheral]`, with these options, and `[OCTAL]`
 abbrev pub disassemble_shape : Shape
 disassemble_shape = record (new_shape (codes "disassemble")) {
-  rules = flag_rule (codes "central") ∷ flag_rule (codes "peripheral") ∷ (selection_rules ++ operand_rule (codes "octal") ∷ []);
+  rules = flag_rule (codes "central") ∷ flag_rule (codes "peripheral") ∷ (selection_rules ++ place_rules ++ name_rules ++ operand_rule (codes "octal") ∷ []);
 }
 
 -- `explain WORD`

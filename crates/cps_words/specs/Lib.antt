@@ -1,5 +1,6 @@
 pub mod Commands
 pub mod Values
+pub mod Hints
 pub mod Task
 pub mod Request
 pub mod Shown

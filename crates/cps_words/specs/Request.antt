@@ -11,6 +11,7 @@ use Rattle.cps_list.specs.declared.part.Part.TheVariants.{All}
 use Rattle.cps_words.specs.Outputs.{Names}
 use Rattle.cps_words.specs.Commands.{compass}
 use Rattle.cps_words.specs.Values.{are_apart, disassembly_in, file_in, has_flag, is_command, names_in, octal_in, options_in, part_in, wants_no_file, word_explained}
+use Rattle.cps_words.specs.Hints.{Hints, hints_in}
 use Rattle.cps_words.specs.Task.{Task, batch, export, session, check, compare, disassemble, explain, server, task_of}
 use Rattle.cps_words.specs.declared.request.Call.{Call}
 use Rattle.cps_words.specs.declared.unread.Unread.{Unread}
@@ -52,12 +53,13 @@ abbrev pub answer_of_compare : List Row → Answer
 answer_of_compare rows = answer_of_options (options_in rows) (octal_in rows) (file_in rows)
 
 -- the source that is made goes to standard output
-abbrev pub answer_of_disassembly : Option Request → Option Text → Answer
-answer_of_disassembly None octal = refuses
-answer_of_disassembly (Some request) octal = asks (disassemble request) octal
+abbrev pub answer_of_disassembly : Option Request → Option Hints → Option Text → Answer
+answer_of_disassembly None hints octal = refuses
+answer_of_disassembly (Some request) None octal = refuses
+answer_of_disassembly (Some request) (Some hints) octal = asks (disassemble request hints) octal
 
 abbrev pub answer_of_disassemble : List Row → Answer
-answer_of_disassemble rows = answer_of_disassembly (disassembly_in rows) (octal_in rows)
+answer_of_disassemble rows = answer_of_disassembly (disassembly_in rows) (hints_in rows) (octal_in rows)
 
 -- the help of the program, or of a command
 abbrev pub answer_of_help : Option Text → Answer

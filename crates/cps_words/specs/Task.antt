@@ -5,6 +5,7 @@ use Rattle.clap.specs.Words.{Text}
 use Rattle.cps_list.specs.declared.part.Part.{Part}
 use Rattle.cps_compare.specs.declared.compare_options.CompareOptions.{CompareOptions}
 use Rattle.cps_disassembly.specs.declared.request.Request as disassembly
+use Rattle.cps_words.specs.Hints.{Hints, hints_of}
 use Rattle.cps_words.specs.Outputs.{Names, names_of}
 use Rattle.cps_words.specs.declared.request.Request.{Request}
 use Rattle.cps_words.specs.declared.request.Request.TheVariants.{Batch, Export, Session, Check, Compare, Disassemble, Explain, Server}
@@ -17,7 +18,7 @@ pub data Task : Type 0 where
   session : Task
   check : (errors_only : Bool) → Task
   compare : Option Text → CompareOptions → Task
-  disassemble : disassembly.Request → Task
+  disassemble : disassembly.Request → Hints → Task
   explain : Text → Task
   server : Task
 
@@ -28,6 +29,6 @@ task_of (Export outputs part) = export (names_of outputs) part
 task_of Session = session
 task_of (Check errors_only) = check errors_only
 task_of (Compare comparand) = compare (option_map (λ (name : Bor Text). name.now) comparand.octal) comparand.options
-task_of (Disassemble request) = disassemble request
+task_of (Disassemble request words) = disassemble request (hints_of words)
 task_of (Explain word) = explain word.now
 task_of Server = server

@@ -3,7 +3,7 @@ ghost use Rattle.std.specs.Prelude.{◌≡◌, IfOk, false, fold};
 ghost use Rattle.clap.specs.Words.{app_of, new_app, rule_of, with_rule, with_subcommand};
 ghost use Rattle.clap.specs.Simple.{shape_of};
 ghost use Rattle.clap.specs.declared.builder.command.Command.TheViews.{out-Command};
-ghost use Rattle.cps_words.specs.Commands.{bare_compass, batch_shape, check_shape, compare_shape, compass, disassemble_shape, explain_shape, flag_rule, help_shape, limit_rules, operand_rule, option_rule, reading_rules, selection_rules, server_shape, session_shape, wanted_rule};
+ghost use Rattle.cps_words.specs.Commands.{bare_compass, batch_shape, check_shape, compare_shape, compass, disassemble_shape, explain_shape, flag_rule, help_shape, limit_rules, name_rules, operand_rule, option_rule, place_rules, reading_rules, selection_rules, server_shape, session_shape, wanted_rule};
 
 use super::helps::{
     ABOUT, BATCH_ABOUT, BATCH_MORE, CHECK_ABOUT, CHECK_MORE, COMPARE_ABOUT, COMPARE_MORE,
@@ -236,6 +236,8 @@ fn disassemble_command<'a>(alloc: Global) -> Result<Command<'a>, AllocError>
         ),
     )?;
     let command = with_selection_options(alloc, command)?;
+    let command = with_place_options(alloc, command)?;
+    let command = with_name_options(alloc, command)?;
     with_argument(
         command,
         operand(
@@ -291,6 +293,56 @@ fn with_selection_options<'a>(
             "How OCTAL is read: rows or dump [default: rows]",
         ),
     )
+}
+
+/// A command with the options that say which words are code, and which are data.
+fn with_place_options<'a>(alloc: Global, command: Command<'a>) -> Result<Command<'a>, AllocError>
+    ensures app { IfOk result (λ more. app_of more ≡ fold with_rule (app_of command.entry) place_rules) }
+    ensures local { IfOk result (λ more. (out-Command more).has_globals ≡ (out-Command command.entry).has_globals) }
+{
+    let command = with_argument(
+        command,
+        option(
+            alloc,
+            "entry",
+            "LIST",
+            "Addresses where execution begins, as 100,2031",
+        ),
+    )?;
+    let command = with_argument(
+        command,
+        option(alloc, "code", "LIST", "Words that are code, as 100-177,300"),
+    )?;
+    with_argument(
+        command,
+        option(
+            alloc,
+            "data",
+            "LIST",
+            "Words that are data, also where --code has them",
+        ),
+    )
+}
+
+/// A command with the options that say how things are named, and whether there are comments.
+fn with_name_options<'a>(alloc: Global, command: Command<'a>) -> Result<Command<'a>, AllocError>
+    ensures app { IfOk result (λ more. app_of more ≡ fold with_rule (app_of command.entry) name_rules) }
+    ensures local { IfOk result (λ more. (out-Command more).has_globals ≡ (out-Command command.entry).has_globals) }
+{
+    let command = with_argument(
+        command,
+        option(
+            alloc,
+            "names",
+            "FILE",
+            "A file with symbols and their values",
+        ),
+    )?;
+    let command = with_argument(
+        command,
+        option(alloc, "ident", "NAME", "The program's name [default: DUMP]"),
+    )?;
+    with_argument(command, flag(alloc, "bare", "Write no comments"))
 }
 
 fn explain_command<'a>(alloc: Global) -> Result<Command<'a>, AllocError>

@@ -125,6 +125,16 @@ text, and this has no other word.
 --central and --peripheral name the machine; without them the rows of OCTAL tell
 it. --from and --to take the words from address A to address B alone.
 
+What is code, what is data and what has a name is guessed, and may be told:
+  --entry LIST   execution begins at these addresses: what is reached from there
+                 is code, and END names the first
+  --code LIST    these words are code, but for those with digits not known
+  --data LIST    these words are data, also where --code has them
+  --names FILE   each row of FILE that begins with a symbol and an octal value
+                 names that address, as 'batch --symbols' writes them
+  --ident NAME   the name in IDENT
+  --bare         no comments
+
   --format dump  a row has whole words, one without an address the next ones; a
                  row '*', or that begins with DUPL, REPEAT or SAME, says that
                  the words before stand again, up to the next address

@@ -10,7 +10,9 @@
 //! - `fault.rt`: why texts aren't in their files
 //! - `help.rt`: the command `help`
 //! - `helps.rt`: what the helps say
+//! - `hint_words.rt`: what the options of `disassemble` say of the words
 //! - `limit_options.rt`: the options that `compare` and `disassemble` have
+//! - `lists.rt`: the addresses and the ranges that lists name
 //! - `message.rt`: texts, as a message shows them
 //! - `names.rt`: names of an export that lead to one file
 //! - `numbers.rt`: the addresses, the offsets and the columns that words name
@@ -33,7 +35,9 @@ mod exporting;
 mod fault;
 mod help;
 mod helps;
+mod hint_words;
 mod limit_options;
+mod lists;
 mod message;
 mod names;
 mod numbers;
@@ -49,6 +53,8 @@ pub use comparand::Comparand;
 pub use export::Export;
 pub use export_fault::ExportFault;
 pub use exporting::export_source;
+pub use hint_words::HintWords;
+pub use lists::{read_addresses, read_ranges};
 pub use message::shown;
 pub use names::{Clash, find_clash, is_open_already};
 pub use outputs::Outputs;

@@ -51,7 +51,7 @@ pub fn read_columns(word: &str) -> Option<ReadColumns>
 }
 
 /// What stands before and behind the first minus of a word.
-fn halves_of(word: &str) -> Option<(&str, &str)>
+pub fn halves_of(word: &str) -> Option<(&str, &str)>
     ensures { option_map (λ halves. (halves.0.now, halves.1.now)) result ≡ values.halves_of word.now }
 {
     word.split_once('-')

@@ -11,6 +11,7 @@ use super::comparand::Comparand;
 use super::compare_options::{parted_offset, read_compare_options};
 use super::disassemble_options::read_disassemble_options;
 use super::help::read_help;
+use super::hint_words::{HintWords, read_hint_words};
 use super::output_options::{are_apart, read_outputs, say_taken, wants_no_file};
 use super::unread::{
     Unread, say, say_file_alone, say_no_name, say_parted_offset, say_wrong_value, wrong,
@@ -36,8 +37,8 @@ pub enum Request<'a> {
     Check { errors_only: bool },
     /// To compare a source with an octal text.
     Compare(Comparand<'a>),
-    /// To make a source for the words of an octal text.
-    Disassemble(Disassembly),
+    /// To make a source for the words of an octal text, of which something is known.
+    Disassemble(Disassembly, HintWords<'a>),
     /// To explain a flag, by its letter, or an operation, by its name.
     Explain(&'a str),
     /// To answer an editor.
@@ -208,8 +209,9 @@ fn read_disassemble<'a>(alloc: Global, values: &ArgMatches<'a>) -> Result<Call<'
     ensures { Reads (answer_of_disassemble (rows_of (found_of values.now))) result }
 {
     let disassembly = read_disassemble_options(alloc, values)?;
+    let hints = read_hint_words(alloc, values)?;
     Ok(Call {
-        request: Request::Disassemble(disassembly),
+        request: Request::Disassemble(disassembly, hints),
         file: read_file(word_in(values, "octal")),
     })
 }

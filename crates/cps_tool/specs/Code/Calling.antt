@@ -8,8 +8,10 @@ use Rattle.cps_words.specs.Outputs.{name_of}
 use Rattle.cps_words.specs.Placing.{Placed}
 use Rattle.cps_words.specs.declared.request.Call.{Call}
 use Rattle.cps_words.specs.Request.{asked_by, asks}
-use Rattle.cps_words.specs.Task.{session, task_of}
-use Rattle.cps_tool.specs.CommandLine.{Calls, Exported, IsUndone, ServesOne, ServesWith}
+use Rattle.cps_words.specs.Hints.{hints_of}
+use Rattle.cps_words.specs.Task.{disassemble, session, task_of}
+use Rattle.cps_tool.specs.declared.disassembling.DisassemblyCall.{DisassemblyCall}
+use Rattle.cps_tool.specs.CommandLine.{Calls, Disassembled, Exported, IsUndone, ServesOne, ServesWith}
 
 -- this was done, or nothing was
 abbrev pub UndoneOr : {R W : Type 0} → (ℕ → Counted R → Counted R → Counted W → Counted W → Type 0) → ℕ
@@ -26,6 +28,18 @@ abbrev pub DoesSession : {F R W : Type 0} → (List ℕ → Option (List ℕ)) �
     → Counted R → Counted R → Counted W → Counted W → Type 0
 DoesSession holds opened remaining contents name status reader reader' writer writer' =
     ServesWith holds opened remaining contents (asks session (Some name)) status reader reader' writer writer'
+
+-- a source that makes the words that are asked for was written
+abbrev pub Disassembles : {R W : Type 0} → (R → Option (List ℕ)) → (W → Option (List ℕ)) → DisassemblyCall → ℕ
+    → Counted R → Counted R → Counted W → Counted W → Type 0
+Disassembles remaining contents asked status reader reader' writer writer' =
+    Disassembled remaining contents asked.request status reader reader' writer writer'
+
+-- at a call of a disassembly
+abbrev pub DoesDisassembly : {F R W : Type 0} → (List ℕ → Option (List ℕ)) → (F → Option (List ℕ)) → (R → Option (List ℕ)) → (W → Option (List ℕ)) → DisassemblyCall → ℕ
+    → Counted R → Counted R → Counted W → Counted W → Type 0
+DoesDisassembly holds opened remaining contents asked status reader reader' writer writer' =
+    ServesWith holds opened remaining contents (asks (disassemble asked.request (hints_of asked.hints)) (name_of asked.file)) status reader reader' writer writer'
 
 -- the texts that an export wants were written into files, and then the part
 abbrev pub DoesExport : {T R W : Type 0} → (T → Option (List Placed)) → (R → Option (List ℕ)) → (W → Option (List ℕ)) → Export → ℕ

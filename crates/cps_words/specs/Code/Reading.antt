@@ -3,6 +3,8 @@ use Rattle.std.specs.Prelude.{◌≡◌, Option, Some, None, Result, Ok, Err, �
 use Rattle.clap.specs.declared.error.kind.ErrorKind.{ErrorKind}
 use Rattle.clap.specs.declared.error.kind.ErrorKind.TheVariants.{OutOfMemory}
 use Rattle.cps_words.specs.Request.{Answer, answer_at, asked_by, refuses, tells}
+use Rattle.cps_words.specs.declared.hint_words.HintWords.{HintWords}
+use Rattle.cps_words.specs.Hints.{Hints, hints_of}
 use Rattle.cps_words.specs.declared.request.Call.{Call}
 use Rattle.cps_words.specs.declared.unread.Unread.{Unread}
 use Rattle.cps_words.specs.declared.unread.Unread.TheVariants.{Told, Wrong, Memory}
@@ -20,6 +22,13 @@ ReadsValue named (Ok value) = named ≡ Some value
 ReadsValue named (Err (Told text)) = ⊥
 ReadsValue named (Err (Wrong text)) = named ≡ None
 ReadsValue named (Err Memory) = ⊤
+
+-- the same of what is said of words
+abbrev pub ReadsHints : Option Hints → Result HintWords Unread → Type 0
+ReadsHints named (Ok words) = named ≡ Some (hints_of words)
+ReadsHints named (Err (Told text)) = ⊥
+ReadsHints named (Err (Wrong text)) = named ≡ None
+ReadsHints named (Err Memory) = ⊤
 
 -- the help or the version is told, or there was no memory
 abbrev pub IsTold : Unread → Type 0
