@@ -17,4 +17,5 @@ pub mod Lines
 pub mod Changes
 pub mod TextLaws
 pub mod Params
+pub mod Client
 pub mod Code

@@ -5,6 +5,7 @@
 //! - `buffer.rt`: a text that an editor changes, kept as its lines
 //! - `change.rt`: a change of a text
 //! - `changes.rt`: the changes of a message
+//! - `client.rt`: what an editor takes
 //! - `conversation_laws.rt`: laws of conversations
 //! - `encoding.rt`: how the characters of a position are counted
 //! - `encodings.rt`: the encodings that an editor offers
@@ -35,6 +36,7 @@ mod answering;
 mod buffer;
 mod change;
 mod changes;
+mod client;
 mod conversation_laws;
 mod encoding;
 mod encodings;
@@ -63,6 +65,7 @@ mod text_laws;
 pub use buffer::Buffer;
 pub use change::Change;
 pub use changes::changes_in;
+pub use client::{Client, client_in};
 pub use conversation_laws::{a_conversation_goes_on, one_conversation};
 pub use encoding::Encoding;
 pub use encodings::encoding_in;
@@ -70,7 +73,7 @@ pub use error_code::ErrorCode;
 pub use fault::ServerFault;
 pub use frame::push_frame;
 pub use json::{JsonFault, json_of};
-pub use markup::{Markup, markup_in};
+pub use markup::Markup;
 pub use member::{new_name_in, uri_in, version_in, wants_definitions};
 pub use message::Message;
 pub use opened_text::OpenedText;
