@@ -18,6 +18,7 @@ use Rattle.cps_server.specs.declared.request_method.RequestMethod.TheVariants.{I
 use Rattle.cps_server.specs.Renames.{TellsName, TellsRename, wish_in}
 use Rattle.cps_server.specs.ServerState.{OpenText, ServerState, text_under}
 use Rattle.cps_server.specs.Tokens.{legend}
+use Rattle.cps_version.specs.declared.version.TheConstants.{VERSION}
 
 -- the request that is this query; an unknown one where it is none
 abbrev pub request_of : Option Query → RequestMethod
@@ -76,10 +77,14 @@ capabilities_of positions mendings names words operands texts = object (member (
 abbrev pub capabilities : Encoding → Data
 capabilities encoding = capabilities_of (encoding_name encoding) kinds renaming semantic_tokens triggers synchronization
 
+-- the name and the version of the server
+abbrev pub server_info : Data
+server_info = object (member (codes "name") (string (codes "compass")) (member (codes "version") (string VERSION.now) no_members))
+
 -- the result of `initialize`
 abbrev pub introduction : Encoding → Data
 introduction encoding = object (member (codes "capabilities") (capabilities encoding)
-    (member (codes "serverInfo") (object (member (codes "name") (string (codes "compass")) no_members)) no_members))
+    (member (codes "serverInfo") server_info no_members))
 
 -- ---- answers
 

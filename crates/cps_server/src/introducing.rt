@@ -7,6 +7,7 @@ ghost use Rattle.cps_server.specs.Requests as requests;
 ghost use Rattle.cps_server.specs.Tokens as tokens;
 
 use cps_rpc::Encoding;
+use cps_version::VERSION;
 use serde_json::{Value, json, put};
 use std::alloc::{AllocError, Global};
 
@@ -15,7 +16,7 @@ pub fn introduction(alloc: Global, encoding: Encoding) -> Result<Value, AllocErr
     ensures { IfOk result (λ json. view json ≡ requests.introduction encoding) }
 {
     let capabilities = capabilities(alloc, encoding)?;
-    json!(in alloc; {"capabilities": capabilities, "serverInfo": {"name": "compass"}})
+    json!(in alloc; {"capabilities": capabilities, "serverInfo": {"name": "compass", "version": VERSION}})
 }
 
 /// What is told of requests that have more to tell than that they are answered.

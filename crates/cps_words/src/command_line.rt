@@ -11,9 +11,8 @@ use super::helps::{
     SERVER_ABOUT, SERVER_MORE, SESSION_ABOUT, SESSION_MORE,
 };
 use clap::{Arg, ArgAction, Command};
+use cps_version::VERSION;
 use std::alloc::{AllocError, Global};
-
-const VERSION: &str = "0.9.0";
 
 /// The command line, with its helps.
 pub fn compass_command<'a>(alloc: Global) -> Result<Command<'a>, AllocError>
