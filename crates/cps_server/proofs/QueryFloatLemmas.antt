@@ -14,6 +14,7 @@ use Rattle.cps_server.specs.declared.query.Query.TheVariants.{Hover, Definition,
 use Rattle.cps_rpc.specs.declared.position.Position.{Position}
 use Rattle.cps_rpc.specs.Params.{position_at, range_at, wants_definitions}
 use Rattle.cps_server.specs.Queries.{Tells, TellsOf}
+use Rattle.cps_rpc.specs.declared.client.Client.{Client}
 use Rattle.cps_rpc.specs.declared.markup.Markup.{Markup}
 use Rattle.cps_server.specs.Ranges.{IsInLine, told_units, word_at}
 use Rattle.cps_server.specs.Completions.{Offer, completion, macros_in, offered_at}
@@ -207,34 +208,34 @@ of-no-float : {A : Type 0} (asked : Option A) (tells : A → Data → Type 0) �
 of-no-float None tells none told is = ap has_float_told is
 of-no-float (Some asked) tells none told is = ap has_float_told is.1 ∙ none asked is.0 is.2
 
-pub tells-no-float : (query : Query) (params : Data) (encoding : Encoding) (markup : Markup) (uri text : List ℕ) (told : Option Data)
-    → Tells query params encoding markup uri text told
+pub tells-no-float : (query : Query) (params : Data) (encoding : Encoding) (client : Client) (uri text : List ℕ) (told : Option Data)
+    → Tells query params encoding client uri text told
     → has_float_told told ≡ false
-tells-no-float Hover params encoding markup uri text told tells =
-    of-no-float (position_at params) _ (λ position json is. shown-no-float encoding markup text position json is) told tells
-tells-no-float Definition params encoding markup uri text told tells =
+tells-no-float Hover params encoding client uri text told tells =
+    of-no-float (position_at params) _ (λ position json is. shown-no-float encoding client.markup text position json is) told tells
+tells-no-float Definition params encoding client uri text told tells =
     of-no-float (position_at params) _ (λ position json is. definition-no-float encoding uri text position json is) told tells
-tells-no-float References params encoding markup uri text told tells =
+tells-no-float References params encoding client uri text told tells =
     of-no-float (position_at params) _ (λ position json is. references-no-float (wants_definitions params) encoding uri text position json is) told tells
-tells-no-float Highlights params encoding markup uri text told tells =
+tells-no-float Highlights params encoding client uri text told tells =
     of-no-float (position_at params) _ (λ position json is. marked-no-float encoding text position json is) told tells
-tells-no-float Symbols params encoding markup uri text told tells =
+tells-no-float Symbols params encoding client uri text told tells =
     ap has_float_told tells.1 ∙ symbols-no-float text tells.0 tells.2
-tells-no-float Hints params encoding markup uri text told tells =
+tells-no-float Hints params encoding client uri text told tells =
     of-no-float (range_at params) _ (λ range json is. ap has_float is ∙ hints-no-float encoding text _) told tells
-tells-no-float Completions params encoding markup uri text told tells =
+tells-no-float Completions params encoding client uri text told tells =
     of-no-float (position_at params) _
     (λ position json is. ap has_float is ∙ completions-no-float (word_at encoding text position) refl (offered_at encoding text position)) told tells
-tells-no-float Listing params encoding markup uri text told tells =
+tells-no-float Listing params encoding client uri text told tells =
     of-no-float (range_at params) _ (λ range json is. ap has_float is ∙ listings-no-float text (range_with_len range.start.line (lines_within (length (source_of_text text)) range))) told tells
-tells-no-float FoldingRanges params encoding markup uri text told tells = ap has_float_told tells.1 ∙ foldings-no-float text tells.0 tells.2
-tells-no-float Signatures params encoding markup uri text told tells =
+tells-no-float FoldingRanges params encoding client uri text told tells = ap has_float_told tells.1 ∙ foldings-no-float text tells.0 tells.2
+tells-no-float Signatures params encoding client uri text told tells =
     of-no-float (position_at params) _ (λ position json is. signature-no-float text position json is) told tells
-tells-no-float Actions params encoding markup uri text told tells =
+tells-no-float Actions params encoding client uri text told tells =
     of-no-float (range_at params) _ (λ range json is. actions-no-float encoding uri text json is) told tells
-tells-no-float Tokens params encoding markup uri text told tells = ap has_float_told tells.1 ∙ ap has_float tells.2.2 ∙ tokens-no-float tells.2.0
-tells-no-float RangeTokens params encoding markup uri text told tells =
+tells-no-float Tokens params encoding client uri text told tells = ap has_float_told tells.1 ∙ ap has_float tells.2.2 ∙ tokens-no-float tells.2.0
+tells-no-float RangeTokens params encoding client uri text told tells =
     of-no-float (range_at params) _ (λ range json is. ap has_float is.3 ∙ tokens-no-float is.0) told tells
-tells-no-float Formats params encoding markup uri text told tells = ap has_float_told tells.1 ∙ ap has_float tells.2.2 ∙ edits-no-float tells.2.0
-tells-no-float RangeFormats params encoding markup uri text told tells =
+tells-no-float Formats params encoding client uri text told tells = ap has_float_told tells.1 ∙ ap has_float tells.2.2 ∙ edits-no-float tells.2.0
+tells-no-float RangeFormats params encoding client uri text told tells =
     of-no-float (range_at params) _ (λ range json is. ap has_float is.3 ∙ edits-no-float is.0) told tells

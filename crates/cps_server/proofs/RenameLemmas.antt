@@ -1,19 +1,20 @@
 -- What is owed to one who asks for a name, or wishes to call it otherwise.
-use Rattle.std.proofs.Common.{◌≡◌, refl, sym, ap, subst, ◌∙◌, inl, inr, ℕ, Bool, true, false, List, [], ◌∷◌, map, Option, Some, None}
-use Rattle.std.specs.Prelude.{◌⊎◌, ◌||◌}
+use Rattle.std.proofs.Common.{◌≡◌, refl, sym, ap, subst, ◌∙◌, inl, inr, ℕ, ℤ, Bool, true, false, List, [], ◌∷◌, map, Option, Some, None}
+use Rattle.std.specs.Prelude.{pos, negsuc, ◌⊎◌, ◌||◌, if◌then◌else◌}
 use Rattle.serde_json.specs.Data.{Data}
 use Rattle.serde_json.specs.View.{items_of}
 use Rattle.serde_json.specs.Written.{has_float, items_have_float}
 use Rattle.cps_edit.specs.Assembly.{assembly_of}
 use Rattle.cps_mention.specs.declared.calling.Calling.{Calling}
 use Rattle.cps_mention.specs.SameBut.{SameBut}
+use Rattle.cps_rpc.specs.declared.client.Client.{Client}
 use Rattle.cps_rpc.specs.declared.encoding.Encoding.{Encoding}
 use Rattle.cps_rpc.specs.declared.error_code.ErrorCode.TheVariants.{InvalidParams}
 use Rattle.cps_rpc.specs.declared.position.Position.{Position}
 use Rattle.cps_rpc.specs.Params.{position_at}
 use Rattle.cps_server.specs.Document.{source_of_text}
 use Rattle.cps_server.specs.Code.Owing.{has_float_owed}
-use Rattle.cps_server.specs.Renames.{Edit, IsSameText, TellsName, TellsRename, Wish, edit_json, wish_in}
+use Rattle.cps_server.specs.Renames.{Edit, IsSameText, TellsName, TellsRename, Wish, edit_json, versioned_edit, wish_in, workspace_edit}
 use Rattle.cps_server.specs.Requests.{IsOwed, Owed, OwesAsked, OwesName, OwesRename, open_in, refused}
 use Rattle.cps_server.specs.ServerState.{OpenText, ServerState}
 
@@ -63,8 +64,16 @@ edits-no-float (e ∷ edits) = edits-no-float edits
 name-no-float : (at : Position) (json : Data) → TellsName at json → has_float json ≡ false
 name-no-float at json is = ap has_float is.3
 
-rename-no-float : (encoding : Encoding) (uri text : List ℕ) (wish : Wish) (json : Data) → TellsRename encoding uri text wish json → has_float json ≡ false
-rename-no-float encoding uri text wish json is = ap has_float is.4 ∙ ap (λ b. (b || false) || false) (edits-no-float is.1)
+told-no-float : (takes : Bool) (uri : List ℕ) (version : Option ℤ) (edits : List Edit)
+    → has_float (if takes then versioned_edit uri version edits else workspace_edit uri edits) ≡ false
+told-no-float false uri version edits = ap (λ b. (b || false) || false) (edits-no-float edits)
+told-no-float true uri None edits = ap (λ b. ((b || false) || false) || false) (edits-no-float edits)
+told-no-float true uri (Some (pos n)) edits = ap (λ b. ((b || false) || false) || false) (edits-no-float edits)
+told-no-float true uri (Some (negsuc n)) edits = ap (λ b. ((b || false) || false) || false) (edits-no-float edits)
+
+rename-no-float : (encoding : Encoding) (client : Client) (one : OpenText) (wish : Wish) (json : Data) → TellsRename encoding client one wish json
+    → has_float json ≡ false
+rename-no-float encoding client one wish json is = ap has_float is.4 ∙ told-no-float client.takes_versions one.uri one.version is.1
 
 pub naming-no-float : (params : Data) (old : ServerState) (owed : Owed) → OwesName params old owed → has_float_owed owed ≡ false
 naming-no-float params old owed is =
@@ -72,8 +81,8 @@ naming-no-float params old owed is =
 
 pub renaming-no-float : (params : Data) (old : ServerState) (owed : Owed) → OwesRename params old owed → has_float_owed owed ≡ false
 renaming-no-float params old owed is =
-    asked-no-float (open_in params old) (wish_in params) (λ one wish json. TellsRename old.encoding one.uri one.text wish json)
-    (λ one wish json tells. rename-no-float old.encoding one.uri one.text wish json tells) owed is
+    asked-no-float (open_in params old) (wish_in params) (λ one wish json. TellsRename old.encoding old.client one wish json)
+    (λ one wish json tells. rename-no-float old.encoding old.client one wish json tells) owed is
 
 -- ---- the certificate
 

@@ -24,7 +24,7 @@ use Rattle.cps_server.proofs.WritingLemmas.{published-written}
 
 pub takes : (old new : ServerState) (uri : List ℕ) (version : Option ℤ) (text list said now : List ℕ)
     → ListsText old.encoding text list → now ≡ said ++ frame_of (published_text uri version list)
-    → new ≡ record old { texts = with_text (record { uri = uri; text = text }) old.texts }
+    → new ≡ record old { texts = with_text (record { uri = uri; version = version; text = text }) old.texts }
     → Adds (λ news. TakesText old uri version text news new) said now
 takes old new uri version text list said now lists added moves =
     adds-one (λ news. TakesText old uri version text news new) (published uri version lists.0) said now
@@ -52,7 +52,7 @@ changes old mid new uri version all one made said now there moved is adds =
       tells = takes.tells;
       says = takes.says;
       moves = takes.moves
-          ∙ ap (λ texts. record old { texts = texts ++ record { uri = uri; text = changed_by old.encoding all one.text } ∷ [] })
+          ∙ ap (λ texts. record old { texts = texts ++ record { uri = uri; version = version; text = changed_by old.encoding all one.text } ∷ [] })
           (without-twice uri old.texts);
     })
     (subst (λ standing. Adds (λ news. TakesText standing uri version (changed_by standing.encoding all one.text) news new) said now) moved

@@ -28,7 +28,7 @@ pub record TakesText (old : ServerState) (uri : List ℕ) (version : Option ℤ)
   pub told : List Data
   pub tells : TellsText old.encoding text told
   pub says : said ≡ published uri version told ∷ []
-  pub moves : new ≡ record old { texts = with_text (record { uri = uri; text = text }) old.texts }
+  pub moves : new ≡ record old { texts = with_text (record { uri = uri; version = version; text = text }) old.texts }
 
 -- a text is opened; wrong parameters do nothing
 abbrev pub Opens : ServerState → Option ℤ → Option OpenedText → List Data → ServerState → Type 0

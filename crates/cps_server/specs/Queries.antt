@@ -3,7 +3,7 @@ use Rattle.std.specs.Prelude.{◌≡◌, ℕ, List, bytes_eq, codes, Option, Som
 use Rattle.serde_json.specs.Data.{Data, array}
 use Rattle.serde_json.specs.View.{items_of}
 use Rattle.cps_rpc.specs.declared.encoding.Encoding.{Encoding}
-use Rattle.cps_rpc.specs.declared.markup.Markup.{Markup}
+use Rattle.cps_rpc.specs.declared.client.Client.{Client}
 use Rattle.cps_rpc.specs.Params.{position_at, range_at, wants_definitions}
 use Rattle.cps_server.specs.declared.queried_text.QueriedText.{QueriedText}
 use Rattle.cps_server.specs.declared.query.Query.{Query}
@@ -48,27 +48,27 @@ TellsOf None tells told = told ≡ None
 TellsOf (Some asked) tells told = (json : Data) × (told ≡ Some json) × tells asked json
 
 -- what is told of the text under a URI, by the parameters of a query; nothing where they are wrong
-abbrev pub Tells : Query → Data → Encoding → Markup → List ℕ → List ℕ → Option Data → Type 0
-Tells Hover params encoding markup uri text told = TellsOf (position_at params) (λ position json. TellsHover encoding markup text position json) told
-Tells Definition params encoding markup uri text told =
+abbrev pub Tells : Query → Data → Encoding → Client → List ℕ → List ℕ → Option Data → Type 0
+Tells Hover params encoding client uri text told = TellsOf (position_at params) (λ position json. TellsHover encoding client.markup text position json) told
+Tells Definition params encoding client uri text told =
     TellsOf (position_at params) (λ position json. TellsDefinition encoding uri text position json) told
-Tells References params encoding markup uri text told =
+Tells References params encoding client uri text told =
     TellsOf (position_at params) (λ position json. TellsReferences (wants_definitions params) encoding uri text position json) told
-Tells Highlights params encoding markup uri text told =
+Tells Highlights params encoding client uri text told =
     TellsOf (position_at params) (λ position json. TellsHighlights encoding text position json) told
-Tells Symbols params encoding markup uri text told = (json : Data) × (told ≡ Some json) × TellsSymbols text json
-Tells Hints params encoding markup uri text told = TellsOf (range_at params) (λ range json. json ≡ array (items_of (hints_in encoding text range))) told
-Tells Completions params encoding markup uri text told =
+Tells Symbols params encoding client uri text told = (json : Data) × (told ≡ Some json) × TellsSymbols text json
+Tells Hints params encoding client uri text told = TellsOf (range_at params) (λ range json. json ≡ array (items_of (hints_in encoding text range))) told
+Tells Completions params encoding client uri text told =
     TellsOf (position_at params) (λ position json. json ≡ array (items_of (completions_at encoding text position))) told
-Tells Listing params encoding markup uri text told = TellsOf (range_at params) (λ range json. json ≡ array (items_of (listings_in text range))) told
-Tells FoldingRanges params encoding markup uri text told = (json : Data) × (told ≡ Some json) × TellsFoldings text json
-Tells Signatures params encoding markup uri text told = TellsOf (position_at params) (λ position json. TellsSignature text position json) told
-Tells Actions params encoding markup uri text told = TellsOf (range_at params) (λ range json. TellsActions encoding uri text json) told
-Tells Tokens params encoding markup uri text told = (json : Data) × (told ≡ Some json) × TellsTokens encoding text json
-Tells RangeTokens params encoding markup uri text told = TellsOf (range_at params) (λ range json. TellsTokensIn encoding text range json) told
-Tells Formats params encoding markup uri text told = (json : Data) × (told ≡ Some json) × TellsFormat encoding text json
-Tells RangeFormats params encoding markup uri text told = TellsOf (range_at params) (λ range json. TellsFormatIn encoding text range json) told
+Tells Listing params encoding client uri text told = TellsOf (range_at params) (λ range json. json ≡ array (items_of (listings_in text range))) told
+Tells FoldingRanges params encoding client uri text told = (json : Data) × (told ≡ Some json) × TellsFoldings text json
+Tells Signatures params encoding client uri text told = TellsOf (position_at params) (λ position json. TellsSignature text position json) told
+Tells Actions params encoding client uri text told = TellsOf (range_at params) (λ range json. TellsActions encoding uri text json) told
+Tells Tokens params encoding client uri text told = (json : Data) × (told ≡ Some json) × TellsTokens encoding text json
+Tells RangeTokens params encoding client uri text told = TellsOf (range_at params) (λ range json. TellsTokensIn encoding text range json) told
+Tells Formats params encoding client uri text told = (json : Data) × (told ≡ Some json) × TellsFormat encoding text json
+Tells RangeFormats params encoding client uri text told = TellsOf (range_at params) (λ range json. TellsFormatIn encoding text range json) told
 
 -- what is told of a deck
 abbrev pub TellsOfDeck : Query → Data → QueriedText → Option Data → Type 0
-TellsOfDeck query params deck told = Tells query params deck.encoding deck.markup deck.uri.now deck.document.now told
+TellsOfDeck query params deck told = Tells query params deck.encoding deck.client deck.uri.now deck.document.now told

@@ -1,12 +1,14 @@
 -- What a server tells of a name that is to be called otherwise. The forms are those of the Language Server Protocol 3.17; what a renaming is, is our own.
-use Rattle.std.specs.Prelude.{◌≡◌, ℕ, List, ⊤, map, codes, Option, Some, option_and_then, option_map}
-use Rattle.serde_json.specs.Data.{Data, string, array, object, no_members, member}
+use Rattle.std.specs.Prelude.{◌≡◌, ℕ, ℤ, List, [], ◌∷◌, ⊤, map, codes, Option, None, Some, option_and_then, option_map, if◌then◌else◌}
+use Rattle.serde_json.specs.Data.{Data, null, number, string, array, object, no_members, member}
+use Rattle.serde_json.specs.Find.{of_integer}
 use Rattle.serde_json.specs.View.{items_of}
 use Rattle.cps_text.specs.Name.{name_of}
 use Rattle.cps_edit.specs.Assembly.{assembly_of}
 use Rattle.cps_mention.specs.declared.calling.Calling.{Calling}
 use Rattle.cps_mention.specs.declared.calling.Calling.TheVariants.{Same, Renamed}
 use Rattle.cps_mention.specs.SameBut.{SameBut}
+use Rattle.cps_rpc.specs.declared.client.Client.{Client}
 use Rattle.cps_rpc.specs.declared.encoding.Encoding.{Encoding}
 use Rattle.cps_rpc.specs.declared.position.Position.{Position}
 use Rattle.cps_rpc.specs.declared.position.Range.{Range}
@@ -16,6 +18,7 @@ use Rattle.cps_server.specs.Document.{source_of_text}
 use Rattle.cps_server.specs.Notices.{changed_by}
 use Rattle.cps_server.specs.Ranges.{range_of}
 use Rattle.cps_server.specs.Results.{text_json}
+use Rattle.cps_server.specs.ServerState.{OpenText}
 use Rattle.cps_server.specs.Symbols.{pointed}
 
 -- ---- what is asked
@@ -73,6 +76,26 @@ edits_json edits = array (items_of (map edit_json edits))
 abbrev pub workspace_edit : List ℕ → List Edit → Data
 workspace_edit uri edits = object (member (codes "changes") (object (member uri (edits_json edits) no_members)) no_members)
 
+-- a version; null where it isn't known
+abbrev pub version_json : Option ℤ → Data
+version_json None = null
+version_json (Some version) = number (of_integer version)
+
+-- the same, of a version of that document
+abbrev pub told_version : List ℕ → Data → Data
+told_version uri version = object (member (codes "uri") (string uri) (member (codes "version") version no_members))
+
+abbrev pub document_edits : Data → Data → Data
+document_edits document edits = object (member (codes "edits") edits (member (codes "textDocument") document no_members))
+
+abbrev pub versioned_edit : List ℕ → Option ℤ → List Edit → Data
+versioned_edit uri version edits =
+    object (member (codes "documentChanges") (array (items_of (document_edits (told_version uri (version_json version)) (edits_json edits) ∷ []))) no_members)
+
+-- by the version of an open text, where an editor takes that
+abbrev pub edits_told : Client → OpenText → List Edit → Data
+edits_told client one edits = if client.takes_versions then versioned_edit one.uri one.version edits else workspace_edit one.uri edits
+
 -- ---- a renaming
 
 -- no symbol is called otherwise, or the one at the position is, by the new name
@@ -88,8 +111,8 @@ IsSameText calling before after = SameBut calling (assembly_of (source_of_text b
 abbrev pub IsRename : Calling → Encoding → List ℕ → List Edit → Type 0
 IsRename calling encoding text edits = IsSameText calling text (edited encoding edits text)
 
--- such edits are told of the text under a URI
-abbrev pub TellsRename : Encoding → List ℕ → List ℕ → Wish → Data → Type 0
-TellsRename encoding uri text wish json =
-    (calling : Calling) × (edits : List Edit) × IsWished encoding text wish calling × IsRename calling encoding text edits
-    × (json ≡ workspace_edit uri edits)
+-- such edits are told of an open text
+abbrev pub TellsRename : Encoding → Client → OpenText → Wish → Data → Type 0
+TellsRename encoding client one wish json =
+    (calling : Calling) × (edits : List Edit) × IsWished encoding one.text wish calling × IsRename calling encoding one.text edits
+    × (json ≡ edits_told client one edits)

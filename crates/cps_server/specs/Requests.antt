@@ -4,8 +4,9 @@ use Rattle.serde_json.specs.Data.{Data, unsigned, null, boolean, number, string,
 use Rattle.serde_json.specs.View.{items_of}
 use Rattle.cps_rpc.specs.declared.encoding.Encoding.{Encoding}
 use Rattle.cps_rpc.specs.declared.encoding.Encoding.TheVariants.{Utf8, Utf16}
-use Rattle.cps_rpc.specs.declared.markup.Markup.{Markup}
-use Rattle.cps_rpc.specs.Params.{encoding_in, markup_in, position_at, uri_in}
+use Rattle.cps_rpc.specs.declared.client.Client.{Client}
+use Rattle.cps_rpc.specs.Client.{client_in}
+use Rattle.cps_rpc.specs.Params.{encoding_in, position_at, uri_in}
 use Rattle.cps_rpc.specs.declared.error_code.ErrorCode.{ErrorCode}
 use Rattle.cps_rpc.specs.declared.error_code.ErrorCode.TheVariants.{InvalidRequest, MethodNotFound, InvalidParams, ServerNotInitialized}
 use Rattle.cps_rpc.specs.Outgoing.{failure, response, refusal}
@@ -16,7 +17,7 @@ use Rattle.cps_server.specs.declared.server_phase.ServerPhase.TheVariants.{Unini
 use Rattle.cps_server.specs.declared.request_method.RequestMethod.{RequestMethod}
 use Rattle.cps_server.specs.declared.request_method.RequestMethod.TheVariants.{Initialize, Shutdown, Query as Asks, PrepareRename, Rename, Unknown}
 use Rattle.cps_server.specs.Renames.{TellsName, TellsRename, wish_in}
-use Rattle.cps_server.specs.ServerState.{OpenText, ServerState, text_under}
+use Rattle.cps_server.specs.ServerState.{OpenText, ServerState, text_under, version_under}
 use Rattle.cps_server.specs.Tokens.{legend}
 use Rattle.cps_version.specs.declared.version.TheConstants.{VERSION}
 
@@ -100,14 +101,14 @@ owed_by None = refused InvalidParams
 owed_by (Some told) = found told
 
 -- what is owed to a query of the text under a URI, if it is open
-abbrev pub OwesOf : Query → Data → Encoding → Markup → List ℕ → Option (List ℕ) → Owed → Type 0
-OwesOf query params encoding markup uri None owed = owed ≡ refused InvalidParams
-OwesOf query params encoding markup uri (Some text) owed =
-    (told : Option Data) × Tells query params encoding markup uri text told × (owed ≡ owed_by told)
+abbrev pub OwesOf : Query → Data → Encoding → Client → List ℕ → Option (List ℕ) → Owed → Type 0
+OwesOf query params encoding client uri None owed = owed ≡ refused InvalidParams
+OwesOf query params encoding client uri (Some text) owed =
+    (told : Option Data) × Tells query params encoding client uri text told × (owed ≡ owed_by told)
 
 abbrev pub OwesUnder : Query → Data → ServerState → Option (List ℕ) → Owed → Type 0
 OwesUnder query params old None owed = owed ≡ refused InvalidParams
-OwesUnder query params old (Some uri) owed = OwesOf query params old.encoding old.markup uri (text_under uri old.texts) owed
+OwesUnder query params old (Some uri) owed = OwesOf query params old.encoding old.client uri (text_under uri old.texts) owed
 
 abbrev pub OwesQuery : Query → Data → ServerState → Owed → Type 0
 OwesQuery query params old owed = OwesUnder query params old (uri_in params) owed
@@ -128,7 +129,7 @@ OwesAsked (Some one) (Some asked) tells owed = IsOwed (tells one asked) owed
 
 -- the open text that parameters name
 abbrev pub open_by : List ℕ → ServerState → Option OpenText
-open_by uri old = option_map (λ text. record { uri = uri; text = text }) (text_under uri old.texts)
+open_by uri old = option_map (λ text. record { uri = uri; version = version_under uri old.texts; text = text }) (text_under uri old.texts)
 
 abbrev pub open_in : Data → ServerState → Option OpenText
 open_in params old = option_and_then (λ uri. open_by uri old) (uri_in params)
@@ -138,7 +139,7 @@ abbrev pub OwesName : Data → ServerState → Owed → Type 0
 OwesName params old owed = OwesAsked (open_in params old) (position_at params) (λ one at json. TellsName at json) owed
 
 abbrev pub OwesRename : Data → ServerState → Owed → Type 0
-OwesRename params old owed = OwesAsked (open_in params old) (wish_in params) (λ one wish json. TellsRename old.encoding one.uri one.text wish json) owed
+OwesRename params old owed = OwesAsked (open_in params old) (wish_in params) (λ one wish json. TellsRename old.encoding old.client one wish json) owed
 
 -- what is owed to a request in a phase, by its parameters
 abbrev pub OwesIn : ServerPhase → RequestMethod → Data → ServerState → Owed → Type 0
@@ -161,7 +162,7 @@ Owes request params old owed = OwesIn old.phase request params old owed
 
 -- where a server stands behind a request
 abbrev pub moved_by : ServerPhase → RequestMethod → Data → ServerState → ServerState
-moved_by Uninitialized Initialize params old = record old { phase = Running; encoding = encoding_in params; markup = markup_in params }
+moved_by Uninitialized Initialize params old = record old { phase = Running; encoding = encoding_in params; client = client_in params }
 moved_by Uninitialized Shutdown params old = old
 moved_by Uninitialized (Asks query) params old = old
 moved_by Uninitialized PrepareRename params old = old

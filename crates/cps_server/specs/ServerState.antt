@@ -1,17 +1,18 @@
 -- Where a server stands. From the Language Server Protocol 3.17; what is agreed on before `initialize` is our own.
-use Rattle.std.specs.Prelude.{ℕ, Bool, true, false, not, List, [], ◌∷◌, ◌++◌, Option, Some, None, bytes_eq, filter, option_map, if◌then◌else◌}
+use Rattle.std.specs.Prelude.{ℕ, ℤ, Bool, true, false, not, List, [], ◌∷◌, ◌++◌, Option, Some, None, bytes_eq, filter, option_and_then, option_map, if◌then◌else◌}
 use Rattle.cps_rpc.specs.declared.encoding.Encoding.{Encoding}
 use Rattle.cps_rpc.specs.declared.encoding.Encoding.TheVariants.{Utf16}
-use Rattle.cps_rpc.specs.declared.markup.Markup.{Markup}
-use Rattle.cps_rpc.specs.declared.markup.Markup.TheVariants.{Plain}
+use Rattle.cps_rpc.specs.declared.client.Client.{Client}
+use Rattle.cps_rpc.specs.Client.{unknown}
 use Rattle.cps_server.specs.declared.server_phase.ServerPhase.{ServerPhase}
 use Rattle.cps_server.specs.declared.server_phase.ServerPhase.TheVariants.{Uninitialized, Running, ShutDown}
 
 -- ---- texts
 
--- A text that is open, under the URI of its document.
+-- A text that is open, under the URI of its document, of this version if it is known.
 pub record OpenText : Type 0 where
   pub uri : List ℕ
+  pub version : Option ℤ
   pub text : List ℕ
 
 abbrev pub is_under : List ℕ → OpenText → Bool
@@ -26,6 +27,10 @@ open_under uri (one ∷ texts) = if is_under uri one then Some one else open_und
 abbrev pub text_under : List ℕ → List OpenText → Option (List ℕ)
 text_under uri texts = option_map (λ one. one.text) (open_under uri texts)
 
+-- its version
+abbrev pub version_under : List ℕ → List OpenText → Option ℤ
+version_under uri texts = option_and_then (λ one. one.version) (open_under uri texts)
+
 -- all texts but that under a URI
 abbrev pub without : List ℕ → List OpenText → List OpenText
 without uri texts = filter (λ one. not (is_under uri one)) texts
@@ -36,17 +41,17 @@ with_text one texts = without one.uri texts ++ one ∷ []
 
 -- ---- the server
 
--- Where a server stands: its phase, whether `exit` has come, how positions are counted, in which form a hover is told, and the open texts, those last that were opened or changed last.
+-- Where a server stands: its phase, whether `exit` has come, how positions are counted, what the editor takes, and the open texts, those last that were opened or changed last.
 pub record ServerState : Type 0 where
   pub phase : ServerPhase
   pub has_exited : Bool
   pub encoding : Encoding
-  pub markup : Markup
+  pub client : Client
   pub texts : List OpenText
 
 -- before the first message
 abbrev pub beginning : ServerState
-beginning = record { phase = Uninitialized; has_exited = false; encoding = Utf16; markup = Plain; texts = [] }
+beginning = record { phase = Uninitialized; has_exited = false; encoding = Utf16; client = unknown; texts = [] }
 
 -- whether `shutdown` has come
 abbrev pub is_shut_down : ServerPhase → Bool

@@ -46,15 +46,15 @@ fn hover_named(
     let front = rows_named(alloc, deck.document, position.line, mention, &spots)?;
     let shown = shown_behind(alloc, deck.document, position.line, front)?;
     let range = range_named(alloc, deck, caret, mention)?;
-    hover(alloc, deck.markup, shown, range)
+    hover(alloc, deck.client.markup, shown, range)
 }
 
 fn hover_word(alloc: Global, deck: QueriedText<'_>, position: Position) -> Result<Value, AllocError>
-    ensures { IfOk result (λ json. results.TellsShown deck.entry.encoding deck.entry.markup deck.entry.document.now position (view json)) }
+    ensures { IfOk result (λ json. results.TellsShown deck.entry.encoding deck.entry.client.markup deck.entry.document.now position (view json)) }
 {
     let front = word_row(alloc, deck.document, deck.encoding, position)?;
     let shown = shown_behind(alloc, deck.document, position.line, front)?;
-    hover(alloc, deck.markup, shown, None)
+    hover(alloc, deck.client.markup, shown, None)
 }
 
 /// The rows of the name that is mentioned in a line, from 0, with its spots.

@@ -1,8 +1,9 @@
 //! The texts that are open.
 ghost use Rattle.std.specs.Prelude.{◌≡◌, [], ◌∷◌, ◌++◌, map, option_map, None, IfSome, OnOk};
 ghost use Rattle.cps_server.specs.Code.Opened.{IsFirst, value_of};
-ghost use Rattle.cps_server.specs.ServerState.{open_under, text_under, without};
+ghost use Rattle.cps_server.specs.ServerState.{open_under, text_under, version_under, without};
 
+use crate::diagnostics::ToldText;
 use crate::document::Document;
 use crate::marked_document::MarkedDocument;
 use std::alloc::{AllocError, Global};
@@ -12,13 +13,19 @@ use std::marker::Model;
 pub struct OpenText {
     /// The URI of its document.
     uri: String,
+    /// The document's version, if it is known.
+    version: Option<i64>,
     document: MarkedDocument,
 }
 
 // Written out, as that of the document.
 impl Drop for OpenText {
     fn drop(self) {
-        let OpenText { uri, document } = self;
+        let OpenText {
+            uri,
+            version: _,
+            document,
+        } = self;
         drop(uri);
         drop(document);
     }
@@ -29,7 +36,11 @@ impl OpenText {
     pub fn into_document(self) -> MarkedDocument
         ensures { result ≡ self.document }
     {
-        let OpenText { uri, document } = self;
+        let OpenText {
+            uri,
+            version: _,
+            document,
+        } = self;
         drop(uri);
         document
     }
@@ -78,6 +89,14 @@ impl OpenTexts {
         Some(self.list[at].document.document())
     }
 
+    /// Its version, if one is open there and its version is known.
+    pub fn version(&self, uri: &str) -> Option<i64>
+        ensures { result ≡ version_under uri.now self.now }
+    {
+        let at = place_of(&self.list, uri)?;
+        self.list[at].version
+    }
+
     /// Takes out the text under a URI, if one is open there.
     pub fn take(&mut self, uri: &str) -> Option<OpenText>
         ensures open { option_map value_of result ≡ open_under uri.now self.old }
@@ -90,11 +109,15 @@ impl OpenTexts {
     }
 
     /// Opens a text behind all others.
-    pub fn push(&mut self, uri: &str, document: MarkedDocument) -> Result<(), AllocError>
-        ensures { OnOk result (self.new ≡ self.old ++ record { uri = uri.now; text = document } ∷ []) }
+    pub fn push(&mut self, told: ToldText<'_>, document: MarkedDocument) -> Result<(), AllocError>
+        ensures { OnOk result (self.new ≡ self.old ++ record { uri = told.entry.uri.now; version = told.entry.version; text = document } ∷ []) }
     {
-        let uri = uri.to_string(self.alloc)?;
-        self.list.push(OpenText { uri, document })?;
+        let uri = told.uri.to_string(self.alloc)?;
+        self.list.push(OpenText {
+            uri,
+            version: told.version,
+            document,
+        })?;
         Ok(())
     }
 

@@ -138,7 +138,7 @@ fn certify(
     if let Some(line) = line_named(alloc, trial, &after)? {
         return Ok(Err(RenameFault::WouldChange { line }));
     }
-    let json = tell_edits(alloc, deck.uri, edits)?;
+    let json = tell_edits(alloc, deck, edits)?;
     Ok(Ok(json))
 }
 

@@ -30,8 +30,8 @@ use crate::request_method::RequestMethod;
 use crate::saying::{push_answer, push_rejection};
 use crate::server_phase::ServerPhase;
 use cps_rpc::{
-    Change, Encoding, ErrorCode, JsonFault, Markup, Message, OpenedText, Service, changes_in,
-    encoding_in, json_of, markup_in, position_at, uri_in, version_in,
+    Change, Client, Encoding, ErrorCode, JsonFault, Message, OpenedText, Service, changes_in,
+    client_in, encoding_in, json_of, position_at, uri_in, version_in,
 };
 use cps_state::Hashing;
 use serde_json::Value;
@@ -45,8 +45,8 @@ pub struct Server {
     phase: ServerPhase,
     has_exited: bool,
     encoding: Encoding,
-    /// In which form the editor takes a hover.
-    markup: Markup,
+    /// What the editor takes.
+    client: Client,
     texts: OpenTexts,
 }
 
@@ -59,7 +59,7 @@ impl Drop for Server {
             phase: _,
             has_exited: _,
             encoding: _,
-            markup: _,
+            client: _,
             texts,
         } = self;
         drop(texts);
@@ -71,7 +71,7 @@ impl Model for Server {
 
     ghost Value = { ServerState };
 
-    ghost view = { λ server. record { phase = server.phase; has_exited = server.has_exited; encoding = server.encoding; markup = server.markup; texts = server.texts } };
+    ghost view = { λ server. record { phase = server.phase; has_exited = server.has_exited; encoding = server.encoding; client = server.client; texts = server.texts } };
 }
 
 impl Service for Server {
@@ -105,7 +105,7 @@ impl Server {
             phase: ServerPhase::Uninitialized,
             has_exited: false,
             encoding: Encoding::Utf16,
-            markup: Markup::Plain,
+            client: Client::new(),
             texts: OpenTexts::new(alloc),
         }
     }
@@ -199,9 +199,10 @@ impl Server {
         };
         let deck = QueriedText {
             uri,
+            version: self.texts.version(uri),
             document,
             encoding: self.encoding,
-            markup: self.markup,
+            client: self.client,
         };
         let told = answer(self.alloc, query, params, deck)?;
         Ok(Owed::by(told))
@@ -237,14 +238,16 @@ impl Server {
     fn deck_in<'a>(&'a self, params: &'a Value) -> Option<QueriedText<'a>>
         ensures deck { option_map open_of result ≡ requests.open_in (view params.now) self.now }
         ensures encoding { IfSome result (λ deck. deck.encoding ≡ self.now.encoding) }
+        ensures client { IfSome result (λ deck. deck.client ≡ self.now.client) }
     {
         let uri = uri_in(params)?;
         let document = self.texts.find(uri)?;
         Some(QueriedText {
             uri,
+            version: self.texts.version(uri),
             document,
             encoding: self.encoding,
-            markup: self.markup,
+            client: self.client,
         })
     }
 
@@ -256,7 +259,7 @@ impl Server {
             (ServerPhase::Uninitialized, RequestMethod::Initialize) => {
                 self.phase = ServerPhase::Running;
                 self.encoding = encoding_in(params);
-                self.markup = markup_in(params);
+                self.client = client_in(params);
             }
             (ServerPhase::Running, RequestMethod::Shutdown) => self.phase = ServerPhase::ShutDown,
             _ => {}
@@ -362,7 +365,7 @@ impl Server {
         let list = list_of(self.alloc, self.encoding, &document)?;
         say_list(self.alloc, told, &list, said)?;
         drop(self.texts.take(told.uri));
-        self.texts.push(told.uri, document)
+        self.texts.push(told, document)
     }
 }
 

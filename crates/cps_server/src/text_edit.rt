@@ -1,8 +1,9 @@
 //! Edits of a text, as an editor makes them.
 ghost use Rattle.std.specs.Prelude.{◌≡◌, map, IfOk, Some};
 ghost use Rattle.serde_json.specs.View.{view};
-ghost use Rattle.cps_server.specs.Code.Renaming.{edit_of, edits_of};
-ghost use Rattle.cps_server.specs.Renames.{change_of, edit_json, edits_json, workspace_edit};
+ghost use Rattle.cps_server.specs.Code.Renaming.{edit_of, edits_of, open_of, versioned};
+ghost use Rattle.cps_server.specs.Renames as renames;
+ghost use Rattle.cps_server.specs.Renames.{change_of, edit_json, edits_json, edits_told, version_json};
 
 use crate::mentions::line_of;
 use crate::queried_text::QueriedText;
@@ -71,12 +72,46 @@ impl<'a> TextEdit<'a> {
     }
 }
 
-/// Edits of the document of a URI, as an editor is told them.
-pub fn tell_edits(alloc: Global, uri: &str, edits: &[TextEdit<'_>]) -> Result<Value, AllocError>
-    ensures { IfOk result (λ json. view json ≡ workspace_edit uri.now (edits_of edits.now)) }
+/// Edits of a deck, as its editor is told them.
+pub fn tell_edits(
+    alloc: Global,
+    deck: QueriedText<'_>,
+    edits: &[TextEdit<'_>],
+) -> Result<Value, AllocError>
+    ensures { IfOk result (λ json. view json ≡ edits_told deck.entry.client (open_of deck.entry) (edits_of edits.now)) }
 {
     let list = list_edits(alloc, edits)?;
+    if deck.client.takes_versions {
+        return tell_versioned(alloc, deck, list);
+    }
+    let uri = deck.uri;
     json!(in alloc; {"changes": {uri: list}})
+}
+
+/// A list of edits of the version that a deck has.
+fn tell_versioned(alloc: Global, deck: QueriedText<'_>, list: Value) -> Result<Value, AllocError>
+    ensures { IfOk result (λ json. view json ≡ versioned deck.entry.uri.now deck.entry.version (view list)) }
+{
+    let version = version_value(deck.version);
+    let document = told_version(alloc, deck.uri, version)?;
+    json!(in alloc; {"documentChanges": [{"edits": list, "textDocument": document}]})
+}
+
+/// A version of the document of a URI.
+fn told_version(alloc: Global, uri: &str, version: Value) -> Result<Value, AllocError>
+    ensures { IfOk result (λ json. view json ≡ renames.told_version uri.now (view version)) }
+{
+    json!(in alloc; {"uri": uri, "version": version})
+}
+
+/// A version; null where it isn't known.
+fn version_value(version: Option<i64>) -> Value
+    ensures { view result ≡ version_json version }
+{
+    match version {
+        Some(version) => Value::from(version),
+        None => Value::Null,
+    }
 }
 
 /// Edits as an editor is told them, in a list.

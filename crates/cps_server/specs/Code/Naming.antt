@@ -39,10 +39,10 @@ TellsNamedHighlights deck position json =
     TellsNamed deck position (λ mention spots. told.spot_highlights deck.encoding deck.document.now spots) json
 
 abbrev pub TellsHover : QueriedText → Position → Data → Type 0
-TellsHover deck position json = hovers.TellsHover deck.encoding deck.markup deck.document.now position json
+TellsHover deck position json = hovers.TellsHover deck.encoding deck.client.markup deck.document.now position json
 
 abbrev pub ShowsNamed : QueriedText → Position → Data → Type 0
-ShowsNamed deck position json = hovers.ShowsNamed deck.encoding deck.markup deck.document.now position json
+ShowsNamed deck position json = hovers.ShowsNamed deck.encoding deck.client.markup deck.document.now position json
 
 -- the mention that is lent
 abbrev pub lent : Option (Bor Mention) → Option Mention

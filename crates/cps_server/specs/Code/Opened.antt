@@ -5,7 +5,7 @@ use Rattle.cps_server.specs.ServerState.{OpenText, is_under, open_under}
 use Rattle.cps_server.specs.declared.open_texts.OpenText as code
 
 abbrev pub value_of : code.OpenText → OpenText
-value_of one = record { uri = string_bytes one.uri; text = one.document }
+value_of one = record { uri = string_bytes one.uri; version = one.version; text = one.document }
 
 -- what is open under a URI stands here
 pub record IsFirst (uri : List ℕ) (list : List code.OpenText) (at : ℕ) : Type 0 where

@@ -27,5 +27,5 @@ returns c =
       stand = subst (λ mention. AreSpots (said_of mentions mention) spots) named c.in_ok-spots.ensures;
       shown = shown;
       shows = subst (λ front. ShowsBehind text line front shown) front c.in_ok-shown.ensures;
-      is = is ∙ ap (hover c.args.deck.markup shown) range;
+      is = is ∙ ap (hover c.args.deck.client.markup shown) range;
     }) c.hover.ensures

@@ -14,7 +14,7 @@ returns c =
     let inside = c.self.inside in
     let one = opened.value_of c.in-Some.open in
     let all = map value_of c.args.changes.now in
-    let mid : ServerState = record { phase = inside.phase; has_exited = inside.has_exited; encoding = inside.encoding; markup = inside.markup; texts = c.take.new.self } in
+    let mid : ServerState = record { phase = inside.phase; has_exited = inside.has_exited; encoding = inside.encoding; client = inside.client; texts = c.take.new.self } in
     let there : open_under uri c.args.self.now.texts ≡ Some one =
     ap (λ (s : ServerState). open_under uri s.texts) (sym c.self.view_is) ∙ sym c.take.ensures.open ∙ ap (option_map opened.value_of) c.in-Some.is in
     let moved : mid ≡ record c.args.self.now { texts = without uri c.args.self.now.texts } =

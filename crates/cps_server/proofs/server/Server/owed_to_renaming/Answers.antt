@@ -15,7 +15,8 @@ returns c =
     let deck = c.in-Some.deck in
     let wish = wish_of c.in-Some-of.wish in
     if-ok-as c.owed_rename.result
-    (λ owed is. asks (open_in params server) (wish_in params) (λ one wish json. TellsRename server.encoding one.uri one.text wish json) (open_of deck) wish
+    (λ owed is. asks (open_in params server) (wish_in params) (λ one wish json. TellsRename server.encoding server.client one wish json) (open_of deck) wish
     (value_of owed) c.in-Some.ensures.deck c.in-Some-of.ensures
-    (subst (λ encoding. IsOwed (TellsRename encoding deck.uri.now deck.document.now wish) (value_of owed)) c.in-Some.ensures.encoding is))
+    (subst (λ client. IsOwed (TellsRename server.encoding client (open_of deck) wish) (value_of owed)) c.in-Some.ensures.client
+    (subst (λ encoding. IsOwed (TellsRename encoding deck.client (open_of deck) wish) (value_of owed)) c.in-Some.ensures.encoding is)))
     c.owed_rename.ensures
