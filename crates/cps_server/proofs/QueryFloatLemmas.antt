@@ -36,7 +36,8 @@ use Rattle.cps_mention.specs.declared.spot.Spot.{Spot}
 use Rattle.cps_mention.specs.declared.stretch.Stretch.{Stretch}
 use Rattle.cps_mention.specs.Spots.{definitions as defined_spots, stretch_at}
 use Rattle.cps_server.specs.Hovers.{ShowsNamed, TellsHover, range_of_mention}
-use Rattle.cps_server.specs.Locations.{TellsDefinition, TellsHighlights, TellsReferences, caret_at, counted_by, named_at, spot_highlight, spot_highlights, spot_location, spot_locations, stretch_range, wanted}
+use Rattle.cps_server.specs.Locations.{TellsDefined, TellsDefinition, TellsHighlights, TellsPlaces, TellsReferences, caret_at, counted_by, named_at, spot_highlight, spot_highlights, spot_location, spot_locations, stretch_range, wanted}
+use Rattle.cps_server.specs.Openers.{TellsOpener, TellsPartner, TellsPartners}
 use Rattle.cps_server.specs.Symbols.{definitions, line_of, mentions_at, mentions_in, wanted as words_wanted}
 
 abbrev is_yes : Bool → Type 0
@@ -153,12 +154,19 @@ completions-no-float range none [] = refl
 completions-no-float range none (offer ∷ offers) =
     ap (λ b. ((b || false) || false) || items_have_float (items_of (map (completion range) offers))) none ∙ completions-no-float range none offers
 
-definition-no-float : (encoding : Encoding) (uri text : List ℕ) (position : Position) (json : Data)
-    → TellsDefinition encoding uri text position json → has_float json ≡ false
-definition-no-float encoding uri text position json tells =
+defined-no-float : (encoding : Encoding) (uri text : List ℕ) (position : Position) (json : Data)
+    → TellsDefined encoding uri text position json → has_float json ≡ false
+defined-no-float encoding uri text position json tells =
     ⊎_elim (λ named. ap has_float named.is
     ∙ locations-no-float encoding uri text (counted_by (named_at encoding text position named.mentions) (defined_spots named.spots)))
     (λ words. first-no-float uri (definitions (mentions_at encoding text position)) json words) tells
+
+definition-no-float : (encoding : Encoding) (uri text : List ℕ) (position : Position) (json : Data)
+    → TellsDefinition encoding uri text position json → has_float json ≡ false
+definition-no-float encoding uri text position json tells =
+    ⊎_elim (λ (opener : TellsOpener encoding uri text position json).
+    ap has_float opener.is ∙ ap (λ b. (b || false) || false) (range-no-float opener.line opener.range opener.in_line))
+    (λ (names : TellsDefined encoding uri text position json). defined-no-float encoding uri text position json names) tells
 
 references-no-float : (too : Bool) (encoding : Encoding) (uri text : List ℕ) (position : Position) (json : Data)
     → TellsReferences too encoding uri text position json → has_float json ≡ false
@@ -166,11 +174,20 @@ references-no-float too encoding uri text position json tells =
     ⊎_elim (λ named. ap has_float named.is ∙ locations-no-float encoding uri text (wanted too named.spots))
     (λ words. list-no-float (TellsMention uri) (mention-no-float uri) (words_wanted too (mentions_at encoding text position)) json words) tells
 
+places-no-float : (encoding : Encoding) (text : List ℕ) (position : Position) (json : Data)
+    → TellsPlaces encoding text position json → has_float json ≡ false
+places-no-float encoding text position json tells =
+    ⊎_elim (λ named. ap has_float named.is ∙ highlights-no-float encoding text named.spots)
+    (λ words. list-no-float TellsHighlight highlight-no-float (mentions_at encoding text position) json words) tells
+
+partner-no-float : (line : ℕ) (json : Data) → TellsPartner line json → has_float json ≡ false
+partner-no-float line json tells = ap has_float tells.2 ∙ ap (λ b. b || false) (range-no-float _ tells.0 tells.1)
+
 marked-no-float : (encoding : Encoding) (text : List ℕ) (position : Position) (json : Data)
     → TellsHighlights encoding text position json → has_float json ≡ false
 marked-no-float encoding text position json tells =
-    ⊎_elim (λ named. ap has_float named.is ∙ highlights-no-float encoding text named.spots)
-    (λ words. list-no-float TellsHighlight highlight-no-float (mentions_at encoding text position) json words) tells
+    ⊎_elim (λ (partners : TellsPartners encoding text position json). list-no-float TellsPartner partner-no-float partners.lines json partners.each)
+    (λ (places : TellsPlaces encoding text position json). places-no-float encoding text position json places) tells
 
 lines-no-float : (is_comment : Bool) (first last : ℕ) → has_float (lines_json is_comment first last) ≡ false
 lines-no-float true first last = refl

@@ -7,6 +7,7 @@ pub mod Rows
 pub mod Ranges
 pub mod Results
 pub mod Locations
+pub mod Openers
 pub mod Hovers
 pub mod Fields
 pub mod MachineAbove

@@ -15,6 +15,7 @@ use Rattle.cps_rpc.specs.declared.encoding.Encoding.{Encoding}
 use Rattle.cps_rpc.specs.declared.position.Position.{Position}
 use Rattle.cps_rpc.specs.Positions.{place_in}
 use Rattle.cps_server.specs.Document.{source_of_text}
+use Rattle.cps_server.specs.Openers.{TellsOpener, TellsPartners}
 use Rattle.cps_server.specs.Ranges.{columns_range, location}
 use Rattle.cps_server.specs.Results.{TellsEach, TellsFirst, TellsHighlight, TellsMention, highlight}
 use Rattle.cps_server.specs.Symbols as words
@@ -78,10 +79,10 @@ spot_highlights encoding text spots = array (items_of (map (spot_highlight encod
 abbrev pub wanted : Bool → List Spot → List Spot
 wanted definitions_too spots = filter (λ spot. definitions_too || not (is_definition spot.kind)) spots
 
--- ---- what is told, by mentions, or else by the words of lines
+-- ---- what is told of names, by mentions, or else by the words of lines
 
-abbrev pub TellsDefinition : Encoding → List ℕ → List ℕ → Position → Data → Type 0
-TellsDefinition encoding uri text position json =
+abbrev pub TellsDefined : Encoding → List ℕ → List ℕ → Position → Data → Type 0
+TellsDefined encoding uri text position json =
     TellsNamed encoding text position (λ mention spots. spot_locations encoding uri text (counted_by mention (definitions spots))) json
     ⊎ TellsFirst uri (words.definitions (words.mentions_at encoding text position)) json
 
@@ -90,7 +91,15 @@ TellsReferences definitions_too encoding uri text position json =
     TellsNamed encoding text position (λ mention spots. spot_locations encoding uri text (wanted definitions_too spots)) json
     ⊎ TellsEach (TellsMention uri) (words.wanted definitions_too (words.mentions_at encoding text position)) json
 
-abbrev pub TellsHighlights : Encoding → List ℕ → Position → Data → Type 0
-TellsHighlights encoding text position json =
+abbrev pub TellsPlaces : Encoding → List ℕ → Position → Data → Type 0
+TellsPlaces encoding text position json =
     TellsNamed encoding text position (λ mention spots. spot_highlights encoding text spots) json
     ⊎ TellsEach TellsHighlight (words.mentions_at encoding text position) json
+
+-- ---- what is told: of lines that open others, or else of names
+
+abbrev pub TellsDefinition : Encoding → List ℕ → List ℕ → Position → Data → Type 0
+TellsDefinition encoding uri text position json = TellsOpener encoding uri text position json ⊎ TellsDefined encoding uri text position json
+
+abbrev pub TellsHighlights : Encoding → List ℕ → Position → Data → Type 0
+TellsHighlights encoding text position json = TellsPartners encoding text position json ⊎ TellsPlaces encoding text position json

@@ -48,6 +48,7 @@
 //! - `notice.rt`: the notifications that a server hears
 //! - `offers.rt`: words that are offered
 //! - `open_texts.rt`: the texts that are open
+//! - `openers.rt`: lines that open, part and close others
 //! - `operand_words.rt`: the words of operands
 //! - `operations.rt`: the names of operations
 //! - `outlined.rt`: a row of an outline, as it is told
@@ -126,6 +127,7 @@ mod nearest;
 mod notice;
 mod offers;
 mod open_texts;
+mod openers;
 mod operand_words;
 mod operations;
 mod outlined;

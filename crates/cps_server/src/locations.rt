@@ -11,6 +11,7 @@ ghost use Rattle.cps_server.specs.Code.Naming.{lent};
 
 use crate::document::Document;
 use crate::mentions::line_of;
+use crate::openers::{opener_at, partners_at};
 use crate::queried_text::QueriedText;
 use crate::ranges::columns_range;
 use crate::word_locations::{
@@ -25,13 +26,23 @@ use cps_rpc::{Position, place_in};
 use serde_json::Value;
 use std::alloc::{AllocError, Global};
 
-/// Where the name at a position is defined. Of a symbol that SET gives several values these are the definitions that counted there. It takes time for each line of the text.
+/// Where the name at a position is defined, or what opened the lines that its operation parts or closes. Of a symbol that SET gives several values these are the
+/// definitions that counted there. It takes time for each line of the text.
 pub fn definition_at(
     alloc: Global,
     deck: QueriedText<'_>,
     position: Position,
 ) -> Result<Value, AllocError>
     ensures { IfOk result (λ json. decks.TellsDefinition deck.entry position (view json)) }
+{
+    match opener_at(alloc, deck, position)? {
+        Some(told) => Ok(told),
+        None => defined_at(alloc, deck, position),
+    }
+}
+
+fn defined_at(alloc: Global, deck: QueriedText<'_>, position: Position) -> Result<Value, AllocError>
+    ensures { IfOk result (λ json. decks.TellsDefined deck.entry position (view json)) }
 {
     match known_mentions(alloc, deck.document)? {
         Some(mentions) => tell_definition(alloc, deck, &mentions, position),
@@ -54,13 +65,23 @@ pub fn references_at(
     }
 }
 
-/// The same with where it is defined, each as it counts. It takes time for each line of the text.
+/// The same with where it is defined, each as it counts; or the operations that open, part and close the same lines as the one at the position. It takes time
+/// for each line of the text.
 pub fn highlights_at(
     alloc: Global,
     deck: QueriedText<'_>,
     position: Position,
 ) -> Result<Value, AllocError>
     ensures { IfOk result (λ json. decks.TellsHighlights deck.entry position (view json)) }
+{
+    match partners_at(alloc, deck, position)? {
+        Some(told) => Ok(told),
+        None => places_at(alloc, deck, position),
+    }
+}
+
+fn places_at(alloc: Global, deck: QueriedText<'_>, position: Position) -> Result<Value, AllocError>
+    ensures { IfOk result (λ json. decks.TellsPlaces deck.entry position (view json)) }
 {
     match known_mentions(alloc, deck.document)? {
         Some(mentions) => tell_highlights(alloc, deck, &mentions, position),

@@ -20,7 +20,7 @@ pub fn begins_word(line: &[u8], at: usize) -> bool
 }
 
 /// The word around a place in a line.
-fn word_around(line: &[u8], at: usize) -> &[u8]
+pub fn word_around(line: &[u8], at: usize) -> &[u8]
     requires { at ≤ length line.now }
     ensures { result.now ≡ words.word_around line.now at }
 {

@@ -9,9 +9,22 @@ use Rattle.cps_rpc.specs.declared.position.Position.{Position}
 use Rattle.cps_server.specs.declared.queried_text.QueriedText.{QueriedText}
 use Rattle.cps_server.specs.Hovers as hovers
 use Rattle.cps_server.specs.Locations as told
+use Rattle.cps_server.specs.Openers as openers
 
 abbrev pub TellsDefinition : QueriedText → Position → Data → Type 0
 TellsDefinition deck position json = told.TellsDefinition deck.encoding deck.uri.now deck.document.now position json
+
+abbrev pub TellsDefined : QueriedText → Position → Data → Type 0
+TellsDefined deck position json = told.TellsDefined deck.encoding deck.uri.now deck.document.now position json
+
+abbrev pub TellsPlaces : QueriedText → Position → Data → Type 0
+TellsPlaces deck position json = told.TellsPlaces deck.encoding deck.document.now position json
+
+abbrev pub TellsOpener : QueriedText → Position → Data → Type 0
+TellsOpener deck position json = openers.TellsOpener deck.encoding deck.uri.now deck.document.now position json
+
+abbrev pub TellsPartners : QueriedText → Position → Data → Type 0
+TellsPartners deck position json = openers.TellsPartners deck.encoding deck.document.now position json
 
 abbrev pub TellsReferences : Bool → QueriedText → Position → Data → Type 0
 TellsReferences definitions_too deck position json = told.TellsReferences definitions_too deck.encoding deck.uri.now deck.document.now position json
