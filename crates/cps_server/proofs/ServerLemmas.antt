@@ -11,7 +11,7 @@ use Rattle.cps_rpc.specs.Outgoing.{refusal}
 use Rattle.cps_server.specs.Answers.{Hears, IsAnswered}
 use Rattle.cps_server.specs.Diagnostics.{published}
 use Rattle.cps_server.specs.Frames.{frame_of_json}
-use Rattle.cps_server.specs.Notices.{TakesText, Opens, OpensBy, ChangesText, ClosesText, changed_by}
+use Rattle.cps_server.specs.Notices.{TakesText, Opens, OpensBy, ChangesText, ClosesText, changed_by, listener}
 use Rattle.cps_server.specs.Requests.{Owed, Owes, after_request, answer_with, request_named}
 use Rattle.cps_server.specs.Code.Said.{Adds}
 use Rattle.cps_server.specs.ServerState.{OpenText, ServerState, open_under, with_text, without}
@@ -23,7 +23,7 @@ use Rattle.cps_server.proofs.WritingLemmas.{published-written}
 -- ---- texts
 
 pub takes : (old new : ServerState) (uri : List ℕ) (version : Option ℤ) (text list said now : List ℕ)
-    → ListsText old.encoding text list → now ≡ said ++ frame_of (published_text uri version list)
+    → ListsText (listener old uri) text list → now ≡ said ++ frame_of (published_text uri version list)
     → new ≡ record old { texts = with_text (record { uri = uri; version = version; text = text }) old.texts }
     → Adds (λ news. TakesText old uri version text news new) said now
 takes old new uri version text list said now lists added moves =

@@ -1,18 +1,28 @@
--- What an editor is told of a text: a diagnostic for each mark, up to 1,000. From the Language Server Protocol 3.17; the limit is our own.
-use Rattle.std.specs.Prelude.{◌≡◌, ℕ, ℤ, List, [], ◌∷◌, ◌++◌, length, take, drop, Option, Some, None, codes, decimal, slice_index_or}
-use Rattle.std.specs.List.{AllZip}
+-- What an editor is told of a text: a diagnostic for each mark, up to 1,000, and of lines that nothing assembles. From the Language Server Protocol 3.17; the
+-- limit is our own.
+use Rattle.std.specs.Prelude.{◌≡◌, ℕ, ℤ, ◌<◌, ◌≤◌, Bool, true, false, List, [], ◌∷◌, ◌++◌, length, take, drop, Option, Some, None, ⊤, codes, decimal, slice_index_or}
+use Rattle.std.specs.List.{All, AllZip}
 use Rattle.serde_json.specs.Data.{Data, unsigned, number, string, array, object, Members, no_members, member}
 use Rattle.serde_json.specs.Find.{of_integer}
 use Rattle.serde_json.specs.View.{items_of}
+use Rattle.cps_rpc.specs.declared.client.Client.{Client}
 use Rattle.cps_rpc.specs.declared.encoding.Encoding.{Encoding}
 use Rattle.cps_rpc.specs.Lines.{source_lines}
 use Rattle.cps_cause.specs.declared.letter.Letter.{Letter}
 use Rattle.cps_cause.specs.declared.letter.Letter.TheVariants.{A, D, E, L, O, T, U, V}
 use Rattle.cps_rpc.specs.Outgoing.{notification}
-use Rattle.cps_server.specs.Ranges.{columns_range}
+use Rattle.cps_server.specs.Document.{source_of_text}
+use Rattle.cps_server.specs.Ranges.{columns_range, location, range_between, told_units}
+use Rattle.cps_server.specs.Symbols.{line_of}
 use Rattle.cps_server.specs.declared.mark_kind.MarkKind.{MarkKind}
 use Rattle.cps_server.specs.declared.mark_kind.MarkKind.TheVariants.{Flag, Wrong}
 use Rattle.cps_server.specs.Marks.{Mark, Marks}
+
+-- Who is told marks: an editor that counts positions in this way and takes this, of the document of a URI.
+pub record Listener : Type 0 where
+  pub encoding : Encoding
+  pub client : Client
+  pub uri : List ℕ
 
 -- ---- a diagnostic
 
@@ -35,24 +45,52 @@ letter_name T = codes "T"
 letter_name U = codes "U"
 letter_name V = codes "V"
 
--- what compass reports of a range, with a message: an error has severity 1, and information severity 3
-abbrev pub report : ℕ → Data → List ℕ → Members
-report severity range message =
-    member (codes "message") (string message) (member (codes "range") range
-    (member (codes "severity") (number (unsigned severity)) (member (codes "source") (string (codes "compass")) no_members)))
+-- another place to which a diagnostic leads, with words about it
+abbrev pub relation : Data → List ℕ → Data
+relation place words = object (member (codes "location") place (member (codes "message") (string words) no_members))
+
+abbrev pub with_relation : Option Data → Members → Members
+with_relation None members = members
+with_relation (Some json) members = member (codes "relatedInformation") (array (items_of (json ∷ []))) members
+
+-- the tag of what is unnecessary
+abbrev pub tags : Bool → Members
+tags false = no_members
+tags true = member (codes "tags") (array (items_of (number (unsigned 1) ∷ []))) no_members
+
+-- what compass reports of a range, with a message, perhaps with another place, or as unnecessary: an error has severity 1, information 3, and a hint 4
+abbrev pub report : ℕ → Data → List ℕ → Option Data → Bool → Members
+report severity range message place is_unnecessary =
+    member (codes "message") (string message) (member (codes "range") range (with_relation place
+    (member (codes "severity") (number (unsigned severity)) (member (codes "source") (string (codes "compass")) (tags is_unnecessary)))))
 
 -- an error; a flag is told with its letter
-abbrev pub diagnostic : MarkKind → Data → List ℕ → Data
-diagnostic (Flag letter) range message = object (member (codes "code") (string (letter_name letter)) (report 1 range message))
-diagnostic Wrong range message = object (report 1 range message)
+abbrev pub diagnostic : MarkKind → Data → List ℕ → Option Data → Data
+diagnostic (Flag letter) range message place = object (member (codes "code") (string (letter_name letter)) (report 1 range message place false))
+diagnostic Wrong range message place = object (report 1 range message place false)
 
--- the diagnostic of a mark in a source of these lines; its message is free
-abbrev pub TellsMark : Encoding → List (List ℕ) → Mark → Data → Type 0
-TellsMark encoding lines mark json = (message : List ℕ) × (json ≡ diagnostic mark.kind (range_among encoding lines mark) message)
+-- another place of a text of these lines; which one, and what is said of it, is free
+pub record IsRelation (to : Listener) (lines : List (List ℕ)) (json : Data) : Type 0 where
+  pub takes : to.client.takes_relations ≡ true
+  pub line : ℕ
+  pub first : ℕ
+  pub last : ℕ
+  pub words : List ℕ
+  pub there : line < length lines
+  pub is : json ≡ relation (location to.uri (columns_range to.encoding (slice_index_or lines line []) line first last)) words
+
+abbrev pub MayRelate : Listener → List (List ℕ) → Option Data → Type 0
+MayRelate to lines None = ⊤
+MayRelate to lines (Some json) = IsRelation to lines json
+
+-- the diagnostic of a mark in a source of these lines; its message is free, and whether it leads to another place
+abbrev pub TellsMark : Listener → List (List ℕ) → Mark → Data → Type 0
+TellsMark to lines mark json =
+    (message : List ℕ) × (place : Option Data) × MayRelate to lines place × (json ≡ diagnostic mark.kind (range_among to.encoding lines mark) message place)
 
 -- marks are told, each by a diagnostic, and nothing else
-abbrev pub TellsMarks : Encoding → List (List ℕ) → List Mark → List Data → Type 0
-TellsMarks encoding lines marks told = AllZip (TellsMark encoding lines) marks told
+abbrev pub TellsMarks : Listener → List (List ℕ) → List Mark → List Data → Type 0
+TellsMarks to lines marks told = AllZip (TellsMark to lines) marks told
 
 -- ---- more marks
 
@@ -68,7 +106,20 @@ more_message count = codes "and " ++ decimal count ++ codes " more from here on"
 abbrev pub told_of_more : Encoding → List (List ℕ) → List Mark → List Data
 told_of_more encoding lines [] = []
 told_of_more encoding lines (mark ∷ marks) =
-    object (report 3 (range_among encoding lines mark) (more_message (length (mark ∷ marks)))) ∷ []
+    object (report 3 (range_among encoding lines mark) (more_message (length (mark ∷ marks))) None false) ∷ []
+
+-- ---- lines that nothing assembles
+
+-- lines of a text that are unnecessary, up to a place of the last one; which lines these are, and what is said of them, is free
+pub record TellsIdle (to : Listener) (text : List ℕ) (json : Data) : Type 0 where
+  pub takes : to.client.takes_unnecessary ≡ true
+  pub first : ℕ
+  pub last : ℕ
+  pub place : ℕ
+  pub message : List ℕ
+  pub forward : first ≤ last
+  pub within : last < length (source_of_text text)
+  pub is : json ≡ object (report 4 (range_between first 0 last (told_units to.encoding (line_of text last) place)) message None true)
 
 -- ---- a text
 
@@ -81,10 +132,12 @@ told_of uri (Some version) list =
 abbrev pub published : List ℕ → Option ℤ → List Data → Data
 published uri version told = notification (codes "textDocument/publishDiagnostics") (told_of uri version (array (items_of told)))
 
--- the marks of a text are told, and nothing else: the first 1,000 one by one, and how many more there are
-pub record TellsText (encoding : Encoding) (text : List ℕ) (told : List Data) : Type 0 where
+-- the marks of a text are told: the first 1,000 one by one, and how many more there are; beside them only lines that nothing assembles
+pub record TellsText (to : Listener) (text : List ℕ) (told : List Data) : Type 0 where
   pub marks : List Mark
   pub of_text : Marks text marks
   pub first : List Data
-  pub each : TellsMarks encoding (source_lines text) (take most_told marks) first
-  pub all : told ≡ first ++ told_of_more encoding (source_lines text) (drop most_told marks)
+  pub each : TellsMarks to (source_lines text) (take most_told marks) first
+  pub idle : List Data
+  pub each_idle : All (TellsIdle to text) idle
+  pub all : told ≡ first ++ (told_of_more to.encoding (source_lines text) (drop most_told marks) ++ idle)

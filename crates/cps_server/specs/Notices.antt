@@ -8,7 +8,7 @@ use Rattle.cps_server.specs.declared.notice.Notice.{Notice}
 use Rattle.cps_server.specs.declared.notice.Notice.TheVariants.{Exit, Open, Change as ChangeNotice, Close, Unknown}
 use Rattle.cps_server.specs.declared.server_phase.ServerPhase.{ServerPhase}
 use Rattle.cps_server.specs.declared.server_phase.ServerPhase.TheVariants.{Uninitialized, Running, ShutDown}
-use Rattle.cps_server.specs.Diagnostics.{TellsText, published}
+use Rattle.cps_server.specs.Diagnostics.{Listener, TellsText, published}
 use Rattle.cps_server.specs.ServerState.{OpenText, ServerState, open_under, with_text, without}
 
 -- the notification of a method
@@ -23,10 +23,14 @@ notice_named method =
 abbrev pub IsSilent : ServerState → List Data → ServerState → Type 0
 IsSilent old said new = (said ≡ []) × (new ≡ old)
 
+-- who is told the marks of a text
+abbrev pub listener : ServerState → List ℕ → Listener
+listener server uri = record { encoding = server.encoding; client = server.client; uri = uri }
+
 -- a text is open under a URI, and its marks are told
 pub record TakesText (old : ServerState) (uri : List ℕ) (version : Option ℤ) (text : List ℕ) (said : List Data) (new : ServerState) : Type 0 where
   pub told : List Data
-  pub tells : TellsText old.encoding text told
+  pub tells : TellsText (listener old uri) text told
   pub says : said ≡ published uri version told ∷ []
   pub moves : new ≡ record old { texts = with_text (record { uri = uri; version = version; text = text }) old.texts }
 

@@ -14,9 +14,13 @@ told_units encoding line place = min (units_before encoding line place) (2 ^ 32 
 abbrev pub position : ℕ → ℕ → Data
 position line character = object (member (codes "character") (number (unsigned character)) (member (codes "line") (number (unsigned line)) no_members))
 
--- in a line, from so many units up to others
+-- from so many units of a line up to others of a line
+abbrev pub range_between : ℕ → ℕ → ℕ → ℕ → Data
+range_between line start last end = object (member (codes "end") (position last end) (member (codes "start") (position line start) no_members))
+
+-- in a line
 abbrev pub range_of : ℕ → ℕ → ℕ → Data
-range_of line start end = object (member (codes "end") (position line end) (member (codes "start") (position line start) no_members))
+range_of line start end = range_between line start line end
 
 -- that of columns of a line, from its first through its last
 abbrev pub columns_range : Encoding → List ℕ → ℕ → ℕ → ℕ → Data

@@ -1,14 +1,12 @@
 //! A diagnostic, as it is written.
-ghost use Rattle.std.specs.Prelude.{◌≡◌, ◌-◌, ◌++◌, OnOk};
+ghost use Rattle.std.specs.Prelude.{◌≡◌, ◌++◌, OnOk};
 ghost use Rattle.cps_server.specs.declared.mark_kind.MarkKind.TheVariants.{Flag, Wrong};
-ghost use Rattle.cps_server.specs.Ranges.{told_units};
 ghost use Rattle.cps_server.specs.Diagnostics as diagnostics;
-ghost use Rattle.cps_server.specs.Code.Writing.{diagnostic_text, information_text, message_text, position_text, range_text, report_text};
+ghost use Rattle.cps_server.specs.Code.Writing.{columns_stretch, diagnostic_text, idle_text, information_text, message_text, position_text, range_text, relation_text, report_text, tags_text};
 
-use crate::mark::Mark;
 use crate::mark_kind::MarkKind;
 use crate::writing::push_string;
-use cps_cause::Letter;
+use cps_cause::{Columns, Letter};
 use cps_list::push_decimal;
 use cps_rpc::{Encoding, units_before};
 use std::alloc::{AllocError, Global};
@@ -18,44 +16,65 @@ const ERROR: u64 = 1;
 
 const INFORMATION: u64 = 3;
 
-/// Where a diagnostic shows: its line, from 0, and the units there before its first column and through its last.
+const HINT: u64 = 4;
+
+/// The tag of what is unnecessary, as the protocol counts.
+const UNNECESSARY: u64 = 1;
+
+/// Where a diagnostic shows: from so many units of a line up to others of the last line. Lines count from 0.
 #[derive(Clone, Copy)]
 pub struct Stretch {
     pub line: u32,
     pub start: u32,
+    pub last: u32,
     pub end: u32,
 }
 
 impl Stretch {
-    /// Where a mark of this line shows.
-    pub fn of(encoding: Encoding, line: &[u8], mark: &Mark) -> Stretch
-        ensures { result ≡ record {
-          line = mark.now.line;
-          start = told_units encoding line.now (mark.now.columns.first - 1);
-          end = told_units encoding line.now mark.now.columns.last;
-        } }
+    /// Columns of a line of a number: from the first through the last.
+    pub fn of(encoding: Encoding, line: &[u8], number: u32, columns: Columns) -> Stretch
+        ensures { result ≡ columns_stretch encoding line.now number columns.first columns.last }
     {
         Stretch {
-            line: mark.line,
-            start: units_before(encoding, line, mark.columns.first.saturating_sub(1)),
-            end: units_before(encoding, line, mark.columns.last),
+            line: number,
+            start: units_before(encoding, line, columns.first.saturating_sub(1)),
+            last: number,
+            end: units_before(encoding, line, columns.last),
         }
     }
 }
 
-/// Appends the diagnostic of what shows here, with a message.
+/// Another place to which a diagnostic leads.
+#[derive(Clone, Copy)]
+pub struct Relation<'a> {
+    /// The URI of its document.
+    pub uri: &'a str,
+    pub stretch: Stretch,
+    /// What stands there.
+    pub words: &'a str,
+}
+
+/// What a diagnostic says.
+#[derive(Clone, Copy)]
+pub struct Report<'a> {
+    pub stretch: Stretch,
+    pub message: &'a str,
+    pub relation: Option<Relation<'a>>,
+}
+
+/// Appends the diagnostic of an error.
 pub fn push_diagnostic(
     alloc: Global,
     text: &mut Vec<u8>,
     kind: MarkKind,
-    stretch: Stretch,
-    message: &str,
+    report: Report<'_>,
 ) -> Result<(), AllocError>
-    ensures { OnOk result (text.new.items ≡ text.old.items ++ diagnostic_text kind stretch message.now) }
+    ensures { OnOk result (text.new.items ≡ text.old.items
+        ++ diagnostic_text kind report.entry.stretch report.entry.message.now report.entry.relation) }
 {
     match kind {
-        MarkKind::Flag(letter) => push_flag(alloc, text, letter, stretch, message),
-        MarkKind::Wrong => push_fault(alloc, text, stretch, message),
+        MarkKind::Flag(letter) => push_flag(alloc, text, letter, report),
+        MarkKind::Wrong => push_fault(alloc, text, report),
     }
 }
 
@@ -64,28 +83,24 @@ fn push_flag(
     alloc: Global,
     text: &mut Vec<u8>,
     letter: Letter,
-    stretch: Stretch,
-    message: &str,
+    report: Report<'_>,
 ) -> Result<(), AllocError>
-    ensures { OnOk result (text.new.items ≡ text.old.items ++ diagnostic_text (Flag letter) stretch message.now) }
+    ensures { OnOk result (text.new.items ≡ text.old.items
+        ++ diagnostic_text (Flag letter) report.entry.stretch report.entry.message.now report.entry.relation) }
 {
     text.extend_from_slice(b"{\"code\":\"")?;
     text.extend_from_slice(letter_name(letter).as_bytes())?;
     text.extend_from_slice(b"\",")?;
-    push_report(alloc, text, ERROR, stretch, message)
+    push_report(alloc, text, ERROR, report, false)
 }
 
 /// Appends the diagnostic of bytes that no line may have.
-fn push_fault(
-    alloc: Global,
-    text: &mut Vec<u8>,
-    stretch: Stretch,
-    message: &str,
-) -> Result<(), AllocError>
-    ensures { OnOk result (text.new.items ≡ text.old.items ++ diagnostic_text Wrong stretch message.now) }
+fn push_fault(alloc: Global, text: &mut Vec<u8>, report: Report<'_>) -> Result<(), AllocError>
+    ensures { OnOk result (text.new.items ≡ text.old.items
+        ++ diagnostic_text Wrong report.entry.stretch report.entry.message.now report.entry.relation) }
 {
     text.extend_from_slice(b"{")?;
-    push_report(alloc, text, ERROR, stretch, message)
+    push_report(alloc, text, ERROR, report, false)
 }
 
 /// Appends the diagnostic of what is no error.
@@ -97,8 +112,31 @@ pub fn push_information(
 ) -> Result<(), AllocError>
     ensures { OnOk result (text.new.items ≡ text.old.items ++ information_text stretch message.now) }
 {
+    let report = Report {
+        stretch,
+        message,
+        relation: None,
+    };
     text.extend_from_slice(b"{")?;
-    push_report(alloc, text, INFORMATION, stretch, message)
+    push_report(alloc, text, INFORMATION, report, false)
+}
+
+/// Appends the diagnostic of what is unnecessary.
+pub fn push_unnecessary(
+    alloc: Global,
+    text: &mut Vec<u8>,
+    stretch: Stretch,
+    message: &str,
+) -> Result<(), AllocError>
+    ensures { OnOk result (text.new.items ≡ text.old.items ++ idle_text stretch message.now) }
+{
+    let report = Report {
+        stretch,
+        message,
+        relation: None,
+    };
+    text.extend_from_slice(b"{")?;
+    push_report(alloc, text, HINT, report, true)
 }
 
 /// Appends what all diagnostics have, and their end.
@@ -106,15 +144,50 @@ fn push_report(
     alloc: Global,
     text: &mut Vec<u8>,
     severity: u64,
-    stretch: Stretch,
-    message: &str,
+    report: Report<'_>,
+    is_unnecessary: bool,
 ) -> Result<(), AllocError>
-    ensures { OnOk result (text.new.items ≡ text.old.items ++ report_text severity stretch message.now) }
+    ensures { OnOk result (text.new.items ≡ text.old.items ++ report_text severity report.entry is_unnecessary) }
 {
-    push_message(alloc, text, stretch, message)?;
+    push_message(alloc, text, report.stretch, report.message)?;
+    push_relation(alloc, text, report.relation)?;
     text.extend_from_slice(b",\"severity\":")?;
     push_decimal(text, severity)?;
-    text.extend_from_slice(b",\"source\":\"compass\"}")
+    text.extend_from_slice(b",\"source\":\"compass\"")?;
+    push_tags(text, is_unnecessary)?;
+    text.extend_from_slice(b"}")
+}
+
+/// Appends another place to which a diagnostic leads.
+fn push_relation(
+    alloc: Global,
+    text: &mut Vec<u8>,
+    relation: Option<Relation<'_>>,
+) -> Result<(), AllocError>
+    ensures { OnOk result (text.new.items ≡ text.old.items ++ relation_text relation.entry) }
+{
+    let Some(place) = relation else {
+        return Ok(());
+    };
+    text.extend_from_slice(b",\"relatedInformation\":[{\"location\":{\"range\":")?;
+    push_range(text, place.stretch)?;
+    text.extend_from_slice(b",\"uri\":")?;
+    push_string(alloc, text, place.uri)?;
+    text.extend_from_slice(b"},\"message\":")?;
+    push_string(alloc, text, place.words)?;
+    text.extend_from_slice(b"}]")
+}
+
+/// Appends the tag of what is unnecessary.
+fn push_tags(text: &mut Vec<u8>, is_unnecessary: bool) -> Result<(), AllocError>
+    ensures { OnOk result (text.new.items ≡ text.old.items ++ tags_text is_unnecessary) }
+{
+    if !is_unnecessary {
+        return Ok(());
+    }
+    text.extend_from_slice(b",\"tags\":[")?;
+    push_decimal(text, UNNECESSARY)?;
+    text.extend_from_slice(b"]")
 }
 
 /// Appends a message, and where it shows.
@@ -137,7 +210,7 @@ fn push_range(text: &mut Vec<u8>, stretch: Stretch) -> Result<(), AllocError>
     ensures { OnOk result (text.new.items ≡ text.old.items ++ range_text stretch) }
 {
     text.extend_from_slice(b"{\"end\":")?;
-    push_position(text, stretch.line, stretch.end)?;
+    push_position(text, stretch.last, stretch.end)?;
     text.extend_from_slice(b",\"start\":")?;
     push_position(text, stretch.line, stretch.start)?;
     text.extend_from_slice(b"}")

@@ -1,22 +1,31 @@
 //! The diagnostics of a text, and how an editor is told them.
-ghost use Rattle.std.specs.Prelude.{◌≡◌, [], ◌++◌, map, IfOk, OnOk, None};
+ghost use Rattle.std.specs.Prelude.{◌≡◌, true, [], ◌++◌, All, length, map, IfOk, IfSome, OnOk, None};
 ghost use Rattle.std.specs.String.{string_bytes};
 ghost use Rattle.cps_rpc.specs.Lines.{source_lines};
 ghost use Rattle.cps_rpc.specs.Frame.{frame_of};
 ghost use Rattle.cps_server.specs.Marks.{place_of};
 ghost use Rattle.cps_server.specs.Diagnostics.{more_message, published};
 ghost use Rattle.cps_server.specs.Frames.{frame_of_json};
-ghost use Rattle.cps_server.specs.Code.Writing.{AddsMark, AddsMarks, ListsText, counted_text, document_text, published_text};
+ghost use Rattle.cps_server.specs.Document.{source_of_text};
+ghost use Rattle.cps_server.specs.Code.Writing.{AddsAllIdle, AddsIdle, AddsMark, AddsMarks, IsIdleAmong, IsOther, ListsText, counted_text, document_text, listener_of, published_text};
 
-use crate::diagnostic::{Stretch, push_diagnostic, push_information};
-use crate::document::Document;
+use crate::diagnostic::{
+    Relation, Report, Stretch, push_diagnostic, push_information, push_unnecessary,
+};
 use crate::first_marks::MOST_TOLD;
+use crate::idle_lines::{IdleLines, idle_lines_of};
+use crate::lead::Lead;
+use crate::leads::lines_led_to;
+use crate::line_marks::LineMarks;
 use crate::mark::Mark;
 use crate::marked_document::MarkedDocument;
 use crate::marking::marks_of;
 use crate::mentions::line_of;
+use crate::queried_text::QueriedText;
 use crate::writing::{push_comma, push_string, push_version};
-use cps_rpc::{Encoding, push_frame};
+use cps_cause::filled_len;
+use cps_list::push_decimal;
+use cps_rpc::{Client, Encoding, push_frame, units_before};
 use std::alloc::{AllocError, Global};
 use std::str;
 
@@ -38,84 +47,226 @@ struct MarksLeft<'a> {
     count: usize,
 }
 
+/// A mark, and the line to which it leads, from 0.
+#[derive(Clone, Copy)]
+struct LedMark<'a> {
+    mark: &'a Mark,
+    line: Option<u32>,
+}
+
 // ---- the list
 
-/// The diagnostics of a document's text, as JSON with no blank in it: of its first 1,000 marks, and one that tells how many more there are.
+/// The diagnostics of a document's text, as JSON with no blank in it: of its first 1,000 marks, one that tells how many more there are, and, where the editor
+/// takes these, of the first 1,000 runs of lines that nothing assembles.
 pub fn list_of(
     alloc: Global,
     encoding: Encoding,
+    client: Client,
+    uri: &str,
     marked: &MarkedDocument,
 ) -> Result<Vec<u8>, AllocError>
-    ensures { IfOk result (λ list. ListsText encoding marked.now list.items) }
+    ensures { IfOk result (λ list. ListsText (record { encoding = encoding; client = client; uri = uri.now }) marked.now list.items) }
 {
-    let document = marked.document();
+    let deck = QueriedText {
+        uri,
+        version: None,
+        document: marked.document(),
+        encoding,
+        client,
+    };
     let marks = marks_of(alloc, marked)?;
     let all = marks.first.as_slice();
     let (first, next) = all.split_at(MOST_TOLD.min(all.len()));
-    let more = marks.count.saturating_sub(MOST_TOLD);
     let mut list = Vec::new(alloc);
     list.push(b'[')?;
-    push_marks(alloc, encoding, document, first, &mut list)?;
+    push_marks(alloc, deck, first, &mut list)?;
     let left = MarksLeft {
         marks: next,
-        count: more,
+        count: marks.count.saturating_sub(MOST_TOLD),
     };
-    push_more(alloc, encoding, document, left, &mut list)?;
+    push_more(alloc, deck, left, &mut list)?;
+    push_all_idle(alloc, deck, marked.marks(), !first.is_empty(), &mut list)?;
     list.push(b']')?;
     Ok(list)
 }
 
-/// Appends the diagnostics of marks in a document's text to the beginning of a list.
+/// Appends the diagnostics of marks in a deck to the beginning of a list.
 fn push_marks(
     alloc: Global,
-    encoding: Encoding,
-    document: &Document,
+    deck: QueriedText<'_>,
     marks: &[Mark],
     list: &mut Vec<u8>,
 ) -> Result<(), AllocError>
-    ensures { OnOk result (AddsMarks encoding (source_lines document.now) (map place_of marks.now) list.old.items list.new.items) }
+    ensures { OnOk result (AddsMarks (listener_of deck.entry) (source_lines deck.entry.document.now) (map place_of marks.now) list.old.items list.new.items) }
 {
+    let leads = lines_led_to(alloc, deck.document, marks)?;
     for (at, mark) in marks.iter().enumerate() {
         push_comma(list, at > 0)?;
-        push_mark(alloc, encoding, document, mark, list)?;
+        let line = line_at(&leads, at);
+        push_mark(alloc, deck, LedMark { mark, line }, list)?;
     }
     Ok(())
 }
 
-/// Appends the diagnostic of a mark in a document's text.
+/// The line of a place among lines.
+fn line_at(lines: &[Option<u32>], at: usize) -> Option<u32> {
+    match lines.get(at) {
+        Some(line) => *line,
+        None => None,
+    }
+}
+
+/// Appends the diagnostic of a mark in a deck. An editor that takes no other place reads at the end of the message to which line it leads.
 fn push_mark(
     alloc: Global,
-    encoding: Encoding,
-    document: &Document,
-    mark: &Mark,
+    deck: QueriedText<'_>,
+    led: LedMark<'_>,
     list: &mut Vec<u8>,
 ) -> Result<(), AllocError>
-    ensures { OnOk result (AddsMark encoding (source_lines document.now) (place_of mark.now) list.old.items list.new.items) }
+    ensures { OnOk result (AddsMark (listener_of deck.entry) (source_lines deck.entry.document.now) (place_of led.entry.mark.now) list.old.items list.new.items) }
 {
-    let line = line_of(document, mark.line);
-    let stretch = Stretch::of(encoding, line, mark);
-    push_diagnostic(alloc, list, mark.kind, stretch, text_of(&mark.message))
+    let Some(line) = line_written(deck, led) else {
+        return push_led(alloc, deck, led, text_of(&led.mark.message), list);
+    };
+    let message = message_with(alloc, led.mark, line)?;
+    push_led(alloc, deck, led, text_of(&message), list)
+}
+
+/// Appends the same with a message, and the other place to which it leads.
+fn push_led(
+    alloc: Global,
+    deck: QueriedText<'_>,
+    led: LedMark<'_>,
+    message: &str,
+    list: &mut Vec<u8>,
+) -> Result<(), AllocError>
+    ensures { OnOk result (AddsMark (listener_of deck.entry) (source_lines deck.entry.document.now) (place_of led.entry.mark.now) list.old.items list.new.items) }
+{
+    let mark = led.mark;
+    let line = line_of(deck.document, mark.line);
+    let stretch = Stretch::of(deck.encoding, line, mark.line, mark.columns);
+    let relation = relation_to(deck, mark.lead, led.line);
+    let report = Report {
+        stretch,
+        message,
+        relation,
+    };
+    push_diagnostic(alloc, list, mark.kind, report)
+}
+
+/// The line that is written at the end of a mark's message: that to which it leads, from 0, where the editor takes no other place and the words don't have it.
+fn line_written(deck: QueriedText<'_>, led: LedMark<'_>) -> Option<u32> {
+    match led.mark.lead {
+        Lead::Opener(_) => None,
+        _ if deck.client.takes_relations => None,
+        _ => led.line,
+    }
+}
+
+/// The message of a mark, with a line at its end.
+fn message_with(alloc: Global, mark: &Mark, line: u32) -> Result<Vec<u8>, AllocError> {
+    let mut message = Vec::new(alloc);
+    message.extend_from_slice(&mark.message)?;
+    message.extend_from_slice(b" (line ")?;
+    push_decimal(&mut message, u64::from(line) + 1)?;
+    message.push(b')')?;
+    Ok(message)
+}
+
+/// The line to which a mark leads, as another place, if the editor takes one.
+fn relation_to<'a>(deck: QueriedText<'a>, lead: Lead, line: Option<u32>) -> Option<Relation<'a>>
+    ensures { IfSome result (λ place. IsOther deck.entry place) }
+{
+    let number = line?;
+    if !deck.client.takes_relations || number as usize >= deck.document.source_len() {
+        return None;
+    }
+    let line = line_of(deck.document, number);
+    Some(Relation {
+        uri: deck.uri,
+        stretch: Stretch::of(deck.encoding, line, number, lead.columns_in(line)),
+        words: lead.words(),
+    })
 }
 
 /// Appends to a list the diagnostic that tells how many marks are left out, if some are. It shows where the first of them would.
 fn push_more(
     alloc: Global,
-    encoding: Encoding,
-    document: &Document,
+    deck: QueriedText<'_>,
     left: MarksLeft<'_>,
     list: &mut Vec<u8>,
 ) -> Result<(), AllocError>
     ensures { OnOk result (list.new.items ≡ list.old.items
-        ++ counted_text encoding (source_lines document.now) (map place_of left.entry.marks.now) left.entry.count) }
+        ++ counted_text deck.entry.encoding (source_lines deck.entry.document.now) (map place_of left.entry.marks.now) left.entry.count) }
 {
     let Some(mark) = left.marks.first() else {
         return Ok(());
     };
-    let line = line_of(document, mark.line);
-    let stretch = Stretch::of(encoding, line, mark);
+    let line = line_of(deck.document, mark.line);
+    let stretch = Stretch::of(deck.encoding, line, mark.line, mark.columns);
     let message = message_of_more(alloc, left.count)?;
     list.push(b',')?;
     push_information(alloc, list, stretch, &message)
+}
+
+/// Appends to a list the diagnostics of lines that nothing assembles, by what is kept of each line, if the editor takes these. Others may stand before.
+fn push_all_idle(
+    alloc: Global,
+    deck: QueriedText<'_>,
+    kept: &[LineMarks],
+    later: bool,
+    list: &mut Vec<u8>,
+) -> Result<(), AllocError>
+    requires { length kept.now ≡ length (source_of_text deck.document.now) }
+    ensures { OnOk result (AddsAllIdle (listener_of deck.entry) deck.entry.document.now later list.old.items list.new.items) }
+{
+    if !deck.client.takes_unnecessary {
+        return Ok(());
+    }
+    let runs = idle_lines_of(alloc, kept)?;
+    push_runs(alloc, deck, &runs, later, list)
+}
+
+/// Appends those of runs.
+fn push_runs(
+    alloc: Global,
+    deck: QueriedText<'_>,
+    runs: &[IdleLines],
+    later: bool,
+    list: &mut Vec<u8>,
+) -> Result<(), AllocError>
+    requires takes { deck.client.takes_unnecessary ≡ true }
+    requires within { All (IsIdleAmong (length (source_of_text deck.document.now))) runs.now }
+    ensures { OnOk result (AddsAllIdle (listener_of deck.entry) deck.entry.document.now later list.old.items list.new.items) }
+{
+    let mut later = later;
+    for lines in runs {
+        push_comma(list, later)?;
+        push_idle(alloc, deck, *lines, list)?;
+        later = true;
+    }
+    Ok(())
+}
+
+/// Appends the diagnostic of lines that nothing assembles.
+fn push_idle(
+    alloc: Global,
+    deck: QueriedText<'_>,
+    lines: IdleLines,
+    list: &mut Vec<u8>,
+) -> Result<(), AllocError>
+    requires takes { deck.client.takes_unnecessary ≡ true }
+    requires within { IsIdleAmong (length (source_of_text deck.document.now)) lines }
+    ensures { OnOk result (AddsIdle (listener_of deck.entry) deck.entry.document.now list.old.items list.new.items) }
+{
+    let line = line_of(deck.document, lines.last);
+    let stretch = Stretch {
+        line: lines.first,
+        start: 0,
+        last: lines.last,
+        end: units_before(deck.encoding, line, filled_len(line)),
+    };
+    push_unnecessary(alloc, list, stretch, lines.words())
 }
 
 /// How many marks are left out.

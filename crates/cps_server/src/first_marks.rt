@@ -95,6 +95,7 @@ fn mark_of(line: u32, mark: &LineMark) -> Result<Mark, AllocError>
         line,
         columns: mark.columns,
         kind: mark.kind,
+        lead: mark.lead,
         message,
     })
 }

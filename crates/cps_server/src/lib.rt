@@ -22,7 +22,11 @@
 //! - `hint.rt`: what is shown beside a line
 //! - `hints.rt`: what is shown beside lines, as it is told
 //! - `hovering.rt`: what is shown at a position
+//! - `idle.rt`: lines that nothing assembles
+//! - `idle_lines.rt`: runs of lines that nothing assembles
 //! - `introducing.rt`: what a server tells of itself
+//! - `lead.rt`: where else a mark leads
+//! - `leads.rt`: the lines to which marks lead
 //! - `line_mark.rt`: a mark of a line
 //! - `line_marks.rt`: the marks of a line
 //! - `line_pairs.rt`: lines that part or close others
@@ -101,7 +105,11 @@ mod headings;
 mod hint;
 mod hints;
 mod hovering;
+mod idle;
+mod idle_lines;
 mod introducing;
+mod lead;
+mod leads;
 mod line_mark;
 mod line_marks;
 mod line_pairs;

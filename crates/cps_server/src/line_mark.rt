@@ -1,6 +1,7 @@
 //! A mark of a line.
 ghost use Rattle.std.specs.Prelude.{◌<◌, length};
 
+use crate::lead::Lead;
 use crate::mark_kind::MarkKind;
 use cps_cause::Columns;
 
@@ -9,6 +10,7 @@ pub struct LineMark {
     /// Where it shows in the line, in bytes.
     pub columns: Columns,
     pub kind: MarkKind,
+    pub lead: Lead,
     /// Why it is wrong, as a sentence without its point. Where that stands in a statement of the line's expansion, this has a second row.
     pub message: Vec<u8>,
     ghost some: { 0 < length message.items },
@@ -20,6 +22,7 @@ impl Drop for LineMark {
         let LineMark {
             columns: _,
             kind: _,
+            lead: _,
             message,
         } = self;
         drop(message);

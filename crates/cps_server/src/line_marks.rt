@@ -4,8 +4,11 @@ ghost use Rattle.cps_server.specs.Document.{source_of_text};
 ghost use Rattle.cps_server.specs.Code.Keeping.{KeepsLine, Shows, ShowsFlags, ShowsMarks, fault_shown, flag_shown};
 
 use crate::document::Document;
+use crate::idle::Idle;
+use crate::lead::{FlaggedLine, Lead};
 use crate::line_mark::LineMark;
 use crate::mark_kind::MarkKind;
+use crate::mentions::line_of;
 use cps_cause::{Columns, Diagnostic, Letter, LinesAbove, explain};
 use cps_input::{CharacterFault, faults_of};
 use cps_list::View;
@@ -14,21 +17,15 @@ use std::alloc::{AllocError, Global};
 /// The marks of a line.
 pub struct LineMarks {
     pub marks: Vec<LineMark>,
+    pub idle: Idle,
 }
 
 // Written out, as that of a mark.
 impl Drop for LineMarks {
     fn drop(self) {
-        let LineMarks { marks } = self;
+        let LineMarks { marks, idle: _ } = self;
         drop(marks);
     }
-}
-
-/// A line with flags.
-#[derive(Clone, Copy)]
-struct FlaggedLine<'a> {
-    line: &'a [u8],
-    above: LinesAbove<'a>,
 }
 
 impl LineMarks {
@@ -40,7 +37,8 @@ impl LineMarks {
         let number = place as u32;
         let mut marks = Vec::new(alloc);
         push_marks(alloc, document, number, &mut marks)?;
-        Ok(LineMarks { marks })
+        let idle = idle_at(document, number)?;
+        Ok(LineMarks { marks, idle })
     }
 
     /// Whether words of these marks may be other ones where lines come or go elsewhere. They may tell what others define; those of flag E the number of a line
@@ -56,6 +54,14 @@ impl LineMarks {
             }
         }
         false
+    }
+}
+
+/// Whether something assembles a line of a document, from 0.
+fn idle_at(document: &Document, number: u32) -> Result<Idle, AllocError> {
+    match document.session().traces().get(number as usize) {
+        Some(trace) => Idle::of(line_of(document, number), trace),
+        None => Ok(Idle::Never),
     }
 }
 
@@ -110,6 +116,7 @@ fn push_fault(
             last: fault.last,
         },
         kind: MarkKind::Wrong,
+        lead: Lead::Nowhere,
         message,
     })?;
     Ok(())
@@ -149,6 +156,8 @@ fn push_flags(
     let told = explain(alloc, card, trace, session.finals())?;
     let flagged = FlaggedLine {
         line: card.bytes(),
+        number,
+        trace,
         above: LinesAbove {
             traces: &traces[..number as usize],
         },
@@ -181,10 +190,12 @@ fn push_cause(
     ensures { OnOk result (Shows (flag_shown told.now ∷ []) marks.old.items marks.new.items) }
 {
     let message = message_of(alloc, flagged, told)?;
+    let lead = flagged.lead_of(told)?;
     let letter = told.cause.letter();
     marks.push(LineMark {
         columns: told.columns,
         kind: MarkKind::Flag(letter),
+        lead,
         message,
     })?;
     Ok(())

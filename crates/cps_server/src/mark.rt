@@ -1,6 +1,7 @@
 //! A mark in a line of a text.
 ghost use Rattle.std.specs.Prelude.{◌<◌, length};
 
+use crate::lead::Lead;
 use crate::mark_kind::MarkKind;
 use cps_cause::Columns;
 
@@ -11,6 +12,8 @@ pub struct Mark {
     /// Where it shows in the line, in bytes.
     pub columns: Columns,
     pub kind: MarkKind,
+    /// Where else it leads.
+    pub lead: Lead,
     /// Why it is wrong, as a sentence without its point. Where that stands in a statement of the line's expansion, this has a second row.
     pub message: Vec<u8>,
     ghost some: { 0 < length message.items },
@@ -23,6 +26,7 @@ impl Drop for Mark {
             line: _,
             columns: _,
             kind: _,
+            lead: _,
             message,
         } = self;
         drop(message);

@@ -6,12 +6,14 @@ ghost use Rattle.cps_server.specs.Code.Listing.{Lists, ListsEnd, ListsLines, Lis
 
 use crate::document::Document;
 use crate::first_marks::FirstMarks;
+use crate::lead::Lead;
 use crate::line_marks::unindented;
 use crate::mark::Mark;
 use crate::mark_kind::MarkKind;
 use crate::marked_document::MarkedDocument;
-use cps_cause::{Columns, LinesAbove, Quotation, explain_end};
+use cps_cause::{Columns, Places, Quotation, explain_end, line_of_opener};
 use cps_list::View;
+use cps_text::Name;
 use cps_text::limits::MOST_LINES;
 use std::alloc::{AllocError, Global};
 
@@ -56,6 +58,7 @@ fn push_excess(alloc: Global, count: usize, marks: &mut FirstMarks) -> Result<()
         line: MOST_LINES as u32,
         columns: Columns { first: 1, last: 1 },
         kind: MarkKind::Wrong,
+        lead: Lead::Nowhere,
         message,
     })?;
     Ok(())
@@ -73,9 +76,8 @@ fn push_end(alloc: Global, document: &Document, marks: &mut FirstMarks) -> Resul
     let line = card_at(document, count);
     let width = unindented(line).len();
     let columns = Columns::behind(line.len().saturating_sub(width), width).within(line.len());
-    let above = LinesAbove {
-        traces: session.traces(),
-    };
+    let opener = line_of_opener(session.traces());
+    let above = KnownOpener { line: opener };
     let words = cause.words(alloc, Quotation::of(line, columns), &above)?;
     let letter = cause.letter();
     let last = count.saturating_sub(1);
@@ -83,6 +85,7 @@ fn push_end(alloc: Global, document: &Document, marks: &mut FirstMarks) -> Resul
         line: last,
         columns,
         kind: MarkKind::Flag(letter),
+        lead: lead_from(last, opener),
         message: words.into_bytes(),
     })?;
     Ok(())
@@ -93,5 +96,37 @@ fn card_at(document: &Document, number: u32) -> &[u8] {
     match document.session().line(number) {
         Some(card) => card.bytes(),
         None => &[],
+    }
+}
+
+/// Which line opened what is open, from 1.
+#[derive(Clone, Copy)]
+struct KnownOpener {
+    line: Option<u32>,
+}
+
+impl Places for KnownOpener {
+    fn line_of_symbol(&self, _name: Name) -> Option<u32> {
+        None
+    }
+
+    fn line_of_opening(&self) -> Option<u32> {
+        self.line
+    }
+
+    fn line_of_end(&self) -> Option<u32> {
+        None
+    }
+
+    fn line_of_body(&self) -> Option<u32> {
+        None
+    }
+}
+
+/// From a line, from 0, to one that opened what is open behind it, from 1.
+fn lead_from(line: u32, opener: Option<u32>) -> Lead {
+    match opener {
+        Some(opener) => Lead::Opener(line.saturating_add(1).saturating_sub(opener)),
+        None => Lead::Nowhere,
     }
 }

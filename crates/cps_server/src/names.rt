@@ -16,7 +16,8 @@ use std::alloc::{AllocError, Global};
 /// Names, each once, in the order in which they were added.
 pub type NameSet = IndexSet<Name, Hashing>;
 
-fn no_names(alloc: Global, document: &Document) -> NameSet
+/// No names.
+pub fn no_names(alloc: Global, document: &Document) -> NameSet
     ensures { result.keys ≡ [] }
 {
     IndexSet::with_hasher(alloc, document.session().finals().hashing())

@@ -362,7 +362,7 @@ impl Server {
     ) -> Result<(), AllocError>
         ensures { OnOk result (Into (Takes told.entry document) self.old self.new said.old.items said.new.items) }
     {
-        let list = list_of(self.alloc, self.encoding, &document)?;
+        let list = list_of(self.alloc, self.encoding, self.client, told.uri, &document)?;
         say_list(self.alloc, told, &list, said)?;
         drop(self.texts.take(told.uri));
         self.texts.push(told, document)

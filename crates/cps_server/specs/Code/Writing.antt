@@ -1,5 +1,5 @@
 -- For the code, not part of what a reader believes: diagnostics as they are written.
-use Rattle.std.specs.Prelude.{◌≡◌, ℕ, ℤ, false, nat_lt, List, [], ◌∷◌, ◌++◌, length, Option, Some, None, codes, decimal}
+use Rattle.std.specs.Prelude.{◌≡◌, ℕ, ℤ, ◌-◌, ◌≤◌, ◌<◌, Bool, true, false, nat_lt, List, [], ◌∷◌, ◌++◌, All, length, Option, Some, None, codes, decimal}
 use Rattle.serde_json.specs.Data.{Data, number, string, array, object}
 use Rattle.serde_json.specs.Find.{of_integer}
 use Rattle.serde_json.specs.View.{items_of}
@@ -8,8 +8,15 @@ use Rattle.cps_rpc.specs.declared.encoding.Encoding.{Encoding}
 use Rattle.cps_server.specs.declared.mark_kind.MarkKind.{MarkKind}
 use Rattle.cps_server.specs.declared.mark_kind.MarkKind.TheVariants.{Flag, Wrong}
 use Rattle.cps_server.specs.Marks.{Mark}
+use Rattle.cps_server.specs.declared.diagnostic.Relation.{Relation}
+use Rattle.cps_server.specs.declared.diagnostic.Report.{Report}
 use Rattle.cps_server.specs.declared.diagnostic.Stretch.{Stretch}
-use Rattle.cps_server.specs.Diagnostics.{TellsMark, TellsMarks, TellsText, letter_name, more_message, range_among, report, told_of_more}
+use Rattle.cps_server.specs.declared.idle_lines.IdleLines.{IdleLines}
+use Rattle.cps_server.specs.declared.queried_text.QueriedText.{QueriedText}
+use Rattle.cps_server.specs.Diagnostics.{Listener, TellsIdle, TellsMark, TellsMarks, TellsText, letter_name, more_message, range_among, relation, report, told_of_more}
+use Rattle.cps_server.specs.Ranges.{location, range_between, told_units}
+use Rattle.cps_server.specs.Symbols.{line_of}
+use Rattle.cps_rpc.specs.Lines.{source_lines}
 
 -- ---- a diagnostic
 
@@ -17,35 +24,87 @@ abbrev pub position_text : ℕ → ℕ → List ℕ
 position_text line character = codes "{\"character\":" ++ decimal character ++ codes ",\"line\":" ++ decimal line ++ codes "}"
 
 abbrev pub range_text : Stretch → List ℕ
-range_text at = codes "{\"end\":" ++ position_text at.line at.end ++ codes ",\"start\":" ++ position_text at.line at.start ++ codes "}"
+range_text at = codes "{\"end\":" ++ position_text at.last at.end ++ codes ",\"start\":" ++ position_text at.line at.start ++ codes "}"
 
 -- a message, and where it shows
 abbrev pub message_text : Stretch → List ℕ → List ℕ
 message_text at message = codes "\"message\":" ++ compact_text (string message) ++ codes ",\"range\":" ++ range_text at
 
--- what all diagnostics have, and their end
-abbrev pub report_text : ℕ → Stretch → List ℕ → List ℕ
-report_text severity at message =
-    message_text at message ++ codes ",\"severity\":" ++ decimal severity ++ codes ",\"source\":\"compass\"}"
+-- another place, with words about it
+abbrev pub relation_text : Option Relation → List ℕ
+relation_text None = []
+relation_text (Some place) =
+    codes ",\"relatedInformation\":[{\"location\":{\"range\":" ++ range_text place.stretch ++ codes ",\"uri\":" ++ compact_text (string place.uri.now)
+    ++ codes "},\"message\":" ++ compact_text (string place.words.now) ++ codes "}]"
 
-abbrev pub diagnostic_text : MarkKind → Stretch → List ℕ → List ℕ
-diagnostic_text (Flag letter) at message = codes "{\"code\":\"" ++ letter_name letter ++ codes "\"," ++ report_text 1 at message
-diagnostic_text Wrong at message = codes "{" ++ report_text 1 at message
+abbrev pub tags_text : Bool → List ℕ
+tags_text false = []
+tags_text true = codes ",\"tags\":[" ++ decimal 1 ++ codes "]"
+
+-- what all diagnostics have, and their end
+abbrev pub written_report : ℕ → Stretch → List ℕ → Option Relation → Bool → List ℕ
+written_report severity at message place is_unnecessary =
+    message_text at message ++ relation_text place ++ codes ",\"severity\":" ++ decimal severity ++ codes ",\"source\":\"compass\""
+    ++ tags_text is_unnecessary ++ codes "}"
+
+abbrev pub report_text : ℕ → Report → Bool → List ℕ
+report_text severity told is_unnecessary = written_report severity told.stretch told.message.now told.relation is_unnecessary
+
+-- an error
+abbrev pub diagnostic_text : MarkKind → Stretch → List ℕ → Option Relation → List ℕ
+diagnostic_text (Flag letter) at message place = codes "{\"code\":\"" ++ letter_name letter ++ codes "\"," ++ written_report 1 at message place false
+diagnostic_text Wrong at message place = codes "{" ++ written_report 1 at message place false
 
 -- information without a code
 abbrev pub information_text : Stretch → List ℕ → List ℕ
-information_text at message = codes "{" ++ report_text 3 at message
+information_text at message = codes "{" ++ written_report 3 at message None false
+
+-- a hint that something is unnecessary
+abbrev pub idle_text : Stretch → List ℕ → List ℕ
+idle_text at message = codes "{" ++ written_report 4 at message None true
+
+-- ---- another place
+
+-- columns of a line, from the first through the last
+abbrev pub columns_stretch : Encoding → List ℕ → ℕ → ℕ → ℕ → Stretch
+columns_stretch encoding text line first last = record {
+  line = line;
+  start = told_units encoding text (first - 1);
+  last = line;
+  end = told_units encoding text last;
+}
+
+abbrev pub stretch_json : Stretch → Data
+stretch_json at = range_between at.line at.start at.last at.end
+
+abbrev pub relation_json : Option Relation → Option Data
+relation_json None = None
+relation_json (Some place) = Some (relation (location place.uri.now (stretch_json place.stretch)) place.words.now)
+
+-- who is told the marks of a deck
+abbrev pub listener_of : QueriedText → Listener
+listener_of deck = record { encoding = deck.encoding; client = deck.client; uri = deck.uri.now }
+
+-- it stands in a deck, whose editor takes it
+pub record IsOther (deck : QueriedText) (place : Relation) : Type 0 where
+  pub takes : deck.client.takes_relations ≡ true
+  pub uri : place.uri.now ≡ deck.uri.now
+  pub line : ℕ
+  pub first : ℕ
+  pub last : ℕ
+  pub there : line < length (source_lines deck.document.now)
+  pub stretch : place.stretch ≡ columns_stretch deck.encoding (line_of deck.document.now line) line first last
 
 -- ---- a list of diagnostics
 
 -- the diagnostic of a mark is added to a text
-abbrev pub AddsMark : Encoding → List (List ℕ) → Mark → List ℕ → List ℕ → Type 0
-AddsMark encoding lines mark old new = (json : Data) × TellsMark encoding lines mark json × (new ≡ old ++ compact_text json)
+abbrev pub AddsMark : Listener → List (List ℕ) → Mark → List ℕ → List ℕ → Type 0
+AddsMark to lines mark old new = (json : Data) × TellsMark to lines mark json × (new ≡ old ++ compact_text json)
 
 -- those of marks are, at the beginning of a list, and behind them more may come
-abbrev pub AddsMarks : Encoding → List (List ℕ) → List Mark → List ℕ → List ℕ → Type 0
-AddsMarks encoding lines marks old new =
-    (told : List Data) × TellsMarks encoding lines marks told
+abbrev pub AddsMarks : Listener → List (List ℕ) → List Mark → List ℕ → List ℕ → Type 0
+AddsMarks to lines marks old new =
+    (told : List Data) × TellsMarks to lines marks told
     × ((more : List Data) → new ++ items_text (nat_lt 0 (length marks)) (items_of more) ≡ old ++ items_text false (items_of (told ++ more)))
 
 -- the diagnostics that are told of marks that are left out, behind others
@@ -60,15 +119,29 @@ more_text encoding lines marks = behind_text (told_of_more encoding lines marks)
 abbrev pub counted_text : Encoding → List (List ℕ) → List Mark → ℕ → List ℕ
 counted_text encoding lines [] count = []
 counted_text encoding lines (mark ∷ marks) count =
-    codes "," ++ compact_text (object (report 3 (range_among encoding lines mark) (more_message count)))
+    codes "," ++ compact_text (object (report 3 (range_among encoding lines mark) (more_message count) None false))
+
+-- lines of so many
+pub record IsIdleAmong (count : ℕ) (lines : IdleLines) : Type 0 where
+  pub forward : lines.first ≤ lines.last
+  pub within : lines.last < count
+
+-- the diagnostic of lines that nothing assembles is added to a text
+abbrev pub AddsIdle : Listener → List ℕ → List ℕ → List ℕ → Type 0
+AddsIdle to text old new = (json : Data) × TellsIdle to text json × (new ≡ old ++ compact_text json)
+
+-- those of several are, behind others or not, and behind them more may come
+abbrev pub AddsAllIdle : Listener → List ℕ → Bool → List ℕ → List ℕ → Type 0
+AddsAllIdle to text later old new =
+    (told : List Data) × All (TellsIdle to text) told × (new ++ codes "]" ≡ old ++ items_text later (items_of told))
 
 -- a list of diagnostics as JSON, with no blank in it
 abbrev pub list_text : List Data → List ℕ
 list_text told = compact_text (array (items_of told))
 
 -- a list is that of a text's diagnostics
-abbrev pub ListsText : Encoding → List ℕ → List ℕ → Type 0
-ListsText encoding text list = (told : List Data) × TellsText encoding text told × (list ≡ list_text told)
+abbrev pub ListsText : Listener → List ℕ → List ℕ → Type 0
+ListsText to text list = (told : List Data) × TellsText to text told × (list ≡ list_text told)
 
 -- ---- what is told with it
 

@@ -182,7 +182,7 @@ const FLAGGED_CALL: Inquiry = Inquiry {
         "          ENDM",
         "          BAD    NONE",
     ],
-    told: r#"[{"code":"U","message":"no line gives NONE a value; it counts as 0\nin its expansion: SA1    NONE","range":{"end":{"character":21,"line":3},"start":{"character":17,"line":3}},"severity":1,"source":"compass"}]"#,
+    told: r#"[{"code":"U","message":"no line gives NONE a value; it counts as 0\nin its expansion: SA1    NONE (line 2)","range":{"end":{"character":21,"line":3},"start":{"character":17,"line":3}},"severity":1,"source":"compass"}]"#,
     questions: &[(
         "hover",
         r#","position":{"line":3,"character":19}"#,

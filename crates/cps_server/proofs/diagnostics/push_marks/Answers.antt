@@ -6,6 +6,7 @@ use Rattle.serde_json.specs.Written.{items_text}
 use Rattle.cps_rpc.specs.Lines.{source_lines}
 use Rattle.cps_server.specs.Marks.{place_of}
 use Rattle.cps_server.specs.Diagnostics.{TellsMarks}
+use Rattle.cps_server.specs.Code.Writing.{listener_of}
 use Rattle.cps_server.proofs.WritingLemmas.{item-added, mark-next}
 use Rattle.cps_server.proofs.diagnostics.push_marks.Goals as goal
 
@@ -14,7 +15,7 @@ loop-at-init c = record { within = omega arith; tells = λ rest each. (rest, eac
 
 pub loop-at-preserved : goal.loop-at-preserved
 loop-at-preserved c =
-    let lines = source_lines c.args.document.now in
+    let lines = source_lines c.args.deck.document.now in
     let marks = c.args.marks.now in
     let at = c.loop-at.at in
     let mark = c.index-marks-at.result in
@@ -23,7 +24,7 @@ loop-at-preserved c =
     record {
       within = omega (arith, c.loop-at-test.true);
       tells = λ rest each.
-          let told = c.loop-at.invariant.tells (json ∷ rest) (mark-next c.args.encoding lines marks at mark json rest dropped c.in_ok-push_mark.ensures.1 each) in (
+          let told = c.loop-at.invariant.tells (json ∷ rest) (mark-next (listener_of c.args.deck) lines marks at mark json rest dropped c.in_ok-push_mark.ensures.1 each) in (
             told.0,
             told.1,
             λ more. item-added at json (rest ++ more) c.loop-at.list.items c.push_comma.new.text.items c.push_mark.new.list.items _ c.in_ok-push_comma.ensures
@@ -33,10 +34,10 @@ loop-at-preserved c =
 
 pub returns : goal.returns
 returns c =
-    let lines = source_lines c.args.document.now in
+    let lines = source_lines c.args.deck.document.now in
     let marks = c.args.marks.now in
     let all : length marks ≤ c.loop-at.at = omega (arith, c.loop-at-test.false) in
     let none : drop c.loop-at.at marks ≡ [] = drop_all c.loop-at.at marks all in
-    let told = c.loop-at.invariant.tells [] (subst (λ ms. TellsMarks c.args.encoding lines (map place_of ms) []) (sym none) tt) in
+    let told = c.loop-at.invariant.tells [] (subst (λ ms. TellsMarks (listener_of c.args.deck) lines (map place_of ms) []) (sym none) tt) in
     let count : length (map place_of marks) ≡ c.loop-at.at = length-map marks place_of ∙ omega (arith, c.loop-at.invariant.within, all) in
     (told.0, told.1, λ more. (λ i. c.loop-at.list.items ++ items_text (nat_lt 0 (count i)) (items_of more)) ∙ told.2 more)

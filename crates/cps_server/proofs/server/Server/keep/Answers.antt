@@ -1,6 +1,7 @@
 use Rattle.std.proofs.Common.{List, [], ◌∷◌, ◌++◌, subst, ap, ◌∙◌}
 use Rattle.std.proofs.lemmas.Result.{on_ok_weaker}
 use Rattle.cps_rpc.specs.Frame.{frame_of}
+use Rattle.cps_server.specs.Notices.{listener}
 use Rattle.cps_server.specs.ServerState.{OpenText, ServerState, with_text}
 use Rattle.cps_server.specs.Code.Writing.{ListsText, published_text}
 use Rattle.cps_server.proofs.ServerLemmas.{takes}
@@ -14,7 +15,7 @@ returns c =
     let said = c.args.said.now.items in
     let one : OpenText = record { uri = uri; version = version; text = c.args.document } in
     let inside = c.self.inside in
-    let lists = subst (λ (s : ServerState). ListsText s.encoding c.args.document list) c.self.view_is c.in_ok-list.ensures in
+    let lists = subst (λ (s : ServerState). ListsText (listener s uri) c.args.document list) c.self.view_is c.in_ok-list.ensures in
     let added = c.in_ok-say_list.ensures ∙ ap (λ list. said ++ frame_of (published_text uri version list)) c.deref.ensures.value in
     let left = ap (λ (texts : List OpenText). record { phase = inside.phase; has_exited = inside.has_exited; encoding = inside.encoding; client = inside.client; texts = texts ++ one ∷ [] }) c.take.ensures.left in
     on_ok_weaker c.push.result

@@ -1,0 +1,46 @@
+//! Lines that nothing assembles.
+
+use crate::lead::mode_before;
+use cps_cause::Card;
+use cps_state::{Answer, Key, Mode, Phase, Trace};
+use cps_text::Fields;
+use std::alloc::AllocError;
+
+/// Whether something assembles a line.
+#[derive(Clone, Copy, PartialEq, Eq)]
+pub enum Idle {
+    /// It is assembled, or kept.
+    Never,
+    /// It is a comment, and like the lines around it.
+    Comment,
+    /// It is skipped.
+    Skipped,
+    /// It stands behind the end of the program.
+    BehindEnd,
+}
+
+impl Idle {
+    /// Of a line that did this.
+    pub fn of(line: &[u8], trace: &Trace) -> Result<Idle, AllocError> {
+        if let Fields::Comment = Card::of(line).fields {
+            return Ok(Idle::Comment);
+        }
+        if stands_behind_end(trace) {
+            return Ok(Idle::BehindEnd);
+        }
+        match mode_before(trace)? {
+            Some(Mode::SkipLines(_) | Mode::SkipRange(_)) => Ok(Idle::Skipped),
+            _ => Ok(Idle::Never),
+        }
+    }
+}
+
+/// Whether the program had ended in front of a line that did this.
+fn stands_behind_end(trace: &Trace) -> bool {
+    for asked in trace.asks() {
+        if let (Key::Control, Some(Answer::Control(control, _))) = (asked.key, &asked.answer) {
+            return control.phase == Phase::AfterEnd;
+        }
+    }
+    false
+}
